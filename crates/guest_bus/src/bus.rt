@@ -1,0 +1,56 @@
+//! The bus between a processor and a memory, by what is asked of it.
+
+ghost use Rattle.std.specs.Prelude.{◌≡◌, ℕ, List, Ok};
+ghost use Rattle.guest_bus.specs.Access.{Stores, after_store, fetched, loaded, store_fault};
+ghost use Rattle.guest_bus.specs.Memory.{Area, Memory, Others};
+
+/// Why an access was refused. It changed nothing.
+#[derive(Clone, Copy, Debug, PartialEq, Eq)]
+pub enum BusFault {
+    /// Some byte of it lies in no area that allows the access.
+    Outside,
+    /// The address is no multiple of the size; this is tested first.
+    Unaligned,
+}
+
+/// How many bytes an access has.
+#[derive(Clone, Copy, Debug, PartialEq, Eq)]
+pub enum Size {
+    One,
+    Two,
+    Four,
+    Eight,
+}
+
+/// A memory of one guest, with the memories of others beside it.
+pub trait Bus {
+    /// The areas, which no call changes.
+    ghost areas: { Self → List Area };
+
+    /// The bytes of the areas by their addresses.
+    ghost memory: { Self → Memory };
+
+    /// The number of this guest, and the memories of all others, which no call changes.
+    ghost others: { Self → Others };
+
+    /// The instruction word at the address.
+    fn fetch(&mut self, address: u32) -> Result<u32, BusFault>
+        ensures value { result ≡ fetched (areas self.old) (memory self.old) address }
+        ensures memory { memory self.new ≡ memory self.old }
+        ensures areas { areas self.new ≡ areas self.old }
+        ensures others { others self.new ≡ others self.old };
+
+    /// The big endian value at the address.
+    fn load(&mut self, address: u32, size: Size) -> Result<u64, BusFault>
+        ensures value { result ≡ loaded (areas self.old) (memory self.old) address size }
+        ensures memory { memory self.new ≡ memory self.old }
+        ensures areas { areas self.new ≡ areas self.old }
+        ensures others { others self.new ≡ others self.old };
+
+    /// Writes the low bytes of the value, as many as the size, in big endian order.
+    fn store(&mut self, address: u32, size: Size, value: u64) -> Result<(), BusFault>
+        ensures fault { Stores result (store_fault (areas self.old) address size) }
+        ensures memory { memory self.new ≡ after_store (areas self.old) (memory self.old) address size value }
+        ensures areas { areas self.new ≡ areas self.old }
+        ensures others { others self.new ≡ others self.old };
+}

@@ -1,0 +1,6 @@
+//! A guest's memory as its processor sees it: areas, bytes by address, and big endian values.
+#![tactic(auto)]
+
+mod bus;
+
+pub use bus::{Bus, BusFault, Size};
