@@ -1,2 +1,5 @@
-pub mod Lists
+pub mod Bytes
+pub mod Cursor
+pub mod CursorMoves
+pub mod Options
 pub mod State

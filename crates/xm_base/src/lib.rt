@@ -1,10 +1,15 @@
-//! Small types that all crates share: partition numbers and states, want of memory, and the limits.
+//! Small types that all crates share: partition numbers and states, want of memory, the limits, and a cursor over bytes.
 #![tactic(auto)]
 
+mod cursor;
 mod limits;
 mod partition;
 mod want;
 
+pub use cursor::{Cursor, Short};
 pub use limits::{CONSOLE_BYTES, FILE_BYTES, IMAGE_BYTES, TICKS};
-pub use partition::{PartId, State};
+pub use partition::{Mode, PartId, State};
 pub use want::Memory;
+
+#[cfg(test)]
+mod tests;

@@ -6,6 +6,15 @@ ghost use Rattle.xm_base.specs.State.{state_text};
 /// A partition's number, its place in the system's list of partitions.
 pub type PartId = u8;
 
+/// How a partition or the whole system starts again.
+#[derive(Clone, Copy, Debug, PartialEq, Eq)]
+pub enum Mode {
+    /// As at the first start.
+    Cold,
+    /// With what it keeps.
+    Warm,
+}
+
 /// The state of a partition.
 #[derive(Clone, Copy, Debug, PartialEq, Eq)]
 pub enum State {
