@@ -1,5 +1,8 @@
 -- What a device that takes bytes has got, where it tells it, and how that grows.
-use Rattle.std.specs.Prelude.{◌≡◌, ℕ, ◌≤◌, List, ◌++◌, length, take, Option, Some, None, Result, Ok, Err}
+use Rattle.std.specs.Prelude.{◌≡◌, ℕ, ◌+◌, ◌<◌, ◌≤◌, List, [], ◌++◌, length, take, Option, Some, None, Result, Ok, Err, refl}
+use Rattle.std.proofs.Common.{sym, ◌∙◌, ap, arith, append_assoc, length-append}
+use Rattle.std.proofs.Math.Seq.{take-append-add}
+use Rattle.std.proofs.lemmas.List.{append-nil, take-append-le}
 
 -- grown by bytes at its end; a device that tells nothing goes on telling nothing
 abbrev pub grown : Option (List ℕ) → List ℕ → Option (List ℕ)
@@ -11,13 +14,44 @@ abbrev pub Takes : {E : Type 0} → Result ℕ E → Option (List ℕ) → List 
 Takes (Ok count) old piece new = new ≡ grown old (take count piece)
 Takes (Err _) old piece new = new ≡ old
 
--- grown by a front of the bytes
+-- grown by a front of the bytes, short of the whole
 pub record GrewByPrefix (old : Option (List ℕ)) (bytes : List ℕ) (new : Option (List ℕ)) : Type 0 where
   pub count : ℕ
-  pub within : count ≤ length bytes
+  pub short : count < length bytes
   pub grew : new ≡ grown old (take count bytes)
 
--- the writing of a whole text: all of it, and after a fault a front of it
+-- the writing of a whole text: all of it, and after a fault a front of it that falls short
 abbrev pub Writes : {T E : Type 0} → Result T E → Option (List ℕ) → List ℕ → Option (List ℕ) → Type 0
 Writes (Ok _) old bytes new = new ≡ grown old bytes
 Writes (Err _) old bytes new = GrewByPrefix old bytes new
+
+-- grown by nothing
+pub grown-nothing : (old : Option (List ℕ)) → grown old [] ≡ old
+grown-nothing None = refl
+grown-nothing (Some got) = ap Some (append-nil got)
+
+-- grown twice is grown once by both texts
+pub grown_grown : (old : Option (List ℕ)) (a b : List ℕ) → grown (grown old a) b ≡ grown old (a ++ b)
+grown_grown None a b = refl
+grown_grown (Some got) a b = ap Some (append_assoc got a b)
+
+-- a front of the first text is a front of both
+pub prefix_first : (old new : Option (List ℕ)) (a b : List ℕ) → GrewByPrefix old a new → GrewByPrefix old (a ++ b) new
+prefix_first old new a b p = record {
+  count = p.count;
+  short = (let bound : p.count < length a = p.short in omega (arith, length-append a b));
+  grew = (let bound : p.count ≤ length a = omega (arith, p.short) in p.grew ∙ ap (grown old) (sym (take-append-le p.count a b bound)));
+}
+
+-- the first text and a front of the second is a front of both
+pub prefix_second : (old mid new : Option (List ℕ)) (a b : List ℕ) → mid ≡ grown old a → GrewByPrefix mid b new → GrewByPrefix old (a ++ b) new
+prefix_second old mid new a b first p = record {
+  count = length a + p.count;
+  short = (let bound : p.count < length b = p.short in omega (arith, length-append a b));
+  grew = p.grew ∙ ap (λ m. grown m (take p.count b)) first ∙ grown_grown old a (take p.count b) ∙ ap (grown old) (sym (take-append-add a b p.count));
+}
+
+-- the first text was written, and then the second as its answer says: so both were written
+pub writes_then : {T E : Type 0} (r : Result T E) (old mid new : Option (List ℕ)) (a b : List ℕ) → mid ≡ grown old a → Writes r mid b new → Writes r old (a ++ b) new
+writes_then (Ok _) old mid new a b first w = w ∙ ap (λ m. grown m b) first ∙ grown_grown old a b
+writes_then (Err _) old mid new a b first p = prefix_second old mid new a b first p

@@ -1,3 +1,5 @@
 pub mod Causes
 pub mod Files
 pub mod Growth
+pub mod MemSink
+pub mod MemStore

@@ -28,10 +28,9 @@ pub fn write_all<O: Sink>(out: &mut O, bytes: &[u8]) -> Result<(), Failed>
     ensures got { Writes result (O.got out.old) bytes.now (O.got out.new) }
     ensures cause { HasCause result (O.faults out.old) (O.faults out.new) }
 {
-    let mut rest = bytes;
-    while !rest.is_empty() {
-        let count = out.write(rest)?;
-        rest = &rest[count..];
+    let mut done = 0;
+    while done < bytes.len() {
+        done += out.write(&bytes[done..])?;
     }
     Ok(())
 }

@@ -1,0 +1,37 @@
+//! A sink that takes all bytes and keeps none.
+
+ghost use Rattle.std.specs.Prelude.{◌≡◌, ℕ, ◌<◌, ◌≤◌, None, IfOk, length};
+ghost use Rattle.xm_outside.specs.Causes.{HasCause};
+ghost use Rattle.xm_outside.specs.Growth.{Takes};
+
+use crate::sink::Sink;
+use crate::store::Failed;
+
+/// A sink that never fails: it takes all bytes at once, and keeps none.
+#[derive(Clone, Copy, Debug, Default)]
+pub struct SureSink;
+
+impl SureSink {
+    /// The sink.
+    pub fn new() -> SureSink
+        ensures { ⟦<SureSink as Sink>⟧.faults result ≡ 0 }
+    {
+        SureSink
+    }
+}
+
+impl Sink for SureSink {
+    ghost got = { λ _. None };
+
+    ghost faults = { λ _. 0 };
+
+    fn write(&mut self, piece: &[u8]) -> Result<usize, Failed>
+        ensures bound { IfOk result (λ count. count ≤ length piece.now) }
+        ensures progress { IfOk result (λ count. 0 < length piece.now → 0 < count) }
+        ensures got { Takes result None piece.now None }
+        ensures cause { HasCause result 0 0 }
+        ensures all { result ≡ Ok (length piece.now) }
+    {
+        Ok(piece.len())
+    }
+}
