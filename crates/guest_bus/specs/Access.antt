@@ -28,7 +28,7 @@ unless_refused (Some fault) value = Err fault
 unfoldable pub loaded : List Area → Memory → ℕ → Size → Result ℕ BusFault
 loaded areas memory address size =
     unless_refused (access_fault (is_readable areas) address (byte_len (width_of size)))
-        (from_be_bytes (width_of size) (bytes_at memory address (byte_len (width_of size))))
+    (from_be_bytes (width_of size) (bytes_at memory address (byte_len (width_of size))))
 
 -- the word that a fetch answers
 unfoldable pub fetched : List Area → Memory → ℕ → Result ℕ BusFault

@@ -1,2 +1,4 @@
 pub mod Access
+pub mod AccessLemmas
 pub mod Memory
+pub mod MemoryLemmas

@@ -1,7 +1,8 @@
 //! The bus between a processor and a memory, by what is asked of it.
 
 ghost use Rattle.std.specs.Prelude.{◌≡◌, ℕ, List, Ok};
-ghost use Rattle.guest_bus.specs.Access.{Stores, after_store, fetched, loaded, store_fault};
+ghost use Rattle.std.specs.Int.{byte_len};
+ghost use Rattle.guest_bus.specs.Access.{Stores, after_store, fetched, loaded, store_fault, width_of};
 ghost use Rattle.guest_bus.specs.Memory.{Area, Memory, Others};
 
 /// Why an access was refused. It changed nothing.
@@ -20,6 +21,20 @@ pub enum Size {
     Two,
     Four,
     Eight,
+}
+
+impl Size {
+    /// The number of bytes.
+    pub fn bytes(self) -> u32
+        ensures { result ≡ byte_len (width_of self) }
+    {
+        match self {
+            Size::One => 1,
+            Size::Two => 2,
+            Size::Four => 4,
+            Size::Eight => 8,
+        }
+    }
 }
 
 /// A memory of one guest, with the memories of others beside it.

@@ -1,0 +1,66 @@
+-- The registers that a guest's program sees, in windows.
+use Rattle.std.specs.Prelude.{◌≡◌, ◌≢◌, ℕ, ◌+◌, ◌-◌, ◌*◌, ◌%◌, ◌^◌, ◌<◌, nat_lt, ◌==◌, if◌then◌else◌, List, length, replicate, slice_index, slice_set}
+
+-- the two program counters, Y, the condition codes, the current and the invalid window, and the numbered registers
+pub record Registers : Type 0 where
+  pub pc : ℕ
+  pub npc : ℕ
+  pub y : ℕ
+  pub icc : ℕ
+  pub cwp : ℕ
+  pub inv : ℕ
+  pub globals : List ℕ
+  pub windows : List ℕ
+
+-- what holds of the registers at all times
+pub record AreRegisters (r : Registers) : Type 0 where
+  pub pc_aligned : r.pc % 4 ≡ 0
+  pub npc_aligned : r.npc % 4 ≡ 0
+  pub four_conditions : r.icc < 16
+  pub current_window : r.cwp < 8
+  pub invalid_window : r.inv < 8
+  pub windows_differ : r.cwp ≢ r.inv
+  pub zero : slice_index r.globals 0 ≡ 0
+  pub eight_globals : length r.globals ≡ 8
+  pub eight_windows : length r.windows ≡ 128
+
+-- where a register of a window stands: the ins of a window are the outs of the next one
+abbrev pub place_in_windows : ℕ → ℕ → ℕ
+place_in_windows window n = if nat_lt n 24 then 16 * window + n - 8 else 16 * ((window + 1) % 8) + n - 24
+
+-- the value of register n of the current window
+unfoldable pub register_at : Registers → ℕ → ℕ
+register_at r n =
+    if nat_lt n 8 then slice_index r.globals n else slice_index r.windows (place_in_windows r.cwp n)
+
+-- the registers with a value in register n of the current window; register 0 stays zero
+unfoldable pub with_register : Registers → ℕ → ℕ → Registers
+with_register r n value =
+    if n == 0 then r
+    else if nat_lt n 8 then record r { globals = slice_set r.globals n value }
+    else record r { windows = slice_set r.windows (place_in_windows r.cwp n) value }
+
+-- the registers of a program that begins at its entry
+unfoldable pub started : ℕ → Registers
+started entry = record {
+  pc = entry;
+  npc = (entry + 4) % 2 ^ 32;
+  y = 0;
+  icc = 0;
+  cwp = 7;
+  inv = 0;
+  globals = replicate 8 0;
+  windows = replicate 128 0;
+}
+
+-- the registers at the next instruction
+unfoldable pub advanced : Registers → Registers
+advanced r = record r { pc = r.npc; npc = (r.npc + 4) % 2 ^ 32 }
+
+-- the registers at the next instruction, where the one after it stands at a target
+unfoldable pub branched : Registers → ℕ → Registers
+branched r target = record r { pc = r.npc; npc = target }
+
+-- the registers with other condition codes
+unfoldable pub with_icc : Registers → ℕ → Registers
+with_icc r icc = record r { icc = icc }

@@ -1,0 +1,12 @@
+//! What an instruction came to.
+
+/// What one instruction came to.
+#[derive(Clone, Copy, Debug, PartialEq, Eq)]
+pub enum Turn {
+    /// It was executed.
+    Went,
+    /// It trapped with this type, and changed nothing.
+    Trap(u8),
+    /// It called the hypervisor. The program goes on behind it.
+    Call,
+}

@@ -1,0 +1,134 @@
+//! The registers of a processor.
+
+ghost use Rattle.std.specs.Prelude.{◌≡◌, ℕ, ◌%◌, ◌<◌, ◌≤◌};
+ghost use Rattle.sparc_step.specs.Registers.{
+  AreRegisters,
+  advanced,
+  branched,
+  place_in_windows,
+  register_at,
+  started,
+  with_icc,
+  with_register,
+};
+
+use std::marker::Model;
+
+/// The registers of one guest's processor, in eight windows.
+#[derive(Debug, Drop)]
+pub struct Core {
+    pub pc: u32,
+    pub npc: u32,
+    pub y: u32,
+    /// The condition codes n z v c, n the highest of four bits.
+    pub icc: u8,
+    /// The current window.
+    pub cwp: u8,
+    /// The window that a program may not enter.
+    pub inv: u8,
+    pub globals: [u32; 8],
+    /// The outs and the locals of each window; its ins are the outs of the next one.
+    pub windows: [u32; 128],
+}
+
+impl Model for Core {
+    ghost use Rattle.sparc_step.specs.Registers.{AreRegisters, Registers};
+
+    ghost Value = { Registers };
+
+    ghost view = { λ c. record { pc = c.pc; npc = c.npc; y = c.y; icc = c.icc; cwp = c.cwp; inv = c.inv; globals = c.globals; windows = c.windows } };
+
+    ghost invariant = { λ c. AreRegisters record { pc = c.pc; npc = c.npc; y = c.y; icc = c.icc; cwp = c.cwp; inv = c.inv; globals = c.globals; windows = c.windows } };
+}
+
+impl Core {
+    /// The registers of a program that begins at the entry.
+    #[tactic(auto, unfolding(crate::specs::Registers::started))]
+    pub fn start(entry: u32) -> Core
+        requires { entry % 4 ≡ 0 }
+        ensures started { result ≡ started entry }
+        ensures registers { AreRegisters result }
+    {
+        Core {
+            pc: entry,
+            npc: entry.wrapping_add(4),
+            y: 0,
+            icc: 0,
+            cwp: 7,
+            inv: 0,
+            globals: [0; 8],
+            windows: [0; 128],
+        }
+    }
+
+    /// The value of a register of the current window.
+    #[tactic(auto, unfolding(crate::specs::Registers::register_at))]
+    pub fn get(&self, r: u8) -> u32
+        requires { r < 32 }
+        ensures value { result ≡ register_at self.now r }
+        ensures registers { AreRegisters self.now }
+    {
+        if r < 8 {
+            self.globals[usize::from(r)]
+        } else {
+            self.windows[place_in_windows(self.cwp, r)]
+        }
+    }
+
+    /// Sets a register of the current window.
+    #[tactic(auto, unfolding(crate::specs::Registers::with_register))]
+    pub fn set(&mut self, r: u8, value: u32)
+        requires { r < 32 }
+        ensures value { self.new ≡ with_register self.old r value }
+        ensures registers { AreRegisters self.new }
+    {
+        if r >= 8 {
+            self.windows[place_in_windows(self.cwp, r)] = value;
+        } else if r > 0 {
+            self.globals[usize::from(r)] = value;
+        }
+    }
+
+    /// Goes on to the next instruction.
+    #[tactic(auto, unfolding(crate::specs::Registers::advanced))]
+    pub(crate) fn advance(&mut self)
+        ensures { self.new ≡ advanced self.old }
+    {
+        self.pc = self.npc;
+        self.npc = self.npc.wrapping_add(4);
+    }
+
+    /// Goes on to the next instruction, and after it to the target.
+    #[tactic(auto, unfolding(crate::specs::Registers::branched))]
+    pub(crate) fn branch(&mut self, target: u32)
+        requires { target % 4 ≡ 0 }
+        ensures { self.new ≡ branched self.old target }
+    {
+        self.pc = self.npc;
+        self.npc = target;
+    }
+
+    /// Sets the condition codes.
+    #[tactic(auto, unfolding(crate::specs::Registers::with_icc))]
+    pub(crate) fn set_icc(&mut self, icc: u8)
+        requires { icc < 16 }
+        ensures { self.new ≡ with_icc self.old icc }
+    {
+        self.icc = icc;
+    }
+}
+
+// Where a register of a window stands.
+fn place_in_windows(window: u8, r: u8) -> usize
+    requires window { window < 8 }
+    requires low { 8 ≤ r }
+    requires high { r < 32 }
+    ensures place { result ≡ place_in_windows window r }
+    ensures inside { result < 128 }
+{
+    if r < 24 {
+        16 * usize::from(window) + usize::from(r) - 8
+    } else {
+        16 * usize::from((window + 1) % 8) + usize::from(r) - 24
+    }
+}
