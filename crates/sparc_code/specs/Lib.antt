@@ -1,0 +1,10 @@
+pub mod Fields
+pub mod Opcodes
+pub mod Ranges
+pub mod Spells
+pub mod Decoded
+pub mod DecodedLemmas
+pub mod RangeLemmas
+pub mod Encoded
+pub mod EncodedLemmas
+pub mod Laws

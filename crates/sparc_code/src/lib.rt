@@ -1,0 +1,15 @@
+//! The instruction words of SPARC V8: from words to instructions and back.
+#![tactic(auto)]
+
+mod decoding;
+mod encoding;
+mod fields;
+mod instruction;
+mod law;
+#[cfg(test)]
+mod tests;
+
+pub use decoding::decode;
+pub use encoding::encode;
+pub use instruction::{Arith, Instr, MemOp, Src};
+pub use law::spelling;
