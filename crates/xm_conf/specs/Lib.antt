@@ -1,0 +1,5 @@
+pub mod Health
+pub mod HealthLemmas
+pub mod Name
+pub mod NameKept
+pub mod NameLemmas

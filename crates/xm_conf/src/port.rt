@@ -1,0 +1,19 @@
+//! What a port is.
+
+/// What a port keeps of the messages that come to it.
+#[derive(Clone, Copy, Debug, PartialEq, Eq)]
+pub enum Kind {
+    /// The last one.
+    Sampling,
+    /// All, in order, until each is taken.
+    Queuing,
+}
+
+/// Which end of a channel a port is.
+#[derive(Clone, Copy, Debug, PartialEq, Eq)]
+pub enum Way {
+    /// Messages go out here.
+    Source,
+    /// Messages come in here.
+    Destination,
+}
