@@ -1,0 +1,109 @@
+-- The lines of the report: what each says, and its text.
+use Rattle.std.specs.Prelude.{◌≡◌, ℕ, ◌+◌, ◌≤◌, ◌==◌, ◌&&◌, nat_le, Bool, true, false, if◌then◌else◌, List, [], ◌∷◌, ◌++◌, length, flat_map, codes, decimal}
+use Rattle.std.specs.Int.{w32, to_be_bytes}
+use Rattle.std.proofs.lemmas.Grind.{flat_map-append}
+use Rattle.hex.specs.Hex.{encode_lower}
+use Rattle.xm_base.specs.State.{state_text}
+use Rattle.xm_base.specs.declared.limits.TheConstants.{CONSOLE_BYTES}
+use Rattle.xm_base.specs.declared.partition.State.{State}
+use Rattle.xm_report.specs.declared.line.Line.{Line}
+use Rattle.xm_report.specs.declared.line.Line.TheVariants as code
+use Rattle.xm_report.specs.declared.line.Move.{Move}
+use Rattle.xm_report.specs.declared.line.Move.TheVariants.{Halt, Suspend, Resume, Cold, Warm}
+use Rattle.xm_report.specs.declared.pen.TheConstants.{LINE_BYTES}
+
+-- what a line says
+pub data ReportLine : Type 0 where
+  SystemLine : (parts plans ticks : ℕ) → ReportLine
+  ConsoleLine : (n p : ℕ) (bytes : List ℕ) → ReportLine
+  MovedLine : (n p : ℕ) (to : Move) → ReportLine
+  EndPart : (p : ℕ) (state : State) (resets exec pc : ℕ) → ReportLine
+  EndWhole : (halted : Bool) (plan clock ticks : ℕ) → ReportLine
+
+-- what the program's line says
+abbrev pub line_of : Line → ReportLine
+line_of (code.System parts plans ticks) = SystemLine parts plans ticks
+line_of (code.Console n p bytes) = ConsoleLine n p bytes.now
+line_of (code.Moved n p to) = MovedLine n p to
+line_of (code.EndPart p state resets exec pc) = EndPart p state resets exec pc
+line_of (code.EndWhole halted plan clock ticks) = EndWhole halted plan clock ticks
+
+-- the bytes of a console line are those of one call
+abbrev pub IsShort : ReportLine → Type 0
+IsShort (SystemLine parts plans ticks) = Unit {0}
+IsShort (ConsoleLine n p bytes) = length bytes ≤ CONSOLE_BYTES
+IsShort (MovedLine n p to) = Unit {0}
+IsShort (EndPart p state resets exec pc) = Unit {0}
+IsShort (EndWhole halted plan clock ticks) = Unit {0}
+
+-- a byte of a console's text: what is printed stands for itself, but for the backslash
+unfoldable pub escape : ℕ → List ℕ
+escape byte =
+    if byte == 10 then codes "\\n"
+    else if byte == 92 then codes "\\\\"
+    else if nat_le 32 byte && nat_le byte 126 then byte ∷ []
+    else codes "\\x" ++ encode_lower (byte ∷ [])
+
+-- a console's text
+abbrev pub escaped : List ℕ → List ℕ
+escaped bytes = flat_map escape bytes
+
+-- so many bytes more fit behind those of a line; the longest line is a whole console call, escaped in all places
+abbrev pub HasRoom : List ℕ → ℕ → Type 0
+HasRoom line more = length line + more ≤ LINE_BYTES
+
+-- the name of a partition's change
+abbrev pub move_text : Move → List ℕ
+move_text Halt = codes "HALT"
+move_text Suspend = codes "SUSPEND"
+move_text Resume = codes "RESUME"
+move_text Cold = codes "COLD"
+move_text Warm = codes "WARM"
+
+-- whether the whole system runs at the end
+abbrev pub running_text : Bool → List ℕ
+running_text true = codes "halted"
+running_text false = codes "running"
+
+-- the numbers of partitions and plans, and the ticks asked
+unfoldable pub system_text : ℕ → ℕ → ℕ → List ℕ
+system_text parts plans ticks =
+    codes "SYSTEM parts=" ++ decimal parts ++ codes " plans=" ++ decimal plans ++ codes " ticks=" ++ decimal ticks ++ codes "\n"
+
+-- what a partition wrote to its console in a tick
+unfoldable pub console_text : ℕ → ℕ → List ℕ → List ℕ
+console_text n p bytes =
+    codes "[" ++ decimal n ++ codes "] P" ++ decimal p ++ codes " CON " ++ escaped bytes ++ codes "\n"
+
+-- a partition's change in a tick
+unfoldable pub moved_text : ℕ → ℕ → Move → List ℕ
+moved_text n p to =
+    codes "[" ++ decimal n ++ codes "] P" ++ decimal p ++ codes " " ++ move_text to ++ codes "\n"
+
+-- how a partition stands at the end
+unfoldable pub end_part_text : ℕ → State → ℕ → ℕ → ℕ → List ℕ
+end_part_text p state resets exec pc =
+    codes "END P" ++ decimal p ++ codes " " ++ state_text state ++ codes " resets=" ++ decimal resets
+    ++ codes " exec=" ++ decimal exec ++ codes " pc=" ++ encode_lower (to_be_bytes w32 pc) ++ codes "\n"
+
+-- how the whole system stands at the end
+unfoldable pub end_whole_text : Bool → ℕ → ℕ → ℕ → List ℕ
+end_whole_text halted plan clock ticks =
+    codes "END XM " ++ running_text halted ++ codes " plan=" ++ decimal plan ++ codes " clock=" ++ decimal clock
+    ++ codes " ticks=" ++ decimal ticks ++ codes "\n"
+
+-- the text of a line
+abbrev pub text_of : ReportLine → List ℕ
+text_of (SystemLine parts plans ticks) = system_text parts plans ticks
+text_of (ConsoleLine n p bytes) = console_text n p bytes
+text_of (MovedLine n p to) = moved_text n p to
+text_of (EndPart p state resets exec pc) = end_part_text p state resets exec pc
+text_of (EndWhole halted plan clock ticks) = end_whole_text halted plan clock ticks
+
+-- the text of lines, one after the other
+abbrev pub texts : List ReportLine → List ℕ
+texts lines = flat_map text_of lines
+
+-- the text of lines and more lines
+pub texts-append : (a b : List ReportLine) → texts (a ++ b) ≡ texts a ++ texts b
+texts-append a b = flat_map-append text_of a b

@@ -1,0 +1,74 @@
+//! What a line of the report says.
+
+ghost use Rattle.std.specs.Prelude.{◌≡◌};
+ghost use Rattle.xm_report.specs.Report.{move_text};
+
+use xm_base::{PartId, State};
+
+/// A change of a partition's state that the report tells.
+#[derive(Clone, Copy, Debug, PartialEq, Eq)]
+pub enum Move {
+    /// It was halted.
+    Halt,
+    /// It was suspended.
+    Suspend,
+    /// It was resumed.
+    Resume,
+    /// It was reset, and its memory loaded anew.
+    Cold,
+    /// It was reset, and its memory kept.
+    Warm,
+}
+
+impl Move {
+    // The change's name as the report has it.
+    pub(crate) fn text(self) -> &'static str
+        ensures { result.now ≡ move_text self }
+    {
+        match self {
+            Move::Halt => "HALT",
+            Move::Suspend => "SUSPEND",
+            Move::Resume => "RESUME",
+            Move::Cold => "COLD",
+            Move::Warm => "WARM",
+        }
+    }
+}
+
+/// One line of the report.
+#[derive(Clone, Copy, Debug)]
+pub enum Line<'a> {
+    /// The first line: how many partitions and plans there are, and how many ticks are asked.
+    System {
+        parts: u8,
+        plans: u8,
+        ticks: u64,
+    },
+    /// Partition `p` wrote these bytes to its console in tick `n`.
+    Console {
+        n: u64,
+        p: PartId,
+        bytes: &'a [u8],
+    },
+    /// Partition `p` changed its state in tick `n`.
+    Moved {
+        n: u64,
+        p: PartId,
+        to: Move,
+    },
+    /// How partition `p` stands at the end of the run.
+    EndPart {
+        p: PartId,
+        state: State,
+        resets: u32,
+        exec: u64,
+        pc: u32,
+    },
+    /// The last line: how the whole system stands at the end of the run.
+    EndWhole {
+        halted: bool,
+        plan: u8,
+        clock: u64,
+        ticks: u64,
+    },
+}
