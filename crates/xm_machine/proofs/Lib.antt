@@ -1,0 +1,7 @@
+pub mod AreaLemmas
+pub mod BootLemmas
+pub mod FrontLemmas
+pub mod MachineLemmas
+pub mod ReportLemmas
+pub mod RunLemmas
+pub mod WholeLemmas

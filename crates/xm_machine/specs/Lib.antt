@@ -1,0 +1,9 @@
+pub mod Area
+pub mod Bare
+pub mod Local
+pub mod Machine
+pub mod Note
+pub mod Outcome
+pub mod State
+pub mod Step
+pub mod System

@@ -1,0 +1,20 @@
+//! The machine: it boots a system, does its ticks one by one, and writes the report of a run.
+#![tactic(auto)]
+
+mod area;
+mod board;
+mod machine;
+mod note;
+mod partition;
+mod run;
+mod system;
+
+pub use area::{AREA_BYTES, AREA_START};
+pub use board::Board;
+pub use machine::Machine;
+pub use run::{Ran, RunFault};
+pub use system::{BareFault, System, bare};
+pub use xm_report::{Line, Move, WriteFault, put_line};
+
+#[cfg(test)]
+mod tests;
