@@ -1,0 +1,15 @@
+//! The words of a command line, and the commands that they spell.
+#![tactic(auto)]
+
+mod commands;
+mod law;
+mod reading;
+mod words;
+
+pub use commands::Command;
+pub use law::grammar;
+pub use reading::command;
+pub use words::Words;
+
+#[cfg(test)]
+mod tests;

@@ -1,0 +1,72 @@
+//! The edges of the grammar.
+
+use crate::commands::Command;
+use crate::reading::command;
+use crate::words::Words;
+use std::test::Fail;
+
+#[test]
+fn the_grammar_has_these_edges(rt: HostRuntime) -> Result<(), Fail> {
+    for (name, image, count, ticks) in [
+        ("bare", "x", "0", Some(0)),
+        ("bare", "x", "9", Some(9)),
+        ("bare", "x", "10", Some(10)),
+        ("bare", "x", "4000000000", Some(4_000_000_000)),
+        ("bare", "x", "4000000001", None),
+        ("bare", "x", "18446744073709551615", None),
+        ("bare", "x", "18446744073709551616", None),
+        ("bare", "x", "36893488147419103232", None),
+        ("bare", "x", "007", None),
+        ("bare", "x", "00", None),
+        ("bare", "x", "+5", None),
+        ("bare", "x", "+", None),
+        ("bare", "x", "-1", None),
+        ("bare", "x", "-0", None),
+        ("bare", "x", "", None),
+        ("bare", "x", "5 ", None),
+        ("bare", "x", " 5", None),
+        ("bare", "x", "0x5", None),
+        ("bare", "x", "5_0", None),
+        ("bare", "", "5", None),
+        ("bare", "--x", "5", None),
+        ("bare", "--", "5", None),
+        ("bare", "-x", "5", Some(5)),
+        ("bare", "-", "5", Some(5)),
+        ("bare", "x--", "5", Some(5)),
+        ("Bare", "x", "5", None),
+        ("bar", "x", "5", None),
+        ("bares", "x", "5", None),
+        ("", "x", "5", None),
+    ] {
+        let mut words = Words::new(rt.alloc());
+        for word in [name, image, count] {
+            words.push(word)?;
+        }
+        let wanted = ticks.map(|ticks| Command::Bare { image, ticks });
+        assert_eq!(rt; command(&words), wanted, "at {name} {image} {count}");
+    }
+    Ok(())
+}
+
+#[test]
+fn there_are_three_words(rt: HostRuntime) -> Result<(), Fail> {
+    let mut words = Words::new(rt.alloc());
+    for (word, wanted) in [
+        ("bare", None),
+        ("x", None),
+        (
+            "5",
+            Some(Command::Bare {
+                image: "x",
+                ticks: 5,
+            }),
+        ),
+        ("5", None),
+        ("5", None),
+    ] {
+        words.push(word)?;
+        assert_eq!(rt; command(&words), wanted);
+    }
+    assert_eq!(rt; command(&Words::new(rt.alloc())), None);
+    Ok(())
+}
