@@ -1,0 +1,10 @@
+mod Digits
+mod Words
+mod CutLemmas
+mod Progress
+mod Order
+mod Verdict
+mod Quotes
+mod Splits
+mod FrontSpells
+mod Takes

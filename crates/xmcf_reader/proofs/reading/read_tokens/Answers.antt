@@ -1,0 +1,19 @@
+use Rattle.std.proofs.lemmas.Result.{err_from_is_err_and}
+use Rattle.xmcf_reader.specs.Seen.{token_of}
+use Rattle.xmcf_reader.specs.Trees.{context_of}
+use Rattle.xmcf_reader.specs.Cuts.{left}
+use Rattle.xmcf_reader.proofs.Progress.{progress, first_broken}
+use Rattle.xmcf_reader.proofs.reading.read_tokens.Goals as goal
+
+pub loop-token-preserved : goal.loop-token-preserved
+loop-token-preserved c =
+    progress c.args.text.now (context_of c.loop-token.tree) (context_of c.take.new.self) (token_of c.in-Item.token) c.in-Item.at
+    c.loop-token.tokens.place c.loop-token.tokens.rest.now c.next.new.self.place c.next.new.self.rest.now c.loop-token.invariant
+    c.in-Item.ensures.next c.in-Item.ensures.moves.1 c.in-Item.ensures.room c.in_ok-take-in-Item.ensures.0 c.in_ok-take-in-Item.ensures.1
+
+pub returns-in_err-take-in-Item : goal.returns-in_err-take-in-Item
+returns-in_err-take-in-Item c =
+    let p = err_from_is_err_and c.from_residual.result c.from_residual.ensures.1 in
+    rw (p.1, p.2)
+    (first_broken c.args.text.now (context_of c.loop-token.tree) (token_of c.in-Item.token) c.in-Item.at
+    c.loop-token.tokens.place c.loop-token.tokens.rest.now (left c.next.new.self) _ c.loop-token.invariant c.in-Item.ensures.next c.in_err-take-in-Item.ensures)

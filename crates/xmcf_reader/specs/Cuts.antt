@@ -1,0 +1,42 @@
+-- The cut of a text, as the program meets it.
+use Rattle.std.specs.Prelude.{◌≡◌, ℕ, ◌+◌, ◌<◌, ◌≤◌, length}
+use Rattle.xmcf_reader.specs.Faults as faults
+use Rattle.xmcf_reader.specs.Faults.{Cut, cut}
+use Rattle.xmcf_reader.specs.Seen.{token_of}
+use Rattle.xmcf_reader.specs.Tokens.{Front, Found, Broken}
+use Rattle.xmcf_reader.specs.declared.token.Stop.{Stop}
+use Rattle.xmcf_reader.specs.declared.token.Stop.TheVariants.{Break, Reference, Ended}
+use Rattle.xmcf_reader.specs.declared.tokens.Tokens.{Tokens}
+use Rattle.xmcf_reader.specs.declared.tokens.Next.{Next}
+use Rattle.xmcf_reader.specs.declared.tokens.Next.TheVariants.{Item, Rest, End}
+
+-- a spelling stops within so many bytes
+abbrev pub StopsWithin : Stop → ℕ → Type 0
+StopsWithin (Break at) size = at ≤ size
+StopsWithin (Reference at) size = at ≤ size
+StopsWithin Ended size = Unit {0}
+
+-- what is found at the front of so many bytes has one at least, and not more
+abbrev pub FrontWithin : Front → ℕ → Type 0
+FrontWithin (Found token size) most = (1 ≤ size) × (size ≤ most)
+FrontWithin (Broken stop) most = StopsWithin stop most
+
+-- the cut of what is left
+abbrev pub left : Tokens → Cut
+left tokens = cut tokens.place 0 tokens.rest.now
+
+-- the length of the whole text
+abbrev pub room : Tokens → ℕ
+room tokens = tokens.place + length tokens.rest.now
+
+-- what came next, of the cut before and the cut behind it
+abbrev pub IsNext : Next → Cut → Cut → Type 0
+IsNext (Item token at) before behind = before ≡ faults.Item (token_of token) at behind
+IsNext (Rest at byte broken) before behind = before ≡ faults.Rest at byte broken
+IsNext (End at) before behind = before ≡ faults.End at
+
+-- a token stands at its place, and the next one behind it
+abbrev pub Moves : Next → Tokens → Tokens → Type 0
+Moves (Item token at) before behind = (at ≡ before.place) × (before.place < behind.place)
+Moves (Rest at byte broken) before behind = at ≡ before.place
+Moves (End at) before behind = at ≡ before.place

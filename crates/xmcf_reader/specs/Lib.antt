@@ -1,0 +1,16 @@
+pub mod Bytes
+pub mod BytesLemmas
+pub mod Cuts
+pub mod Draft
+pub mod Elements
+pub mod Faults
+pub mod FaultsLemmas
+pub mod Readings
+pub mod Seen
+pub mod Spelling
+pub mod Table
+pub mod Texts
+pub mod Tokens
+pub mod Trees
+pub mod Values
+pub mod Words

@@ -1,0 +1,10 @@
+-- The answer of a reading.
+use Rattle.std.specs.Prelude.{◌≡◌, List, [], Result, Ok, Err}
+use Rattle.xmcf_reader.specs.Faults.{IsFirst}
+use Rattle.xmcf_reader.specs.declared.draft.Entry.{Entry}
+use Rattle.xmcf_reader.specs.declared.fault.ReadFault.{ReadFault}
+
+-- a reading tells the draft where there is no fault, else the first fault; want of memory is free
+abbrev pub IsTold : Result (List Entry) ReadFault → List ReadFault → List Entry → Type 0
+IsTold (Ok draft) faults expected = (faults ≡ []) × (draft ≡ expected)
+IsTold (Err found) faults expected = IsFirst found faults
