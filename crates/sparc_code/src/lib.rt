@@ -3,7 +3,7 @@
 
 mod decoding;
 mod encoding;
-mod fields;
+pub mod fields;
 mod instruction;
 mod law;
 #[cfg(test)]

@@ -1,7 +1,12 @@
 pub use Rattle.guest_bus.specs.Access
 pub use Rattle.guest_bus.specs.Memory
 pub mod Registers
-pub mod Formats
+pub mod Words
 pub mod Conditions
+pub mod Operands
+pub mod Outcome
+pub mod Arithmetic
+pub mod Flow
+pub mod Transfers
 pub mod Execution
 pub mod Undone

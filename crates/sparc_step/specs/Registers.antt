@@ -61,6 +61,22 @@ advanced r = record r { pc = r.npc; npc = (r.npc + 4) % 2 ^ 32 }
 unfoldable pub branched : Registers → ℕ → Registers
 branched r target = record r { pc = r.npc; npc = target }
 
+-- the registers behind the next instruction, which is annulled
+unfoldable pub skipped : Registers → Registers
+skipped r = record r { pc = (r.npc + 4) % 2 ^ 32; npc = (r.npc + 8) % 2 ^ 32 }
+
+-- the registers at a target, the next instruction being annulled
+unfoldable pub sent : Registers → ℕ → Registers
+sent r target = record r { pc = target; npc = (target + 4) % 2 ^ 32 }
+
+-- the registers in another window
+unfoldable pub in_window : Registers → ℕ → Registers
+in_window r window = record r { cwp = window }
+
+-- the registers with another Y
+unfoldable pub with_y : Registers → ℕ → Registers
+with_y r y = record r { y = y }
+
 -- the registers with other condition codes
 unfoldable pub with_icc : Registers → ℕ → Registers
 with_icc r icc = record r { icc = icc }

@@ -1,36 +1,20 @@
 //! One instruction, executed.
 
-ghost use Rattle.std.specs.Prelude.{◌≡◌, ℕ, ◌%◌, ◌^◌, ◌<◌};
-ghost use Rattle.sparc_step.specs.Execution.{
-  add_row,
-  arith_row,
-  branch_row,
-  codes_of_difference,
-  executed,
-  fault_type,
-  left_by,
-  load_row,
-  or_row,
-  sethi_row,
-  sign,
-  store_row,
-  subcc_row,
-  sum_of,
-  trap_turn,
-  trap_type,
-  turned,
-  value_of,
-};
-ghost use Rattle.sparc_step.specs.Formats.{HasFields, IsSource};
-ghost use Rattle.sparc_step.specs.Registers.{advanced};
+ghost use Rattle.std.specs.Prelude.{◌≡◌, ◌<◌, ◌≤◌, ℕ, List};
+ghost use Rattle.guest_bus.specs.Memory.{Area, Memory};
+ghost use Rattle.sparc_code.specs.Decoded.{decoded, format2_row, memory_row, read_state, registers_row, write_state};
+ghost use Rattle.sparc_code.specs.Fields.{op2, op3};
+ghost use Rattle.sparc_step.specs.Execution.{executed, refused, turned};
+ghost use Rattle.sparc_step.specs.Registers.{Registers, advanced};
 ghost use Rattle.sparc_step.specs.Undone.{IsUndone};
 
-use crate::conditions::{condition_codes, holds};
-use crate::decoding::decode;
-use crate::instruction::{Arith, Instruction, Source};
+use crate::arithmetic::work;
+use crate::flow::{branch, call, jump, read_y, restore, save, sethi, trap, write_y};
 use crate::outcome::Turn;
 use crate::registers::Core;
-use guest_bus::{Bus, BusFault, Size};
+use crate::transfers::transfer;
+use guest_bus::Bus;
+use sparc_code::fields::{op, op2, op3, rd, rs1};
 
 /// Executes the instruction at `pc`.
 #[tactic(auto, unfolding(crate::specs::Execution::turned))]
@@ -44,263 +28,236 @@ pub fn turn<B: Bus>(core: &mut Core, bus: &mut B) -> Turn
     ensures others { B.others bus.new ≡ B.others bus.old }
 {
     match bus.fetch(core.pc) {
-        Ok(word) => execute(core, bus, decode(word)),
+        Ok(word) => execute(core, bus, word),
         Err(_) => Turn::Trap(0x01),
     }
 }
 
-// Executes an instruction.
-#[tactic(auto, unfolding(crate::specs::Execution::trap_row))]
-pub(crate) fn execute<B: Bus>(core: &mut Core, bus: &mut B, instruction: Instruction) -> Turn
-    requires { HasFields instruction }
-    ensures turn { result ≡ (executed instruction (B.areas bus.old) core.old (B.memory bus.old)).turn }
-    ensures core { core.new ≡ (executed instruction (B.areas bus.old) core.old (B.memory bus.old)).core }
-    ensures memory { B.memory bus.new ≡ (executed instruction (B.areas bus.old) core.old (B.memory bus.old)).memory }
+// Executes an instruction word: which instruction it is, is told here by compares, without a value for it in between.
+#[tactic(auto, unfolding(sparc_code::specs::Decoded::decoded))]
+pub(crate) fn execute<B: Bus>(core: &mut Core, bus: &mut B, word: u32) -> Turn
+    ensures turn { result ≡ (executed (decoded word) (B.areas bus.old) core.old (B.memory bus.old)).turn }
+    ensures core { core.new ≡ (executed (decoded word) (B.areas bus.old) core.old (B.memory bus.old)).core }
+    ensures memory { B.memory bus.new ≡ (executed (decoded word) (B.areas bus.old) core.old (B.memory bus.old)).memory }
     ensures areas { B.areas bus.new ≡ B.areas bus.old }
     ensures others { B.others bus.new ≡ B.others bus.old }
 {
-    match instruction {
-        Instruction::Sethi { rd, imm22 } => {
-            sethi(core, rd, imm22);
-            Turn::Went
+    if op(word) >= 2 {
+        if op(word) == 2 {
+            on_registers(core, op3(word), word)
+        } else {
+            on_memory(core, bus, op3(word), word)
         }
-        Instruction::Branch {
-            condition,
-            displacement,
-        } => {
-            branch(core, condition, displacement);
-            Turn::Went
-        }
-        Instruction::Arith {
-            operation,
-            rd,
-            rs1,
-            source,
-        } => {
-            arith(core, operation, rd, rs1, source);
-            Turn::Went
-        }
-        Instruction::Load { rd, rs1, source } => load(core, bus, rd, rs1, source),
-        Instruction::Store { rd, rs1, source } => store(core, bus, rd, rs1, source),
-        Instruction::Trap {
-            condition,
-            rs1,
-            source,
-        } => trap(core, condition, rs1, source),
-        Instruction::Illegal => Turn::Trap(0x02),
-    }
-}
-
-// SETHI.
-#[tactic(auto, unfolding(crate::specs::Execution::sethi_row))]
-fn sethi(core: &mut Core, rd: u8, imm22: u32)
-    requires rd { rd < 32 }
-    requires imm22 { imm22 < 2 ^ 22 }
-    ensures { core.new ≡ sethi_row rd imm22 core.old }
-{
-    core.set(rd, imm22 << 10);
-    core.advance();
-}
-
-// An instruction on two operands.
-fn arith(core: &mut Core, operation: Arith, rd: u8, rs1: u8, source: Source)
-    requires rd { rd < 32 }
-    requires rs1 { rs1 < 32 }
-    requires source { IsSource source }
-    ensures { core.new ≡ arith_row operation rd rs1 source core.old }
-{
-    match operation {
-        Arith::Add => add(core, rd, rs1, source),
-        Arith::Or => or(core, rd, rs1, source),
-        Arith::SubCc => subcc(core, rd, rs1, source),
-    }
-}
-
-// ADD.
-#[tactic(auto, unfolding(crate::specs::Execution::add_row))]
-fn add(core: &mut Core, rd: u8, rs1: u8, source: Source)
-    requires rd { rd < 32 }
-    requires rs1 { rs1 < 32 }
-    requires source { IsSource source }
-    ensures { core.new ≡ add_row rd rs1 source core.old }
-{
-    let sum = sum_of(core, rs1, source);
-    core.set(rd, sum);
-    core.advance();
-}
-
-// OR.
-#[tactic(auto, unfolding(crate::specs::Execution::or_row))]
-fn or(core: &mut Core, rd: u8, rs1: u8, source: Source)
-    requires rd { rd < 32 }
-    requires rs1 { rs1 < 32 }
-    requires source { IsSource source }
-    ensures { core.new ≡ or_row rd rs1 source core.old }
-{
-    let either = core.get(rs1) | value_of(core, source);
-    core.set(rd, either);
-    core.advance();
-}
-
-// SUBcc.
-#[tactic(auto, unfolding(crate::specs::Execution::subcc_row, crate::specs::Execution::with_difference, crate::specs::Execution::difference))]
-fn subcc(core: &mut Core, rd: u8, rs1: u8, source: Source)
-    requires rd { rd < 32 }
-    requires rs1 { rs1 < 32 }
-    requires source { IsSource source }
-    ensures { core.new ≡ subcc_row rd rs1 source core.old }
-{
-    let first = core.get(rs1);
-    let second = value_of(core, source);
-    core.set(rd, first.wrapping_sub(second));
-    core.set_icc(codes_of_difference(first, second));
-    core.advance();
-}
-
-// The condition codes of a difference.
-#[tactic(auto, unfolding(crate::specs::Execution::codes_of_difference, crate::specs::Execution::difference, crate::specs::Execution::overflows))]
-pub(crate) fn codes_of_difference(a: u32, b: u32) -> u8
-    ensures value { result ≡ codes_of_difference a b }
-    ensures four { result < 16 }
-{
-    let result = a.wrapping_sub(b);
-    let overflow = sign(a) != sign(b) && sign(a) != sign(result);
-    condition_codes(sign(result), result == 0, overflow, a < b)
-}
-
-// Bit 31 of a word.
-#[tactic(auto, unfolding(crate::specs::Execution::sign))]
-fn sign(word: u32) -> bool
-    ensures { result ≡ sign word }
-{
-    word >= 0x8000_0000
-}
-
-// Bicc without annulment.
-#[tactic(auto, unfolding(crate::specs::Execution::branch_row, crate::specs::Execution::target))]
-fn branch(core: &mut Core, condition: u8, displacement: u32)
-    requires { condition < 16 }
-    ensures { core.new ≡ branch_row condition displacement core.old }
-{
-    if holds(condition, core.icc) {
-        let target = core.pc.wrapping_add(displacement.wrapping_mul(4));
-        core.branch(target);
+    } else if op(word) == 0 {
+        format2(core, op2(word), word)
     } else {
-        core.advance();
+        call(core, word);
+        Turn::Went
     }
 }
 
-// LD.
-#[tactic(auto, unfolding(crate::specs::Execution::load_row))]
-fn load<B: Bus>(core: &mut Core, bus: &mut B, rd: u8, rs1: u8, source: Source) -> Turn
-    requires rd { rd < 32 }
-    requires rs1 { rs1 < 32 }
-    requires source { IsSource source }
-    ensures turn { result ≡ (load_row rd rs1 source (B.areas bus.old) core.old (B.memory bus.old)).turn }
-    ensures core { core.new ≡ (load_row rd rs1 source (B.areas bus.old) core.old (B.memory bus.old)).core }
-    ensures memory { B.memory bus.new ≡ (load_row rd rs1 source (B.areas bus.old) core.old (B.memory bus.old)).memory }
-    ensures areas { B.areas bus.new ≡ B.areas bus.old }
-    ensures others { B.others bus.new ≡ B.others bus.old }
+// Branches and SETHI.
+#[tactic(auto, unfolding(sparc_code::specs::Decoded::format2_row))]
+fn format2(core: &mut Core, selector: u32, word: u32) -> Turn
+    requires { selector < 8 }
+    ensures turn { (areas : List Area) (memory : Memory) → result ≡ (executed (format2_row selector word) areas core.old memory).turn }
+    ensures core { (areas : List Area) (memory : Memory) → core.new ≡ (executed (format2_row selector word) areas core.old memory).core }
+    ensures memory { (areas : List Area) (memory : Memory) → memory ≡ (executed (format2_row selector word) areas core.old memory).memory }
 {
-    match bus.load(sum_of(core, rs1, source), Size::Four) {
-        Ok(value) => {
-            core.set(rd, low_word(value));
-            core.advance();
-            Turn::Went
-        }
-        Err(fault) => Turn::Trap(fault_type(fault)),
-    }
-}
-
-// The low 32 bits.
-fn low_word(value: u64) -> u32
-    ensures { result ≡ value % 2 ^ 32 }
-{
-    (value & 0xffff_ffff) as u32
-}
-
-// The trap type of a refused load or store.
-fn fault_type(fault: BusFault) -> u8
-    ensures { result ≡ fault_type fault }
-{
-    match fault {
-        BusFault::Unaligned => 0x07,
-        BusFault::Outside => 0x09,
-    }
-}
-
-// ST.
-#[tactic(auto, unfolding(crate::specs::Execution::store_row))]
-fn store<B: Bus>(core: &mut Core, bus: &mut B, rd: u8, rs1: u8, source: Source) -> Turn
-    requires rd { rd < 32 }
-    requires rs1 { rs1 < 32 }
-    requires source { IsSource source }
-    ensures turn { result ≡ (store_row rd rs1 source (B.areas bus.old) core.old (B.memory bus.old)).turn }
-    ensures core { core.new ≡ (store_row rd rs1 source (B.areas bus.old) core.old (B.memory bus.old)).core }
-    ensures memory { B.memory bus.new ≡ (store_row rd rs1 source (B.areas bus.old) core.old (B.memory bus.old)).memory }
-    ensures areas { B.areas bus.new ≡ B.areas bus.old }
-    ensures others { B.others bus.new ≡ B.others bus.old }
-{
-    match bus.store(
-        sum_of(core, rs1, source),
-        Size::Four,
-        u64::from(core.get(rd)),
-    ) {
-        Ok(()) => {
-            core.advance();
-            Turn::Went
-        }
-        Err(fault) => Turn::Trap(fault_type(fault)),
-    }
-}
-
-// Ticc.
-#[tactic(auto, unfolding(crate::specs::Execution::trap_turn))]
-fn trap(core: &mut Core, condition: u8, rs1: u8, source: Source) -> Turn
-    requires condition { condition < 16 }
-    requires rs1 { rs1 < 32 }
-    requires source { IsSource source }
-    ensures turn { result ≡ trap_turn condition rs1 source core.old }
-    ensures core { core.new ≡ left_by result core.old }
-{
-    if !holds(condition, core.icc) {
-        core.advance();
-        return Turn::Went;
-    }
-    let trap_type = trap_type(sum_of(core, rs1, source));
-    if trap_type == 0xf0 {
-        core.advance();
-        Turn::Call
+    if selector == 2 {
+        branch(core, word);
+        Turn::Went
+    } else if selector == 4 {
+        sethi(core, word);
+        Turn::Went
+    } else if selector == 6 {
+        Turn::Trap(0x04)
+    } else if selector == 7 {
+        Turn::Trap(0x24)
     } else {
-        Turn::Trap(trap_type)
+        Turn::Trap(0x02)
     }
 }
 
-// The type of a software trap.
-#[tactic(auto, unfolding(crate::specs::Execution::trap_type))]
-fn trap_type(number: u32) -> u8
-    ensures { result ≡ trap_type number }
+// Work on registers, and what reads and writes the state.
+fn on_registers(core: &mut Core, selector: u32, word: u32) -> Turn
+    requires { selector < 64 }
+    ensures turn { (areas : List Area) (memory : Memory) → result ≡ (executed (registers_row selector word) areas core.old memory).turn }
+    ensures core { (areas : List Area) (memory : Memory) → core.new ≡ (executed (registers_row selector word) areas core.old memory).core }
+    ensures memory { (areas : List Area) (memory : Memory) → memory ≡ (executed (registers_row selector word) areas core.old memory).memory }
 {
-    0x80 + (number % 128) as u8
+    if selector < 0x28 {
+        work(core, selector, word)
+    } else if selector >= 0x38 {
+        transfer_control(core, selector, word)
+    } else {
+        on_state(core, selector, word)
+    }
 }
 
-// The sum of the two operands.
-#[tactic(auto, unfolding(crate::specs::Execution::sum_of))]
-fn sum_of(core: &Core, rs1: u8, source: Source) -> u32
-    requires rs1 { rs1 < 32 }
-    requires source { IsSource source }
-    ensures { result ≡ sum_of rs1 source core.now }
+// The selectors 28 to 37.
+#[tactic(auto, unfolding(sparc_code::specs::Decoded::registers_row))]
+fn on_state(core: &mut Core, selector: u32, word: u32) -> Turn
+    requires from { 0x28 ≤ selector }
+    requires below { selector < 0x38 }
+    ensures turn { (areas : List Area) (memory : Memory) → result ≡ (executed (registers_row selector word) areas core.old memory).turn }
+    ensures core { (areas : List Area) (memory : Memory) → core.new ≡ (executed (registers_row selector word) areas core.old memory).core }
+    ensures memory { (areas : List Area) (memory : Memory) → memory ≡ (executed (registers_row selector word) areas core.old memory).memory }
 {
-    core.get(rs1).wrapping_add(value_of(core, source))
+    if selector < 0x30 {
+        if selector == 0x28 {
+            read_state(core, word)
+        } else if selector < 0x2c {
+            Turn::Trap(0x03)
+        } else {
+            Turn::Trap(0x02)
+        }
+    } else if selector == 0x30 {
+        write_state(core, word)
+    } else if selector < 0x34 {
+        Turn::Trap(0x03)
+    } else if selector < 0x36 {
+        Turn::Trap(0x04)
+    } else {
+        Turn::Trap(0x24)
+    }
 }
 
-// The value of the second operand.
-fn value_of(core: &Core, source: Source) -> u32
-    requires { IsSource source }
-    ensures { result ≡ value_of source core.now }
+// RDY and STBAR.
+#[tactic(auto, unfolding(sparc_code::specs::Decoded::read_state))]
+fn read_state(core: &mut Core, word: u32) -> Turn
+    ensures turn { (areas : List Area) (memory : Memory) → result ≡ (executed (read_state word) areas core.old memory).turn }
+    ensures core { (areas : List Area) (memory : Memory) → core.new ≡ (executed (read_state word) areas core.old memory).core }
+    ensures memory { (areas : List Area) (memory : Memory) → memory ≡ (executed (read_state word) areas core.old memory).memory }
 {
-    match source {
-        Source::Register(n) => core.get(n),
-        Source::Immediate(word) => word,
+    if rs1(word) == 0 {
+        read_y(core, word);
+        Turn::Went
+    } else if rs1(word) == 15 && rd(word) == 0 {
+        core.advance();
+        Turn::Went
+    } else {
+        Turn::Trap(0x02)
+    }
+}
+
+// WRY.
+#[tactic(auto, unfolding(sparc_code::specs::Decoded::write_state))]
+fn write_state(core: &mut Core, word: u32) -> Turn
+    ensures turn { (areas : List Area) (memory : Memory) → result ≡ (executed (write_state word) areas core.old memory).turn }
+    ensures core { (areas : List Area) (memory : Memory) → core.new ≡ (executed (write_state word) areas core.old memory).core }
+    ensures memory { (areas : List Area) (memory : Memory) → memory ≡ (executed (write_state word) areas core.old memory).memory }
+{
+    if rd(word) == 0 {
+        write_y(core, word);
+        Turn::Went
+    } else {
+        Turn::Trap(0x02)
+    }
+}
+
+// The selectors 38 to 3f.
+#[tactic(auto, unfolding(sparc_code::specs::Decoded::registers_row))]
+fn transfer_control(core: &mut Core, selector: u32, word: u32) -> Turn
+    requires from { 0x38 ≤ selector }
+    requires below { selector < 0x40 }
+    ensures turn { (areas : List Area) (memory : Memory) → result ≡ (executed (registers_row selector word) areas core.old memory).turn }
+    ensures core { (areas : List Area) (memory : Memory) → core.new ≡ (executed (registers_row selector word) areas core.old memory).core }
+    ensures memory { (areas : List Area) (memory : Memory) → memory ≡ (executed (registers_row selector word) areas core.old memory).memory }
+{
+    if selector < 0x3b {
+        if selector == 0x38 {
+            jump(core, word)
+        } else if selector == 0x3a {
+            trap(core, word)
+        } else {
+            Turn::Trap(0x03)
+        }
+    } else if selector == 0x3c {
+        save(core, word)
+    } else if selector == 0x3d {
+        restore(core, word)
+    } else if selector == 0x3b {
+        core.advance();
+        Turn::Went
+    } else {
+        Turn::Trap(0x02)
+    }
+}
+
+// Work on memory.
+fn on_memory<B: Bus>(core: &mut Core, bus: &mut B, selector: u32, word: u32) -> Turn
+    requires { selector < 64 }
+    ensures turn { result ≡ (executed (memory_row selector word) (B.areas bus.old) core.old (B.memory bus.old)).turn }
+    ensures core { core.new ≡ (executed (memory_row selector word) (B.areas bus.old) core.old (B.memory bus.old)).core }
+    ensures memory { B.memory bus.new ≡ (executed (memory_row selector word) (B.areas bus.old) core.old (B.memory bus.old)).memory }
+    ensures areas { B.areas bus.new ≡ B.areas bus.old }
+    ensures others { B.others bus.new ≡ B.others bus.old }
+{
+    if selector < 16 {
+        transfer(core, bus, selector, word)
+    } else if selector < 32 {
+        Turn::Trap(other_space(selector))
+    } else {
+        Turn::Trap(other_unit(selector))
+    }
+}
+
+// The selectors 10 to 1f, the other spaces of addresses: which trap each raises.
+#[tactic(auto, unfolding(sparc_code::specs::Decoded::memory_row))]
+fn other_space(selector: u32) -> u8
+    requires from { 0x10 ≤ selector }
+    requires below { selector < 0x20 }
+    ensures { (word : ℕ) (areas : List Area) (core : Registers) (memory : Memory) → executed (memory_row selector word) areas core memory ≡ refused result core memory }
+{
+    if matches!(selector, 0x10..=0x17 | 0x19 | 0x1a | 0x1d | 0x1f) {
+        0x03
+    } else {
+        0x02
+    }
+}
+
+// The selectors 20 to 3f, the other units: which trap each raises.
+fn other_unit(selector: u32) -> u8
+    requires from { 0x20 ≤ selector }
+    requires below { selector < 0x40 }
+    ensures { (word : ℕ) (areas : List Area) (core : Registers) (memory : Memory) → executed (memory_row selector word) areas core memory ≡ refused result core memory }
+{
+    if selector < 0x30 {
+        floating_point(selector)
+    } else {
+        coprocessor(selector)
+    }
+}
+
+// The selectors 20 to 2f.
+#[tactic(auto, unfolding(sparc_code::specs::Decoded::memory_row))]
+fn floating_point(selector: u32) -> u8
+    requires from { 0x20 ≤ selector }
+    requires below { selector < 0x30 }
+    ensures { (word : ℕ) (areas : List Area) (core : Registers) (memory : Memory) → executed (memory_row selector word) areas core memory ≡ refused result core memory }
+{
+    if matches!(selector, 0x20 | 0x21 | 0x23..=0x25 | 0x27) {
+        0x04
+    } else if selector == 0x26 {
+        0x03
+    } else {
+        0x02
+    }
+}
+
+// The selectors 30 to 3f.
+#[tactic(auto, unfolding(sparc_code::specs::Decoded::memory_row))]
+fn coprocessor(selector: u32) -> u8
+    requires from { 0x30 ≤ selector }
+    requires below { selector < 0x40 }
+    ensures { (word : ℕ) (areas : List Area) (core : Registers) (memory : Memory) → executed (memory_row selector word) areas core memory ≡ refused result core memory }
+{
+    if matches!(selector, 0x30 | 0x31 | 0x33..=0x35 | 0x37) {
+        0x24
+    } else if selector == 0x36 {
+        0x03
+    } else {
+        0x02
     }
 }

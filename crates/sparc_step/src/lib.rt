@@ -1,14 +1,15 @@
 //! One instruction of a guest's processor, over any memory.
 #![tactic(auto)]
 
+mod arithmetic;
 mod conditions;
-mod decoding;
 mod execution;
-mod instruction;
+mod flow;
+mod operands;
 mod outcome;
 mod registers;
-#[cfg(test)]
-mod tests;
+mod transfers;
+mod words;
 
 pub use execution::turn;
 pub use guest_bus::{Bus, BusFault, Size};

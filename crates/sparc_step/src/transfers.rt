@@ -1,0 +1,308 @@
+//! Loads, stores and exchanges.
+
+ghost use Rattle.std.specs.Prelude.{◌≡◌, ◌+◌, ◌*◌, ◌%◌, ◌<◌, ◌≤◌, ◌^◌};
+ghost use Rattle.guest_bus.specs.Access.{after_store, loaded, store_fault};
+ghost use Rattle.guest_bus.specs.declared.bus.Size.TheVariants.{One, Two};
+ghost use Rattle.sparc_code.specs.Decoded.{double_work, memory_row};
+ghost use Rattle.sparc_code.specs.Fields.{rd};
+ghost use Rattle.sparc_code.specs.declared.instruction.MemOp.TheVariants.{LdD, StD};
+ghost use Rattle.sparc_step.specs.Execution.{executed};
+ghost use Rattle.sparc_step.specs.Transfers.{
+  exchange_of,
+  exchanged_with,
+  fault_type,
+  loaded_into,
+  low_word,
+  pair_at,
+  signed_byte,
+  signed_half,
+  store_of,
+  with_pair,
+};
+
+use crate::operands::{put, sum_of};
+use crate::outcome::Turn;
+use crate::registers::Core;
+use guest_bus::{Bus, BusFault, Size};
+use sparc_code::fields::rd;
+
+// The selectors 00 to 0f.
+pub(crate) fn transfer<B: Bus>(core: &mut Core, bus: &mut B, selector: u32, word: u32) -> Turn
+    requires { selector < 16 }
+    ensures turn { result ≡ (executed (memory_row selector word) (B.areas bus.old) core.old (B.memory bus.old)).turn }
+    ensures core { core.new ≡ (executed (memory_row selector word) (B.areas bus.old) core.old (B.memory bus.old)).core }
+    ensures memory { B.memory bus.new ≡ (executed (memory_row selector word) (B.areas bus.old) core.old (B.memory bus.old)).memory }
+    ensures areas { B.areas bus.new ≡ B.areas bus.old }
+    ensures others { B.others bus.new ≡ B.others bus.old }
+{
+    if selector < 8 {
+        if selector < 4 {
+            load(core, bus, selector, word)
+        } else {
+            store(core, bus, selector, word)
+        }
+    } else {
+        load_signed_or_exchange(core, bus, selector, word)
+    }
+}
+
+// The selectors 00 to 03.
+#[tactic(auto, unfolding(sparc_code::specs::Decoded::memory_row))]
+fn load<B: Bus>(core: &mut Core, bus: &mut B, selector: u32, word: u32) -> Turn
+    requires { selector < 4 }
+    ensures turn { result ≡ (executed (memory_row selector word) (B.areas bus.old) core.old (B.memory bus.old)).turn }
+    ensures core { core.new ≡ (executed (memory_row selector word) (B.areas bus.old) core.old (B.memory bus.old)).core }
+    ensures memory { B.memory bus.new ≡ (executed (memory_row selector word) (B.areas bus.old) core.old (B.memory bus.old)).memory }
+    ensures areas { B.areas bus.new ≡ B.areas bus.old }
+    ensures others { B.others bus.new ≡ B.others bus.old }
+{
+    let address = sum_of(core, word);
+    if selector == 0x00 {
+        load_value(core, bus, word, address, Size::Four)
+    } else if selector == 0x01 {
+        load_value(core, bus, word, address, Size::One)
+    } else if selector == 0x02 {
+        load_value(core, bus, word, address, Size::Two)
+    } else {
+        load_double(core, bus, word)
+    }
+}
+
+// The selectors 04 to 07.
+#[tactic(auto, unfolding(sparc_code::specs::Decoded::memory_row))]
+fn store<B: Bus>(core: &mut Core, bus: &mut B, selector: u32, word: u32) -> Turn
+    requires from { 4 ≤ selector }
+    requires below { selector < 8 }
+    ensures turn { result ≡ (executed (memory_row selector word) (B.areas bus.old) core.old (B.memory bus.old)).turn }
+    ensures core { core.new ≡ (executed (memory_row selector word) (B.areas bus.old) core.old (B.memory bus.old)).core }
+    ensures memory { B.memory bus.new ≡ (executed (memory_row selector word) (B.areas bus.old) core.old (B.memory bus.old)).memory }
+    ensures areas { B.areas bus.new ≡ B.areas bus.old }
+    ensures others { B.others bus.new ≡ B.others bus.old }
+{
+    let address = sum_of(core, word);
+    let value = u64::from(core.get(rd(word)));
+    if selector == 0x04 {
+        store_value(core, bus, address, Size::Four, value)
+    } else if selector == 0x05 {
+        store_value(core, bus, address, Size::One, value)
+    } else if selector == 0x06 {
+        store_value(core, bus, address, Size::Two, value)
+    } else {
+        store_double(core, bus, word)
+    }
+}
+
+// The selectors 08 to 0f.
+#[tactic(auto, unfolding(sparc_code::specs::Decoded::memory_row))]
+fn load_signed_or_exchange<B: Bus>(core: &mut Core, bus: &mut B, selector: u32, word: u32) -> Turn
+    requires from { 8 ≤ selector }
+    requires below { selector < 16 }
+    ensures turn { result ≡ (executed (memory_row selector word) (B.areas bus.old) core.old (B.memory bus.old)).turn }
+    ensures core { core.new ≡ (executed (memory_row selector word) (B.areas bus.old) core.old (B.memory bus.old)).core }
+    ensures memory { B.memory bus.new ≡ (executed (memory_row selector word) (B.areas bus.old) core.old (B.memory bus.old)).memory }
+    ensures areas { B.areas bus.new ≡ B.areas bus.old }
+    ensures others { B.others bus.new ≡ B.others bus.old }
+{
+    let address = sum_of(core, word);
+    if selector < 0x0d {
+        if selector == 0x09 {
+            load_byte(core, bus, word, address)
+        } else if selector == 0x0a {
+            load_half(core, bus, word, address)
+        } else {
+            Turn::Trap(0x02)
+        }
+    } else if selector == 0x0d {
+        exchange(core, bus, word, address, Size::One, 0xff)
+    } else if selector == 0x0f {
+        let value = u64::from(core.get(rd(word)));
+        exchange(core, bus, word, address, Size::Four, value)
+    } else {
+        Turn::Trap(0x02)
+    }
+}
+
+// Loads a value without a sign.
+fn load_value<B: Bus>(core: &mut Core, bus: &mut B, word: u32, address: u32, size: Size) -> Turn
+    ensures turn { result ≡ (loaded_into (loaded (B.areas bus.old) (B.memory bus.old) address size) low_word (rd word) core.old (B.memory bus.old)).turn }
+    ensures core { core.new ≡ (loaded_into (loaded (B.areas bus.old) (B.memory bus.old) address size) low_word (rd word) core.old (B.memory bus.old)).core }
+    ensures memory { B.memory bus.new ≡ (loaded_into (loaded (B.areas bus.old) (B.memory bus.old) address size) low_word (rd word) core.old (B.memory bus.old)).memory }
+    ensures areas { B.areas bus.new ≡ B.areas bus.old }
+    ensures others { B.others bus.new ≡ B.others bus.old }
+{
+    match bus.load(address, size) {
+        Ok(value) => {
+            put(core, word, (value % 0x1_0000_0000) as u32);
+            Turn::Went
+        }
+        Err(fault) => Turn::Trap(fault_type(fault)),
+    }
+}
+
+// LDSB.
+fn load_byte<B: Bus>(core: &mut Core, bus: &mut B, word: u32, address: u32) -> Turn
+    ensures turn { result ≡ (loaded_into (loaded (B.areas bus.old) (B.memory bus.old) address One) signed_byte (rd word) core.old (B.memory bus.old)).turn }
+    ensures core { core.new ≡ (loaded_into (loaded (B.areas bus.old) (B.memory bus.old) address One) signed_byte (rd word) core.old (B.memory bus.old)).core }
+    ensures memory { B.memory bus.new ≡ (loaded_into (loaded (B.areas bus.old) (B.memory bus.old) address One) signed_byte (rd word) core.old (B.memory bus.old)).memory }
+    ensures areas { B.areas bus.new ≡ B.areas bus.old }
+    ensures others { B.others bus.new ≡ B.others bus.old }
+{
+    match bus.load(address, Size::One) {
+        Ok(value) => {
+            put(core, word, signed_byte(value));
+            Turn::Went
+        }
+        Err(fault) => Turn::Trap(fault_type(fault)),
+    }
+}
+
+// LDSH.
+fn load_half<B: Bus>(core: &mut Core, bus: &mut B, word: u32, address: u32) -> Turn
+    ensures turn { result ≡ (loaded_into (loaded (B.areas bus.old) (B.memory bus.old) address Two) signed_half (rd word) core.old (B.memory bus.old)).turn }
+    ensures core { core.new ≡ (loaded_into (loaded (B.areas bus.old) (B.memory bus.old) address Two) signed_half (rd word) core.old (B.memory bus.old)).core }
+    ensures memory { B.memory bus.new ≡ (loaded_into (loaded (B.areas bus.old) (B.memory bus.old) address Two) signed_half (rd word) core.old (B.memory bus.old)).memory }
+    ensures areas { B.areas bus.new ≡ B.areas bus.old }
+    ensures others { B.others bus.new ≡ B.others bus.old }
+{
+    match bus.load(address, Size::Two) {
+        Ok(value) => {
+            put(core, word, signed_half(value));
+            Turn::Went
+        }
+        Err(fault) => Turn::Trap(fault_type(fault)),
+    }
+}
+
+// The low byte of a value with its sign.
+#[tactic(auto, unfolding(crate::specs::Transfers::signed_byte))]
+fn signed_byte(value: u64) -> u32
+    ensures { result ≡ signed_byte value }
+{
+    i32::from(((value % 0x100) as u8).cast_signed()).cast_unsigned()
+}
+
+// The low half word of a value with its sign.
+#[tactic(auto, unfolding(crate::specs::Transfers::signed_half))]
+fn signed_half(value: u64) -> u32
+    ensures { result ≡ signed_half value }
+{
+    i32::from(((value % 0x1_0000) as u16).cast_signed()).cast_unsigned()
+}
+
+// LDD.
+#[tactic(auto, unfolding(sparc_code::specs::Decoded::double_work))]
+fn load_double<B: Bus>(core: &mut Core, bus: &mut B, word: u32) -> Turn
+    ensures turn { result ≡ (executed (double_work LdD word) (B.areas bus.old) core.old (B.memory bus.old)).turn }
+    ensures core { core.new ≡ (executed (double_work LdD word) (B.areas bus.old) core.old (B.memory bus.old)).core }
+    ensures memory { B.memory bus.new ≡ (executed (double_work LdD word) (B.areas bus.old) core.old (B.memory bus.old)).memory }
+    ensures areas { B.areas bus.new ≡ B.areas bus.old }
+    ensures others { B.others bus.new ≡ B.others bus.old }
+{
+    if rd(word) % 2 != 0 {
+        return Turn::Trap(0x02);
+    }
+    match bus.load(sum_of(core, word), Size::Eight) {
+        Ok(value) => {
+            set_pair(core, rd(word), value);
+            core.advance();
+            Turn::Went
+        }
+        Err(fault) => Turn::Trap(fault_type(fault)),
+    }
+}
+
+// Sets a pair of registers to a double word.
+#[tactic(auto, unfolding(crate::specs::Transfers::with_pair))]
+fn set_pair(core: &mut Core, rd: u8, value: u64)
+    requires { rd + 1 < 32 }
+    ensures { core.new ≡ with_pair rd value core.old }
+{
+    core.set(rd, (value >> 32) as u32);
+    core.set(rd + 1, (value % 0x1_0000_0000) as u32);
+}
+
+// STD.
+#[tactic(auto, unfolding(sparc_code::specs::Decoded::double_work))]
+fn store_double<B: Bus>(core: &mut Core, bus: &mut B, word: u32) -> Turn
+    ensures turn { result ≡ (executed (double_work StD word) (B.areas bus.old) core.old (B.memory bus.old)).turn }
+    ensures core { core.new ≡ (executed (double_work StD word) (B.areas bus.old) core.old (B.memory bus.old)).core }
+    ensures memory { B.memory bus.new ≡ (executed (double_work StD word) (B.areas bus.old) core.old (B.memory bus.old)).memory }
+    ensures areas { B.areas bus.new ≡ B.areas bus.old }
+    ensures others { B.others bus.new ≡ B.others bus.old }
+{
+    if rd(word) % 2 != 0 {
+        return Turn::Trap(0x02);
+    }
+    let address = sum_of(core, word);
+    let value = pair(core, rd(word));
+    store_value(core, bus, address, Size::Eight, value)
+}
+
+// The double word in a pair of registers.
+#[tactic(auto, unfolding(crate::specs::Transfers::pair_at))]
+fn pair(core: &Core, rd: u8) -> u64
+    requires { rd + 1 < 32 }
+    ensures { result ≡ pair_at core.now rd }
+{
+    (u64::from(core.get(rd)) << 32) + u64::from(core.get(rd + 1))
+}
+
+// Stores a value.
+#[tactic(auto, unfolding(crate::specs::Transfers::store_of))]
+fn store_value<B: Bus>(core: &mut Core, bus: &mut B, address: u32, size: Size, value: u64) -> Turn
+    ensures turn { result ≡ (store_of value address size (B.areas bus.old) core.old (B.memory bus.old)).turn }
+    ensures core { core.new ≡ (store_of value address size (B.areas bus.old) core.old (B.memory bus.old)).core }
+    ensures memory { B.memory bus.new ≡ (store_of value address size (B.areas bus.old) core.old (B.memory bus.old)).memory }
+    ensures areas { B.areas bus.new ≡ B.areas bus.old }
+    ensures others { B.others bus.new ≡ B.others bus.old }
+{
+    match bus.store(address, size, value) {
+        Ok(()) => {
+            core.advance();
+            Turn::Went
+        }
+        Err(fault) => Turn::Trap(fault_type(fault)),
+    }
+}
+
+// LDSTUB and SWAP.
+#[tactic(auto, unfolding(crate::specs::Transfers::exchange_of))]
+fn exchange<B: Bus>(core: &mut Core, bus: &mut B, word: u32, address: u32, size: Size, value: u64) -> Turn
+    ensures turn { result ≡ (exchange_of value address size (rd word) (B.areas bus.old) core.old (B.memory bus.old)).turn }
+    ensures core { core.new ≡ (exchange_of value address size (rd word) (B.areas bus.old) core.old (B.memory bus.old)).core }
+    ensures memory { B.memory bus.new ≡ (exchange_of value address size (rd word) (B.areas bus.old) core.old (B.memory bus.old)).memory }
+    ensures areas { B.areas bus.new ≡ B.areas bus.old }
+    ensures others { B.others bus.new ≡ B.others bus.old }
+{
+    match bus.load(address, size) {
+        Ok(found) => exchange_for(core, bus, word, address, size, value, found),
+        Err(fault) => Turn::Trap(fault_type(fault)),
+    }
+}
+
+// Stores a value, and puts what was found there.
+fn exchange_for<B: Bus>(core: &mut Core, bus: &mut B, word: u32, address: u32, size: Size, value: u64, found: u64) -> Turn
+    ensures turn { result ≡ (exchanged_with (store_fault (B.areas bus.old) address size) found (rd word) core.old (B.memory bus.old) (after_store (B.areas bus.old) (B.memory bus.old) address size value)).turn }
+    ensures core { core.new ≡ (exchanged_with (store_fault (B.areas bus.old) address size) found (rd word) core.old (B.memory bus.old) (after_store (B.areas bus.old) (B.memory bus.old) address size value)).core }
+    ensures memory { B.memory bus.new ≡ (exchanged_with (store_fault (B.areas bus.old) address size) found (rd word) core.old (B.memory bus.old) (after_store (B.areas bus.old) (B.memory bus.old) address size value)).memory }
+    ensures areas { B.areas bus.new ≡ B.areas bus.old }
+    ensures others { B.others bus.new ≡ B.others bus.old }
+{
+    match bus.store(address, size, value) {
+        Ok(()) => {
+            put(core, word, (found % 0x1_0000_0000) as u32);
+            Turn::Went
+        }
+        Err(fault) => Turn::Trap(fault_type(fault)),
+    }
+}
+
+// The trap type of a refused access.
+fn fault_type(fault: BusFault) -> u8
+    ensures { result ≡ fault_type fault }
+{
+    match fault {
+        BusFault::Unaligned => 0x07,
+        BusFault::Outside => 0x09,
+    }
+}
