@@ -10,3 +10,4 @@ pub mod Flow
 pub mod Transfers
 pub mod Execution
 pub mod Undone
+pub mod WindowTraps
