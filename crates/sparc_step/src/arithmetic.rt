@@ -19,7 +19,6 @@ ghost use Rattle.sparc_step.specs.Outcome.{with_result, with_result_and_codes};
 ghost use Rattle.sparc_step.specs.Conditions.{codes_of_result};
 ghost use Rattle.sparc_step.specs.Registers.{with_y};
 
-use sparc_code::Arith;
 use crate::conditions::{
     carry, codes_of_difference, codes_of_result, codes_of_sum, codes_of_tagged_difference,
     codes_of_tagged_sum, negative, overflow,
@@ -32,6 +31,7 @@ use crate::words::{
     shifted_arithmetically, shifted_left, shifted_right, signed_product, signed_quotient,
     signed_quotient_overflows, sum, sum_overflows,
 };
+use sparc_code::Arith;
 
 // Work on registers, from a selector below 28.
 pub(crate) fn work(core: &mut Core, selector: u32, word: u32) -> Turn
@@ -103,7 +103,12 @@ fn coded(core: &mut Core, selector: u32, word: u32) -> Turn
     let a = first(core, word);
     let b = second(core, word);
     if selector == 0x14 {
-        put_with_codes(core, word, difference(a, b, false), codes_of_difference(a, b, false));
+        put_with_codes(
+            core,
+            word,
+            difference(a, b, false),
+            codes_of_difference(a, b, false),
+        );
     } else if selector == 0x10 {
         put_with_codes(core, word, sum(a, b, false), codes_of_sum(a, b, false));
     } else if selector < 0x14 {
@@ -280,7 +285,12 @@ fn subtract_with_borrow_coded(core: &mut Core, word: u32) -> Turn
     let a = first(core, word);
     let b = second(core, word);
     let borrow = carry(core.icc);
-    put_with_codes(core, word, difference(a, b, borrow), codes_of_difference(a, b, borrow));
+    put_with_codes(
+        core,
+        word,
+        difference(a, b, borrow),
+        codes_of_difference(a, b, borrow),
+    );
     Turn::Went
 }
 
@@ -458,7 +468,12 @@ fn add_tagged_or_trap(core: &mut Core, word: u32) -> Turn
     if tagged_sum_overflows(a, b) {
         return Turn::Trap(0x0a);
     }
-    put_with_codes(core, word, sum(a, b, false), codes_of_tagged_sum(a, b, false));
+    put_with_codes(
+        core,
+        word,
+        sum(a, b, false),
+        codes_of_tagged_sum(a, b, false),
+    );
     Turn::Went
 }
 
@@ -472,7 +487,12 @@ fn subtract_tagged_or_trap(core: &mut Core, word: u32) -> Turn
     if tagged_difference_overflows(a, b) {
         return Turn::Trap(0x0a);
     }
-    put_with_codes(core, word, difference(a, b, false), codes_of_tagged_difference(a, b, false));
+    put_with_codes(
+        core,
+        word,
+        difference(a, b, false),
+        codes_of_tagged_difference(a, b, false),
+    );
     Turn::Went
 }
 
@@ -512,6 +532,11 @@ fn multiply_step(core: &mut Core, word: u32) -> Turn
     let addend = step_addend(core, b);
     let y = stepped_y(core, a);
     core.set_y(y);
-    put_with_codes(core, word, sum(augend, addend, false), codes_of_sum(augend, addend, false));
+    put_with_codes(
+        core,
+        word,
+        sum(augend, addend, false),
+        codes_of_sum(augend, addend, false),
+    );
     Turn::Went
 }

@@ -46,7 +46,12 @@ pub(crate) fn codes_of_sum(a: u32, b: u32, carry: bool) -> u8
     ensures four { result < 16 }
 {
     let value = sum(a, b, carry);
-    condition_codes(sign(value), value == 0, sum_overflows(a, b, carry), sum_carries(a, b, carry))
+    condition_codes(
+        sign(value),
+        value == 0,
+        sum_overflows(a, b, carry),
+        sum_carries(a, b, carry),
+    )
 }
 
 // The condition codes of a sum, its overflow known.
@@ -81,7 +86,12 @@ pub(crate) fn codes_of_tagged_difference(a: u32, b: u32, overflow: bool) -> u8
     ensures four { result < 16 }
 {
     let value = difference(a, b, false);
-    condition_codes(sign(value), value == 0, overflow, difference_borrows(a, b, false))
+    condition_codes(
+        sign(value),
+        value == 0,
+        overflow,
+        difference_borrows(a, b, false),
+    )
 }
 
 // A condition holds of the codes.

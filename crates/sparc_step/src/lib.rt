@@ -8,6 +8,8 @@ mod flow;
 mod operands;
 mod outcome;
 mod registers;
+#[cfg(test)]
+mod tests;
 mod transfers;
 mod words;
 

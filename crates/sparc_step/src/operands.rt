@@ -24,7 +24,11 @@ pub(crate) fn second(core: &Core, word: u32) -> u32
     ensures { result ≡ value_of (operand simm13 word) core.now }
 {
     let register = core.get(rs2(word));
-    if i(word) == 0 { register } else { immediate(word) }
+    if i(word) == 0 {
+        register
+    } else {
+        immediate(word)
+    }
 }
 
 // The value of operand 2 of a shift.

@@ -267,7 +267,14 @@ fn store_value<B: Bus>(core: &mut Core, bus: &mut B, address: u32, size: Size, v
 
 // LDSTUB and SWAP.
 #[tactic(auto, unfolding(crate::specs::Transfers::exchange_of))]
-fn exchange<B: Bus>(core: &mut Core, bus: &mut B, word: u32, address: u32, size: Size, value: u64) -> Turn
+fn exchange<B: Bus>(
+    core: &mut Core,
+    bus: &mut B,
+    word: u32,
+    address: u32,
+    size: Size,
+    value: u64,
+) -> Turn
     ensures turn { result ≡ (exchange_of value address size (rd word) (B.areas bus.old) core.old (B.memory bus.old)).turn }
     ensures core { core.new ≡ (exchange_of value address size (rd word) (B.areas bus.old) core.old (B.memory bus.old)).core }
     ensures memory { B.memory bus.new ≡ (exchange_of value address size (rd word) (B.areas bus.old) core.old (B.memory bus.old)).memory }
@@ -281,7 +288,15 @@ fn exchange<B: Bus>(core: &mut Core, bus: &mut B, word: u32, address: u32, size:
 }
 
 // Stores a value, and puts what was found there.
-fn exchange_for<B: Bus>(core: &mut Core, bus: &mut B, word: u32, address: u32, size: Size, value: u64, found: u64) -> Turn
+fn exchange_for<B: Bus>(
+    core: &mut Core,
+    bus: &mut B,
+    word: u32,
+    address: u32,
+    size: Size,
+    value: u64,
+    found: u64,
+) -> Turn
     ensures turn { result ≡ (exchanged_with (store_fault (B.areas bus.old) address size) found (rd word) core.old (B.memory bus.old) (after_store (B.areas bus.old) (B.memory bus.old) address size value)).turn }
     ensures core { core.new ≡ (exchanged_with (store_fault (B.areas bus.old) address size) found (rd word) core.old (B.memory bus.old) (after_store (B.areas bus.old) (B.memory bus.old) address size value)).core }
     ensures memory { B.memory bus.new ≡ (exchanged_with (store_fault (B.areas bus.old) address size) found (rd word) core.old (B.memory bus.old) (after_store (B.areas bus.old) (B.memory bus.old) address size value)).memory }

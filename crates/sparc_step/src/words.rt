@@ -1,12 +1,13 @@
 //! Arithmetic on words.
 
-ghost use Rattle.std.specs.Prelude.{◌≡◌, ◌<◌, ◌-◌, ◌^◌, ◌≤ℤ◌, ◌<ℤ◌, pos, negsuc};
-ghost use Rattle.std.specs.Int.{cast_unsigned, saturate_signed, w32};
+ghost use Rattle.std.specs.Prelude.{◌≡◌, ◌<◌, ◌-◌, ◌^◌, ◌≤ℤ◌, ◌<ℤ◌, pos, negsuc, FitsSigned};
+ghost use Rattle.std.specs.Int.{cast_unsigned, saturate_signed, w32, w64};
+ghost use Rattle.std.specs.Option.{SomeIff};
 ghost use Rattle.sparc_step.specs.Words.{
-
   difference,
   difference_borrows,
   difference_overflows,
+  exact_quotient,
   is_signed_word,
   is_tagged,
   quotient,
@@ -138,13 +139,21 @@ pub(crate) fn quotient_overflows(dividend: u64, divisor: u32) -> bool
     dividend / u64::from(divisor) >= 0x1_0000_0000
 }
 
+// The quotient of a signed double word, rounded toward zero; one alone is none of a double word's.
+fn exact_quotient(dividend: u64, divisor: u32) -> Option<i64>
+    requires { 0 < divisor }
+    ensures { SomeIff result (FitsSigned w64 (exact_quotient dividend divisor)) (exact_quotient dividend divisor) }
+{
+    dividend.cast_signed().checked_div(signed(divisor))
+}
+
 // The quotient of a signed double word, as far as a signed word holds it.
 #[tactic(auto, unfolding(crate::specs::Words::signed_quotient))]
 pub(crate) fn signed_quotient(dividend: u64, divisor: u32) -> u32
     requires { 0 < divisor }
     ensures { result ≡ signed_quotient dividend divisor }
 {
-    match dividend.cast_signed().checked_div(signed(divisor)) {
+    match exact_quotient(dividend, divisor) {
         Some(quotient) => saturated(quotient),
         None => 0x7fff_ffff,
     }
@@ -163,7 +172,7 @@ pub(crate) fn signed_quotient_overflows(dividend: u64, divisor: u32) -> bool
     requires { 0 < divisor }
     ensures { result ≡ signed_quotient_overflows dividend divisor }
 {
-    match dividend.cast_signed().checked_div(signed(divisor)) {
+    match exact_quotient(dividend, divisor) {
         Some(quotient) => !is_signed_word(quotient),
         None => true,
     }

@@ -1,0 +1,43 @@
+-- Registers of which the current window is kept apart, each register of it by its number.
+use Rattle.std.specs.Prelude.{ℕ, zero, suc, ◌+◌, ◌-◌, ◌*◌, ◌%◌, Bool, ◌&&◌, nat_le, nat_lt, if◌then◌else◌, List, [], ◌∷◌, take, slice_index}
+use Rattle.sparc_step.specs.Registers.{Registers}
+
+-- a function of the numbers below a bound, as a list
+abbrev pub table : (ℕ → ℕ) → ℕ → List ℕ
+table f zero = []
+table f (suc n) = f 0 ∷ table (λ k. f (suc k)) n
+
+-- place k of the windows is one of so many from a place on
+abbrev pub lies_in : ℕ → ℕ → ℕ → Bool
+lies_in from count k = nat_le from k && nat_lt k (from + count)
+
+-- where the outs and locals of the window stand, and where its ins
+abbrev pub own_place : ℕ → ℕ
+own_place window = 16 * window
+
+abbrev pub ins_place : ℕ → ℕ
+ins_place window = 16 * ((window + 1) % 8)
+
+-- the word at a place of the windows: that at hand, where it is the current window's
+abbrev pub word_at : ℕ → List ℕ → List ℕ → ℕ → ℕ
+word_at cwp hand windows k =
+    if lies_in (own_place cwp) 16 k then slice_index hand (k - own_place cwp + 8)
+    else if lies_in (ins_place cwp) 8 k then slice_index hand (k - ins_place cwp + 24)
+    else slice_index windows k
+
+-- the windows with what is at hand
+unfoldable pub windows_with : ℕ → List ℕ → List ℕ → List ℕ
+windows_with cwp hand windows = table (word_at cwp hand windows) 128
+
+-- the registers with what is at hand
+unfoldable pub gathered : ℕ → ℕ → ℕ → ℕ → ℕ → ℕ → List ℕ → List ℕ → Registers
+gathered pc npc y icc cwp inv hand windows = record {
+  pc = pc;
+  npc = npc;
+  y = y;
+  icc = icc;
+  cwp = cwp;
+  inv = inv;
+  globals = take 8 hand;
+  windows = windows_with cwp hand windows;
+}
