@@ -3,6 +3,7 @@ use borrow.Rule.Slice.PartMut.{put_mid}
 use Rattle.std.proofs.Common.{◌≡◌, ◌≢◌, ◌⊎◌, inl, inr, ⊎_elim, ◌∙◌, sym, ap, refl, arith}
 use Rattle.std.proofs.lemmas.Bool.{cases_eq, cases_lt}
 use Rattle.std.proofs.lemmas.Bool.Decides.{nat_tests}
+use Rattle.std.proofs.lemmas.Slice.{take-put_mid_below}
 use Rattle.std.proofs.lemmas.List.{same_lists, places, get_or-set_same, get_or-set_other, get_or-take, get_or-drop, length-set}
 use Rattle.std.specs.Prelude.{ℕ, zero, suc, ◌+◌, ◌-◌, ◌*◌, ◌%◌, ◌<◌, ◌≤◌, Bool, true, false, ◌&&◌, nat_le, nat_lt, ◌==◌, if◌then◌else◌, List, [], ◌∷◌, ◌++◌, length, take, drop, slice_index, slice_set, get_or}
 use Rattle.sparc_step.specs.AtHand.{gathered, ins_place, lies_in, own_place, table, windows_with, word_at}
@@ -74,3 +75,243 @@ module _ (cwp : ℕ) (hand windows : List ℕ) (k : ℕ) where
 -- the ins of a window do not stand among its outs and locals
 ins_apart : (cwp k : ℕ) → cwp < 8 → ins_place cwp ≤ k → k < ins_place cwp + 8 → (k < own_place cwp) ⊎ (own_place cwp + 16 ≤ k)
 ins_apart cwp k window low high = ⊎_elim (λ here. inl here) (λ from. inr (omega arith)) (cases_lt k (own_place cwp))
+
+-- the value of a register is the one at hand
+pub register_at-gathered : (pc npc y icc cwp inv : ℕ) (hand windows : List ℕ) (r : ℕ) → cwp < 8 → r < 32 → register_at (gathered pc npc y icc cwp inv hand windows) r ≡ slice_index hand r
+unfolding register_at gathered windows_with
+register_at-gathered pc npc y icc cwp inv hand windows r window small = at (nat_lt r 8) refl
+  where
+    at_place : (place : ℕ) → place < 128 → word_at cwp hand windows place ≡ slice_index hand r → slice_index (table (word_at cwp hand windows) 128) place ≡ slice_index hand r
+    at_place place inside is = get_or-table (word_at cwp hand windows) 128 place 0 inside ∙ is
+
+    local : 8 ≤ r → r < 24 → (place : ℕ) → place ≡ 16 * cwp + r - 8 → slice_index (table (word_at cwp hand windows) 128) place ≡ slice_index hand r
+    local low high place is =
+        let number : place - own_place cwp + 8 ≡ r = omega arith in
+        at_place place (omega arith) (word_at-own cwp hand windows place (omega arith) (omega arith) ∙ ap (slice_index hand) number)
+
+    incoming : 24 ≤ r → (place : ℕ) → place ≡ 16 * ((cwp + 1) % 8) + r - 24 → slice_index (table (word_at cwp hand windows) 128) place ≡ slice_index hand r
+    incoming low place is =
+        let number : place - ins_place cwp + 24 ≡ r = omega arith in
+        let above : ins_place cwp ≤ place = omega arith in
+        let below : place < ins_place cwp + 8 = omega arith in
+        at_place place (omega arith) (word_at-ins cwp hand windows place (ins_apart cwp place window above below) above below ∙ ap (slice_index hand) number)
+
+    windowed : 8 ≤ r → (b : Bool) → nat_lt r 24 ≡ b → slice_index (table (word_at cwp hand windows) 128) (if b then 16 * cwp + r - 8 else 16 * ((cwp + 1) % 8) + r - 24) ≡ slice_index hand r
+    windowed low true is = let high : r < 24 = grind (arith, nat_tests) in local low high (16 * cwp + r - 8) refl
+    windowed low false is = let high : 24 ≤ r = grind (arith, nat_tests) in incoming high (16 * ((cwp + 1) % 8) + r - 24) refl
+
+    at : (b : Bool) → nat_lt r 8 ≡ b → (if b then slice_index (take 8 hand) r else slice_index (table (word_at cwp hand windows) 128) (place_in_windows cwp r)) ≡ slice_index hand r
+    at true is = let low : r < 8 = grind (arith, nat_tests) in get_or-take 8 hand r 0 low
+    at false is = let low : 8 ≤ r = grind (arith, nat_tests) in windowed low (nat_lt r 24) refl
+
+-- a register set at hand, register 0 staying zero
+abbrev pub put_at : List ℕ → ℕ → ℕ → List ℕ
+put_at hand r value = slice_set (slice_set hand r value) 0 0
+
+-- what stands at hand then
+put_at-same : (hand : List ℕ) (r value : ℕ) → 0 < r → r < length hand → slice_index (put_at hand r value) r ≡ value
+put_at-same hand r value some small = get_or-set_other (slice_set hand r value) 0 r 0 0 (omega arith) ∙ get_or-set_same hand r value 0 small
+
+put_at-other : (hand : List ℕ) (r value j : ℕ) → slice_index hand 0 ≡ 0 → r < length hand → j ≢ r → slice_index (put_at hand r value) j ≡ slice_index hand j
+put_at-other hand r value j zero_first small ne = ⊎_elim first later (cases_eq j 0)
+  where
+    first : j ≡ 0 → slice_index (put_at hand r value) j ≡ slice_index hand j
+    first is = ap (slice_index (put_at hand r value)) is ∙ get_or-set_same (slice_set hand r value) 0 0 0 (omega (arith, length-set hand r value)) ∙ sym zero_first ∙ ap (slice_index hand) (sym is)
+
+    later : j ≢ 0 → slice_index (put_at hand r value) j ≡ slice_index hand j
+    later not_first = get_or-set_other (slice_set hand r value) 0 j 0 0 not_first ∙ get_or-set_other hand r j value 0 ne
+
+put_at-zero : (hand : List ℕ) (value : ℕ) → slice_index hand 0 ≡ 0 → 0 < length hand → put_at hand 0 value ≡ hand
+put_at-zero hand value zero_first some = same_lists _ _ (length-set (slice_set hand 0 value) 0 0 ∙ length-set hand 0 value) each
+  where
+    each : (k d : ℕ) → k < length (put_at hand 0 value) → get_or (put_at hand 0 value) k d ≡ get_or hand k d
+    each k d h = ⊎_elim first later (cases_eq k 0)
+      where
+        first : k ≡ 0 → get_or (put_at hand 0 value) k d ≡ get_or hand k d
+        first is = let default : get_or hand 0 d ≡ get_or hand 0 0 = grind (arith, places) in
+            ap (λ j. get_or (put_at hand 0 value) j d) is ∙ get_or-set_same (slice_set hand 0 value) 0 0 d (omega (arith, length-set hand 0 value)) ∙ sym zero_first ∙ sym default ∙ ap (λ j. get_or hand j d) (sym is)
+
+        later : k ≢ 0 → get_or (put_at hand 0 value) k d ≡ get_or hand k d
+        later not_first = get_or-set_other (slice_set hand 0 value) 0 k 0 d not_first ∙ get_or-set_other hand 0 k value d not_first
+
+-- the globals with a register set
+globals-put_at : (hand : List ℕ) (r value : ℕ) → slice_index hand 0 ≡ 0 → 0 < r → r < 8 → 8 ≤ length hand → slice_set (take 8 hand) r value ≡ take 8 (put_at hand r value)
+globals-put_at hand r value zero_first some small long = same_lists _ _ (grind (arith, places)) each
+  where
+    each : (k d : ℕ) → k < length (slice_set (take 8 hand) r value) → get_or (slice_set (take 8 hand) r value) k d ≡ get_or (take 8 (put_at hand r value)) k d
+    each k d h = ⊎_elim here other (cases_eq k r)
+      where
+        here : k ≡ r → get_or (slice_set (take 8 hand) r value) k d ≡ get_or (take 8 (put_at hand r value)) k d
+        here is = grind (arith, places)
+
+        other : k ≢ r → get_or (slice_set (take 8 hand) r value) k d ≡ get_or (take 8 (put_at hand r value)) k d
+        other ne = let first : get_or hand 0 d ≡ 0 = grind (arith, places) in grind (arith, places)
+
+-- the globals where another register is set
+globals-put_at_other : (hand : List ℕ) (r value : ℕ) → slice_index hand 0 ≡ 0 → 8 ≤ r → r < length hand → take 8 hand ≡ take 8 (put_at hand r value)
+globals-put_at_other hand r value zero_first large small = same_lists _ _ (grind (arith, places)) each
+  where
+    each : (k d : ℕ) → k < length (take 8 hand) → get_or (take 8 hand) k d ≡ get_or (take 8 (put_at hand r value)) k d
+    each k d h = let first : get_or hand 0 d ≡ 0 = grind (arith, places) in grind (arith, places)
+
+-- a word of the windows where a register is set that is none of its
+word_at-put_at : (cwp : ℕ) (hand windows : List ℕ) (r value k : ℕ) → slice_index hand 0 ≡ 0 → r < length hand → (own_place cwp ≤ k → k < own_place cwp + 16 → k - own_place cwp + 8 ≢ r) → (ins_place cwp ≤ k → k < ins_place cwp + 8 → k - ins_place cwp + 24 ≢ r) → word_at cwp hand windows k ≡ word_at cwp (put_at hand r value) windows k
+word_at-put_at cwp hand windows r value k zero_first small own ins = lies_or (own_place cwp) 16 k
+    (λ low high. word_at-own cwp hand windows k low high ∙ sym (put_at-other hand r value _ zero_first small (own low high)) ∙ sym (word_at-own cwp (put_at hand r value) windows k low high))
+    (λ apart. lies_or (ins_place cwp) 8 k
+        (λ low high. word_at-ins cwp hand windows k apart low high ∙ sym (put_at-other hand r value _ zero_first small (ins low high)) ∙ sym (word_at-ins cwp (put_at hand r value) windows k apart low high))
+        (λ apart_ins. word_at-other cwp hand windows k apart apart_ins ∙ sym (word_at-other cwp (put_at hand r value) windows k apart apart_ins)))
+
+-- registers with the same parts are the same
+gathered-same : (pc npc y icc cwp inv : ℕ) (hand windows globals words : List ℕ) → globals ≡ take 8 hand → words ≡ windows_with cwp hand windows → record { pc = pc; npc = npc; y = y; icc = icc; cwp = cwp; inv = inv; globals = globals; windows = words } ≡ gathered pc npc y icc cwp inv hand windows
+unfolding gathered
+gathered-same pc npc y icc cwp inv hand windows globals words globals_are words_are = rw (globals_are, words_are) refl
+
+-- to set a register at hand is to set it
+pub with_register-gathered : (pc npc y icc cwp inv : ℕ) (hand windows : List ℕ) (r value : ℕ) → cwp < 8 → r < 32 → length hand ≡ 32 → slice_index hand 0 ≡ 0 → with_register (gathered pc npc y icc cwp inv hand windows) r value ≡ gathered pc npc y icc cwp inv (put_at hand r value) windows
+unfolding with_register gathered windows_with
+with_register-gathered pc npc y icc cwp inv hand windows r value window small counted zero_first = at (r == 0) (nat_lt r 8) refl refl
+  where
+    same_words : 0 < r → r < 8 → table (word_at cwp hand windows) 128 ≡ table (word_at cwp (put_at hand r value) windows) 128
+    same_words some low = table-same _ _ 128 (λ k h. word_at-put_at cwp hand windows r value k zero_first (omega arith) (λ from under. omega arith) (λ from under. omega arith))
+
+    set_word : (place : ℕ) → place < 128 → word_at cwp (put_at hand r value) windows place ≡ value → ((k : ℕ) → k ≢ place → word_at cwp hand windows k ≡ word_at cwp (put_at hand r value) windows k) → slice_set (table (word_at cwp hand windows) 128) place value ≡ table (word_at cwp (put_at hand r value) windows) 128
+    set_word place inside here other = set-table _ _ 128 place value inside here other
+
+    local : 8 ≤ r → r < 24 → (place : ℕ) → place ≡ 16 * cwp + r - 8 → slice_set (table (word_at cwp hand windows) 128) place value ≡ table (word_at cwp (put_at hand r value) windows) 128
+    local low high place is =
+        let number : place - own_place cwp + 8 ≡ r = omega arith in
+        set_word place (omega arith)
+        (word_at-own cwp (put_at hand r value) windows place (omega arith) (omega arith) ∙ ap (slice_index (put_at hand r value)) number ∙ put_at-same hand r value (omega arith) (omega arith))
+        (λ k ne. word_at-put_at cwp hand windows r value k zero_first (omega arith) (λ from under. omega arith) (λ from under. omega arith))
+
+    incoming : 24 ≤ r → (place : ℕ) → place ≡ 16 * ((cwp + 1) % 8) + r - 24 → slice_set (table (word_at cwp hand windows) 128) place value ≡ table (word_at cwp (put_at hand r value) windows) 128
+    incoming low place is =
+        let number : place - ins_place cwp + 24 ≡ r = omega arith in
+        let above : ins_place cwp ≤ place = omega arith in
+        let below : place < ins_place cwp + 8 = omega arith in
+        set_word place (omega arith)
+        (word_at-ins cwp (put_at hand r value) windows place (ins_apart cwp place window above below) above below ∙ ap (slice_index (put_at hand r value)) number ∙ put_at-same hand r value (omega arith) (omega arith))
+        (λ k ne. word_at-put_at cwp hand windows r value k zero_first (omega arith) (λ from under. omega arith) (λ from under. omega arith))
+
+    windowed : 8 ≤ r → (b : Bool) → nat_lt r 24 ≡ b → slice_set (table (word_at cwp hand windows) 128) (if b then 16 * cwp + r - 8 else 16 * ((cwp + 1) % 8) + r - 24) value ≡ table (word_at cwp (put_at hand r value) windows) 128
+    windowed low true is = let high : r < 24 = grind (arith, nat_tests) in local low high (16 * cwp + r - 8) refl
+    windowed low false is = let high : 24 ≤ r = grind (arith, nat_tests) in incoming high (16 * ((cwp + 1) % 8) + r - 24) refl
+
+    at : (none low : Bool) → (r == 0) ≡ none → nat_lt r 8 ≡ low → (if none then gathered pc npc y icc cwp inv hand windows else if low then record (gathered pc npc y icc cwp inv hand windows) { globals = slice_set (take 8 hand) r value } else record (gathered pc npc y icc cwp inv hand windows) { windows = slice_set (table (word_at cwp hand windows) 128) (place_in_windows cwp r) value }) ≡ gathered pc npc y icc cwp inv (put_at hand r value) windows
+    at true low is low_is =
+        let nothing : r ≡ 0 = grind (arith, nat_tests) in
+        sym (ap (λ (words : List ℕ). gathered pc npc y icc cwp inv words windows) (ap (λ j. put_at hand j value) nothing ∙ put_at-zero hand value zero_first (omega arith)))
+    at false true is low_is =
+        let some : 0 < r = grind (arith, nat_tests) in
+        let low : r < 8 = grind (arith, nat_tests) in
+        gathered-same pc npc y icc cwp inv (put_at hand r value) windows _ _ (globals-put_at hand r value zero_first some low (omega arith)) (same_words some low)
+    at false false is low_is =
+        let low : 8 ≤ r = grind (arith, nat_tests) in
+        gathered-same pc npc y icc cwp inv (put_at hand r value) windows _ _ (globals-put_at_other hand r value zero_first low (omega arith)) (windowed low (nat_lt r 24) refl)
+
+-- a part of a list that was written, and the rest of it
+get_or-put_mid : (xs ys : List ℕ) (from count k : ℕ) → length ys ≡ count → from + count ≤ length xs → from ≤ k → k < from + count → slice_index (put_mid from count xs ys) k ≡ slice_index ys (k - from)
+get_or-put_mid xs ys from count k counted fits low high = grind (arith, places)
+
+get_or-put_mid_other : (xs ys : List ℕ) (from count k : ℕ) → length ys ≡ count → from + count ≤ length xs → (k < from) ⊎ (from + count ≤ k) → slice_index (put_mid from count xs ys) k ≡ slice_index xs k
+get_or-put_mid_other xs ys from count k counted fits (inl low) = grind (arith, places)
+get_or-put_mid_other xs ys from count k counted fits (inr high) = grind (arith, places)
+
+length-put_mid : (xs ys : List ℕ) (from count : ℕ) → length ys ≡ count → from + count ≤ length xs → length (put_mid from count xs ys) ≡ length xs
+length-put_mid xs ys from count counted fits = grind (arith, places)
+
+-- a part of a list, and its length
+get_or-part : (xs : List ℕ) (from count j k : ℕ) → j < count → from + j ≡ k → slice_index (take count (drop from xs)) j ≡ slice_index xs k
+get_or-part xs from count j k small is = get_or-take count (drop from xs) j 0 small ∙ get_or-drop from xs j 0 ∙ ap (slice_index xs) is
+
+get_or-rest : (xs : List ℕ) (from j k : ℕ) → from + j ≡ k → slice_index (drop from xs) j ≡ slice_index xs k
+get_or-rest xs from j k is = get_or-drop from xs j 0 ∙ ap (slice_index xs) is
+
+length-part : (xs : List ℕ) (from count : ℕ) → from + count ≤ length xs → length (take count (drop from xs)) ≡ count
+length-part xs from count fits = grind (arith, places)
+
+length-rest : (xs : List ℕ) (from count : ℕ) → from + count ≡ length xs → length (drop from xs) ≡ count
+length-rest xs from count fits = grind (arith, places)
+
+-- the windows with what is at hand, written back: first the outs and locals, then the ins
+pub written_back : (cwp : ℕ) (hand windows own ins : List ℕ) → cwp < 8 → length hand ≡ 32 → length windows ≡ 128 → own ≡ take 16 (drop 8 hand) → ins ≡ drop 24 hand → put_mid (ins_place cwp) 8 (put_mid (own_place cwp) 16 windows own) ins ≡ windows_with cwp hand windows
+unfolding windows_with
+written_back cwp hand windows own ins window counted whole own_is ins_is = sym (table-of (word_at cwp hand windows) _ 128 (length-put_mid once ins (ins_place cwp) 8 eight (omega (arith, counted_once)) ∙ counted_once) each)
+  where
+    sixteen : length own ≡ 16
+    sixteen = ap length own_is ∙ length-part hand 8 16 (omega arith)
+
+    eight : length ins ≡ 8
+    eight = ap length ins_is ∙ length-rest hand 24 8 (omega arith)
+
+    once : List ℕ
+    once = put_mid (own_place cwp) 16 windows own
+
+    counted_once : length once ≡ 128
+    counted_once = length-put_mid windows own (own_place cwp) 16 sixteen (omega arith) ∙ whole
+
+    each : (k : ℕ) → k < 128 → word_at cwp hand windows k ≡ slice_index (put_mid (ins_place cwp) 8 once ins) k
+    each k h = lies_or (own_place cwp) 16 k
+        (λ low high. word_at-own cwp hand windows k low high
+            ∙ sym (get_or-put_mid_other once ins (ins_place cwp) 8 k eight (omega (arith, counted_once)) (own_apart low high)
+                ∙ get_or-put_mid windows own (own_place cwp) 16 k sixteen (omega arith) low high
+                ∙ own_word low high))
+        (λ apart. lies_or (ins_place cwp) 8 k
+            (λ low high. word_at-ins cwp hand windows k apart low high
+                ∙ sym (get_or-put_mid once ins (ins_place cwp) 8 k eight (omega (arith, counted_once)) low high ∙ ins_word low high))
+            (λ apart_ins. word_at-other cwp hand windows k apart apart_ins
+                ∙ sym (get_or-put_mid_other once ins (ins_place cwp) 8 k eight (omega (arith, counted_once)) apart_ins
+                    ∙ get_or-put_mid_other windows own (own_place cwp) 16 k sixteen (omega arith) apart)))
+      where
+        own_apart : own_place cwp ≤ k → k < own_place cwp + 16 → (k < ins_place cwp) ⊎ (ins_place cwp + 8 ≤ k)
+        own_apart low high = ⊎_elim (λ here. inl here) (λ from. inr (omega arith)) (cases_lt k (ins_place cwp))
+
+        own_word : own_place cwp ≤ k → k < own_place cwp + 16 → slice_index own (k - own_place cwp) ≡ slice_index hand (k - own_place cwp + 8)
+        own_word low high = ap (λ (xs : List ℕ). slice_index xs (k - own_place cwp)) own_is ∙ get_or-part hand 8 16 (k - own_place cwp) (k - own_place cwp + 8) (omega arith) (omega arith)
+
+        ins_word : ins_place cwp ≤ k → k < ins_place cwp + 8 → slice_index ins (k - ins_place cwp) ≡ slice_index hand (k - ins_place cwp + 24)
+        ins_word low high = ap (λ (xs : List ℕ). slice_index xs (k - ins_place cwp)) ins_is ∙ get_or-rest hand 24 (k - ins_place cwp) (k - ins_place cwp + 24) (omega arith)
+
+-- a window taken to hand: its outs and locals, then its ins
+pub taken_to_hand : (cwp : ℕ) (hand windows own ins : List ℕ) → cwp < 8 → length hand ≡ 32 → length windows ≡ 128 → own ≡ take 16 (drop (own_place cwp) windows) → ins ≡ take 8 (drop (ins_place cwp) windows) → windows_with cwp (put_mid 24 8 (put_mid 8 16 hand own) ins) windows ≡ windows
+unfolding windows_with
+taken_to_hand cwp hand windows own ins window counted whole own_is ins_is = table-of (word_at cwp both windows) windows 128 whole each
+  where
+    sixteen : length own ≡ 16
+    sixteen = ap length own_is ∙ length-part windows (own_place cwp) 16 (omega arith)
+
+    eight : length ins ≡ 8
+    eight = ap length ins_is ∙ length-part windows (ins_place cwp) 8 (omega arith)
+
+    once : List ℕ
+    once = put_mid 8 16 hand own
+
+    counted_once : length once ≡ 32
+    counted_once = length-put_mid hand own 8 16 sixteen (omega arith) ∙ counted
+
+    both : List ℕ
+    both = put_mid 24 8 once ins
+
+    each : (k : ℕ) → k < 128 → word_at cwp both windows k ≡ slice_index windows k
+    each k h = lies_or (own_place cwp) 16 k
+        (λ low high. word_at-own cwp both windows k low high
+            ∙ get_or-put_mid_other once ins 24 8 (k - own_place cwp + 8) eight (omega (arith, counted_once)) (inl (omega arith))
+            ∙ get_or-put_mid hand own 8 16 (k - own_place cwp + 8) sixteen (omega arith) (omega arith) (omega arith)
+            ∙ own_word low high)
+        (λ apart. lies_or (ins_place cwp) 8 k
+            (λ low high. word_at-ins cwp both windows k apart low high
+                ∙ get_or-put_mid once ins 24 8 (k - ins_place cwp + 24) eight (omega (arith, counted_once)) (omega arith) (omega arith)
+                ∙ ins_word low high)
+            (λ apart_ins. word_at-other cwp both windows k apart apart_ins))
+      where
+        own_word : own_place cwp ≤ k → k < own_place cwp + 16 → slice_index own (k - own_place cwp + 8 - 8) ≡ slice_index windows k
+        own_word low high = ap (λ (xs : List ℕ). slice_index xs (k - own_place cwp + 8 - 8)) own_is ∙ get_or-part windows (own_place cwp) 16 (k - own_place cwp + 8 - 8) k (omega arith) (omega arith)
+
+        ins_word : ins_place cwp ≤ k → k < ins_place cwp + 8 → slice_index ins (k - ins_place cwp + 24 - 24) ≡ slice_index windows k
+        ins_word low high = ap (λ (xs : List ℕ). slice_index xs (k - ins_place cwp + 24 - 24)) ins_is ∙ get_or-part windows (ins_place cwp) 8 (k - ins_place cwp + 24 - 24) k (omega arith) (omega arith)
+
+-- the globals stay where a window is taken to hand
+pub taken_to_hand-globals : (hand own ins : List ℕ) → length hand ≡ 32 → length own ≡ 16 → take 8 (put_mid 24 8 (put_mid 8 16 hand own) ins) ≡ take 8 hand
+taken_to_hand-globals hand own ins counted sixteen =
+    take-put_mid_below 24 8 (put_mid 8 16 hand own) ins 8 (omega arith) (omega (arith, length-put_mid hand own 8 16 sixteen (omega arith))) ∙ take-put_mid_below 8 16 hand own 8 (omega arith) (omega arith)
