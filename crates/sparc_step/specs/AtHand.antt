@@ -1,5 +1,5 @@
 -- Registers of which the current window is kept apart, each register of it by its number.
-use Rattle.std.specs.Prelude.{ℕ, zero, suc, ◌+◌, ◌-◌, ◌*◌, ◌%◌, Bool, ◌&&◌, nat_le, nat_lt, if◌then◌else◌, List, [], ◌∷◌, take, slice_index}
+use Rattle.std.specs.Prelude.{◌≡◌, ◌≢◌, ◌<◌, length, ℕ, zero, suc, ◌+◌, ◌-◌, ◌*◌, ◌%◌, Bool, ◌&&◌, nat_le, nat_lt, if◌then◌else◌, List, [], ◌∷◌, take, slice_index}
 use Rattle.sparc_step.specs.Registers.{Registers}
 
 -- a function of the numbers below a bound, as a list
@@ -41,3 +41,15 @@ gathered pc npc y icc cwp inv hand windows = record {
   globals = take 8 hand;
   windows = windows_with cwp hand windows;
 }
+
+-- what holds of what is at hand, at all times
+pub record IsAtHand (pc npc y icc cwp inv : ℕ) (hand windows : List ℕ) : Type 0 where
+  pub pc_aligned : pc % 4 ≡ 0
+  pub npc_aligned : npc % 4 ≡ 0
+  pub four_conditions : icc < 16
+  pub current_window : cwp < 8
+  pub invalid_window : inv < 8
+  pub windows_differ : cwp ≢ inv
+  pub zero : slice_index hand 0 ≡ 0
+  pub at_hand : length hand ≡ 32
+  pub eight_windows : length windows ≡ 128

@@ -6,8 +6,8 @@ use Rattle.std.proofs.lemmas.Bool.Decides.{nat_tests}
 use Rattle.std.proofs.lemmas.Slice.{take-put_mid_below}
 use Rattle.std.proofs.lemmas.List.{same_lists, places, get_or-set_same, get_or-set_other, get_or-take, get_or-drop, length-set}
 use Rattle.std.specs.Prelude.{ℕ, zero, suc, ◌+◌, ◌-◌, ◌*◌, ◌%◌, ◌<◌, ◌≤◌, Bool, true, false, ◌&&◌, nat_le, nat_lt, ◌==◌, if◌then◌else◌, List, [], ◌∷◌, ◌++◌, length, take, drop, slice_index, slice_set, get_or}
-use Rattle.sparc_step.specs.AtHand.{gathered, ins_place, lies_in, own_place, table, windows_with, word_at}
-use Rattle.sparc_step.specs.Registers.{Registers, place_in_windows, register_at, with_register}
+use Rattle.sparc_step.specs.AtHand.{IsAtHand, gathered, ins_place, lies_in, own_place, table, windows_with, word_at}
+use Rattle.sparc_step.specs.Registers.{AreRegisters, Registers, place_in_windows, register_at, with_register}
 
 -- a table has as many numbers as were asked for
 pub length-table : (f : ℕ → ℕ) (n : ℕ) → length (table f n) ≡ n
@@ -77,9 +77,9 @@ ins_apart : (cwp k : ℕ) → cwp < 8 → ins_place cwp ≤ k → k < ins_place 
 ins_apart cwp k window low high = ⊎_elim (λ here. inl here) (λ from. inr (omega arith)) (cases_lt k (own_place cwp))
 
 -- the value of a register is the one at hand
-pub register_at-gathered : (pc npc y icc cwp inv : ℕ) (hand windows : List ℕ) (r : ℕ) → cwp < 8 → r < 32 → register_at (gathered pc npc y icc cwp inv hand windows) r ≡ slice_index hand r
+pub register_at_gathered : (pc npc y icc cwp inv : ℕ) (hand windows : List ℕ) (r : ℕ) → cwp < 8 → r < 32 → register_at (gathered pc npc y icc cwp inv hand windows) r ≡ slice_index hand r
 unfolding register_at gathered windows_with
-register_at-gathered pc npc y icc cwp inv hand windows r window small = at (nat_lt r 8) refl
+register_at_gathered pc npc y icc cwp inv hand windows r window small = at (nat_lt r 8) refl
   where
     at_place : (place : ℕ) → place < 128 → word_at cwp hand windows place ≡ slice_index hand r → slice_index (table (word_at cwp hand windows) 128) place ≡ slice_index hand r
     at_place place inside is = get_or-table (word_at cwp hand windows) 128 place 0 inside ∙ is
@@ -168,9 +168,9 @@ unfolding gathered
 gathered-same pc npc y icc cwp inv hand windows globals words globals_are words_are = rw (globals_are, words_are) refl
 
 -- to set a register at hand is to set it
-pub with_register-gathered : (pc npc y icc cwp inv : ℕ) (hand windows : List ℕ) (r value : ℕ) → cwp < 8 → r < 32 → length hand ≡ 32 → slice_index hand 0 ≡ 0 → with_register (gathered pc npc y icc cwp inv hand windows) r value ≡ gathered pc npc y icc cwp inv (put_at hand r value) windows
+pub with_register_gathered : (pc npc y icc cwp inv : ℕ) (hand windows : List ℕ) (r value : ℕ) → cwp < 8 → r < 32 → length hand ≡ 32 → slice_index hand 0 ≡ 0 → with_register (gathered pc npc y icc cwp inv hand windows) r value ≡ gathered pc npc y icc cwp inv (put_at hand r value) windows
 unfolding with_register gathered windows_with
-with_register-gathered pc npc y icc cwp inv hand windows r value window small counted zero_first = at (r == 0) (nat_lt r 8) refl refl
+with_register_gathered pc npc y icc cwp inv hand windows r value window small counted zero_first = at (r == 0) (nat_lt r 8) refl refl
   where
     same_words : 0 < r → r < 8 → table (word_at cwp hand windows) 128 ≡ table (word_at cwp (put_at hand r value) windows) 128
     same_words some low = table-same _ _ 128 (λ k h. word_at-put_at cwp hand windows r value k zero_first (omega arith) (λ from under. omega arith) (λ from under. omega arith))
@@ -315,3 +315,48 @@ taken_to_hand cwp hand windows own ins window counted whole own_is ins_is = tabl
 pub taken_to_hand-globals : (hand own ins : List ℕ) → length hand ≡ 32 → length own ≡ 16 → take 8 (put_mid 24 8 (put_mid 8 16 hand own) ins) ≡ take 8 hand
 taken_to_hand-globals hand own ins counted sixteen =
     take-put_mid_below 24 8 (put_mid 8 16 hand own) ins 8 (omega arith) (omega (arith, length-put_mid hand own 8 16 sixteen (omega arith))) ∙ take-put_mid_below 8 16 hand own 8 (omega arith) (omega arith)
+
+-- what is at hand are registers
+pub at_hand-AreRegisters : (pc npc y icc cwp inv : ℕ) (hand windows : List ℕ) → IsAtHand pc npc y icc cwp inv hand windows → AreRegisters (gathered pc npc y icc cwp inv hand windows)
+unfolding gathered windows_with
+at_hand-AreRegisters pc npc y icc cwp inv hand windows is = record {
+  pc_aligned = is.pc_aligned;
+  npc_aligned = is.npc_aligned;
+  four_conditions = is.four_conditions;
+  current_window = is.current_window;
+  invalid_window = is.invalid_window;
+  windows_differ = is.windows_differ;
+  zero = get_or-take 8 hand 0 0 (omega arith) ∙ is.zero;
+  eight_globals = length-front hand 8 (omega (arith, is.at_hand));
+  eight_windows = length-table (word_at cwp hand windows) 128;
+}
+  where
+    length-front : (xs : List ℕ) (count : ℕ) → count ≤ length xs → length (take count xs) ≡ count
+    length-front xs count long = grind (arith, places)
+
+-- the same in two writes
+pub written_in_two : (cwp from to : ℕ) (hand windows once twice : List ℕ) → cwp < 8 → length hand ≡ 32 → length windows ≡ 128 → from ≡ own_place cwp → to ≡ ins_place cwp → once ≡ put_mid from 16 windows (take 16 (drop 8 hand)) → twice ≡ put_mid to 8 once (drop 24 hand) → twice ≡ windows_with cwp hand windows
+written_in_two cwp from to hand windows once twice window counted whole from_is to_is once_is twice_is =
+    twice_is
+    ∙ ap (λ (xs : List ℕ). put_mid to 8 xs (drop 24 hand)) once_is
+    ∙ ap (λ place. put_mid place 8 (put_mid from 16 windows (take 16 (drop 8 hand))) (drop 24 hand)) to_is
+    ∙ ap (λ place. put_mid (ins_place cwp) 8 (put_mid place 16 windows (take 16 (drop 8 hand))) (drop 24 hand)) from_is
+    ∙ written_back cwp hand windows (take 16 (drop 8 hand)) (drop 24 hand) window counted whole refl refl
+
+pub taken_in_two : (cwp from to : ℕ) (hand windows once twice : List ℕ) → cwp < 8 → length hand ≡ 32 → length windows ≡ 128 → from ≡ own_place cwp → to ≡ ins_place cwp → once ≡ put_mid 8 16 hand (take 16 (drop from windows)) → twice ≡ put_mid 24 8 once (take 8 (drop to windows)) → windows_with cwp twice windows ≡ windows
+taken_in_two cwp from to hand windows once twice window counted whole from_is to_is once_is twice_is =
+    ap (λ (xs : List ℕ). windows_with cwp xs windows)
+    (twice_is
+        ∙ ap (λ (xs : List ℕ). put_mid 24 8 xs (take 8 (drop to windows))) once_is
+        ∙ ap (λ place. put_mid 24 8 (put_mid 8 16 hand (take 16 (drop from windows))) (take 8 (drop place windows))) to_is
+        ∙ ap (λ place. put_mid 24 8 (put_mid 8 16 hand (take 16 (drop place windows))) (take 8 (drop (ins_place cwp) windows))) from_is)
+    ∙ taken_to_hand cwp hand windows (take 16 (drop (own_place cwp) windows)) (take 8 (drop (ins_place cwp) windows)) window counted whole refl refl
+
+-- the front of a list that was written is what was written
+pub front_written : (count : ℕ) (new ys rest : List ℕ) → new ≡ ys → length ys ≡ count → take count (new ++ rest) ≡ ys
+front_written count new ys rest is counted = ap (λ (xs : List ℕ). take count (xs ++ rest)) is ∙ same_lists _ _ (grind (arith, places)) (λ k d h. grind (arith, places))
+
+-- registers of which a window was taken to hand are as they were
+pub gathered_from : (pc npc y icc cwp inv : ℕ) (globals windows first hand : List ℕ) → take 8 first ≡ globals → take 8 hand ≡ take 8 first → windows_with cwp hand windows ≡ windows → gathered pc npc y icc cwp inv hand windows ≡ record { pc = pc; npc = npc; y = y; icc = icc; cwp = cwp; inv = inv; globals = globals; windows = windows }
+gathered_from pc npc y icc cwp inv globals windows first hand first_is front words =
+    sym (gathered-same pc npc y icc cwp inv hand windows globals windows (sym (front ∙ first_is)) (sym words))

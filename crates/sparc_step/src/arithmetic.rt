@@ -25,7 +25,7 @@ use crate::conditions::{
 };
 use crate::operands::{first, places, put, put_with_codes, second};
 use crate::outcome::Turn;
-use crate::registers::Core;
+use crate::processor::Processor;
 use crate::words::{
     difference, difference_overflows, is_tagged, quotient, quotient_overflows,
     shifted_arithmetically, shifted_left, shifted_right, signed_product, signed_quotient,
@@ -34,7 +34,7 @@ use crate::words::{
 use sparc_code::Arith;
 
 // Work on registers, from a selector below 28.
-pub(crate) fn work(core: &mut Core, selector: u32, word: u32) -> Turn
+pub(crate) fn work(core: &mut Processor, selector: u32, word: u32) -> Turn
     requires { selector < 0x28 }
     ensures turn { (areas : List Area) (memory : Memory) → result ≡ (executed (registers_row selector word) areas core.old memory).turn }
     ensures core { (areas : List Area) (memory : Memory) → core.new ≡ (executed (registers_row selector word) areas core.old memory).core }
@@ -61,7 +61,7 @@ pub(crate) fn work(core: &mut Core, selector: u32, word: u32) -> Turn
 
 // The selectors 00 to 07.
 #[tactic(auto, unfolding(sparc_code::specs::Decoded::registers_row))]
-fn plain(core: &mut Core, selector: u32, word: u32) -> Turn
+fn plain(core: &mut Processor, selector: u32, word: u32) -> Turn
     requires { selector < 8 }
     ensures turn { (areas : List Area) (memory : Memory) → result ≡ (executed (registers_row selector word) areas core.old memory).turn }
     ensures core { (areas : List Area) (memory : Memory) → core.new ≡ (executed (registers_row selector word) areas core.old memory).core }
@@ -93,7 +93,7 @@ fn plain(core: &mut Core, selector: u32, word: u32) -> Turn
 
 // The selectors 10 to 17.
 #[tactic(auto, unfolding(sparc_code::specs::Decoded::registers_row))]
-fn coded(core: &mut Core, selector: u32, word: u32) -> Turn
+fn coded(core: &mut Processor, selector: u32, word: u32) -> Turn
     requires from { 0x10 ≤ selector }
     requires below { selector < 0x18 }
     ensures turn { (areas : List Area) (memory : Memory) → result ≡ (executed (registers_row selector word) areas core.old memory).turn }
@@ -130,7 +130,7 @@ fn coded(core: &mut Core, selector: u32, word: u32) -> Turn
 }
 
 // Puts a result of logic with its condition codes, and goes on.
-fn put_logic(core: &mut Core, word: u32, value: u32)
+fn put_logic(core: &mut Processor, word: u32, value: u32)
     ensures { core.new ≡ with_result_and_codes (rd word) value (codes_of_result value false) core.old }
 {
     put_with_codes(core, word, value, codes_of_result(value, false));
@@ -138,7 +138,7 @@ fn put_logic(core: &mut Core, word: u32, value: u32)
 
 // The selectors 08 to 0f.
 #[tactic(auto, unfolding(sparc_code::specs::Decoded::registers_row))]
-fn extended(core: &mut Core, selector: u32, word: u32) -> Turn
+fn extended(core: &mut Processor, selector: u32, word: u32) -> Turn
     requires from { 0x08 ≤ selector }
     requires below { selector < 0x10 }
     ensures turn { (areas : List Area) (memory : Memory) → result ≡ (executed (registers_row selector word) areas core.old memory).turn }
@@ -168,7 +168,7 @@ fn extended(core: &mut Core, selector: u32, word: u32) -> Turn
 
 // The selectors 18 to 1f.
 #[tactic(auto, unfolding(sparc_code::specs::Decoded::registers_row))]
-fn extended_coded(core: &mut Core, selector: u32, word: u32) -> Turn
+fn extended_coded(core: &mut Processor, selector: u32, word: u32) -> Turn
     requires from { 0x18 ≤ selector }
     requires below { selector < 0x20 }
     ensures turn { (areas : List Area) (memory : Memory) → result ≡ (executed (registers_row selector word) areas core.old memory).turn }
@@ -198,7 +198,7 @@ fn extended_coded(core: &mut Core, selector: u32, word: u32) -> Turn
 
 // The selectors 20 to 24.
 #[tactic(auto, unfolding(sparc_code::specs::Decoded::registers_row))]
-fn stepped(core: &mut Core, selector: u32, word: u32) -> Turn
+fn stepped(core: &mut Processor, selector: u32, word: u32) -> Turn
     requires from { 0x20 ≤ selector }
     requires below { selector < 0x25 }
     ensures turn { (areas : List Area) (memory : Memory) → result ≡ (executed (registers_row selector word) areas core.old memory).turn }
@@ -222,7 +222,7 @@ fn stepped(core: &mut Core, selector: u32, word: u32) -> Turn
 
 // The selectors 25 to 27.
 #[tactic(auto, unfolding(sparc_code::specs::Decoded::registers_row))]
-fn shift(core: &mut Core, selector: u32, word: u32) -> Turn
+fn shift(core: &mut Processor, selector: u32, word: u32) -> Turn
     requires from { 0x25 ≤ selector }
     requires below { selector < 0x28 }
     ensures turn { (areas : List Area) (memory : Memory) → result ≡ (executed (registers_row selector word) areas core.old memory).turn }
@@ -242,49 +242,49 @@ fn shift(core: &mut Core, selector: u32, word: u32) -> Turn
 }
 
 // ADDX.
-fn add_with_carry(core: &mut Core, word: u32) -> Turn
+fn add_with_carry(core: &mut Processor, word: u32) -> Turn
     ensures turn { result ≡ (arith_row Arith.AddX (rd word) (rs1 word) (operand simm13 word) core.old).turn }
     ensures core { core.new ≡ (arith_row Arith.AddX (rd word) (rs1 word) (operand simm13 word) core.old).core }
 {
     let a = first(core, word);
     let b = second(core, word);
-    let carry = carry(core.icc);
+    let carry = carry(core.icc());
     put(core, word, sum(a, b, carry));
     Turn::Went
 }
 
 // ADDXcc.
-fn add_with_carry_coded(core: &mut Core, word: u32) -> Turn
+fn add_with_carry_coded(core: &mut Processor, word: u32) -> Turn
     ensures turn { result ≡ (arith_row Arith.AddXCc (rd word) (rs1 word) (operand simm13 word) core.old).turn }
     ensures core { core.new ≡ (arith_row Arith.AddXCc (rd word) (rs1 word) (operand simm13 word) core.old).core }
 {
     let a = first(core, word);
     let b = second(core, word);
-    let carry = carry(core.icc);
+    let carry = carry(core.icc());
     put_with_codes(core, word, sum(a, b, carry), codes_of_sum(a, b, carry));
     Turn::Went
 }
 
 // SUBX.
-fn subtract_with_borrow(core: &mut Core, word: u32) -> Turn
+fn subtract_with_borrow(core: &mut Processor, word: u32) -> Turn
     ensures turn { result ≡ (arith_row Arith.SubX (rd word) (rs1 word) (operand simm13 word) core.old).turn }
     ensures core { core.new ≡ (arith_row Arith.SubX (rd word) (rs1 word) (operand simm13 word) core.old).core }
 {
     let a = first(core, word);
     let b = second(core, word);
-    let borrow = carry(core.icc);
+    let borrow = carry(core.icc());
     put(core, word, difference(a, b, borrow));
     Turn::Went
 }
 
 // SUBXcc.
-fn subtract_with_borrow_coded(core: &mut Core, word: u32) -> Turn
+fn subtract_with_borrow_coded(core: &mut Processor, word: u32) -> Turn
     ensures turn { result ≡ (arith_row Arith.SubXCc (rd word) (rs1 word) (operand simm13 word) core.old).turn }
     ensures core { core.new ≡ (arith_row Arith.SubXCc (rd word) (rs1 word) (operand simm13 word) core.old).core }
 {
     let a = first(core, word);
     let b = second(core, word);
-    let borrow = carry(core.icc);
+    let borrow = carry(core.icc());
     put_with_codes(
         core,
         word,
@@ -295,7 +295,7 @@ fn subtract_with_borrow_coded(core: &mut Core, word: u32) -> Turn
 }
 
 // UMUL.
-fn multiply(core: &mut Core, word: u32) -> Turn
+fn multiply(core: &mut Processor, word: u32) -> Turn
     ensures turn { result ≡ (arith_row Arith.UMul (rd word) (rs1 word) (operand simm13 word) core.old).turn }
     ensures core { core.new ≡ (arith_row Arith.UMul (rd word) (rs1 word) (operand simm13 word) core.old).core }
 {
@@ -305,7 +305,7 @@ fn multiply(core: &mut Core, word: u32) -> Turn
 }
 
 // UMULcc.
-fn multiply_coded(core: &mut Core, word: u32) -> Turn
+fn multiply_coded(core: &mut Processor, word: u32) -> Turn
     ensures turn { result ≡ (arith_row Arith.UMulCc (rd word) (rs1 word) (operand simm13 word) core.old).turn }
     ensures core { core.new ≡ (arith_row Arith.UMulCc (rd word) (rs1 word) (operand simm13 word) core.old).core }
 {
@@ -315,7 +315,7 @@ fn multiply_coded(core: &mut Core, word: u32) -> Turn
 }
 
 // SMUL.
-fn multiply_signed(core: &mut Core, word: u32) -> Turn
+fn multiply_signed(core: &mut Processor, word: u32) -> Turn
     ensures turn { result ≡ (arith_row Arith.SMul (rd word) (rs1 word) (operand simm13 word) core.old).turn }
     ensures core { core.new ≡ (arith_row Arith.SMul (rd word) (rs1 word) (operand simm13 word) core.old).core }
 {
@@ -325,7 +325,7 @@ fn multiply_signed(core: &mut Core, word: u32) -> Turn
 }
 
 // SMULcc.
-fn multiply_signed_coded(core: &mut Core, word: u32) -> Turn
+fn multiply_signed_coded(core: &mut Processor, word: u32) -> Turn
     ensures turn { result ≡ (arith_row Arith.SMulCc (rd word) (rs1 word) (operand simm13 word) core.old).turn }
     ensures core { core.new ≡ (arith_row Arith.SMulCc (rd word) (rs1 word) (operand simm13 word) core.old).core }
 {
@@ -335,7 +335,7 @@ fn multiply_signed_coded(core: &mut Core, word: u32) -> Turn
 }
 
 // Puts the low half of a product as the result and its high half into Y, and goes on.
-fn put_product(core: &mut Core, word: u32, product: u64)
+fn put_product(core: &mut Processor, word: u32, product: u64)
     ensures { core.new ≡ with_result (rd word) (product % 2 ^ 32) (with_y core.old (product / 2 ^ 32)) }
 {
     core.set_y((product >> 32) as u32);
@@ -343,7 +343,7 @@ fn put_product(core: &mut Core, word: u32, product: u64)
 }
 
 // The same with the condition codes of the low half.
-fn put_product_with_codes(core: &mut Core, word: u32, product: u64)
+fn put_product_with_codes(core: &mut Processor, word: u32, product: u64)
     ensures { core.new ≡ with_result_and_codes (rd word) (product % 2 ^ 32) (codes_of_result (product % 2 ^ 32) false) (with_y core.old (product / 2 ^ 32)) }
 {
     core.set_y((product >> 32) as u32);
@@ -352,14 +352,14 @@ fn put_product_with_codes(core: &mut Core, word: u32, product: u64)
 
 // The double word that is divided: Y, and the first operand behind it.
 #[tactic(auto, unfolding(crate::specs::Arithmetic::dividend))]
-fn dividend(core: &Core, a: u32) -> u64
+fn dividend(core: &Processor, a: u32) -> u64
     ensures { result ≡ dividend core.now a }
 {
-    (u64::from(core.y) << 32) + u64::from(a)
+    (u64::from(core.y()) << 32) + u64::from(a)
 }
 
 // UDIV.
-fn divide(core: &mut Core, word: u32) -> Turn
+fn divide(core: &mut Processor, word: u32) -> Turn
     ensures turn { result ≡ (arith_row Arith.UDiv (rd word) (rs1 word) (operand simm13 word) core.old).turn }
     ensures core { core.new ≡ (arith_row Arith.UDiv (rd word) (rs1 word) (operand simm13 word) core.old).core }
 {
@@ -373,7 +373,7 @@ fn divide(core: &mut Core, word: u32) -> Turn
 }
 
 // UDIVcc.
-fn divide_coded(core: &mut Core, word: u32) -> Turn
+fn divide_coded(core: &mut Processor, word: u32) -> Turn
     ensures turn { result ≡ (arith_row Arith.UDivCc (rd word) (rs1 word) (operand simm13 word) core.old).turn }
     ensures core { core.new ≡ (arith_row Arith.UDivCc (rd word) (rs1 word) (operand simm13 word) core.old).core }
 {
@@ -389,7 +389,7 @@ fn divide_coded(core: &mut Core, word: u32) -> Turn
 }
 
 // SDIV.
-fn divide_signed(core: &mut Core, word: u32) -> Turn
+fn divide_signed(core: &mut Processor, word: u32) -> Turn
     ensures turn { result ≡ (arith_row Arith.SDiv (rd word) (rs1 word) (operand simm13 word) core.old).turn }
     ensures core { core.new ≡ (arith_row Arith.SDiv (rd word) (rs1 word) (operand simm13 word) core.old).core }
 {
@@ -403,7 +403,7 @@ fn divide_signed(core: &mut Core, word: u32) -> Turn
 }
 
 // SDIVcc.
-fn divide_signed_coded(core: &mut Core, word: u32) -> Turn
+fn divide_signed_coded(core: &mut Processor, word: u32) -> Turn
     ensures turn { result ≡ (arith_row Arith.SDivCc (rd word) (rs1 word) (operand simm13 word) core.old).turn }
     ensures core { core.new ≡ (arith_row Arith.SDivCc (rd word) (rs1 word) (operand simm13 word) core.old).core }
 {
@@ -435,7 +435,7 @@ fn tagged_difference_overflows(a: u32, b: u32) -> bool
 }
 
 // TADDcc.
-fn add_tagged(core: &mut Core, word: u32) -> Turn
+fn add_tagged(core: &mut Processor, word: u32) -> Turn
     ensures turn { result ≡ (arith_row Arith.TAddCc (rd word) (rs1 word) (operand simm13 word) core.old).turn }
     ensures core { core.new ≡ (arith_row Arith.TAddCc (rd word) (rs1 word) (operand simm13 word) core.old).core }
 {
@@ -447,7 +447,7 @@ fn add_tagged(core: &mut Core, word: u32) -> Turn
 }
 
 // TSUBcc.
-fn subtract_tagged(core: &mut Core, word: u32) -> Turn
+fn subtract_tagged(core: &mut Processor, word: u32) -> Turn
     ensures turn { result ≡ (arith_row Arith.TSubCc (rd word) (rs1 word) (operand simm13 word) core.old).turn }
     ensures core { core.new ≡ (arith_row Arith.TSubCc (rd word) (rs1 word) (operand simm13 word) core.old).core }
 {
@@ -459,7 +459,7 @@ fn subtract_tagged(core: &mut Core, word: u32) -> Turn
 }
 
 // TADDccTV.
-fn add_tagged_or_trap(core: &mut Core, word: u32) -> Turn
+fn add_tagged_or_trap(core: &mut Processor, word: u32) -> Turn
     ensures turn { result ≡ (arith_row Arith.TAddCcTv (rd word) (rs1 word) (operand simm13 word) core.old).turn }
     ensures core { core.new ≡ (arith_row Arith.TAddCcTv (rd word) (rs1 word) (operand simm13 word) core.old).core }
 {
@@ -478,7 +478,7 @@ fn add_tagged_or_trap(core: &mut Core, word: u32) -> Turn
 }
 
 // TSUBccTV.
-fn subtract_tagged_or_trap(core: &mut Core, word: u32) -> Turn
+fn subtract_tagged_or_trap(core: &mut Processor, word: u32) -> Turn
     ensures turn { result ≡ (arith_row Arith.TSubCcTv (rd word) (rs1 word) (operand simm13 word) core.old).turn }
     ensures core { core.new ≡ (arith_row Arith.TSubCcTv (rd word) (rs1 word) (operand simm13 word) core.old).core }
 {
@@ -498,31 +498,31 @@ fn subtract_tagged_or_trap(core: &mut Core, word: u32) -> Turn
 
 // The first operand of a step of a multiplication.
 #[tactic(auto, unfolding(crate::specs::Arithmetic::stepped_operand))]
-fn stepped_operand(core: &Core, a: u32) -> u32
+fn stepped_operand(core: &Processor, a: u32) -> u32
     ensures { result ≡ stepped_operand core.now a }
 {
-    (a >> 1) + (u32::from(negative(core.icc) != overflow(core.icc)) << 31)
+    (a >> 1) + (u32::from(negative(core.icc()) != overflow(core.icc())) << 31)
 }
 
 // What the step adds to it.
 #[tactic(auto, unfolding(crate::specs::Arithmetic::step_addend))]
-fn step_addend(core: &Core, b: u32) -> u32
+fn step_addend(core: &Processor, b: u32) -> u32
     ensures { result ≡ step_addend core.now b }
 {
-    if core.y % 2 == 1 { b } else { 0 }
+    if core.y() % 2 == 1 { b } else { 0 }
 }
 
 // Y behind the step.
 #[tactic(auto, unfolding(crate::specs::Arithmetic::stepped_y))]
-fn stepped_y(core: &Core, a: u32) -> u32
+fn stepped_y(core: &Processor, a: u32) -> u32
     ensures { result ≡ stepped_y core.now a }
 {
-    (core.y >> 1) + ((a % 2) << 31)
+    (core.y() >> 1) + ((a % 2) << 31)
 }
 
 // MULScc.
 #[tactic(auto, unfolding(crate::specs::Arithmetic::multiply_step))]
-fn multiply_step(core: &mut Core, word: u32) -> Turn
+fn multiply_step(core: &mut Processor, word: u32) -> Turn
     ensures turn { result ≡ (arith_row Arith.MulSCc (rd word) (rs1 word) (operand simm13 word) core.old).turn }
     ensures core { core.new ≡ (arith_row Arith.MulSCc (rd word) (rs1 word) (operand simm13 word) core.old).core }
 {

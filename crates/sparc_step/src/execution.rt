@@ -11,13 +11,13 @@ ghost use Rattle.sparc_step.specs.Undone.{IsUndone};
 use crate::arithmetic::work;
 use crate::flow::{branch, call, jump, read_y, restore, save, sethi, trap, write_y};
 use crate::outcome::Turn;
+use crate::processor::Processor;
 use crate::registers::Core;
 use crate::transfers::transfer;
 use guest_bus::Bus;
 use sparc_code::fields::{op, op2, op3, rd, rs1};
 
 /// Executes the instruction at `pc`.
-#[tactic(auto, unfolding(crate::specs::Execution::turned))]
 pub fn turn<B: Bus>(core: &mut Core, bus: &mut B) -> Turn
     ensures turn { result ≡ (turned (B.areas bus.old) core.old (B.memory bus.old)).turn }
     ensures core { core.new ≡ (turned (B.areas bus.old) core.old (B.memory bus.old)).core }
@@ -27,15 +27,37 @@ pub fn turn<B: Bus>(core: &mut Core, bus: &mut B) -> Turn
     ensures areas { B.areas bus.new ≡ B.areas bus.old }
     ensures others { B.others bus.new ≡ B.others bus.old }
 {
-    match bus.fetch(core.pc) {
-        Ok(word) => execute(core, bus, word),
-        Err(_) => Turn::Trap(0x01),
+    let mut processor = Processor::of(core);
+    let turn = processor.turn(bus);
+    processor.give(core);
+    turn
+}
+
+impl Processor {
+    /// Executes the instruction at `pc`.
+    #[inline(always)]
+    #[tactic(auto, unfolding(crate::specs::Execution::turned))]
+    pub fn turn<B: Bus>(&mut self, bus: &mut B) -> Turn
+        ensures turn { result ≡ (turned (B.areas bus.old) self.old (B.memory bus.old)).turn }
+        ensures core { self.new ≡ (turned (B.areas bus.old) self.old (B.memory bus.old)).core }
+        ensures memory { B.memory bus.new ≡ (turned (B.areas bus.old) self.old (B.memory bus.old)).memory }
+        ensures trapped { IsUndone result self.old self.new (B.memory bus.old) (B.memory bus.new) }
+        ensures called { result ≡ Turn.Call → self.new ≡ advanced self.old }
+        ensures areas { B.areas bus.new ≡ B.areas bus.old }
+        ensures others { B.others bus.new ≡ B.others bus.old }
+    {
+        let pc = self.pc();
+        match bus.fetch(pc) {
+            Ok(word) => execute(self, bus, word),
+            Err(_) => Turn::Trap(0x01),
+        }
     }
 }
 
 // Executes an instruction word: which instruction it is, is told here by compares, without a value for it in between.
 #[tactic(auto, unfolding(sparc_code::specs::Decoded::decoded))]
-pub(crate) fn execute<B: Bus>(core: &mut Core, bus: &mut B, word: u32) -> Turn
+#[inline(always)]
+pub(crate) fn execute<B: Bus>(core: &mut Processor, bus: &mut B, word: u32) -> Turn
     ensures turn { result ≡ (executed (decoded word) (B.areas bus.old) core.old (B.memory bus.old)).turn }
     ensures core { core.new ≡ (executed (decoded word) (B.areas bus.old) core.old (B.memory bus.old)).core }
     ensures memory { B.memory bus.new ≡ (executed (decoded word) (B.areas bus.old) core.old (B.memory bus.old)).memory }
@@ -58,7 +80,7 @@ pub(crate) fn execute<B: Bus>(core: &mut Core, bus: &mut B, word: u32) -> Turn
 
 // Branches and SETHI.
 #[tactic(auto, unfolding(sparc_code::specs::Decoded::format2_row))]
-fn format2(core: &mut Core, selector: u32, word: u32) -> Turn
+fn format2(core: &mut Processor, selector: u32, word: u32) -> Turn
     requires { selector < 8 }
     ensures turn { (areas : List Area) (memory : Memory) → result ≡ (executed (format2_row selector word) areas core.old memory).turn }
     ensures core { (areas : List Area) (memory : Memory) → core.new ≡ (executed (format2_row selector word) areas core.old memory).core }
@@ -80,7 +102,7 @@ fn format2(core: &mut Core, selector: u32, word: u32) -> Turn
 }
 
 // Work on registers, and what reads and writes the state.
-fn on_registers(core: &mut Core, selector: u32, word: u32) -> Turn
+fn on_registers(core: &mut Processor, selector: u32, word: u32) -> Turn
     requires { selector < 64 }
     ensures turn { (areas : List Area) (memory : Memory) → result ≡ (executed (registers_row selector word) areas core.old memory).turn }
     ensures core { (areas : List Area) (memory : Memory) → core.new ≡ (executed (registers_row selector word) areas core.old memory).core }
@@ -97,7 +119,7 @@ fn on_registers(core: &mut Core, selector: u32, word: u32) -> Turn
 
 // The selectors 28 to 37.
 #[tactic(auto, unfolding(sparc_code::specs::Decoded::registers_row))]
-fn on_state(core: &mut Core, selector: u32, word: u32) -> Turn
+fn on_state(core: &mut Processor, selector: u32, word: u32) -> Turn
     requires from { 0x28 ≤ selector }
     requires below { selector < 0x38 }
     ensures turn { (areas : List Area) (memory : Memory) → result ≡ (executed (registers_row selector word) areas core.old memory).turn }
@@ -125,7 +147,7 @@ fn on_state(core: &mut Core, selector: u32, word: u32) -> Turn
 
 // RDY and STBAR.
 #[tactic(auto, unfolding(sparc_code::specs::Decoded::read_state))]
-fn read_state(core: &mut Core, word: u32) -> Turn
+fn read_state(core: &mut Processor, word: u32) -> Turn
     ensures turn { (areas : List Area) (memory : Memory) → result ≡ (executed (read_state word) areas core.old memory).turn }
     ensures core { (areas : List Area) (memory : Memory) → core.new ≡ (executed (read_state word) areas core.old memory).core }
     ensures memory { (areas : List Area) (memory : Memory) → memory ≡ (executed (read_state word) areas core.old memory).memory }
@@ -143,7 +165,7 @@ fn read_state(core: &mut Core, word: u32) -> Turn
 
 // WRY.
 #[tactic(auto, unfolding(sparc_code::specs::Decoded::write_state))]
-fn write_state(core: &mut Core, word: u32) -> Turn
+fn write_state(core: &mut Processor, word: u32) -> Turn
     ensures turn { (areas : List Area) (memory : Memory) → result ≡ (executed (write_state word) areas core.old memory).turn }
     ensures core { (areas : List Area) (memory : Memory) → core.new ≡ (executed (write_state word) areas core.old memory).core }
     ensures memory { (areas : List Area) (memory : Memory) → memory ≡ (executed (write_state word) areas core.old memory).memory }
@@ -158,7 +180,7 @@ fn write_state(core: &mut Core, word: u32) -> Turn
 
 // The selectors 38 to 3f.
 #[tactic(auto, unfolding(sparc_code::specs::Decoded::registers_row))]
-fn transfer_control(core: &mut Core, selector: u32, word: u32) -> Turn
+fn transfer_control(core: &mut Processor, selector: u32, word: u32) -> Turn
     requires from { 0x38 ≤ selector }
     requires below { selector < 0x40 }
     ensures turn { (areas : List Area) (memory : Memory) → result ≡ (executed (registers_row selector word) areas core.old memory).turn }
@@ -186,7 +208,7 @@ fn transfer_control(core: &mut Core, selector: u32, word: u32) -> Turn
 }
 
 // Work on memory.
-fn on_memory<B: Bus>(core: &mut Core, bus: &mut B, selector: u32, word: u32) -> Turn
+fn on_memory<B: Bus>(core: &mut Processor, bus: &mut B, selector: u32, word: u32) -> Turn
     requires { selector < 64 }
     ensures turn { result ≡ (executed (memory_row selector word) (B.areas bus.old) core.old (B.memory bus.old)).turn }
     ensures core { core.new ≡ (executed (memory_row selector word) (B.areas bus.old) core.old (B.memory bus.old)).core }

@@ -28,15 +28,15 @@ ghost use Rattle.sparc_step.specs.Outcome.{with_result};
 use crate::conditions::holds;
 use crate::operands::{branch_bytes, call_bytes, first, put, second, sum_of, trap_number};
 use crate::outcome::Turn;
-use crate::registers::Core;
+use crate::processor::Processor;
 use sparc_code::fields::{annul, cond, imm22, rd};
 
 // CALL.
 #[tactic(auto, unfolding(crate::specs::Flow::call_row))]
-pub(crate) fn call(core: &mut Core, word: u32)
+pub(crate) fn call(core: &mut Processor, word: u32)
     ensures { core.new ≡ call_row (disp30 word) core.old }
 {
-    let pc = core.pc;
+    let pc = core.pc();
     core.set(15, pc);
     core.branch(call_target(pc, word));
 }
@@ -63,11 +63,11 @@ fn branch_target(pc: u32, word: u32) -> u32
 
 // Bicc.
 #[tactic(auto, unfolding(crate::specs::Flow::branch_row))]
-pub(crate) fn branch(core: &mut Core, word: u32)
+pub(crate) fn branch(core: &mut Processor, word: u32)
     ensures { core.new ≡ branch_row (cond word) (annul word == 1) (disp22 word) core.old }
 {
-    if holds(cond(word), core.icc) {
-        let target = branch_target(core.pc, word);
+    if holds(cond(word), core.icc()) {
+        let target = branch_target(core.pc(), word);
         take(core, cond(word), annul(word) == 1, target);
     } else {
         pass(core, annul(word) == 1);
@@ -76,7 +76,7 @@ pub(crate) fn branch(core: &mut Core, word: u32)
 
 // A branch that is taken.
 #[tactic(auto, unfolding(crate::specs::Flow::taken))]
-fn take(core: &mut Core, condition: u8, annul: bool, target: u32)
+fn take(core: &mut Processor, condition: u8, annul: bool, target: u32)
     requires { target % 4 ≡ 0 }
     ensures { core.new ≡ taken condition annul target core.old }
 {
@@ -89,7 +89,7 @@ fn take(core: &mut Core, condition: u8, annul: bool, target: u32)
 
 // A branch that is not taken.
 #[tactic(auto, unfolding(crate::specs::Flow::passed))]
-fn pass(core: &mut Core, annul: bool)
+fn pass(core: &mut Processor, annul: bool)
     ensures { core.new ≡ passed annul core.old }
 {
     if annul {
@@ -101,23 +101,23 @@ fn pass(core: &mut Core, annul: bool)
 
 // SETHI.
 #[tactic(auto, unfolding(crate::specs::Flow::sethi_row))]
-pub(crate) fn sethi(core: &mut Core, word: u32)
+pub(crate) fn sethi(core: &mut Processor, word: u32)
     ensures { core.new ≡ sethi_row (rd word) (imm22 word) core.old }
 {
     put(core, word, imm22(word) << 10);
 }
 
 // RDY.
-pub(crate) fn read_y(core: &mut Core, word: u32)
+pub(crate) fn read_y(core: &mut Processor, word: u32)
     ensures { core.new ≡ with_result (rd word) core.old.y core.old }
 {
-    let y = core.y;
+    let y = core.y();
     put(core, word, y);
 }
 
 // WRY.
 #[tactic(auto, unfolding(crate::specs::Flow::write_y_row))]
-pub(crate) fn write_y(core: &mut Core, word: u32)
+pub(crate) fn write_y(core: &mut Processor, word: u32)
     ensures { core.new ≡ write_y_row (rs1 word) (operand simm13 word) core.old }
 {
     let y = first(core, word) ^ second(core, word);
@@ -127,7 +127,7 @@ pub(crate) fn write_y(core: &mut Core, word: u32)
 
 // JMPL.
 #[tactic(auto, unfolding(crate::specs::Flow::jumped))]
-pub(crate) fn jump(core: &mut Core, word: u32) -> Turn
+pub(crate) fn jump(core: &mut Processor, word: u32) -> Turn
     ensures turn { result ≡ (jump_row (rd word) (rs1 word) (operand simm13 word) core.old).turn }
     ensures core { core.new ≡ (jump_row (rd word) (rs1 word) (operand simm13 word) core.old).core }
 {
@@ -135,7 +135,7 @@ pub(crate) fn jump(core: &mut Core, word: u32) -> Turn
     if target % 4 != 0 {
         return Turn::Trap(0x07);
     }
-    let pc = core.pc;
+    let pc = core.pc();
     core.set(rd(word), pc);
     core.branch(target);
     Turn::Went
@@ -143,11 +143,11 @@ pub(crate) fn jump(core: &mut Core, word: u32) -> Turn
 
 // Ticc.
 #[tactic(auto, unfolding(crate::specs::Flow::trap_turn))]
-pub(crate) fn trap(core: &mut Core, word: u32) -> Turn
+pub(crate) fn trap(core: &mut Processor, word: u32) -> Turn
     ensures turn { result ≡ (trap_row (cond word) (rs1 word) (operand imm7 word) core.old).turn }
     ensures core { core.new ≡ left_by result core.old }
 {
-    if !holds(cond(word), core.icc) {
+    if !holds(cond(word), core.icc()) {
         core.advance();
         return Turn::Went;
     }
@@ -170,13 +170,13 @@ fn trap_type(number: u32) -> u8
 
 // SAVE.
 #[tactic(auto, unfolding(crate::specs::Flow::moved, crate::specs::Flow::window_below))]
-pub(crate) fn save(core: &mut Core, word: u32) -> Turn
+pub(crate) fn save(core: &mut Processor, word: u32) -> Turn
     ensures turn { result ≡ (save_row (rd word) (rs1 word) (operand simm13 word) core.old).turn }
     ensures core { core.new ≡ (save_row (rd word) (rs1 word) (operand simm13 word) core.old).core }
 {
     let value = sum_of(core, word);
-    let window = (core.cwp + 7) % 8;
-    if window == core.inv {
+    let window = (core.cwp() + 7) % 8;
+    if window == core.inv() {
         return Turn::Trap(0x05);
     }
     enter(core, window, word, value);
@@ -185,13 +185,13 @@ pub(crate) fn save(core: &mut Core, word: u32) -> Turn
 
 // RESTORE.
 #[tactic(auto, unfolding(crate::specs::Flow::moved, crate::specs::Flow::window_above))]
-pub(crate) fn restore(core: &mut Core, word: u32) -> Turn
+pub(crate) fn restore(core: &mut Processor, word: u32) -> Turn
     ensures turn { result ≡ (restore_row (rd word) (rs1 word) (operand simm13 word) core.old).turn }
     ensures core { core.new ≡ (restore_row (rd word) (rs1 word) (operand simm13 word) core.old).core }
 {
     let value = sum_of(core, word);
-    let window = (core.cwp + 1) % 8;
-    if window == core.inv {
+    let window = (core.cwp() + 1) % 8;
+    if window == core.inv() {
         return Turn::Trap(0x06);
     }
     enter(core, window, word, value);
@@ -200,7 +200,7 @@ pub(crate) fn restore(core: &mut Core, word: u32) -> Turn
 
 // Enters a window that is valid, puts a result there, and goes on.
 #[tactic(auto, unfolding(crate::specs::Flow::entered))]
-fn enter(core: &mut Core, window: u8, word: u32, value: u32)
+fn enter(core: &mut Processor, window: u8, word: u32, value: u32)
     requires window { window < 8 }
     requires valid { window ≢ core.old.inv }
     ensures { core.new ≡ entered window (rd word) value core.old }

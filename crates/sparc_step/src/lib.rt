@@ -7,6 +7,7 @@ mod execution;
 mod flow;
 mod operands;
 mod outcome;
+mod processor;
 mod registers;
 #[cfg(test)]
 mod tests;
@@ -16,4 +17,5 @@ mod words;
 pub use execution::turn;
 pub use guest_bus::{Bus, BusFault, Size};
 pub use outcome::Turn;
+pub use processor::Processor;
 pub use registers::Core;

@@ -8,11 +8,11 @@ ghost use Rattle.sparc_step.specs.Outcome.{with_result, with_result_and_codes};
 ghost use Rattle.sparc_step.specs.Registers.{register_at};
 ghost use Rattle.sparc_step.specs.Words.{residue};
 
-use crate::registers::Core;
+use crate::processor::Processor;
 use sparc_code::fields::{i, rd, rs1, rs2};
 
 // The value of operand 1.
-pub(crate) fn first(core: &Core, word: u32) -> u32
+pub(crate) fn first(core: &Processor, word: u32) -> u32
     ensures { result ≡ register_at core.now (rs1 word) }
 {
     core.get(rs1(word))
@@ -20,7 +20,7 @@ pub(crate) fn first(core: &Core, word: u32) -> u32
 
 // The value of operand 2.
 #[tactic(auto, unfolding(sparc_code::specs::Decoded::operand))]
-pub(crate) fn second(core: &Core, word: u32) -> u32
+pub(crate) fn second(core: &Processor, word: u32) -> u32
     ensures { result ≡ value_of (operand simm13 word) core.now }
 {
     let register = core.get(rs2(word));
@@ -33,7 +33,7 @@ pub(crate) fn second(core: &Core, word: u32) -> u32
 
 // The value of operand 2 of a shift.
 #[tactic(auto, unfolding(sparc_code::specs::Decoded::operand, sparc_code::specs::Fields::shcnt))]
-pub(crate) fn places(core: &Core, word: u32) -> u32
+pub(crate) fn places(core: &Processor, word: u32) -> u32
     ensures { result ≡ value_of (operand shcnt word) core.now }
 {
     let register = core.get(rs2(word));
@@ -42,7 +42,7 @@ pub(crate) fn places(core: &Core, word: u32) -> u32
 
 // The value of operand 2 of a trap.
 #[tactic(auto, unfolding(sparc_code::specs::Decoded::operand, sparc_code::specs::Fields::imm7))]
-fn number(core: &Core, word: u32) -> u32
+fn number(core: &Processor, word: u32) -> u32
     ensures { result ≡ value_of (operand imm7 word) core.now }
 {
     let register = core.get(rs2(word));
@@ -51,7 +51,7 @@ fn number(core: &Core, word: u32) -> u32
 
 // The sum of the operands.
 #[tactic(auto, unfolding(crate::specs::Operands::sum_of))]
-pub(crate) fn sum_of(core: &Core, word: u32) -> u32
+pub(crate) fn sum_of(core: &Processor, word: u32) -> u32
     ensures { result ≡ sum_of (rs1 word) (operand simm13 word) core.now }
 {
     first(core, word).wrapping_add(second(core, word))
@@ -59,7 +59,7 @@ pub(crate) fn sum_of(core: &Core, word: u32) -> u32
 
 // The sum of the operands of a trap.
 #[tactic(auto, unfolding(crate::specs::Operands::sum_of))]
-pub(crate) fn trap_number(core: &Core, word: u32) -> u32
+pub(crate) fn trap_number(core: &Processor, word: u32) -> u32
     ensures { result ≡ sum_of (rs1 word) (operand imm7 word) core.now }
 {
     first(core, word).wrapping_add(number(core, word))
@@ -93,7 +93,7 @@ pub(crate) fn call_bytes(word: u32) -> u32
 
 // Puts a result, and goes on.
 #[tactic(auto, unfolding(crate::specs::Outcome::with_result))]
-pub(crate) fn put(core: &mut Core, word: u32, value: u32)
+pub(crate) fn put(core: &mut Processor, word: u32, value: u32)
     ensures { core.new ≡ with_result (rd word) value core.old }
 {
     core.set(rd(word), value);
@@ -102,7 +102,7 @@ pub(crate) fn put(core: &mut Core, word: u32, value: u32)
 
 // Puts a result and condition codes, and goes on.
 #[tactic(auto, unfolding(crate::specs::Outcome::with_result_and_codes))]
-pub(crate) fn put_with_codes(core: &mut Core, word: u32, value: u32, icc: u8)
+pub(crate) fn put_with_codes(core: &mut Processor, word: u32, value: u32, icc: u8)
     requires { icc < 16 }
     ensures { core.new ≡ with_result_and_codes (rd word) value icc core.old }
 {

@@ -22,12 +22,12 @@ ghost use Rattle.sparc_step.specs.Transfers.{
 
 use crate::operands::{put, sum_of};
 use crate::outcome::Turn;
-use crate::registers::Core;
+use crate::processor::Processor;
 use guest_bus::{Bus, BusFault, Size};
 use sparc_code::fields::rd;
 
 // The selectors 00 to 0f.
-pub(crate) fn transfer<B: Bus>(core: &mut Core, bus: &mut B, selector: u32, word: u32) -> Turn
+pub(crate) fn transfer<B: Bus>(core: &mut Processor, bus: &mut B, selector: u32, word: u32) -> Turn
     requires { selector < 16 }
     ensures turn { result ≡ (executed (memory_row selector word) (B.areas bus.old) core.old (B.memory bus.old)).turn }
     ensures core { core.new ≡ (executed (memory_row selector word) (B.areas bus.old) core.old (B.memory bus.old)).core }
@@ -48,7 +48,7 @@ pub(crate) fn transfer<B: Bus>(core: &mut Core, bus: &mut B, selector: u32, word
 
 // The selectors 00 to 03.
 #[tactic(auto, unfolding(sparc_code::specs::Decoded::memory_row))]
-fn load<B: Bus>(core: &mut Core, bus: &mut B, selector: u32, word: u32) -> Turn
+fn load<B: Bus>(core: &mut Processor, bus: &mut B, selector: u32, word: u32) -> Turn
     requires { selector < 4 }
     ensures turn { result ≡ (executed (memory_row selector word) (B.areas bus.old) core.old (B.memory bus.old)).turn }
     ensures core { core.new ≡ (executed (memory_row selector word) (B.areas bus.old) core.old (B.memory bus.old)).core }
@@ -70,7 +70,7 @@ fn load<B: Bus>(core: &mut Core, bus: &mut B, selector: u32, word: u32) -> Turn
 
 // The selectors 04 to 07.
 #[tactic(auto, unfolding(sparc_code::specs::Decoded::memory_row))]
-fn store<B: Bus>(core: &mut Core, bus: &mut B, selector: u32, word: u32) -> Turn
+fn store<B: Bus>(core: &mut Processor, bus: &mut B, selector: u32, word: u32) -> Turn
     requires from { 4 ≤ selector }
     requires below { selector < 8 }
     ensures turn { result ≡ (executed (memory_row selector word) (B.areas bus.old) core.old (B.memory bus.old)).turn }
@@ -94,7 +94,7 @@ fn store<B: Bus>(core: &mut Core, bus: &mut B, selector: u32, word: u32) -> Turn
 
 // The selectors 08 to 0f.
 #[tactic(auto, unfolding(sparc_code::specs::Decoded::memory_row))]
-fn load_signed_or_exchange<B: Bus>(core: &mut Core, bus: &mut B, selector: u32, word: u32) -> Turn
+fn load_signed_or_exchange<B: Bus>(core: &mut Processor, bus: &mut B, selector: u32, word: u32) -> Turn
     requires from { 8 ≤ selector }
     requires below { selector < 16 }
     ensures turn { result ≡ (executed (memory_row selector word) (B.areas bus.old) core.old (B.memory bus.old)).turn }
@@ -123,7 +123,7 @@ fn load_signed_or_exchange<B: Bus>(core: &mut Core, bus: &mut B, selector: u32, 
 }
 
 // Loads a value without a sign.
-fn load_value<B: Bus>(core: &mut Core, bus: &mut B, word: u32, address: u32, size: Size) -> Turn
+fn load_value<B: Bus>(core: &mut Processor, bus: &mut B, word: u32, address: u32, size: Size) -> Turn
     ensures turn { result ≡ (loaded_into (loaded (B.areas bus.old) (B.memory bus.old) address size) low_word (rd word) core.old (B.memory bus.old)).turn }
     ensures core { core.new ≡ (loaded_into (loaded (B.areas bus.old) (B.memory bus.old) address size) low_word (rd word) core.old (B.memory bus.old)).core }
     ensures memory { B.memory bus.new ≡ (loaded_into (loaded (B.areas bus.old) (B.memory bus.old) address size) low_word (rd word) core.old (B.memory bus.old)).memory }
@@ -140,7 +140,7 @@ fn load_value<B: Bus>(core: &mut Core, bus: &mut B, word: u32, address: u32, siz
 }
 
 // LDSB.
-fn load_byte<B: Bus>(core: &mut Core, bus: &mut B, word: u32, address: u32) -> Turn
+fn load_byte<B: Bus>(core: &mut Processor, bus: &mut B, word: u32, address: u32) -> Turn
     ensures turn { result ≡ (loaded_into (loaded (B.areas bus.old) (B.memory bus.old) address One) signed_byte (rd word) core.old (B.memory bus.old)).turn }
     ensures core { core.new ≡ (loaded_into (loaded (B.areas bus.old) (B.memory bus.old) address One) signed_byte (rd word) core.old (B.memory bus.old)).core }
     ensures memory { B.memory bus.new ≡ (loaded_into (loaded (B.areas bus.old) (B.memory bus.old) address One) signed_byte (rd word) core.old (B.memory bus.old)).memory }
@@ -157,7 +157,7 @@ fn load_byte<B: Bus>(core: &mut Core, bus: &mut B, word: u32, address: u32) -> T
 }
 
 // LDSH.
-fn load_half<B: Bus>(core: &mut Core, bus: &mut B, word: u32, address: u32) -> Turn
+fn load_half<B: Bus>(core: &mut Processor, bus: &mut B, word: u32, address: u32) -> Turn
     ensures turn { result ≡ (loaded_into (loaded (B.areas bus.old) (B.memory bus.old) address Two) signed_half (rd word) core.old (B.memory bus.old)).turn }
     ensures core { core.new ≡ (loaded_into (loaded (B.areas bus.old) (B.memory bus.old) address Two) signed_half (rd word) core.old (B.memory bus.old)).core }
     ensures memory { B.memory bus.new ≡ (loaded_into (loaded (B.areas bus.old) (B.memory bus.old) address Two) signed_half (rd word) core.old (B.memory bus.old)).memory }
@@ -191,7 +191,7 @@ fn signed_half(value: u64) -> u32
 
 // LDD.
 #[tactic(auto, unfolding(sparc_code::specs::Decoded::double_work))]
-fn load_double<B: Bus>(core: &mut Core, bus: &mut B, word: u32) -> Turn
+fn load_double<B: Bus>(core: &mut Processor, bus: &mut B, word: u32) -> Turn
     ensures turn { result ≡ (executed (double_work LdD word) (B.areas bus.old) core.old (B.memory bus.old)).turn }
     ensures core { core.new ≡ (executed (double_work LdD word) (B.areas bus.old) core.old (B.memory bus.old)).core }
     ensures memory { B.memory bus.new ≡ (executed (double_work LdD word) (B.areas bus.old) core.old (B.memory bus.old)).memory }
@@ -213,7 +213,7 @@ fn load_double<B: Bus>(core: &mut Core, bus: &mut B, word: u32) -> Turn
 
 // Sets a pair of registers to a double word.
 #[tactic(auto, unfolding(crate::specs::Transfers::with_pair))]
-fn set_pair(core: &mut Core, rd: u8, value: u64)
+fn set_pair(core: &mut Processor, rd: u8, value: u64)
     requires { rd + 1 < 32 }
     ensures { core.new ≡ with_pair rd value core.old }
 {
@@ -223,7 +223,7 @@ fn set_pair(core: &mut Core, rd: u8, value: u64)
 
 // STD.
 #[tactic(auto, unfolding(sparc_code::specs::Decoded::double_work))]
-fn store_double<B: Bus>(core: &mut Core, bus: &mut B, word: u32) -> Turn
+fn store_double<B: Bus>(core: &mut Processor, bus: &mut B, word: u32) -> Turn
     ensures turn { result ≡ (executed (double_work StD word) (B.areas bus.old) core.old (B.memory bus.old)).turn }
     ensures core { core.new ≡ (executed (double_work StD word) (B.areas bus.old) core.old (B.memory bus.old)).core }
     ensures memory { B.memory bus.new ≡ (executed (double_work StD word) (B.areas bus.old) core.old (B.memory bus.old)).memory }
@@ -240,7 +240,7 @@ fn store_double<B: Bus>(core: &mut Core, bus: &mut B, word: u32) -> Turn
 
 // The double word in a pair of registers.
 #[tactic(auto, unfolding(crate::specs::Transfers::pair_at))]
-fn pair(core: &Core, rd: u8) -> u64
+fn pair(core: &Processor, rd: u8) -> u64
     requires { rd + 1 < 32 }
     ensures { result ≡ pair_at core.now rd }
 {
@@ -249,7 +249,7 @@ fn pair(core: &Core, rd: u8) -> u64
 
 // Stores a value.
 #[tactic(auto, unfolding(crate::specs::Transfers::store_of))]
-fn store_value<B: Bus>(core: &mut Core, bus: &mut B, address: u32, size: Size, value: u64) -> Turn
+fn store_value<B: Bus>(core: &mut Processor, bus: &mut B, address: u32, size: Size, value: u64) -> Turn
     ensures turn { result ≡ (store_of value address size (B.areas bus.old) core.old (B.memory bus.old)).turn }
     ensures core { core.new ≡ (store_of value address size (B.areas bus.old) core.old (B.memory bus.old)).core }
     ensures memory { B.memory bus.new ≡ (store_of value address size (B.areas bus.old) core.old (B.memory bus.old)).memory }
@@ -268,7 +268,7 @@ fn store_value<B: Bus>(core: &mut Core, bus: &mut B, address: u32, size: Size, v
 // LDSTUB and SWAP.
 #[tactic(auto, unfolding(crate::specs::Transfers::exchange_of))]
 fn exchange<B: Bus>(
-    core: &mut Core,
+    core: &mut Processor,
     bus: &mut B,
     word: u32,
     address: u32,
@@ -289,7 +289,7 @@ fn exchange<B: Bus>(
 
 // Stores a value, and puts what was found there.
 fn exchange_for<B: Bus>(
-    core: &mut Core,
+    core: &mut Processor,
     bus: &mut B,
     word: u32,
     address: u32,

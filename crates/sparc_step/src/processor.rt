@@ -1,0 +1,303 @@
+//! The registers as a processor has them at hand.
+
+ghost use borrow.Rule.Slice.PartMut.{put_mid};
+ghost use Rattle.std.specs.Prelude.{◌≡◌, ◌≢◌, ◌*◌, ◌+◌, ◌%◌, ◌<◌, ◌≤◌, drop, length, take};
+ghost use Rattle.sparc_step.specs.AtHand.{ins_place, own_place, windows_with};
+ghost use Rattle.sparc_step.specs.AtHandLemmas.{put_at};
+ghost use Rattle.sparc_step.specs.Registers.{
+  AreRegisters,
+  advanced,
+  branched,
+  in_window,
+  register_at,
+  sent,
+  skipped,
+  with_icc,
+  with_register,
+  with_y,
+};
+
+use crate::registers::Core;
+use std::marker::Model;
+
+/// The registers of a guest's processor, those of the current window at hand by their numbers.
+///
+/// It is the form for many instructions: a `Core` is taken to hand before them, and given back after.
+#[derive(Debug, Drop)]
+pub struct Processor {
+    pc: u32,
+    npc: u32,
+    y: u32,
+    icc: u8,
+    cwp: u8,
+    inv: u8,
+    // The registers of the current window.
+    hand: [u32; 32],
+    // The windows; what stands here of the current one is out of date.
+    windows: [u32; 128],
+}
+
+impl Model for Processor {
+    ghost use Rattle.sparc_step.specs.AtHand.{IsAtHand, gathered};
+    ghost use Rattle.sparc_step.specs.Registers.{Registers};
+
+    ghost Value = { Registers };
+
+    ghost view = { λ p. gathered p.pc p.npc p.y p.icc p.cwp p.inv p.hand p.windows };
+
+    ghost invariant = { λ p. IsAtHand p.pc p.npc p.y p.icc p.cwp p.inv p.hand p.windows };
+}
+
+impl Processor {
+    /// Takes registers to hand.
+    #[tactic(auto, unfolding(crate::specs::AtHand::gathered))]
+    pub fn of(core: &Core) -> Processor
+        ensures { result ≡ core.now }
+    {
+        let mut hand = [0; 32];
+        take_globals(&mut hand, &core.globals);
+        take_window(&mut hand, &core.windows, core.cwp);
+        Processor {
+            pc: core.pc,
+            npc: core.npc,
+            y: core.y,
+            icc: core.icc,
+            cwp: core.cwp,
+            inv: core.inv,
+            hand,
+            windows: core.windows,
+        }
+    }
+
+    /// Gives the registers back.
+    #[tactic(auto, unfolding(crate::specs::AtHand::gathered))]
+    pub fn give(&self, core: &mut Core)
+        ensures { core.new ≡ self.now }
+    {
+        let mut windows = self.windows;
+        write_window(&mut windows, &self.hand, self.cwp);
+        core.pc = self.pc;
+        core.npc = self.npc;
+        core.y = self.y;
+        core.icc = self.icc;
+        core.cwp = self.cwp;
+        core.inv = self.inv;
+        give_globals(&mut core.globals, &self.hand);
+        core.windows = windows;
+    }
+
+    /// The program counter.
+    #[tactic(auto, unfolding(crate::specs::AtHand::gathered))]
+    pub fn pc(&self) -> u32
+        ensures value { result ≡ self.now.pc }
+        ensures aligned { result % 4 ≡ 0 }
+    {
+        self.pc
+    }
+
+    /// The Y register.
+    #[tactic(auto, unfolding(crate::specs::AtHand::gathered))]
+    pub fn y(&self) -> u32
+        ensures { result ≡ self.now.y }
+    {
+        self.y
+    }
+
+    /// The condition codes.
+    #[tactic(auto, unfolding(crate::specs::AtHand::gathered))]
+    pub fn icc(&self) -> u8
+        ensures value { result ≡ self.now.icc }
+        ensures four { result < 16 }
+    {
+        self.icc
+    }
+
+    /// The current window.
+    #[tactic(auto, unfolding(crate::specs::AtHand::gathered))]
+    pub fn cwp(&self) -> u8
+        ensures value { result ≡ self.now.cwp }
+        ensures below { result < 8 }
+    {
+        self.cwp
+    }
+
+    /// The window that a program may not enter.
+    #[tactic(auto, unfolding(crate::specs::AtHand::gathered))]
+    pub fn inv(&self) -> u8
+        ensures value { result ≡ self.now.inv }
+        ensures below { result < 8 }
+    {
+        self.inv
+    }
+
+    /// The value of a register of the current window.
+    #[tactic(auto, using(crate::specs::AtHandLemmas::register_at_gathered))]
+    pub fn get(&self, r: u8) -> u32
+        requires { r < 32 }
+        ensures value { result ≡ register_at self.now r }
+    {
+        self.hand[usize::from(r)]
+    }
+
+    /// Sets a register of the current window.
+    #[tactic(auto, using(crate::specs::AtHandLemmas::with_register_gathered))]
+    pub fn set(&mut self, r: u8, value: u32)
+        requires { r < 32 }
+        ensures { self.new ≡ with_register self.old r value }
+    {
+        put(&mut self.hand, r, value);
+    }
+
+    /// Goes on to the next instruction.
+    #[tactic(auto, unfolding(crate::specs::Registers::advanced, crate::specs::AtHand::gathered))]
+    pub(crate) fn advance(&mut self)
+        ensures { self.new ≡ advanced self.old }
+    {
+        self.pc = self.npc;
+        self.npc = self.npc.wrapping_add(4);
+    }
+
+    /// Goes on to the next instruction, and after it to the target.
+    #[tactic(auto, unfolding(crate::specs::Registers::branched, crate::specs::AtHand::gathered))]
+    pub(crate) fn branch(&mut self, target: u32)
+        requires { target % 4 ≡ 0 }
+        ensures { self.new ≡ branched self.old target }
+    {
+        self.pc = self.npc;
+        self.npc = target;
+    }
+
+    /// Goes on behind the next instruction, which is annulled.
+    #[tactic(auto, unfolding(crate::specs::Registers::skipped, crate::specs::AtHand::gathered))]
+    pub(crate) fn skip(&mut self)
+        ensures { self.new ≡ skipped self.old }
+    {
+        self.pc = self.npc.wrapping_add(4);
+        self.npc = self.npc.wrapping_add(8);
+    }
+
+    /// Goes on at the target, the next instruction being annulled.
+    #[tactic(auto, unfolding(crate::specs::Registers::sent, crate::specs::AtHand::gathered))]
+    pub(crate) fn send(&mut self, target: u32)
+        requires { target % 4 ≡ 0 }
+        ensures { self.new ≡ sent self.old target }
+    {
+        self.pc = target;
+        self.npc = target.wrapping_add(4);
+    }
+
+    /// Enters a window that is valid.
+    #[tactic(auto, unfolding(crate::specs::Registers::in_window, crate::specs::AtHand::gathered))]
+    pub(crate) fn enter(&mut self, window: u8)
+        requires window { window < 8 }
+        requires valid { window ≢ self.old.inv }
+        ensures { self.new ≡ in_window self.old window }
+    {
+        write_window(&mut self.windows, &self.hand, self.cwp);
+        take_window(&mut self.hand, &self.windows, window);
+        self.cwp = window;
+    }
+
+    /// Sets Y.
+    #[tactic(auto, unfolding(crate::specs::Registers::with_y, crate::specs::AtHand::gathered))]
+    pub(crate) fn set_y(&mut self, y: u32)
+        ensures { self.new ≡ with_y self.old y }
+    {
+        self.y = y;
+    }
+
+    /// Sets the condition codes.
+    #[tactic(auto, unfolding(crate::specs::Registers::with_icc, crate::specs::AtHand::gathered))]
+    pub(crate) fn set_icc(&mut self, icc: u8)
+        requires { icc < 16 }
+        ensures { self.new ≡ with_icc self.old icc }
+    {
+        self.icc = icc;
+    }
+}
+
+// Sets a register; register 0 stays zero.
+fn put(hand: &mut [u32; 32], r: u8, value: u32)
+    requires { r < 32 }
+    ensures { hand.new ≡ put_at hand.old r value }
+{
+    hand[usize::from(r)] = value;
+    hand[0] = 0;
+}
+
+// Takes the globals to hand.
+fn take_globals(hand: &mut [u32], globals: &[u32])
+    requires hand { length hand.old ≡ 32 }
+    requires globals { length globals.now ≡ 8 }
+    ensures { take 8 hand.new ≡ globals.now }
+{
+    hand[..8].copy_from_slice(globals);
+}
+
+// Gives the globals back.
+fn give_globals(globals: &mut [u32], hand: &[u32])
+    requires globals { length globals.old ≡ 8 }
+    requires hand { length hand.now ≡ 32 }
+    ensures { globals.new ≡ take 8 hand.now }
+{
+    globals.copy_from_slice(&hand[..8]);
+}
+
+// Takes a window to hand: its outs and locals, and its ins.
+fn take_window(hand: &mut [u32], windows: &[u32], window: u8)
+    requires hand { length hand.old ≡ 32 }
+    requires windows { length windows.now ≡ 128 }
+    requires window { window < 8 }
+    ensures windows { windows_with window hand.new windows.now ≡ windows.now }
+    ensures globals { take 8 hand.new ≡ take 8 hand.old }
+{
+    take_own(hand, windows, 16 * usize::from(window));
+    take_ins(hand, windows, 16 * usize::from((window + 1) % 8));
+}
+
+// Takes the outs and locals of a window to hand.
+fn take_own(hand: &mut [u32], windows: &[u32], at: usize)
+    requires hand { length hand.old ≡ 32 }
+    requires windows { at + 16 ≤ length windows.now }
+    ensures { hand.new ≡ put_mid 8 16 hand.old (take 16 (drop at windows.now)) }
+{
+    hand[8..24].copy_from_slice(&windows[at..at + 16]);
+}
+
+// Takes the ins of a window to hand.
+fn take_ins(hand: &mut [u32], windows: &[u32], at: usize)
+    requires hand { length hand.old ≡ 32 }
+    requires windows { at + 8 ≤ length windows.now }
+    ensures { hand.new ≡ put_mid 24 8 hand.old (take 8 (drop at windows.now)) }
+{
+    hand[24..].copy_from_slice(&windows[at..at + 8]);
+}
+
+// Writes what is at hand of a window back to the windows.
+fn write_window(windows: &mut [u32], hand: &[u32], window: u8)
+    requires hand { length hand.now ≡ 32 }
+    requires windows { length windows.old ≡ 128 }
+    requires window { window < 8 }
+    ensures { windows.new ≡ windows_with window hand.now windows.old }
+{
+    write_own(windows, hand, 16 * usize::from(window));
+    write_ins(windows, hand, 16 * usize::from((window + 1) % 8));
+}
+
+// Writes the outs and locals back.
+fn write_own(windows: &mut [u32], hand: &[u32], at: usize)
+    requires hand { length hand.now ≡ 32 }
+    requires windows { at + 16 ≤ length windows.old }
+    ensures { windows.new ≡ put_mid at 16 windows.old (take 16 (drop 8 hand.now)) }
+{
+    windows[at..at + 16].copy_from_slice(&hand[8..24]);
+}
+
+// Writes the ins back.
+fn write_ins(windows: &mut [u32], hand: &[u32], at: usize)
+    requires hand { length hand.now ≡ 32 }
+    requires windows { at + 8 ≤ length windows.old }
+    ensures { windows.new ≡ put_mid at 8 windows.old (drop 24 hand.now) }
+{
+    windows[at..at + 8].copy_from_slice(&hand[24..]);
+}
