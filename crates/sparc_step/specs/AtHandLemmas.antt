@@ -159,8 +159,8 @@ word_at-put_at : (cwp : ℕ) (hand windows : List ℕ) (r value k : ℕ) → sli
 word_at-put_at cwp hand windows r value k zero_first small own ins = lies_or (own_place cwp) 16 k
     (λ low high. word_at-own cwp hand windows k low high ∙ sym (put_at-other hand r value _ zero_first small (own low high)) ∙ sym (word_at-own cwp (put_at hand r value) windows k low high))
     (λ apart. lies_or (ins_place cwp) 8 k
-        (λ low high. word_at-ins cwp hand windows k apart low high ∙ sym (put_at-other hand r value _ zero_first small (ins low high)) ∙ sym (word_at-ins cwp (put_at hand r value) windows k apart low high))
-        (λ apart_ins. word_at-other cwp hand windows k apart apart_ins ∙ sym (word_at-other cwp (put_at hand r value) windows k apart apart_ins)))
+    (λ low high. word_at-ins cwp hand windows k apart low high ∙ sym (put_at-other hand r value _ zero_first small (ins low high)) ∙ sym (word_at-ins cwp (put_at hand r value) windows k apart low high))
+    (λ apart_ins. word_at-other cwp hand windows k apart apart_ins ∙ sym (word_at-other cwp (put_at hand r value) windows k apart apart_ins)))
 
 -- registers with the same parts are the same
 gathered-same : (pc npc y icc cwp inv : ℕ) (hand windows globals words : List ℕ) → globals ≡ take 8 hand → words ≡ windows_with cwp hand windows → record { pc = pc; npc = npc; y = y; icc = icc; cwp = cwp; inv = inv; globals = globals; windows = words } ≡ gathered pc npc y icc cwp inv hand windows
@@ -254,15 +254,15 @@ written_back cwp hand windows own ins window counted whole own_is ins_is = sym (
     each : (k : ℕ) → k < 128 → word_at cwp hand windows k ≡ slice_index (put_mid (ins_place cwp) 8 once ins) k
     each k h = lies_or (own_place cwp) 16 k
         (λ low high. word_at-own cwp hand windows k low high
-            ∙ sym (get_or-put_mid_other once ins (ins_place cwp) 8 k eight (omega (arith, counted_once)) (own_apart low high)
-                ∙ get_or-put_mid windows own (own_place cwp) 16 k sixteen (omega arith) low high
-                ∙ own_word low high))
+        ∙ sym (get_or-put_mid_other once ins (ins_place cwp) 8 k eight (omega (arith, counted_once)) (own_apart low high)
+        ∙ get_or-put_mid windows own (own_place cwp) 16 k sixteen (omega arith) low high
+        ∙ own_word low high))
         (λ apart. lies_or (ins_place cwp) 8 k
-            (λ low high. word_at-ins cwp hand windows k apart low high
-                ∙ sym (get_or-put_mid once ins (ins_place cwp) 8 k eight (omega (arith, counted_once)) low high ∙ ins_word low high))
-            (λ apart_ins. word_at-other cwp hand windows k apart apart_ins
-                ∙ sym (get_or-put_mid_other once ins (ins_place cwp) 8 k eight (omega (arith, counted_once)) apart_ins
-                    ∙ get_or-put_mid_other windows own (own_place cwp) 16 k sixteen (omega arith) apart)))
+        (λ low high. word_at-ins cwp hand windows k apart low high
+        ∙ sym (get_or-put_mid once ins (ins_place cwp) 8 k eight (omega (arith, counted_once)) low high ∙ ins_word low high))
+        (λ apart_ins. word_at-other cwp hand windows k apart apart_ins
+        ∙ sym (get_or-put_mid_other once ins (ins_place cwp) 8 k eight (omega (arith, counted_once)) apart_ins
+        ∙ get_or-put_mid_other windows own (own_place cwp) 16 k sixteen (omega arith) apart)))
       where
         own_apart : own_place cwp ≤ k → k < own_place cwp + 16 → (k < ins_place cwp) ⊎ (ins_place cwp + 8 ≤ k)
         own_apart low high = ⊎_elim (λ here. inl here) (λ from. inr (omega arith)) (cases_lt k (ins_place cwp))
@@ -296,14 +296,14 @@ taken_to_hand cwp hand windows own ins window counted whole own_is ins_is = tabl
     each : (k : ℕ) → k < 128 → word_at cwp both windows k ≡ slice_index windows k
     each k h = lies_or (own_place cwp) 16 k
         (λ low high. word_at-own cwp both windows k low high
-            ∙ get_or-put_mid_other once ins 24 8 (k - own_place cwp + 8) eight (omega (arith, counted_once)) (inl (omega arith))
-            ∙ get_or-put_mid hand own 8 16 (k - own_place cwp + 8) sixteen (omega arith) (omega arith) (omega arith)
-            ∙ own_word low high)
+        ∙ get_or-put_mid_other once ins 24 8 (k - own_place cwp + 8) eight (omega (arith, counted_once)) (inl (omega arith))
+        ∙ get_or-put_mid hand own 8 16 (k - own_place cwp + 8) sixteen (omega arith) (omega arith) (omega arith)
+        ∙ own_word low high)
         (λ apart. lies_or (ins_place cwp) 8 k
-            (λ low high. word_at-ins cwp both windows k apart low high
-                ∙ get_or-put_mid once ins 24 8 (k - ins_place cwp + 24) eight (omega (arith, counted_once)) (omega arith) (omega arith)
-                ∙ ins_word low high)
-            (λ apart_ins. word_at-other cwp both windows k apart apart_ins))
+        (λ low high. word_at-ins cwp both windows k apart low high
+        ∙ get_or-put_mid once ins 24 8 (k - ins_place cwp + 24) eight (omega (arith, counted_once)) (omega arith) (omega arith)
+        ∙ ins_word low high)
+        (λ apart_ins. word_at-other cwp both windows k apart apart_ins))
       where
         own_word : own_place cwp ≤ k → k < own_place cwp + 16 → slice_index own (k - own_place cwp + 8 - 8) ≡ slice_index windows k
         own_word low high = ap (λ (xs : List ℕ). slice_index xs (k - own_place cwp + 8 - 8)) own_is ∙ get_or-part windows (own_place cwp) 16 (k - own_place cwp + 8 - 8) k (omega arith) (omega arith)
@@ -347,9 +347,9 @@ pub taken_in_two : (cwp from to : ℕ) (hand windows once twice : List ℕ) → 
 taken_in_two cwp from to hand windows once twice window counted whole from_is to_is once_is twice_is =
     ap (λ (xs : List ℕ). windows_with cwp xs windows)
     (twice_is
-        ∙ ap (λ (xs : List ℕ). put_mid 24 8 xs (take 8 (drop to windows))) once_is
-        ∙ ap (λ place. put_mid 24 8 (put_mid 8 16 hand (take 16 (drop from windows))) (take 8 (drop place windows))) to_is
-        ∙ ap (λ place. put_mid 24 8 (put_mid 8 16 hand (take 16 (drop place windows))) (take 8 (drop (ins_place cwp) windows))) from_is)
+    ∙ ap (λ (xs : List ℕ). put_mid 24 8 xs (take 8 (drop to windows))) once_is
+    ∙ ap (λ place. put_mid 24 8 (put_mid 8 16 hand (take 16 (drop from windows))) (take 8 (drop place windows))) to_is
+    ∙ ap (λ place. put_mid 24 8 (put_mid 8 16 hand (take 16 (drop place windows))) (take 8 (drop (ins_place cwp) windows))) from_is)
     ∙ taken_to_hand cwp hand windows (take 16 (drop (own_place cwp) windows)) (take 8 (drop (ins_place cwp) windows)) window counted whole refl refl
 
 -- the front of a list that was written is what was written

@@ -57,10 +57,12 @@ fn load<B: Bus>(core: &mut Processor, bus: &mut B, selector: u32, word: u32) -> 
     ensures others { B.others bus.new ≡ B.others bus.old }
 {
     let address = sum_of(core, word);
-    if selector == 0x00 {
-        load_value(core, bus, word, address, Size::Four)
-    } else if selector == 0x01 {
-        load_value(core, bus, word, address, Size::One)
+    if selector < 2 {
+        if selector == 0x00 {
+            load_value(core, bus, word, address, Size::Four)
+        } else {
+            load_value(core, bus, word, address, Size::One)
+        }
     } else if selector == 0x02 {
         load_value(core, bus, word, address, Size::Two)
     } else {
@@ -81,10 +83,12 @@ fn store<B: Bus>(core: &mut Processor, bus: &mut B, selector: u32, word: u32) ->
 {
     let address = sum_of(core, word);
     let value = u64::from(core.get(rd(word)));
-    if selector == 0x04 {
-        store_value(core, bus, address, Size::Four, value)
-    } else if selector == 0x05 {
-        store_value(core, bus, address, Size::One, value)
+    if selector < 6 {
+        if selector == 0x04 {
+            store_value(core, bus, address, Size::Four, value)
+        } else {
+            store_value(core, bus, address, Size::One, value)
+        }
     } else if selector == 0x06 {
         store_value(core, bus, address, Size::Two, value)
     } else {
@@ -94,7 +98,12 @@ fn store<B: Bus>(core: &mut Processor, bus: &mut B, selector: u32, word: u32) ->
 
 // The selectors 08 to 0f.
 #[tactic(auto, unfolding(sparc_code::specs::Decoded::memory_row))]
-fn load_signed_or_exchange<B: Bus>(core: &mut Processor, bus: &mut B, selector: u32, word: u32) -> Turn
+fn load_signed_or_exchange<B: Bus>(
+    core: &mut Processor,
+    bus: &mut B,
+    selector: u32,
+    word: u32,
+) -> Turn
     requires from { 8 ≤ selector }
     requires below { selector < 16 }
     ensures turn { result ≡ (executed (memory_row selector word) (B.areas bus.old) core.old (B.memory bus.old)).turn }
@@ -123,7 +132,13 @@ fn load_signed_or_exchange<B: Bus>(core: &mut Processor, bus: &mut B, selector: 
 }
 
 // Loads a value without a sign.
-fn load_value<B: Bus>(core: &mut Processor, bus: &mut B, word: u32, address: u32, size: Size) -> Turn
+fn load_value<B: Bus>(
+    core: &mut Processor,
+    bus: &mut B,
+    word: u32,
+    address: u32,
+    size: Size,
+) -> Turn
     ensures turn { result ≡ (loaded_into (loaded (B.areas bus.old) (B.memory bus.old) address size) low_word (rd word) core.old (B.memory bus.old)).turn }
     ensures core { core.new ≡ (loaded_into (loaded (B.areas bus.old) (B.memory bus.old) address size) low_word (rd word) core.old (B.memory bus.old)).core }
     ensures memory { B.memory bus.new ≡ (loaded_into (loaded (B.areas bus.old) (B.memory bus.old) address size) low_word (rd word) core.old (B.memory bus.old)).memory }
@@ -249,7 +264,13 @@ fn pair(core: &Processor, rd: u8) -> u64
 
 // Stores a value.
 #[tactic(auto, unfolding(crate::specs::Transfers::store_of))]
-fn store_value<B: Bus>(core: &mut Processor, bus: &mut B, address: u32, size: Size, value: u64) -> Turn
+fn store_value<B: Bus>(
+    core: &mut Processor,
+    bus: &mut B,
+    address: u32,
+    size: Size,
+    value: u64,
+) -> Turn
     ensures turn { result ≡ (store_of value address size (B.areas bus.old) core.old (B.memory bus.old)).turn }
     ensures core { core.new ≡ (store_of value address size (B.areas bus.old) core.old (B.memory bus.old)).core }
     ensures memory { B.memory bus.new ≡ (store_of value address size (B.areas bus.old) core.old (B.memory bus.old)).memory }
