@@ -71,8 +71,8 @@ memory_of-IsMemoryOf area bytes sized small = record { held = held; nothing = no
         above past = get-memory_of area.start bytes (q - area.start) q (omega arith) ∙ slice_get_past bytes (q - area.start) (omega arith)
 
 -- no areas have no memory
-pub empty-IsMemoryOf : IsMemoryOf [] empty
-empty-IsMemoryOf = record { held = λ address is. absurd (no_address address is); nothing = λ address is. get-empty nat_cmp address }
+pub no_memory : IsMemoryOf [] empty
+no_memory = record { held = λ address is. absurd (no_address address is); nothing = λ address is. get-empty nat_cmp address }
   where
     no_address : (address : ℕ) → is_readable [] address ≡ true → ⊥
     no_address address is = cc

@@ -5,3 +5,4 @@ pub mod Formats
 pub mod Conditions
 pub mod Execution
 pub mod Undone
+pub mod WindowTraps
