@@ -47,7 +47,8 @@ pub fn fill<B: Bus>(core: &mut Core, bus: &mut B) -> Result<(), StackFault>
     requires { (core.old.inv + 1) % 8 ≢ core.old.cwp }
     ensures answer { result ≡ (filled (B.areas bus.old) core.old (B.memory bus.old)).answer }
     ensures core { core.new ≡ (filled (B.areas bus.old) core.old (B.memory bus.old)).core }
-    ensures memory { B.memory bus.new ≡ B.memory bus.old }
+    ensures memory { B.memory bus.new ≡ (filled (B.areas bus.old) core.old (B.memory bus.old)).memory }
+    ensures untouched { B.memory bus.new ≡ B.memory bus.old }
     ensures fault { IsErr result ↔ IsFalse (is_usable (is_readable (B.areas bus.old)) (fill_address core.old)) }
     ensures unchanged { OnErr result (core.new ≡ core.old) }
     ensures areas { B.areas bus.new ≡ B.areas bus.old }
