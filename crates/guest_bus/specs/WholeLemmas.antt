@@ -1,16 +1,13 @@
 -- Lemmas on a memory whose map is what its areas say: what makes one, what keeps it so, and that to write what stands there changes nothing.
-use Rattle.std.specs.Prelude.{◌≡◌, ℕ, zero, suc, ◌+◌, ◌-◌, ◌^◌, ◌<◌, ◌≤◌, ◌≢◌, ◌⊎◌, Bool, true, false, ◌&&◌, ◌||◌, nat_le, nat_lt, List, [], ◌∷◌, ◌++◌, length, get_or, slice_get, Option, Some, None, unwrap_or, IsSomeAnd}
+use Rattle.std.specs.Prelude.{◌≡◌, ℕ, zero, suc, ◌+◌, ◌-◌, ◌^◌, ◌<◌, ◌≤◌, ◌≢◌, ◌⊎◌, true, false, List, [], ◌∷◌, length, get_or, Option, Some, None, unwrap_or, IsSomeAnd}
 use Rattle.std.proofs.Common.{refl, sym, ◌∙◌, ap, inl, inr, ⊎_elim, arith}
-use Rattle.std.specs.Int.{byte_len, from_be_bytes, to_be_bytes, w8, w16, w32, w64, bytes_high_first}
 use Rattle.std.specs.FinMap.{get, insert, empty, get-empty}
-use Rattle.std.specs.List.{list_any}
-use Rattle.std.proofs.lemmas.Bool.{cases_lt, cases_eq, and_parts, leb-true, ltb-true}
+use Rattle.std.proofs.lemmas.Bool.{cases_lt, cases_eq}
 use Rattle.std.proofs.lemmas.Bool.Decides.{nat_tests}
 use Rattle.std.proofs.lemmas.Option.{slice_get-get_or, slice_get_past}
 use Rattle.std.specs.Ordering.{nat_cmp}
-use Rattle.std.proofs.lemmas.Nat.{be_bytes_8}
-use Rattle.guest_bus.specs.Memory.{Area, Memory, covers, is_readable, is_writable, all_from, byte_at, bytes_at, with_bytes, memory_of}
-use Rattle.guest_bus.specs.MemoryLemmas.{all_from-each, get-insert_other, get-insert_same, get-memory_of, get-memory_of_below, covers-within, get-with_bytes_above, get-with_bytes_below, get-with_bytes_within, is_readable-one, same_memory, length-bytes_at}
+use Rattle.guest_bus.specs.Memory.{Area, Memory, covers, is_readable, all_from, byte_at, bytes_at, with_bytes, memory_of}
+use Rattle.guest_bus.specs.MemoryLemmas.{all_from-each, get-insert_other, get-insert_same, get-memory_of, get-memory_of_below, covers-within, get-with_bytes_above, get-with_bytes_below, get-with_bytes_within, is_readable-one, same_memory}
 use Rattle.guest_bus.specs.Whole.{HoldsByte, IsMemoryOf}
 
 -- the byte that stands there is the one that is read

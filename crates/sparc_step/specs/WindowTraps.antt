@@ -1,7 +1,6 @@
 -- The window traps: where they come, and that an instruction which met one is executed where its window may be entered.
-use Rattle.std.specs.Prelude.{◌≡◌, ◌≢◌, ℕ, ◌+◌, ◌*◌, ◌%◌, ◌≤◌, Bool, true, false, if◌then◌else◌, ◌==◌, List, Option, Some, None, Result, Ok, Err}
+use Rattle.std.specs.Prelude.{◌≡◌, ◌≢◌, ℕ, ◌+◌, ◌%◌, ◌≤◌, Bool, true, false, if◌then◌else◌, ◌==◌, List, Option, Some, None, Result, Ok, Err}
 use Rattle.std.proofs.Common.{refl, subst, arith}
-use Rattle.std.proofs.lemmas.Bool.Decides.{nat_tests}
 use Rattle.guest_bus.specs.Access.{fetched, loaded, store_fault}
 use Rattle.guest_bus.specs.Memory.{Area, Memory}
 use Rattle.guest_bus.specs.declared.bus.BusFault.{BusFault}
@@ -13,7 +12,6 @@ use Rattle.sparc_step.specs.Formats.{decoded}
 use Rattle.sparc_step.specs.Registers.{Registers}
 use Rattle.sparc_step.specs.declared.instruction.Instruction.{Instruction}
 use Rattle.sparc_step.specs.declared.instruction.Instruction.TheVariants as instruction
-use Rattle.sparc_step.specs.declared.instruction.Source.{Source}
 use Rattle.sparc_step.specs.declared.outcome.Turn.{Turn}
 use Rattle.sparc_step.specs.declared.outcome.Turn.TheVariants.{Went, Trap, Call}
 
