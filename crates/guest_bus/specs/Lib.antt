@@ -2,3 +2,5 @@ pub mod Access
 pub mod AccessLemmas
 pub mod Memory
 pub mod MemoryLemmas
+pub mod Whole
+pub mod WholeLemmas

@@ -216,7 +216,7 @@ covers-true : (area : Area) (q : ℕ) → area.start ≤ q → q < area.start + 
 covers-true area q over under = grind (arith, nat_tests)
 
 -- what it says that it holds it
-covers-within : (area : Area) (q : ℕ) → covers q area ≡ true → (area.start ≤ q) × (q < area.start + area.size)
+pub covers-within : (area : Area) (q : ℕ) → covers q area ≡ true → (area.start ≤ q) × (q < area.start + area.size)
 covers-within area q holds =
     let parts = and_parts (nat_le area.start q) (nat_lt q (area.start + area.size)) holds in
     (leb-true _ _ parts.0, ltb-true _ _ parts.1)

@@ -4,6 +4,7 @@ ghost use Rattle.std.specs.Prelude.{◌≡◌, ℕ, List, Ok};
 ghost use Rattle.std.specs.Int.{byte_len};
 ghost use Rattle.guest_bus.specs.Access.{Stores, after_store, fetched, loaded, store_fault, width_of};
 ghost use Rattle.guest_bus.specs.Memory.{Area, Memory, Others};
+ghost use Rattle.guest_bus.specs.Whole.{IsMemoryOf};
 
 /// Why an access was refused. It changed nothing.
 #[derive(Clone, Copy, Debug, PartialEq, Eq)]
@@ -42,7 +43,7 @@ pub trait Bus {
     /// The areas, which no call changes.
     ghost areas: { Self → List Area };
 
-    /// The bytes of the areas by their addresses.
+    /// The bytes of the areas by their addresses: one at each address of an area, and nothing elsewhere.
     ghost memory: { Self → Memory };
 
     /// The number of this guest, and the memories of all others, which no call changes.
@@ -53,19 +54,22 @@ pub trait Bus {
         ensures value { result ≡ fetched (areas self.old) (memory self.old) address }
         ensures memory { memory self.new ≡ memory self.old }
         ensures areas { areas self.new ≡ areas self.old }
-        ensures others { others self.new ≡ others self.old };
+        ensures others { others self.new ≡ others self.old }
+        ensures whole { IsMemoryOf (areas self.new) (memory self.new) };
 
     /// The big endian value at the address.
     fn load(&mut self, address: u32, size: Size) -> Result<u64, BusFault>
         ensures value { result ≡ loaded (areas self.old) (memory self.old) address size }
         ensures memory { memory self.new ≡ memory self.old }
         ensures areas { areas self.new ≡ areas self.old }
-        ensures others { others self.new ≡ others self.old };
+        ensures others { others self.new ≡ others self.old }
+        ensures whole { IsMemoryOf (areas self.new) (memory self.new) };
 
     /// Writes the low bytes of the value, as many as the size, in big endian order.
     fn store(&mut self, address: u32, size: Size, value: u64) -> Result<(), BusFault>
         ensures fault { Stores result (store_fault (areas self.old) address size) }
         ensures memory { memory self.new ≡ after_store (areas self.old) (memory self.old) address size value }
         ensures areas { areas self.new ≡ areas self.old }
-        ensures others { others self.new ≡ others self.old };
+        ensures others { others self.new ≡ others self.old }
+        ensures whole { IsMemoryOf (areas self.new) (memory self.new) };
 }

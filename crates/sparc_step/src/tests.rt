@@ -22,7 +22,7 @@ impl Bus for Nothing {
 
     ghost others = { λ _. (0, []) };
 
-    #[tactic(auto, unfolding(guest_bus::specs::Access::fetched))]
+    #[tactic(auto, using(guest_bus::specs::WholeLemmas::no_memory), unfolding(guest_bus::specs::Access::fetched))]
     fn fetch(&mut self, address: u32) -> Result<u32, BusFault> {
         if address % 4 == 0 {
             Err(BusFault::Outside)
@@ -31,7 +31,7 @@ impl Bus for Nothing {
         }
     }
 
-    #[tactic(auto, unfolding(guest_bus::specs::Access::loaded))]
+    #[tactic(auto, using(guest_bus::specs::WholeLemmas::no_memory), unfolding(guest_bus::specs::Access::loaded))]
     fn load(&mut self, address: u32, size: Size) -> Result<u64, BusFault> {
         if address % bytes_of(size) == 0 {
             Err(BusFault::Outside)
@@ -40,7 +40,7 @@ impl Bus for Nothing {
         }
     }
 
-    #[tactic(auto, unfolding(guest_bus::specs::Access::store_fault, guest_bus::specs::Access::after_store))]
+    #[tactic(auto, using(guest_bus::specs::WholeLemmas::no_memory), unfolding(guest_bus::specs::Access::store_fault, guest_bus::specs::Access::after_store))]
     fn store(&mut self, address: u32, size: Size, _value: u64) -> Result<(), BusFault> {
         if address % bytes_of(size) == 0 {
             Err(BusFault::Outside)

@@ -3,9 +3,11 @@ use borrow.Rule.Slice.PartMut.{put_mid}
 use Rattle.std.specs.Int.{byte_len}
 use Rattle.guest_bus.specs.Access.{access_fault, store_fault, width_of}
 use Rattle.guest_bus.specs.declared.bus.Size.{Size}
-use Rattle.std.proofs.Common.{◌≡◌, ℕ, length, ◌+◌, ◌<◌, ◌≤◌, List, true, false, refl, sym, arith}
+use Rattle.std.proofs.Common.{◌≡◌, ℕ, length, get_or, Fits, w8, ◌+◌, ◌<◌, ◌≤◌, List, true, false, refl, sym, arith}
 use Rattle.std.proofs.lemmas.List.{length-replicate}
 use Rattle.guest_bus.specs.Memory.{all_from, is_readable, is_writable, memory_of, with_bytes}
+use Rattle.guest_bus.specs.Whole.{IsMemoryOf}
+use Rattle.guest_bus.specs.WholeLemmas.{memory_of-IsMemoryOf}
 use Rattle.guest_bus.specs.MemoryLemmas.{all_readable, readable_within, with_bytes-put_mid, writable-readable}
 use Rattle.xm_machine.specs.Area.{bare_areas, zeros}
 use Rattle.xm_machine.specs.declared.area.TheConstants.{AREA_BYTES, AREA_START}
@@ -35,3 +37,8 @@ pub image_at_start : (start count : ℕ) (image : List ℕ) → length image ≤
 unfolding zeros
 image_at_start start count image fits =
     sym (with_bytes-put_mid start image (zeros count) 0 start (length image) (omega arith) refl (omega (arith, length-replicate {A = ℕ} count 0)))
+
+-- the area's bytes are its memory
+pub whole : (bytes : List ℕ) → length bytes ≡ AREA_BYTES → ((i : ℕ) → Fits w8 (get_or bytes i 0)) → IsMemoryOf bare_areas (memory_of AREA_START bytes)
+unfolding bare_areas
+whole bytes sized small = memory_of-IsMemoryOf (record { start = AREA_START; size = AREA_BYTES; read_only = false }) bytes sized (λ i. (small i).fits)

@@ -5,6 +5,7 @@ ghost use Rattle.std.specs.Int.{byte_len, from_be_bytes, to_be_bytes, w16, w32, 
 ghost use borrow.Rule.Slice.PartMut.{put_mid};
 ghost use Rattle.guest_bus.specs.Access.{Stores, after_store, fetched, loaded, store_fault, width_of};
 ghost use Rattle.guest_bus.specs.Memory.{all_from, bytes_at, is_readable, memory_of, with_bytes};
+ghost use Rattle.guest_bus.specs.Whole.{IsMemoryOf};
 ghost use Rattle.xm_machine.specs.Area.{Places, bare_areas, zeros};
 
 use guest_bus::{Bus, BusFault, Size};
@@ -141,7 +142,8 @@ fn accessed(address: u32, size: Size) -> Result<usize, BusFault>
 // The word that a fetch answers.
 fn fetch_word(bytes: &[u8], address: u32) -> Result<u32, BusFault>
     requires { length bytes.now ≡ AREA_BYTES }
-    ensures { result ≡ fetched bare_areas (memory_of AREA_START bytes.now) address }
+    ensures value { result ≡ fetched bare_areas (memory_of AREA_START bytes.now) address }
+    ensures whole { IsMemoryOf bare_areas (memory_of AREA_START bytes.now) }
 {
     match accessed(address, Size::Four) {
         Ok(at) => Ok(word(bytes, at)),
@@ -152,7 +154,8 @@ fn fetch_word(bytes: &[u8], address: u32) -> Result<u32, BusFault>
 // The value that a load answers.
 fn load_value(bytes: &[u8], address: u32, size: Size) -> Result<u64, BusFault>
     requires { length bytes.now ≡ AREA_BYTES }
-    ensures { result ≡ loaded bare_areas (memory_of AREA_START bytes.now) address size }
+    ensures value { result ≡ loaded bare_areas (memory_of AREA_START bytes.now) address size }
+    ensures whole { IsMemoryOf bare_areas (memory_of AREA_START bytes.now) }
 {
     match accessed(address, size) {
         Ok(at) => Ok(value_at(bytes, at, size)),
@@ -165,6 +168,7 @@ fn store_value(bytes: &mut [u8], address: u32, size: Size, value: u64) -> Result
     requires { length bytes.old ≡ AREA_BYTES }
     ensures fault { Stores result (store_fault bare_areas address size) }
     ensures memory { memory_of AREA_START bytes.new ≡ after_store bare_areas (memory_of AREA_START bytes.old) address size value }
+    ensures whole { IsMemoryOf bare_areas (memory_of AREA_START bytes.new) }
 {
     match accessed(address, size) {
         Ok(at) => {

@@ -1,0 +1,4 @@
+mod RangeLemmas
+mod AccessLemmas
+mod WindowLemmas
+mod SettledLemmas

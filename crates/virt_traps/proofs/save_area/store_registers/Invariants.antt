@@ -1,0 +1,11 @@
+use Rattle.std.proofs.Common.{◌≡◌, ◌+◌, ◌-◌, ◌*◌}
+use Rattle.guest_bus.specs.Memory.{with_bytes}
+use Rattle.virt_traps.specs.SaveArea.{bytes_of, registers_from, with_registers, words_at}
+use Rattle.virt_traps.proofs.save_area.store_registers.Given as goal
+
+abbrev pub invariant-loop-i : goal.invariant-loop-i
+invariant-loop-i g l = record {
+  left : with_bytes (g.B.Bus.memory l.bus) (l.fn.address + 8 * l.i) (bytes_of (registers_from l.windows l.window (16 + 2 * l.i) (2 * (l.fn.doubles - l.i)))) ≡ with_bytes (g.B.Bus.memory l.fn.bus) l.fn.address (bytes_of (registers_from l.windows l.window 16 (2 * l.fn.doubles)));
+  areas : g.B.Bus.areas l.bus ≡ g.B.Bus.areas l.fn.bus;
+  others : g.B.Bus.others l.bus ≡ g.B.Bus.others l.fn.bus;
+}

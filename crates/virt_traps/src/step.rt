@@ -1,0 +1,135 @@
+//! One instruction, with the spill or the fill that it needs.
+
+ghost use Rattle.std.specs.Prelude.{◌≡◌, ◌+◌, ◌%◌};
+ghost use Rattle.sparc_step.specs.Execution.{turned};
+ghost use Rattle.virt_traps.specs.Moves.{filled, spilled};
+ghost use Rattle.virt_traps.specs.Settled.{FailsAlone, GoesOn, IsUndoneButSpill, after_trap, made_again, settled};
+
+use crate::windows::{fill, spill};
+use guest_bus::Bus;
+use sparc_step::{Core, Processor, Turn, turn};
+
+// The trap of a SAVE whose window is the invalid one.
+const OVERFLOW: u8 = 5;
+
+// The trap of a RESTORE whose window is the invalid one.
+const UNDERFLOW: u8 = 6;
+
+/// Executes the instruction at `pc`. A window that it needs is spilled or filled before.
+pub fn settle<B: Bus>(core: &mut Core, bus: &mut B) -> Turn
+    ensures turn { result ≡ (settled (B.areas bus.old) core.old (B.memory bus.old)).turn }
+    ensures core { core.new ≡ (settled (B.areas bus.old) core.old (B.memory bus.old)).core }
+    ensures memory { B.memory bus.new ≡ (settled (B.areas bus.old) core.old (B.memory bus.old)).memory }
+    ensures failed { FailsAlone result (B.areas bus.old) core.old core.new (B.memory bus.old) (B.memory bus.new) }
+    ensures trapped { IsUndoneButSpill result (B.areas bus.old) core.old core.new (B.memory bus.old) (B.memory bus.new) }
+    ensures called { result ≡ Turn.Call → GoesOn core.old core.new }
+    ensures areas { B.areas bus.new ≡ B.areas bus.old }
+    ensures others { B.others bus.new ≡ B.others bus.old }
+{
+    let mut processor = Processor::of(core);
+    let turn = settle_at_hand(&mut processor, bus);
+    processor.give(core);
+    turn
+}
+
+/// The same on registers at hand.
+#[inline(always)]
+#[tactic(auto, unfolding(crate::specs::Settled::settled))]
+pub fn settle_at_hand<B: Bus>(processor: &mut Processor, bus: &mut B) -> Turn
+    ensures turn { result ≡ (settled (B.areas bus.old) processor.old (B.memory bus.old)).turn }
+    ensures core { processor.new ≡ (settled (B.areas bus.old) processor.old (B.memory bus.old)).core }
+    ensures memory { B.memory bus.new ≡ (settled (B.areas bus.old) processor.old (B.memory bus.old)).memory }
+    ensures failed { FailsAlone result (B.areas bus.old) processor.old processor.new (B.memory bus.old) (B.memory bus.new) }
+    ensures trapped { IsUndoneButSpill result (B.areas bus.old) processor.old processor.new (B.memory bus.old) (B.memory bus.new) }
+    ensures called { result ≡ Turn.Call → GoesOn processor.old processor.new }
+    ensures areas { B.areas bus.new ≡ B.areas bus.old }
+    ensures others { B.others bus.new ≡ B.others bus.old }
+{
+    match processor.turn(bus) {
+        Turn::Went => Turn::Went,
+        Turn::Trap(trap_type) => after_trap_at_hand(processor, bus, trap_type),
+        Turn::Call => Turn::Call,
+    }
+}
+
+// The step behind an instruction that trapped, on registers at hand.
+#[cold]
+#[inline(never)]
+fn after_trap_at_hand<B: Bus>(processor: &mut Processor, bus: &mut B, trap_type: u8) -> Turn
+    requires overflow { trap_type ≡ 5 → (processor.old.cwp + 7) % 8 ≡ processor.old.inv }
+    requires underflow { trap_type ≡ 6 → (processor.old.cwp + 1) % 8 ≡ processor.old.inv }
+    ensures turn { result ≡ (after_trap trap_type (B.areas bus.old) processor.old (B.memory bus.old)).turn }
+    ensures core { processor.new ≡ (after_trap trap_type (B.areas bus.old) processor.old (B.memory bus.old)).core }
+    ensures memory { B.memory bus.new ≡ (after_trap trap_type (B.areas bus.old) processor.old (B.memory bus.old)).memory }
+    ensures areas { B.areas bus.new ≡ B.areas bus.old }
+    ensures others { B.others bus.new ≡ B.others bus.old }
+{
+    let mut core = Core::start(0);
+    processor.give(&mut core);
+    let turn = after_trap(&mut core, bus, trap_type);
+    *processor = Processor::of(&core);
+    turn
+}
+
+// The step behind an instruction that trapped.
+#[tactic(auto, unfolding(crate::specs::Settled::after_trap))]
+fn after_trap<B: Bus>(core: &mut Core, bus: &mut B, trap_type: u8) -> Turn
+    requires overflow { trap_type ≡ 5 → (core.old.cwp + 7) % 8 ≡ core.old.inv }
+    requires underflow { trap_type ≡ 6 → (core.old.cwp + 1) % 8 ≡ core.old.inv }
+    ensures turn { result ≡ (after_trap trap_type (B.areas bus.old) core.old (B.memory bus.old)).turn }
+    ensures core { core.new ≡ (after_trap trap_type (B.areas bus.old) core.old (B.memory bus.old)).core }
+    ensures memory { B.memory bus.new ≡ (after_trap trap_type (B.areas bus.old) core.old (B.memory bus.old)).memory }
+    ensures areas { B.areas bus.new ≡ B.areas bus.old }
+    ensures others { B.others bus.new ≡ B.others bus.old }
+{
+    if trap_type == OVERFLOW {
+        after_overflow(core, bus)
+    } else if trap_type == UNDERFLOW {
+        after_underflow(core, bus)
+    } else {
+        Turn::Trap(trap_type)
+    }
+}
+
+// The step behind a SAVE that met the invalid window: the spill, and the instruction again.
+#[tactic(auto, unfolding(crate::specs::Settled::made_again))]
+fn after_overflow<B: Bus>(core: &mut Core, bus: &mut B) -> Turn
+    requires { (core.old.cwp + 7) % 8 ≡ core.old.inv }
+    ensures turn { result ≡ (made_again 5 (B.areas bus.old) (spilled (B.areas bus.old) core.old (B.memory bus.old))).turn }
+    ensures core { core.new ≡ (made_again 5 (B.areas bus.old) (spilled (B.areas bus.old) core.old (B.memory bus.old))).core }
+    ensures memory { B.memory bus.new ≡ (made_again 5 (B.areas bus.old) (spilled (B.areas bus.old) core.old (B.memory bus.old))).memory }
+    ensures areas { B.areas bus.new ≡ B.areas bus.old }
+    ensures others { B.others bus.new ≡ B.others bus.old }
+{
+    match spill(core, bus) {
+        Ok(()) => again(core, bus),
+        Err(_) => Turn::Trap(OVERFLOW),
+    }
+}
+
+// The step behind a RESTORE that met the invalid window: the fill, and the instruction again.
+#[tactic(auto, unfolding(crate::specs::Settled::made_again))]
+fn after_underflow<B: Bus>(core: &mut Core, bus: &mut B) -> Turn
+    requires { (core.old.cwp + 1) % 8 ≡ core.old.inv }
+    ensures turn { result ≡ (made_again 6 (B.areas bus.old) (filled (B.areas bus.old) core.old (B.memory bus.old))).turn }
+    ensures core { core.new ≡ (made_again 6 (B.areas bus.old) (filled (B.areas bus.old) core.old (B.memory bus.old))).core }
+    ensures memory { B.memory bus.new ≡ (made_again 6 (B.areas bus.old) (filled (B.areas bus.old) core.old (B.memory bus.old))).memory }
+    ensures areas { B.areas bus.new ≡ B.areas bus.old }
+    ensures others { B.others bus.new ≡ B.others bus.old }
+{
+    match fill(core, bus) {
+        Ok(()) => again(core, bus),
+        Err(_) => Turn::Trap(UNDERFLOW),
+    }
+}
+
+// The instruction again.
+fn again<B: Bus>(core: &mut Core, bus: &mut B) -> Turn
+    ensures turn { result ≡ (turned (B.areas bus.old) core.old (B.memory bus.old)).turn }
+    ensures core { core.new ≡ (turned (B.areas bus.old) core.old (B.memory bus.old)).core }
+    ensures memory { B.memory bus.new ≡ (turned (B.areas bus.old) core.old (B.memory bus.old)).memory }
+    ensures areas { B.areas bus.new ≡ B.areas bus.old }
+    ensures others { B.others bus.new ≡ B.others bus.old }
+{
+    turn(core, bus)
+}

@@ -1,0 +1,1 @@
+//! Windows that are spilled and filled.
