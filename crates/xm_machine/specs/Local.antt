@@ -2,9 +2,10 @@
 use Rattle.std.specs.Prelude.{ℕ, ◌+◌, ◌-◌, ◌^◌, ◌==◌, if◌then◌else◌, nat_lt, List, [], ◌∷◌, Option, Some, None}
 use Rattle.guest_bus.specs.Memory.{Area, all_from, is_readable, bytes_at}
 use Rattle.sparc_step.specs.Registers.{register_at, with_register}
-use Rattle.sparc_step.specs.Execution.{Turned, turned}
+use Rattle.sparc_step.specs.Execution.{Turned}
 use Rattle.sparc_step.specs.declared.outcome.Turn.{Turn}
 use Rattle.sparc_step.specs.declared.outcome.Turn.TheVariants.{Went, Trap, Call}
+use Rattle.virt_traps.specs.Settled.{settled}
 use Rattle.xm_base.specs.declared.partition.State.{State}
 use Rattle.xm_base.specs.declared.partition.State.TheVariants.{Ready, Idle, Suspended, Halted}
 use Rattle.xm_base.specs.declared.limits.TheConstants.{CONSOLE_BYTES}
@@ -85,7 +86,7 @@ with_turned t ps = record ps { core = t.core; memory = t.memory }
 -- one tick of partition p in tick n: an instruction, or a hypercall; `None` where it is not built
 unfoldable pub local_tick : ℕ → ℕ → List Area → PartitionState → Option Local
 local_tick n p areas ps =
-    let t = turned areas ps.core ps.memory in
+    let t = settled areas ps.core ps.memory in
     counted_on_clock (after_turn t.turn n p areas (with_turned t ps))
 
 -- the turn of partition p, in this state, in tick n: it runs where it is ready

@@ -11,9 +11,10 @@ ghost use Rattle.xm_report.specs.Report.{IsShort, line_of};
 
 use crate::area::{AREA_BYTES, AREA_START, AreaMemory};
 use crate::note::Note;
-use sparc_step::{Core, Turn, turn};
+use sparc_step::{Core, Processor, Turn};
 use std::alloc::Global;
 use std::marker::Model;
+use virt_traps::settle_at_hand;
 use xm_base::{CONSOLE_BYTES, Memory, PartId, State};
 use xm_report::{Line, Move};
 
@@ -34,7 +35,7 @@ const NO_PERMISSION: u32 = 0xffff_fffc;
 /// A partition as it runs.
 #[derive(Drop)]
 pub(crate) struct Partition {
-    core: Core,
+    core: Processor,
     memory: AreaMemory,
     state: State,
     resets: u32,
@@ -68,7 +69,7 @@ impl Partition {
     {
         let memory = AreaMemory::new(alloc, image)?;
         Ok(Partition {
-            core: Core::start(AREA_START),
+            core: Processor::of(&Core::start(AREA_START)),
             memory,
             state: State::Ready,
             resets: 0,
@@ -87,7 +88,7 @@ impl Partition {
     {
         match self.state {
             State::Ready => {
-                let pc = self.core.pc;
+                let pc = self.core.pc();
                 self.tick(id).ok_or(pc)
             }
             State::Idle | State::Suspended | State::Halted => Ok(Note::Nothing),
@@ -103,7 +104,7 @@ impl Partition {
         ensures counted { OnSome result (self.new.execution_clock ≡ self.old.execution_clock + 1) }
         ensures uncounted { IfNone result (self.new.execution_clock ≡ self.old.execution_clock) }
     {
-        let note = match turn(&mut self.core, &mut self.memory) {
+        let note = match settle_at_hand(&mut self.core, &mut self.memory) {
             Turn::Went => Note::Nothing,
             Turn::Trap(_) => return None,
             Turn::Call => self.serve(id)?,
@@ -192,7 +193,7 @@ impl Partition {
             state: self.state,
             resets: self.resets,
             exec: self.execution_clock,
-            pc: self.core.pc,
+            pc: self.core.pc(),
         }
     }
 }
