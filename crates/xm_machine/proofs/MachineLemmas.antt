@@ -4,7 +4,7 @@ use Rattle.guest_bus.specs.Memory.{Area}
 use Rattle.xm_machine.specs.Area.{bare_areas}
 use Rattle.xm_machine.specs.Local.{Local, part_turn}
 use Rattle.xm_report.specs.Report.{ReportLine}
-use Rattle.xm_machine.specs.Machine.{IsMachine, lines_at, lines_by}
+use Rattle.xm_machine.specs.Machine.{lines_at, lines_by}
 use Rattle.xm_machine.specs.Note.{lines_of}
 use Rattle.xm_machine.specs.State.{PartitionState, MachineState}
 use Rattle.xm_machine.specs.Step.{Stepped, Unbuilt, step, step_of, step_by, passed, with_part}
@@ -46,24 +46,24 @@ step-counts g h lines running is =
     at None other done = counts (passed g) refl refl (cc)
 
 -- the step is its one partition's turn
-pub step-turn : (g : MachineState) (ps : PartitionState) → IsMachine g → g.halted ≡ false → ps ≡ get_or g.parts 0 ps → step g ≡ step_by g 0 ps.core.pc (part_turn g.ticks 0 bare_areas ps)
-step-turn g ps is running at = step-runs g running ∙ step_of_one g g.system.partitions g.parts ps is.areas is.parts at
+pub step-turn : (g : MachineState) (ps : PartitionState) → map (λ entry. entry.areas) g.system.partitions ≡ bare_areas ∷ [] → length g.parts ≡ 1 → g.halted ≡ false → ps ≡ get_or g.parts 0 ps → step g ≡ step_by g 0 ps.core.pc (part_turn g.ticks 0 bare_areas ps)
+step-turn g ps areas one running at = step-runs g running ∙ step_of_one g g.system.partitions g.parts ps areas one at
 
 -- the state after a turn
 abbrev pub after_turn : MachineState → PartitionState → MachineState
 after_turn g new = passed (with_part g 0 new)
 
 -- the step of a turn that was done: its lines are those of the new state's partition
-pub step-done : (g : MachineState) (ps new : PartitionState) (note : Note) → IsMachine g → g.halted ≡ false → ps ≡ get_or g.parts 0 ps → ((n : ℕ) → part_turn n 0 bare_areas ps ≡ Some (record { after = new; said = lines_of note n 0 new })) → step g ≡ Stepped (after_turn g new) (lines_at note g.ticks 0 (after_turn g new))
-step-done g ps new note is running at done =
-    step-turn g ps is running at ∙ ap (λ (l : Option Local). step_by g 0 ps.core.pc l) (done g.ticks)
-    ∙ ap (λ (lines : List ReportLine). Stepped (after_turn g new) lines) (said g.parts is.parts)
+pub step-done : (g : MachineState) (ps new : PartitionState) (note : Note) → map (λ entry. entry.areas) g.system.partitions ≡ bare_areas ∷ [] → length g.parts ≡ 1 → g.halted ≡ false → ps ≡ get_or g.parts 0 ps → ((n : ℕ) → part_turn n 0 bare_areas ps ≡ Some (record { after = new; said = lines_of note n 0 new })) → step g ≡ Stepped (after_turn g new) (lines_at note g.ticks 0 (after_turn g new))
+step-done g ps new note areas one running at done =
+    step-turn g ps areas one running at ∙ ap (λ (l : Option Local). step_by g 0 ps.core.pc l) (done g.ticks)
+    ∙ ap (λ (lines : List ReportLine). Stepped (after_turn g new) lines) (said g.parts one)
   where
     said : (parts : List PartitionState) → length parts ≡ 1 → lines_of note g.ticks 0 new ≡ lines_by note g.ticks 0 (slice_get (set parts 0 new) 0)
     said [] one = absurd (cc)
     said (first ∷ parts) one = refl
 
 -- the step of a turn that is not built
-pub step-unbuilt : (g : MachineState) (ps : PartitionState) → IsMachine g → g.halted ≡ false → ps ≡ get_or g.parts 0 ps → ((n : ℕ) → part_turn n 0 bare_areas ps ≡ None) → step g ≡ Unbuilt 0 ps.core.pc
-step-unbuilt g ps is running at unbuilt =
-    step-turn g ps is running at ∙ ap (λ (l : Option Local). step_by g 0 ps.core.pc l) (unbuilt g.ticks)
+pub step-unbuilt : (g : MachineState) (ps : PartitionState) → map (λ entry. entry.areas) g.system.partitions ≡ bare_areas ∷ [] → length g.parts ≡ 1 → g.halted ≡ false → ps ≡ get_or g.parts 0 ps → ((n : ℕ) → part_turn n 0 bare_areas ps ≡ None) → step g ≡ Unbuilt 0 ps.core.pc
+step-unbuilt g ps areas one running at unbuilt =
+    step-turn g ps areas one running at ∙ ap (λ (l : Option Local). step_by g 0 ps.core.pc l) (unbuilt g.ticks)

@@ -4,6 +4,7 @@ pub mod Local
 pub mod Machine
 pub mod Note
 pub mod Outcome
+pub mod Quiet
 pub mod State
 pub mod Step
 pub mod System

@@ -4,12 +4,13 @@ ghost use Rattle.std.specs.Prelude.{◌≡◌, ◌+◌, ◌<◌, ◌≤◌, fals
 ghost use Rattle.xm_machine.specs.Machine.{Puts, RunsTicks, TakesTurn, Tells, lines_at};
 ghost use Rattle.xm_machine.specs.Note.{CanBeTold};
 ghost use Rattle.xm_machine.specs.Outcome.{CountsLines, HasRunCause, IsRun, IsTick};
+ghost use Rattle.xm_machine.specs.Quiet.{TakesTurns, ticks_done};
 ghost use Rattle.xm_machine.specs.State.{booted};
 ghost use Rattle.xm_machine.specs.Step.{end_lines, first_line, last_line, step};
 ghost use Rattle.xm_report.specs.Report.{IsShort, line_of};
 
 use crate::board::Board;
-use crate::note::Note;
+use crate::note::{Note, Turns};
 use crate::partition::Partition;
 use crate::run::{Ran, RunFault};
 use crate::system::System;
@@ -154,10 +155,22 @@ impl Machine {
         ensures turn { TakesTurn result (step self.old.state) self.old.state self.new.state }
         ensures ticks { self.new.state.ticks ≤ self.old.state.ticks + 1 }
     {
-        let note = self.parts[usize::from(TURN)].turn(TURN)?;
-        self.time += 1;
-        self.ticks += 1;
-        Ok(note)
+        self.take_turns(1).last
+    }
+
+    // The work of ticks, at most so many: those of which there is nothing to tell, and the one after them.
+    fn take_turns(&mut self, most: u64) -> Turns
+        requires running { self.old.state.halted ≡ false }
+        requires some { 0 < most }
+        requires most { self.old.state.ticks + most ≤ TICKS }
+        ensures turns { TakesTurns result.quiet result.last self.old.state self.new.state }
+        ensures few { result.quiet < most }
+        ensures ticks { self.new.state.ticks ≡ self.old.state.ticks + ticks_done result.quiet result.last }
+    {
+        let turns = self.parts[usize::from(TURN)].turns(TURN, most);
+        self.time += turns.done();
+        self.ticks += turns.done();
+        turns
     }
 
     // Puts the line of a note out, and tells how many lines that was.
@@ -188,14 +201,24 @@ impl Machine {
 
     // So many ticks, and how many lines they said.
     fn run_ticks<O: Sink>(&mut self, ticks: u64, out: &mut O) -> Result<u64, RunFault>
+        requires running { self.old.state.halted ≡ false }
         requires most { self.old.state.ticks + ticks ≤ TICKS }
         ensures run { RunsTicks result ticks self.old.state self.new.state (O.got out.old) (O.got out.new) }
         ensures few { IfOk result (λ said. said ≤ ticks) }
         ensures cause { HasRunCause result (O.faults out.old) (O.faults out.new) }
     {
         let mut said = 0;
-        for _ in 0..ticks {
-            said += self.step(out)?;
+        let mut done = 0;
+        while done < ticks {
+            let n = self.done();
+            let turns = self.take_turns(ticks - done);
+            match turns.last {
+                Ok(note) => {
+                    said += self.tell(n + turns.quiet, note, out)?;
+                    done += turns.quiet + 1;
+                }
+                Err(pc) => return Err(RunFault::NotBuilt { part: TURN, pc }),
+            }
         }
         Ok(said)
     }

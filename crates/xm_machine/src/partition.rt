@@ -2,15 +2,16 @@
 
 ghost use Rattle.std.specs.Prelude.{◌≡◌, ◌+◌, ◌^◌, ◌<◌, ◌≤◌, IfNone, IfOk, IfSome, OnErr, OnSome, length};
 ghost use Rattle.xm_machine.specs.Area.{bare_areas};
-ghost use Rattle.xm_machine.specs.Local.{halt_partition, local_tick, part_turn, served, write_console};
-ghost use Rattle.xm_machine.specs.Note.{CanBeTold, IsLocal, IsTurn, Works, lines_in, lines_of};
+ghost use Rattle.xm_machine.specs.Local.{halt_partition, served, write_console};
+ghost use Rattle.xm_machine.specs.Note.{CanBeTold, IsLocal, Works, lines_in, lines_of};
+ghost use Rattle.xm_machine.specs.Quiet.{AreTurns, IsCall, IsGone, stepped, ticks_done};
 ghost use Rattle.xm_machine.specs.State.{booted_partition};
 ghost use Rattle.xm_machine.specs.Step.{end_line};
 ghost use Rattle.xm_machine.specs.System.{bare_entry};
 ghost use Rattle.xm_report.specs.Report.{IsShort, line_of};
 
 use crate::area::{AREA_BYTES, AREA_START, AreaMemory};
-use crate::note::Note;
+use crate::note::{Note, Turns};
 use sparc_step::{Core, Processor, Turn};
 use std::alloc::Global;
 use std::marker::Model;
@@ -60,6 +61,51 @@ impl Model for Partition {
     } };
 }
 
+// What steps came to that were to be so many.
+#[derive(Drop)]
+struct Gone {
+    // How many went.
+    went: u64,
+    // What the one after them came to, where there was one.
+    turn: Turn,
+    // The program counter behind those that went.
+    pc: u32,
+}
+
+// Steps, at most so many, up to the first that does more than go.
+fn go(core: &mut Processor, memory: &mut AreaMemory, most: u64) -> Gone
+    ensures went { (stepped result.went bare_areas core.old memory.old).turn ≡ Turn.Went }
+    ensures gone { IsGone result.turn result.went most bare_areas (stepped result.went bare_areas core.old memory.old) core.new memory.new }
+    ensures at { result.pc ≡ (stepped result.went bare_areas core.old memory.old).core.pc }
+{
+    let mut went = 0;
+    while went < most {
+        let pc = core.pc();
+        match settle_at_hand(core, memory) {
+            Turn::Went => went += 1,
+            Turn::Trap(trap_type) => {
+                return Gone {
+                    went,
+                    turn: Turn::Trap(trap_type),
+                    pc,
+                };
+            }
+            Turn::Call => {
+                return Gone {
+                    went,
+                    turn: Turn::Call,
+                    pc,
+                };
+            }
+        }
+    }
+    Gone {
+        went,
+        turn: Turn::Went,
+        pc: core.pc(),
+    }
+}
+
 impl Partition {
     /// The partition of a raw image as it boots.
     #[tactic(auto, unfolding(crate::specs::State::booted_partition))]
@@ -77,38 +123,63 @@ impl Partition {
         })
     }
 
-    /// Its turn: it runs where it is ready. Where the tick is not built, the answer is the program
-    /// counter before it, and nothing is said of the partition but its clock.
-    pub(crate) fn turn(&mut self, id: PartId) -> Result<Note, u32>
-        requires { self.old.execution_clock + 1 < 2 ^ 64 }
-        ensures turn { IsTurn result self.old self.new (λ n. part_turn n id bare_areas self.old) id }
-        ensures told { IfOk result CanBeTold }
-        ensures clock { self.new.execution_clock ≤ self.old.execution_clock + 1 }
-        ensures uncounted { OnErr result (self.new.execution_clock ≡ self.old.execution_clock) }
+    /// Its ticks, at most so many: those of which there is nothing to tell, and the one after them.
+    /// It runs where it is ready. After a tick that is not built nothing is said of the partition but
+    /// its clock.
+    pub(crate) fn turns(&mut self, id: PartId, most: u64) -> Turns
+        requires some { 0 < most }
+        requires clock { self.old.execution_clock + most < 2 ^ 64 }
+        ensures turns { AreTurns result.quiet result.last id self.old self.new }
+        ensures few { result.quiet < most }
+        ensures told { IfOk result.last CanBeTold }
+        ensures clock { self.new.execution_clock ≤ self.old.execution_clock + ticks_done result.quiet result.last }
     {
         match self.state {
-            State::Ready => {
-                let pc = self.core.pc();
-                self.tick(id).ok_or(pc)
-            }
-            State::Idle | State::Suspended | State::Halted => Ok(Note::Nothing),
+            State::Ready => self.run(id, most),
+            State::Idle | State::Suspended | State::Halted => Turns {
+                quiet: most - 1,
+                last: Ok(Note::Nothing),
+            },
         }
     }
 
-    // One tick: an instruction, or a hypercall; `None` where it is not built.
-    #[tactic(auto, unfolding(crate::specs::Local::local_tick))]
-    fn tick(&mut self, id: PartId) -> Option<Note>
+    // The ticks of a partition that is ready.
+    fn run(&mut self, id: PartId, most: u64) -> Turns
+        requires ready { self.old.state ≡ State.Ready }
+        requires some { 0 < most }
+        requires clock { self.old.execution_clock + most < 2 ^ 64 }
+        ensures turns { AreTurns result.quiet result.last id self.old self.new }
+        ensures few { result.quiet < most }
+        ensures told { IfOk result.last CanBeTold }
+        ensures clock { self.new.execution_clock ≤ self.old.execution_clock + ticks_done result.quiet result.last }
+    {
+        let gone = go(&mut self.core, &mut self.memory, most);
+        self.execution_clock += gone.went;
+        match gone.turn {
+            Turn::Went => Turns {
+                quiet: gone.went - 1,
+                last: Ok(Note::Nothing),
+            },
+            Turn::Trap(_) => Turns {
+                quiet: gone.went,
+                last: Err(gone.pc),
+            },
+            Turn::Call => Turns {
+                quiet: gone.went,
+                last: self.call(id).ok_or(gone.pc),
+            },
+        }
+    }
+
+    // The rest of a tick whose step called; `None` where it is not built.
+    fn call(&mut self, id: PartId) -> Option<Note>
         requires { self.old.execution_clock + 1 < 2 ^ 64 }
-        ensures work { IsLocal result self.new (λ n. local_tick n id bare_areas self.old) id }
+        ensures work { IsCall result self.old self.new id }
         ensures told { IfSome result CanBeTold }
-        ensures counted { OnSome result (self.new.execution_clock ≡ self.old.execution_clock + 1) }
+        ensures clock { OnSome result (self.new.execution_clock ≡ self.old.execution_clock + 1) }
         ensures uncounted { IfNone result (self.new.execution_clock ≡ self.old.execution_clock) }
     {
-        let note = match settle_at_hand(&mut self.core, &mut self.memory) {
-            Turn::Went => Note::Nothing,
-            Turn::Trap(_) => return None,
-            Turn::Call => self.serve(id)?,
-        };
+        let note = self.serve(id)?;
         self.execution_clock += 1;
         Some(note)
     }

@@ -1,24 +1,36 @@
-use Rattle.std.proofs.Common.{◌≤◌, ◌∙◌, arith, add-one}
+use Rattle.std.proofs.Common.{ℕ, slice_get, ◌≡◌, ◌+◌, ◌<◌, ◌≤◌, ◌∙◌, ap, arith}
 use Rattle.std.proofs.lemmas.Result.{err_from_is_err_and}
-use Rattle.xm_machine.proofs.RunLemmas.{goes_on, goes_wrong, counts_few}
-use Rattle.xm_machine.specs.Step.{step}
+use Rattle.xm_machine.proofs.QuietLemmas.{lines_few, turns_cut, turns_go, turns_running, turns_stuck}
+use Rattle.xm_machine.specs.Quiet.{ticks_done}
 use Rattle.xm_machine.proofs.machine.Machine.run_ticks.Goals as goal
 
-pub returns-in_err-said-clause-run : goal.returns-in_err-said-clause-run
-returns-in_err-said-clause-run g c =
+pub returns-in_err-said-in-Ok-clause-run : goal.returns-in_err-said-in-Ok-clause-run
+returns-in_err-said-in-Ok-clause-run g c =
     let p = err_from_is_err_and c.from_residual.result c.from_residual.ensures.1 in
-    rw (p.1, p.2) (goes_wrong _ c.args.self.now.state c.loop.counter c.loop.said c.args.ticks c.loop.self.state c.step.new.self.state
-    (g.O.Sink.got c.args.out.now) (g.O.Sink.got c.loop.out) (g.O.Sink.got c.step.new.out)
-    c.loop.invariant.goes c.loop-test.true c.in_err-said.ensures.step)
+    let turns = rw c.in-Ok.is at c.take_turns-turns.ensures.turns in
+    rw (p.1, p.2) (turns_cut _ c.args.self.now.state c.loop-done.done c.loop-done.said c.args.ticks c.take_turns-turns.result.quiet _ c.in-Ok.note
+        c.loop-done.self.state c.take_turns-turns.new.self.state (g.O.Sink.got c.args.out.now) (g.O.Sink.got c.loop-done.out) (g.O.Sink.got c.tell.new.out)
+        c.loop-done.invariant.goes turns (ap (λ (n : ℕ). n + c.take_turns-turns.result.quiet) c.done-n.ensures.done) (omega (arith, c.take_turns-turns.ensures.few, c.loop-done-test.true)) c.in_err-said-in-Ok.ensures.told)
 
-pub loop-preserved : goal.loop-preserved
-loop-preserved g c =
-    let few : c.in_ok-said.field-0 ≤ 1 = counts_few c.in_ok-said.field-0 (step c.loop.self.state) c.in_ok-said.ensures.count in
+pub loop-done-preserved : goal.loop-done-preserved
+loop-done-preserved g c =
+    let turns = rw c.in-Ok.is at c.take_turns-turns.ensures.turns in
+    let ticks = rw c.in-Ok.is at c.take_turns-turns.ensures.ticks in
+    let goes = turns_go c.args.self.now.state c.loop-done.done c.loop-done.said c.in_ok-said-in-Ok.field-0 c.take_turns-turns.result.quiet _ c.in-Ok.note
+        c.loop-done.self.state c.take_turns-turns.new.self.state (g.O.Sink.got c.args.out.now) (g.O.Sink.got c.loop-done.out) (g.O.Sink.got c.tell.new.out)
+        c.loop-done.invariant.goes turns (ap (λ (n : ℕ). n + c.take_turns-turns.result.quiet) c.done-n.ensures.done) c.in_ok-said-in-Ok.ensures.told in
     record {
-      goes = rw add-one (goes_on c.args.self.now.state c.loop.counter c.loop.said c.in_ok-said.field-0 c.loop.self.state c.step.new.self.state
-          (g.O.Sink.got c.args.out.now) (g.O.Sink.got c.loop.out) (g.O.Sink.got c.step.new.out)
-          c.loop.invariant.goes c.in_ok-said.ensures.step c.in_ok-said.ensures.count);
-      few = omega arith;
-      ticks = omega (arith, c.in_ok-said.ensures.ticks);
-      faults = c.in_ok-said.ensures.cause ∙ c.loop.invariant.faults;
+      goes = goes;
+      running = turns_running c.take_turns-turns.result.quiet c.in-Ok.note _ _ c.loop-done.invariant.running turns;
+      few = omega (arith, c.loop-done.invariant.few, c.in_ok-said-in-Ok.ensures.told.0, lines_few c.in-Ok.note (c.done-n.result + c.take_turns-turns.result.quiet) 0 (slice_get c.take_turns-turns.new.self.state.parts 0));
+      within = omega (arith, c.take_turns-turns.ensures.few, c.loop-done-test.true);
+      ticks = omega (arith, ticks, c.loop-done.invariant.ticks);
+      faults = c.in_ok-said-in-Ok.ensures.cause ∙ c.loop-done.invariant.faults;
     }
+
+pub returns-in-Err-clause-run : goal.returns-in-Err-clause-run
+returns-in-Err-clause-run g c =
+    let turns = rw c.in-Err.is at c.take_turns-turns.ensures.turns in
+    turns_stuck c.args.self.now.state c.loop-done.done c.loop-done.said c.args.ticks c.take_turns-turns.result.quiet c.in-Err.pc
+    c.loop-done.self.state c.take_turns-turns.new.self.state (g.O.Sink.got c.args.out.now) (g.O.Sink.got c.loop-done.out)
+    c.loop-done.invariant.goes turns (omega (arith, c.take_turns-turns.ensures.few, c.loop-done-test.true))
