@@ -199,7 +199,10 @@ fn values(seventh: u32, third: u32) -> [u32; 128] {
 }
 
 // Registers whose spill stores window 7, and whose fill loads window 0 from the stack pointer of window 3.
-fn numbered(seventh: u32, third: u32) -> Core {
+fn numbered(seventh: u32, third: u32) -> Core
+    ensures current { result.cwp ≡ 2 }
+    ensures invalid { result.inv ≡ 0 }
+{
     let windows = values(seventh, third);
     let mut core = Core::start(START);
     core.windows = windows;
