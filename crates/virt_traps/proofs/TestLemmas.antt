@@ -1,9 +1,9 @@
 -- What the stack of the tests allows, and its memory.
-use Rattle.std.proofs.Common.{◌≡◌, ℕ, length, get_or, Fits, w8, ◌+◌, ◌<◌, ◌≤◌, List, Bool, true, false, zero, suc, refl, sym, ◌∙◌, ap, arith}
-use Rattle.std.specs.Prelude.{◌&&◌, ◌||◌, not, Some, None, ◌%◌, ◌==◌, if◌then◌else◌}
+use Rattle.std.proofs.Common.{◌≡◌, ℕ, length, get_or, Fits, w8, ◌+◌, ◌<◌, ◌≤◌, List, Bool, true, false, zero, suc, refl, ◌∙◌, arith}
+use Rattle.std.specs.Prelude.{◌&&◌, ◌||◌, Some, None, ◌%◌, ◌==◌, if◌then◌else◌}
 use Rattle.std.specs.Int.{byte_len}
 use Rattle.guest_bus.specs.Access.{access_fault, store_fault, width_of}
-use Rattle.guest_bus.specs.Memory.{Area, all_from, covers, is_readable, is_writable, memory_of}
+use Rattle.guest_bus.specs.Memory.{all_from, covers, is_readable, is_writable, memory_of}
 use Rattle.guest_bus.specs.MemoryLemmas.{all_readable, readable_within, writable-readable}
 use Rattle.guest_bus.specs.Whole.{IsMemoryOf}
 use Rattle.guest_bus.specs.WholeLemmas.{memory_of-IsMemoryOf}
