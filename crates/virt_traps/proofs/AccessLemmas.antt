@@ -1,20 +1,18 @@
 -- Loads and stores: where they are refused, and a store of what stands there.
-use Rattle.std.specs.Prelude.{◌≡◌, ℕ, ◌+◌, ◌%◌, ◌<◌, ◌≤◌, ◌==◌, Bool, true, false, not, if◌then◌else◌, List, length, get_or, Option, Some, None, Result, Ok, Err, is_ok, is_err}
-use Rattle.std.proofs.Common.{refl, sym, ◌∙◌, ap, arith}
+use Rattle.std.specs.Prelude.{◌≡◌, ℕ, ◌+◌, ◌%◌, ◌<◌, ◌≤◌, ◌==◌, Bool, true, false, not, if◌then◌else◌, List, Option, Some, None, Result, Ok, Err, is_ok, is_err}
+use Rattle.std.proofs.Common.{refl, sym, ◌∙◌, ap}
 use Rattle.std.specs.Int.{byte_len, from_be_bytes, to_be_bytes, w64}
-use Rattle.std.proofs.lemmas.Bool.Decides.{nat_tests}
 use Rattle.std.proofs.lemmas.Nat.{be_bytes_8}
-use Rattle.guest_bus.specs.Access.{Stores, access_fault, after_store, loaded, memory_unless_refused, store_fault, unless_refused, width_of}
-use Rattle.guest_bus.specs.Memory.{Area, Memory, all_from, bytes_at, is_readable, is_writable, with_bytes}
+use Rattle.guest_bus.specs.Access.{Stores, after_store, loaded, memory_unless_refused, store_fault, unless_refused, width_of}
+use Rattle.guest_bus.specs.Memory.{Area, Memory, bytes_at, is_readable, is_writable, with_bytes}
 use Rattle.guest_bus.specs.MemoryLemmas.{all_from-each, length-bytes_at}
 use Rattle.guest_bus.specs.Whole.{HoldsByte, IsMemoryOf}
 use Rattle.guest_bus.specs.WholeLemmas.{bytes_at-below, with_bytes-same}
 use Rattle.guest_bus.specs.declared.bus.BusFault.{BusFault}
-use Rattle.guest_bus.specs.declared.bus.BusFault.TheVariants.{Outside, Unaligned}
+use Rattle.guest_bus.specs.declared.bus.BusFault.TheVariants.{Outside}
 use Rattle.guest_bus.specs.declared.bus.Size.{Size}
 use Rattle.guest_bus.specs.declared.bus.Size.TheVariants.{Eight}
 use Rattle.virt_traps.specs.SaveArea.{allows}
-use Rattle.virt_traps.proofs.RangeLemmas.{none_writable}
 
 -- a value is answered only where all bytes are allowed
 answered_free : (passes : Bool) (value found : ℕ) → unless_refused (if passes then None else Some Outside) value ≡ Ok found → (passes ≡ true) × (value ≡ found)

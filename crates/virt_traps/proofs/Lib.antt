@@ -2,3 +2,4 @@ mod RangeLemmas
 mod AccessLemmas
 mod WindowLemmas
 mod SettledLemmas
+mod TestLemmas

@@ -1,5 +1,5 @@
 -- What a step with its spill or fill leaves, by cases on what its instruction came to.
-use Rattle.std.specs.Prelude.{◌≡◌, ◌≢◌, ◌⊎◌, ℕ, ◌+◌, ◌%◌, ◌^◌, Bool, true, false, if◌then◌else◌, ◌==◌, List, Result, Ok, Err, IsErr, IsOk, is_err, is_ok}
+use Rattle.std.specs.Prelude.{◌≡◌, ◌≢◌, ℕ, ◌+◌, ◌%◌, ◌^◌, Bool, true, false, if◌then◌else◌, ◌==◌, List, Result, Ok, Err, IsErr, IsOk, is_err, is_ok}
 use Rattle.std.proofs.Common.{refl, sym, ◌∙◌, ap, subst, inl, inr, arith}
 use Rattle.std.proofs.lemmas.Bool.Decides.{nat_tests}
 use Rattle.guest_bus.specs.Access.{fetched}
@@ -12,7 +12,7 @@ use Rattle.sparc_step.specs.declared.outcome.Turn.{Turn}
 use Rattle.sparc_step.specs.declared.outcome.Turn.TheVariants.{Went, Trap, Call}
 use Rattle.virt_traps.specs.Moves.{Moved, fill_address, filled, made, refused, spill_address, spill_window, spilled}
 use Rattle.virt_traps.specs.SaveArea.{is_usable}
-use Rattle.virt_traps.specs.Settled.{FailsAlone, GoesOn, IsUndoneButSpill, SpillStays, Unchanged, after_trap, again_or_trap, answered, made_again, settled}
+use Rattle.virt_traps.specs.Settled.{FailsAlone, GoesOn, IsUndoneButSpill, Unchanged, after_trap, again_or_trap, answered, made_again, settled}
 use Rattle.virt_traps.specs.declared.windows.StackFault.{StackFault}
 
 -- what a spill or a fill leaves as it was, and which window is the invalid one behind it

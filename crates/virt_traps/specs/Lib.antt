@@ -4,3 +4,4 @@ pub use Rattle.sparc_step.specs.Registers
 pub mod SaveArea
 pub mod Moves
 pub mod Settled
+pub mod TestStack

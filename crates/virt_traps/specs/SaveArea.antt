@@ -1,4 +1,4 @@
--- The registers of each window, and its save area: the 64 bytes at its stack pointer that hold its locals and ins (section 4.1.3 and appendix D of the SPARC V8 manual).
+-- The registers of each window, and its save area: the 64 bytes at its stack pointer that hold its locals and ins (section 4.1 and appendix D of the SPARC V8 manual).
 use Rattle.std.specs.Prelude.{ℕ, zero, suc, ◌+◌, ◌%◌, ◌^◌, Bool, ◌&&◌, nat_le, ◌==◌, List, [], ◌∷◌, ◌++◌, slice_index, slice_set}
 use Rattle.std.specs.Int.{from_be_bytes, to_be_bytes, w32}
 use Rattle.guest_bus.specs.Memory.{Memory, all_from, bytes_at}

@@ -14,7 +14,7 @@ const DOUBLES: u8 = 8;
 // The first register of a window that its save area holds.
 const FIRST: u8 = 16;
 
-// The last address at which a save area ends inside the address space.
+// The last address of a save area, which ends with the address space there.
 const LAST: u32 = 0xffff_ffc0;
 
 /// Whether a save area may be written at the address. Nothing changes.

@@ -1,1 +1,318 @@
-//! Windows that are spilled and filled.
+//! Windows that are spilled to a small stack, and filled from it.
+
+ghost use Rattle.std.specs.Prelude.{◌≡◌, ◌+◌, ◌<◌, ◌≤◌, ◌↔◌, Bool, IfSome, IsSome, IsTrue, length, take, drop, []};
+ghost use Rattle.std.specs.Int.{byte_len, from_be_bytes, to_be_bytes, w8, w16, w32, w64};
+ghost use borrow.Rule.Slice.PartMut.{put_mid};
+ghost use Rattle.guest_bus.specs.Access.{Stores, after_store, fetched, loaded, store_fault, width_of};
+ghost use Rattle.guest_bus.specs.Memory.{all_from, is_readable, memory_of};
+ghost use Rattle.guest_bus.specs.Whole.{IsMemoryOf};
+ghost use Rattle.virt_traps.specs.TestStack.{Places, stack_areas, stack_bytes, stack_start};
+
+use crate::{StackFault, fill, settle, spill};
+use guest_bus::{Bus, BusFault, Size};
+use sparc_step::{Core, Turn};
+
+// Where the stack begins.
+const START: u32 = 0x4000_0000;
+
+// How many bytes it has.
+const BYTES: u32 = 192;
+
+// One area of memory.
+#[derive(Drop)]
+struct Stack {
+    bytes: [u8; 192],
+    read_only: bool,
+}
+
+impl Bus for Stack {
+    ghost areas = { λ m. stack_areas m.read_only };
+
+    ghost memory = { λ m. memory_of stack_start m.bytes };
+
+    ghost others = { λ _. (0, []) };
+
+    #[tactic(auto, unfolding(crate::specs::TestStack::stack_bytes))]
+    fn fetch(&mut self, address: u32) -> Result<u32, BusFault> {
+        fetch_word(&self.bytes, self.read_only, address)
+    }
+
+    #[tactic(auto, unfolding(crate::specs::TestStack::stack_bytes))]
+    fn load(&mut self, address: u32, size: Size) -> Result<u64, BusFault> {
+        load_value(&self.bytes, self.read_only, address, size)
+    }
+
+    #[tactic(auto, unfolding(crate::specs::TestStack::stack_bytes))]
+    fn store(&mut self, address: u32, size: Size, value: u64) -> Result<(), BusFault> {
+        store_value(&mut self.bytes, self.read_only, address, size, value)
+    }
+}
+
+// Where so many bytes from an address on begin in the area, where all of them lie in it.
+#[tactic(auto, unfolding(crate::specs::TestStack::stack_start, crate::specs::TestStack::stack_bytes))]
+fn place(address: u32, count: u32, read_only: bool) -> Option<usize>
+    requires { 0 < count }
+    ensures allowed { IsSome result ↔ IsTrue (all_from (is_readable (stack_areas read_only)) address count) }
+    ensures within { IfSome result (λ at. (address ≡ stack_start + at) × (at + count ≤ stack_bytes)) }
+{
+    let at = address.wrapping_sub(START);
+    if count <= BYTES && at <= BYTES - count {
+        Some(at as usize)
+    } else {
+        None
+    }
+}
+
+// Where an access begins in the area, or why it is refused.
+fn accessed(address: u32, size: Size, read_only: bool) -> Result<usize, BusFault>
+    ensures { Places result address (byte_len (width_of size)) read_only }
+{
+    let count = size.bytes();
+    if address % count != 0 {
+        return Err(BusFault::Unaligned);
+    }
+    match place(address, count, read_only) {
+        Some(at) => Ok(at),
+        None => Err(BusFault::Outside),
+    }
+}
+
+// The word that a fetch answers.
+fn fetch_word(bytes: &[u8], read_only: bool, address: u32) -> Result<u32, BusFault>
+    requires { length bytes.now ≡ stack_bytes }
+    ensures value { result ≡ fetched (stack_areas read_only) (memory_of stack_start bytes.now) address }
+    ensures whole { IsMemoryOf (stack_areas read_only) (memory_of stack_start bytes.now) }
+{
+    match accessed(address, Size::Four, read_only) {
+        Ok(at) => Ok(word(bytes, at)),
+        Err(fault) => Err(fault),
+    }
+}
+
+// The value that a load answers.
+fn load_value(bytes: &[u8], read_only: bool, address: u32, size: Size) -> Result<u64, BusFault>
+    requires { length bytes.now ≡ stack_bytes }
+    ensures value { result ≡ loaded (stack_areas read_only) (memory_of stack_start bytes.now) address size }
+    ensures whole { IsMemoryOf (stack_areas read_only) (memory_of stack_start bytes.now) }
+{
+    match accessed(address, size, read_only) {
+        Ok(at) => Ok(value_at(bytes, at, size)),
+        Err(fault) => Err(fault),
+    }
+}
+
+// Stores a value where nothing refuses it.
+fn store_value(
+    bytes: &mut [u8],
+    read_only: bool,
+    address: u32,
+    size: Size,
+    value: u64,
+) -> Result<(), BusFault>
+    requires { length bytes.old ≡ stack_bytes }
+    ensures fault { Stores result (store_fault (stack_areas read_only) address size) }
+    ensures memory { memory_of stack_start bytes.new ≡ after_store (stack_areas read_only) (memory_of stack_start bytes.old) address size value }
+    ensures whole { IsMemoryOf (stack_areas read_only) (memory_of stack_start bytes.new) }
+{
+    match accessed(address, size, read_only) {
+        Ok(at) => {
+            if read_only {
+                Err(BusFault::Outside)
+            } else {
+                put_value(bytes, at, size, value);
+                Ok(())
+            }
+        },
+        Err(fault) => Err(fault),
+    }
+}
+
+// The big endian value of a size at a place.
+fn value_at(bytes: &[u8], at: usize, size: Size) -> u64
+    requires { at + byte_len (width_of size) ≤ length bytes.now }
+    ensures { result ≡ from_be_bytes (width_of size) (take (byte_len (width_of size)) (drop at bytes.now)) }
+{
+    match size {
+        Size::One => u64::from(bytes[at]),
+        Size::Two => u64::from(half(bytes, at)),
+        Size::Four => u64::from(word(bytes, at)),
+        Size::Eight => double(bytes, at),
+    }
+}
+
+// The big endian number of two bytes at a place.
+fn half(bytes: &[u8], at: usize) -> u16
+    requires { at + 2 ≤ length bytes.now }
+    ensures { result ≡ from_be_bytes w16 (take 2 (drop at bytes.now)) }
+{
+    let Ok(half) = <[u8; 2]>::try_from(&bytes[at..at + 2]) else {
+        unreachable!();
+    };
+    u16::from_be_bytes(half)
+}
+
+// The big endian number of four bytes at a place.
+fn word(bytes: &[u8], at: usize) -> u32
+    requires { at + 4 ≤ length bytes.now }
+    ensures { result ≡ from_be_bytes w32 (take 4 (drop at bytes.now)) }
+{
+    let Ok(word) = <[u8; 4]>::try_from(&bytes[at..at + 4]) else {
+        unreachable!();
+    };
+    u32::from_be_bytes(word)
+}
+
+// The big endian number of eight bytes at a place.
+fn double(bytes: &[u8], at: usize) -> u64
+    requires { at + 8 ≤ length bytes.now }
+    ensures { result ≡ from_be_bytes w64 (take 8 (drop at bytes.now)) }
+{
+    let Ok(double) = <[u8; 8]>::try_from(&bytes[at..at + 8]) else {
+        unreachable!();
+    };
+    u64::from_be_bytes(double)
+}
+
+// Puts the low bytes of a value at a place, the highest of them first.
+fn put_value(bytes: &mut [u8], at: usize, size: Size, value: u64)
+    requires { at + byte_len (width_of size) ≤ length bytes.old }
+    ensures { bytes.new ≡ put_mid at (byte_len (width_of size)) bytes.old (to_be_bytes (width_of size) value) }
+{
+    let value = value.to_be_bytes();
+    match size {
+        Size::One => bytes[at..at + 1].copy_from_slice(&value[7..]),
+        Size::Two => bytes[at..at + 2].copy_from_slice(&value[6..]),
+        Size::Four => bytes[at..at + 4].copy_from_slice(&value[4..]),
+        Size::Eight => bytes[at..at + 8].copy_from_slice(&value),
+    }
+}
+
+// The values of all windows, which differ but for two stack pointers: that of window 7, and that of window 3.
+fn values(seventh: u32, third: u32) -> [u32; 128] {
+    let mut windows = [0; 128];
+    for i in 0..128u8 {
+        windows[usize::from(i)] = 0x0101_0100 + u32::from(i);
+    }
+    windows[16 * 7 + 6] = seventh;
+    windows[16 * 3 + 6] = third;
+    windows
+}
+
+// Registers whose spill stores window 7, and whose fill loads window 0 from the stack pointer of window 3.
+fn numbered(seventh: u32, third: u32) -> Core
+    ensures current { result.cwp ≡ 2 }
+    ensures invalid { result.inv ≡ 0 }
+{
+    let windows = values(seventh, third);
+    let mut core = Core::start(START);
+    core.windows = windows;
+    core.inv = 0;
+    core.cwp = 2;
+    core
+}
+
+#[test]
+fn a_spill_stores_the_window_below_the_invalid_one(rt: HostRuntime) {
+    let mut core = numbered(START + 64, 0);
+    let mut stack = Stack {
+        bytes: [9; 192],
+        read_only: false,
+    };
+    assert_eq!(rt; spill(&mut core, &mut stack), Ok(()));
+    assert_eq!(rt; [core.cwp, core.inv], [2, 7]);
+    for (at, value) in [
+        (56, 0x0909_0909_0909_0909),
+        (64, 0x0101_0178_0101_0179),
+        (88, 0x0101_017e_0101_017f),
+        (96, 0x0101_0100_0101_0101),
+        (120, 0x0101_0106_0101_0107),
+        (128, 0x0909_0909_0909_0909),
+    ] {
+        assert_eq!(rt; stack.load(START + at, Size::Eight), Ok(value), "at {at}");
+    }
+}
+
+#[test]
+fn a_fill_loads_the_invalid_window(rt: HostRuntime) {
+    let mut core = numbered(0, START + 128);
+    let mut stack = Stack {
+        bytes: [0; 192],
+        read_only: true,
+    };
+    for i in 0..192u8 {
+        stack.bytes[usize::from(i)] = i;
+    }
+    assert_eq!(rt; fill(&mut core, &mut stack), Ok(()));
+    assert_eq!(rt; [core.cwp, core.inv], [2, 1]);
+    for (place, value) in [
+        (7, 0x0101_0107),
+        (8, 0x8081_8283),
+        (15, 0x9c9d_9e9f),
+        (16, 0xa0a1_a2a3),
+        (23, 0xbcbd_bebf),
+        (24, 0x0101_0118),
+    ] {
+        assert_eq!(rt; core.windows[place], value, "at {place}");
+    }
+}
+
+// Each row: the stack pointer, whether the stack may only be read, and what a spill and a fill come to.
+#[test]
+fn a_stack_that_may_not_be_used_changes_nothing(rt: HostRuntime) {
+    for (pointer, read_only, spilled, filled) in [
+        (START, false, Ok(()), Ok(())),
+        (START + 128, false, Ok(()), Ok(())),
+        (START, true, Err(StackFault), Ok(())),
+        (START + 4, false, Err(StackFault), Err(StackFault)),
+        (START + 136, false, Err(StackFault), Err(StackFault)),
+        (START + 184, false, Err(StackFault), Err(StackFault)),
+        (START - 8, false, Err(StackFault), Err(StackFault)),
+        (START - 56, false, Err(StackFault), Err(StackFault)),
+        (0, false, Err(StackFault), Err(StackFault)),
+        (0xffff_ffc0, false, Err(StackFault), Err(StackFault)),
+        (0xffff_ffc8, false, Err(StackFault), Err(StackFault)),
+        (0xffff_fff8, false, Err(StackFault), Err(StackFault)),
+    ] {
+        let mut core = numbered(pointer, pointer);
+        let mut stack = Stack {
+            bytes: [9; 192],
+            read_only,
+        };
+        assert_eq!(rt; spill(&mut core, &mut stack), spilled, "{pointer:x}");
+        if spilled.is_err() {
+            assert_eq!(rt; core.inv, 0, "{pointer:x}");
+            for byte in &stack.bytes {
+                assert_eq!(rt; *byte, 9, "{pointer:x}");
+            }
+        }
+        let mut core = numbered(pointer, pointer);
+        assert_eq!(rt; fill(&mut core, &mut stack), filled, "{pointer:x}");
+        if filled.is_err() {
+            assert_eq!(rt;
+                [u32::from(core.inv), core.windows[8], core.windows[16]],
+                [0, 0x0101_0108, 0x0101_0110],
+                "{pointer:x}"
+            );
+        }
+    }
+}
+
+// Each row: the word at pc, what the step comes to, and pc after it.
+#[test]
+fn a_step_without_a_window_trap_is_the_instruction(rt: HostRuntime) {
+    for (word, outcome, pc) in [
+        (0x0100_0000, Turn::Went, START + 4),
+        (0x91d0_2070, Turn::Call, START + 4),
+        (0x91d0_2005, Turn::Trap(0x85), START),
+        (0x0000_0000, Turn::Trap(0x02), START),
+    ] {
+        let mut core = Core::start(START);
+        let mut stack = Stack {
+            bytes: [0; 192],
+            read_only: false,
+        };
+        assert_eq!(rt; stack.store(START, Size::Four, word), Ok(()));
+        assert_eq!(rt; settle(&mut core, &mut stack), outcome, "{word:x}");
+        assert_eq!(rt; core.pc, pc, "{word:x}");
+    }
+}

@@ -1,6 +1,5 @@
 use Rattle.std.proofs.Common.{◌≡◌, ◌+◌, ◌-◌, ◌*◌}
-use Rattle.guest_bus.specs.Memory.{with_bytes}
-use Rattle.virt_traps.specs.SaveArea.{bytes_of, registers_from, with_registers, words_at}
+use Rattle.virt_traps.specs.SaveArea.{with_registers, words_at}
 use Rattle.virt_traps.proofs.save_area.load_registers.Given as goal
 
 abbrev pub invariant-loop-i : goal.invariant-loop-i

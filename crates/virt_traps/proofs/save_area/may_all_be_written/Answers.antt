@@ -1,6 +1,4 @@
-use Rattle.std.proofs.Common.{◌≡◌, ◌+◌, ◌-◌, ◌*◌, ◌%◌, ◌==◌, true, false, not, sym, ◌∙◌, ap, refl, arith}
-use Rattle.std.proofs.lemmas.Bool.Decides.{nat_tests}
-use Rattle.guest_bus.specs.declared.bus.Size.TheVariants.{Eight}
+use Rattle.std.proofs.Common.{◌+◌, ◌*◌, sym, ◌∙◌, refl, arith}
 use Rattle.virt_traps.proofs.RangeLemmas.{allows_none, joined, refused_part}
 use Rattle.virt_traps.proofs.save_area.may_all_be_written.Goals as goal
 

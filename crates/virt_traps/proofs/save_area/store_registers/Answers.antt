@@ -1,8 +1,6 @@
-use Rattle.std.proofs.Common.{◌≡◌, ◌+◌, ◌-◌, ◌*◌, ◌%◌, ◌==◌, true, false, not, sym, ◌∙◌, ap, refl, arith}
+use Rattle.std.proofs.Common.{◌≡◌, ◌+◌, ◌-◌, ◌*◌, ◌%◌, ◌==◌, true, ◌∙◌, arith}
 use Rattle.std.proofs.lemmas.Bool.Decides.{nat_tests}
 use Rattle.guest_bus.specs.declared.bus.Size.TheVariants.{Eight}
-use Rattle.std.specs.Int.{to_be_bytes, w64}
-use Rattle.guest_bus.specs.Memory.{with_bytes}
 use Rattle.virt_traps.proofs.AccessLemmas.{not_refused, stored_value}
 use Rattle.virt_traps.proofs.RangeLemmas.{part}
 use Rattle.virt_traps.proofs.WindowLemmas.{stored_none, stored_two}
