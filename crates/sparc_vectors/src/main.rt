@@ -9,8 +9,8 @@ mod tests;
 mod trial;
 mod vector;
 
-use anyhow::{Context, Result};
-use std::alloc::Global;
+use anyhow::{Context, Result, ensure};
+use memory::VectorMemory;
 use std::fs;
 use tally::Tallies;
 use trial::came_to;
@@ -21,24 +21,30 @@ const VECTORS: &str = "instructions.txt";
 
 fn main(rt: HostRuntime) -> Result<()> {
     let text = fs::read_to_string(&rt, VECTORS)?;
+    let mut memory = VectorMemory::new(rt.alloc())?;
     let mut tallies = Tallies::new(rt.alloc());
     for line in text.lines() {
         if !line.starts_with('#') {
-            try_line(&rt, rt.alloc(), line, &mut tallies)?;
+            try_line(&rt, line, &mut memory, &mut tallies)?;
         }
     }
-    tallies.print(&rt)
+    tallies.print(&rt)?;
+    ensure!(
+        memory.is_zero_elsewhere(),
+        "a vector changed the memory elsewhere"
+    );
+    Ok(())
 }
 
 // Tries the vector of a line, counts it, and prints it where it does not hold.
 fn try_line<'a>(
     rt: &impl Print,
-    alloc: Global,
     line: &'a str,
+    memory: &mut VectorMemory,
     tallies: &mut Tallies<'a>,
 ) -> Result<()> {
-    let vector = read_vector(alloc, line)?.context("a line is no vector")?;
-    let other = came_to(vector.before, vector.turn, vector.after);
+    let vector = read_vector(line).context("a line is no vector")?;
+    let other = came_to(memory, vector.before, vector.turn, vector.after);
     tallies.count(vector.kind, other.is_none())?;
     if let Some(other) = other {
         println!(rt; "differs: {line}")?;

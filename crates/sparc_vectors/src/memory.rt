@@ -17,10 +17,11 @@ pub(crate) const AREA_START: u32 = 0x4000_1000;
 /// How many bytes it has.
 pub(crate) const AREA_BYTES: u32 = 0x7_f020;
 
-// Where in it the data stand, and how many bytes they have.
+// Where in it the data stand.
 const DATA_AT: usize = 0x7_f000;
 
-const DATA_BYTES: usize = 32;
+/// How many bytes the data have.
+pub(crate) const DATA_BYTES: usize = 32;
 
 /// A memory whose one area lies there and may be written.
 #[derive(Drop)]
@@ -43,24 +44,26 @@ impl Model for VectorMemory {
 }
 
 impl VectorMemory {
-    /// Zeros, and a word at the start.
-    pub(crate) fn new(alloc: Global, word: u32) -> Result<VectorMemory, AllocError> {
-        let mut bytes = vec![in alloc; 0; AREA_BYTES as usize]?;
-        put_value(&mut bytes, 0, Size::Four, u64::from(word));
+    /// Zeros.
+    pub(crate) fn new(alloc: Global) -> Result<VectorMemory, AllocError> {
+        let bytes = vec![in alloc; 0; AREA_BYTES as usize]?;
         Ok(VectorMemory { bytes })
     }
 
-    /// Sets the data to bytes in hexadecimal digits.
-    pub(crate) fn set_data(&mut self, digits: &str) -> Option<()> {
-        let mut data = [0; DATA_BYTES];
-        hex::decode_to_slice(digits, &mut data).ok()?;
-        put_data(&mut self.bytes, &data);
-        Some(())
+    /// Puts the instruction and the data in.
+    pub(crate) fn put(&mut self, instruction: u32, data: &[u8; DATA_BYTES]) {
+        put_value(&mut self.bytes, 0, Size::Four, u64::from(instruction));
+        put_data(&mut self.bytes, data);
     }
 
-    /// Whether both have the same bytes.
-    pub(crate) fn is_as(&self, other: &VectorMemory) -> bool {
-        self.bytes.as_slice() == other.bytes.as_slice()
+    /// Whether the instruction and the data are these.
+    pub(crate) fn has(&self, instruction: u32, data: &[u8; DATA_BYTES]) -> bool {
+        word(&self.bytes, 0) == instruction && has_data(&self.bytes, data)
+    }
+
+    /// Whether there is nothing but zeros beside them.
+    pub(crate) fn is_zero_elsewhere(&self) -> bool {
+        is_zero_elsewhere(&self.bytes)
     }
 }
 
@@ -90,6 +93,20 @@ fn put_data(bytes: &mut [u8], data: &[u8; DATA_BYTES])
     ensures { length bytes.new ≡ AREA_BYTES }
 {
     bytes[DATA_AT..DATA_AT + DATA_BYTES].copy_from_slice(data);
+}
+
+// Whether the data are these.
+fn has_data(bytes: &[u8], data: &[u8; DATA_BYTES]) -> bool
+    requires { length bytes.now ≡ AREA_BYTES }
+{
+    bytes[DATA_AT..] == data[..]
+}
+
+// Whether all between the instruction and the data is zero.
+fn is_zero_elsewhere(bytes: &[u8]) -> bool
+    requires { length bytes.now ≡ AREA_BYTES }
+{
+    bytes[4..DATA_AT].iter().all(|byte| *byte == 0)
 }
 
 // Where so many bytes from an address on begin in the area, where all of them lie in it.

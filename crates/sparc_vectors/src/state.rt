@@ -1,33 +1,36 @@
-//! What a vector is about: the registers and the memory.
+//! What a vector is about: the registers, the instruction, and the data.
 
 ghost use Rattle.std.specs.Prelude.{◌≡◌, ◌%◌, ◌<◌, IfSome};
 
-use crate::memory::VectorMemory;
+use crate::memory::DATA_BYTES;
 use crate::vector::hexadecimal;
 use sparc_step::Core;
-use std::alloc::{AllocError, Global};
 
-/// Where the instruction of each vector stands.
-pub(crate) const START: u32 = 0x4000_1000;
+// Where the instruction of each vector stands.
+const START: u32 = 0x4000_1000;
 
-/// The registers and the memory of a vector.
+/// The registers, the instruction and the data of a vector.
 #[derive(Drop)]
 pub(crate) struct State {
     pub(crate) core: Core,
-    pub(crate) memory: VectorMemory,
+    pub(crate) instruction: u32,
+    pub(crate) data: [u8; DATA_BYTES],
 }
 
 impl State {
     /// What holds unless the vector says otherwise, with the instruction at `pc`.
-    pub(crate) fn new(alloc: Global, word: u32) -> Result<State, AllocError> {
+    pub(crate) fn new(instruction: u32) -> State {
         let mut core = Core::start(START);
         core.cwp = 7;
         core.inv = 3;
         for r in 1..32u8 {
             core.set(r, 0x1000_0000 + u32::from(r) * 0x0101_0101);
         }
-        let memory = VectorMemory::new(alloc, word)?;
-        Ok(State { core, memory })
+        State {
+            core,
+            instruction,
+            data: [0; DATA_BYTES],
+        }
     }
 
     /// Sets what the words say, and answers whether each says something.
@@ -50,9 +53,10 @@ impl State {
     fn set(&mut self, setting: &str) -> Option<()> {
         let (name, value) = setting.split_once('=')?;
         if name == "mem" {
-            return self.memory.set_data(value);
+            hex::decode_to_slice(value, &mut self.data).ok()
+        } else {
+            set_register(&mut self.core, name, hexadecimal(value)?)
         }
-        set_register(&mut self.core, name, hexadecimal(value)?)
     }
 }
 

@@ -1,5 +1,6 @@
 //! Vectors that hold, the same with one thing changed, and lines that are no vector.
 
+use crate::memory::VectorMemory;
 use crate::trial::came_to;
 use crate::vector::read_vector;
 use std::test::Fail;
@@ -7,6 +8,7 @@ use std::test::Fail;
 // Each row: a line, and whether the processor does as it says.
 #[test]
 fn a_vector_holds_as_it_was_observed_and_in_no_other_way(rt: HostRuntime) -> Result<(), Fail> {
+    let mut memory = VectorMemory::new(rt.alloc())?;
     for (line, holds) in [
         (
             "s 3f338a6f icc=5 y=100 -> went pc=40001004 npc=40001008 icc=5 y=100 r31=ce29bc00",
@@ -89,17 +91,15 @@ fn a_vector_holds_as_it_was_observed_and_in_no_other_way(rt: HostRuntime) -> Res
             false,
         ),
     ] {
-        let Some(vector) = read_vector(rt.alloc(), line)? else {
-            return Err(Fail::from("no vector"));
-        };
-        let other = came_to(vector.before, vector.turn, vector.after);
+        let vector = read_vector(line).ok_or("no vector")?;
+        let other = came_to(&mut memory, vector.before, vector.turn, vector.after);
         assert_eq!(rt; other.is_none(), holds, "{line}");
     }
     Ok(())
 }
 
 #[test]
-fn other_lines_are_no_vectors(rt: HostRuntime) -> Result<(), Fail> {
+fn other_lines_are_no_vectors(rt: HostRuntime) {
     for (line, reads) in [
         (
             "s 01000000 icc=0 y=0 -> went pc=40001004 npc=40001008 icc=0 y=0",
@@ -124,8 +124,6 @@ fn other_lines_are_no_vectors(rt: HostRuntime) -> Result<(), Fail> {
         ("s 01000000 icc=0 -> went cwp=3", false),
         ("s 01000000 icc=0 -> went cwp=8", false),
     ] {
-        let vector = read_vector(rt.alloc(), line)?;
-        assert_eq!(rt; vector.is_some(), reads, "{line}");
+        assert_eq!(rt; read_vector(line).is_some(), reads, "{line}");
     }
-    Ok(())
 }

@@ -2,6 +2,7 @@
 
 ghost use Rattle.std.specs.Prelude.{◌≡◌, ◌↔◌, IsTrue};
 
+use crate::memory::VectorMemory;
 use crate::state::State;
 use sparc_step::{Core, Turn, turn};
 use std::fmt;
@@ -16,23 +17,25 @@ pub(crate) struct Other {
 }
 
 /// Executes the instruction of a state, and answers what it came to where that is not what was wanted.
-pub(crate) fn came_to(mut state: State, wanted: Turn, after: State) -> Option<Other> {
-    let turn = step(&mut state);
-    let same_memory = state.memory.is_as(&after.memory);
-    if same_memory && turn == wanted && are_same(&state.core, &after.core) {
+pub(crate) fn came_to(
+    memory: &mut VectorMemory,
+    before: State,
+    wanted: Turn,
+    after: State,
+) -> Option<Other> {
+    memory.put(before.instruction, &before.data);
+    let mut core = before.core;
+    let turn = turn(&mut core, memory);
+    let same_memory = memory.has(after.instruction, &after.data);
+    if same_memory && turn == wanted && are_same(&core, &after.core) {
         return None;
     }
     Some(Other {
         turn,
-        core: state.core,
+        core,
         wanted: after.core,
         same_memory,
     })
-}
-
-// One instruction.
-fn step(state: &mut State) -> Turn {
-    turn(&mut state.core, &mut state.memory)
 }
 
 // Whether two processors have the same registers in all windows.

@@ -2,7 +2,6 @@
 
 use crate::state::State;
 use sparc_step::Turn;
-use std::alloc::{AllocError, Global};
 
 /// One instruction as another implementation executed it.
 #[derive(Drop)]
@@ -15,37 +14,28 @@ pub(crate) struct Vector<'a> {
 }
 
 /// Reads a line `KIND WORD SETTING .. -> OUTCOME SETTING ..`, or answers `None` where it is none.
-pub(crate) fn read_vector(alloc: Global, line: &str) -> Result<Option<Vector<'_>>, AllocError> {
-    let Some((kind, given)) = line.split_once(' ') else {
-        return Ok(None);
-    };
-    let Some((given, came)) = given.split_once(" -> ") else {
-        return Ok(None);
-    };
-    let Some((word, given)) = given.split_once(' ') else {
-        return Ok(None);
-    };
-    let Some((outcome, came)) = came.split_once(' ') else {
-        return Ok(None);
-    };
-    let (Some(word), Some(turn)) = (hexadecimal(word), turn_of(outcome)) else {
-        return Ok(None);
-    };
-    let mut before = State::new(alloc, word)?;
-    let mut after = State::new(alloc, word)?;
+pub(crate) fn read_vector(line: &str) -> Option<Vector<'_>> {
+    let (kind, given) = line.split_once(' ')?;
+    let (given, came) = given.split_once(" -> ")?;
+    let (word, given) = given.split_once(' ')?;
+    let (outcome, came) = came.split_once(' ')?;
+    let word = hexadecimal(word)?;
+    let turn = turn_of(outcome)?;
+    let mut before = State::new(word);
+    let mut after = State::new(word);
     if !before.set_all(given) || !after.set_all(given) || !after.set_all(came) {
-        return Ok(None);
+        return None;
     }
     // The hypercall is observed as a trap that was not yet entered; the processor goes on behind it.
     if turn == Turn::Call {
         after.advance();
     }
-    Ok(Some(Vector {
+    Some(Vector {
         kind,
         before,
         turn,
         after,
-    }))
+    })
 }
 
 // What an instruction came to.
