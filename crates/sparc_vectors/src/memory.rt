@@ -27,6 +27,8 @@ pub(crate) const DATA_BYTES: usize = 32;
 #[derive(Drop)]
 pub(crate) struct VectorMemory {
     bytes: Vec<u8>,
+    /// Whether something was stored since the last vector was put in.
+    is_stored: bool,
 }
 
 impl Model for VectorMemory {
@@ -47,23 +49,29 @@ impl VectorMemory {
     /// Zeros.
     pub(crate) fn new(alloc: Global) -> Result<VectorMemory, AllocError> {
         let bytes = vec![in alloc; 0; AREA_BYTES as usize]?;
-        Ok(VectorMemory { bytes })
+        Ok(VectorMemory {
+            bytes,
+            is_stored: false,
+        })
     }
 
-    /// Puts the instruction and the data in.
+    /// Puts the instruction and the data of a vector in.
     pub(crate) fn put(&mut self, instruction: u32, data: &[u8; DATA_BYTES]) {
         put_value(&mut self.bytes, 0, Size::Four, u64::from(instruction));
         put_data(&mut self.bytes, data);
+        self.is_stored = false;
     }
 
-    /// Whether the instruction and the data are these.
+    /// Whether the instruction and the data are these, and all else is zero as before.
     pub(crate) fn has(&self, instruction: u32, data: &[u8; DATA_BYTES]) -> bool {
-        word(&self.bytes, 0) == instruction && has_data(&self.bytes, data)
+        word(&self.bytes, 0) == instruction
+            && has_data(&self.bytes, data)
+            && (!self.is_stored || is_zero_elsewhere(&self.bytes))
     }
 
-    /// Whether there is nothing but zeros beside them.
-    pub(crate) fn is_zero_elsewhere(&self) -> bool {
-        is_zero_elsewhere(&self.bytes)
+    /// Makes it all zeros.
+    pub(crate) fn clear(&mut self) {
+        self.bytes.fill(0);
     }
 }
 
@@ -83,6 +91,7 @@ impl Bus for VectorMemory {
     }
 
     fn store(&mut self, address: u32, size: Size, value: u64) -> Result<(), BusFault> {
+        self.is_stored = true;
         store_value(&mut self.bytes, address, size, value)
     }
 }

@@ -30,6 +30,9 @@ pub(crate) fn came_to(
     if same_memory && turn == wanted && are_same(&core, &after.core) {
         return None;
     }
+    if !same_memory {
+        memory.clear();
+    }
     Some(Other {
         turn,
         core,
