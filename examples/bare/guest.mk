@@ -8,5 +8,5 @@ GUEST_LDFLAGS = -m32 -nostdlib -static -no-pie -Wl,-m,elf32_sparc -Wl,--build-id
 # $(call link,SOURCES): links $@ of these sources, by the linker script among them
 link = $(CROSS)gcc $(GUEST_CFLAGS) $(GUEST_LDFLAGS) -T $(filter %.ld,$(1)) $(filter-out %.ld %.h,$(1)) -o $@
 
-# $(to_image): makes the raw image $@ of the file that was linked
-to_image = $(CROSS)objcopy -O binary $< $@ && chmod a-x $@
+%.bin: %.elf
+	$(CROSS)objcopy -O binary $< $@
