@@ -34,6 +34,7 @@ use crate::words::{
 use sparc_code::Arith;
 
 // Work on registers, from a selector below 28.
+#[inline(always)]
 pub(crate) fn work(core: &mut Processor, selector: u32, word: u32) -> Turn
     requires { selector < 0x28 }
     ensures turn { (areas : List Area) (memory : Memory) → result ≡ (executed (registers_row selector word) areas core.old memory).turn }
@@ -61,6 +62,7 @@ pub(crate) fn work(core: &mut Processor, selector: u32, word: u32) -> Turn
 
 // The selectors 00 to 07.
 #[tactic(auto, unfolding(sparc_code::specs::Decoded::registers_row))]
+#[inline(always)]
 fn plain(core: &mut Processor, selector: u32, word: u32) -> Turn
     requires { selector < 8 }
     ensures turn { (areas : List Area) (memory : Memory) → result ≡ (executed (registers_row selector word) areas core.old memory).turn }
@@ -72,16 +74,16 @@ fn plain(core: &mut Processor, selector: u32, word: u32) -> Turn
     if selector < 4 {
         if selector == 0x00 {
             put(core, word, sum(a, b, false));
-        } else if selector == 0x01 {
-            put(core, word, a & b);
         } else if selector == 0x02 {
             put(core, word, a | b);
+        } else if selector < 2 {
+            put(core, word, a & b);
         } else {
             put(core, word, a ^ b);
         }
     } else if selector == 0x04 {
         put(core, word, difference(a, b, false));
-    } else if selector == 0x05 {
+    } else if selector < 6 {
         put(core, word, a & !b);
     } else if selector == 0x06 {
         put(core, word, a | !b);
@@ -93,6 +95,7 @@ fn plain(core: &mut Processor, selector: u32, word: u32) -> Turn
 
 // The selectors 10 to 17.
 #[tactic(auto, unfolding(sparc_code::specs::Decoded::registers_row))]
+#[inline(always)]
 fn coded(core: &mut Processor, selector: u32, word: u32) -> Turn
     requires from { 0x10 ≤ selector }
     requires below { selector < 0x18 }
@@ -130,6 +133,7 @@ fn coded(core: &mut Processor, selector: u32, word: u32) -> Turn
 }
 
 // Puts a result of logic with its condition codes, and goes on.
+#[inline(always)]
 fn put_logic(core: &mut Processor, word: u32, value: u32)
     ensures { core.new ≡ with_result_and_codes (rd word) value (codes_of_result value false) core.old }
 {
@@ -138,6 +142,7 @@ fn put_logic(core: &mut Processor, word: u32, value: u32)
 
 // The selectors 08 to 0f.
 #[tactic(auto, unfolding(sparc_code::specs::Decoded::registers_row))]
+#[inline(never)]
 fn extended(core: &mut Processor, selector: u32, word: u32) -> Turn
     requires from { 0x08 ≤ selector }
     requires below { selector < 0x10 }
@@ -168,6 +173,7 @@ fn extended(core: &mut Processor, selector: u32, word: u32) -> Turn
 
 // The selectors 18 to 1f.
 #[tactic(auto, unfolding(sparc_code::specs::Decoded::registers_row))]
+#[inline(never)]
 fn extended_coded(core: &mut Processor, selector: u32, word: u32) -> Turn
     requires from { 0x18 ≤ selector }
     requires below { selector < 0x20 }
@@ -198,6 +204,7 @@ fn extended_coded(core: &mut Processor, selector: u32, word: u32) -> Turn
 
 // The selectors 20 to 24.
 #[tactic(auto, unfolding(sparc_code::specs::Decoded::registers_row))]
+#[inline(never)]
 fn stepped(core: &mut Processor, selector: u32, word: u32) -> Turn
     requires from { 0x20 ≤ selector }
     requires below { selector < 0x25 }
@@ -222,6 +229,7 @@ fn stepped(core: &mut Processor, selector: u32, word: u32) -> Turn
 
 // The selectors 25 to 27.
 #[tactic(auto, unfolding(sparc_code::specs::Decoded::registers_row))]
+#[inline(always)]
 fn shift(core: &mut Processor, selector: u32, word: u32) -> Turn
     requires from { 0x25 ≤ selector }
     requires below { selector < 0x28 }

@@ -96,6 +96,7 @@ pub(crate) fn codes_of_tagged_difference(a: u32, b: u32, overflow: bool) -> u8
 
 // A condition holds of the codes.
 #[tactic(auto, unfolding(crate::specs::Conditions::holds))]
+#[inline(always)]
 pub(crate) fn holds(condition: u8, icc: u8) -> bool
     requires condition { condition < 16 }
     requires icc { icc < 16 }
@@ -110,6 +111,7 @@ pub(crate) fn holds(condition: u8, icc: u8) -> bool
 
 // One of the conditions 0 to 7 holds of the codes.
 #[tactic(auto, unfolding(crate::specs::Conditions::holds_below_eight))]
+#[inline(always)]
 fn holds_below_eight(condition: u8, icc: u8) -> bool
     requires condition { condition < 8 }
     requires icc { icc < 16 }

@@ -18,6 +18,7 @@ use guest_bus::Bus;
 use sparc_code::fields::{op, op2, op3, rd, rs1};
 
 /// Executes the instruction at `pc`.
+#[inline(never)]
 pub fn turn<B: Bus>(core: &mut Core, bus: &mut B) -> Turn
     ensures turn { result ≡ (turned (B.areas bus.old) core.old (B.memory bus.old)).turn }
     ensures core { core.new ≡ (turned (B.areas bus.old) core.old (B.memory bus.old)).core }
@@ -80,6 +81,7 @@ pub(crate) fn execute<B: Bus>(core: &mut Processor, bus: &mut B, word: u32) -> T
 
 // Branches and SETHI.
 #[tactic(auto, unfolding(sparc_code::specs::Decoded::format2_row))]
+#[inline(always)]
 fn format2(core: &mut Processor, selector: u32, word: u32) -> Turn
     requires { selector < 8 }
     ensures turn { (areas : List Area) (memory : Memory) → result ≡ (executed (format2_row selector word) areas core.old memory).turn }
@@ -102,6 +104,7 @@ fn format2(core: &mut Processor, selector: u32, word: u32) -> Turn
 }
 
 // Work on registers, and what reads and writes the state.
+#[inline(always)]
 fn on_registers(core: &mut Processor, selector: u32, word: u32) -> Turn
     requires { selector < 64 }
     ensures turn { (areas : List Area) (memory : Memory) → result ≡ (executed (registers_row selector word) areas core.old memory).turn }
@@ -119,6 +122,7 @@ fn on_registers(core: &mut Processor, selector: u32, word: u32) -> Turn
 
 // The selectors 28 to 37.
 #[tactic(auto, unfolding(sparc_code::specs::Decoded::registers_row))]
+#[inline(never)]
 fn on_state(core: &mut Processor, selector: u32, word: u32) -> Turn
     requires from { 0x28 ≤ selector }
     requires below { selector < 0x38 }
@@ -180,6 +184,7 @@ fn write_state(core: &mut Processor, word: u32) -> Turn
 
 // The selectors 38 to 3f.
 #[tactic(auto, unfolding(sparc_code::specs::Decoded::registers_row))]
+#[inline(always)]
 fn transfer_control(core: &mut Processor, selector: u32, word: u32) -> Turn
     requires from { 0x38 ≤ selector }
     requires below { selector < 0x40 }
@@ -208,6 +213,7 @@ fn transfer_control(core: &mut Processor, selector: u32, word: u32) -> Turn
 }
 
 // Work on memory.
+#[inline(always)]
 fn on_memory<B: Bus>(core: &mut Processor, bus: &mut B, selector: u32, word: u32) -> Turn
     requires { selector < 64 }
     ensures turn { result ≡ (executed (memory_row selector word) (B.areas bus.old) core.old (B.memory bus.old)).turn }
@@ -227,6 +233,7 @@ fn on_memory<B: Bus>(core: &mut Processor, bus: &mut B, selector: u32, word: u32
 
 // The selectors 10 to 1f, the other spaces of addresses: which trap each raises.
 #[tactic(auto, unfolding(sparc_code::specs::Decoded::memory_row))]
+#[inline(never)]
 fn other_space(selector: u32) -> u8
     requires from { 0x10 ≤ selector }
     requires below { selector < 0x20 }
@@ -240,6 +247,7 @@ fn other_space(selector: u32) -> u8
 }
 
 // The selectors 20 to 3f, the other units: which trap each raises.
+#[inline(never)]
 fn other_unit(selector: u32) -> u8
     requires from { 0x20 ≤ selector }
     requires below { selector < 0x40 }

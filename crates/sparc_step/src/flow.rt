@@ -33,6 +33,7 @@ use sparc_code::fields::{annul, cond, imm22, rd};
 
 // CALL.
 #[tactic(auto, unfolding(crate::specs::Flow::call_row))]
+#[inline(always)]
 pub(crate) fn call(core: &mut Processor, word: u32)
     ensures { core.new ≡ call_row (disp30 word) core.old }
 {
@@ -63,6 +64,7 @@ fn branch_target(pc: u32, word: u32) -> u32
 
 // Bicc.
 #[tactic(auto, unfolding(crate::specs::Flow::branch_row))]
+#[inline(always)]
 pub(crate) fn branch(core: &mut Processor, word: u32)
     ensures { core.new ≡ branch_row (cond word) (annul word == 1) (disp22 word) core.old }
 {
@@ -76,6 +78,7 @@ pub(crate) fn branch(core: &mut Processor, word: u32)
 
 // A branch that is taken.
 #[tactic(auto, unfolding(crate::specs::Flow::taken))]
+#[inline(always)]
 fn take(core: &mut Processor, condition: u8, annul: bool, target: u32)
     requires { target % 4 ≡ 0 }
     ensures { core.new ≡ taken condition annul target core.old }
@@ -89,6 +92,7 @@ fn take(core: &mut Processor, condition: u8, annul: bool, target: u32)
 
 // A branch that is not taken.
 #[tactic(auto, unfolding(crate::specs::Flow::passed))]
+#[inline(always)]
 fn pass(core: &mut Processor, annul: bool)
     ensures { core.new ≡ passed annul core.old }
 {
@@ -101,6 +105,7 @@ fn pass(core: &mut Processor, annul: bool)
 
 // SETHI.
 #[tactic(auto, unfolding(crate::specs::Flow::sethi_row))]
+#[inline(always)]
 pub(crate) fn sethi(core: &mut Processor, word: u32)
     ensures { core.new ≡ sethi_row (rd word) (imm22 word) core.old }
 {
@@ -127,6 +132,7 @@ pub(crate) fn write_y(core: &mut Processor, word: u32)
 
 // JMPL.
 #[tactic(auto, unfolding(crate::specs::Flow::jumped))]
+#[inline(always)]
 pub(crate) fn jump(core: &mut Processor, word: u32) -> Turn
     ensures turn { result ≡ (jump_row (rd word) (rs1 word) (operand simm13 word) core.old).turn }
     ensures core { core.new ≡ (jump_row (rd word) (rs1 word) (operand simm13 word) core.old).core }
@@ -143,6 +149,7 @@ pub(crate) fn jump(core: &mut Processor, word: u32) -> Turn
 
 // Ticc.
 #[tactic(auto, unfolding(crate::specs::Flow::trap_turn))]
+#[inline(always)]
 pub(crate) fn trap(core: &mut Processor, word: u32) -> Turn
     ensures turn { result ≡ (trap_row (cond word) (rs1 word) (operand imm7 word) core.old).turn }
     ensures core { core.new ≡ left_by result core.old }
@@ -170,6 +177,7 @@ fn trap_type(number: u32) -> u8
 
 // SAVE.
 #[tactic(auto, unfolding(crate::specs::Flow::moved, crate::specs::Flow::window_below))]
+#[inline(always)]
 pub(crate) fn save(core: &mut Processor, word: u32) -> Turn
     ensures turn { result ≡ (save_row (rd word) (rs1 word) (operand simm13 word) core.old).turn }
     ensures core { core.new ≡ (save_row (rd word) (rs1 word) (operand simm13 word) core.old).core }
@@ -185,6 +193,7 @@ pub(crate) fn save(core: &mut Processor, word: u32) -> Turn
 
 // RESTORE.
 #[tactic(auto, unfolding(crate::specs::Flow::moved, crate::specs::Flow::window_above))]
+#[inline(always)]
 pub(crate) fn restore(core: &mut Processor, word: u32) -> Turn
     ensures turn { result ≡ (restore_row (rd word) (rs1 word) (operand simm13 word) core.old).turn }
     ensures core { core.new ≡ (restore_row (rd word) (rs1 word) (operand simm13 word) core.old).core }

@@ -12,6 +12,7 @@ use crate::processor::Processor;
 use sparc_code::fields::{i, rd, rs1, rs2};
 
 // The value of operand 1.
+#[inline(always)]
 pub(crate) fn first(core: &Processor, word: u32) -> u32
     ensures { result ≡ register_at core.now (rs1 word) }
 {
@@ -20,6 +21,7 @@ pub(crate) fn first(core: &Processor, word: u32) -> u32
 
 // The value of operand 2.
 #[tactic(auto, unfolding(sparc_code::specs::Decoded::operand))]
+#[inline(always)]
 pub(crate) fn second(core: &Processor, word: u32) -> u32
     ensures { result ≡ value_of (operand simm13 word) core.now }
 {
@@ -33,6 +35,7 @@ pub(crate) fn second(core: &Processor, word: u32) -> u32
 
 // The value of operand 2 of a shift.
 #[tactic(auto, unfolding(sparc_code::specs::Decoded::operand, sparc_code::specs::Fields::shcnt))]
+#[inline(always)]
 pub(crate) fn places(core: &Processor, word: u32) -> u32
     ensures { result ≡ value_of (operand shcnt word) core.now }
 {
@@ -51,6 +54,7 @@ fn number(core: &Processor, word: u32) -> u32
 
 // The sum of the operands.
 #[tactic(auto, unfolding(crate::specs::Operands::sum_of))]
+#[inline(always)]
 pub(crate) fn sum_of(core: &Processor, word: u32) -> u32
     ensures { result ≡ sum_of (rs1 word) (operand simm13 word) core.now }
 {
@@ -93,6 +97,7 @@ pub(crate) fn call_bytes(word: u32) -> u32
 
 // Puts a result, and goes on.
 #[tactic(auto, unfolding(crate::specs::Outcome::with_result))]
+#[inline(always)]
 pub(crate) fn put(core: &mut Processor, word: u32, value: u32)
     ensures { core.new ≡ with_result (rd word) value core.old }
 {
@@ -102,6 +107,7 @@ pub(crate) fn put(core: &mut Processor, word: u32, value: u32)
 
 // Puts a result and condition codes, and goes on.
 #[tactic(auto, unfolding(crate::specs::Outcome::with_result_and_codes))]
+#[inline(always)]
 pub(crate) fn put_with_codes(core: &mut Processor, word: u32, value: u32, icc: u8)
     requires { icc < 16 }
     ensures { core.new ≡ with_result_and_codes (rd word) value icc core.old }

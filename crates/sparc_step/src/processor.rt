@@ -187,6 +187,7 @@ impl Processor {
     }
 
     /// Enters a window that is valid.
+    #[inline(never)]
     #[tactic(auto, unfolding(crate::specs::Registers::in_window, crate::specs::AtHand::gathered))]
     pub(crate) fn enter(&mut self, window: u8)
         requires window { window < 8 }

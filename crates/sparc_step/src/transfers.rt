@@ -27,6 +27,7 @@ use guest_bus::{Bus, BusFault, Size};
 use sparc_code::fields::rd;
 
 // The selectors 00 to 0f.
+#[inline(always)]
 pub(crate) fn transfer<B: Bus>(core: &mut Processor, bus: &mut B, selector: u32, word: u32) -> Turn
     requires { selector < 16 }
     ensures turn { result ≡ (executed (memory_row selector word) (B.areas bus.old) core.old (B.memory bus.old)).turn }
@@ -48,6 +49,7 @@ pub(crate) fn transfer<B: Bus>(core: &mut Processor, bus: &mut B, selector: u32,
 
 // The selectors 00 to 03.
 #[tactic(auto, unfolding(sparc_code::specs::Decoded::memory_row))]
+#[inline(always)]
 fn load<B: Bus>(core: &mut Processor, bus: &mut B, selector: u32, word: u32) -> Turn
     requires { selector < 4 }
     ensures turn { result ≡ (executed (memory_row selector word) (B.areas bus.old) core.old (B.memory bus.old)).turn }
@@ -72,6 +74,7 @@ fn load<B: Bus>(core: &mut Processor, bus: &mut B, selector: u32, word: u32) -> 
 
 // The selectors 04 to 07.
 #[tactic(auto, unfolding(sparc_code::specs::Decoded::memory_row))]
+#[inline(always)]
 fn store<B: Bus>(core: &mut Processor, bus: &mut B, selector: u32, word: u32) -> Turn
     requires from { 4 ≤ selector }
     requires below { selector < 8 }
@@ -98,6 +101,7 @@ fn store<B: Bus>(core: &mut Processor, bus: &mut B, selector: u32, word: u32) ->
 
 // The selectors 08 to 0f.
 #[tactic(auto, unfolding(sparc_code::specs::Decoded::memory_row))]
+#[inline(always)]
 fn load_signed_or_exchange<B: Bus>(
     core: &mut Processor,
     bus: &mut B,
@@ -132,6 +136,7 @@ fn load_signed_or_exchange<B: Bus>(
 }
 
 // Loads a value without a sign.
+#[inline(always)]
 fn load_value<B: Bus>(
     core: &mut Processor,
     bus: &mut B,
@@ -155,6 +160,7 @@ fn load_value<B: Bus>(
 }
 
 // LDSB.
+#[inline(never)]
 fn load_byte<B: Bus>(core: &mut Processor, bus: &mut B, word: u32, address: u32) -> Turn
     ensures turn { result ≡ (loaded_into (loaded (B.areas bus.old) (B.memory bus.old) address One) signed_byte (rd word) core.old (B.memory bus.old)).turn }
     ensures core { core.new ≡ (loaded_into (loaded (B.areas bus.old) (B.memory bus.old) address One) signed_byte (rd word) core.old (B.memory bus.old)).core }
@@ -172,6 +178,7 @@ fn load_byte<B: Bus>(core: &mut Processor, bus: &mut B, word: u32, address: u32)
 }
 
 // LDSH.
+#[inline(never)]
 fn load_half<B: Bus>(core: &mut Processor, bus: &mut B, word: u32, address: u32) -> Turn
     ensures turn { result ≡ (loaded_into (loaded (B.areas bus.old) (B.memory bus.old) address Two) signed_half (rd word) core.old (B.memory bus.old)).turn }
     ensures core { core.new ≡ (loaded_into (loaded (B.areas bus.old) (B.memory bus.old) address Two) signed_half (rd word) core.old (B.memory bus.old)).core }
@@ -206,6 +213,7 @@ fn signed_half(value: u64) -> u32
 
 // LDD.
 #[tactic(auto, unfolding(sparc_code::specs::Decoded::double_work))]
+#[inline(never)]
 fn load_double<B: Bus>(core: &mut Processor, bus: &mut B, word: u32) -> Turn
     ensures turn { result ≡ (executed (double_work LdD word) (B.areas bus.old) core.old (B.memory bus.old)).turn }
     ensures core { core.new ≡ (executed (double_work LdD word) (B.areas bus.old) core.old (B.memory bus.old)).core }
@@ -238,6 +246,7 @@ fn set_pair(core: &mut Processor, rd: u8, value: u64)
 
 // STD.
 #[tactic(auto, unfolding(sparc_code::specs::Decoded::double_work))]
+#[inline(never)]
 fn store_double<B: Bus>(core: &mut Processor, bus: &mut B, word: u32) -> Turn
     ensures turn { result ≡ (executed (double_work StD word) (B.areas bus.old) core.old (B.memory bus.old)).turn }
     ensures core { core.new ≡ (executed (double_work StD word) (B.areas bus.old) core.old (B.memory bus.old)).core }
@@ -264,6 +273,7 @@ fn pair(core: &Processor, rd: u8) -> u64
 
 // Stores a value.
 #[tactic(auto, unfolding(crate::specs::Transfers::store_of))]
+#[inline(always)]
 fn store_value<B: Bus>(
     core: &mut Processor,
     bus: &mut B,
@@ -288,6 +298,7 @@ fn store_value<B: Bus>(
 
 // LDSTUB and SWAP.
 #[tactic(auto, unfolding(crate::specs::Transfers::exchange_of))]
+#[inline(never)]
 fn exchange<B: Bus>(
     core: &mut Processor,
     bus: &mut B,

@@ -2,10 +2,14 @@
 
 ghost use Rattle.std.specs.Prelude.{◌≡◌, ◌≤◌, false, IfOk};
 
-use crate::{BareFault, Board, Machine, Ran, RunFault, bare};
+use crate::area::AreaMemory;
+use crate::{AREA_START, BareFault, Board, Machine, Ran, RunFault, bare};
+use guest_bus::{Bus, Size};
+use sparc_step::{Core, Turn};
 use std::alloc::Global;
 use std::test::Fail;
 use xm_base::TICKS;
+use virt_traps::settle;
 use xm_outside::MemSink;
 
 // Says "hi" and halts.
@@ -147,8 +151,8 @@ fn a_run_reports_its_ticks_and_its_end(rt: HostRuntime) -> Result<(), Fail> {
 #[test]
 fn a_tick_that_is_not_built_ends_the_run(rt: HostRuntime) -> Result<(), Fail> {
     let cases: [(&[u32], u32, u64); 12] = [
-        (&[0x81c3_e008], 0x4000_0000, 0), // jmp %o7 + 8
-        (&[0x9de3_bfa0], 0x4000_0000, 0), // save %sp, -96, %sp
+        (&[0x81c3_e008], 0x4000_0004, 1), // jmp %o7 + 8, and a word of zeros
+        (&[0x9de3_bfa0; 7], 0x4000_0018, 6), // seven times save %sp, -96, %sp, of which the last can't spill
         (&[0x91d0_2071], 0x4000_0000, 0), // ta 0x71
         (&[0x9010_2003, 0x91d0_2070], 0x4000_0004, 1), // or %g0, 3, %o0; ta 0x70
         (&[0xd200_2001], 0x4000_0000, 0), // ld [1], %o1
@@ -270,5 +274,56 @@ fn a_sink_that_fails_ends_the_run(rt: HostRuntime) -> Result<(), Fail> {
         assert_eq!(rt; done, ticks, "at {call}");
         assert_eq!(rt; out.got(), report.as_bytes());
     }
+    Ok(())
+}
+
+// Eight times SAVE, then eight times RESTORE, over one stack: windows are spilled and filled where they must be.
+#[test]
+fn windows_spill_and_fill(rt: HostRuntime) -> Result<(), Fail> {
+    let mut words = Vec::new(rt.alloc());
+    for _ in 0..8u8 {
+        words.push(0x9de3_bfa0)?; // save %sp, -96, %sp
+    }
+    for _ in 0..8u8 {
+        words.push(0x81e8_0000)?; // restore
+    }
+    let image = bytes_of(rt.alloc(), &words)?;
+    let mut memory = AreaMemory::new(rt.alloc(), &image)?;
+    let mut core = Core::start(AREA_START);
+    core.set(14, 0x4000_0f00);
+    core.set(16, 0x1111_1111);
+    core.set(31, 0x2222_2222);
+    for (cwp, inv, stack) in [
+        (6, 0, 0x4000_0ea0),
+        (5, 0, 0x4000_0e40),
+        (4, 0, 0x4000_0de0),
+        (3, 0, 0x4000_0d80),
+        (2, 0, 0x4000_0d20),
+        (1, 0, 0x4000_0cc0),
+        (0, 7, 0x4000_0c60),
+        (7, 6, 0x4000_0c00),
+    ] {
+        assert_eq!(rt; settle(&mut core, &mut memory), Turn::Went);
+        assert_eq!(rt; (core.cwp, core.inv, core.get(14)), (cwp, inv, stack));
+    }
+    assert_eq!(rt; memory.load(0x4000_0f00, Size::Four), Ok(0x1111_1111));
+    assert_eq!(rt; memory.load(0x4000_0f3c, Size::Four), Ok(0x2222_2222));
+    assert_eq!(rt; memory.load(0x4000_0ed8, Size::Four), Ok(0x4000_0f00));
+    core.set(16, 0);
+    core.set(17, 0);
+    for (cwp, inv, stack) in [
+        (0, 6, 0x4000_0c60),
+        (1, 6, 0x4000_0cc0),
+        (2, 6, 0x4000_0d20),
+        (3, 6, 0x4000_0d80),
+        (4, 6, 0x4000_0de0),
+        (5, 6, 0x4000_0e40),
+        (6, 7, 0x4000_0ea0),
+        (7, 0, 0x4000_0f00),
+    ] {
+        assert_eq!(rt; settle(&mut core, &mut memory), Turn::Went);
+        assert_eq!(rt; (core.cwp, core.inv, core.get(14)), (cwp, inv, stack));
+    }
+    assert_eq!(rt; [core.get(16), core.get(31)], [0x1111_1111, 0x2222_2222]);
     Ok(())
 }
