@@ -1,1 +1,2 @@
+mod ConditionLemmas
 mod StoreLemmas

@@ -9,12 +9,9 @@ ghost use Rattle.sparc_step.specs.Conditions.{
   codes_of_tagged_difference,
   codes_of_tagged_sum,
   condition_codes,
-  differ,
   holds,
-  holds_below_eight,
   negative,
   overflow,
-  zero,
 };
 
 use crate::words::{
@@ -94,62 +91,26 @@ pub(crate) fn codes_of_tagged_difference(a: u32, b: u32, overflow: bool) -> u8
     )
 }
 
+// For each condition a bit for each of the codes 0 to 15 of which it holds.
+const HELD: [u16; 16] = [
+    0x0000, 0xf0f0, 0xf3fc, 0x33cc, 0xfafa, 0xaaaa, 0xff00, 0xcccc, 0xffff, 0x0f0f, 0x0c03, 0xcc33,
+    0x0505, 0x5555, 0x00ff, 0x3333,
+];
+
 // A condition holds of the codes.
-#[tactic(auto, unfolding(crate::specs::Conditions::holds))]
 #[inline(always)]
 pub(crate) fn holds(condition: u8, icc: u8) -> bool
     requires condition { condition < 16 }
     requires icc { icc < 16 }
     ensures { result ≡ holds condition icc }
 {
-    if condition < 8 {
-        holds_below_eight(condition, icc)
-    } else {
-        !holds_below_eight(condition - 8, icc)
-    }
-}
-
-// One of the conditions 0 to 7 holds of the codes.
-#[tactic(auto, unfolding(crate::specs::Conditions::holds_below_eight))]
-#[inline(always)]
-fn holds_below_eight(condition: u8, icc: u8) -> bool
-    requires condition { condition < 8 }
-    requires icc { icc < 16 }
-    ensures { result ≡ holds_below_eight condition icc }
-{
-    if condition < 4 {
-        match condition {
-            0 => false,
-            1 => zero(icc),
-            2 => zero(icc) || less(icc),
-            _ => less(icc),
-        }
-    } else {
-        match condition {
-            4 => carry(icc) || zero(icc),
-            5 => carry(icc),
-            6 => negative(icc),
-            _ => overflow(icc),
-        }
-    }
-}
-
-fn less(icc: u8) -> bool
-    ensures { result ≡ differ (negative icc) (overflow icc) }
-{
-    negative(icc) != overflow(icc)
+    (HELD[usize::from(condition)] >> icc) & 1 == 1
 }
 
 pub(crate) fn negative(icc: u8) -> bool
     ensures { result ≡ negative icc }
 {
     (icc >> 3) & 1 == 1
-}
-
-fn zero(icc: u8) -> bool
-    ensures { result ≡ zero icc }
-{
-    (icc >> 2) & 1 == 1
 }
 
 pub(crate) fn overflow(icc: u8) -> bool

@@ -1,6 +1,6 @@
 //! One instruction, executed.
 
-ghost use Rattle.std.specs.Prelude.{◌≡◌, ◌<◌, ◌≤◌, ℕ, List};
+ghost use Rattle.std.specs.Prelude.{◌≡◌, ◌≢◌, ◌<◌, ◌≤◌, ℕ, List};
 ghost use Rattle.guest_bus.specs.Memory.{Area, Memory};
 ghost use Rattle.sparc_code.specs.Decoded.{decoded, format2_row, memory_row, read_state, registers_row, write_state};
 ghost use Rattle.sparc_code.specs.Fields.{op2, op3};
@@ -94,12 +94,25 @@ fn format2(core: &mut Processor, selector: u32, word: u32) -> Turn
     } else if selector == 4 {
         sethi(core, word);
         Turn::Went
-    } else if selector == 6 {
-        Turn::Trap(0x04)
-    } else if selector == 7 {
-        Turn::Trap(0x24)
     } else {
-        Turn::Trap(0x02)
+        Turn::Trap(other_format2(selector))
+    }
+}
+
+// The other selectors of format 2: which trap each raises.
+#[inline(never)]
+#[tactic(auto, unfolding(sparc_code::specs::Decoded::format2_row))]
+fn other_format2(selector: u32) -> u8
+    requires branch { selector ≢ 2 }
+    requires sethi { selector ≢ 4 }
+    ensures { (word : ℕ) (areas : List Area) (core : Registers) (memory : Memory) → executed (format2_row selector word) areas core memory ≡ refused result core memory }
+{
+    if selector == 6 {
+        0x04
+    } else if selector == 7 {
+        0x24
+    } else {
+        0x02
     }
 }
 

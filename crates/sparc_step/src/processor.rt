@@ -92,7 +92,8 @@ impl Processor {
         ensures value { result ≡ self.now.pc }
         ensures aligned { result % 4 ≡ 0 }
     {
-        self.pc
+        // The two low bits are 0, and the compiler is told so.
+        self.pc & 0xffff_fffc
     }
 
     /// The Y register.

@@ -1,13 +1,13 @@
 //! One instruction, with the spill or the fill that it needs.
 
-ghost use Rattle.std.specs.Prelude.{◌≡◌, ◌+◌, ◌%◌};
+ghost use Rattle.std.specs.Prelude.{◌≡◌, ◌≢◌, ◌+◌, ◌%◌};
 ghost use Rattle.sparc_step.specs.Execution.{turned};
 ghost use Rattle.virt_traps.specs.Moves.{filled, spilled};
 ghost use Rattle.virt_traps.specs.Settled.{FailsAlone, GoesOn, IsUndoneButSpill, after_trap, made_again, settled};
 
-use crate::windows::{fill, spill};
+use crate::windows::{StackFault, fill, spill};
 use guest_bus::Bus;
-use sparc_step::{Core, Processor, Turn, turn};
+use sparc_step::{Core, Processor, Turn};
 
 // The trap of a SAVE whose window is the invalid one.
 const OVERFLOW: u8 = 5;
@@ -47,15 +47,16 @@ pub fn settle_at_hand<B: Bus>(processor: &mut Processor, bus: &mut B) -> Turn
 {
     match processor.turn(bus) {
         Turn::Went => Turn::Went,
-        Turn::Trap(trap_type) => after_trap_at_hand(processor, bus, trap_type),
+        Turn::Trap(trap_type) => after_trap(processor, bus, trap_type),
         Turn::Call => Turn::Call,
     }
 }
 
-// The step behind an instruction that trapped, on registers at hand.
+// The step behind an instruction that trapped.
 #[cold]
 #[inline(never)]
-fn after_trap_at_hand<B: Bus>(processor: &mut Processor, bus: &mut B, trap_type: u8) -> Turn
+#[tactic(auto, unfolding(crate::specs::Settled::after_trap))]
+fn after_trap<B: Bus>(processor: &mut Processor, bus: &mut B, trap_type: u8) -> Turn
     requires overflow { trap_type ≡ 5 → (processor.old.cwp + 7) % 8 ≡ processor.old.inv }
     requires underflow { trap_type ≡ 6 → (processor.old.cwp + 1) % 8 ≡ processor.old.inv }
     ensures turn { result ≡ (after_trap trap_type (B.areas bus.old) processor.old (B.memory bus.old)).turn }
@@ -64,28 +65,10 @@ fn after_trap_at_hand<B: Bus>(processor: &mut Processor, bus: &mut B, trap_type:
     ensures areas { B.areas bus.new ≡ B.areas bus.old }
     ensures others { B.others bus.new ≡ B.others bus.old }
 {
-    let mut core = Core::start(0);
-    processor.give(&mut core);
-    let turn = after_trap(&mut core, bus, trap_type);
-    *processor = Processor::of(&core);
-    turn
-}
-
-// The step behind an instruction that trapped.
-#[tactic(auto, unfolding(crate::specs::Settled::after_trap))]
-fn after_trap<B: Bus>(core: &mut Core, bus: &mut B, trap_type: u8) -> Turn
-    requires overflow { trap_type ≡ 5 → (core.old.cwp + 7) % 8 ≡ core.old.inv }
-    requires underflow { trap_type ≡ 6 → (core.old.cwp + 1) % 8 ≡ core.old.inv }
-    ensures turn { result ≡ (after_trap trap_type (B.areas bus.old) core.old (B.memory bus.old)).turn }
-    ensures core { core.new ≡ (after_trap trap_type (B.areas bus.old) core.old (B.memory bus.old)).core }
-    ensures memory { B.memory bus.new ≡ (after_trap trap_type (B.areas bus.old) core.old (B.memory bus.old)).memory }
-    ensures areas { B.areas bus.new ≡ B.areas bus.old }
-    ensures others { B.others bus.new ≡ B.others bus.old }
-{
     if trap_type == OVERFLOW {
-        after_overflow(core, bus)
+        after_overflow(processor, bus)
     } else if trap_type == UNDERFLOW {
-        after_underflow(core, bus)
+        after_underflow(processor, bus)
     } else {
         Turn::Trap(trap_type)
     }
@@ -93,43 +76,76 @@ fn after_trap<B: Bus>(core: &mut Core, bus: &mut B, trap_type: u8) -> Turn
 
 // The step behind a SAVE that met the invalid window: the spill, and the instruction again.
 #[tactic(auto, unfolding(crate::specs::Settled::made_again))]
-fn after_overflow<B: Bus>(core: &mut Core, bus: &mut B) -> Turn
-    requires { (core.old.cwp + 7) % 8 ≡ core.old.inv }
-    ensures turn { result ≡ (made_again 5 (B.areas bus.old) (spilled (B.areas bus.old) core.old (B.memory bus.old))).turn }
-    ensures core { core.new ≡ (made_again 5 (B.areas bus.old) (spilled (B.areas bus.old) core.old (B.memory bus.old))).core }
-    ensures memory { B.memory bus.new ≡ (made_again 5 (B.areas bus.old) (spilled (B.areas bus.old) core.old (B.memory bus.old))).memory }
+fn after_overflow<B: Bus>(processor: &mut Processor, bus: &mut B) -> Turn
+    requires { (processor.old.cwp + 7) % 8 ≡ processor.old.inv }
+    ensures turn { result ≡ (made_again 5 (B.areas bus.old) (spilled (B.areas bus.old) processor.old (B.memory bus.old))).turn }
+    ensures core { processor.new ≡ (made_again 5 (B.areas bus.old) (spilled (B.areas bus.old) processor.old (B.memory bus.old))).core }
+    ensures memory { B.memory bus.new ≡ (made_again 5 (B.areas bus.old) (spilled (B.areas bus.old) processor.old (B.memory bus.old))).memory }
     ensures areas { B.areas bus.new ≡ B.areas bus.old }
     ensures others { B.others bus.new ≡ B.others bus.old }
 {
-    match spill(core, bus) {
-        Ok(()) => again(core, bus),
+    match spill_at_hand(processor, bus) {
+        Ok(()) => again(processor, bus),
         Err(_) => Turn::Trap(OVERFLOW),
     }
 }
 
 // The step behind a RESTORE that met the invalid window: the fill, and the instruction again.
 #[tactic(auto, unfolding(crate::specs::Settled::made_again))]
-fn after_underflow<B: Bus>(core: &mut Core, bus: &mut B) -> Turn
-    requires { (core.old.cwp + 1) % 8 ≡ core.old.inv }
-    ensures turn { result ≡ (made_again 6 (B.areas bus.old) (filled (B.areas bus.old) core.old (B.memory bus.old))).turn }
-    ensures core { core.new ≡ (made_again 6 (B.areas bus.old) (filled (B.areas bus.old) core.old (B.memory bus.old))).core }
-    ensures memory { B.memory bus.new ≡ (made_again 6 (B.areas bus.old) (filled (B.areas bus.old) core.old (B.memory bus.old))).memory }
+fn after_underflow<B: Bus>(processor: &mut Processor, bus: &mut B) -> Turn
+    requires { (processor.old.cwp + 1) % 8 ≡ processor.old.inv }
+    ensures turn { result ≡ (made_again 6 (B.areas bus.old) (filled (B.areas bus.old) processor.old (B.memory bus.old))).turn }
+    ensures core { processor.new ≡ (made_again 6 (B.areas bus.old) (filled (B.areas bus.old) processor.old (B.memory bus.old))).core }
+    ensures memory { B.memory bus.new ≡ (made_again 6 (B.areas bus.old) (filled (B.areas bus.old) processor.old (B.memory bus.old))).memory }
     ensures areas { B.areas bus.new ≡ B.areas bus.old }
     ensures others { B.others bus.new ≡ B.others bus.old }
 {
-    match fill(core, bus) {
-        Ok(()) => again(core, bus),
+    match fill_at_hand(processor, bus) {
+        Ok(()) => again(processor, bus),
         Err(_) => Turn::Trap(UNDERFLOW),
     }
 }
 
-// The instruction again.
-fn again<B: Bus>(core: &mut Core, bus: &mut B) -> Turn
-    ensures turn { result ≡ (turned (B.areas bus.old) core.old (B.memory bus.old)).turn }
-    ensures core { core.new ≡ (turned (B.areas bus.old) core.old (B.memory bus.old)).core }
-    ensures memory { B.memory bus.new ≡ (turned (B.areas bus.old) core.old (B.memory bus.old)).memory }
+// The spill, of registers at hand.
+fn spill_at_hand<B: Bus>(processor: &mut Processor, bus: &mut B) -> Result<(), StackFault>
+    requires { (processor.old.cwp + 1) % 8 ≢ processor.old.inv }
+    ensures answer { result ≡ (spilled (B.areas bus.old) processor.old (B.memory bus.old)).answer }
+    ensures core { processor.new ≡ (spilled (B.areas bus.old) processor.old (B.memory bus.old)).core }
+    ensures memory { B.memory bus.new ≡ (spilled (B.areas bus.old) processor.old (B.memory bus.old)).memory }
     ensures areas { B.areas bus.new ≡ B.areas bus.old }
     ensures others { B.others bus.new ≡ B.others bus.old }
 {
-    turn(core, bus)
+    let mut core = Core::start(0);
+    processor.give(&mut core);
+    let answer = spill(&mut core, bus);
+    *processor = Processor::of(&core);
+    answer
+}
+
+// The fill, of registers at hand.
+fn fill_at_hand<B: Bus>(processor: &mut Processor, bus: &mut B) -> Result<(), StackFault>
+    requires { (processor.old.inv + 1) % 8 ≢ processor.old.cwp }
+    ensures answer { result ≡ (filled (B.areas bus.old) processor.old (B.memory bus.old)).answer }
+    ensures core { processor.new ≡ (filled (B.areas bus.old) processor.old (B.memory bus.old)).core }
+    ensures memory { B.memory bus.new ≡ (filled (B.areas bus.old) processor.old (B.memory bus.old)).memory }
+    ensures areas { B.areas bus.new ≡ B.areas bus.old }
+    ensures others { B.others bus.new ≡ B.others bus.old }
+{
+    let mut core = Core::start(0);
+    processor.give(&mut core);
+    let answer = fill(&mut core, bus);
+    *processor = Processor::of(&core);
+    answer
+}
+
+// The instruction again.
+#[inline(never)]
+fn again<B: Bus>(processor: &mut Processor, bus: &mut B) -> Turn
+    ensures turn { result ≡ (turned (B.areas bus.old) processor.old (B.memory bus.old)).turn }
+    ensures core { processor.new ≡ (turned (B.areas bus.old) processor.old (B.memory bus.old)).core }
+    ensures memory { B.memory bus.new ≡ (turned (B.areas bus.old) processor.old (B.memory bus.old)).memory }
+    ensures areas { B.areas bus.new ≡ B.areas bus.old }
+    ensures others { B.others bus.new ≡ B.others bus.old }
+{
+    processor.turn(bus)
 }

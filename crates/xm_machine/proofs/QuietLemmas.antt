@@ -74,8 +74,7 @@ steps_quiet p (suc count) ps ready went =
     let clock : ps.execution_clock + count + 1 ≡ ps.execution_clock + suc count = omega arith in
     let left : clocked (with_turned (settled bare_areas t.core t.memory) (after_steps count ps)) ≡ after_steps (suc count) ps =
     ap (λ (c : ℕ). with_run (settled bare_areas t.core t.memory).core (settled bare_areas t.core t.memory).memory c ps) clock
-    ∙ ap (λ (x : Turned). with_run x.core x.memory (ps.execution_clock + suc count) ps) (sym then') in
-    (
+    ∙ ap (λ (x : Turned). with_run x.core x.memory (ps.execution_clock + suc count) ps) (sym then') in (
       after_steps count ps,
       steps_quiet p count ps ready before,
       λ n. tick_by n p (after_steps count ps) Went ready now
@@ -166,8 +165,7 @@ quiet_steps g first (suc count) ps areas one running quiet =
     let mid = quietly count quiet.0 g in
     let turn : step mid ≡ step_by mid 0 quiet.0.core.pc (part_turn mid.ticks 0 bare_areas quiet.0) = step-turn mid quiet.0 areas refl running refl in
     let time : g.time + count + 1 ≡ g.time + suc count = omega arith in
-    let ticks : g.ticks + count + 1 ≡ g.ticks + suc count = omega arith in
-    (
+    let ticks : g.ticks + count + 1 ≡ g.ticks + suc count = omega arith in (
       mid,
       quiet_steps g first count quiet.0 areas one running quiet.1,
       turn ∙ ap (λ (l : Option Local). step_by mid 0 quiet.0.core.pc l) (quiet.2 mid.ticks)
@@ -247,8 +245,7 @@ machine_turns g first new quiet last areas one running at turns told = record {
         let same : passed (with_part mid 0 new) ≡ turned_on (quiet + 1) new g =
         ap (λ (xs : List PartitionState). record g { parts = xs; time = g.time + quiet + 1; ticks = g.ticks + quiet + 1 }) (ap (λ (xs : List PartitionState). set xs 0 new) (sym only))
         ∙ ap (λ (t : ℕ). record g { parts = set g.parts 0 new; time = t; ticks = g.ticks + quiet + 1 }) (time g.time)
-        ∙ ap (λ (t : ℕ). record g { parts = set g.parts 0 new; time = g.time + (quiet + 1); ticks = t }) (time g.ticks) in
-        (
+        ∙ ap (λ (t : ℕ). record g { parts = set g.parts 0 new; time = g.time + (quiet + 1); ticks = t }) (time g.ticks) in (
           step-done mid turns.between new note areas refl running refl turn
               ∙ ap (λ (h : MachineState). Stepped h (lines_at note mid.ticks 0 h)) same,
           told,

@@ -78,12 +78,15 @@ fn go(core: &mut Processor, memory: &mut AreaMemory, most: u64) -> Gone
     ensures gone { IsGone result.turn result.went most bare_areas (stepped result.went bare_areas core.old memory.old) core.new memory.new }
     ensures at { result.pc ≡ (stepped result.went bare_areas core.old memory.old).core.pc }
 {
+    // In a local of the loop, which the compiler knows better than a borrow.
+    let mut own = std::mem::replace(core, Processor::of(&Core::start(AREA_START)));
     let mut went = 0;
     while went < most {
-        let pc = core.pc();
-        match settle_at_hand(core, memory) {
+        let pc = own.pc();
+        match settle_at_hand(&mut own, memory) {
             Turn::Went => went += 1,
             Turn::Trap(trap_type) => {
+                *core = own;
                 return Gone {
                     went,
                     turn: Turn::Trap(trap_type),
@@ -91,6 +94,7 @@ fn go(core: &mut Processor, memory: &mut AreaMemory, most: u64) -> Gone
                 };
             }
             Turn::Call => {
+                *core = own;
                 return Gone {
                     went,
                     turn: Turn::Call,
@@ -99,10 +103,12 @@ fn go(core: &mut Processor, memory: &mut AreaMemory, most: u64) -> Gone
             }
         }
     }
+    let pc = own.pc();
+    *core = own;
     Gone {
         went,
         turn: Turn::Went,
-        pc: core.pc(),
+        pc,
     }
 }
 

@@ -8,8 +8,8 @@ use guest_bus::{Bus, Size};
 use sparc_step::{Core, Turn};
 use std::alloc::Global;
 use std::test::Fail;
-use xm_base::TICKS;
 use virt_traps::settle;
+use xm_base::TICKS;
 use xm_outside::MemSink;
 
 // Says "hi" and halts.

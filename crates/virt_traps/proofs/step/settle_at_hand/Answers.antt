@@ -3,11 +3,11 @@ use Rattle.virt_traps.specs.Settled.{settled}
 use Rattle.virt_traps.proofs.SettledLemmas.{settled_pieces, turned_trap}
 use Rattle.virt_traps.proofs.step.settle_at_hand.Goals as goal
 
-pub after_trap_at_hand-requires-clause-overflow : goal.after_trap_at_hand-requires-clause-overflow
-after_trap_at_hand-requires-clause-overflow g c = (turned_trap _ _ _ _ _ _ c.in-Trap.ensures.turn c.in-Trap.ensures.core c.in-Trap.ensures.memory).overflow
+pub after_trap-requires-clause-overflow : goal.after_trap-requires-clause-overflow
+after_trap-requires-clause-overflow g c = (turned_trap _ _ _ _ _ _ c.in-Trap.ensures.turn c.in-Trap.ensures.core c.in-Trap.ensures.memory).overflow
 
-pub after_trap_at_hand-requires-clause-underflow : goal.after_trap_at_hand-requires-clause-underflow
-after_trap_at_hand-requires-clause-underflow g c = (turned_trap _ _ _ _ _ _ c.in-Trap.ensures.turn c.in-Trap.ensures.core c.in-Trap.ensures.memory).underflow
+pub after_trap-requires-clause-underflow : goal.after_trap-requires-clause-underflow
+after_trap-requires-clause-underflow g c = (turned_trap _ _ _ _ _ _ c.in-Trap.ensures.turn c.in-Trap.ensures.core c.in-Trap.ensures.memory).underflow
 
 pub returns-in-Trap-clause-turn : goal.returns-in-Trap-clause-turn
 unfolding settled

@@ -7,7 +7,7 @@ use Rattle.xm_machine.proofs.partition.go.Given as goal
 abbrev pub invariant-loop-went : goal.invariant-loop-went
 invariant-loop-went l = record {
   went : (stepped l.went bare_areas l.fn.core l.fn.memory).turn ≡ Went;
-  core : l.core ≡ (stepped l.went bare_areas l.fn.core l.fn.memory).core;
+  own : l.own ≡ (stepped l.went bare_areas l.fn.core l.fn.memory).core;
   memory : l.memory ≡ (stepped l.went bare_areas l.fn.core l.fn.memory).memory;
   few : l.went ≤ l.most;
 }
