@@ -33,26 +33,23 @@ use crate::words::{
 };
 use sparc_code::Arith;
 
-// Work on registers, from a selector below 28.
+// Work on registers, from the selectors 08 to 27.
 #[inline(always)]
 pub(crate) fn work(core: &mut Processor, selector: u32, word: u32) -> Turn
-    requires { selector < 0x28 }
+    requires from { 8 ≤ selector }
+    requires below { selector < 0x28 }
     ensures turn { (areas : List Area) (memory : Memory) → result ≡ (executed (registers_row selector word) areas core.old memory).turn }
     ensures core { (areas : List Area) (memory : Memory) → core.new ≡ (executed (registers_row selector word) areas core.old memory).core }
     ensures memory { (areas : List Area) (memory : Memory) → memory ≡ (executed (registers_row selector word) areas core.old memory).memory }
 {
-    if selector < 0x10 {
-        if selector < 8 {
-            plain(core, selector, word)
-        } else {
+    if selector < 0x18 {
+        if selector < 0x10 {
             extended(core, selector, word)
+        } else {
+            coded(core, selector, word)
         }
     } else if selector < 0x20 {
-        if selector < 0x18 {
-            coded(core, selector, word)
-        } else {
-            extended_coded(core, selector, word)
-        }
+        extended_coded(core, selector, word)
     } else if selector < 0x25 {
         stepped(core, selector, word)
     } else {
@@ -63,7 +60,7 @@ pub(crate) fn work(core: &mut Processor, selector: u32, word: u32) -> Turn
 // The selectors 00 to 07.
 #[tactic(auto, unfolding(sparc_code::specs::Decoded::registers_row))]
 #[inline(always)]
-fn plain(core: &mut Processor, selector: u32, word: u32) -> Turn
+pub(crate) fn plain(core: &mut Processor, selector: u32, word: u32) -> Turn
     requires { selector < 8 }
     ensures turn { (areas : List Area) (memory : Memory) → result ≡ (executed (registers_row selector word) areas core.old memory).turn }
     ensures core { (areas : List Area) (memory : Memory) → core.new ≡ (executed (registers_row selector word) areas core.old memory).core }
@@ -72,12 +69,14 @@ fn plain(core: &mut Processor, selector: u32, word: u32) -> Turn
     let a = first(core, word);
     let b = second(core, word);
     if selector < 4 {
-        if selector == 0x00 {
-            put(core, word, sum(a, b, false));
+        if selector < 2 {
+            if selector == 0x00 {
+                put(core, word, sum(a, b, false));
+            } else {
+                put(core, word, a & b);
+            }
         } else if selector == 0x02 {
             put(core, word, a | b);
-        } else if selector < 2 {
-            put(core, word, a & b);
         } else {
             put(core, word, a ^ b);
         }

@@ -8,12 +8,12 @@ ghost use Rattle.sparc_step.specs.Execution.{executed, refused, turned};
 ghost use Rattle.sparc_step.specs.Registers.{Registers, advanced};
 ghost use Rattle.sparc_step.specs.Undone.{IsUndone};
 
-use crate::arithmetic::work;
+use crate::arithmetic::{plain, work};
 use crate::flow::{branch, call, jump, read_y, restore, save, sethi, trap, write_y};
 use crate::outcome::Turn;
 use crate::processor::Processor;
 use crate::registers::Core;
-use crate::transfers::transfer;
+use crate::transfers::{load, transfer};
 use guest_bus::Bus;
 use sparc_code::fields::{op, op2, op3, rd, rs1};
 
@@ -30,7 +30,7 @@ pub fn turn<B: Bus>(core: &mut Core, bus: &mut B) -> Turn
 {
     let mut processor = Processor::of(core);
     let turn = processor.turn(bus);
-    processor.give(core);
+    *core = processor.core();
     turn
 }
 
@@ -124,7 +124,9 @@ fn on_registers(core: &mut Processor, selector: u32, word: u32) -> Turn
     ensures core { (areas : List Area) (memory : Memory) → core.new ≡ (executed (registers_row selector word) areas core.old memory).core }
     ensures memory { (areas : List Area) (memory : Memory) → memory ≡ (executed (registers_row selector word) areas core.old memory).memory }
 {
-    if selector < 0x28 {
+    if selector < 8 {
+        plain(core, selector, word)
+    } else if selector < 0x28 {
         work(core, selector, word)
     } else if selector >= 0x38 {
         transfer_control(core, selector, word)
@@ -235,7 +237,9 @@ fn on_memory<B: Bus>(core: &mut Processor, bus: &mut B, selector: u32, word: u32
     ensures areas { B.areas bus.new ≡ B.areas bus.old }
     ensures others { B.others bus.new ≡ B.others bus.old }
 {
-    if selector < 16 {
+    if selector < 4 {
+        load(core, bus, selector, word)
+    } else if selector < 16 {
         transfer(core, bus, selector, word)
     } else if selector < 32 {
         Turn::Trap(other_space(selector))

@@ -22,7 +22,7 @@ use std::marker::Model;
 
 /// The registers of a guest's processor, those of the current window at hand by their numbers.
 ///
-/// It is the form for many instructions: a `Core` is taken to hand before them, and given back after.
+/// It is the form for many instructions: a `Core` is taken to hand before them, and asked for after.
 #[derive(Debug, Drop)]
 pub struct Processor {
     pc: u32,
@@ -69,21 +69,25 @@ impl Processor {
         }
     }
 
-    /// Gives the registers back.
+    /// The registers as they are now.
     #[tactic(auto, unfolding(crate::specs::AtHand::gathered))]
-    pub fn give(&self, core: &mut Core)
-        ensures { core.new ≡ self.now }
+    pub fn core(&self) -> Core
+        ensures { result ≡ self.now }
     {
+        let mut globals = [0; 8];
+        give_globals(&mut globals, &self.hand);
         let mut windows = self.windows;
         write_window(&mut windows, &self.hand, self.cwp);
-        core.pc = self.pc;
-        core.npc = self.npc;
-        core.y = self.y;
-        core.icc = self.icc;
-        core.cwp = self.cwp;
-        core.inv = self.inv;
-        give_globals(&mut core.globals, &self.hand);
-        core.windows = windows;
+        Core {
+            pc: self.pc,
+            npc: self.npc,
+            y: self.y,
+            icc: self.icc,
+            cwp: self.cwp,
+            inv: self.inv,
+            globals,
+            windows,
+        }
     }
 
     /// The program counter.
@@ -246,6 +250,7 @@ fn give_globals(globals: &mut [u32], hand: &[u32])
 }
 
 // Takes a window to hand: its outs and locals, and its ins.
+#[inline(always)]
 fn take_window(hand: &mut [u32], windows: &[u32], window: u8)
     requires hand { length hand.old ≡ 32 }
     requires windows { length windows.now ≡ 128 }
@@ -258,6 +263,7 @@ fn take_window(hand: &mut [u32], windows: &[u32], window: u8)
 }
 
 // Takes the outs and locals of a window to hand.
+#[inline(always)]
 fn take_own(hand: &mut [u32], windows: &[u32], at: usize)
     requires hand { length hand.old ≡ 32 }
     requires windows { at + 16 ≤ length windows.now }
@@ -267,6 +273,7 @@ fn take_own(hand: &mut [u32], windows: &[u32], at: usize)
 }
 
 // Takes the ins of a window to hand.
+#[inline(always)]
 fn take_ins(hand: &mut [u32], windows: &[u32], at: usize)
     requires hand { length hand.old ≡ 32 }
     requires windows { at + 8 ≤ length windows.now }
@@ -276,6 +283,7 @@ fn take_ins(hand: &mut [u32], windows: &[u32], at: usize)
 }
 
 // Writes what is at hand of a window back to the windows.
+#[inline(always)]
 fn write_window(windows: &mut [u32], hand: &[u32], window: u8)
     requires hand { length hand.now ≡ 32 }
     requires windows { length windows.old ≡ 128 }
@@ -287,6 +295,7 @@ fn write_window(windows: &mut [u32], hand: &[u32], window: u8)
 }
 
 // Writes the outs and locals back.
+#[inline(always)]
 fn write_own(windows: &mut [u32], hand: &[u32], at: usize)
     requires hand { length hand.now ≡ 32 }
     requires windows { at + 16 ≤ length windows.old }
@@ -296,6 +305,7 @@ fn write_own(windows: &mut [u32], hand: &[u32], at: usize)
 }
 
 // Writes the ins back.
+#[inline(always)]
 fn write_ins(windows: &mut [u32], hand: &[u32], at: usize)
     requires hand { length hand.now ≡ 32 }
     requires windows { at + 8 ≤ length windows.old }

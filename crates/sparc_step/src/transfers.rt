@@ -26,10 +26,11 @@ use crate::processor::Processor;
 use guest_bus::{Bus, BusFault, Size};
 use sparc_code::fields::rd;
 
-// The selectors 00 to 0f.
+// The selectors 04 to 0f.
 #[inline(always)]
 pub(crate) fn transfer<B: Bus>(core: &mut Processor, bus: &mut B, selector: u32, word: u32) -> Turn
-    requires { selector < 16 }
+    requires from { 4 ≤ selector }
+    requires below { selector < 16 }
     ensures turn { result ≡ (executed (memory_row selector word) (B.areas bus.old) core.old (B.memory bus.old)).turn }
     ensures core { core.new ≡ (executed (memory_row selector word) (B.areas bus.old) core.old (B.memory bus.old)).core }
     ensures memory { B.memory bus.new ≡ (executed (memory_row selector word) (B.areas bus.old) core.old (B.memory bus.old)).memory }
@@ -37,11 +38,7 @@ pub(crate) fn transfer<B: Bus>(core: &mut Processor, bus: &mut B, selector: u32,
     ensures others { B.others bus.new ≡ B.others bus.old }
 {
     if selector < 8 {
-        if selector < 4 {
-            load(core, bus, selector, word)
-        } else {
-            store(core, bus, selector, word)
-        }
+        store(core, bus, selector, word)
     } else {
         load_signed_or_exchange(core, bus, selector, word)
     }
@@ -50,7 +47,7 @@ pub(crate) fn transfer<B: Bus>(core: &mut Processor, bus: &mut B, selector: u32,
 // The selectors 00 to 03.
 #[tactic(auto, unfolding(sparc_code::specs::Decoded::memory_row))]
 #[inline(always)]
-fn load<B: Bus>(core: &mut Processor, bus: &mut B, selector: u32, word: u32) -> Turn
+pub(crate) fn load<B: Bus>(core: &mut Processor, bus: &mut B, selector: u32, word: u32) -> Turn
     requires { selector < 4 }
     ensures turn { result ≡ (executed (memory_row selector word) (B.areas bus.old) core.old (B.memory bus.old)).turn }
     ensures core { core.new ≡ (executed (memory_row selector word) (B.areas bus.old) core.old (B.memory bus.old)).core }

@@ -28,7 +28,7 @@ pub fn settle<B: Bus>(core: &mut Core, bus: &mut B) -> Turn
 {
     let mut processor = Processor::of(core);
     let turn = settle_at_hand(&mut processor, bus);
-    processor.give(core);
+    *core = processor.core();
     turn
 }
 
@@ -115,8 +115,7 @@ fn spill_at_hand<B: Bus>(processor: &mut Processor, bus: &mut B) -> Result<(), S
     ensures areas { B.areas bus.new ≡ B.areas bus.old }
     ensures others { B.others bus.new ≡ B.others bus.old }
 {
-    let mut core = Core::start(0);
-    processor.give(&mut core);
+    let mut core = processor.core();
     let answer = spill(&mut core, bus);
     *processor = Processor::of(&core);
     answer
@@ -131,8 +130,7 @@ fn fill_at_hand<B: Bus>(processor: &mut Processor, bus: &mut B) -> Result<(), St
     ensures areas { B.areas bus.new ≡ B.areas bus.old }
     ensures others { B.others bus.new ≡ B.others bus.old }
 {
-    let mut core = Core::start(0);
-    processor.give(&mut core);
+    let mut core = processor.core();
     let answer = fill(&mut core, bus);
     *processor = Processor::of(&core);
     answer

@@ -72,7 +72,9 @@ struct Gone {
     pc: u32,
 }
 
-// Steps, at most so many, up to the first that does more than go.
+// Steps, at most so many, up to the first that does more than go. It stands by itself, so that the
+// compiler has all of its registers for the loop.
+#[inline(never)]
 fn go(core: &mut Processor, memory: &mut AreaMemory, most: u64) -> Gone
     ensures went { (stepped result.went bare_areas core.old memory.old).turn ≡ Turn.Went }
     ensures gone { IsGone result.turn result.went most bare_areas (stepped result.went bare_areas core.old memory.old) core.new memory.new }
