@@ -1,19 +1,12 @@
 //! The registers of a processor.
 
-ghost use Rattle.std.specs.Prelude.{◌≡◌, ◌≢◌, ℕ, ◌%◌, ◌<◌, ◌≤◌};
+ghost use Rattle.std.specs.Prelude.{◌≡◌, ℕ, ◌%◌, ◌<◌, ◌≤◌};
 ghost use Rattle.sparc_step.specs.Registers.{
   AreRegisters,
-  advanced,
-  branched,
-  in_window,
   place_in_windows,
   register_at,
-  sent,
-  skipped,
   started,
-  with_icc,
   with_register,
-  with_y,
 };
 
 use std::marker::Model;
@@ -91,71 +84,6 @@ impl Core {
         } else if r > 0 {
             self.globals[usize::from(r)] = value;
         }
-    }
-
-    /// Goes on to the next instruction.
-    #[tactic(auto, unfolding(crate::specs::Registers::advanced))]
-    pub(crate) fn advance(&mut self)
-        ensures { self.new ≡ advanced self.old }
-    {
-        self.pc = self.npc;
-        self.npc = self.npc.wrapping_add(4);
-    }
-
-    /// Goes on to the next instruction, and after it to the target.
-    #[tactic(auto, unfolding(crate::specs::Registers::branched))]
-    pub(crate) fn branch(&mut self, target: u32)
-        requires { target % 4 ≡ 0 }
-        ensures { self.new ≡ branched self.old target }
-    {
-        self.pc = self.npc;
-        self.npc = target;
-    }
-
-    /// Goes on behind the next instruction, which is annulled.
-    #[tactic(auto, unfolding(crate::specs::Registers::skipped))]
-    pub(crate) fn skip(&mut self)
-        ensures { self.new ≡ skipped self.old }
-    {
-        self.pc = self.npc.wrapping_add(4);
-        self.npc = self.npc.wrapping_add(8);
-    }
-
-    /// Goes on at the target, the next instruction being annulled.
-    #[tactic(auto, unfolding(crate::specs::Registers::sent))]
-    pub(crate) fn send(&mut self, target: u32)
-        requires { target % 4 ≡ 0 }
-        ensures { self.new ≡ sent self.old target }
-    {
-        self.pc = target;
-        self.npc = target.wrapping_add(4);
-    }
-
-    /// Enters a window that is valid.
-    #[tactic(auto, unfolding(crate::specs::Registers::in_window))]
-    pub(crate) fn enter(&mut self, window: u8)
-        requires window { window < 8 }
-        requires valid { window ≢ self.old.inv }
-        ensures { self.new ≡ in_window self.old window }
-    {
-        self.cwp = window;
-    }
-
-    /// Sets Y.
-    #[tactic(auto, unfolding(crate::specs::Registers::with_y))]
-    pub(crate) fn set_y(&mut self, y: u32)
-        ensures { self.new ≡ with_y self.old y }
-    {
-        self.y = y;
-    }
-
-    /// Sets the condition codes.
-    #[tactic(auto, unfolding(crate::specs::Registers::with_icc))]
-    pub(crate) fn set_icc(&mut self, icc: u8)
-        requires { icc < 16 }
-        ensures { self.new ≡ with_icc self.old icc }
-    {
-        self.icc = icc;
     }
 }
 

@@ -8,6 +8,7 @@ ghost use Rattle.guest_bus.specs.Access.{width_of};
 use crate::conditions::holds;
 use crate::execution::{execute, turn};
 use crate::outcome::Turn;
+use crate::processor::Processor;
 use crate::registers::Core;
 use guest_bus::{Bus, BusFault, Size};
 
@@ -62,7 +63,10 @@ fn bytes_of(size: Size) -> u32
 }
 
 fn executed(core: &mut Core, word: u32) -> Turn {
-    execute(core, &mut Nothing, word)
+    let mut processor = Processor::of(core);
+    let turn = execute(&mut processor, &mut Nothing, word);
+    *core = processor.core();
+    turn
 }
 
 #[test]
@@ -703,8 +707,8 @@ fn work_on_registers_is_as_observed(rt: HostRuntime) {
         ),
     ] {
         let mut core = Core::start(0x4000_1000);
-        core.set_icc(icc & 15);
-        core.set_y(y);
+        core.icc = icc & 15;
+        core.y = y;
         core.set(first.0 & 31, first.1);
         core.set(second.0 & 31, second.1);
         assert_eq!(rt; executed(&mut core, word), outcome, "{word:x}");
@@ -765,7 +769,7 @@ fn divisions_saturate_and_trap(rt: HostRuntime) {
         (0x9722_400a, 1, 3, 5, Turn::Went, 0x8000_0000, 6),
     ] {
         let mut core = Core::start(0x4000_0010);
-        core.set_y(y);
+        core.y = y;
         core.set(9, first);
         core.set(10, second);
         assert_eq!(rt; executed(&mut core, word), outcome, "{word:x} of {first:x}");
@@ -833,7 +837,7 @@ fn branches_and_traps_go_where_they_say(rt: HostRuntime) {
         (0xd418_2004, 0x0, Turn::Trap(0x07), 0x4000_0010, 0x4000_0014),
     ] {
         let mut core = Core::start(0x4000_0010);
-        core.set_icc(icc & 15);
+        core.icc = icc & 15;
         assert_eq!(rt; executed(&mut core, word), outcome, "{word:x}");
         assert_eq!(rt; [core.pc, core.npc], [pc, npc], "{word:x}");
     }
