@@ -2,9 +2,12 @@ pub mod Bytes
 pub mod BytesLemmas
 pub mod Cuts
 pub mod Draft
+pub mod Drafts
+pub mod DraftsLemmas
 pub mod Elements
 pub mod Faults
 pub mod FaultsLemmas
+pub mod Laws
 pub mod Readings
 pub mod Seen
 pub mod Spelling

@@ -18,7 +18,7 @@ mod word;
 
 pub use draft::{Draft, Element, Entry};
 pub use fault::ReadFault;
-pub use law::{spelled, taken};
+pub use law::{drafted, spelled, taken};
 pub use reading::read_xmcf;
 pub use word::Word;
 
