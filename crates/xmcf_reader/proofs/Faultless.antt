@@ -1,5 +1,5 @@
 -- A text without a fault gives a draft.
-use Rattle.std.proofs.Common.{◌≡◌, ℕ, ◌+◌, Bool, true, false, cond, List, [], ◌∷◌, ◌++◌, length, Option, Some, None, refl, sym, subst}
+use Rattle.std.proofs.Common.{◌≡◌, ℕ, ◌+◌, Bool, true, false, cond, List, [], ◌∷◌, ◌++◌, length, Option, Some, None, refl, sym, subst, ap}
 use Rattle.std.specs.Prelude.{not, ◌&&◌, nat_lt}
 use Rattle.std.specs.List.{slice_get, AllByRecursion}
 use Rattle.std.specs.Str.{bytes_eq}
@@ -27,37 +27,37 @@ use Rattle.xmcf_reader.proofs.Stands as stands
 use Rattle.xmcf_reader.proofs.Stands.{Stands, Enters, drafted}
 
 -- of two lists that make none, neither has anything
-no_first : {X : Type 0} (some more : List X) → some ++ more ≡ [] → some ≡ []
+pub no_first : {X : Type 0} (some more : List X) → some ++ more ≡ [] → some ≡ []
 no_first [] more e = refl
 no_first (x ∷ some) more e = cc
 
-no_second : {X : Type 0} (some more : List X) → some ++ more ≡ [] → more ≡ []
+pub no_second : {X : Type 0} (some more : List X) → some ++ more ≡ [] → more ≡ []
 no_second [] more e = e
 no_second (x ∷ some) more e = cc
 
 -- a fault that does not come
-not_when : (comes : Bool) (one : ReadFault) → when comes one ≡ [] → comes ≡ false
+pub not_when : (comes : Bool) (one : ReadFault) → when comes one ≡ [] → comes ≡ false
 not_when true one e = cc
 not_when false one e = refl
 
-is_so : (holds : Bool) → not holds ≡ false → holds ≡ true
+pub is_so : (holds : Bool) → not holds ≡ false → holds ≡ true
 is_so true e = refl
 is_so false e = cc
 
-is_not_so : (holds : Bool) → not holds ≡ true → holds ≡ false
+pub is_not_so : (holds : Bool) → not holds ≡ true → holds ≡ false
 is_not_so true e = cc
 is_not_so false e = refl
 
-both_left : (a b : Bool) → (a && b) ≡ true → a ≡ true
+pub both_left : (a b : Bool) → (a && b) ≡ true → a ≡ true
 both_left true b e = refl
 both_left false b e = cc
 
-both_right : (a b : Bool) → (a && b) ≡ true → b ≡ true
+pub both_right : (a b : Bool) → (a && b) ≡ true → b ≡ true
 both_right true b e = e
 both_right false b e = cc
 
 -- what stands where it has to
-stands_here : (holds : Bool) (one : ReadFault) (more : List ReadFault) → when (not holds) one ++ more ≡ [] → holds ≡ true
+pub stands_here : (holds : Bool) (one : ReadFault) (more : List ReadFault) → when (not holds) one ++ more ≡ [] → holds ≡ true
 stands_here holds one more e = is_so holds (not_when (not holds) one (no_first (when (not holds) one) more e))
 
 -- the values of a tag have their forms
@@ -109,7 +109,7 @@ all_elements : AllByRecursion (λ word. is_element word ≡ true) elements
 all_elements = (refl, (refl, (refl, (refl, (refl, (refl, (refl, (refl, (refl, (refl, (refl, (refl, (refl, (refl, (refl, (refl, (refl, (refl, (refl, (refl, (refl, (refl, (refl, (refl, (refl, (refl, (refl, (refl, tt))))))))))))))))))))))))))))
 
 -- what bytes name is an element
-named_element : (name : List ℕ) (word : Word) → element_named name ≡ Some word → is_element word ≡ true
+pub named_element : (name : List ℕ) (word : Word) → element_named name ≡ Some word → is_element word ≡ true
 unfolding element_named
 named_element name word e = found_all (λ word. is_element word ≡ true) (λ element. bytes_eq (word_text element) name) elements word e all_elements
 
@@ -207,7 +207,11 @@ tag_built tag open_elements entries at is none =
 -- what a start tag without a fault leaves
 pub record Ended (context : Context) : Type 0 where
   pub entry : Entry
+  pub place : entry.at ≡ context.tag.at
+  pub parent : entry.parent ≡ parent_number context.open_elements
+  pub values : Some entry.what ≡ built context.tag.word context.tag.given
   pub word : word_of entry.what ≡ context.tag.word
+  pub more : (tag_ended context).entries ≡ context.entries ++ entry ∷ []
   pub enters : Enters (tag_ended context).entries (tag_ended context).open_elements (length context.entries) entry
 
 -- a start tag ends
@@ -218,14 +222,18 @@ ended context (Some what) is of sound tag =
     let entry : Entry = record { at = context.tag.at; parent = parent_number context.open_elements; what = what } in
     record {
       entry = entry;
+      place = refl;
+      parent = refl;
+      values = is;
       word = of;
+      more = ap (λ found. entered found context) (sym is);
       enters = subst (λ (found : Option Element). Enters (entered found context) (noted context.tag.word context.open_elements) (length context.entries) entry) is
           (subst (λ (word : Word). Enters (context.entries ++ entry ∷ []) (noted word context.open_elements) (length context.entries) entry) of
           (stands.entered context.entries context.open_elements entry sound.stands (subst (λ (word : Word). may_stand word context.open_elements ≡ true) (sym of) tag.may) tag.undone refl));
     }
 
 -- a start tag that breaks nothing ends
-tag_ends : (context : Context) (at : ℕ) → Sound context → may_end context.stage ≡ true → missing_attributes context.tag.word context.tag.given at ≡ [] → Ended context
+pub tag_ends : (context : Context) (at : ℕ) → Sound context → may_end context.stage ≡ true → missing_attributes context.tag.word context.tag.given at ≡ [] → Ended context
 tag_ends context at sound may none =
     let tag = ended_tag context.stage context.tag context.open_elements context.entries may sound.tag in
     ended context (built context.tag.word context.tag.given) refl (tag_built context.tag context.open_elements context.entries at tag none) sound tag
@@ -338,15 +346,20 @@ some_least one (Some other) e = by (comes_before other one) e
     by false e = cc
 
 -- where the least is none, there are none
-none_least : (faults : List ReadFault) → least faults ≡ None → faults ≡ []
+pub none_least : (faults : List ReadFault) → least faults ≡ None → faults ≡ []
 none_least [] e = refl
 none_least (one ∷ others) e = absurd (some_least one (least others) e)
 
--- a text without a fault gives a draft
-pub text_drafted : (text : List ℕ) → xmcf_fault text ≡ None → IsDraft (draft_of text)
-unfolding xmcf_fault draft_of
-text_drafted text none = cut_drafted start (cut 0 0 text) sound_start (none_least (faults_from start (cut 0 0 text)) (at (nat_lt (utf8_valid_len text) (length text)) none))
+-- the tokens of a text without a fault break nothing
+pub none_broken : (text : List ℕ) → xmcf_fault text ≡ None → faults_from start (cut 0 0 text) ≡ []
+unfolding xmcf_fault
+none_broken text none = none_least (faults_from start (cut 0 0 text)) (at (nat_lt (utf8_valid_len text) (length text)) none)
   where
     at : (short : Bool) → cond short (Some (fault.NotText (utf8_valid_len text))) (least (faults_from start (cut 0 0 text))) ≡ None → least (faults_from start (cut 0 0 text)) ≡ None
     at true e = cc
     at false e = e
+
+-- a text without a fault gives a draft
+pub text_drafted : (text : List ℕ) → xmcf_fault text ≡ None → IsDraft (draft_of text)
+unfolding draft_of
+text_drafted text none = cut_drafted start (cut 0 0 text) sound_start (none_broken text none)

@@ -13,3 +13,5 @@ mod Built
 mod Counts
 mod Stands
 mod Faultless
+mod Paths
+mod OfTags

@@ -17,7 +17,7 @@ use Rattle.xmcf_reader.specs.declared.word.Word.TheVariants as word
 use Rattle.xmcf_reader.proofs.Counts.{Partly, partly_none, partly_more, complete}
 
 -- what stands at a number still does when one more is behind
-got_before : {X : Type 0} (xs : List X) (y x : X) (k : ℕ) → slice_get xs k ≡ Some x → slice_get (xs ++ y ∷ []) k ≡ Some x
+pub got_before : {X : Type 0} (xs : List X) (y x : X) (k : ℕ) → slice_get xs k ≡ Some x → slice_get (xs ++ y ∷ []) k ≡ Some x
 got_before [] y x k e = cc
 got_before (z ∷ xs) y x zero e = e
 got_before (z ∷ xs) y x (suc k) e = got_before xs y x k e

@@ -12,6 +12,7 @@ pub mod Readings
 pub mod Seen
 pub mod Spelling
 pub mod Table
+pub mod Tags
 pub mod Texts
 pub mod Tokens
 pub mod Trees

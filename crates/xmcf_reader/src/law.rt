@@ -1,6 +1,6 @@
 //! What the tokens of a text are, and what its draft keeps.
 
-ghost use Rattle.xmcf_reader.specs.Laws.{FaultlessIsDraft};
+ghost use Rattle.xmcf_reader.specs.Laws.{FaultlessIsDraft, FaultlessIsOfTags};
 ghost use Rattle.xmcf_reader.specs.Spelling.{SpelledIsTaken, TextIsCut};
 
 /// A text is its tokens, as they are spelled, and then the rest that begins no token.
@@ -17,4 +17,11 @@ pub fn taken()
 /// children that the table allows and demands.
 pub fn drafted()
     ensures { FaultlessIsDraft }
+{}
+
+/// The entries of a text without a fault are those of its start tags, one each and in their order: the place, the element and
+/// the values of the tag, below the innermost element that is open there, which is told by counting where elements begin and
+/// end.
+pub fn nested()
+    ensures { FaultlessIsOfTags }
 {}
