@@ -131,7 +131,8 @@ pub struct Entry {
     pub what: Element,
 }
 
-/// The elements of a text, in the order of their `<`.
+/// The elements of a text, in the order of their `<`. Entry 0 is the system; the parent of each later one stands before it;
+/// and each has the children that the table allows and demands.
 #[derive(Debug, Drop)]
 pub struct Draft {
     entries: Vec<Entry>,
@@ -158,8 +159,7 @@ impl Draft {
         Draft { entries }
     }
 
-    /// The elements, in the order of their `<`. Entry 0 is the system; the parent of each later one stands before it; and
-    /// each has the children that the table allows and demands.
+    /// The elements, in the order of their `<`.
     pub fn entries(&self) -> &[Entry]
         ensures entries { result.now ≡ self.now }
         ensures draft { IsDraft self.now }
