@@ -8,3 +8,10 @@ mod Quotes
 mod Splits
 mod FrontSpells
 mod Takes
+mod Rows
+mod Built
+mod Counts
+mod Stands
+mod Faultless
+mod Paths
+mod OfTags

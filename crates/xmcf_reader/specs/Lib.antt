@@ -2,13 +2,17 @@ pub mod Bytes
 pub mod BytesLemmas
 pub mod Cuts
 pub mod Draft
+pub mod Drafts
+pub mod DraftsLemmas
 pub mod Elements
 pub mod Faults
 pub mod FaultsLemmas
+pub mod Laws
 pub mod Readings
 pub mod Seen
 pub mod Spelling
 pub mod Table
+pub mod Tags
 pub mod Texts
 pub mod Tokens
 pub mod Trees

@@ -1,6 +1,7 @@
 //! The draft: the elements of a text with their places and values.
 
 ghost use Rattle.std.specs.Prelude.{◌≡◌, ◌++◌, ◌∷◌, []};
+ghost use Rattle.xmcf_reader.specs.Drafts.{IsDraft};
 ghost use Rattle.xmcf_reader.specs.Faults.{Does};
 
 use crate::fault::ReadFault;
@@ -130,7 +131,8 @@ pub struct Entry {
     pub what: Element,
 }
 
-/// The elements of a text, in the order of their `<`.
+/// The elements of a text, in the order of their `<`. Entry 0 is the system; the parent of each later one stands before it;
+/// and each has the children that the table allows and demands.
 #[derive(Debug, Drop)]
 pub struct Draft {
     entries: Vec<Entry>,
@@ -138,16 +140,20 @@ pub struct Draft {
 
 impl Model for Draft {
     ghost use Rattle.std.specs.Prelude.{List};
+    ghost use Rattle.xmcf_reader.specs.Drafts.{IsDraft};
     ghost use Rattle.xmcf_reader.specs.declared.draft.Entry.{Entry};
 
     ghost Value = { List Entry };
 
     ghost view = { λ draft. draft.entries.items };
+
+    ghost invariant = { λ draft. IsDraft draft.entries.items };
 }
 
 impl Draft {
     /// The draft with these entries.
     pub(crate) fn new(entries: Vec<Entry>) -> Draft
+        requires { IsDraft entries.items }
         ensures { result ≡ entries.items }
     {
         Draft { entries }
@@ -155,7 +161,8 @@ impl Draft {
 
     /// The elements, in the order of their `<`.
     pub fn entries(&self) -> &[Entry]
-        ensures { result.now ≡ self.now }
+        ensures entries { result.now ≡ self.now }
+        ensures draft { IsDraft self.now }
     {
         self.entries.as_slice()
     }

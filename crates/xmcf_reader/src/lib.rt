@@ -18,9 +18,11 @@ mod word;
 
 pub use draft::{Draft, Element, Entry};
 pub use fault::ReadFault;
-pub use law::{spelled, taken};
+pub use law::{drafted, nested, spelled, taken};
 pub use reading::read_xmcf;
 pub use word::Word;
 
+#[cfg(test)]
+mod edits;
 #[cfg(test)]
 mod tests;

@@ -1,0 +1,170 @@
+-- What the tags of a text say of its entries: all by counting where elements begin and end.
+use Rattle.std.specs.Prelude.{◌≡◌, ℕ, ◌+◌, ◌<◌, ◌≤◌, List, [], ◌∷◌, ◌++◌, length, Option, Some, ◌⊎◌}
+use Rattle.std.specs.List.{zip, filter_map}
+use Rattle.std.specs.Option.{option_map}
+use Rattle.xmcf_reader.specs.Draft.{attribute_named}
+use Rattle.xmcf_reader.specs.Drafts.{word_of, StandsAt}
+use Rattle.xmcf_reader.specs.Elements.{Pair, built}
+use Rattle.xmcf_reader.specs.Faults.{Cut, Item, Rest, End}
+use Rattle.xmcf_reader.specs.Tokens.{Token, Blanks, Comment, Declaration, Opening, Name, Equals, Value, TagEnd, EmptyEnd, EndTag}
+use Rattle.xmcf_reader.specs.Words.{word_text}
+use Rattle.xmcf_reader.specs.declared.draft.Entry.{Entry}
+use Rattle.xmcf_reader.specs.declared.word.Word.{Word}
+
+-- a token at its place
+pub record Placed : Type 0 where
+  pub token : Token
+  pub at : ℕ
+
+-- the tokens of a text, with their places
+abbrev pub tokens_of : Cut → List Placed
+tokens_of (Item token at more) = record { token = token; at = at } ∷ tokens_of more
+tokens_of (Rest at byte broken) = []
+tokens_of (End at) = []
+
+-- how many elements begin at a token
+abbrev pub begins : Token → ℕ
+begins Blanks = 0
+begins Comment = 0
+begins Declaration = 0
+begins (Opening name) = 1
+begins (Name name) = 0
+begins Equals = 0
+begins (Value text) = 0
+begins TagEnd = 0
+begins EmptyEnd = 0
+begins (EndTag name) = 0
+
+-- how many elements end at a token
+abbrev pub ends : Token → ℕ
+ends Blanks = 0
+ends Comment = 0
+ends Declaration = 0
+ends (Opening name) = 0
+ends (Name name) = 0
+ends Equals = 0
+ends (Value text) = 0
+ends TagEnd = 0
+ends EmptyEnd = 1
+ends (EndTag name) = 1
+
+-- how many elements begin in tokens
+abbrev pub begun : List Placed → ℕ
+begun [] = 0
+begun (one ∷ more) = begins one.token + begun more
+
+-- how many elements end in tokens
+abbrev pub ended : List Placed → ℕ
+ended [] = 0
+ended (one ∷ more) = ends one.token + ended more
+
+-- from no token on do more elements begin than end
+abbrev pub AllClosed : List Placed → Type 0
+AllClosed [] = Unit {0}
+AllClosed (one ∷ more) = (begun (one ∷ more) ≤ ended (one ∷ more)) × AllClosed more
+
+-- the innermost element that is open behind tokens has this number: its start tag is the last token from which on more
+-- elements begin than end
+pub record IsInnermost (tokens : List Placed) (number : ℕ) : Type 0 where
+  pub before : List Placed
+  pub start : Placed
+  pub behind : List Placed
+  pub is : tokens ≡ before ++ start ∷ behind
+  pub open_here : ended (start ∷ behind) < begun (start ∷ behind)
+  pub closed : AllClosed behind
+  pub number_is : number ≡ begun before
+
+-- an element that begins behind tokens has the innermost open element as its parent; the parent of the first is 0
+abbrev pub IsParent : List Placed → ℕ → Type 0
+IsParent before number = ((begun before ≡ 0) × (number ≡ 0)) ⊎ IsInnermost before number
+
+-- a token of a start tag and those behind it; the end of the tag ends them
+abbrev pub tag_token : Token → List Token → List Token
+tag_token Blanks more = Blanks ∷ more
+tag_token Comment more = Comment ∷ more
+tag_token Declaration more = Declaration ∷ more
+tag_token (Opening name) more = Opening name ∷ more
+tag_token (Name name) more = Name name ∷ more
+tag_token Equals more = Equals ∷ more
+tag_token (Value text) more = Value text ∷ more
+tag_token TagEnd more = []
+tag_token EmptyEnd more = []
+tag_token (EndTag name) more = EndTag name ∷ more
+
+-- the tokens of a start tag behind its name
+abbrev pub in_tag : List Placed → List Token
+in_tag [] = []
+in_tag (one ∷ more) = tag_token one.token (in_tag more)
+
+-- a token and those behind it, of which only names count
+abbrev pub name_token : Token → List (List ℕ) → List (List ℕ)
+name_token Blanks more = more
+name_token Comment more = more
+name_token Declaration more = more
+name_token (Opening name) more = more
+name_token (Name name) more = name ∷ more
+name_token Equals more = more
+name_token (Value text) more = more
+name_token TagEnd more = more
+name_token EmptyEnd more = more
+name_token (EndTag name) more = more
+
+-- the names of attributes in tokens
+abbrev pub names_in : List Token → List (List ℕ)
+names_in [] = []
+names_in (one ∷ more) = name_token one (names_in more)
+
+-- a token and those behind it, of which only values count
+abbrev pub value_token : Token → List (List ℕ) → List (List ℕ)
+value_token Blanks more = more
+value_token Comment more = more
+value_token Declaration more = more
+value_token (Opening name) more = more
+value_token (Name name) more = more
+value_token Equals more = more
+value_token (Value text) more = text ∷ more
+value_token TagEnd more = more
+value_token EmptyEnd more = more
+value_token (EndTag name) more = more
+
+-- the values in tokens
+abbrev pub values_in : List Token → List (List ℕ)
+values_in [] = []
+values_in (one ∷ more) = value_token one (values_in more)
+
+-- an attribute of the table with its value
+abbrev pub pair_named : Word → List ℕ × List ℕ → Option Pair
+pair_named element pair = option_map (λ attribute. record { word = attribute.word; text = pair.1 }) (attribute_named pair.0 element)
+
+-- the attributes of an element's start tag: each name with the value of the same number
+abbrev pub given_in : Word → List Token → List Pair
+given_in element tokens = filter_map (pair_named element) (zip (names_in tokens) (values_in tokens))
+
+-- the entry of the start tag with this name and place, behind and before these tokens: its element, with the values of
+-- the tag, and its parent
+pub record IsEntryOf (before : List Placed) (name : List ℕ) (at : ℕ) (behind : List Placed) (entry : Entry) : Type 0 where
+  pub place : entry.at ≡ at
+  pub named : name ≡ word_text (word_of entry.what)
+  pub values : Some entry.what ≡ built (word_of entry.what) (given_in (word_of entry.what) (in_tag behind))
+  pub parent : IsParent before entry.parent
+
+-- the start tag with this name and place gives its entry, whose number is that of the start tags before it
+pub record GivesEntry (before : List Placed) (name : List ℕ) (at : ℕ) (behind : List Placed) (entries : List Entry) : Type 0 where
+  pub entry : Entry
+  pub stands : StandsAt entries (begun before) entry
+  pub is : IsEntryOf before name at behind entry
+
+-- the end tag with this name ends the innermost element that is open before it
+pub record EndsEntry (before : List Placed) (name : List ℕ) (entries : List Entry) : Type 0 where
+  pub number : ℕ
+  pub entry : Entry
+  pub innermost : IsInnermost before number
+  pub stands : StandsAt entries number entry
+  pub named : name ≡ word_text (word_of entry.what)
+
+-- the entries are those of the start tags, and each element ends
+pub record AreOfTags (tokens : List Placed) (entries : List Entry) : Type 0 where
+  pub count : length entries ≡ begun tokens
+  pub closed : ended tokens ≡ begun tokens
+  pub starts : (before behind : List Placed) (name : List ℕ) (at : ℕ) → tokens ≡ before ++ (record { token = Opening name; at = at }) ∷ behind → GivesEntry before name at behind entries
+  pub end_tags : (before behind : List Placed) (name : List ℕ) (at : ℕ) → tokens ≡ before ++ (record { token = EndTag name; at = at }) ∷ behind → EndsEntry before name entries
