@@ -1,3 +1,4 @@
+pub mod Configuration
 pub mod Health
 pub mod HealthLemmas
 pub mod Name

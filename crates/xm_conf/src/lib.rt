@@ -1,13 +1,23 @@
 //! The values that a configuration is made of: names, health events and actions, and what a port is.
 #![tactic(auto)]
 
+mod channel;
 mod health;
+mod item;
 mod name;
+mod part;
+mod plan;
 mod port;
+mod raw;
 
+pub use channel::{Chan, ChanKind, End};
 pub use health::{Action, Event};
+pub use item::{Broken, Item};
 pub use name::Name;
-pub use port::{Kind, Way};
+pub use part::{Area, HmTable, Need, Part};
+pub use plan::{Plan, Slot};
+pub use port::{Kind, Port, Way};
+pub use raw::{RawConf, Region};
 
 #[cfg(test)]
 mod tests;
