@@ -1,6 +1,10 @@
+pub mod Along
 pub mod Configuration
+pub mod Description
 pub mod Health
 pub mod HealthLemmas
 pub mod Name
 pub mod NameKept
 pub mod NameLemmas
+pub mod Rules
+pub mod Walks

@@ -9,9 +9,10 @@ mod part;
 mod plan;
 mod port;
 mod raw;
+mod rules;
 
 pub use channel::{Chan, ChanKind, End};
-pub use health::{Action, Event};
+pub use health::{Action, Event, allowed};
 pub use item::{Broken, Item};
 pub use name::Name;
 pub use part::{Area, HmTable, Need, Part};

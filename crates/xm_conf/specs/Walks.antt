@@ -1,0 +1,45 @@
+-- What the rules on areas, ends and answers come to along the lists that have them.
+use Rattle.std.specs.Prelude.{ℕ, ◌+◌, List, [], ◌∷◌, ◌++◌, length, Option}
+use Rattle.xm_conf.specs.Along.{each, along, unless}
+use Rattle.xm_conf.specs.Configuration.{Part, Chan}
+use Rattle.xm_conf.specs.Description.{event_numbered}
+use Rattle.xm_conf.specs.Health.{is_allowed}
+use Rattle.xm_conf.specs.Rules.{alone, meets, overlaps, stretch, area_stretch, part_stretches, whole_stretch, same_end, dest_item, chan_ends, has_plan}
+use Rattle.xm_conf.specs.declared.health.Action.{Action}
+use Rattle.xm_conf.specs.declared.part.Area.{Area}
+use Rattle.xm_conf.specs.declared.channel.End.{End}
+use Rattle.xm_conf.specs.declared.raw.Region.{Region}
+use Rattle.xm_conf.specs.declared.item.Item.{Item}
+use Rattle.xm_conf.specs.declared.item.Item.TheVariants as item
+use Rattle.xm_conf.specs.declared.item.Broken.{Broken}
+
+-- an area that overlaps one before it: the hypervisor, those of the partitions before, or those of its own partition
+unfoldable pub area_meets : List (Item × Region) → ℕ → List Area → Area → List Broken
+area_meets front p before area =
+    meets 9 overlaps (front ++ each (area_stretch p) before) (item.Area p (length before), stretch area)
+
+-- the areas of a partition that overlap one before them
+unfoldable pub part_meets : Option Region → List Part → Part → List Broken
+part_meets whole before part =
+    along (area_meets (whole_stretch whole ++ each part_stretches before) (length before)) part.areas
+
+-- a destination that is a port of an end before it
+unfoldable pub dest_meets : List (Item × End) → ℕ → List End → End → List Broken
+dest_meets front c before end =
+    meets 18 same_end (front ++ each (dest_item c) before) (item.End c (length before + 1), end)
+
+-- the ends of the channels before a channel, and its source
+unfoldable pub before_dests : List Chan → End → List (Item × End)
+before_dests before source = each chan_ends before ++ (item.End (length before) 0, source) ∷ []
+
+-- the ends of a channel that are a port of an end before them
+unfoldable pub chan_meets : List Chan → Chan → List Broken
+chan_meets before chan =
+    meets 18 same_end (each chan_ends before) (item.End (length before) 0, chan.source)
+    ++ along (dest_meets (before_dests before chan.source) (length before)) chan.dests
+
+-- an action that is not allowed for the event of its place, or whose plan is none
+unfoldable pub action_broken : ℕ → ℕ → ℕ → Action → List Broken
+action_broken plans p n action =
+    unless (is_allowed (event_numbered n) action) (alone 19 (item.Event p n))
+    ++ unless (has_plan plans action) (alone 19 (item.Event p n))

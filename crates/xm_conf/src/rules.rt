@@ -1,0 +1,4 @@
+//! The rules of a configuration: the first item that breaks each.
+
+mod broken;
+mod memory;
