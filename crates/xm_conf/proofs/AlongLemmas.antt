@@ -67,3 +67,14 @@ pub ruleset each_loop = (each_goes_on, each_stops, each_ends)
 
 -- what a loop over elements beside those before them comes to
 pub ruleset along_loop = (along_goes_on, along_stops, along_ends)
+
+-- one list after another: what the first tells goes first
+pub turn_first : {X : Type 0} (a b : List X) (found : Option X) → found ≡ head_of a → is_some found ≡ true → found ≡ head_of (a ++ b)
+turn_first a b found value some = value ∙ sym (first-append_some a b (ap is_some (sym value) ∙ some))
+
+-- one list after another: where the first tells nothing, the second goes first
+pub turn_second : {X : Type 0} (a b : List X) (found next : Option X) → found ≡ head_of a → is_some found ≡ false → next ≡ head_of b → next ≡ head_of (a ++ b)
+turn_second a b found next value none then = then ∙ sym (first-append_none a b (ap is_some (sym value) ∙ none))
+
+-- what lists tell in turn
+pub ruleset in_turn = (turn_first, turn_second)

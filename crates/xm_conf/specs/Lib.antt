@@ -6,5 +6,6 @@ pub mod HealthLemmas
 pub mod Name
 pub mod NameKept
 pub mod NameLemmas
+pub mod Room
 pub mod Rules
 pub mod Walks
