@@ -1,1 +1,2 @@
 pub mod AlongLemmas
+pub mod RoomLemmas

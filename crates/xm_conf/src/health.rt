@@ -34,7 +34,7 @@ pub enum Event {
 }
 
 /// All health events, in the order of their numbers.
-const EVENTS: [Event; 12] = [
+pub(crate) const EVENTS: [Event; 12] = [
     Event::PartitionError,
     Event::MemProtection,
     Event::UnexpectedTrap,

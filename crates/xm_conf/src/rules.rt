@@ -2,7 +2,9 @@
 
 mod areas;
 mod broken;
+mod channels;
 mod counts;
 mod names;
+mod partitions;
 mod plans;
 mod memory;

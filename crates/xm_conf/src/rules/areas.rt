@@ -10,7 +10,7 @@ use super::broken::unless;
 use super::memory::is_paged;
 use crate::item::{Broken, Item};
 use crate::part::{Area, Part};
-use crate::raw::Region;
+use crate::raw::{RawConf, Region};
 
 const MEMORY: u32 = 33_554_432;
 
@@ -116,6 +116,7 @@ fn parts_outside_areas(regions: &[Region], parts: &[Part]) -> Option<Broken>
 }
 
 /// What is left of a room for bytes behind these areas, or `None` where they have more.
+#[tactic(auto, using(crate::proofs::RoomLemmas::room_loop))]
 fn room_behind(areas: &[Area], room: u32) -> Option<u32>
     ensures { result ≡ room_after room (sum_by (λ area. area.size) areas.now) }
 {
@@ -127,7 +128,7 @@ fn room_behind(areas: &[Area], room: u32) -> Option<u32>
 }
 
 /// What is left of a room for bytes behind the areas of these partitions.
-#[tactic(auto, unfolding(crate::specs::Rules::part_size))]
+#[tactic(auto, using(crate::proofs::RoomLemmas::room_loop), unfolding(crate::specs::Rules::part_size))]
 fn room_behind_all(parts: &[Part], room: u32) -> Option<u32>
     ensures { result ≡ room_after room (sum_by rules.part_size parts.now) }
 {
@@ -136,4 +137,33 @@ fn room_behind_all(parts: &[Part], room: u32) -> Option<u32>
         room = room_behind(&part.areas, room)?;
     }
     Some(room)
+}
+
+/// Whether all areas together have too many bytes.
+#[tactic(auto, using(crate::proofs::RoomLemmas::has_room), unfolding(crate::specs::Rules::rule_10, crate::specs::Rules::most_memory))]
+fn rule_10(raw: &RawConf) -> Option<Broken>
+    ensures { result ≡ head_of (rules.rule_10 raw.now) }
+{
+    let room = room_behind_all(&raw.parts, MEMORY);
+    unless(room.is_some(), 10, Item::Whole)
+}
+
+/// The first area that is not whole pages.
+#[tactic(auto, unfolding(crate::specs::Rules::rule_7))]
+fn rule_7(raw: &RawConf) -> Option<Broken>
+    requires few { length raw.now.parts ≤ 16 }
+    requires areas { All (λ part. length part.areas ≤ 8) raw.now.parts }
+    ensures { result ≡ head_of (rules.rule_7 raw.now) }
+{
+    parts_unsized_areas(&raw.parts)
+}
+
+/// The first area that is not inside a region.
+#[tactic(auto, unfolding(crate::specs::Rules::rule_8))]
+fn rule_8(raw: &RawConf) -> Option<Broken>
+    requires few { length raw.now.parts ≤ 16 }
+    requires areas { All (λ part. length part.areas ≤ 8) raw.now.parts }
+    ensures { result ≡ head_of (rules.rule_8 raw.now) }
+{
+    parts_outside_areas(&raw.regions, &raw.parts)
 }
