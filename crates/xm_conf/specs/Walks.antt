@@ -4,7 +4,7 @@ use Rattle.xm_conf.specs.Along.{each, along, unless}
 use Rattle.xm_conf.specs.Configuration.{Part, Chan}
 use Rattle.xm_conf.specs.Description.{event_numbered}
 use Rattle.xm_conf.specs.Health.{is_allowed}
-use Rattle.xm_conf.specs.Rules.{alone, meets, overlaps, stretch, area_stretch, part_stretches, whole_stretch, same_end, dest_item, chan_ends, has_plan}
+use Rattle.xm_conf.specs.Rules.{alone, meets, item_if, items_where, overlaps, stretch, area_stretch, part_stretches, whole_stretch, same_end, dest_item, chan_ends, has_plan}
 use Rattle.xm_conf.specs.declared.health.Action.{Action}
 use Rattle.xm_conf.specs.declared.part.Area.{Area}
 use Rattle.xm_conf.specs.declared.channel.End.{End}
@@ -12,6 +12,18 @@ use Rattle.xm_conf.specs.declared.raw.Region.{Region}
 use Rattle.xm_conf.specs.declared.item.Item.{Item}
 use Rattle.xm_conf.specs.declared.item.Item.TheVariants as item
 use Rattle.xm_conf.specs.declared.item.Broken.{Broken}
+
+-- the hypervisor, where its memory overlaps a stretch
+unfoldable pub whole_hits : Region → Option Region → List Item
+whole_hits at whole = items_where (λ earlier. overlaps earlier at) (whole_stretch whole)
+
+-- the areas of a partition that overlap a stretch
+unfoldable pub part_hits : Region → ℕ → Part → List Item
+part_hits at p part = items_where (λ earlier. overlaps earlier at) (part_stretches p part)
+
+-- areas of a partition that overlap a stretch
+unfoldable pub area_hits : Region → ℕ → List Area → List Item
+area_hits at p areas = items_where (λ earlier. overlaps earlier at) (each (area_stretch p) areas)
 
 -- an area that overlaps one before it: the hypervisor, those of the partitions before, or those of its own partition
 unfoldable pub area_meets : List (Item × Region) → ℕ → List Area → Area → List Broken
@@ -22,6 +34,18 @@ area_meets front p before area =
 unfoldable pub part_meets : Option Region → List Part → Part → List Broken
 part_meets whole before part =
     along (area_meets (whole_stretch whole ++ each part_stretches before) (length before)) part.areas
+
+-- the ends of a channel that are one port with an end
+unfoldable pub chan_hits : End → ℕ → Chan → List Item
+chan_hits at c chan = items_where (λ earlier. same_end earlier at) (chan_ends c chan)
+
+-- the source of a channel, where it is one port with an end
+unfoldable pub source_hits : End → ℕ → End → List Item
+source_hits at c source = item_if (λ earlier. same_end earlier at) (item.End c 0, source)
+
+-- destinations of a channel that are one port with an end
+unfoldable pub dest_hits : End → ℕ → List End → List Item
+dest_hits at c dests = items_where (λ earlier. same_end earlier at) (each (dest_item c) dests)
 
 -- a destination that is a port of an end before it
 unfoldable pub dest_meets : List (Item × End) → ℕ → List End → End → List Broken
