@@ -1,3 +1,6 @@
 pub mod AlongLemmas
+pub mod DecidesLemmas
 pub mod MeetLemmas
 pub mod RoomLemmas
+pub mod RuleLaws
+pub mod SaysLemmas

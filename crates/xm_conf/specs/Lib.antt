@@ -1,6 +1,7 @@
 pub mod Along
 pub mod Configuration
 pub mod Description
+pub mod Fits
 pub mod Health
 pub mod HealthLemmas
 pub mod Name
