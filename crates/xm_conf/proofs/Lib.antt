@@ -1,4 +1,5 @@
 pub mod AlongLemmas
+pub mod AnswerLemmas
 pub mod DecidesLemmas
 pub mod MeetLemmas
 pub mod RoomLemmas

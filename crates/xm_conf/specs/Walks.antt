@@ -2,9 +2,9 @@
 use Rattle.std.specs.Prelude.{ℕ, ◌+◌, List, [], ◌∷◌, ◌++◌, length, Option}
 use Rattle.xm_conf.specs.Along.{each, along, unless}
 use Rattle.xm_conf.specs.Configuration.{Part, Chan}
-use Rattle.xm_conf.specs.Description.{event_numbered}
+use Rattle.xm_conf.specs.Description.{event_numbered, monitor_of}
 use Rattle.xm_conf.specs.Health.{is_allowed}
-use Rattle.xm_conf.specs.Rules.{alone, meets, item_if, items_where, overlaps, stretch, area_stretch, part_stretches, whole_stretch, same_end, dest_item, chan_ends, has_plan}
+use Rattle.xm_conf.specs.Rules.{alone, meets, item_if, items_where, overlaps, stretch, area_stretch, part_stretches, whole_stretch, same_end, dest_item, chan_ends, has_plan, monitor_broken}
 use Rattle.xm_conf.specs.declared.health.Action.{Action}
 use Rattle.xm_conf.specs.declared.part.Area.{Area}
 use Rattle.xm_conf.specs.declared.channel.End.{End}
@@ -67,3 +67,7 @@ unfoldable pub action_broken : ℕ → ℕ → ℕ → Action → List Broken
 action_broken plans p n action =
     unless (is_allowed (event_numbered n) action) (alone 19 (item.Event p n))
     ++ unless (has_plan plans action) (alone 19 (item.Event p n))
+
+-- what a partition's table of health events breaks
+unfoldable pub part_monitor : ℕ → ℕ → Part → List Broken
+part_monitor plans p part = monitor_broken plans p (monitor_of part)

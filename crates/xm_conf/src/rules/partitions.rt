@@ -1,15 +1,16 @@
 //! Partitions: their consoles, requirements and answers to health events.
 
-ghost use Rattle.std.specs.Prelude.{◌≡◌, ◌<◌, ◌≤◌, length};
-ghost use Rattle.xm_conf.specs.Along.{each, head_of};
+ghost use Rattle.std.specs.Prelude.{◌≡◌, ◌++◌, ◌<◌, ◌≤◌, length, nat_lt};
+ghost use Rattle.xm_conf.specs.Along.{each, head_of, unless as unless_of};
 ghost use Rattle.xm_conf.specs.Rules as rules;
 ghost use Rattle.xm_conf.specs.Walks as walks;
+ghost use Rattle.xm_conf.specs.declared.item.Item.TheVariants as item;
 ghost use Rattle.xm_conf.specs.Description.{event_numbered, monitor_of};
 
 use super::broken::unless;
 use crate::health::{Action, EVENTS, Event, allowed};
 use crate::item::{Broken, Item};
-use crate::part::{Need, Part};
+use crate::part::{HmTable, Need, Part};
 
 const LONGEST: u32 = 1_000_000_000;
 const FLAGS: u16 = 1 << 12;
@@ -131,6 +132,42 @@ fn actions_broken(plans: usize, p: u8, actions: &[Action]) -> Option<Broken>
 {
     for (n, action) in actions.iter().enumerate() {
         let broken = action_broken(plans, p, n as u8, *action);
+        if broken.is_some() {
+            return broken;
+        }
+    }
+    None
+}
+
+/// A table that logs an event that is none, or the first of its actions that may not stand.
+#[tactic(auto, using(crate::proofs::AlongLemmas::in_turn))]
+fn table_broken(plans: usize, p: u8, hm: &HmTable) -> Option<Broken>
+    ensures first { result ≡ head_of (unless_of (nat_lt hm.now.logged 4096) (rules.alone 19 (item.Part p)) ++ each (walks.action_broken plans p) hm.now.actions) }
+    ensures few { length hm.now.actions ≤ 12 }
+{
+    let broken = unless(hm.logged < FLAGS, 19, Item::Part(p));
+    if broken.is_some() {
+        return broken;
+    }
+    actions_broken(plans, p, &hm.actions)
+}
+
+/// A partition that logs an event that is none, or the first of its actions that may not stand.
+#[tactic(auto, using(crate::proofs::AnswerLemmas::monitor_broken_table), unfolding(crate::specs::Walks::part_monitor))]
+fn part_monitor(plans: usize, p: u8, part: &Part) -> Option<Broken>
+    ensures { result ≡ head_of (walks.part_monitor plans p part.now) }
+{
+    table_broken(plans, p, &part.hm)
+}
+
+/// The first partition or action that breaks the rule on health events.
+#[tactic(auto, using(crate::proofs::AlongLemmas::each_loop))]
+fn parts_monitors(plans: usize, parts: &[Part]) -> Option<Broken>
+    requires { length parts.now ≤ 16 }
+    ensures { result ≡ head_of (each (walks.part_monitor plans) parts.now) }
+{
+    for (n, part) in parts.iter().enumerate() {
+        let broken = part_monitor(plans, n as u8, part);
         if broken.is_some() {
             return broken;
         }
