@@ -106,3 +106,8 @@ misplaced-plans n (plan ∷ plans) =
 pub rule_2-ids_of : (conf : Conf) → rules.rule_2 (ids_of conf) ≡ []
 unfolding rules.rule_2 ids_of
 rule_2-ids_of conf = rw (misplaced-numbers item.Uart 0 conf.uarts, misplaced-plans 0 conf.plans, misplaced-numbers item.Part 0 conf.parts) refl
+
+-- the rule on health events is broken along the partitions
+pub rule_19_tables : (plans : ℕ) (parts : List Part) → rules.rule_19 plans (map monitor_of parts) ≡ each (part_monitor plans) parts
+unfolding rules.rule_19 part_monitor
+rule_19_tables plans parts = each_from-map (rules.monitor_broken plans) monitor_of 0 parts

@@ -3,6 +3,7 @@
 ghost use Rattle.std.specs.Prelude.{◌≡◌, ◌≤◌, All, length, sum_by};
 ghost use Rattle.std.specs.List.{list_any};
 ghost use Rattle.xm_conf.specs.Along.{each, head_of};
+ghost use Rattle.xm_conf.specs.Fits.{HasCounts};
 ghost use Rattle.xm_conf.specs.Rules as rules;
 ghost use Rattle.xm_conf.specs.Room.{room_after};
 
@@ -139,31 +140,29 @@ fn room_behind_all(parts: &[Part], room: u32) -> Option<u32>
     Some(room)
 }
 
-/// Whether all areas together have too many bytes.
-#[tactic(auto, using(crate::proofs::RoomLemmas::has_room), unfolding(crate::specs::Rules::rule_10, crate::specs::Rules::most_memory))]
-fn rule_10(raw: &RawConf) -> Option<Broken>
-    ensures { result ≡ head_of (rules.rule_10 raw.now) }
-{
-    let room = room_behind_all(&raw.parts, MEMORY);
-    unless(room.is_some(), 10, Item::Whole)
-}
-
 /// The first area that is not whole pages.
-#[tactic(auto, unfolding(crate::specs::Rules::rule_7))]
-fn rule_7(raw: &RawConf) -> Option<Broken>
-    requires few { length raw.now.parts ≤ 16 }
-    requires areas { All (λ part. length part.areas ≤ 8) raw.now.parts }
+#[tactic(auto, using(crate::proofs::CountLemmas::few_areas), unfolding(crate::specs::Rules::rule_7))]
+pub(super) fn rule_7(raw: &RawConf) -> Option<Broken>
+    requires { HasCounts raw.now }
     ensures { result ≡ head_of (rules.rule_7 raw.now) }
 {
     parts_unsized_areas(&raw.parts)
 }
 
 /// The first area that is not inside a region.
-#[tactic(auto, unfolding(crate::specs::Rules::rule_8))]
-fn rule_8(raw: &RawConf) -> Option<Broken>
-    requires few { length raw.now.parts ≤ 16 }
-    requires areas { All (λ part. length part.areas ≤ 8) raw.now.parts }
+#[tactic(auto, using(crate::proofs::CountLemmas::few_areas), unfolding(crate::specs::Rules::rule_8))]
+pub(super) fn rule_8(raw: &RawConf) -> Option<Broken>
+    requires { HasCounts raw.now }
     ensures { result ≡ head_of (rules.rule_8 raw.now) }
 {
     parts_outside_areas(&raw.regions, &raw.parts)
+}
+
+/// The whole, where all areas together have too many bytes.
+#[tactic(auto, using(crate::proofs::RoomLemmas::has_room), unfolding(crate::specs::Rules::rule_10, crate::specs::Rules::most_memory))]
+pub(super) fn rule_10(raw: &RawConf) -> Option<Broken>
+    ensures { result ≡ head_of (rules.rule_10 raw.now) }
+{
+    let room = room_behind_all(&raw.parts, MEMORY);
+    unless(room.is_some(), 10, Item::Whole)
 }

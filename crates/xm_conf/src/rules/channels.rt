@@ -1,7 +1,8 @@
 //! Channels: their messages, and the ports at their ends.
 
-ghost use Rattle.std.specs.Prelude.{◌≡◌, ◌≤◌, All, Some, length, slice_get, option_copied};
+ghost use Rattle.std.specs.Prelude.{◌≡◌, ◌≤◌, All, IfNone, Some, length, slice_get, option_copied};
 ghost use Rattle.xm_conf.specs.Along.{each, head_of};
+ghost use Rattle.xm_conf.specs.Fits.{HasCounts, IsChan};
 ghost use Rattle.xm_conf.specs.Rules as rules;
 
 use super::broken::unless;
@@ -9,6 +10,7 @@ use crate::channel::{Chan, ChanKind, End};
 use crate::item::{Broken, Item};
 use crate::part::Part;
 use crate::port::{Kind, Port, Way};
+use crate::raw::RawConf;
 
 const LENGTH: u16 = 4096;
 const MESSAGES: u8 = 64;
@@ -234,4 +236,43 @@ fn chans_wrong_ends(parts: &[Part], chans: &[Chan]) -> Option<Broken>
         }
     }
     None
+}
+
+/// The first channel with messages or destinations that are none.
+#[tactic(auto, unfolding(crate::specs::Rules::rule_15))]
+fn first_unfit(raw: &RawConf) -> Option<Broken>
+    requires { HasCounts raw.now }
+    ensures { result ≡ head_of (rules.rule_15 raw.now) }
+{
+    unfit_chans(&raw.chans)
+}
+
+/// The first channel with messages or destinations that are none.
+#[tactic(auto, using(crate::proofs::CountLemmas::messaged))]
+pub(super) fn rule_15(raw: &RawConf) -> Option<Broken>
+    requires { HasCounts raw.now }
+    ensures first { result ≡ head_of (rules.rule_15 raw.now) }
+    ensures messages { IfNone result (All IsChan raw.now.chans) }
+{
+    first_unfit(raw)
+}
+
+/// The first end that is no port.
+#[tactic(auto, using(crate::proofs::CountLemmas::few_dests), unfolding(crate::specs::Rules::rule_16))]
+pub(super) fn rule_16(raw: &RawConf) -> Option<Broken>
+    requires counts { HasCounts raw.now }
+    requires messages { All IsChan raw.now.chans }
+    ensures { result ≡ head_of (rules.rule_16 raw.now) }
+{
+    chans_stray_ends(&raw.parts, &raw.chans)
+}
+
+/// The first end whose port is of another kind or way.
+#[tactic(auto, using(crate::proofs::CountLemmas::few_dests), unfolding(crate::specs::Rules::rule_17))]
+pub(super) fn rule_17(raw: &RawConf) -> Option<Broken>
+    requires counts { HasCounts raw.now }
+    requires messages { All IsChan raw.now.chans }
+    ensures { result ≡ head_of (rules.rule_17 raw.now) }
+{
+    chans_wrong_ends(&raw.parts, &raw.chans)
 }

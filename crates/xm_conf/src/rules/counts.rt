@@ -1,6 +1,7 @@
 //! How many there are of each.
 
 ghost use Rattle.std.specs.Prelude.{◌≡◌, ◌<◌, ◌≤◌, IfNone};
+ghost use Rattle.xm_conf.specs.Fits.{HasCounts};
 ghost use Rattle.xm_conf.specs.Along.{each, head_of};
 ghost use Rattle.xm_conf.specs.Rules as rules;
 
@@ -125,4 +126,33 @@ fn chans_counts(chans: &[Chan]) -> Option<Broken>
         }
     }
     None
+}
+
+/// The first item that is missing, or past its limit.
+#[tactic(auto, using(crate::proofs::AlongLemmas::in_turn), unfolding(crate::specs::Rules::rule_1))]
+fn first_count(raw: &RawConf) -> Option<Broken>
+    ensures { result ≡ head_of (rules.rule_1 raw.now) }
+{
+    let broken = list_counts(raw);
+    if broken.is_some() {
+        return broken;
+    }
+    let broken = plans_counts(&raw.plans);
+    if broken.is_some() {
+        return broken;
+    }
+    let broken = parts_counts(&raw.parts);
+    if broken.is_some() {
+        return broken;
+    }
+    chans_counts(&raw.chans)
+}
+
+/// The first item that is missing, or past its limit.
+#[tactic(auto, using(crate::proofs::CountLemmas::counted))]
+pub(super) fn rule_1(raw: &RawConf) -> Option<Broken>
+    ensures first { result ≡ head_of (rules.rule_1 raw.now) }
+    ensures counted { IfNone result (HasCounts raw.now) }
+{
+    first_count(raw)
 }

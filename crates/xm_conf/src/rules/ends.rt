@@ -3,6 +3,7 @@
 ghost use Rattle.std.specs.Prelude.{◌≡◌, ◌++◌, ◌<◌, ◌≤◌, All, IfSome, length};
 ghost use Rattle.std.specs.List.{position_from};
 ghost use Rattle.xm_conf.specs.Along.{along, each, head_of};
+ghost use Rattle.xm_conf.specs.Fits.{HasCounts, IsChan};
 ghost use Rattle.xm_conf.specs.Rules as rules;
 ghost use Rattle.xm_conf.specs.Walks as walks;
 ghost use Rattle.xm_conf.specs.declared.item.Item.TheVariants as item;
@@ -170,10 +171,10 @@ fn chans_meet(chans: &[Chan]) -> Option<Broken>
 }
 
 /// The first end of all channels that is a port of an end before it.
-#[tactic(auto, using(crate::proofs::MeetLemmas::rule_18_along))]
+#[tactic(auto, using(crate::proofs::MeetLemmas::rule_18_along, crate::proofs::CountLemmas::few_dests))]
 pub(super) fn rule_18(raw: &RawConf) -> Option<Broken>
-    requires few { length raw.now.chans ≤ 64 }
-    requires dests { All (λ chan. length chan.dests ≤ 16) raw.now.chans }
+    requires counts { HasCounts raw.now }
+    requires messages { All IsChan raw.now.chans }
     ensures { result ≡ head_of (rules.rule_18 raw.now) }
 {
     chans_meet(&raw.chans)

@@ -3,6 +3,7 @@
 ghost use Rattle.std.specs.Prelude.{◌≡◌, ◌≤◌, ◌<◌, length, slice_get, IfSome};
 ghost use Rattle.std.specs.List.{position_from};
 ghost use Rattle.xm_conf.specs.Along.{along, each, head_of};
+ghost use Rattle.xm_conf.specs.Fits.{HasCounts};
 ghost use Rattle.xm_conf.specs.Rules as rules;
 ghost use Rattle.xm_conf.specs.declared.item.Item.TheVariants as item;
 
@@ -113,7 +114,7 @@ fn fits_first(size: u32, regions: &[Region]) -> bool
 
 /// The hypervisor, where it has no whole pages of region 0.
 #[tactic(auto, unfolding(crate::specs::Rules::rule_6))]
-fn misfit_hypervisor(raw: &RawConf) -> Option<Broken>
+pub(super) fn rule_6(raw: &RawConf) -> Option<Broken>
     ensures { result ≡ head_of (rules.rule_6 raw.now) }
 {
     let size = raw.hv_size;
@@ -123,8 +124,8 @@ fn misfit_hypervisor(raw: &RawConf) -> Option<Broken>
 
 /// The first region that is not whole pages.
 #[tactic(auto, unfolding(crate::specs::Rules::rule_4))]
-fn rule_4(raw: &RawConf) -> Option<Broken>
-    requires { length raw.now.regions ≤ 8 }
+pub(super) fn rule_4(raw: &RawConf) -> Option<Broken>
+    requires { HasCounts raw.now }
     ensures { result ≡ head_of (rules.rule_4 raw.now) }
 {
     unsized_regions(&raw.regions)
@@ -132,8 +133,8 @@ fn rule_4(raw: &RawConf) -> Option<Broken>
 
 /// The first region that overlaps an earlier one.
 #[tactic(auto, unfolding(crate::specs::Rules::rule_5))]
-fn rule_5(raw: &RawConf) -> Option<Broken>
-    requires { length raw.now.regions ≤ 8 }
+pub(super) fn rule_5(raw: &RawConf) -> Option<Broken>
+    requires { HasCounts raw.now }
     ensures { result ≡ head_of (rules.rule_5 raw.now) }
 {
     overlapping_regions(&raw.regions)

@@ -4,6 +4,7 @@ ghost use Rattle.std.specs.Prelude.{◌≡◌, ◌<◌, ◌≤◌, All, IfSome, 
 ghost use Rattle.std.specs.List.{position_from};
 ghost use Rattle.std.specs.Str.{bytes_eq};
 ghost use Rattle.xm_conf.specs.Along.{along, head_of};
+ghost use Rattle.xm_conf.specs.Fits.{HasCounts};
 ghost use Rattle.xm_conf.specs.Rules as rules;
 ghost use Rattle.xm_conf.specs.declared.item.Item.TheVariants as item;
 
@@ -146,4 +147,17 @@ fn parts_names(parts: &[Part]) -> Option<Broken>
         }
     }
     None
+}
+
+/// The first UART, partition or port with an earlier one's name.
+#[tactic(auto, using(crate::proofs::AlongLemmas::in_turn), unfolding(crate::specs::Rules::rule_3))]
+pub(super) fn rule_3(raw: &RawConf) -> Option<Broken>
+    requires { HasCounts raw.now }
+    ensures { result ≡ head_of (rules.rule_3 raw.now) }
+{
+    let broken = uart_names(&raw.uarts);
+    if broken.is_some() {
+        return broken;
+    }
+    parts_names(&raw.parts)
 }

@@ -1,7 +1,8 @@
 //! Partitions: their consoles, requirements and answers to health events.
 
-ghost use Rattle.std.specs.Prelude.{◌≡◌, ◌++◌, ◌<◌, ◌≤◌, length, nat_lt};
+ghost use Rattle.std.specs.Prelude.{◌≡◌, ◌++◌, ◌<◌, ◌≤◌, length, map, nat_lt};
 ghost use Rattle.xm_conf.specs.Along.{each, head_of, unless as unless_of};
+ghost use Rattle.xm_conf.specs.Fits.{HasCounts};
 ghost use Rattle.xm_conf.specs.Rules as rules;
 ghost use Rattle.xm_conf.specs.Walks as walks;
 ghost use Rattle.xm_conf.specs.declared.item.Item.TheVariants as item;
@@ -11,6 +12,7 @@ use super::broken::unless;
 use crate::health::{Action, EVENTS, Event, allowed};
 use crate::item::{Broken, Item};
 use crate::part::{HmTable, Need, Part};
+use crate::raw::RawConf;
 
 const LONGEST: u32 = 1_000_000_000;
 const FLAGS: u16 = 1 << 12;
@@ -35,7 +37,7 @@ fn no_console(uarts: usize, n: u8, part: &Part) -> Option<Broken>
 
 /// The first partition whose console is no UART.
 #[tactic(auto, using(crate::proofs::AlongLemmas::each_loop))]
-pub(super) fn parts_no_console(uarts: usize, parts: &[Part]) -> Option<Broken>
+fn parts_no_console(uarts: usize, parts: &[Part]) -> Option<Broken>
     requires { length parts.now ≤ 16 }
     ensures { result ≡ head_of (each (rules.no_console uarts) parts.now) }
 {
@@ -173,4 +175,31 @@ fn parts_monitors(plans: usize, parts: &[Part]) -> Option<Broken>
         }
     }
     None
+}
+
+/// The first partition whose console is no UART.
+#[tactic(auto, unfolding(crate::specs::Rules::rule_14))]
+pub(super) fn rule_14(raw: &RawConf) -> Option<Broken>
+    requires { HasCounts raw.now }
+    ensures { result ≡ head_of (rules.rule_14 raw.now) }
+{
+    parts_no_console(raw.uarts.len(), &raw.parts)
+}
+
+/// The first partition or action that breaks the rule on health events.
+#[tactic(auto, using(crate::proofs::AnswerLemmas::rule_19_tables))]
+pub(super) fn rule_19(raw: &RawConf) -> Option<Broken>
+    requires { HasCounts raw.now }
+    ensures { result ≡ head_of (rules.rule_19 (length raw.now.plans) (map monitor_of raw.now.parts)) }
+{
+    parts_monitors(raw.plans.len(), &raw.parts)
+}
+
+/// The first partition whose requirement is none.
+#[tactic(auto, unfolding(crate::specs::Rules::rule_20))]
+pub(super) fn rule_20(raw: &RawConf) -> Option<Broken>
+    requires { HasCounts raw.now }
+    ensures { result ≡ head_of (rules.rule_20 raw.now) }
+{
+    unfit_needs(&raw.parts)
 }

@@ -2,11 +2,13 @@
 
 ghost use Rattle.std.specs.Prelude.{◌≡◌, ◌≤◌, ◌-◌, All, Some, length, slice_get};
 ghost use Rattle.xm_conf.specs.Along.{along, each, head_of};
+ghost use Rattle.xm_conf.specs.Fits.{HasCounts};
 ghost use Rattle.xm_conf.specs.Rules as rules;
 
 use super::broken::{unless, unless_by};
 use crate::item::{Broken, Item};
 use crate::plan::{Plan, Slot};
+use crate::raw::RawConf;
 
 const LONGEST: u32 = 1_000_000_000;
 
@@ -175,4 +177,31 @@ fn plans_stray_slots(parts: usize, plans: &[Plan]) -> Option<Broken>
         }
     }
     None
+}
+
+/// The first plan or slot whose time does not fit.
+#[tactic(auto, using(crate::proofs::CountLemmas::few_slots), unfolding(crate::specs::Rules::rule_11))]
+pub(super) fn rule_11(raw: &RawConf) -> Option<Broken>
+    requires { HasCounts raw.now }
+    ensures { result ≡ head_of (rules.rule_11 raw.now) }
+{
+    frames_broken(&raw.plans)
+}
+
+/// The first slot that starts before the end of the one before it.
+#[tactic(auto, using(crate::proofs::CountLemmas::few_slots), unfolding(crate::specs::Rules::rule_12))]
+pub(super) fn rule_12(raw: &RawConf) -> Option<Broken>
+    requires { HasCounts raw.now }
+    ensures { result ≡ head_of (rules.rule_12 raw.now) }
+{
+    plans_early_slots(&raw.plans)
+}
+
+/// The first slot whose partition is none.
+#[tactic(auto, using(crate::proofs::CountLemmas::few_slots), unfolding(crate::specs::Rules::rule_13))]
+pub(super) fn rule_13(raw: &RawConf) -> Option<Broken>
+    requires { HasCounts raw.now }
+    ensures { result ≡ head_of (rules.rule_13 raw.now) }
+{
+    plans_stray_slots(raw.parts.len(), &raw.plans)
 }

@@ -3,6 +3,7 @@
 ghost use Rattle.std.specs.Prelude.{◌≡◌, ◌++◌, ◌<◌, ◌≤◌, All, IfSome, length};
 ghost use Rattle.std.specs.List.{position_from};
 ghost use Rattle.xm_conf.specs.Along.{along, each, head_of};
+ghost use Rattle.xm_conf.specs.Fits.{HasCounts};
 ghost use Rattle.xm_conf.specs.Rules as rules;
 ghost use Rattle.xm_conf.specs.Walks as walks;
 
@@ -183,10 +184,9 @@ fn parts_meet(whole: Option<Region>, parts: &[Part]) -> Option<Broken>
 }
 
 /// The first area of all that overlaps the hypervisor or an area before it.
-#[tactic(auto, using(crate::proofs::MeetLemmas::rule_9_along))]
+#[tactic(auto, using(crate::proofs::MeetLemmas::rule_9_along, crate::proofs::CountLemmas::few_areas))]
 pub(super) fn rule_9(raw: &RawConf) -> Option<Broken>
-    requires few { length raw.now.parts ≤ 16 }
-    requires areas { All (λ part. length part.areas ≤ 8) raw.now.parts }
+    requires { HasCounts raw.now }
     ensures { result ≡ head_of (rules.rule_9 raw.now) }
 {
     parts_meet(hypervisor(raw.hv_size, &raw.regions), &raw.parts)
