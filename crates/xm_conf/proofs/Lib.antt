@@ -6,4 +6,5 @@ pub mod MeetLemmas
 pub mod RoomLemmas
 pub mod RuleLaws
 pub mod SaysLemmas
+pub mod ViewLemmas
 pub mod WalkLemmas

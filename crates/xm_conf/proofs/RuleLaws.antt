@@ -401,6 +401,6 @@ none-first [] s = (λ none. s.tells refl, λ p. refl)
 none-first (y ∷ ys) s = (λ none. absurd (let never : ⊥ = cc in never), λ p. absurd (let no : y ∷ ys ≡ [] = s.told p in let never : ⊥ = cc in never))
 
 -- no rule is broken exactly where the description fits
-pub first_broken-none : (d : Description) → (rules.first_broken d ≡ None) ↔ Fits d
+pub first_broken_none : (d : Description) → (rules.first_broken d ≡ None) ↔ Fits d
 unfolding rules.first_broken
-first_broken-none d = none-first (rules.all_broken d) (says-all_broken d)
+first_broken_none d = none-first (rules.all_broken d) (says-all_broken d)

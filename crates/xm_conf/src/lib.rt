@@ -2,8 +2,10 @@
 #![tactic(auto)]
 
 mod channel;
+mod conf;
 mod health;
 mod item;
+mod law;
 mod name;
 mod part;
 mod plan;
@@ -12,8 +14,10 @@ mod raw;
 mod rules;
 
 pub use channel::{Chan, ChanKind, End};
+pub use conf::{Conf, Seen};
 pub use health::{Action, Event, allowed};
 pub use item::{Broken, Item};
+pub use law::broken_unless_fits;
 pub use name::Name;
 pub use part::{Area, HmTable, Need, Part};
 pub use plan::{Plan, Slot};
