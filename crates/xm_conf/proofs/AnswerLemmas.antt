@@ -61,8 +61,8 @@ pub answer_broken-numbered : (plans p : ℕ) (before : List Action) (a : Action)
 unfolding rules.answer_broken action_broken
 answer_broken-numbered plans p before a below =
     rw (none-earlier 0 0 (length before) a before (omega arith) below, length-answers 0 before)
-      (ap (λ more. more ++ unless (rules.has_plan plans a) (rules.alone 19 (item.Event p (length before))))
-        (append-nil (unless (is_allowed (event_numbered (length before)) a) (rules.alone 19 (item.Event p (length before))))))
+    (ap (λ more. more ++ unless (rules.has_plan plans a) (rules.alone 19 (item.Event p (length before))))
+    (append-nil (unless (is_allowed (event_numbered (length before)) a) (rules.alone 19 (item.Event p (length before))))))
 
 -- the answers of a table break the rule by their actions alone
 pub along-answers : (plans p : ℕ) (before actions : List Action) → length before + length actions ≤ 12
@@ -71,11 +71,11 @@ along-answers plans p before [] room = refl
 along-answers plans p before (a ∷ actions) room =
     let next : length (before ++ a ∷ []) ≡ length before + 1 = omega (arith, length-append before (a ∷ [])) in
     ap (λ first. first ++ along_from (rules.answer_broken plans p) (each answer_of before ++ answer_of (length before) a) (each_from answer_of (length before + 1) actions))
-      (answer_broken-numbered plans p before a (omega arith))
+    (answer_broken-numbered plans p before a (omega arith))
     ∙ ap (λ more. action_broken plans p (length before) a ++ more)
-      (ap (λ front. along_from (rules.answer_broken plans p) front (each_from answer_of (length before + 1) actions)) (sym (each-push answer_of before a))
-      ∙ subst (λ (n : ℕ). along_from (rules.answer_broken plans p) (each answer_of (before ++ a ∷ [])) (each_from answer_of n actions) ≡ each_from (action_broken plans p) n actions) next
-        (along-answers plans p (before ++ a ∷ []) actions (omega (arith, next))))
+    (ap (λ front. along_from (rules.answer_broken plans p) front (each_from answer_of (length before + 1) actions)) (sym (each-push answer_of before a))
+    ∙ subst (λ (n : ℕ). along_from (rules.answer_broken plans p) (each answer_of (before ++ a ∷ [])) (each_from answer_of n actions) ≡ each_from (action_broken plans p) n actions) next
+    (along-answers plans p (before ++ a ∷ []) actions (omega (arith, next))))
 
 -- what a list of what others say adds
 pub each_from-map : {X Y Z : Type 0} (f : ℕ → Y → List Z) (g : X → Y) (n : ℕ) (xs : List X) → each_from f n (map g xs) ≡ each_from (λ k x. f k (g x)) n xs

@@ -192,9 +192,10 @@ decides-any {X} {P} test d (x ∷ xs) = at (test x) (d x) (decides-any test d xs
 
     at : (b : Bool) → Decides b (P x) → Decides (list_any test xs) (Any P xs) → Decides (b || list_any test xs) (Any P (x ∷ xs))
     at true here more = (λ t. (0, x, omega arith, refl, here.0 refl), λ any. refl)
-    at false here more =
-        (λ t. let a = more.0 t in (suc a.0, a.1, omega (arith, a.2), a.3, a.4),
-         λ any. more.1 (first false here refl any.0 any.1 any.2 any.3 any.4))
+    at false here more = (
+      λ t. let a = more.0 t in (suc a.0, a.1, omega (arith, a.2), a.3, a.4),
+      λ any. more.1 (first false here refl any.0 any.1 any.2 any.3 any.4),
+    )
 
 -- a slot behind the one before it, where there is one
 pub decides-follows : (earlier : Option Slot) (slot : Slot) → Decides (follows earlier slot) (IfSome earlier (λ e. e.start + e.duration ≤ slot.start))

@@ -68,10 +68,10 @@ along_from-each f h front before [] = refl
 along_from-each f h front before (x ∷ xs) =
     along_from-append f (front ++ each h before) (h (length before) x) (each_from h (length before + 1) xs)
     ∙ ap (λ more. along_from f (front ++ each h before) (h (length before) x) ++ more)
-      (ap (λ e. along_from f e (each_from h (length before + 1) xs))
-        (append_assoc front (each h before) (h (length before) x) ∙ ap (λ e. front ++ e) (sym (each-push h before x)))
-      ∙ ap (λ n. along_from f (front ++ each h (before ++ x ∷ [])) (each_from h n xs)) (omega (arith, length-append before (x ∷ [])))
-      ∙ along_from-each f h front (before ++ x ∷ []) xs)
+    (ap (λ e. along_from f e (each_from h (length before + 1) xs))
+    (append_assoc front (each h before) (h (length before) x) ∙ ap (λ e. front ++ e) (sym (each-push h before x)))
+    ∙ ap (λ n. along_from f (front ++ each h (before ++ x ∷ [])) (each_from h n xs)) (omega (arith, length-append before (x ∷ [])))
+    ∙ along_from-each f h front (before ++ x ∷ []) xs)
 
 -- along elements that add themselves
 pub along-each_one : {X E Y : Type 0} (f : List E → E → List Y) (label : ℕ → X → E) (front : List E) (xs : List X)
@@ -113,8 +113,8 @@ area-hits at whole parts p areas =
     let test : Region → Bool = λ earlier. overlaps earlier at in
     items_where-append test (whole_stretch whole ++ each part_stretches parts) (each (area_stretch p) areas)
     ∙ ap (λ front. front ++ items_where test (each (area_stretch p) areas))
-      (items_where-append test (whole_stretch whole) (each part_stretches parts)
-      ∙ ap (λ more. items_where test (whole_stretch whole) ++ more) (items_where-each test part_stretches 0 parts))
+    (items_where-append test (whole_stretch whole) (each part_stretches parts)
+    ∙ ap (λ more. items_where test (whole_stretch whole) ++ more) (items_where-each test part_stretches 0 parts))
 
 -- the destinations of a channel behind the ends before them
 pub along-dests : (front : List (Item × End)) (c : ℕ) (dests : List End) → along_from (meets 18 same_end) front (each (dest_item c) dests) ≡ along (dest_meets front c) dests
@@ -129,8 +129,8 @@ unfolding rule_18 chan_meets chan_ends before_dests
 rule_18_along conf =
     along_from-each (meets 18 same_end) chan_ends [] [] conf.chans
     ∙ ap (λ g. along_from g [] conf.chans)
-      (λ i before chan. meets 18 same_end (each chan_ends before) (item.End (length before) 0, chan.source)
-        ++ along-dests (each chan_ends before ++ (item.End (length before) 0, chan.source) ∷ []) (length before) chan.dests i)
+    (λ i before chan. meets 18 same_end (each chan_ends before) (item.End (length before) 0, chan.source)
+    ++ along-dests (each chan_ends before ++ (item.End (length before) 0, chan.source) ∷ []) (length before) chan.dests i)
 
 -- the items of what stands before a destination
 pub dest-hits : (at : End) (chans : List Chan) (source : End) (c : ℕ) (dests : List End)
@@ -141,6 +141,6 @@ dest-hits at chans source c dests =
     let test : End → Bool = λ earlier. same_end earlier at in
     items_where-append test (each chan_ends chans ++ (item.End c 0, source) ∷ []) (each (dest_item c) dests)
     ∙ ap (λ front. front ++ items_where test (each (dest_item c) dests))
-      (items_where-append test (each chan_ends chans) ((item.End c 0, source) ∷ [])
-      ∙ ap (λ front. front ++ (item_if test (item.End c 0, source) ++ [])) (items_where-each test chan_ends 0 chans)
-      ∙ ap (λ own. each (λ k chan. items_where test (chan_ends k chan)) chans ++ own) (append-nil (item_if test (item.End c 0, source))))
+    (items_where-append test (each chan_ends chans) ((item.End c 0, source) ∷ [])
+    ∙ ap (λ front. front ++ (item_if test (item.End c 0, source) ++ [])) (items_where-each test chan_ends 0 chans)
+    ∙ ap (λ own. each (λ k chan. items_where test (chan_ends k chan)) chans ++ own) (append-nil (item_if test (item.End c 0, source))))

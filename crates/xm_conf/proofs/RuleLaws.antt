@@ -34,7 +34,7 @@ pub says-some : {X : Type 0} (xs : List X) (limit : ℕ) (it : Item) (numbered :
 says-some xs limit it numbered =
     says-like (unless (nat_lt 0 (length xs)) (rules.alone 1 it) ++ rules.past limit numbered xs) (λ t. record { some = t.0; few = t.1 }) (λ h. (h.some, h.few))
     (says-append (unless (nat_lt 0 (length xs)) (rules.alone 1 it)) (rules.past limit numbered xs)
-      (says-unless (nat_lt 0 (length xs)) (rules.alone 1 it) (decides-lt 0 (length xs))) (says-past limit numbered xs))
+    (says-unless (nat_lt 0 (length xs)) (rules.alone 1 it) (decides-lt 0 (length xs))) (says-past limit numbered xs))
 
 -- a plan's counts
 pub says-plan_counts : (n : ℕ) (plan : Plan) → Says (rules.plan_counts n plan) (n < 8 × HasSome plan.slots 64)
@@ -42,10 +42,10 @@ unfolding rules.plan_counts
 says-plan_counts n plan =
     says-like (rules.plan_counts n plan) (λ t. (t.0.0, record { some = t.0.1; few = t.1 })) (λ h. ((h.0, h.1.some), h.1.few))
     (says-append _ (rules.past 64 (item.Slot n) plan.slots)
-      (says-append (unless (nat_lt n 8) (rules.alone 1 (item.Plan n))) (unless (nat_lt 0 (length plan.slots)) (rules.alone 1 (item.Plan n)))
-        (says-unless (nat_lt n 8) (rules.alone 1 (item.Plan n)) (decides-lt n 8))
-        (says-unless (nat_lt 0 (length plan.slots)) (rules.alone 1 (item.Plan n)) (decides-lt 0 (length plan.slots))))
-      (says-past 64 (item.Slot n) plan.slots))
+    (says-append (unless (nat_lt n 8) (rules.alone 1 (item.Plan n))) (unless (nat_lt 0 (length plan.slots)) (rules.alone 1 (item.Plan n)))
+    (says-unless (nat_lt n 8) (rules.alone 1 (item.Plan n)) (decides-lt n 8))
+    (says-unless (nat_lt 0 (length plan.slots)) (rules.alone 1 (item.Plan n)) (decides-lt 0 (length plan.slots))))
+    (says-past 64 (item.Slot n) plan.slots))
 
 -- a partition's counts
 pub says-part_counts : (n : ℕ) (part : Part) → Says (rules.part_counts n part) (n < 16 × HasSome part.areas 8 × (length part.ports ≤ 32))
@@ -53,12 +53,12 @@ unfolding rules.part_counts
 says-part_counts n part =
     says-like (rules.part_counts n part) (λ t. (t.0.0.0, record { some = t.0.0.1; few = t.0.1 }, t.1)) (λ h. (((h.0, h.1.some), h.1.few), h.2))
     (says-append _ (rules.past 32 (item.Port n) part.ports)
-      (says-append _ (rules.past 8 (item.Area n) part.areas)
-        (says-append (unless (nat_lt n 16) (rules.alone 1 (item.Part n))) (unless (nat_lt 0 (length part.areas)) (rules.alone 1 (item.Part n)))
-          (says-unless (nat_lt n 16) (rules.alone 1 (item.Part n)) (decides-lt n 16))
-          (says-unless (nat_lt 0 (length part.areas)) (rules.alone 1 (item.Part n)) (decides-lt 0 (length part.areas))))
-        (says-past 8 (item.Area n) part.areas))
-      (says-past 32 (item.Port n) part.ports))
+    (says-append _ (rules.past 8 (item.Area n) part.areas)
+    (says-append (unless (nat_lt n 16) (rules.alone 1 (item.Part n))) (unless (nat_lt 0 (length part.areas)) (rules.alone 1 (item.Part n)))
+    (says-unless (nat_lt n 16) (rules.alone 1 (item.Part n)) (decides-lt n 16))
+    (says-unless (nat_lt 0 (length part.areas)) (rules.alone 1 (item.Part n)) (decides-lt 0 (length part.areas))))
+    (says-past 8 (item.Area n) part.areas))
+    (says-past 32 (item.Port n) part.ports))
 
 -- a channel's destinations
 pub says-dest_counts : (n : ℕ) (of : ChanKind) (dests : List End) → Says (rules.dest_counts n of dests) (HasFewDests of dests)
@@ -80,11 +80,11 @@ unfolding rules.list_counts rules.has_some
 says-list_counts conf =
     says-like (rules.list_counts conf) (λ t. (t.0.0, t.0.1, t.1)) (λ h. ((h.0, h.1), h.2))
     (says-append _ (rules.past 8 item.Uart conf.uarts)
-      (says-append (unless (nat_lt 0 (length conf.regions) && nat_lt 0 (length conf.plans) && nat_lt 0 (length conf.parts)) (rules.alone 1 item.Whole)) (rules.past 8 item.Region conf.regions)
-        (says-unless (nat_lt 0 (length conf.regions) && nat_lt 0 (length conf.plans) && nat_lt 0 (length conf.parts)) (rules.alone 1 item.Whole)
-          (Decides-and _ _ (Decides-and _ _ (decides-lt 0 (length conf.regions)) (decides-lt 0 (length conf.plans))) (decides-lt 0 (length conf.parts))))
-        (says-past 8 item.Region conf.regions))
-      (says-past 8 item.Uart conf.uarts))
+    (says-append (unless (nat_lt 0 (length conf.regions) && nat_lt 0 (length conf.plans) && nat_lt 0 (length conf.parts)) (rules.alone 1 item.Whole)) (rules.past 8 item.Region conf.regions)
+    (says-unless (nat_lt 0 (length conf.regions) && nat_lt 0 (length conf.plans) && nat_lt 0 (length conf.parts)) (rules.alone 1 item.Whole)
+    (Decides-and _ _ (Decides-and _ _ (decides-lt 0 (length conf.regions)) (decides-lt 0 (length conf.plans))) (decides-lt 0 (length conf.parts))))
+    (says-past 8 item.Region conf.regions))
+    (says-past 8 item.Uart conf.uarts))
 
 -- rule 1
 pub says-rule_1 : (conf : Conf) → Says (rules.rule_1 conf) (HasCounts conf)
@@ -102,17 +102,22 @@ says-rule_1 conf =
       chans = within-limit conf.chans 64 (λ n d below. (t.1 n d below).0);
       dests = λ n d below. (t.1 n d below).1;
     })
-    (λ h. let plans = h.plans.few in let parts = h.parts.few in let chans = h.chans in
-      ((((((h.regions.some, h.plans.some), h.parts.some), h.regions.few, h.uarts),
-        λ n d below. (omega arith, h.slots n d below)),
-        λ n d below. (omega arith, h.areas n d below, h.ports n d below)),
-        λ n d below. (omega arith, h.dests n d below)))
+    (λ h. let plans = h.plans.few in let parts = h.parts.few in let chans = h.chans in (
+      (
+        (
+          (((h.regions.some, h.plans.some), h.parts.some), h.regions.few, h.uarts),
+          λ n d below. (omega arith, h.slots n d below),
+        ),
+        λ n d below. (omega arith, h.areas n d below, h.ports n d below),
+      ),
+      λ n d below. (omega arith, h.dests n d below),
+    ))
     (says-append _ (each rules.chan_counts conf.chans)
-      (says-append _ (each rules.part_counts conf.parts)
-        (says-append (rules.list_counts conf) (each rules.plan_counts conf.plans) (says-list_counts conf)
-          (says-each rules.plan_counts (λ n plan. n < 8 × HasSome plan.slots 64) says-plan_counts conf.plans))
-        (says-each rules.part_counts (λ n part. n < 16 × HasSome part.areas 8 × (length part.ports ≤ 32)) says-part_counts conf.parts))
-      (says-each rules.chan_counts (λ n chan. n < 64 × HasFewDests chan.kind chan.dests) says-chan_counts conf.chans))
+    (says-append _ (each rules.part_counts conf.parts)
+    (says-append (rules.list_counts conf) (each rules.plan_counts conf.plans) (says-list_counts conf)
+    (says-each rules.plan_counts (λ n plan. n < 8 × HasSome plan.slots 64) says-plan_counts conf.plans))
+    (says-each rules.part_counts (λ n part. n < 16 × HasSome part.areas 8 × (length part.ports ≤ 32)) says-part_counts conf.parts))
+    (says-each rules.chan_counts (λ n chan. n < 64 × HasFewDests chan.kind chan.dests) says-chan_counts conf.chans))
 
 -- ids in order
 pub says-in_order : (numbered : ℕ → Item) (ids : List ℕ) → Says (each (rules.misplaced numbered) ids) (InOrder ids)
@@ -134,11 +139,11 @@ says-rule_2 ids =
     (λ t. record { processor = t.0.0.0; uarts = t.0.0.1; plans = λ n d below. (t.0.1 n d below).0; slots = λ n d below. (t.0.1 n d below).1; parts = t.1 })
     (λ h. (((h.processor, h.uarts), λ n d below. (h.plans n d below, h.slots n d below)), h.parts))
     (says-append _ (each (rules.misplaced item.Part) ids.parts)
-      (says-append _ (each rules.plan_misplaced ids.plans)
-        (says-append (unless (ids.processor == 0) (rules.alone 2 item.Whole)) (each (rules.misplaced item.Uart) ids.uarts)
-          (says-unless (ids.processor == 0) (rules.alone 2 item.Whole) (Decides-eqb ids.processor 0)) (says-in_order item.Uart ids.uarts))
-        (says-each rules.plan_misplaced (λ n plan. (plan.plan ≡ n) × InOrder plan.slots) says-plan_misplaced ids.plans))
-      (says-in_order item.Part ids.parts))
+    (says-append _ (each rules.plan_misplaced ids.plans)
+    (says-append (unless (ids.processor == 0) (rules.alone 2 item.Whole)) (each (rules.misplaced item.Uart) ids.uarts)
+    (says-unless (ids.processor == 0) (rules.alone 2 item.Whole) (Decides-eqb ids.processor 0)) (says-in_order item.Uart ids.uarts))
+    (says-each rules.plan_misplaced (λ n plan. (plan.plan ≡ n) × InOrder plan.slots) says-plan_misplaced ids.plans))
+    (says-in_order item.Part ids.parts))
 
 -- rule 3
 pub says-rule_3 : (conf : Conf) → Says (rules.rule_3 conf) (HasNames conf)
@@ -146,13 +151,13 @@ unfolding rules.rule_3 rules.part_names
 says-rule_3 conf =
     says-like (rules.rule_3 conf) (λ t. record { uarts = t.0; parts = t.1.0; ports = t.1.1 }) (λ n. (n.uarts, (n.parts, n.ports)))
     (says-append (along (rules.repeated 3 item.Uart bytes_eq) conf.uarts) (along rules.part_names conf.parts)
-      (says-pairs (λ a b. a ≢ b) (rules.repeated 3 item.Uart bytes_eq) (says-repeated {R = λ a b. a ≢ b} 3 item.Uart bytes_eq decides-differ) conf.uarts)
-      (says-pairs_and (λ a b. a.name ≢ b.name) (λ part. AllPairs (λ a b. a.name ≢ b.name) part.ports) rules.part_names
-        (λ before part. says-append (rules.repeated 3 item.Part rules.same_part before part) (along (rules.repeated 3 (item.Port (length before)) rules.same_port) part.ports)
-          (says-repeated {R = λ a b. a.name ≢ b.name} 3 item.Part rules.same_part (λ a b. decides-differ a.name b.name) before part)
-          (says-pairs (λ a b. a.name ≢ b.name) (rules.repeated 3 (item.Port (length before)) rules.same_port)
-            (says-repeated {R = λ a b. a.name ≢ b.name} 3 (item.Port (length before)) rules.same_port (λ a b. decides-differ a.name b.name)) part.ports))
-        conf.parts))
+    (says-pairs (λ a b. a ≢ b) (rules.repeated 3 item.Uart bytes_eq) (says-repeated {R = λ a b. a ≢ b} 3 item.Uart bytes_eq decides-differ) conf.uarts)
+    (says-pairs_and (λ a b. a.name ≢ b.name) (λ part. AllPairs (λ a b. a.name ≢ b.name) part.ports) rules.part_names
+    (λ before part. says-append (rules.repeated 3 item.Part rules.same_part before part) (along (rules.repeated 3 (item.Port (length before)) rules.same_port) part.ports)
+    (says-repeated {R = λ a b. a.name ≢ b.name} 3 item.Part rules.same_part (λ a b. decides-differ a.name b.name) before part)
+    (says-pairs (λ a b. a.name ≢ b.name) (rules.repeated 3 (item.Port (length before)) rules.same_port)
+    (says-repeated {R = λ a b. a.name ≢ b.name} 3 (item.Port (length before)) rules.same_port (λ a b. decides-differ a.name b.name)) part.ports))
+    conf.parts))
 
 -- rule 4
 pub says-rule_4 : (conf : Conf) → Says (rules.rule_4 conf) (All IsRegion conf.regions)
@@ -179,7 +184,7 @@ unfolding rules.rule_7 rules.unsized_areas rules.unsized_area
 says-rule_7 conf =
     says-all rules.unsized_areas (λ part. All (λ area. IsSized area.start area.size) part.areas)
     (λ p part. says-all (rules.unsized_area p) (λ area. IsSized area.start area.size)
-      (λ n area. says-unless (rules.is_sized area.start area.size) (rules.alone 7 (item.Area p n)) (decides-sized area.start area.size)) part.areas)
+    (λ n area. says-unless (rules.is_sized area.start area.size) (rules.alone 7 (item.Area p n)) (decides-sized area.start area.size)) part.areas)
     conf.parts
 
 -- rule 8
@@ -188,8 +193,8 @@ unfolding rules.rule_8 rules.outside_areas rules.outside_area
 says-rule_8 conf =
     says-all (rules.outside_areas conf.regions) (λ part. All (λ area. Any (LiesIn area) conf.regions) part.areas)
     (λ p part. says-all (rules.outside_area conf.regions p) (λ area. Any (LiesIn area) conf.regions)
-      (λ n area. says-unless (list_any (rules.has_area area) conf.regions) (rules.alone 8 (item.Area p n))
-        (decides-any {P = LiesIn area} (rules.has_area area) (decides-lies_in area) conf.regions)) part.areas)
+    (λ n area. says-unless (list_any (rules.has_area area) conf.regions) (rules.alone 8 (item.Area p n))
+    (decides-any {P = LiesIn area} (rules.has_area area) (decides-lies_in area) conf.regions)) part.areas)
     conf.parts
 
 -- rule 9
@@ -208,11 +213,11 @@ unfolding rules.rule_11 rules.frame_broken rules.late_slot
 says-rule_11 conf =
     says-like (rules.rule_11 conf) (λ all. (λ n d below. (all n d below).0, λ n d below. (all n d below).1)) (λ both n d below. (both.0 n d below, both.1 n d below))
     (says-all rules.frame_broken (λ plan. IsTime plan.frame × All (InFrame plan.frame) plan.slots)
-      (λ p plan. says-append (unless (rules.is_time plan.frame) (rules.alone 11 (item.Plan p))) (each (rules.late_slot p plan.frame) plan.slots)
-        (says-unless (rules.is_time plan.frame) (rules.alone 11 (item.Plan p)) (decides-time plan.frame))
-        (says-all (rules.late_slot p plan.frame) (InFrame plan.frame)
-          (λ n slot. says-unless (rules.in_frame plan.frame slot) (rules.broken 11 (item.Slot p n) (item.Plan p)) (decides-in_frame plan.frame slot)) plan.slots))
-      conf.plans)
+    (λ p plan. says-append (unless (rules.is_time plan.frame) (rules.alone 11 (item.Plan p))) (each (rules.late_slot p plan.frame) plan.slots)
+    (says-unless (rules.is_time plan.frame) (rules.alone 11 (item.Plan p)) (decides-time plan.frame))
+    (says-all (rules.late_slot p plan.frame) (InFrame plan.frame)
+    (λ n slot. says-unless (rules.in_frame plan.frame slot) (rules.broken 11 (item.Slot p n) (item.Plan p)) (decides-in_frame plan.frame slot)) plan.slots))
+    conf.plans)
 
 -- the last of the first elements
 pub slice_get-front : {X : Type 0} (xs : List X) (n : ℕ) (d : X) → n + 1 < length xs → slice_get (take (n + 1) xs) (length (take (n + 1) xs) - 1) ≡ Some (get_or xs n d)
@@ -235,7 +240,7 @@ in_turn-told slots turn zero d below = tt
 in_turn-told slots turn (suc n) d below =
     let within : n + 1 < length slots = omega arith in
     subst (λ (k : ℕ). Behind (get_or slots k d) (slice_get (take k slots) (length (take k slots) - 1))) (add-one n)
-      (subst (Behind (get_or slots (n + 1) d)) (sym (slice_get-front slots n d within)) (turn n d within))
+    (subst (Behind (get_or slots (n + 1) d)) (sym (slice_get-front slots n d within)) (turn n d within))
 
 -- rule 12
 pub says-rule_12 : (conf : Conf) → Says (rules.rule_12 conf) (All (λ plan. InTurn plan.slots) conf.plans)
@@ -243,9 +248,9 @@ unfolding rules.rule_12 rules.early_slots rules.early_slot
 says-rule_12 conf =
     says-all rules.early_slots (λ plan. InTurn plan.slots)
     (λ p plan. says-like (rules.early_slots p plan) (in_turn-tell plan.slots) (in_turn-told plan.slots)
-      (says-along (rules.early_slot p) (λ before slot. IfSome (slice_get before (length before - 1)) (λ e. e.start + e.duration ≤ slot.start))
-        (λ before slot. says-unless (rules.follows (slice_get before (length before - 1)) slot) (rules.broken 12 (item.Slot p (length before)) (item.Slot p (length before - 1)))
-          (decides-follows (slice_get before (length before - 1)) slot)) plan.slots))
+    (says-along (rules.early_slot p) (λ before slot. IfSome (slice_get before (length before - 1)) (λ e. e.start + e.duration ≤ slot.start))
+    (λ before slot. says-unless (rules.follows (slice_get before (length before - 1)) slot) (rules.broken 12 (item.Slot p (length before)) (item.Slot p (length before - 1)))
+    (decides-follows (slice_get before (length before - 1)) slot)) plan.slots))
     conf.plans
 
 -- rule 13
@@ -254,7 +259,7 @@ unfolding rules.rule_13 rules.stray_slots rules.stray_slot
 says-rule_13 conf =
     says-all (rules.stray_slots (length conf.parts)) (λ plan. All (λ slot. slot.part < length conf.parts) plan.slots)
     (λ p plan. says-all (rules.stray_slot (length conf.parts) p) (λ slot. slot.part < length conf.parts)
-      (λ n slot. says-unless (nat_lt slot.part (length conf.parts)) (rules.alone 13 (item.Slot p n)) (decides-lt slot.part (length conf.parts))) plan.slots)
+    (λ n slot. says-unless (nat_lt slot.part (length conf.parts)) (rules.alone 13 (item.Slot p n)) (decides-lt slot.part (length conf.parts))) plan.slots)
     conf.plans
 
 -- rule 14
@@ -270,8 +275,8 @@ unfolding rules.rule_15 rules.unfit_chan
 says-rule_15 conf =
     says-all rules.unfit_chan IsChan
     (λ n chan. says-like (rules.unfit_chan n chan) (λ t. record { some = t.0.0; most = t.0.1; kind = t.1 }) (λ f. ((f.some, f.most), f.kind))
-      (says-unless (nat_lt 0 chan.length && nat_le chan.length 4096 && rules.is_kind chan.kind chan.dests) (rules.alone 15 (item.Chan n))
-      (Decides-and _ _ (Decides-and _ _ (decides-lt 0 chan.length) (decides-le chan.length 4096)) (decides-kind chan.kind chan.dests))))
+    (says-unless (nat_lt 0 chan.length && nat_le chan.length 4096 && rules.is_kind chan.kind chan.dests) (rules.alone 15 (item.Chan n))
+    (Decides-and _ _ (Decides-and _ _ (decides-lt 0 chan.length) (decides-le chan.length 4096)) (decides-kind chan.kind chan.dests))))
     conf.chans
 
 -- rule 16
@@ -280,9 +285,9 @@ unfolding rules.rule_16 rules.stray_ends rules.stray_dest rules.stray_end
 says-rule_16 conf =
     says-all (rules.stray_ends conf.parts) (HasPorts conf.parts)
     (λ c chan. says-like (rules.stray_ends conf.parts c chan) (λ t. record { source = t.0; dests = t.1 }) (λ h. (h.source, h.dests))
-      (says-append (rules.stray_end conf.parts (item.End c 0) chan.source) (each (rules.stray_dest conf.parts c) chan.dests)
-        (one (item.End c 0) chan.source)
-        (says-all (rules.stray_dest conf.parts c) (λ end. IsSome (rules.port_at conf.parts end)) (λ n end. one (item.End c (n + 1)) end) chan.dests)))
+    (says-append (rules.stray_end conf.parts (item.End c 0) chan.source) (each (rules.stray_dest conf.parts c) chan.dests)
+    (one (item.End c 0) chan.source)
+    (says-all (rules.stray_dest conf.parts c) (λ end. IsSome (rules.port_at conf.parts end)) (λ n end. one (item.End c (n + 1)) end) chan.dests)))
     conf.chans
   where
     one : (it : Item) (end : End) → Says (unless (is_some (rules.port_at conf.parts end)) (rules.alone 16 it)) (IsSome (rules.port_at conf.parts end))
@@ -294,12 +299,12 @@ unfolding rules.rule_17 rules.wrong_ends rules.wrong_dest rules.wrong_end
 says-rule_17 conf =
     says-all (rules.wrong_ends conf.parts) (SuitsPorts conf.parts)
     (λ c chan. says-like (rules.wrong_ends conf.parts c chan) (λ t. record { source = t.0; dests = t.1 }) (λ h. (h.source, h.dests))
-      (says-append (rules.wrong_end conf.parts chan.kind way.Source (item.End c 0) chan.source) (each (rules.wrong_dest conf.parts chan.kind c) chan.dests)
-        (says-unless (rules.may_be_end chan.kind way.Source (rules.port_at conf.parts chan.source)) (rules.alone 17 (item.End c 0))
-          (decides-end chan.kind way.Source (rules.port_at conf.parts chan.source)))
-        (says-all (rules.wrong_dest conf.parts chan.kind c) (λ end. IfSome (rules.port_at conf.parts end) (IsEnd chan.kind way.Destination))
-          (λ n end. says-unless (rules.may_be_end chan.kind way.Destination (rules.port_at conf.parts end)) (rules.alone 17 (item.End c (n + 1)))
-            (decides-end chan.kind way.Destination (rules.port_at conf.parts end))) chan.dests)))
+    (says-append (rules.wrong_end conf.parts chan.kind way.Source (item.End c 0) chan.source) (each (rules.wrong_dest conf.parts chan.kind c) chan.dests)
+    (says-unless (rules.may_be_end chan.kind way.Source (rules.port_at conf.parts chan.source)) (rules.alone 17 (item.End c 0))
+    (decides-end chan.kind way.Source (rules.port_at conf.parts chan.source)))
+    (says-all (rules.wrong_dest conf.parts chan.kind c) (λ end. IfSome (rules.port_at conf.parts end) (IsEnd chan.kind way.Destination))
+    (λ n end. says-unless (rules.may_be_end chan.kind way.Destination (rules.port_at conf.parts end)) (rules.alone 17 (item.End c (n + 1)))
+    (decides-end chan.kind way.Destination (rules.port_at conf.parts end))) chan.dests)))
     conf.chans
 
 -- rule 18
@@ -315,10 +320,10 @@ says-answer plans p before answer =
     let it : Item = item.Event p (length before) in
     says-like (rules.answer_broken plans p before answer) (λ t. (t.0.1, (t.0.0, t.1))) (λ h. ((h.1.0, h.0), h.1.1))
     (says-append _ (unless (rules.has_plan plans answer.action) (rules.alone 19 it))
-      (says-append (unless (is_allowed answer.event answer.action) (rules.alone 19 it)) (rules.repeated 19 (item.Event p) rules.same_event before answer)
-        (says-unless (is_allowed answer.event answer.action) (rules.alone 19 it) (λ t. t, λ t. t))
-        (says-repeated {R = λ a b. a.event ≢ b.event} 19 (item.Event p) rules.same_event decides-same_event before answer))
-      (says-unless (rules.has_plan plans answer.action) (rules.alone 19 it) (decides-plan plans answer.action)))
+    (says-append (unless (is_allowed answer.event answer.action) (rules.alone 19 it)) (rules.repeated 19 (item.Event p) rules.same_event before answer)
+    (says-unless (is_allowed answer.event answer.action) (rules.alone 19 it) (λ t. t, λ t. t))
+    (says-repeated {R = λ a b. a.event ≢ b.event} 19 (item.Event p) rules.same_event decides-same_event before answer))
+    (says-unless (rules.has_plan plans answer.action) (rules.alone 19 it) (decides-plan plans answer.action)))
 
 -- what a partition says of health events
 pub says-monitor : (plans p : ℕ) (monitor : Monitor) → Says (rules.monitor_broken plans p monitor) (HasAnswers plans monitor)
@@ -328,9 +333,9 @@ says-monitor plans p monitor =
     (λ t. record { logged = t.0; allowed = λ n d below. (t.1.1 n d below).0; once = t.1.0; maintenance = λ n d below. (t.1.1 n d below).1 })
     (λ h. (h.logged, (h.once, λ n d below. (h.allowed n d below, h.maintenance n d below))))
     (says-append (unless (nat_lt monitor.logged 4096) (rules.alone 19 (item.Part p))) (along (rules.answer_broken plans p) monitor.answers)
-      (says-unless (nat_lt monitor.logged 4096) (rules.alone 19 (item.Part p)) (decides-lt monitor.logged 4096))
-      (says-pairs_and (λ a b. a.event ≢ b.event) (λ answer. IsTrue (is_allowed answer.event answer.action) × (answer.action ≡ action.SwitchToMaintenance → 1 < plans))
-        (rules.answer_broken plans p) (says-answer plans p) monitor.answers))
+    (says-unless (nat_lt monitor.logged 4096) (rules.alone 19 (item.Part p)) (decides-lt monitor.logged 4096))
+    (says-pairs_and (λ a b. a.event ≢ b.event) (λ answer. IsTrue (is_allowed answer.event answer.action) × (answer.action ≡ action.SwitchToMaintenance → 1 < plans))
+    (rules.answer_broken plans p) (says-answer plans p) monitor.answers))
 
 -- rule 19
 pub says-rule_19 : (plans : ℕ) (monitors : List Monitor) → Says (rules.rule_19 plans monitors) (All (HasAnswers plans) monitors)
@@ -381,15 +386,41 @@ unfolding rules.all_broken
 says-all_broken d =
     says-like (rules.all_broken d)
     (λ t. record {
-      counts = t.0.0.0.0.0.0.0; ids = t.0.0.0.0.0.0.1; names = t.0.0.0.0.0.1;
-      regions_sized = t.0.0.0.0.1.0; regions_apart = t.0.0.0.0.1.1; hypervisor = t.0.0.0.0.1.2; areas_sized = t.0.0.0.0.1.3;
-      areas_inside = t.0.0.0.0.1.4; areas_apart = t.0.0.0.0.1.5; memory = t.0.0.0.0.1.6;
-      frames = t.0.0.0.1.0.0; slots_inside = t.0.0.0.1.0.1; slots_in_turn = t.0.0.0.1.1; slots_owned = t.0.0.0.1.2; consoles = t.0.0.0.1.3;
-      messages = t.0.0.1.0; ends_exist = t.0.0.1.1; ends_suit = t.0.0.1.2; ends_differ = t.0.0.1.3;
-      answers = t.0.1; needs = t.1;
+      counts = t.0.0.0.0.0.0.0;
+      ids = t.0.0.0.0.0.0.1;
+      names = t.0.0.0.0.0.1;
+      regions_sized = t.0.0.0.0.1.0;
+      regions_apart = t.0.0.0.0.1.1;
+      hypervisor = t.0.0.0.0.1.2;
+      areas_sized = t.0.0.0.0.1.3;
+      areas_inside = t.0.0.0.0.1.4;
+      areas_apart = t.0.0.0.0.1.5;
+      memory = t.0.0.0.0.1.6;
+      frames = t.0.0.0.1.0.0;
+      slots_inside = t.0.0.0.1.0.1;
+      slots_in_turn = t.0.0.0.1.1;
+      slots_owned = t.0.0.0.1.2;
+      consoles = t.0.0.0.1.3;
+      messages = t.0.0.1.0;
+      ends_exist = t.0.0.1.1;
+      ends_suit = t.0.0.1.2;
+      ends_differ = t.0.0.1.3;
+      answers = t.0.1;
+      needs = t.1;
     })
-    (λ f. (((((((f.counts, f.ids), f.names), (f.regions_sized, f.regions_apart, f.hypervisor, f.areas_sized, f.areas_inside, f.areas_apart, f.memory)),
-      ((f.frames, f.slots_inside), f.slots_in_turn, f.slots_owned, f.consoles)), (f.messages, f.ends_exist, f.ends_suit, f.ends_differ)), f.answers), f.needs))
+    (λ f. (
+      (
+        (
+          (
+            (((f.counts, f.ids), f.names), (f.regions_sized, f.regions_apart, f.hypervisor, f.areas_sized, f.areas_inside, f.areas_apart, f.memory)),
+            ((f.frames, f.slots_inside), f.slots_in_turn, f.slots_owned, f.consoles),
+          ),
+          (f.messages, f.ends_exist, f.ends_suit, f.ends_differ),
+        ),
+        f.answers,
+      ),
+      f.needs,
+    ))
     (says-append _ (rules.rule_20 d.conf) (says-append _ (rules.rule_19 (length d.conf.plans) d.monitors) (says-append _ (rules.chan_rules d.conf)
     (says-append _ (rules.plan_rules d.conf) (says-append _ (rules.memory_rules d.conf) (says-append _ (rules.rule_3 d.conf)
     (says-append (rules.rule_1 d.conf) (rules.rule_2 d.ids) (says-rule_1 d.conf) (says-rule_2 d.ids)) (says-rule_3 d.conf)) (says-memory d.conf)) (says-plans d.conf))

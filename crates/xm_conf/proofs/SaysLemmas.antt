@@ -49,9 +49,10 @@ says-each_from {X} {Y} f P s k (x ∷ xs) =
 
     from : ((n : ℕ) (d : X) → n < suc (length xs) → P (k + n) (get_or (x ∷ xs) n d)) → P k x × ((n : ℕ) (d : X) → n < length xs → P (k + 1 + n) (get_or xs n d))
     from all =
-        let e : k + 0 ≡ k = omega arith in
-        (subst (λ (m : ℕ). P m x) e (all 0 x (omega arith)),
-         λ n d below. let e : k + suc n ≡ k + 1 + n = omega arith in subst (λ (m : ℕ). P m (get_or xs n d)) e (all (suc n) d (omega arith)))
+        let e : k + 0 ≡ k = omega arith in (
+          subst (λ (m : ℕ). P m x) e (all 0 x (omega arith)),
+          λ n d below. let e : k + suc n ≡ k + 1 + n = omega arith in subst (λ (m : ℕ). P m (get_or xs n d)) e (all (suc n) d (omega arith)),
+        )
 
 -- what numbered elements add says what each says, from number 0
 pub says-each : {X Y : Type 0} (f : ℕ → X → List Y) (P : ℕ → X → Type 0) → ((n : ℕ) (x : X) → Says (f n x) (P n x)) → (xs : List X)
@@ -81,9 +82,10 @@ says-along_from {X} {Y} f P s before (x ∷ xs) =
 
     from : ((n : ℕ) (d : X) → n < suc (length xs) → P (before ++ take n (x ∷ xs)) (get_or (x ∷ xs) n d))
         → P before x × ((n : ℕ) (d : X) → n < length xs → P ((before ++ x ∷ []) ++ take n xs) (get_or xs n d))
-    from all =
-        (subst (λ (front : List X). P front x) (append-nil before) (all 0 x (omega arith)),
-         λ n d below. subst (λ (front : List X). P front (get_or xs n d)) (sym (append_assoc before (x ∷ []) (take n xs))) (all (suc n) d (omega arith)))
+    from all = (
+      subst (λ (front : List X). P front x) (append-nil before) (all 0 x (omega arith)),
+      λ n d below. subst (λ (front : List X). P front (get_or xs n d)) (sym (append_assoc before (x ∷ []) (take n xs))) (all (suc n) d (omega arith)),
+    )
 
 -- what elements add beside those before them says what each says, from the first on
 pub says-along : {X Y : Type 0} (f : List X → X → List Y) (P : List X → X → Type 0) → ((before : List X) (x : X) → Says (f before x) (P before x)) → (xs : List X)
@@ -143,7 +145,7 @@ pub pairs-told : {X : Type 0} (R : X → X → Type 0) (xs : List X) → AllPair
 pairs-told {X} R xs pairs n d below k e within =
     let before : k < n = omega (arith, length-take n xs) in
     subst (λ (y : X). R y (get_or xs n d)) (sym (get_or-take n xs k e before))
-      (subst (λ (y : X). R y (get_or xs n d)) (get_or_default xs k d e (omega arith)) (pairs k n d before below))
+    (subst (λ (y : X). R y (get_or xs n d)) (get_or_default xs k d e (omega arith)) (pairs k n d before below))
 
 -- elements each of which stands in a relation to those before it say so of all pairs
 pub says-pairs : {X Y : Type 0} (R : X → X → Type 0) (f : List X → X → List Y) → ((before : List X) (x : X) → Says (f before x) (All (λ earlier. R earlier x) before))

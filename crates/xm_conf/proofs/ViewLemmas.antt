@@ -32,7 +32,7 @@ decides-has_end part port chan =
     let end : End = record { part = part; port = port } in
     Decides-or (is_port part port chan.source) (list_any (is_port part port) chan.dests) (decides-port part port chan.source)
     (Decides-like (list_any (is_port part port) chan.dests) (contains-any chan.dests end) (any-contains chan.dests end)
-      (decides-any {P = λ x. x ≡ end} (is_port part port) (decides-port part port) chan.dests))
+    (decides-any {P = λ x. x ≡ end} (is_port part port) (decides-port part port) chan.dests))
 
 -- the first place that passes a test has an element with the fact
 pub position-found : {X : Type 0} {P : X → Type 0} (test : X → Bool) → ((x : X) → Decides (test x) (P x)) → (k : ℕ) (xs : List X)

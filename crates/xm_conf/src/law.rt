@@ -5,5 +5,4 @@ ghost use Rattle.xm_conf.specs.Laws.{IsBrokenUnlessFits};
 /// A description breaks no rule exactly where it meets each of them.
 pub fn broken_unless_fits()
     ensures law { IsBrokenUnlessFits }
-{
-}
+{}

@@ -13,6 +13,7 @@ use crate::port::{Kind, Port, Way};
 use crate::raw::RawConf;
 
 const LENGTH: u16 = 4096;
+
 const MESSAGES: u8 = 64;
 
 /// Whether a channel has destinations as its kind wants, and as many messages.
@@ -209,13 +210,7 @@ fn wrong_ends(parts: &[Part], c: u8, chan: &Chan) -> Option<Broken>
     requires { length chan.now.dests ≤ 16 }
     ensures { result ≡ head_of (rules.wrong_ends parts.now c chan.now) }
 {
-    let broken = wrong_end(
-        parts,
-        chan.kind,
-        Way::Source,
-        Item::End(c, 0),
-        &chan.source,
-    );
+    let broken = wrong_end(parts, chan.kind, Way::Source, Item::End(c, 0), &chan.source);
     if broken.is_some() {
         return broken;
     }

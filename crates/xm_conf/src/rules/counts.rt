@@ -13,13 +13,21 @@ use crate::plan::Plan;
 use crate::raw::RawConf;
 
 const REGIONS: usize = 8;
+
 const UARTS: usize = 8;
+
 const PLANS: u8 = 8;
+
 const SLOTS: usize = 64;
+
 const PARTS: u8 = 16;
+
 const AREAS: usize = 8;
+
 const PORTS: usize = 32;
+
 const CHANS: u8 = 64;
+
 const DESTS: usize = 16;
 
 /// Whether there are regions, plans and partitions.

@@ -136,7 +136,11 @@ fn source_meets(chans: &[Chan], source: &End) -> Option<Broken>
     requires dests { All (λ chan. length chan.dests ≤ 16) chans.now }
     ensures { result ≡ head_of (rules.meets 18 rules.same_end (each rules.chan_ends chans.now) (item.End (length chans.now) 0, source.now)) }
 {
-    beside(18, Item::End(chans.len() as u8, 0), chans_hit(source, chans))
+    beside(
+        18,
+        Item::End(chans.len() as u8, 0),
+        chans_hit(source, chans),
+    )
 }
 
 /// The first end of a channel that is a port of an end before it.

@@ -12,6 +12,7 @@ use crate::item::{Broken, Item};
 use crate::raw::{RawConf, Region};
 
 const PAGE: u32 = 4096;
+
 const ADDRESSES: u64 = 1 << 32;
 
 /// Whether a number of bytes is a number of pages.
@@ -70,9 +71,7 @@ fn first_overlap(regions: &[Region], region: &Region) -> Option<usize>
     ensures first { result ≡ position_from (λ earlier. rules.overlaps earlier region.now) 0 regions.now }
     ensures within { IfSome result (λ n. n < length regions.now) }
 {
-    regions
-        .iter()
-        .position(|earlier| overlaps(earlier, region))
+    regions.iter().position(|earlier| overlaps(earlier, region))
 }
 
 /// A region that overlaps an earlier one.

@@ -15,6 +15,7 @@ use crate::part::{HmTable, Need, Part};
 use crate::raw::RawConf;
 
 const LONGEST: u32 = 1_000_000_000;
+
 const FLAGS: u16 = 1 << 12;
 
 /// Whether a console is one of so many UARTs, where there is one.

@@ -100,12 +100,7 @@ fn part_hit(at: &Region, p: u8, part: &Part) -> Option<Item>
 
 /// The first of what stands before an area and overlaps a stretch.
 #[tactic(auto, using(crate::proofs::AlongLemmas::in_turn))]
-fn first_before(
-    at: &Region,
-    whole: Option<Region>,
-    parts: &[Part],
-    before: &[Area],
-) -> Option<Item>
+fn first_before(at: &Region, whole: Option<Region>, parts: &[Part], before: &[Area]) -> Option<Item>
     requires few { length parts.now ≤ 16 }
     requires areas { All (λ part. length part.areas ≤ 8) parts.now }
     requires before { length before.now ≤ 8 }
@@ -123,12 +118,7 @@ fn first_before(
 }
 
 /// An area that overlaps one before it.
-fn area_meets(
-    whole: Option<Region>,
-    parts: &[Part],
-    before: &[Area],
-    area: &Area,
-) -> Option<Broken>
+fn area_meets(whole: Option<Region>, parts: &[Part], before: &[Area], area: &Area) -> Option<Broken>
     requires few { length parts.now ≤ 16 }
     requires areas { All (λ part. length part.areas ≤ 8) parts.now }
     requires before { length before.now ≤ 8 }

@@ -12,4 +12,4 @@ returns c =
     let number = length c.args.chans.now in
     c.beside.ensures
     ∙ ap (λ earlier. head_of (beside 18 (item.End number (length c.args.before.now + 1)) earlier))
-      (c.first_before-earlier.ensures ∙ ap head_of (sym (dest-hits c.args.dest.now c.args.chans.now c.args.source.now number c.args.before.now)))
+    (c.first_before-earlier.ensures ∙ ap head_of (sym (dest-hits c.args.dest.now c.args.chans.now c.args.source.now number c.args.before.now)))

@@ -11,4 +11,4 @@ unfolding chan_hits
 returns c =
     c.beside.ensures
     ∙ ap (λ earlier. head_of (beside 18 (item.End (length c.args.chans.now) 0) earlier))
-      (c.chans_hit.ensures ∙ ap head_of (sym (items_where-each (λ earlier. same_end earlier c.args.source.now) chan_ends 0 c.args.chans.now)))
+    (c.chans_hit.ensures ∙ ap head_of (sym (items_where-each (λ earlier. same_end earlier c.args.source.now) chan_ends 0 c.args.chans.now)))

@@ -12,5 +12,5 @@ returns c =
     let number = length c.args.parts.now in
     c.beside.ensures
     ∙ ap (λ earlier. head_of (beside 9 (item.Area number (length c.args.before.now)) earlier))
-      (rw c.stretch.ensures at c.first_before-earlier.ensures
-      ∙ ap head_of (sym (area-hits (stretch c.args.area.now) c.args.whole c.args.parts.now number c.args.before.now)))
+    (rw c.stretch.ensures at c.first_before-earlier.ensures
+    ∙ ap head_of (sym (area-hits (stretch c.args.area.now) c.args.whole c.args.parts.now number c.args.before.now)))
