@@ -9,40 +9,36 @@ use std::alloc::Global;
 use std::process::Abort;
 use std::test::Fail;
 
+const PLANS: [&[PlanRow<'static>]; 11] = [
+    &[(1_000_000_000, &[(0, 1, 0)])],
+    &[(1_000_000_001, &[(0, 1, 0)])],
+    &[(1, &[(0, 1, 0)]), (0, &[(0, 1, 0)])],
+    &[(9, &[(0, 1, 0), (8, 2, 0)])],
+    &[(9, &[(0, 0, 0)])],
+    &[(9, &[(0xffff_ffff, 0xffff_ffff, 0)])],
+    &[(9, &[(1, 4, 0), (5, 4, 1)])],
+    &[(9, &[(1, 4, 0), (4, 4, 1)])],
+    &[(9, &[(0, 9, 0)]), (9, &[(3, 2, 0), (5, 1, 0), (0, 1, 1)])],
+    &[(9, &[(0, 1, 1), (1, 1, 2)])],
+    &[(9, &[(0, 1, 255)])],
+];
+
 #[test]
 fn slots_lie_in_their_frame_one_after_another(rt: HostRuntime) -> Result<(), Fail> {
-    let rows: [(&[PlanRow<'_>], _); 11] = [
-        (&[(1_000_000_000, &[(0, 1, 0)])], None),
-        (&[(1_000_000_001, &[(0, 1, 0)])], alone(11, Item::Plan(0))),
-        (
-            &[(1, &[(0, 1, 0)]), (0, &[(0, 1, 0)])],
-            alone(11, Item::Plan(1)),
-        ),
-        (
-            &[(9, &[(0, 1, 0), (8, 2, 0)])],
-            clash(11, Item::Slot(0, 1), Item::Plan(0)),
-        ),
-        (
-            &[(9, &[(0, 0, 0)])],
-            clash(11, Item::Slot(0, 0), Item::Plan(0)),
-        ),
-        (
-            &[(9, &[(0xffff_ffff, 0xffff_ffff, 0)])],
-            clash(11, Item::Slot(0, 0), Item::Plan(0)),
-        ),
-        (&[(9, &[(1, 4, 0), (5, 4, 1)])], None),
-        (
-            &[(9, &[(1, 4, 0), (4, 4, 1)])],
-            clash(12, Item::Slot(0, 1), Item::Slot(0, 0)),
-        ),
-        (
-            &[(9, &[(0, 9, 0)]), (9, &[(3, 2, 0), (5, 1, 0), (0, 1, 1)])],
-            clash(12, Item::Slot(1, 2), Item::Slot(1, 1)),
-        ),
-        (&[(9, &[(0, 1, 1), (1, 1, 2)])], alone(13, Item::Slot(0, 1))),
-        (&[(9, &[(0, 1, 255)])], alone(13, Item::Slot(0, 0))),
+    let answers = [
+        None,
+        alone(11, Item::Plan(0)),
+        alone(11, Item::Plan(1)),
+        clash(11, Item::Slot(0, 1), Item::Plan(0)),
+        clash(11, Item::Slot(0, 0), Item::Plan(0)),
+        clash(11, Item::Slot(0, 0), Item::Plan(0)),
+        None,
+        clash(12, Item::Slot(0, 1), Item::Slot(0, 0)),
+        clash(12, Item::Slot(1, 2), Item::Slot(1, 1)),
+        alone(13, Item::Slot(0, 1)),
+        alone(13, Item::Slot(0, 0)),
     ];
-    for (plans, broken) in rows {
+    for (plans, broken) in PLANS.into_iter().zip(answers) {
         let sample = Sample { plans, ..SAMPLE };
         assert_eq!(rt; tried(&rt, rt.alloc(), &sample)?, broken);
     }
