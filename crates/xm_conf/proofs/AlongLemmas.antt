@@ -1,7 +1,7 @@
 -- The first of what the elements of a list add, found by a loop over the list.
-use Rattle.std.proofs.Common.{◌≡◌, ℕ, suc, ◌+◌, ◌<◌, ◌≤◌, Bool, true, false, List, [], ◌∷◌, ◌++◌, length, get_or, take, drop, Option, Some, None, is_some, refl, sym, ◌∙◌, ap, subst, arith, add-one}
-use Rattle.std.proofs.lemmas.List.{at_drop_more, at_drop_all, get_or_default, take_more}
-use Rattle.xm_conf.specs.Along.{head_of, each, each_from, along, along_from}
+use Rattle.std.proofs.Common.{◌≡◌, ℕ, ◌+◌, ◌<◌, ◌≤◌, true, false, List, [], ◌∷◌, ◌++◌, length, get_or, take, drop, Option, None, is_some, refl, sym, ◌∙◌, ap}
+use Rattle.std.proofs.lemmas.List.{at_drop_more, at_drop_all, take_more}
+use Rattle.xm_conf.specs.Along.{head_of, each_from, along_from}
 
 -- a list that adds nothing first lets the next one go first
 pub first-append_none : {X : Type 0} (a b : List X) → is_some (head_of a) ≡ false → head_of (a ++ b) ≡ head_of b

@@ -1,20 +1,18 @@
 -- What a table of actions answers: each event once.
-use Rattle.std.proofs.Common.{◌≡◌, ℕ, zero, suc, ◌+◌, ◌<◌, ◌≤◌, Bool, true, false, cond, nat_lt, List, [], ◌∷◌, ◌++◌, length, map, Option, Some, None, refl, sym, ◌∙◌, ap, subst, arith, length-append}
+use Rattle.std.proofs.Common.{◌≡◌, ℕ, zero, suc, ◌+◌, ◌<◌, ◌≤◌, true, false, nat_lt, List, [], ◌∷◌, ◌++◌, length, map, None, refl, sym, ◌∙◌, ap, subst, arith, length-append}
 use Rattle.std.specs.Prelude.{◌==◌}
 use Rattle.std.specs.List.{position_from}
 use Rattle.std.proofs.lemmas.List.{append-nil}
 use Rattle.std.proofs.lemmas.Bool.Decides.{nat_tests}
-use Rattle.xm_base.specs.Options.{on}
-use Rattle.xm_conf.specs.Along.{each, each_from, along, along_from, unless}
+use Rattle.xm_conf.specs.Along.{each, each_from, along_from, unless}
 use Rattle.xm_conf.specs.Configuration.{Part, Plan, Conf}
-use Rattle.xm_conf.specs.Description.{PlanIds, Ids, Answer, event_numbered, answer_of, monitor_of, numbers, plan_ids, ids_of}
+use Rattle.xm_conf.specs.Description.{event_numbered, answer_of, monitor_of, plan_ids, ids_of}
 use Rattle.xm_conf.specs.Health.{event_row, is_allowed}
 use Rattle.xm_conf.specs.Rules as rules
 use Rattle.xm_conf.specs.Walks.{action_broken, part_monitor}
 use Rattle.xm_conf.specs.declared.health.Action.{Action}
 use Rattle.xm_conf.specs.declared.item.Item.TheVariants as item
 use Rattle.xm_conf.specs.declared.item.Item.{Item}
-use Rattle.xm_conf.specs.declared.item.Broken.{Broken}
 use Rattle.xm_conf.proofs.MeetLemmas.{each-push}
 
 -- the number of the event of a number

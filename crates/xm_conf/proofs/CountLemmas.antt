@@ -1,8 +1,8 @@
 -- What the counts of a configuration give to the rules behind them.
-use Rattle.std.proofs.Common.{◌≡◌, ℕ, ◌<◌, ◌≤◌, List, length, get_or, Option, Some, None, refl, sym, ◌∙◌, arith}
+use Rattle.std.proofs.Common.{◌≡◌, ◌≤◌, List, length, get_or, Option, Some, None, sym, arith}
 use Rattle.std.specs.Prelude.{All, IfNone}
 use Rattle.xm_conf.specs.Along.{head_of}
-use Rattle.xm_conf.specs.Configuration.{Chan, Conf}
+use Rattle.xm_conf.specs.Configuration.{Conf}
 use Rattle.xm_conf.specs.Rules as rules
 use Rattle.xm_conf.specs.Fits.{HasCounts, HasFewDests, IsKind, IsChan}
 use Rattle.xm_conf.specs.declared.item.Broken.{Broken}

@@ -1,14 +1,13 @@
 -- What the tests of the rules decide.
-use Rattle.std.proofs.Common.{◌≡◌, ◌≢◌, ℕ, zero, suc, get_or, ◌||◌, ◌+◌, ◌<◌, ◌≤◌, ◌⊎◌, inl, inr, Bool, true, false, not, ◌&&◌, nat_lt, nat_le, List, [], ◌∷◌, length, Option, Some, None, refl, sym, ◌∙◌, ap, subst, arith}
-use Rattle.std.specs.Prelude.{◌==◌, Decides, All, Any, IfSome, IsTrue, IsSome, IsSomeAnd, is_some, slice_get, ⊤}
+use Rattle.std.proofs.Common.{◌≡◌, ◌≢◌, ℕ, zero, suc, get_or, ◌||◌, ◌+◌, ◌<◌, ◌≤◌, Bool, true, false, not, ◌&&◌, nat_lt, nat_le, List, [], ◌∷◌, length, Option, Some, None, refl, sym, ◌∙◌, ap, subst, arith}
+use Rattle.std.specs.Prelude.{◌==◌, Decides, Any, IfSome, IsSomeAnd}
 use Rattle.std.specs.List.{list_any}
 use Rattle.std.specs.Str.{bytes_eq}
-use Rattle.std.proofs.lemmas.Bool.Decides.{Decides-and, Decides-by_or, Decides-eqb, Decides-like, Decides-not, nat_tests}
+use Rattle.std.proofs.lemmas.Bool.Decides.{Decides-and, Decides-eqb, Decides-like, Decides-not, nat_tests}
 use Rattle.std.proofs.lemmas.Slice.Eq.{bytes_eq-Decides}
 use Rattle.xm_conf.specs.Health.{event_row}
-use Rattle.xm_conf.specs.Configuration.{Part, Conf, Chan}
 use Rattle.xm_conf.specs.Description.{Answer, event_numbered}
-use Rattle.xm_conf.specs.Rules.{is_sized, is_region, is_paged, page, addresses, longest, overlaps, has_area, is_time, in_frame, is_kind, is_of_kind, is_way, may_be_end, same_end, has_plan, same_event, is_need, is_console, fits_into, follows}
+use Rattle.xm_conf.specs.Rules.{is_sized, is_region, is_paged, addresses, longest, overlaps, has_area, is_time, in_frame, is_kind, is_of_kind, is_way, may_be_end, same_end, has_plan, same_event, is_need, is_console, fits_into, follows}
 use Rattle.xm_conf.specs.Fits.{IsSized, IsRegion, Apart, LiesIn, IsTime, InFrame, IsKind, IsOfKind, IsEnd, IsNeed}
 use Rattle.xm_conf.specs.declared.health.Event.{Event}
 use Rattle.xm_conf.specs.declared.health.Event.TheVariants as event

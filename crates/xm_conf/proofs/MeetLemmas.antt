@@ -1,5 +1,5 @@
 -- What breaks a rule along lists within a list, with the items that stand before.
-use Rattle.std.proofs.Common.{◌≡◌, ℕ, suc, ◌+◌, Bool, true, false, if◌then◌else◌, List, [], ◌∷◌, ◌++◌, length, Option, Some, None, refl, sym, ◌∙◌, ap, arith, append_assoc, length-append}
+use Rattle.std.proofs.Common.{◌≡◌, ℕ, ◌+◌, Bool, true, false, if◌then◌else◌, List, [], ◌∷◌, ◌++◌, length, Option, Some, None, refl, sym, ◌∙◌, ap, arith, append_assoc, length-append}
 use Rattle.std.specs.List.{position_from}
 use Rattle.std.proofs.lemmas.List.{append-nil}
 use Rattle.xm_base.specs.Options.{on}
@@ -12,7 +12,6 @@ use Rattle.xm_conf.specs.declared.channel.End.{End}
 use Rattle.xm_conf.specs.declared.raw.Region.{Region}
 use Rattle.xm_conf.specs.declared.item.Item.{Item}
 use Rattle.xm_conf.specs.declared.item.Item.TheVariants as item
-use Rattle.xm_conf.specs.declared.item.Broken.{Broken}
 
 -- the items of two lists
 pub items_where-append : {X : Type 0} (test : X → Bool) (a b : List (Item × X)) → items_where test (a ++ b) ≡ items_where test a ++ items_where test b

@@ -1,11 +1,11 @@
 -- Each rule's list says the rule's fact.
-use Rattle.std.proofs.Common.{◌≡◌, ◌≢◌, ℕ, zero, suc, add-one, ◌+◌, ◌-◌, ◌<◌, ◌≤◌, Bool, true, false, not, ◌&&◌, nat_lt, nat_le, List, [], ◌∷◌, ◌++◌, length, get_or, take, sum_by, Option, Some, None, refl, sym, ◌∙◌, ap, subst, arith}
-use Rattle.std.specs.Prelude.{◌==◌, ◌↔◌, Decides, All, AllPairs, Any, IfSome, IsSome, IsTrue, is_some, slice_get, ⊤}
+use Rattle.std.proofs.Common.{◌≡◌, ◌≢◌, ℕ, zero, suc, add-one, ◌+◌, ◌-◌, ◌<◌, ◌≤◌, ◌&&◌, nat_lt, nat_le, List, [], ◌∷◌, ◌++◌, length, get_or, take, sum_by, Option, Some, None, refl, sym, ◌∙◌, ap, subst, arith}
+use Rattle.std.specs.Prelude.{◌==◌, ◌↔◌, All, AllPairs, Any, IfSome, IsSome, IsTrue, is_some, slice_get}
 use Rattle.std.specs.List.{list_any}
 use Rattle.std.specs.Str.{bytes_eq}
 use Rattle.std.proofs.lemmas.List.{get_or-take, length-take-le}
 use Rattle.std.proofs.lemmas.Option.{slice_get-get_or}
-use Rattle.std.proofs.lemmas.Bool.Decides.{Decides-and, Decides-eqb, Decides-like, nat_tests}
+use Rattle.std.proofs.lemmas.Bool.Decides.{Decides-and, Decides-eqb}
 use Rattle.xm_conf.specs.Along.{head_of, each, along, unless}
 use Rattle.xm_conf.specs.Configuration.{Plan, Part, Chan, Conf}
 use Rattle.xm_conf.specs.Description.{PlanIds, Ids, Answer, Monitor, Description}
@@ -16,7 +16,6 @@ use Rattle.xm_conf.specs.declared.item.Item.TheVariants as item
 use Rattle.xm_conf.specs.declared.health.Action.TheVariants as action
 use Rattle.xm_conf.specs.declared.plan.Slot.{Slot}
 use Rattle.xm_conf.specs.declared.item.Item.{Item}
-use Rattle.xm_conf.specs.declared.item.Broken.{Broken}
 use Rattle.xm_conf.specs.declared.channel.ChanKind.{ChanKind}
 use Rattle.xm_conf.specs.declared.channel.ChanKind.TheVariants as chan_kind
 use Rattle.xm_conf.specs.declared.channel.End.{End}

@@ -1,14 +1,13 @@
 -- A list of what breaks a rule says a fact: it is empty exactly where the fact holds.
-use Rattle.std.proofs.Common.{◌≡◌, ◌≢◌, ℕ, suc, zero, ◌+◌, ◌<◌, ◌≤◌, Bool, true, false, cond, not, List, [], ◌∷◌, ◌++◌, length, get_or, take, Option, Some, None, refl, sym, ◌∙◌, ap, subst, arith, append_assoc}
-use Rattle.std.specs.Prelude.{Decides, All, AllPairs, IfSome}
+use Rattle.std.proofs.Common.{◌≡◌, ℕ, suc, zero, ◌+◌, ◌<◌, ◌≤◌, Bool, true, false, cond, not, List, [], ◌∷◌, ◌++◌, length, get_or, take, Option, Some, None, refl, sym, subst, arith, append_assoc}
+use Rattle.std.specs.Prelude.{Decides, All, AllPairs}
 use Rattle.std.specs.List.{position_from}
 use Rattle.std.proofs.lemmas.List.{append-nil, get_or-take, get_or_default, length-take}
 use Rattle.std.proofs.lemmas.List.Elements.{All-cons, All-head, All-tail}
 use Rattle.xm_base.specs.Options.{on}
 use Rattle.xm_conf.specs.Along.{head_of, each, each_from, along, along_from, unless}
-use Rattle.xm_conf.specs.Rules.{repeated, meets, items_where, item_if, beside}
+use Rattle.xm_conf.specs.Rules.{repeated, meets, items_where, beside}
 use Rattle.xm_conf.specs.declared.item.Item.{Item}
-use Rattle.xm_conf.specs.declared.item.Broken.{Broken}
 
 -- a list is empty exactly where the fact holds
 pub record Says {Y : Type 0} (ys : List Y) (P : Type 0) : Type 0 where

@@ -1,10 +1,10 @@
 -- The rules along a configuration are the rules of what it describes.
-use Rattle.std.proofs.Common.{◌≡◌, ◌++◌, List, [], length, map, refl, sym, ◌∙◌, ap}
+use Rattle.std.proofs.Common.{◌≡◌, ◌++◌, length, map, sym, ◌∙◌, ap}
 use Rattle.std.proofs.lemmas.List.{append-nil}
 use Rattle.xm_conf.specs.Along.{head_of}
 use Rattle.xm_conf.specs.Configuration.{Conf}
-use Rattle.xm_conf.specs.Description.{described, monitor_of, ids_of}
-use Rattle.xm_conf.specs.Rules.{rule_1, rule_2, rule_3, memory_rules, plan_rules, chan_rules, rule_19, rule_20, all_broken, first_broken}
+use Rattle.xm_conf.specs.Description.{described, monitor_of}
+use Rattle.xm_conf.specs.Rules.{rule_1, rule_3, memory_rules, plan_rules, chan_rules, rule_19, rule_20, all_broken, first_broken}
 use Rattle.xm_conf.specs.Walks.{walk_broken}
 use Rattle.xm_conf.proofs.AnswerLemmas.{rule_2-ids_of}
 

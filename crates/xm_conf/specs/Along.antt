@@ -1,5 +1,5 @@
 -- Words on lists in which the rules are written: what the elements of a list add, one after another.
-use Rattle.std.specs.Prelude.{ℕ, ◌+◌, Bool, true, false, if◌then◌else◌, List, [], ◌∷◌, ◌++◌, Option, Some, None}
+use Rattle.std.specs.Prelude.{ℕ, ◌+◌, Bool, true, false, List, [], ◌∷◌, ◌++◌, Option, Some, None}
 
 -- the first element, where there is one
 abbrev pub head_of : {X : Type 0} → List X → Option X

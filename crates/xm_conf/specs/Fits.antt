@@ -1,13 +1,11 @@
 -- What it means that a description meets the rules of a configuration: a fact a rule.
-use Rattle.std.specs.Prelude.{◌≡◌, ◌≢◌, ℕ, ◌+◌, ◌%◌, ◌<◌, ◌≤◌, ◌⊎◌, ⊤, IsTrue, List, [], ◌∷◌, ◌++◌, length, map, sum_by, slice_get, All, AllPairs, Any, Option, Some, None, IsSome, IsSomeAnd, IfSome, slice_index_or}
+use Rattle.std.specs.Prelude.{◌≡◌, ◌≢◌, ℕ, ◌+◌, ◌%◌, ◌<◌, ◌≤◌, ◌⊎◌, ⊤, IsTrue, List, length, sum_by, slice_get, All, AllPairs, Any, IsSome, IsSomeAnd, IfSome, slice_index_or}
 use Rattle.xm_conf.specs.Along.{each}
-use Rattle.xm_conf.specs.Configuration.{Plan, Part, Chan, Conf}
-use Rattle.xm_conf.specs.Description.{PlanIds, Ids, Answer, Monitor, Description, numbers}
+use Rattle.xm_conf.specs.Configuration.{Part, Chan, Conf}
+use Rattle.xm_conf.specs.Description.{PlanIds, Ids, Monitor, Description}
 use Rattle.xm_conf.specs.Health.{is_allowed}
-use Rattle.xm_conf.specs.Rules.{page, addresses, most_memory, longest, part_size, hypervisor, stretches, port_at, chan_ends}
-use Rattle.xm_conf.specs.declared.health.Action.{Action}
+use Rattle.xm_conf.specs.Rules.{page, addresses, most_memory, longest, part_size, stretches, port_at, chan_ends}
 use Rattle.xm_conf.specs.declared.health.Action.TheVariants as action
-use Rattle.xm_conf.specs.declared.health.Event.{Event}
 use Rattle.xm_conf.specs.declared.plan.Slot.{Slot}
 use Rattle.xm_conf.specs.declared.part.Area.{Area}
 use Rattle.xm_conf.specs.declared.part.Need.{Need}

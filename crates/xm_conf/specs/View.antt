@@ -1,5 +1,5 @@
 -- What a partition has of a configuration: the channels of its ports, and what a system partition sees.
-use Rattle.std.specs.Prelude.{◌≡◌, ◌==◌, ℕ, Bool, true, false, ◌&&◌, ◌||◌, ◌⊎◌, if◌then◌else◌, List, length, slice_get, Contains, Option, Some, None}
+use Rattle.std.specs.Prelude.{◌≡◌, ◌==◌, ℕ, Bool, true, false, ◌&&◌, ◌||◌, ◌⊎◌, length, slice_get, Contains, Option, Some, None}
 use Rattle.std.specs.List.{list_any, position_from}
 use Rattle.xm_conf.specs.Configuration.{Part, Chan, Conf}
 use Rattle.xm_conf.specs.declared.channel.End.{End}
