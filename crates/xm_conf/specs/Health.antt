@@ -1,5 +1,5 @@
 -- Health events and actions: the number and the name of each.
-use Rattle.std.specs.Prelude.{◌≡◌, ℕ, List, [], ◌∷◌, codes, ◌↔◌, Option, Some}
+use Rattle.std.specs.Prelude.{◌≡◌, ℕ, Bool, true, false, List, [], ◌∷◌, codes, ◌↔◌, Option, Some}
 use Rattle.std.specs.List.{find}
 use Rattle.std.specs.Str.{bytes_eq}
 use Rattle.xm_conf.specs.declared.health.Event.{Event}
@@ -74,3 +74,11 @@ IsEventNamed bytes found = (e : Event) → (found ≡ Some e) ↔ (bytes ≡ (ev
 -- an action is found exactly where the bytes are its name
 abbrev pub IsActionNamed : List ℕ → Option Action → Type 0
 IsActionNamed bytes found = (a : Action) → (found ≡ Some a) ↔ (bytes ≡ (action_row a).text)
+
+-- whether an action is allowed for an event
+abbrev pub is_allowed : Event → Action → Bool
+is_allowed event.PartitionError action.Propagate = false
+is_allowed event.MemProtection action.Propagate = false
+is_allowed event.MemProtection action.Ignore = false
+is_allowed event.SparcInstrAccess action.Ignore = false
+is_allowed _ _ = true

@@ -1,5 +1,14 @@
+pub mod Along
+pub mod Configuration
+pub mod Description
+pub mod Fits
 pub mod Health
 pub mod HealthLemmas
+pub mod Laws
 pub mod Name
 pub mod NameKept
 pub mod NameLemmas
+pub mod Room
+pub mod Rules
+pub mod View
+pub mod Walks

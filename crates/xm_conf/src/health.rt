@@ -2,7 +2,7 @@
 
 ghost use Rattle.std.specs.Prelude.{◌≡◌};
 ghost use Rattle.std.specs.Str.{bytes_eq};
-ghost use Rattle.xm_conf.specs.Health.{IsActionNamed, IsEventNamed, action_named, action_row, event_named, event_row};
+ghost use Rattle.xm_conf.specs.Health.{IsActionNamed, IsEventNamed, action_named, action_row, event_named, event_row, is_allowed};
 
 /// What can go wrong in a partition.
 #[derive(Clone, Copy, Debug, PartialEq, Eq)]
@@ -34,7 +34,7 @@ pub enum Event {
 }
 
 /// All health events, in the order of their numbers.
-const EVENTS: [Event; 12] = [
+pub(crate) const EVENTS: [Event; 12] = [
     Event::PartitionError,
     Event::MemProtection,
     Event::UnexpectedTrap,
@@ -192,5 +192,24 @@ impl Action {
         ensures { result ≡ bytes_eq (action_row self).text bytes.now }
     {
         self.text().as_bytes() == bytes
+    }
+}
+
+/// Whether an action may answer an event.
+pub fn allowed(event: Event, action: Action) -> bool
+    ensures { result ≡ is_allowed event action }
+{
+    match action {
+        Action::Propagate => !matches!(event, Event::PartitionError | Event::MemProtection),
+        Action::Ignore => !matches!(event, Event::MemProtection | Event::SparcInstrAccess),
+        Action::Shutdown
+        | Action::PartitionColdReset
+        | Action::PartitionWarmReset
+        | Action::Suspend
+        | Action::Halt
+        | Action::HypervisorColdReset
+        | Action::HypervisorWarmReset
+        | Action::HypervisorHalt
+        | Action::SwitchToMaintenance => true,
     }
 }

@@ -1,13 +1,28 @@
 //! The values that a configuration is made of: names, health events and actions, and what a port is.
 #![tactic(auto)]
 
+mod channel;
+mod conf;
 mod health;
+mod item;
+mod law;
 mod name;
+mod part;
+mod plan;
 mod port;
+mod raw;
+mod rules;
 
-pub use health::{Action, Event};
+pub use channel::{Chan, ChanKind, End};
+pub use conf::{Conf, Seen};
+pub use health::{Action, Event, allowed};
+pub use item::{Broken, Item};
+pub use law::broken_unless_fits;
 pub use name::Name;
-pub use port::{Kind, Way};
+pub use part::{Area, HmTable, Need, Part};
+pub use plan::{Plan, Slot};
+pub use port::{Kind, Port, Way};
+pub use raw::{RawConf, Region};
 
 #[cfg(test)]
 mod tests;

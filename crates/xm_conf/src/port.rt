@@ -1,5 +1,7 @@
 //! What a port is.
 
+use crate::name::Name;
+
 /// What a port keeps of the messages that come to it.
 #[derive(Clone, Copy, Debug, PartialEq, Eq)]
 pub enum Kind {
@@ -16,4 +18,12 @@ pub enum Way {
     Source,
     /// Messages come in here.
     Destination,
+}
+
+/// A port of a partition.
+#[derive(Clone, Copy, Debug)]
+pub struct Port {
+    pub name: Name,
+    pub kind: Kind,
+    pub way: Way,
 }

@@ -3,6 +3,13 @@
 use crate::health::{Action, Event};
 use crate::name::Name;
 
+mod channels;
+mod counts;
+mod memory;
+mod plans;
+mod sample;
+mod view;
+
 #[test]
 fn a_name_has_1_to_31_bytes(rt: HostRuntime) {
     let bytes = [b'n'; 32];

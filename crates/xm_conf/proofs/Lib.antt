@@ -1,0 +1,10 @@
+pub mod AlongLemmas
+pub mod AnswerLemmas
+pub mod CountLemmas
+pub mod DecidesLemmas
+pub mod MeetLemmas
+pub mod RoomLemmas
+pub mod RuleLaws
+pub mod SaysLemmas
+pub mod ViewLemmas
+pub mod WalkLemmas

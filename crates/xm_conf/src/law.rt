@@ -1,0 +1,8 @@
+//! The law of the rules, over all descriptions.
+
+ghost use Rattle.xm_conf.specs.Laws.{IsBrokenUnlessFits};
+
+/// A description breaks no rule exactly where it meets each of them.
+pub fn broken_unless_fits()
+    ensures law { IsBrokenUnlessFits }
+{}

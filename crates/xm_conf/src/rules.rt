@@ -1,0 +1,155 @@
+//! The rules of a configuration: the first that is broken, and by which item.
+
+ghost use Rattle.std.specs.Prelude.{◌≡◌, ◌++◌};
+ghost use Rattle.xm_conf.specs.Along.{head_of};
+ghost use Rattle.xm_conf.specs.Description.{described};
+ghost use Rattle.xm_conf.specs.Fits.{HasCounts};
+ghost use Rattle.xm_conf.specs.Rules as specs;
+ghost use Rattle.xm_conf.specs.Walks.{walk_broken};
+
+mod areas;
+mod broken;
+mod channels;
+mod counts;
+mod ends;
+mod memory;
+mod names;
+mod partitions;
+mod plans;
+mod stretches;
+
+use crate::item::Broken;
+use crate::raw::RawConf;
+use areas::{rule_7, rule_8, rule_10};
+use channels::{rule_15, rule_16, rule_17};
+use counts::rule_1;
+use ends::rule_18;
+use memory::{rule_4, rule_5, rule_6};
+use names::rule_3;
+use partitions::{rule_14, rule_19, rule_20};
+use plans::{rule_11, rule_12, rule_13};
+use stretches::rule_9;
+
+/// The first item that breaks a rule on regions and the hypervisor.
+#[tactic(auto, using(crate::proofs::AlongLemmas::in_turn))]
+fn regions_broken(raw: &RawConf) -> Option<Broken>
+    requires { HasCounts raw.now }
+    ensures { result ≡ head_of (specs.rule_4 raw.now ++ specs.rule_5 raw.now ++ specs.rule_6 raw.now) }
+{
+    let broken = rule_4(raw);
+    if broken.is_some() {
+        return broken;
+    }
+    let broken = rule_5(raw);
+    if broken.is_some() {
+        return broken;
+    }
+    rule_6(raw)
+}
+
+/// The first item that breaks a rule on memory.
+#[tactic(auto, using(crate::proofs::AlongLemmas::in_turn), unfolding(crate::specs::Rules::memory_rules))]
+fn memory_broken(raw: &RawConf) -> Option<Broken>
+    requires { HasCounts raw.now }
+    ensures { result ≡ head_of (specs.memory_rules raw.now) }
+{
+    let broken = regions_broken(raw);
+    if broken.is_some() {
+        return broken;
+    }
+    let broken = rule_7(raw);
+    if broken.is_some() {
+        return broken;
+    }
+    let broken = rule_8(raw);
+    if broken.is_some() {
+        return broken;
+    }
+    let broken = rule_9(raw);
+    if broken.is_some() {
+        return broken;
+    }
+    rule_10(raw)
+}
+
+/// The first item that breaks a rule on plans and consoles.
+#[tactic(auto, using(crate::proofs::AlongLemmas::in_turn), unfolding(crate::specs::Rules::plan_rules))]
+fn plans_broken(raw: &RawConf) -> Option<Broken>
+    requires { HasCounts raw.now }
+    ensures { result ≡ head_of (specs.plan_rules raw.now) }
+{
+    let broken = rule_11(raw);
+    if broken.is_some() {
+        return broken;
+    }
+    let broken = rule_12(raw);
+    if broken.is_some() {
+        return broken;
+    }
+    let broken = rule_13(raw);
+    if broken.is_some() {
+        return broken;
+    }
+    rule_14(raw)
+}
+
+/// The first item that breaks a rule on channels.
+#[tactic(auto, using(crate::proofs::AlongLemmas::in_turn), unfolding(crate::specs::Rules::chan_rules))]
+fn channels_broken(raw: &RawConf) -> Option<Broken>
+    requires { HasCounts raw.now }
+    ensures { result ≡ head_of (specs.chan_rules raw.now) }
+{
+    let broken = rule_15(raw);
+    if broken.is_some() {
+        return broken;
+    }
+    let broken = rule_16(raw);
+    if broken.is_some() {
+        return broken;
+    }
+    let broken = rule_17(raw);
+    if broken.is_some() {
+        return broken;
+    }
+    rule_18(raw)
+}
+
+/// The first rule that is broken, in the order of the rules.
+#[tactic(auto, using(crate::proofs::AlongLemmas::in_turn), unfolding(crate::specs::Walks::walk_broken))]
+fn walk(raw: &RawConf) -> Option<Broken>
+    ensures { result ≡ head_of (walk_broken raw.now) }
+{
+    let broken = rule_1(raw);
+    if broken.is_some() {
+        return broken;
+    }
+    let broken = rule_3(raw);
+    if broken.is_some() {
+        return broken;
+    }
+    let broken = memory_broken(raw);
+    if broken.is_some() {
+        return broken;
+    }
+    let broken = plans_broken(raw);
+    if broken.is_some() {
+        return broken;
+    }
+    let broken = channels_broken(raw);
+    if broken.is_some() {
+        return broken;
+    }
+    let broken = rule_19(raw);
+    if broken.is_some() {
+        return broken;
+    }
+    rule_20(raw)
+}
+
+/// The first rule that is broken, with the items.
+#[tactic(auto, using(crate::proofs::WalkLemmas::walk_first))]
+pub(crate) fn first_broken(raw: &RawConf) -> Option<Broken>
+    ensures { result ≡ specs.first_broken (described raw.now) }
+{
+    walk(raw)
+}

@@ -1,0 +1,166 @@
+//! How many there are of each.
+
+ghost use Rattle.std.specs.Prelude.{◌≡◌, ◌<◌, ◌≤◌, IfNone};
+ghost use Rattle.xm_conf.specs.Fits.{HasCounts};
+ghost use Rattle.xm_conf.specs.Along.{each, head_of};
+ghost use Rattle.xm_conf.specs.Rules as rules;
+
+use super::broken::unless;
+use crate::channel::{Chan, ChanKind};
+use crate::item::{Broken, Item};
+use crate::part::Part;
+use crate::plan::Plan;
+use crate::raw::RawConf;
+
+const REGIONS: usize = 8;
+
+const UARTS: usize = 8;
+
+const PLANS: u8 = 8;
+
+const SLOTS: usize = 64;
+
+const PARTS: u8 = 16;
+
+const AREAS: usize = 8;
+
+const PORTS: usize = 32;
+
+const CHANS: u8 = 64;
+
+const DESTS: usize = 16;
+
+/// Whether there are regions, plans and partitions.
+#[tactic(auto, unfolding(crate::specs::Rules::has_some))]
+fn has_some(raw: &RawConf) -> bool
+    ensures { result ≡ rules.has_some raw.now }
+{
+    !raw.regions.is_empty() && !raw.plans.is_empty() && !raw.parts.is_empty()
+}
+
+/// A configuration that lacks something, and the first region and UART past their limits.
+#[tactic(auto, unfolding(crate::specs::Rules::list_counts))]
+fn list_counts(raw: &RawConf) -> Option<Broken>
+    ensures { result ≡ head_of (rules.list_counts raw.now) }
+{
+    if !has_some(raw) {
+        return unless(false, 1, Item::Whole);
+    }
+    if REGIONS < raw.regions.len() {
+        return unless(false, 1, Item::Region(8));
+    }
+    unless(raw.uarts.len() <= UARTS, 1, Item::Uart(8))
+}
+
+/// A plan past the limit, and too few or too many slots.
+#[tactic(auto, unfolding(crate::specs::Rules::plan_counts))]
+fn plan_counts(n: u8, plan: &Plan) -> Option<Broken>
+    ensures first { result ≡ head_of (rules.plan_counts n plan.now) }
+    ensures below { IfNone result (n < 8) }
+{
+    if n >= PLANS || plan.slots.is_empty() {
+        return unless(false, 1, Item::Plan(n));
+    }
+    unless(plan.slots.len() <= SLOTS, 1, Item::Slot(n, 64))
+}
+
+/// The first plan past the limit, or with too few or too many slots.
+#[tactic(auto, using(crate::proofs::AlongLemmas::each_loop))]
+fn plans_counts(plans: &[Plan]) -> Option<Broken>
+    ensures { result ≡ head_of (each rules.plan_counts plans.now) }
+{
+    for (n, plan) in plans.iter().enumerate() {
+        let broken = plan_counts(n as u8, plan);
+        if broken.is_some() {
+            return broken;
+        }
+    }
+    None
+}
+
+/// A partition past the limit, and too few or too many areas and ports.
+#[tactic(auto, unfolding(crate::specs::Rules::part_counts))]
+fn part_counts(n: u8, part: &Part) -> Option<Broken>
+    ensures first { result ≡ head_of (rules.part_counts n part.now) }
+    ensures below { IfNone result (n < 16) }
+{
+    if n >= PARTS || part.areas.is_empty() {
+        return unless(false, 1, Item::Part(n));
+    }
+    if AREAS < part.areas.len() {
+        return unless(false, 1, Item::Area(n, 8));
+    }
+    unless(part.ports.len() <= PORTS, 1, Item::Port(n, 32))
+}
+
+/// The first partition past the limit, or with too few or too many areas and ports.
+#[tactic(auto, using(crate::proofs::AlongLemmas::each_loop))]
+fn parts_counts(parts: &[Part]) -> Option<Broken>
+    ensures { result ≡ head_of (each rules.part_counts parts.now) }
+{
+    for (n, part) in parts.iter().enumerate() {
+        let broken = part_counts(n as u8, part);
+        if broken.is_some() {
+            return broken;
+        }
+    }
+    None
+}
+
+/// A channel past the limit, and the destination past the limit of a sampling channel.
+#[tactic(auto, unfolding(crate::specs::Rules::chan_counts, crate::specs::Rules::dest_counts))]
+fn chan_counts(n: u8, chan: &Chan) -> Option<Broken>
+    ensures first { result ≡ head_of (rules.chan_counts n chan.now) }
+    ensures below { IfNone result (n < 64) }
+{
+    if n >= CHANS {
+        return unless(false, 1, Item::Chan(n));
+    }
+    match chan.kind {
+        ChanKind::Sampling { .. } => unless(chan.dests.len() <= DESTS, 1, Item::End(n, 17)),
+        ChanKind::Queuing { .. } => None,
+    }
+}
+
+/// The first channel past the limit, or with a destination past the limit.
+#[tactic(auto, using(crate::proofs::AlongLemmas::each_loop))]
+fn chans_counts(chans: &[Chan]) -> Option<Broken>
+    ensures { result ≡ head_of (each rules.chan_counts chans.now) }
+{
+    for (n, chan) in chans.iter().enumerate() {
+        let broken = chan_counts(n as u8, chan);
+        if broken.is_some() {
+            return broken;
+        }
+    }
+    None
+}
+
+/// The first item that is missing, or past its limit.
+#[tactic(auto, using(crate::proofs::AlongLemmas::in_turn), unfolding(crate::specs::Rules::rule_1))]
+fn first_count(raw: &RawConf) -> Option<Broken>
+    ensures { result ≡ head_of (rules.rule_1 raw.now) }
+{
+    let broken = list_counts(raw);
+    if broken.is_some() {
+        return broken;
+    }
+    let broken = plans_counts(&raw.plans);
+    if broken.is_some() {
+        return broken;
+    }
+    let broken = parts_counts(&raw.parts);
+    if broken.is_some() {
+        return broken;
+    }
+    chans_counts(&raw.chans)
+}
+
+/// The first item that is missing, or past its limit.
+#[tactic(auto, using(crate::proofs::CountLemmas::counted))]
+pub(super) fn rule_1(raw: &RawConf) -> Option<Broken>
+    ensures first { result ≡ head_of (rules.rule_1 raw.now) }
+    ensures counted { IfNone result (HasCounts raw.now) }
+{
+    first_count(raw)
+}

@@ -1,0 +1,185 @@
+//! Ends of channels that are different ports.
+
+ghost use Rattle.std.specs.Prelude.{◌≡◌, ◌++◌, ◌<◌, ◌≤◌, All, IfSome, length};
+ghost use Rattle.std.specs.List.{position_from};
+ghost use Rattle.xm_conf.specs.Along.{along, each, head_of};
+ghost use Rattle.xm_conf.specs.Fits.{HasCounts, IsChan};
+ghost use Rattle.xm_conf.specs.Rules as rules;
+ghost use Rattle.xm_conf.specs.Walks as walks;
+ghost use Rattle.xm_conf.specs.declared.item.Item.TheVariants as item;
+
+use super::broken::beside;
+use crate::channel::{Chan, End};
+use crate::item::{Broken, Item};
+use crate::raw::RawConf;
+
+/// Whether two ends are one port.
+#[tactic(auto, unfolding(crate::specs::Rules::same_end))]
+fn same_end(a: &End, b: &End) -> bool
+    ensures { result ≡ rules.same_end a.now b.now }
+{
+    a.part == b.part && a.port == b.port
+}
+
+/// The number of the first destination that is one port with an end.
+fn first_dest(at: &End, dests: &[End]) -> Option<usize>
+    ensures first { result ≡ position_from (λ dest. rules.same_end dest at.now) 0 dests.now }
+    ensures within { IfSome result (λ n. n < length dests.now) }
+{
+    dests.iter().position(|dest| same_end(dest, at))
+}
+
+/// The first destination of a channel that is one port with an end.
+#[tactic(auto, using(crate::proofs::MeetLemmas::first_hit), unfolding(crate::specs::Walks::dest_hits))]
+fn dest_hit(at: &End, c: u8, dests: &[End]) -> Option<Item>
+    requires { length dests.now ≤ 16 }
+    ensures { result ≡ head_of (walks.dest_hits at.now c dests.now) }
+{
+    match first_dest(at, dests) {
+        Some(n) => Some(Item::End(c, n as u8 + 1)),
+        None => None,
+    }
+}
+
+/// The source of a channel, where it is one port with an end.
+#[tactic(auto, unfolding(crate::specs::Walks::source_hits))]
+fn source_hit(at: &End, c: u8, source: &End) -> Option<Item>
+    ensures { result ≡ head_of (walks.source_hits at.now c source.now) }
+{
+    if same_end(source, at) {
+        return Some(Item::End(c, 0));
+    }
+    None
+}
+
+/// The first end of a channel that is one port with an end.
+#[tactic(auto, using(crate::proofs::AlongLemmas::in_turn), unfolding(crate::specs::Walks::chan_hits, crate::specs::Walks::source_hits, crate::specs::Walks::dest_hits, crate::specs::Rules::chan_ends))]
+fn chan_hit(at: &End, c: u8, chan: &Chan) -> Option<Item>
+    requires { length chan.now.dests ≤ 16 }
+    ensures { result ≡ head_of (walks.chan_hits at.now c chan.now) }
+{
+    let found = source_hit(at, c, &chan.source);
+    if found.is_some() {
+        return found;
+    }
+    dest_hit(at, c, &chan.dests)
+}
+
+/// The first end of all channels that is one port with an end.
+#[tactic(auto, using(crate::proofs::AlongLemmas::each_loop))]
+fn chans_hit(at: &End, chans: &[Chan]) -> Option<Item>
+    requires few { length chans.now ≤ 64 }
+    requires dests { All (λ chan. length chan.dests ≤ 16) chans.now }
+    ensures { result ≡ head_of (each (walks.chan_hits at.now) chans.now) }
+{
+    for (n, chan) in chans.iter().enumerate() {
+        let broken = chan_hit(at, n as u8, chan);
+        if broken.is_some() {
+            return broken;
+        }
+    }
+    None
+}
+
+/// The first end that stands before a destination and is one port with an end.
+#[tactic(auto, using(crate::proofs::AlongLemmas::in_turn))]
+fn first_before(at: &End, chans: &[Chan], source: &End, before: &[End]) -> Option<Item>
+    requires few { length chans.now ≤ 64 }
+    requires dests { All (λ chan. length chan.dests ≤ 16) chans.now }
+    requires before { length before.now ≤ 16 }
+    ensures { result ≡ head_of (each (walks.chan_hits at.now) chans.now ++ walks.source_hits at.now (length chans.now) source.now ++ walks.dest_hits at.now (length chans.now) before.now) }
+{
+    let found = chans_hit(at, chans);
+    if found.is_some() {
+        return found;
+    }
+    let c = chans.len() as u8;
+    let found = source_hit(at, c, source);
+    if found.is_some() {
+        return found;
+    }
+    dest_hit(at, c, before)
+}
+
+/// A destination that is a port of an end before it.
+fn dest_meets(chans: &[Chan], source: &End, before: &[End], dest: &End) -> Option<Broken>
+    requires few { length chans.now ≤ 64 }
+    requires dests { All (λ chan. length chan.dests ≤ 16) chans.now }
+    requires before { length before.now ≤ 16 }
+    ensures { result ≡ head_of (walks.dest_meets (walks.before_dests chans.now source.now) (length chans.now) before.now dest.now) }
+{
+    let earlier = first_before(dest, chans, source, before);
+    let later = Item::End(chans.len() as u8, before.len() as u8 + 1);
+    beside(18, later, earlier)
+}
+
+/// The first destination of a channel that is a port of an end before it.
+#[tactic(auto, using(crate::proofs::AlongLemmas::along_loop))]
+fn dests_meet(chans: &[Chan], source: &End, dests: &[End]) -> Option<Broken>
+    requires few { length chans.now ≤ 64 }
+    requires dests { All (λ chan. length chan.dests ≤ 16) chans.now }
+    requires next { length dests.now ≤ 16 }
+    ensures { result ≡ head_of (along (walks.dest_meets (walks.before_dests chans.now source.now) (length chans.now)) dests.now) }
+{
+    for (n, dest) in dests.iter().enumerate() {
+        let broken = dest_meets(chans, source, &dests[..n], dest);
+        if broken.is_some() {
+            return broken;
+        }
+    }
+    None
+}
+
+/// A source that is a port of an end before it.
+fn source_meets(chans: &[Chan], source: &End) -> Option<Broken>
+    requires few { length chans.now ≤ 64 }
+    requires dests { All (λ chan. length chan.dests ≤ 16) chans.now }
+    ensures { result ≡ head_of (rules.meets 18 rules.same_end (each rules.chan_ends chans.now) (item.End (length chans.now) 0, source.now)) }
+{
+    beside(
+        18,
+        Item::End(chans.len() as u8, 0),
+        chans_hit(source, chans),
+    )
+}
+
+/// The first end of a channel that is a port of an end before it.
+#[tactic(auto, using(crate::proofs::AlongLemmas::in_turn), unfolding(crate::specs::Walks::chan_meets))]
+fn chan_meets(before: &[Chan], chan: &Chan) -> Option<Broken>
+    requires few { length before.now ≤ 64 }
+    requires dests { All (λ chan. length chan.dests ≤ 16) before.now }
+    requires next { length chan.now.dests ≤ 16 }
+    ensures { result ≡ head_of (walks.chan_meets before.now chan.now) }
+{
+    let broken = source_meets(before, &chan.source);
+    if broken.is_some() {
+        return broken;
+    }
+    dests_meet(before, &chan.source, &chan.dests)
+}
+
+/// The first end of all channels that is a port of an end before it.
+#[tactic(auto, using(crate::proofs::AlongLemmas::along_loop))]
+fn chans_meet(chans: &[Chan]) -> Option<Broken>
+    requires few { length chans.now ≤ 64 }
+    requires dests { All (λ chan. length chan.dests ≤ 16) chans.now }
+    ensures { result ≡ head_of (along walks.chan_meets chans.now) }
+{
+    for (n, chan) in chans.iter().enumerate() {
+        let broken = chan_meets(&chans[..n], chan);
+        if broken.is_some() {
+            return broken;
+        }
+    }
+    None
+}
+
+/// The first end of all channels that is a port of an end before it.
+#[tactic(auto, using(crate::proofs::MeetLemmas::rule_18_along, crate::proofs::CountLemmas::few_dests))]
+pub(super) fn rule_18(raw: &RawConf) -> Option<Broken>
+    requires counts { HasCounts raw.now }
+    requires messages { All IsChan raw.now.chans }
+    ensures { result ≡ head_of (rules.rule_18 raw.now) }
+{
+    chans_meet(&raw.chans)
+}

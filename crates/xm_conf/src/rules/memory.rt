@@ -1,0 +1,140 @@
+//! Regions and the hypervisor's memory.
+
+ghost use Rattle.std.specs.Prelude.{◌≡◌, ◌≤◌, ◌<◌, length, slice_get, IfSome};
+ghost use Rattle.std.specs.List.{position_from};
+ghost use Rattle.xm_conf.specs.Along.{along, each, head_of};
+ghost use Rattle.xm_conf.specs.Fits.{HasCounts};
+ghost use Rattle.xm_conf.specs.Rules as rules;
+ghost use Rattle.xm_conf.specs.declared.item.Item.TheVariants as item;
+
+use super::broken::{beside, unless};
+use crate::item::{Broken, Item};
+use crate::raw::{RawConf, Region};
+
+const PAGE: u32 = 4096;
+
+const ADDRESSES: u64 = 1 << 32;
+
+/// Whether a number of bytes is a number of pages.
+#[tactic(auto, unfolding(crate::specs::Rules::is_paged, crate::specs::Rules::page))]
+pub(super) fn is_paged(bytes: u32) -> bool
+    ensures { result ≡ rules.is_paged bytes }
+{
+    bytes % PAGE == 0
+}
+
+/// Whether a region is whole pages, below the end of all addresses.
+#[tactic(auto, unfolding(crate::specs::Rules::is_region, crate::specs::Rules::addresses))]
+fn is_region(region: &Region) -> bool
+    ensures { result ≡ rules.is_region region.now }
+{
+    let (start, size) = (region.start, region.size);
+    let end = u64::from(start) + u64::from(size);
+    is_paged(start) && is_paged(size) && 0 < size && end <= ADDRESSES
+}
+
+/// Whether two stretches of memory have an address in common.
+#[tactic(auto, unfolding(crate::specs::Rules::overlaps))]
+pub(super) fn overlaps(a: &Region, b: &Region) -> bool
+    ensures { result ≡ rules.overlaps a.now b.now }
+{
+    let a_end = u64::from(a.start) + u64::from(a.size);
+    let b_end = u64::from(b.start) + u64::from(b.size);
+    u64::from(a.start) < b_end && u64::from(b.start) < a_end
+}
+
+/// A region that is not whole pages.
+#[tactic(auto, unfolding(crate::specs::Rules::unsized_region))]
+fn unsized_region(n: u8, region: &Region) -> Option<Broken>
+    ensures { result ≡ head_of (rules.unsized_region n region.now) }
+{
+    unless(is_region(region), 4, Item::Region(n))
+}
+
+/// The first region that is not whole pages.
+#[tactic(auto, using(crate::proofs::AlongLemmas::each_loop))]
+fn unsized_regions(regions: &[Region]) -> Option<Broken>
+    requires { length regions.now ≤ 8 }
+    ensures { result ≡ head_of (each rules.unsized_region regions.now) }
+{
+    for (n, region) in regions.iter().enumerate() {
+        let broken = unsized_region(n as u8, region);
+        if broken.is_some() {
+            return broken;
+        }
+    }
+    None
+}
+
+/// The number of the first region that overlaps this one.
+fn first_overlap(regions: &[Region], region: &Region) -> Option<usize>
+    ensures first { result ≡ position_from (λ earlier. rules.overlaps earlier region.now) 0 regions.now }
+    ensures within { IfSome result (λ n. n < length regions.now) }
+{
+    regions.iter().position(|earlier| overlaps(earlier, region))
+}
+
+/// A region that overlaps an earlier one.
+fn overlapping_region(before: &[Region], region: &Region) -> Option<Broken>
+    requires { length before.now ≤ 8 }
+    ensures { result ≡ head_of (rules.repeated 5 item.Region rules.overlaps before.now region.now) }
+{
+    let later = Item::Region(before.len() as u8);
+    match first_overlap(before, region) {
+        Some(n) => beside(5, later, Some(Item::Region(n as u8))),
+        None => None,
+    }
+}
+
+/// The first region that overlaps an earlier one.
+#[tactic(auto, using(crate::proofs::AlongLemmas::along_loop))]
+fn overlapping_regions(regions: &[Region]) -> Option<Broken>
+    requires { length regions.now ≤ 8 }
+    ensures { result ≡ head_of (along (rules.repeated 5 item.Region rules.overlaps) regions.now) }
+{
+    for (n, region) in regions.iter().enumerate() {
+        let broken = overlapping_region(&regions[..n], region);
+        if broken.is_some() {
+            return broken;
+        }
+    }
+    None
+}
+
+/// Whether a size is at most that of region 0.
+fn fits_first(size: u32, regions: &[Region]) -> bool
+    ensures { result ≡ rules.fits_into size (slice_get regions.now 0) }
+{
+    match regions.first() {
+        Some(region) => size <= region.size,
+        None => false,
+    }
+}
+
+/// The hypervisor, where it has no whole pages of region 0.
+#[tactic(auto, unfolding(crate::specs::Rules::rule_6))]
+pub(super) fn rule_6(raw: &RawConf) -> Option<Broken>
+    ensures { result ≡ head_of (rules.rule_6 raw.now) }
+{
+    let size = raw.hv_size;
+    let fits = is_paged(size) && 0 < size && fits_first(size, &raw.regions);
+    unless(fits, 6, Item::Whole)
+}
+
+/// The first region that is not whole pages.
+#[tactic(auto, unfolding(crate::specs::Rules::rule_4))]
+pub(super) fn rule_4(raw: &RawConf) -> Option<Broken>
+    requires { HasCounts raw.now }
+    ensures { result ≡ head_of (rules.rule_4 raw.now) }
+{
+    unsized_regions(&raw.regions)
+}
+
+/// The first region that overlaps an earlier one.
+#[tactic(auto, unfolding(crate::specs::Rules::rule_5))]
+pub(super) fn rule_5(raw: &RawConf) -> Option<Broken>
+    requires { HasCounts raw.now }
+    ensures { result ≡ head_of (rules.rule_5 raw.now) }
+{
+    overlapping_regions(&raw.regions)
+}

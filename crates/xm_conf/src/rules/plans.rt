@@ -1,0 +1,207 @@
+//! Plans with their slots.
+
+ghost use Rattle.std.specs.Prelude.{◌≡◌, ◌≤◌, ◌-◌, All, Some, length, slice_get};
+ghost use Rattle.xm_conf.specs.Along.{along, each, head_of};
+ghost use Rattle.xm_conf.specs.Fits.{HasCounts};
+ghost use Rattle.xm_conf.specs.Rules as rules;
+
+use super::broken::{unless, unless_by};
+use crate::item::{Broken, Item};
+use crate::plan::{Plan, Slot};
+use crate::raw::RawConf;
+
+const LONGEST: u32 = 1_000_000_000;
+
+/// Whether a time is at least 1 and at most the longest.
+#[tactic(auto, unfolding(crate::specs::Rules::is_time, crate::specs::Rules::longest))]
+fn is_time(time: u32) -> bool
+    ensures { result ≡ rules.is_time time }
+{
+    0 < time && time <= LONGEST
+}
+
+/// Whether a slot lasts, and ends inside the frame.
+#[tactic(auto, unfolding(crate::specs::Rules::in_frame))]
+fn in_frame(frame: u32, slot: &Slot) -> bool
+    ensures { result ≡ rules.in_frame frame slot.now }
+{
+    let end = u64::from(slot.start) + u64::from(slot.duration);
+    0 < slot.duration && end <= u64::from(frame)
+}
+
+/// A slot that does not last, or ends behind the frame.
+#[tactic(auto, unfolding(crate::specs::Rules::late_slot))]
+fn late_slot(p: u8, frame: u32, n: u8, slot: &Slot) -> Option<Broken>
+    ensures { result ≡ head_of (rules.late_slot p frame n slot.now) }
+{
+    unless_by(in_frame(frame, slot), 11, Item::Slot(p, n), Item::Plan(p))
+}
+
+/// The first slot that does not last, or ends behind the frame.
+#[tactic(auto, using(crate::proofs::AlongLemmas::each_loop))]
+fn late_slots(p: u8, frame: u32, slots: &[Slot]) -> Option<Broken>
+    requires { length slots.now ≤ 64 }
+    ensures { result ≡ head_of (each (rules.late_slot p frame) slots.now) }
+{
+    for (n, slot) in slots.iter().enumerate() {
+        let broken = late_slot(p, frame, n as u8, slot);
+        if broken.is_some() {
+            return broken;
+        }
+    }
+    None
+}
+
+/// A plan whose frame is too short or too long, or its first slot that does not fit into it.
+#[tactic(auto, unfolding(crate::specs::Rules::frame_broken))]
+fn frame_broken(p: u8, plan: &Plan) -> Option<Broken>
+    requires { length plan.now.slots ≤ 64 }
+    ensures { result ≡ head_of (rules.frame_broken p plan.now) }
+{
+    if !is_time(plan.frame) {
+        return unless(false, 11, Item::Plan(p));
+    }
+    late_slots(p, plan.frame, &plan.slots)
+}
+
+/// The first plan or slot that breaks rule 11.
+#[tactic(auto, using(crate::proofs::AlongLemmas::each_loop))]
+fn frames_broken(plans: &[Plan]) -> Option<Broken>
+    requires few { length plans.now ≤ 8 }
+    requires slots { All (λ plan. length plan.slots ≤ 64) plans.now }
+    ensures { result ≡ head_of (each rules.frame_broken plans.now) }
+{
+    for (n, plan) in plans.iter().enumerate() {
+        let broken = frame_broken(n as u8, plan);
+        if broken.is_some() {
+            return broken;
+        }
+    }
+    None
+}
+
+/// Whether a slot starts at or after the end of an earlier one.
+fn is_behind(earlier: &Slot, slot: &Slot) -> bool
+    ensures { result ≡ rules.follows (Some earlier.now) slot.now }
+{
+    let end = u64::from(earlier.start) + u64::from(earlier.duration);
+    end <= u64::from(slot.start)
+}
+
+/// Whether a slot starts at or after the end of the one before it.
+fn follows(before: &[Slot], slot: &Slot) -> bool
+    ensures { result ≡ rules.follows (slice_get before.now (length before.now - 1)) slot.now }
+{
+    match before.last() {
+        Some(earlier) => is_behind(earlier, slot),
+        None => true,
+    }
+}
+
+/// A slot that starts before the end of the one before it.
+#[tactic(auto, unfolding(crate::specs::Rules::early_slot))]
+fn early_slot(p: u8, before: &[Slot], slot: &Slot) -> Option<Broken>
+    requires { length before.now ≤ 64 }
+    ensures { result ≡ head_of (rules.early_slot p before.now slot.now) }
+{
+    let n = before.len() as u8;
+    let earlier = Item::Slot(p, n.saturating_sub(1));
+    unless_by(follows(before, slot), 12, Item::Slot(p, n), earlier)
+}
+
+/// The first slot that starts before the end of the one before it.
+#[tactic(auto, using(crate::proofs::AlongLemmas::along_loop))]
+fn early_slots(p: u8, slots: &[Slot]) -> Option<Broken>
+    requires { length slots.now ≤ 64 }
+    ensures { result ≡ head_of (along (rules.early_slot p) slots.now) }
+{
+    for (n, slot) in slots.iter().enumerate() {
+        let broken = early_slot(p, &slots[..n], slot);
+        if broken.is_some() {
+            return broken;
+        }
+    }
+    None
+}
+
+/// The first slot of all plans that starts too early.
+#[tactic(auto, using(crate::proofs::AlongLemmas::each_loop), unfolding(crate::specs::Rules::early_slots))]
+fn plans_early_slots(plans: &[Plan]) -> Option<Broken>
+    requires few { length plans.now ≤ 8 }
+    requires slots { All (λ plan. length plan.slots ≤ 64) plans.now }
+    ensures { result ≡ head_of (each rules.early_slots plans.now) }
+{
+    for (n, plan) in plans.iter().enumerate() {
+        let broken = early_slots(n as u8, &plan.slots);
+        if broken.is_some() {
+            return broken;
+        }
+    }
+    None
+}
+
+/// A slot whose partition is none.
+#[tactic(auto, unfolding(crate::specs::Rules::stray_slot))]
+fn stray_slot(parts: usize, p: u8, n: u8, slot: &Slot) -> Option<Broken>
+    ensures { result ≡ head_of (rules.stray_slot parts p n slot.now) }
+{
+    unless(usize::from(slot.part) < parts, 13, Item::Slot(p, n))
+}
+
+/// The first slot of a plan whose partition is none.
+#[tactic(auto, using(crate::proofs::AlongLemmas::each_loop))]
+fn stray_slots(parts: usize, p: u8, slots: &[Slot]) -> Option<Broken>
+    requires { length slots.now ≤ 64 }
+    ensures { result ≡ head_of (each (rules.stray_slot parts p) slots.now) }
+{
+    for (n, slot) in slots.iter().enumerate() {
+        let broken = stray_slot(parts, p, n as u8, slot);
+        if broken.is_some() {
+            return broken;
+        }
+    }
+    None
+}
+
+/// The first slot of all plans whose partition is none.
+#[tactic(auto, using(crate::proofs::AlongLemmas::each_loop), unfolding(crate::specs::Rules::stray_slots))]
+fn plans_stray_slots(parts: usize, plans: &[Plan]) -> Option<Broken>
+    requires few { length plans.now ≤ 8 }
+    requires slots { All (λ plan. length plan.slots ≤ 64) plans.now }
+    ensures { result ≡ head_of (each (rules.stray_slots parts) plans.now) }
+{
+    for (n, plan) in plans.iter().enumerate() {
+        let broken = stray_slots(parts, n as u8, &plan.slots);
+        if broken.is_some() {
+            return broken;
+        }
+    }
+    None
+}
+
+/// The first plan or slot whose time does not fit.
+#[tactic(auto, using(crate::proofs::CountLemmas::few_slots), unfolding(crate::specs::Rules::rule_11))]
+pub(super) fn rule_11(raw: &RawConf) -> Option<Broken>
+    requires { HasCounts raw.now }
+    ensures { result ≡ head_of (rules.rule_11 raw.now) }
+{
+    frames_broken(&raw.plans)
+}
+
+/// The first slot that starts before the end of the one before it.
+#[tactic(auto, using(crate::proofs::CountLemmas::few_slots), unfolding(crate::specs::Rules::rule_12))]
+pub(super) fn rule_12(raw: &RawConf) -> Option<Broken>
+    requires { HasCounts raw.now }
+    ensures { result ≡ head_of (rules.rule_12 raw.now) }
+{
+    plans_early_slots(&raw.plans)
+}
+
+/// The first slot whose partition is none.
+#[tactic(auto, using(crate::proofs::CountLemmas::few_slots), unfolding(crate::specs::Rules::rule_13))]
+pub(super) fn rule_13(raw: &RawConf) -> Option<Broken>
+    requires { HasCounts raw.now }
+    ensures { result ≡ head_of (rules.rule_13 raw.now) }
+{
+    plans_stray_slots(raw.parts.len(), &raw.plans)
+}
