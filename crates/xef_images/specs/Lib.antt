@@ -1,0 +1,4 @@
+pub mod Image
+pub mod ImageLemmas
+pub mod Spelling
+pub mod Tests

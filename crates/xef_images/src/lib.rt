@@ -1,0 +1,8 @@
+//! Images of partitions: the XEF format both ways, and the program files of a linker as images.
+#![tactic(auto)]
+
+mod segment;
+mod xef;
+
+pub use segment::Segment;
+pub use xef::Xef;
