@@ -2,7 +2,9 @@
 #![tactic(auto)]
 
 mod segment;
+mod writing;
 mod xef;
 
 pub use segment::Segment;
+pub use writing::build_xef;
 pub use xef::Xef;
