@@ -56,4 +56,4 @@ impl Segment {
 }
 
 /// How many addresses there are.
-const ADDRESSES: u64 = 1 << 32;
+pub(crate) const ADDRESSES: u64 = 1 << 32;
