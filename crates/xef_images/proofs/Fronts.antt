@@ -50,7 +50,7 @@ unfolding rows_at
 rows_on front count i floor place row after total below read so_far =
     let more : count - i ≡ suc (count - (i + 1)) = omega arith in
     let one : with_front front (rows_at (count - i) floor place) ≡ with_front (front ++ row ∷ []) (rows_at (count - (i + 1)) (row.address + row.memory) after)
-        = rw (more, read) (regroup front row (rows_at (count - (i + 1)) (row.address + row.memory) after)) in
+    = rw (more, read) (regroup front row (rows_at (count - (i + 1)) (row.address + row.memory) after)) in
     sym one ∙ so_far
 
 -- a row that fails
@@ -77,7 +77,7 @@ pub segments_on : (front : List Segment) (rows : List Row) (i : ℕ) (d : Row) (
 unfolding segments_at
 segments_on front rows i d place segment after total below read so_far =
     let one : with_front front (segments_at (drop i rows) place) ≡ with_front (front ++ segment ∷ []) (segments_at (drop (i + 1) rows) after)
-        = rw (drop-cons rows i d below, add-one, read) (regroup front segment (segments_at (drop (suc i) rows) after)) in
+    = rw (drop-cons rows i d below, add-one, read) (regroup front segment (segments_at (drop (suc i) rows) after)) in
     sym one ∙ so_far
 
 -- a segment that fails
@@ -88,8 +88,8 @@ unfolding segments_at
 segments_fail fault front rows i d place total below read so_far =
     fails_on fault (segment_at (get_or rows i d) place) total
     (λ f met.
-      let one : with_front front (segments_at (drop i rows) place) ≡ Err f = rw (drop-cons rows i d below, met) refl in
-      sym so_far ∙ one)
+    let one : with_front front (segments_at (drop i rows) place) ≡ Err f = rw (drop-cons rows i d below, met) refl in
+    sym so_far ∙ one)
     read
 
 -- all segments

@@ -1,6 +1,11 @@
+pub mod DigestLemmas
+pub mod FieldLemmas
 pub mod Gives
 pub mod Image
 pub mod ImageLemmas
+pub mod Laws
 pub mod Reading
 pub mod Spelling
+pub mod TableLemmas
 pub mod Tests
+pub mod XefLemmas

@@ -1,5 +1,5 @@
 -- The reading of an image's file: the image that the bytes spell, or the first fault from left to right.
-use Rattle.std.specs.Prelude.{ℕ, zero, suc, ◌+◌, ◌-◌, ◌^◌, ◌==◌, Bool, true, false, ◌&&◌, nat_le, nat_lt, if◌then◌else◌, List, [], ◌∷◌, length, take, drop, codes, Result, Ok, Err}
+use Rattle.std.specs.Prelude.{◌≡◌, ◌≢◌, ◌↔◌, ℕ, zero, suc, ◌+◌, ◌-◌, ◌^◌, ◌==◌, Bool, true, false, ◌&&◌, nat_le, nat_lt, if◌then◌else◌, List, [], ◌∷◌, length, take, drop, codes, Result, Ok, Err}
 use Rattle.std.specs.Int.{Width, w8, w16, w32, byte_len, from_be_bytes}
 use Rattle.std.specs.Str.{bytes_eq}
 use Rattle.md5.specs.Md5.{md5}
@@ -142,3 +142,15 @@ image_of bytes = do
 -- the image of a file, or its first fault
 unfoldable pub xef : List ℕ → Result Image XefFault
 xef bytes = signed bytes >>= image_of
+
+-- the digest that is stored at the end of a file is not the one that is found; the head and the length are right
+pub record IsForged (bytes stored_digest found_digest : List ℕ) : Type 0 where
+  pub count : ℕ
+  pub before : before bytes ≡ Ok count
+  pub stored : stored_digest ≡ stored count bytes
+  pub found : found_digest ≡ found count bytes
+  pub differ : stored_digest ≢ found_digest
+
+-- the two digests are told exactly where they differ
+abbrev pub TellsDigests : {X : Type 0} → List ℕ → Result X XefFault → Type 0
+TellsDigests {X} bytes result = (s f : List ℕ) → (result ≡ Err (Digest s f)) ↔ IsForged bytes s f

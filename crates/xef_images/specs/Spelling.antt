@@ -1,9 +1,9 @@
 -- The one spelling of an image, byte by byte.
-use Rattle.std.specs.Prelude.{ℕ, List, [], ◌∷◌, ◌++◌, length, codes}
+use Rattle.std.specs.Prelude.{◌≡◌, ℕ, List, [], ◌∷◌, ◌++◌, length, codes}
 use Rattle.std.specs.Int.{w16, w32, to_be_bytes}
 use Rattle.std.specs.List.{flat_map}
 use Rattle.md5.specs.Md5.{md5}
-use Rattle.xef_images.specs.Image.{Image, Segment, contents, xef_length}
+use Rattle.xef_images.specs.Image.{Image, IsImage, Segment, contents, xef_length}
 
 -- the head of a file of so many bytes: its name, version 1, its length, the entry and the number of segments
 unfoldable pub head_text : ℕ → ℕ → ℕ → List ℕ
@@ -21,3 +21,8 @@ before_text image =
 -- the file of an image: the digest of all that stands before it is at its end
 unfoldable pub xef_text : Image → List ℕ
 xef_text image = before_text image ++ md5 (before_text image)
+
+-- the bytes are the file of an image, which may be loaded
+pub record IsSpelled (bytes : List ℕ) (image : Image) : Type 0 where
+  pub loads : IsImage image
+  pub text : bytes ≡ xef_text image

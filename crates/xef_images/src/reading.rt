@@ -2,8 +2,10 @@
 
 ghost use Rattle.std.specs.Prelude.{◌≡◌, ◌+◌, IfOk, length};
 ghost use Rattle.std.specs.Int.{w8, w16, w32};
+ghost use Rattle.xef_images.specs.Image.{Image};
+ghost use Rattle.xef_images.specs.Spelling.{IsSpelled};
 ghost use Rattle.xef_images.specs.Gives.{Gives, GivesAt, IsRead, IsReadAt};
-ghost use Rattle.xef_images.specs.Reading.{address_at, before, before_of, bytes_at, count_at, entry_at, image_of, magic_at, memory_at, number_at, row_at, rows_at, segment_at, segments_at, size_at, signed, table_at, told, version_at, xef};
+ghost use Rattle.xef_images.specs.Reading.{address_at, before, before_of, bytes_at, count_at, entry_at, image_of, magic_at, memory_at, number_at, row_at, rows_at, segment_at, segments_at, size_at, signed, table_at, told, version_at, xef, TellsDigests};
 ghost use Rattle.xm_base.specs.Cursor.{left};
 
 use crate::fault::XefFault;
@@ -183,11 +185,7 @@ fn segment(alloc: Global, cursor: &mut Cursor<'_>, row: Row) -> Result<Segment, 
 }
 
 /// The segments of the rows, with their bytes one after the other.
-fn segments(
-    alloc: Global,
-    cursor: &mut Cursor<'_>,
-    rows: &[Row],
-) -> Result<Vec<Segment>, XefFault>
+fn segments(alloc: Global, cursor: &mut Cursor<'_>, rows: &[Row]) -> Result<Vec<Segment>, XefFault>
     ensures { GivesAt (λ segments. segments.items) result cursor.new (segments_at rows.now cursor.old) }
 {
     let mut segments = Vec::new(alloc);
@@ -249,4 +247,29 @@ fn image(alloc: Global, bytes: &[u8]) -> Result<(u32, Vec<Segment>), XefFault>
         return Err(XefFault::Trailing { at: cursor.at() });
     }
     Ok((entry, segments))
+}
+
+/// The entry and the segments of a file.
+#[tactic(auto, unfolding(crate::specs::Reading::xef))]
+fn whole(alloc: Global, bytes: &[u8]) -> Result<(u32, Vec<Segment>), XefFault>
+    ensures exact { Gives (λ image. record { entry = image.0; segments = image.1.items }) result (xef bytes.now) }
+    ensures digest { TellsDigests bytes.now result }
+{
+    let front = signed(bytes)?;
+    image(alloc, front)
+}
+
+/// Reads the file of an image: the image that it spells, or its first fault.
+pub fn read_xef(alloc: Global, bytes: &[u8]) -> Result<Xef, XefFault>
+    // What is read is the image that the bytes spell.
+    ensures found { IfOk result (IsSpelled bytes.now) }
+    // What is spelled is read, unless there is no memory.
+    ensures only { (image : Image) → IsSpelled bytes.now image → Gives (λ found. found) result (Ok image) }
+    // A fault is the first one.
+    ensures exact { Gives (λ found. found) result (xef bytes.now) }
+    // Two digests are told exactly where they differ.
+    ensures digest { TellsDigests bytes.now result }
+{
+    let (entry, segments) = whole(alloc, bytes)?;
+    Ok(Xef { entry, segments })
 }
