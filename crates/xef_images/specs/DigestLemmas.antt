@@ -9,7 +9,8 @@ use Rattle.xm_base.specs.Cursor.{Place, left, next, past, start}
 use Rattle.xef_images.specs.Image.{Image, Segment}
 use Rattle.xef_images.specs.Tests.{is_entry}
 use Rattle.xef_images.specs.Gives.{Fails, Gives}
-use Rattle.xef_images.specs.Reading.{◌>>=◌, unless, bytes_at, number_at, listed_at, magic_at, version_at, told, before_of, before, stored, found, signed, address_at, memory_at, count_at, row_at, rows_at, segment_at, segments_at, size_at, table_at, entry_at, image_of, xef, IsForged, TellsDigests}
+use Rattle.xef_images.specs.Steps.{◌>>=◌}
+use Rattle.xef_images.specs.Reading.{unless, bytes_at, number_at, listed_at, magic_at, version_at, told, before_of, before, stored, found, signed, address_at, memory_at, count_at, row_at, rows_at, segment_at, segments_at, size_at, table_at, entry_at, image_of, xef, IsForged, TellsDigests}
 use Rattle.xef_images.specs.declared.row.Row.{Row}
 use Rattle.xef_images.specs.declared.fault.XefFault.{XefFault}
 use Rattle.xef_images.specs.declared.fault.XefFault.TheVariants as fault

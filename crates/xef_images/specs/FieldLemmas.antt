@@ -7,7 +7,9 @@ use Rattle.std.proofs.lemmas.List.{take_at, drop_at, take-append-drop, drop-drop
 use Rattle.std.proofs.lemmas.Nat.{be_bytes_2, be_bytes_4, from_be_bytes-to_be_bytes_2, from_be_bytes-to_be_bytes_4}
 use Rattle.xm_base.specs.Bytes.{AreBytes, spelled_1}
 use Rattle.xm_base.specs.Cursor.{Place, ahead, left, next, past}
-use Rattle.xef_images.specs.Reading.{◌>>=◌, unless, bytes_at, number_at, listed_at}
+use Rattle.xef_images.specs.StepLemmas.{stepped, ok_is, went_on}
+use Rattle.xef_images.specs.Steps.{◌>>=◌}
+use Rattle.xef_images.specs.Reading.{unless, bytes_at, number_at, listed_at}
 use Rattle.xef_images.specs.declared.fault.XefFault.{XefFault}
 use Rattle.xef_images.specs.declared.fault.XefFault.TheVariants.{Short, Field}
 
@@ -23,21 +25,6 @@ AreBytes-take n bytes each i =
       | inr le ↦ rw (get_or_past (take n bytes) i 0 (omega (arith, length-take n bytes))) (omega arith)
     ]
 
--- a step that did not fail: its value, and what followed
-pub record Stepped {A B : Type 0} (read : Result A XefFault) (next : A → Result B XefFault) (end : B) : Type 0 where
-  pub value : A
-  pub is : read ≡ Ok value
-  pub led : next value ≡ Ok end
-
--- what did not fail has no step that failed
-pub stepped : {A B : Type 0} (read : Result A XefFault) (next : A → Result B XefFault) (end : B) → (read >>= next) ≡ Ok end → Stepped read next end
-stepped (Ok x) next end e = record { value = x; is = refl; led = e }
-stepped (Err fault) next end e = absurd cc
-
--- what was read is the value
-pub ok_is : {A : Type 0} (x y : A) → (let done : Result A XefFault = Ok x in done ≡ Ok y) → x ≡ y
-ok_is x y e = cc
-
 -- a test that did not fail
 pub record Passed {A : Type 0} (test : Bool) (value end : A) : Type 0 where
   pub true : test ≡ true
@@ -47,11 +34,6 @@ pub record Passed {A : Type 0} (test : Bool) (value end : A) : Type 0 where
 pub passed : {A : Type 0} (test : Bool) (fault : XefFault) (value end : A) → unless test fault value ≡ Ok end → Passed test value end
 passed true fault value end e = record { true = refl; is = cc }
 passed false fault value end e = absurd cc
-
--- a test that did not stop
-pub went_on : {A : Type 0} (test : Bool) (fault : XefFault) (value end : A) → cond test (Err fault) (Ok value) ≡ Ok end → (test ≡ false) × (value ≡ end)
-went_on true fault value end e = absurd cc
-went_on false fault value end e = (refl, cc)
 
 -- a text stands at a place, and behind it a place with the bytes that are left
 pub record Takes (place : Place) (text : List ℕ) (after : Place) : Type 0 where

@@ -5,16 +5,11 @@ use Rattle.std.specs.Str.{bytes_eq}
 use Rattle.md5.specs.Md5.{md5}
 use Rattle.xm_base.specs.Cursor.{Place, ahead, left, next, past, start}
 use Rattle.xef_images.specs.Image.{Image, Segment}
+use Rattle.xef_images.specs.Steps.{◌>>=◌}
 use Rattle.xef_images.specs.Tests.{is_entry}
 use Rattle.xef_images.specs.declared.row.Row.{Row}
 use Rattle.xef_images.specs.declared.fault.XefFault.{XefFault}
 use Rattle.xef_images.specs.declared.fault.XefFault.TheVariants.{Magic, Version, Short, Trailing, Digest, Field}
-
--- the first fault, or what follows
-infixl 10 ◌>>=◌
-abbrev pub ◌>>=◌ : {A B : Type 0} → Result A XefFault → (A → Result B XefFault) → Result B XefFault
-(Ok x) >>= f = f x
-(Err fault) >>= f = Err fault
 
 -- the fault where a test fails, else the value
 abbrev pub unless : {A : Type 0} → Bool → XefFault → A → Result A XefFault

@@ -11,8 +11,10 @@ use Rattle.xm_base.specs.Cursor.{Place, ahead}
 use Rattle.xef_images.specs.Image.{Segment, contents, end_of, IsSegment}
 use Rattle.xef_images.specs.ImageLemmas.{RiseFrom, Decides-nat_le}
 use Rattle.xef_images.specs.Spelling.{row_text}
-use Rattle.xef_images.specs.Reading.{◌>>=◌, bytes_at, address_at, memory_at, count_at, row_at, rows_at, segment_at, segments_at, size_at, table_at}
-use Rattle.xef_images.specs.FieldLemmas.{Stepped, stepped, ok_is, Takes, takes_both, bytes_take, wide8, wide32, listed_takes, Reads, bytes_again, listed_again}
+use Rattle.xef_images.specs.StepLemmas.{stepped, ok_is}
+use Rattle.xef_images.specs.Steps.{◌>>=◌}
+use Rattle.xef_images.specs.Reading.{bytes_at, address_at, memory_at, count_at, row_at, rows_at, segment_at, segments_at, size_at, table_at}
+use Rattle.xef_images.specs.FieldLemmas.{Takes, takes_both, bytes_take, wide8, wide32, listed_takes, Reads, bytes_again, listed_again}
 use Rattle.xef_images.specs.declared.row.Row.{Row}
 use Rattle.xef_images.specs.declared.fault.XefFault.{XefFault}
 

@@ -18,8 +18,10 @@ use Rattle.xef_images.specs.Image.{Image, Segment, contents, end_of, share, xef_
 use Rattle.xef_images.specs.ImageLemmas.{RiseFrom, rise_from_apart, above_nothing, image_from_parts, is_entry-Decides, Decides-nat_le}
 use Rattle.xef_images.specs.Tests.{is_entry}
 use Rattle.xef_images.specs.Spelling.{head_text, row_text, before_text, xef_text, IsSpelled}
-use Rattle.xef_images.specs.Reading.{◌>>=◌, unless, bytes_at, number_at, listed_at, magic_at, version_at, told, before_of, before, stored, found, signed, rows_at, segments_at, size_at, table_at, entry_at, image_of, xef}
-use Rattle.xef_images.specs.FieldLemmas.{Stepped, stepped, ok_is, passed, Takes, takes_both, bytes_take, wide8, wide16, wide32, number_takes, listed_takes, Reads, bytes_again, number_again, listed_again, AreBytes-drop, AreBytes-take}
+use Rattle.xef_images.specs.StepLemmas.{stepped, ok_is, led_on}
+use Rattle.xef_images.specs.Steps.{◌>>=◌}
+use Rattle.xef_images.specs.Reading.{unless, bytes_at, number_at, listed_at, magic_at, version_at, told, before_of, before, stored, found, signed, rows_at, segments_at, size_at, table_at, entry_at, image_of, xef}
+use Rattle.xef_images.specs.FieldLemmas.{passed, Takes, takes_both, bytes_take, wide8, wide16, wide32, number_takes, listed_takes, Reads, bytes_again, number_again, listed_again, AreBytes-drop, AreBytes-take}
 use Rattle.xef_images.specs.TableLemmas.{row_of, row_line, RowsRise, rows_take, segments_take, lines_of, rise_of_rows, rows_of_rise, rows_again, segments_again}
 use Rattle.xef_images.specs.declared.fault.XefFault.{XefFault}
 use Rattle.xef_images.specs.declared.fault.XefFault.TheVariants.{Magic, Version, Short, Trailing, Digest, Field}
@@ -123,11 +125,6 @@ told_again size rest below =
     let b = number_again w16 (2 ^ 16) wide16 a.after 1 (to_be_bytes w32 size ++ rest) (omega arith) a.ahead in
     let c = number_again w32 (2 ^ 32) wide32 b.after size rest below b.ahead in
     rw (a.is, b.is, c.is) refl
-
--- a test that did not stop: what follows
-led_on : {A : Type 0} (test : Bool) (fault : XefFault) (more : Result A XefFault) (end : A) → cond test (Err fault) more ≡ Ok end → (test ≡ false) × (more ≡ Ok end)
-led_on true fault more end e = absurd cc
-led_on false fault more end e = (refl, e)
 
 -- a file has as many bytes as are told, and the last 16 of them are the digest
 before_of_takes : (size length_told count : ℕ) → before_of size length_told ≡ Ok count → (length_told ≡ size) × (count + 16 ≡ size)

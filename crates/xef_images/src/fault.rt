@@ -54,3 +54,52 @@ impl<T: Drop> From<AllocFailed<T>> for XefFault {
         XefFault::Memory
     }
 }
+
+/// Why a program file is no image.
+#[derive(Clone, Copy, Debug, PartialEq, Eq)]
+pub enum ElfFault {
+    /// It is no ELF file.
+    Magic,
+    /// It is not of 32 bits, not big endian or not of version 1.
+    Class,
+    /// It is no executable, not for SPARC or not of version 1.
+    Machine,
+    /// Its program headers are not of 32 bytes.
+    Headers { found: u16 },
+    /// It ends before what begins here.
+    Short { at: usize },
+    /// The header here has more bytes than memory.
+    Size { at: usize },
+    /// No header is loaded.
+    NoLoad,
+    /// It starts at no word of a segment.
+    Entry { found: u32 },
+    /// The segment here begins before the one before it ends.
+    Overlap { address: u32 },
+    /// The header here passes the end of the addresses or is one too many; at 0, the image is too long.
+    Limit { at: usize },
+    /// There was no memory for the image.
+    Memory,
+}
+
+impl From<AllocError> for ElfFault {
+    ghost use Rattle.std.specs.Prelude.{◌≡◌};
+    ghost use Rattle.xef_images.specs.declared.fault.ElfFault.TheVariants as fault;
+
+    ghost from_gives = { λ _ e. e ≡ fault.Memory };
+
+    fn from(_: AllocError) -> ElfFault {
+        ElfFault::Memory
+    }
+}
+
+impl<T: Drop> From<AllocFailed<T>> for ElfFault {
+    ghost use Rattle.std.specs.Prelude.{◌≡◌};
+    ghost use Rattle.xef_images.specs.declared.fault.ElfFault.TheVariants as fault;
+
+    ghost from_gives = { λ _ e. e ≡ fault.Memory };
+
+    fn from(_: AllocFailed<T>) -> ElfFault {
+        ElfFault::Memory
+    }
+}

@@ -1,7 +1,9 @@
 //! Images of partitions: the XEF format both ways, and the program files of a linker as images.
 #![tactic(auto)]
 
+mod elf;
 mod fault;
+mod header;
 mod law;
 mod reading;
 mod row;
@@ -9,7 +11,8 @@ mod segment;
 mod writing;
 mod xef;
 
-pub use fault::XefFault;
+pub use elf::read_elf;
+pub use fault::{ElfFault, XefFault};
 pub use law::{length_is_told, none_goes_on, written_is_read};
 pub use reading::read_xef;
 pub use segment::Segment;
