@@ -14,4 +14,5 @@ pub mod StepLemmas
 pub mod Steps
 pub mod TableLemmas
 pub mod Tests
+pub mod Texts
 pub mod XefLemmas

@@ -364,3 +364,12 @@ xef_ends image other rest is is_other longer =
   where
     regroup : (a b c d : List ℕ) → ((a ++ b) ++ c) ++ d ≡ a ++ ((b ++ c) ++ d)
     regroup a b c d = simp append_assoc
+
+-- the digest at the end of an image's file
+pub digest_at_end : (bytes : List ℕ) (image : Image) → bytes ≡ xef_text image → (16 ≤ length bytes) × (drop (length bytes - 16) bytes ≡ md5 (before_text image))
+unfolding xef_text
+digest_at_end bytes image is =
+    let size = ap length is ∙ length-append (before_text image) (md5 (before_text image)) in
+    let sixteen = length-md5 (before_text image) in
+    let front : length (before_text image) ≡ length bytes - 16 = omega (arith, size, sixteen) in
+    (omega (arith, size, sixteen), ap (drop (length bytes - 16)) is ∙ drop_at (before_text image) (md5 (before_text image)) (length bytes - 16) front)

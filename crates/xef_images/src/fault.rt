@@ -1,6 +1,8 @@
 //! Why bytes are no image.
 
+use crate::digits::{address_digits, digest_digits, text};
 use std::alloc::{AllocError, AllocFailed};
+use std::fmt;
 use xm_base::Short;
 
 /// Why bytes are no file of an image.
@@ -20,6 +22,31 @@ pub enum XefFault {
     Field { at: usize },
     /// There was no memory for the image.
     Memory,
+}
+
+impl fmt::Display for XefFault {
+    ghost use Rattle.std.specs.Prelude.{Some};
+    ghost use Rattle.xef_images.specs.Texts.{xef_fault_text};
+
+    ghost output = { λ fault. Some (xef_fault_text fault) };
+
+    fn fmt<W: fmt::Write>(&self, f: &mut fmt::Formatter<W>) -> fmt::Result {
+        match self {
+            XefFault::Magic => f.write_str("magic"),
+            XefFault::Version { found } => write!(f, "version found={found}"),
+            XefFault::Short { at } => write!(f, "short at={at}"),
+            XefFault::Trailing { at } => write!(f, "trailing at={at}"),
+            XefFault::Digest { stored, found } => {
+                let stored = digest_digits(stored);
+                let found = digest_digits(found);
+                let stored = text(&stored);
+                let found = text(&found);
+                write!(f, "digest stored={stored} found={found}")
+            }
+            XefFault::Field { at } => write!(f, "field at={at}"),
+            XefFault::Memory => f.write_str("memory"),
+        }
+    }
 }
 
 impl From<Short> for XefFault {
@@ -80,6 +107,37 @@ pub enum ElfFault {
     Limit { at: usize },
     /// There was no memory for the image.
     Memory,
+}
+
+impl fmt::Display for ElfFault {
+    ghost use Rattle.std.specs.Prelude.{Some};
+    ghost use Rattle.xef_images.specs.Texts.{elf_fault_text};
+
+    ghost output = { λ fault. Some (elf_fault_text fault) };
+
+    fn fmt<W: fmt::Write>(&self, f: &mut fmt::Formatter<W>) -> fmt::Result {
+        match self {
+            ElfFault::Magic => f.write_str("magic"),
+            ElfFault::Class => f.write_str("class"),
+            ElfFault::Machine => f.write_str("machine"),
+            ElfFault::Headers { found } => write!(f, "headers found={found}"),
+            ElfFault::Short { at } => write!(f, "short at={at}"),
+            ElfFault::Size { at } => write!(f, "size at={at}"),
+            ElfFault::NoLoad => f.write_str("no-load"),
+            ElfFault::Entry { found } => {
+                let digits = address_digits(*found);
+                let found = text(&digits);
+                write!(f, "entry found={found}")
+            }
+            ElfFault::Overlap { address } => {
+                let digits = address_digits(*address);
+                let address = text(&digits);
+                write!(f, "overlap address={address}")
+            }
+            ElfFault::Limit { at } => write!(f, "limit at={at}"),
+            ElfFault::Memory => f.write_str("memory"),
+        }
+    }
 }
 
 impl From<AllocError> for ElfFault {

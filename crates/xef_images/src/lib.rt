@@ -1,10 +1,12 @@
 //! Images of partitions: the XEF format both ways, and the program files of a linker as images.
 #![tactic(auto)]
 
+mod digits;
 mod elf;
 mod fault;
 mod header;
 mod law;
+mod lines;
 mod reading;
 mod row;
 mod segment;
@@ -14,6 +16,7 @@ mod xef;
 pub use elf::read_elf;
 pub use fault::{ElfFault, XefFault};
 pub use law::{length_is_told, none_goes_on, written_is_read};
+pub use lines::describe;
 pub use reading::read_xef;
 pub use segment::Segment;
 pub use writing::build_xef;

@@ -1,6 +1,6 @@
 //! A segment of an image.
 
-ghost use Rattle.std.specs.Prelude.{◌≡◌};
+ghost use Rattle.std.specs.Prelude.{◌≡◌, length};
 ghost use Rattle.xef_images.specs.Image.{end_of};
 ghost use Rattle.xef_images.specs.Tests.{is_covered, is_placed};
 
@@ -35,6 +35,13 @@ impl Segment {
         ensures { result ≡ end_of self.now }
     {
         u64::from(self.address) + u64::from(self.memory)
+    }
+
+    /// How many bytes it has.
+    pub(crate) fn count(&self) -> usize
+        ensures { result ≡ length self.now.bytes }
+    {
+        self.bytes.len()
     }
 
     /// Whether an address is in its memory.

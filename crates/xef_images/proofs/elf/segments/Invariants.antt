@@ -1,5 +1,3 @@
-use Rattle.std.proofs.Common.{◌≡◌, ◌+◌, ◌*◌, ◌-◌, length}
-use Rattle.xef_images.specs.Elf.{loads}
 use Rattle.xef_images.proofs.Loads.{Loaded}
 use Rattle.xef_images.proofs.elf.segments.Given as goal
 

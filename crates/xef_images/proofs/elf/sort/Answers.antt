@@ -1,6 +1,5 @@
 use Rattle.std.proofs.Common.{rules}
 use Rattle.std.proofs.lemmas.List.Sorted.{IsNonDecreasingBy-from_sort_by_key}
-use Rattle.xef_images.specs.Image.{Segment}
 use Rattle.xef_images.proofs.Sorting.{stable_by_address, stable_sorted}
 use Rattle.xef_images.proofs.elf.sort.Goals as goal
 
