@@ -8,11 +8,9 @@ ghost use Rattle.xef_images.specs.Texts.{address_text, digest_line, entry_line, 
 use crate::digits::{address_digits, digest_digits};
 use crate::segment::Segment;
 use crate::xef::Xef;
+use md5::DIGEST_LEN;
 use std::alloc::Global;
 use xm_base::Memory;
-
-/// The bytes of a digest.
-const DIGEST: usize = 16;
 
 /// The lines that tell the file of an image: its entry, its segments, and the digest that stands
 /// at its end.
@@ -34,7 +32,7 @@ fn stored(bytes: &[u8]) -> &[u8]
     ensures value { result.now ≡ drop (length bytes.now - 16) bytes.now }
     ensures size { length result.now ≡ 16 }
 {
-    &bytes[bytes.len() - DIGEST..]
+    &bytes[bytes.len() - DIGEST_LEN..]
 }
 
 /// Writes the line of the entry.

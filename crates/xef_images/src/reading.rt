@@ -13,12 +13,9 @@ use crate::row::Row;
 use crate::segment::{ADDRESSES, Segment};
 use crate::writing::{MAGIC, VERSION};
 use crate::xef::{SEGMENTS, Xef, is_entry};
-use md5::{Digest, Md5};
+use md5::{DIGEST_LEN, Digest, Md5};
 use std::alloc::Global;
 use xm_base::Cursor;
-
-/// The bytes of a digest.
-const DIGEST: usize = 16;
 
 /// The bytes of name, version and length.
 const LEAD: usize = 10;
@@ -69,10 +66,10 @@ fn before_of(size: usize, told: usize) -> Result<usize, XefFault>
     if told < size {
         return Err(XefFault::Trailing { at: told });
     }
-    if size < DIGEST {
+    if size < DIGEST_LEN {
         return Err(XefFault::Short { at: size });
     }
-    Ok(size - DIGEST)
+    Ok(size - DIGEST_LEN)
 }
 
 /// How many bytes stand before the digest.
@@ -92,7 +89,7 @@ fn signed(bytes: &[u8]) -> Result<&[u8], XefFault>
 {
     let count = before(bytes)?;
     let (front, stored) = bytes.split_at(count);
-    let Ok(stored) = <[u8; DIGEST]>::try_from(stored) else {
+    let Ok(stored) = <[u8; DIGEST_LEN]>::try_from(stored) else {
         unreachable!();
     };
     let found = Md5::digest(front);
