@@ -1,16 +1,16 @@
 -- Two digests are told exactly where they differ.
-use Rattle.std.proofs.Common.{◌≡◌, ℕ, zero, suc, Bool, true, false, cond, List, [], ◌∷◌, length, take, drop, codes, Result, Ok, Err, refl, sym, ap, subst, ◌∙◌}
+use Rattle.std.proofs.Common.{◌≡◌, ℕ, zero, suc, Bool, true, false, cond, List, [], ◌∷◌, length, take, codes, Result, Ok, Err, refl, sym, ap, subst, ◌∙◌}
 use Rattle.std.specs.Prelude.{◌≢◌, ◌↔◌, nat_lt, nat_le, ◌==◌, ◌&&◌, ◌+◌, ◌^◌}
 use Rattle.std.specs.Int.{Width, w8, w16, w32, byte_len, from_be_bytes}
 use Rattle.std.specs.Str.{bytes_eq}
 use Rattle.std.proofs.lemmas.Bool.{false≢true}
 use Rattle.std.proofs.lemmas.Slice.Eq.{bytes_eq-Decides}
 use Rattle.xm_base.specs.Cursor.{Place, left, next, past, start}
-use Rattle.xef_images.specs.Image.{Image, Segment}
+use Rattle.xef_images.specs.Image.{Image}
 use Rattle.xef_images.specs.Tests.{is_entry}
 use Rattle.xef_images.specs.Gives.{Fails, Gives}
 use Rattle.xef_images.specs.Steps.{◌>>=◌}
-use Rattle.xef_images.specs.Reading.{unless, bytes_at, number_at, listed_at, magic_at, version_at, told, before_of, before, stored, found, signed, address_at, memory_at, count_at, row_at, rows_at, segment_at, segments_at, size_at, table_at, entry_at, image_of, xef, IsForged, TellsDigests}
+use Rattle.xef_images.specs.Reading.{unless, bytes_at, number_at, listed_at, magic_at, version_at, told, before_of, before, stored, found, signed, address_at, memory_at, count_at, row_at, rows_at, segment_at, segments_at, size_at, table_at, entry_at, image_of, IsForged, TellsDigests}
 use Rattle.xef_images.specs.declared.row.Row.{Row}
 use Rattle.xef_images.specs.declared.fault.XefFault.{XefFault}
 use Rattle.xef_images.specs.declared.fault.XefFault.TheVariants as fault

@@ -1,15 +1,14 @@
 -- What is read of a program file is an image.
-use Rattle.std.proofs.Common.{◌≡◌, ℕ, zero, suc, ◌+◌, ◌^◌, ◌<◌, ◌≤◌, Bool, true, false, cond, ltb, List, [], ◌∷◌, ◌++◌, length, take, drop, Option, Some, None, Result, Ok, Err, refl, sym, ap, subst, ◌∙◌, arith}
-use Rattle.std.specs.Prelude.{nat_le, nat_lt, ◌==◌, not, ◌&&◌, ◌||◌}
+use Rattle.std.proofs.Common.{◌≡◌, ℕ, zero, suc, ◌+◌, ◌^◌, ◌<◌, ◌≤◌, Bool, true, false, cond, List, [], ◌∷◌, ◌++◌, length, take, drop, Option, Some, None, Result, Ok, Err, refl, subst, arith}
+use Rattle.std.specs.Prelude.{nat_le, nat_lt, ◌==◌, not, ◌||◌}
 use Rattle.std.specs.List.{AllByRecursion}
-use Rattle.std.specs.Int.{w32, from_be_bytes}
 use Rattle.std.proofs.lemmas.Bool.{ltb-false}
 use Rattle.std.proofs.lemmas.Bool.Decides.{Decides-and, Decides-eqb, nat_tests}
 use Rattle.std.proofs.lemmas.List.{length-append, length-take}
 use Rattle.xm_base.specs.Bytes.{AreBytes}
 use Rattle.xm_base.specs.declared.limits.TheConstants.{FILE_BYTES}
 use Rattle.xef_images.specs.Image.{Image, Segment, end_of, xef_length, IsSegment, IsImage}
-use Rattle.xef_images.specs.ImageLemmas.{RiseFrom, Decides-nat_le, Decides-nat_lt, image_from_parts, is_entry-Decides}
+use Rattle.xef_images.specs.ImageLemmas.{RiseFrom, Decides-nat_lt, image_from_parts, is_entry-Decides}
 use Rattle.xef_images.specs.Tests.{is_entry}
 use Rattle.xef_images.specs.FieldLemmas.{AreBytes-drop, AreBytes-take, wide32}
 use Rattle.xef_images.specs.StepLemmas.{stepped, ok_is, led_on}

@@ -1,9 +1,9 @@
 -- The reading of an image's file: the image that the bytes spell, or the first fault from left to right.
-use Rattle.std.specs.Prelude.{◌≡◌, ◌≢◌, ◌↔◌, ℕ, zero, suc, ◌+◌, ◌-◌, ◌^◌, ◌==◌, Bool, true, false, ◌&&◌, nat_le, nat_lt, if◌then◌else◌, List, [], ◌∷◌, length, take, drop, codes, Result, Ok, Err}
+use Rattle.std.specs.Prelude.{◌≡◌, ◌≢◌, ◌↔◌, ℕ, zero, suc, ◌+◌, ◌-◌, ◌^◌, ◌==◌, Bool, ◌&&◌, nat_le, nat_lt, if◌then◌else◌, List, [], ◌∷◌, length, take, drop, codes, Result, Ok, Err}
 use Rattle.std.specs.Int.{Width, w8, w16, w32, byte_len, from_be_bytes}
 use Rattle.std.specs.Str.{bytes_eq}
 use Rattle.md5.specs.Md5.{md5}
-use Rattle.xm_base.specs.Cursor.{Place, ahead, left, next, past, start}
+use Rattle.xm_base.specs.Cursor.{Place, left, next, past, start}
 use Rattle.xef_images.specs.Image.{Image, Segment}
 use Rattle.xef_images.specs.Steps.{◌>>=◌}
 use Rattle.xef_images.specs.Tests.{is_entry}

@@ -1,22 +1,20 @@
 -- The table of segments: what is read is spelled so, and what is spelled so is read.
-use Rattle.std.proofs.Common.{◌≡◌, ℕ, zero, suc, ◌+◌, ◌-◌, ◌^◌, ◌<◌, ◌≤◌, Bool, true, false, cond, List, [], ◌∷◌, ◌++◌, length, map, Result, Ok, Err, refl, sym, ap, subst, ◌∙◌, append_assoc, arith}
+use Rattle.std.proofs.Common.{◌≡◌, ℕ, zero, suc, ◌+◌, ◌^◌, ◌<◌, ◌≤◌, List, [], ◌∷◌, ◌++◌, length, map, Ok, refl, sym, ap, subst, ◌∙◌, append_assoc, arith}
 use Rattle.std.specs.Prelude.{nat_le, ◌&&◌}
-use Rattle.std.specs.List.{flat_map, AllByRecursion}
-use Rattle.std.specs.Int.{w8, w32, to_be_bytes}
+use Rattle.std.specs.List.{flat_map}
+use Rattle.std.specs.Int.{w32, to_be_bytes}
 use Rattle.std.proofs.lemmas.Bool.Decides.{Decides-and}
-use Rattle.std.proofs.lemmas.List.{append-nil}
 use Rattle.std.proofs.lemmas.List.Concat.{flat_map-cons}
 use Rattle.xm_base.specs.Bytes.{AreBytes}
 use Rattle.xm_base.specs.Cursor.{Place, ahead}
-use Rattle.xef_images.specs.Image.{Segment, contents, end_of, IsSegment}
+use Rattle.xef_images.specs.Image.{Segment, contents, end_of}
 use Rattle.xef_images.specs.ImageLemmas.{RiseFrom, Decides-nat_le}
 use Rattle.xef_images.specs.Spelling.{row_text}
 use Rattle.xef_images.specs.StepLemmas.{stepped, ok_is}
 use Rattle.xef_images.specs.Steps.{◌>>=◌}
-use Rattle.xef_images.specs.Reading.{bytes_at, address_at, memory_at, count_at, row_at, rows_at, segment_at, segments_at, size_at, table_at}
-use Rattle.xef_images.specs.FieldLemmas.{Takes, takes_both, bytes_take, wide8, wide32, listed_takes, Reads, bytes_again, listed_again}
+use Rattle.xef_images.specs.Reading.{bytes_at, address_at, memory_at, count_at, row_at, rows_at, segment_at, segments_at}
+use Rattle.xef_images.specs.FieldLemmas.{Takes, takes_both, bytes_take, wide32, listed_takes, Reads, bytes_again, listed_again}
 use Rattle.xef_images.specs.declared.row.Row.{Row}
-use Rattle.xef_images.specs.declared.fault.XefFault.{XefFault}
 
 -- the row of a segment
 abbrev pub row_of : Segment → Row

@@ -1,5 +1,5 @@
 -- What an image is, as tests.
-use Rattle.std.specs.Prelude.{ℕ, ◌+◌, ◌%◌, ◌^◌, ◌==◌, Bool, true, false, ◌&&◌, nat_le, nat_lt, List, [], ◌∷◌, length}
+use Rattle.std.specs.Prelude.{ℕ, ◌%◌, ◌^◌, ◌==◌, Bool, true, ◌&&◌, nat_le, nat_lt, List, [], ◌∷◌, length}
 use Rattle.std.specs.List.{list_any}
 use Rattle.xef_images.specs.declared.xef.TheConstants.{MOST_BYTES}
 use Rattle.xef_images.specs.Image.{Image, Segment, end_of, xef_length}

@@ -1,29 +1,28 @@
 -- The file of an image: what is read is the image that it spells, and what is spelled is read.
-use Rattle.std.proofs.Common.{◌≡◌, ℕ, zero, suc, ◌+◌, ◌*◌, ◌-◌, ◌%◌, ◌^◌, ◌<◌, ◌≤◌, Bool, true, false, cond, ltb, List, [], ◌∷◌, ◌++◌, length, take, drop, map, codes, sum_by, Result, Ok, Err, refl, sym, ap, subst, ◌∙◌, append_assoc, arith, inl, inr}
+use Rattle.std.proofs.Common.{◌≡◌, ℕ, ◌+◌, ◌-◌, ◌%◌, ◌^◌, ◌<◌, ◌≤◌, true, false, List, [], ◌∷◌, ◌++◌, length, take, drop, map, codes, sum_by, Ok, refl, sym, ap, subst, ◌∙◌, append_assoc, arith, inl, inr}
 use Rattle.std.specs.Prelude.{nat_le, nat_lt, ◌==◌, ◌&&◌}
 use Rattle.std.specs.List.{flat_map, AllByRecursion}
 use Rattle.std.specs.Int.{w8, w16, w32, to_be_bytes}
 use Rattle.std.specs.Str.{bytes_eq}
-use Rattle.std.proofs.lemmas.Bool.{ltb-false, le-ltb, eqb-true}
-use Rattle.std.proofs.lemmas.Bool.Decides.{Decides-and, Decides-eqb, nat_tests}
+use Rattle.std.proofs.lemmas.Bool.{ltb-false, le-ltb}
+use Rattle.std.proofs.lemmas.Bool.Decides.{Decides-and, Decides-eqb}
 use Rattle.std.proofs.lemmas.List.{append-nil, nil_from_length, length-append, length-map, take_at, drop_at, take-append-le, take-append-drop, length-take, length-drop}
-use Rattle.std.proofs.lemmas.List.Concat.{flat_map-cons, length-flat_map}
+use Rattle.std.proofs.lemmas.List.Concat.{flat_map-cons}
 use Rattle.std.proofs.lemmas.List.Sums.{sum_by-cons}
 use Rattle.std.proofs.lemmas.Slice.Eq.{bytes_eq-Decides}
 use Rattle.md5.specs.Md5.{md5}
 use Rattle.md5.proofs.StandardFacts.{length-md5}
 use Rattle.xm_base.specs.Bytes.{AreBytes}
 use Rattle.xm_base.specs.Cursor.{Place, ahead, left, past, start}
-use Rattle.xef_images.specs.Image.{Image, Segment, contents, end_of, share, xef_length, IsSegment, IsInside, IsImage}
+use Rattle.xef_images.specs.Image.{Image, Segment, contents, share, xef_length, IsSegment, IsInside, IsImage}
 use Rattle.xef_images.specs.ImageLemmas.{RiseFrom, rise_from_apart, above_nothing, image_from_parts, is_entry-Decides, Decides-nat_le}
 use Rattle.xef_images.specs.Tests.{is_entry}
 use Rattle.xef_images.specs.Spelling.{head_text, row_text, before_text, xef_text, IsSpelled}
 use Rattle.xef_images.specs.StepLemmas.{stepped, ok_is, led_on}
 use Rattle.xef_images.specs.Steps.{◌>>=◌}
-use Rattle.xef_images.specs.Reading.{unless, bytes_at, number_at, listed_at, magic_at, version_at, told, before_of, before, stored, found, signed, rows_at, segments_at, size_at, table_at, entry_at, image_of, xef}
+use Rattle.xef_images.specs.Reading.{unless, bytes_at, number_at, magic_at, version_at, told, before_of, before, stored, found, signed, rows_at, segments_at, size_at, table_at, entry_at, image_of, xef}
 use Rattle.xef_images.specs.FieldLemmas.{passed, Takes, takes_both, bytes_take, wide8, wide16, wide32, number_takes, listed_takes, Reads, bytes_again, number_again, listed_again, AreBytes-drop, AreBytes-take}
 use Rattle.xef_images.specs.TableLemmas.{row_of, row_line, RowsRise, rows_take, segments_take, lines_of, rise_of_rows, rows_of_rise, rows_again, segments_again}
-use Rattle.xef_images.specs.declared.fault.XefFault.{XefFault}
 use Rattle.xef_images.specs.declared.fault.XefFault.TheVariants.{Magic, Version, Short, Trailing, Digest, Field}
 
 -- the table of segments: their number, their rows and their bytes

@@ -1,5 +1,5 @@
-use Rattle.std.proofs.Common.{refl, ap, ◌∙◌}
-use Rattle.xef_images.specs.Texts.{digest_line, xef_lines}
+use Rattle.std.proofs.Common.{refl}
+use Rattle.xef_images.specs.Texts.{xef_lines}
 use Rattle.xef_images.specs.XefLemmas.{digest_at_end}
 use Rattle.xef_images.proofs.lines.describe.Goals as goal
 
