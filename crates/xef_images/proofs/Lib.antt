@@ -1,0 +1,4 @@
+pub mod Ascii
+pub mod Fronts
+pub mod Loads
+pub mod Sorting

@@ -1,0 +1,17 @@
+-- Laws on the files of images.
+use Rattle.std.specs.Prelude.{◌≡◌, ℕ, List, [], ◌++◌, length, Ok}
+use Rattle.xef_images.specs.Image.{Image, IsImage, xef_length}
+use Rattle.xef_images.specs.Spelling.{xef_text}
+use Rattle.xef_images.specs.Reading.{xef}
+
+-- each image is read of its file
+abbrev pub WrittenIsRead : Type 0
+WrittenIsRead = (image : Image) → IsImage image → xef (xef_text image) ≡ Ok image
+
+-- no file of an image is a proper front of another: what stands behind one that is a front is nothing
+abbrev pub NoneGoesOn : Type 0
+NoneGoesOn = (image other : Image) (rest : List ℕ) → IsImage image → IsImage other → xef_text other ≡ xef_text image ++ rest → rest ≡ []
+
+-- a file is as long as its head tells
+abbrev pub LengthIsTold : Type 0
+LengthIsTold = (image : Image) → IsImage image → length (xef_text image) ≡ xef_length image.segments

@@ -1,0 +1,18 @@
+//! Laws on the files of images.
+
+ghost use Rattle.xef_images.specs.Laws.{LengthIsTold, NoneGoesOn, WrittenIsRead};
+
+/// An image that was written is read back.
+pub fn written_is_read()
+    ensures { WrittenIsRead }
+{}
+
+/// No file of an image is a proper front of the file of another.
+pub fn none_goes_on()
+    ensures { NoneGoesOn }
+{}
+
+/// The length in the head of a file is the file's.
+pub fn length_is_told()
+    ensures { LengthIsTold }
+{}

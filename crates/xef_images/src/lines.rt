@@ -1,0 +1,99 @@
+//! The lines that tell an image's file.
+
+ghost use Rattle.std.specs.Prelude.{◌≡◌, ◌++◌, ◌-◌, ◌≤◌, IfOk, OnOk, decimal, drop, length};
+ghost use Rattle.std.specs.List.{flat_map};
+ghost use Rattle.xef_images.specs.Spelling.{xef_text};
+ghost use Rattle.xef_images.specs.Texts.{address_text, digest_line, entry_line, segment_line, xef_lines};
+
+use crate::digits::{address_digits, digest_digits};
+use crate::segment::Segment;
+use crate::xef::Xef;
+use md5::DIGEST_LEN;
+use std::alloc::Global;
+use xm_base::Memory;
+
+/// The lines that tell the file of an image: its entry, its segments, and the digest that stands
+/// at its end.
+#[tactic(auto, unfolding(crate::specs::Texts::xef_lines))]
+pub fn describe(alloc: Global, bytes: &[u8], image: &Xef) -> Result<Vec<u8>, Memory>
+    requires { bytes.now ≡ xef_text image.now }
+    ensures { IfOk result (λ lines. lines.items ≡ xef_lines image.now) }
+{
+    let mut lines = Vec::new(alloc);
+    put_entry(&mut lines, image.entry())?;
+    put_segments(alloc, &mut lines, image.segments())?;
+    put_digest(&mut lines, stored(bytes))?;
+    Ok(lines)
+}
+
+/// The digest at the end of a file.
+fn stored(bytes: &[u8]) -> &[u8]
+    requires { 16 ≤ length bytes.now }
+    ensures value { result.now ≡ drop (length bytes.now - 16) bytes.now }
+    ensures size { length result.now ≡ 16 }
+{
+    &bytes[bytes.len() - DIGEST_LEN..]
+}
+
+/// Writes the line of the entry.
+#[tactic(auto, unfolding(crate::specs::Texts::entry_line))]
+fn put_entry(lines: &mut Vec<u8>, entry: u32) -> Result<(), Memory>
+    ensures { OnOk result (lines.new.items ≡ lines.old.items ++ entry_line entry) }
+{
+    put_address(lines, b"entry=", entry)?;
+    lines.extend_from_slice(b"\n")?;
+    Ok(())
+}
+
+/// Writes the lines of all segments.
+fn put_segments(alloc: Global, lines: &mut Vec<u8>, segments: &[Segment]) -> Result<(), Memory>
+    ensures { OnOk result (lines.new.items ≡ lines.old.items ++ flat_map segment_line segments.now) }
+{
+    for segment in segments {
+        put_segment(alloc, lines, segment)?;
+    }
+    Ok(())
+}
+
+/// Writes the line of a segment.
+#[tactic(auto, unfolding(crate::specs::Texts::segment_line))]
+fn put_segment(alloc: Global, lines: &mut Vec<u8>, segment: &Segment) -> Result<(), Memory>
+    ensures { OnOk result (lines.new.items ≡ lines.old.items ++ segment_line segment.now) }
+{
+    put_address(lines, b"segment address=", segment.address)?;
+    put_number(alloc, lines, b" memory=", segment.memory as usize)?;
+    put_number(alloc, lines, b" file=", segment.count())?;
+    lines.extend_from_slice(b"\n")?;
+    Ok(())
+}
+
+/// Writes an address with eight hexadecimal digits, behind its name.
+fn put_address(lines: &mut Vec<u8>, name: &[u8], address: u32) -> Result<(), Memory>
+    ensures { OnOk result (lines.new.items ≡ lines.old.items ++ (name.now ++ address_text address)) }
+{
+    lines.extend_from_slice(name)?;
+    lines.extend_from_slice(&address_digits(address))?;
+    Ok(())
+}
+
+/// Writes a number with decimal digits, behind its name.
+fn put_number(alloc: Global, lines: &mut Vec<u8>, name: &[u8], number: usize) -> Result<(), Memory>
+    ensures { OnOk result (lines.new.items ≡ lines.old.items ++ (name.now ++ decimal number)) }
+{
+    let digits = format!(in alloc; "{number}")?;
+    lines.extend_from_slice(name)?;
+    lines.extend_from_slice(digits.as_bytes())?;
+    Ok(())
+}
+
+/// Writes the line of the digest.
+#[tactic(auto, unfolding(crate::specs::Texts::digest_line))]
+fn put_digest(lines: &mut Vec<u8>, digest: &[u8]) -> Result<(), Memory>
+    requires { length digest.now ≡ 16 }
+    ensures { OnOk result (lines.new.items ≡ lines.old.items ++ digest_line digest.now) }
+{
+    lines.extend_from_slice(b"md5=")?;
+    lines.extend_from_slice(&digest_digits(digest))?;
+    lines.extend_from_slice(b"\n")?;
+    Ok(())
+}

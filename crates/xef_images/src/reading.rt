@@ -1,0 +1,272 @@
+//! The reading of an image's file.
+
+ghost use Rattle.std.specs.Prelude.{◌≡◌, ◌+◌, IfOk, length};
+ghost use Rattle.std.specs.Int.{w8, w16, w32};
+ghost use Rattle.xef_images.specs.Image.{Image};
+ghost use Rattle.xef_images.specs.Spelling.{IsSpelled};
+ghost use Rattle.xef_images.specs.Gives.{Gives, GivesAt, IsRead, IsReadAt};
+ghost use Rattle.xef_images.specs.Reading.{address_at, before, before_of, bytes_at, count_at, entry_at, image_of, magic_at, memory_at, number_at, row_at, rows_at, segment_at, segments_at, size_at, signed, table_at, told, version_at, xef, TellsDigests};
+ghost use Rattle.xm_base.specs.Cursor.{left};
+
+use crate::fault::XefFault;
+use crate::row::Row;
+use crate::segment::{ADDRESSES, Segment};
+use crate::writing::{MAGIC, VERSION};
+use crate::xef::{SEGMENTS, Xef, is_entry};
+use md5::{DIGEST_LEN, Digest, Md5};
+use std::alloc::Global;
+use xm_base::Cursor;
+
+/// The bytes of name, version and length.
+const LEAD: usize = 10;
+
+/// The name of the format.
+#[tactic(auto, unfolding(crate::specs::Reading::magic_at))]
+fn magic(cursor: &mut Cursor<'_>) -> Result<(), XefFault>
+    ensures { IsRead (λ _. cursor.new) result (magic_at cursor.old) }
+{
+    if cursor.take(4)? != MAGIC.as_slice() {
+        return Err(XefFault::Magic);
+    }
+    Ok(())
+}
+
+/// The version.
+#[tactic(auto, unfolding(crate::specs::Reading::version_at))]
+fn version(cursor: &mut Cursor<'_>) -> Result<(), XefFault>
+    ensures { IsRead (λ _. cursor.new) result (version_at cursor.old) }
+{
+    let found = cursor.u16()?;
+    if found != VERSION {
+        return Err(XefFault::Version { found });
+    }
+    Ok(())
+}
+
+/// The length that the head tells.
+#[tactic(auto, unfolding(crate::specs::Reading::told))]
+fn told(bytes: &[u8]) -> Result<u32, XefFault>
+    ensures { IsRead (λ length. length) result (told bytes.now) }
+{
+    let mut cursor = Cursor::new(bytes);
+    magic(&mut cursor)?;
+    version(&mut cursor)?;
+    Ok(cursor.u32()?)
+}
+
+/// How many bytes stand before the digest, in a file of so many bytes of which so many are told.
+#[tactic(auto, unfolding(crate::specs::Reading::before_of))]
+fn before_of(size: usize, told: usize) -> Result<usize, XefFault>
+    ensures value { result ≡ before_of size told }
+    ensures within { IfOk result (λ count. count + 16 ≡ size) }
+{
+    if size < told {
+        return Err(XefFault::Short { at: size });
+    }
+    if told < size {
+        return Err(XefFault::Trailing { at: told });
+    }
+    if size < DIGEST_LEN {
+        return Err(XefFault::Short { at: size });
+    }
+    Ok(size - DIGEST_LEN)
+}
+
+/// How many bytes stand before the digest.
+#[tactic(auto, unfolding(crate::specs::Reading::before))]
+fn before(bytes: &[u8]) -> Result<usize, XefFault>
+    ensures value { IsRead (λ count. count) result (before bytes.now) }
+    ensures within { IfOk result (λ count. count + 16 ≡ length bytes.now) }
+{
+    let told = told(bytes)?;
+    before_of(bytes.len(), told as usize)
+}
+
+/// The bytes before the digest, where it is theirs.
+#[tactic(auto, unfolding(crate::specs::Reading::signed))]
+fn signed(bytes: &[u8]) -> Result<&[u8], XefFault>
+    ensures { IsRead (λ front. front.now) result (signed bytes.now) }
+{
+    let count = before(bytes)?;
+    let (front, stored) = bytes.split_at(count);
+    let Ok(stored) = <[u8; DIGEST_LEN]>::try_from(stored) else {
+        unreachable!();
+    };
+    let found = Md5::digest(front);
+    if stored != found {
+        return Err(XefFault::Digest { stored, found });
+    }
+    Ok(front)
+}
+
+/// An address that is not below the floor.
+#[tactic(auto, unfolding(crate::specs::Reading::address_at))]
+fn address(cursor: &mut Cursor<'_>, floor: u64) -> Result<u32, XefFault>
+    ensures { IsReadAt (λ address. address) result cursor.new (address_at floor cursor.old) }
+{
+    let at = cursor.at();
+    let address = cursor.u32()?;
+    if u64::from(address) < floor {
+        return Err(XefFault::Field { at });
+    }
+    Ok(address)
+}
+
+/// A size of memory that is not 0, and does not pass the end of the addresses.
+#[tactic(auto, unfolding(crate::specs::Reading::memory_at))]
+fn memory(cursor: &mut Cursor<'_>, address: u32) -> Result<u32, XefFault>
+    ensures { IsReadAt (λ memory. memory) result cursor.new (memory_at address cursor.old) }
+{
+    let at = cursor.at();
+    let memory = cursor.u32()?;
+    if 1 <= memory && u64::from(address) + u64::from(memory) <= ADDRESSES {
+        Ok(memory)
+    } else {
+        Err(XefFault::Field { at })
+    }
+}
+
+/// A number of bytes that fit into the memory.
+#[tactic(auto, unfolding(crate::specs::Reading::count_at))]
+fn count(cursor: &mut Cursor<'_>, memory: u32) -> Result<u32, XefFault>
+    ensures { IsReadAt (λ count. count) result cursor.new (count_at memory cursor.old) }
+{
+    let at = cursor.at();
+    let count = cursor.u32()?;
+    if memory < count {
+        return Err(XefFault::Field { at });
+    }
+    Ok(count)
+}
+
+/// The row of a segment that begins at the floor or behind it.
+#[tactic(auto, unfolding(crate::specs::Reading::row_at))]
+fn row(cursor: &mut Cursor<'_>, floor: u64) -> Result<Row, XefFault>
+    ensures { IsReadAt (λ row. row) result cursor.new (row_at floor cursor.old) }
+{
+    let address = address(cursor, floor)?;
+    let memory = memory(cursor, address)?;
+    let count = count(cursor, memory)?;
+    Ok(Row {
+        address,
+        memory,
+        count,
+    })
+}
+
+/// So many rows, each behind the end of the one before it.
+fn rows(alloc: Global, cursor: &mut Cursor<'_>, count: u8) -> Result<Vec<Row>, XefFault>
+    ensures { GivesAt (λ rows. rows.items) result cursor.new (rows_at count 0 cursor.old) }
+{
+    let mut rows = Vec::new(alloc);
+    let mut floor = 0;
+    for _ in 0..count {
+        let row = row(cursor, floor)?;
+        floor = row.end();
+        rows.push(row)?;
+    }
+    Ok(rows)
+}
+
+/// The segment of a row, with its bytes.
+#[tactic(auto, unfolding(crate::specs::Reading::segment_at))]
+fn segment(alloc: Global, cursor: &mut Cursor<'_>, row: Row) -> Result<Segment, XefFault>
+    ensures { GivesAt (λ segment. segment) result cursor.new (segment_at row cursor.old) }
+{
+    let bytes = cursor.take(row.count as usize)?;
+    Ok(Segment {
+        address: row.address,
+        memory: row.memory,
+        bytes: Vec::from_slice(alloc, bytes)?,
+    })
+}
+
+/// The segments of the rows, with their bytes one after the other.
+fn segments(alloc: Global, cursor: &mut Cursor<'_>, rows: &[Row]) -> Result<Vec<Segment>, XefFault>
+    ensures { GivesAt (λ segments. segments.items) result cursor.new (segments_at rows.now cursor.old) }
+{
+    let mut segments = Vec::new(alloc);
+    for row in rows {
+        let segment = segment(alloc, cursor, *row)?;
+        segments.push(segment)?;
+    }
+    Ok(segments)
+}
+
+/// A number of segments.
+#[tactic(auto, unfolding(crate::specs::Reading::size_at))]
+fn size(cursor: &mut Cursor<'_>) -> Result<u8, XefFault>
+    ensures { IsReadAt (λ count. count) result cursor.new (size_at cursor.old) }
+{
+    let at = cursor.at();
+    let count = cursor.u8()?;
+    if 1 <= count && usize::from(count) <= SEGMENTS {
+        Ok(count)
+    } else {
+        Err(XefFault::Field { at })
+    }
+}
+
+/// The segments: their number, their rows and their bytes.
+#[tactic(auto, unfolding(crate::specs::Reading::table_at))]
+fn table(alloc: Global, cursor: &mut Cursor<'_>) -> Result<Vec<Segment>, XefFault>
+    ensures { GivesAt (λ segments. segments.items) result cursor.new (table_at cursor.old) }
+{
+    let count = size(cursor)?;
+    let rows = rows(alloc, cursor, count)?;
+    segments(alloc, cursor, &rows)
+}
+
+/// The entry, behind the bytes of name, version and length.
+#[tactic(auto, unfolding(crate::specs::Reading::entry_at))]
+fn entry(cursor: &mut Cursor<'_>) -> Result<u32, XefFault>
+    requires { cursor.old.at ≡ 0 }
+    ensures { IsReadAt (λ entry. entry) result cursor.new (entry_at cursor.old) }
+{
+    match cursor.take(LEAD) {
+        Ok(_) => Ok(cursor.u32()?),
+        Err(_) => Err(XefFault::Short { at: LEAD }),
+    }
+}
+
+/// The entry and the segments of the bytes before the digest.
+#[tactic(auto, unfolding(crate::specs::Reading::image_of))]
+fn image(alloc: Global, bytes: &[u8]) -> Result<(u32, Vec<Segment>), XefFault>
+    ensures { Gives (λ image. record { entry = image.0; segments = image.1.items }) result (image_of bytes.now) }
+{
+    let mut cursor = Cursor::new(bytes);
+    let entry = entry(&mut cursor)?;
+    let segments = table(alloc, &mut cursor)?;
+    if !is_entry(entry, &segments) {
+        return Err(XefFault::Field { at: LEAD });
+    }
+    if cursor.left() > 0 {
+        return Err(XefFault::Trailing { at: cursor.at() });
+    }
+    Ok((entry, segments))
+}
+
+/// The entry and the segments of a file.
+#[tactic(auto, unfolding(crate::specs::Reading::xef))]
+fn whole(alloc: Global, bytes: &[u8]) -> Result<(u32, Vec<Segment>), XefFault>
+    ensures exact { Gives (λ image. record { entry = image.0; segments = image.1.items }) result (xef bytes.now) }
+    ensures digest { TellsDigests bytes.now result }
+{
+    let front = signed(bytes)?;
+    image(alloc, front)
+}
+
+/// Reads the file of an image: the image that it spells, or its first fault.
+pub fn read_xef(alloc: Global, bytes: &[u8]) -> Result<Xef, XefFault>
+    // What is read is the image that the bytes spell.
+    ensures found { IfOk result (IsSpelled bytes.now) }
+    // What is spelled is read, unless there is no memory.
+    ensures only { (image : Image) → IsSpelled bytes.now image → Gives (λ found. found) result (Ok image) }
+    // A fault is the first one.
+    ensures exact { Gives (λ found. found) result (xef bytes.now) }
+    // Two digests are told exactly where they differ.
+    ensures digest { TellsDigests bytes.now result }
+{
+    let (entry, segments) = whole(alloc, bytes)?;
+    Ok(Xef { entry, segments })
+}
