@@ -41,6 +41,25 @@ went_before t areas = at t.turn refl
 then_is : (t : Turned) (areas : List Area) → t.turn ≡ Went → then_settled t.turn areas t ≡ settled areas t.core t.memory
 then_is t areas went = ap (λ (turn : Turn). then_settled turn areas t) went
 
+-- so many steps that all went
+pub record AreSteps (count : ℕ) (core : Registers) (memory : Memory) (after : Registers) (new : Memory) : Type 0 where
+  pub went : (stepped count bare_areas core memory).turn ≡ Went
+  pub registers : after ≡ (stepped count bare_areas core memory).core
+  pub bytes : new ≡ (stepped count bare_areas core memory).memory
+
+-- one more that went
+pub one_step_more : (count next : ℕ) (core after last : Registers) (memory new newest : Memory) (turn : Turn) → next ≡ suc count → AreSteps count core memory after new → turn ≡ Went → turn ≡ (settled bare_areas after new).turn → last ≡ (settled bare_areas after new).core → newest ≡ (settled bare_areas after new).memory → AreSteps next core memory last newest
+one_step_more count next core after last memory new newest turn next_is steps went turn_is last_is newest_is =
+    let t = stepped count bare_areas core memory in
+    let one : settled bare_areas after new ≡ stepped (suc count) bare_areas core memory =
+    ap (λ (r : Registers). settled bare_areas r new) steps.registers ∙ ap (λ (m : Memory). settled bare_areas t.core m) steps.bytes
+    ∙ sym (then_is t bare_areas steps.went) in
+    subst (λ (n : ℕ). AreSteps n core memory last newest) (sym next_is) (record {
+      went = sym (ap (λ (x : Turned). x.turn) one) ∙ sym turn_is ∙ went;
+      registers = last_is ∙ ap (λ (x : Turned). x.core) one;
+      bytes = newest_is ∙ ap (λ (x : Turned). x.memory) one;
+    })
+
 -- the partition after so many steps
 abbrev pub after_steps : ℕ → PartitionState → PartitionState
 after_steps count ps = record ps {

@@ -82,15 +82,15 @@ fn go(core: &mut Processor, memory: &mut AreaMemory, most: u64) -> Gone
 {
     // In a local of the loop, which the compiler knows better than a borrow.
     let mut own = std::mem::replace(core, Processor::of(&Core::start(AREA_START)));
-    let mut went = 0;
-    while went < most {
+    let mut left = most;
+    while left > 0 {
         let pc = own.pc();
         match settle_at_hand(&mut own, memory) {
-            Turn::Went => went += 1,
+            Turn::Went => left -= 1,
             Turn::Trap(trap_type) => {
                 *core = own;
                 return Gone {
-                    went,
+                    went: most - left,
                     turn: Turn::Trap(trap_type),
                     pc,
                 };
@@ -98,7 +98,7 @@ fn go(core: &mut Processor, memory: &mut AreaMemory, most: u64) -> Gone
             Turn::Call => {
                 *core = own;
                 return Gone {
-                    went,
+                    went: most - left,
                     turn: Turn::Call,
                     pc,
                 };
@@ -108,7 +108,7 @@ fn go(core: &mut Processor, memory: &mut AreaMemory, most: u64) -> Gone
     let pc = own.pc();
     *core = own;
     Gone {
-        went,
+        went: most,
         turn: Turn::Went,
         pc,
     }

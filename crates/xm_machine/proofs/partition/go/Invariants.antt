@@ -1,16 +1,13 @@
 use Rattle.std.proofs.Common.{◌≡◌, ◌≤◌, ◌-◌}
-use Rattle.sparc_step.specs.declared.outcome.Turn.TheVariants.{Went}
 use Rattle.xm_machine.specs.Area.{bare_areas}
-use Rattle.xm_machine.specs.Quiet.{stepped}
+use Rattle.xm_machine.proofs.QuietLemmas.{AreSteps}
 use Rattle.xm_machine.proofs.partition.go.Given as goal
 
-abbrev pub invariant-loop-went : goal.invariant-loop-went
-invariant-loop-went l = record {
-  went : (stepped l.went bare_areas l.fn.core l.fn.memory).turn ≡ Went;
-  own : l.own ≡ (stepped l.went bare_areas l.fn.core l.fn.memory).core;
-  memory : l.memory ≡ (stepped l.went bare_areas l.fn.core l.fn.memory).memory;
-  few : l.went ≤ l.most;
+abbrev pub invariant-loop-left : goal.invariant-loop-left
+invariant-loop-left l = record {
+  steps : AreSteps (l.most - l.left) l.fn.core l.fn.memory l.own l.memory;
+  few : l.left ≤ l.most;
 }
 
-abbrev pub decreases-loop-went : goal.decreases-loop-went
-decreases-loop-went l = l.most - l.went
+abbrev pub decreases-loop-left : goal.decreases-loop-left
+decreases-loop-left l = l.left
