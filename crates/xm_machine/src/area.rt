@@ -117,9 +117,9 @@ fn place(address: u32, count: u32) -> Option<usize>
     ensures allowed { IsSome result ↔ IsTrue (all_from (is_readable bare_areas) address count) }
     ensures within { IfSome result (λ at. (address ≡ AREA_START + at) × (at + count ≤ AREA_BYTES)) }
 {
-    let at = address.wrapping_sub(AREA_START);
-    if count <= AREA_BYTES && at <= AREA_BYTES - count {
-        Some(at as usize)
+    let at = (address as usize).wrapping_sub(AREA_START as usize);
+    if count <= AREA_BYTES && at <= (AREA_BYTES - count) as usize {
+        Some(at)
     } else {
         None
     }
