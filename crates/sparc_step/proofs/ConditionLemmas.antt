@@ -1,7 +1,7 @@
 -- The table of the conditions: it says of each condition and each of the codes whether it holds.
-use Rattle.std.proofs.Common.{◌≡◌, ◌∙◌, refl, sym, ⊎_elim, arith}
+use Rattle.std.proofs.Common.{◌≡◌, refl, sym, ⊎_elim, arith}
 use Rattle.std.proofs.lemmas.Bool.{and_parts, cases_eq}
-use Rattle.std.specs.Prelude.{ℕ, zero, suc, ◌/◌, ◌%◌, ◌^◌, ◌<◌, Bool, true, false, ◌&&◌, ◌==◌, List, slice_index, bit_and}
+use Rattle.std.specs.Prelude.{ℕ, zero, suc, ◌/◌, ◌^◌, ◌<◌, Bool, true, false, ◌&&◌, ◌==◌, slice_index, bit_and}
 use Rattle.sparc_step.specs.Conditions.{holds, holds_below_eight}
 use Rattle.sparc_step.specs.declared.conditions.TheConstants.{HELD}
 

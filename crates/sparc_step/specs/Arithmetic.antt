@@ -1,5 +1,5 @@
 -- Work on registers, by the rows of appendix B of the SPARC V8 manual.
-use Rattle.std.specs.Prelude.{ℕ, ◌+◌, ◌*◌, ◌/◌, ◌%◌, ◌^◌, Bool, true, false, ◌||◌, ◌==◌, if◌then◌else◌, bit_and, bit_or, bit_xor}
+use Rattle.std.specs.Prelude.{ℕ, ◌+◌, ◌*◌, ◌/◌, ◌%◌, ◌^◌, Bool, false, ◌||◌, ◌==◌, if◌then◌else◌, bit_and, bit_or, bit_xor}
 use Rattle.std.specs.Int.{w32, bit_not}
 use Rattle.sparc_code.specs.declared.instruction.Arith.{Arith}
 use Rattle.sparc_code.specs.declared.instruction.Arith.TheVariants.{Add, And, Or, Xor, Sub, AndN, OrN, XNor, AddX, UMul, SMul, SubX, UDiv, SDiv, AddCc, AndCc, OrCc, XorCc, SubCc, AndNCc, OrNCc, XNorCc, AddXCc, UMulCc, SMulCc, SubXCc, UDivCc, SDivCc, TAddCc, TSubCc, TAddCcTv, TSubCcTv, MulSCc, Sll, Srl, Sra}

@@ -5,9 +5,9 @@ use Rattle.std.proofs.lemmas.Bool.{cases_eq, cases_lt}
 use Rattle.std.proofs.lemmas.Bool.Decides.{nat_tests}
 use Rattle.std.proofs.lemmas.Slice.{take-put_mid_below}
 use Rattle.std.proofs.lemmas.List.{same_lists, places, get_or-set_same, get_or-set_other, get_or-take, get_or-drop, length-set}
-use Rattle.std.specs.Prelude.{ℕ, zero, suc, ◌+◌, ◌-◌, ◌*◌, ◌%◌, ◌<◌, ◌≤◌, Bool, true, false, ◌&&◌, nat_le, nat_lt, ◌==◌, if◌then◌else◌, List, [], ◌∷◌, ◌++◌, length, take, drop, slice_index, slice_set, get_or}
+use Rattle.std.specs.Prelude.{ℕ, zero, suc, ◌+◌, ◌-◌, ◌*◌, ◌%◌, ◌<◌, ◌≤◌, Bool, true, false, nat_lt, ◌==◌, if◌then◌else◌, List, ◌++◌, length, take, drop, slice_index, slice_set, get_or}
 use Rattle.sparc_step.specs.AtHand.{IsAtHand, gathered, ins_place, lies_in, own_place, table, windows_with, word_at}
-use Rattle.sparc_step.specs.Registers.{AreRegisters, Registers, place_in_windows, register_at, with_register}
+use Rattle.sparc_step.specs.Registers.{AreRegisters, place_in_windows, register_at, with_register}
 
 -- a table has as many numbers as were asked for
 pub length-table : (f : ℕ → ℕ) (n : ℕ) → length (table f n) ≡ n

@@ -1,5 +1,5 @@
 -- Branches, calls, jumps and traps, by the rows of appendix B of the SPARC V8 manual.
-use Rattle.std.specs.Prelude.{ℕ, ◌+◌, ◌*◌, ◌%◌, ◌^◌, ℤ, Bool, true, false, ◌&&◌, ◌==◌, if◌then◌else◌, bit_xor}
+use Rattle.std.specs.Prelude.{ℕ, ◌+◌, ◌*◌, ◌%◌, ◌^◌, ℤ, Bool, ◌&&◌, ◌==◌, if◌then◌else◌, bit_xor}
 use Rattle.sparc_code.specs.declared.instruction.Src.{Src}
 use Rattle.sparc_step.specs.Conditions.{holds}
 use Rattle.sparc_step.specs.Operands.{sum_of, value_of}

@@ -1,6 +1,6 @@
 -- What an instruction comes to that touches no memory.
 use Rattle.std.specs.Prelude.{ℕ}
-use Rattle.sparc_step.specs.Registers.{Registers, advanced, with_icc, with_register, with_y}
+use Rattle.sparc_step.specs.Registers.{Registers, advanced, with_icc, with_register}
 use Rattle.sparc_step.specs.declared.outcome.Turn.{Turn}
 use Rattle.sparc_step.specs.declared.outcome.Turn.TheVariants.{Went, Trap}
 

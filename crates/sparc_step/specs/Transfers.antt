@@ -1,6 +1,6 @@
 -- Loads, stores and exchanges, by the rows of appendix B of the SPARC V8 manual.
 use Rattle.std.specs.Prelude.{ℕ, ◌+◌, ◌*◌, ◌/◌, ◌%◌, ◌^◌, List, Option, Some, None, Result, Ok, Err}
-use Rattle.std.specs.Int.{w8, w16, w32, cast_signed, cast_unsigned}
+use Rattle.std.specs.Int.{w8, w16, cast_signed}
 use Rattle.guest_bus.specs.Access.{after_store, loaded, store_fault}
 use Rattle.guest_bus.specs.Memory.{Area, Memory}
 use Rattle.guest_bus.specs.declared.bus.BusFault.{BusFault}

@@ -1,7 +1,7 @@
 -- What the rows have in common: a trap changes nothing, and a call of the hypervisor only goes on behind it.
 use Rattle.std.proofs.Common.{◌∙◌, sym}
 use Rattle.std.specs.Prelude.{◌≡◌, ℕ, List, Option, Some, None, Result, Ok, Err, Bool, true, false, refl, ◌==◌, if◌then◌else◌}
-use Rattle.guest_bus.specs.Access.{fetched, loaded, store_fault, after_store}
+use Rattle.guest_bus.specs.Access.{fetched, loaded, store_fault}
 use Rattle.guest_bus.specs.Memory.{Area, Memory}
 use Rattle.guest_bus.specs.declared.bus.BusFault.{BusFault}
 use Rattle.guest_bus.specs.declared.bus.Size.{Size}

@@ -1,6 +1,6 @@
 -- The window traps: where they come, and that an instruction which met one is executed where its window may be entered.
 use Rattle.std.proofs.Common.{◌∙◌, sym, ap, subst, arith}
-use Rattle.std.proofs.lemmas.Bool.{eqb-true, eqb-false}
+use Rattle.std.proofs.lemmas.Bool.{eqb-true}
 use Rattle.std.specs.Prelude.{◌≡◌, ◌≢◌, ℕ, ◌+◌, ◌%◌, ◌≤◌, List, Option, Some, None, Result, Ok, Err, Bool, true, false, refl, ◌==◌, if◌then◌else◌}
 use Rattle.guest_bus.specs.Access.{fetched, loaded, store_fault}
 use Rattle.guest_bus.specs.Memory.{Area, Memory}

@@ -1,5 +1,5 @@
 -- Words of 32 bits as whole numbers, with and without a sign, and what arithmetic makes of them.
-use Rattle.std.specs.Prelude.{ℕ, ◌+◌, ◌-◌, ◌*◌, ◌/◌, ◌%◌, ◌^◌, ℤ, pos, negsuc, ◌+ℤ◌, ◌-ℤ◌, ◌*ℤ◌, Bool, true, false, not, ◌||◌, nat_lt, nat_le, min, ◌==◌, if◌then◌else◌, bit_or, bit_xor, int_div}
+use Rattle.std.specs.Prelude.{ℕ, ◌+◌, ◌-◌, ◌*◌, ◌/◌, ◌%◌, ◌^◌, ℤ, pos, negsuc, ◌+ℤ◌, ◌-ℤ◌, ◌*ℤ◌, Bool, not, ◌||◌, nat_lt, nat_le, min, ◌==◌, if◌then◌else◌, int_div}
 use Rattle.std.specs.Int.{w32, w64, cast_signed, cast_unsigned, saturate_signed, int_shr}
 
 -- the lowest so many bits of a whole number, in two's complement

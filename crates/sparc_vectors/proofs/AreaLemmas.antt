@@ -2,8 +2,10 @@
 use Rattle.std.specs.Int.{byte_len}
 use Rattle.guest_bus.specs.Access.{access_fault, store_fault, width_of}
 use Rattle.guest_bus.specs.declared.bus.Size.{Size}
-use Rattle.std.proofs.Common.{◌≡◌, ℕ, ◌+◌, ◌<◌, ◌≤◌, true, false, refl}
-use Rattle.guest_bus.specs.Memory.{all_from, is_readable, is_writable}
+use Rattle.std.proofs.Common.{◌≡◌, ℕ, length, get_or, Fits, w8, ◌+◌, ◌<◌, ◌≤◌, List, true, false, refl}
+use Rattle.guest_bus.specs.Memory.{all_from, is_readable, is_writable, memory_of}
+use Rattle.guest_bus.specs.Whole.{IsMemoryOf}
+use Rattle.guest_bus.specs.WholeLemmas.{memory_of-IsMemoryOf}
 use Rattle.guest_bus.specs.MemoryLemmas.{all_readable, readable_within, writable-readable}
 use Rattle.sparc_vectors.specs.Area.{vector_areas}
 use Rattle.sparc_vectors.specs.declared.memory.TheConstants.{AREA_BYTES, AREA_START}
@@ -27,3 +29,8 @@ writable address count = writable-readable (record { start = AREA_START; size = 
 pub stores_as_loads : (address : ℕ) (size : Size) → store_fault vector_areas address size ≡ access_fault (is_readable vector_areas) address (byte_len (width_of size))
 unfolding store_fault
 stores_as_loads address size = rw (writable address (byte_len (width_of size)))
+
+-- the area's bytes are its memory
+pub whole : (bytes : List ℕ) → length bytes ≡ AREA_BYTES → ((i : ℕ) → Fits w8 (get_or bytes i 0)) → IsMemoryOf vector_areas (memory_of AREA_START bytes)
+unfolding vector_areas
+whole bytes sized small = memory_of-IsMemoryOf (record { start = AREA_START; size = AREA_BYTES; read_only = false }) bytes sized (λ i. (small i).fits)

@@ -5,6 +5,7 @@ ghost use Rattle.std.specs.Int.{byte_len, from_be_bytes, to_be_bytes, w16, w32, 
 ghost use borrow.Rule.Slice.PartMut.{put_mid};
 ghost use Rattle.guest_bus.specs.Access.{Stores, after_store, fetched, loaded, store_fault, width_of};
 ghost use Rattle.guest_bus.specs.Memory.{all_from, is_readable, memory_of};
+ghost use Rattle.guest_bus.specs.Whole.{IsMemoryOf};
 ghost use Rattle.sparc_vectors.specs.Area.{Places, vector_areas};
 
 use sparc_step::{Bus, BusFault, Size};
@@ -149,7 +150,8 @@ fn accessed(address: u32, size: Size) -> Result<usize, BusFault>
 // The word that a fetch answers.
 fn fetch_word(bytes: &[u8], address: u32) -> Result<u32, BusFault>
     requires { length bytes.now ≡ AREA_BYTES }
-    ensures { result ≡ fetched vector_areas (memory_of AREA_START bytes.now) address }
+    ensures value { result ≡ fetched vector_areas (memory_of AREA_START bytes.now) address }
+    ensures whole { IsMemoryOf vector_areas (memory_of AREA_START bytes.now) }
 {
     match accessed(address, Size::Four) {
         Ok(at) => Ok(word(bytes, at)),
@@ -160,7 +162,8 @@ fn fetch_word(bytes: &[u8], address: u32) -> Result<u32, BusFault>
 // The value that a load answers.
 fn load_value(bytes: &[u8], address: u32, size: Size) -> Result<u64, BusFault>
     requires { length bytes.now ≡ AREA_BYTES }
-    ensures { result ≡ loaded vector_areas (memory_of AREA_START bytes.now) address size }
+    ensures value { result ≡ loaded vector_areas (memory_of AREA_START bytes.now) address size }
+    ensures whole { IsMemoryOf vector_areas (memory_of AREA_START bytes.now) }
 {
     match accessed(address, size) {
         Ok(at) => Ok(value_at(bytes, at, size)),
@@ -173,6 +176,7 @@ fn store_value(bytes: &mut [u8], address: u32, size: Size, value: u64) -> Result
     requires { length bytes.old ≡ AREA_BYTES }
     ensures fault { Stores result (store_fault vector_areas address size) }
     ensures memory { memory_of AREA_START bytes.new ≡ after_store vector_areas (memory_of AREA_START bytes.old) address size value }
+    ensures whole { IsMemoryOf vector_areas (memory_of AREA_START bytes.new) }
 {
     match accessed(address, size) {
         Ok(at) => {

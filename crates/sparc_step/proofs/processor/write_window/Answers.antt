@@ -1,5 +1,5 @@
 use Rattle.std.proofs.Common.{ap}
-use Rattle.std.specs.Prelude.{◌+◌, ◌*◌, ◌%◌}
+use Rattle.std.specs.Prelude.{◌*◌}
 use Rattle.sparc_step.specs.AtHandLemmas.{written_in_two}
 use Rattle.sparc_step.proofs.processor.write_window.Goals as goal
 
