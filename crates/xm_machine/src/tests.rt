@@ -56,6 +56,12 @@ const PRINT_RESULT: [u32; 6] = [
     0x91d0_2070, // ta 0x70
 ];
 
+// Eight times save %sp, -96, %sp, then eight times restore.
+const WINDOWS: &[u8; 64] = b"\x9d\xe3\xbf\xa0\x9d\xe3\xbf\xa0\x9d\xe3\xbf\xa0\x9d\xe3\xbf\xa0\
+\x9d\xe3\xbf\xa0\x9d\xe3\xbf\xa0\x9d\xe3\xbf\xa0\x9d\xe3\xbf\xa0\
+\x81\xe8\x00\x00\x81\xe8\x00\x00\x81\xe8\x00\x00\x81\xe8\x00\x00\
+\x81\xe8\x00\x00\x81\xe8\x00\x00\x81\xe8\x00\x00\x81\xe8\x00\x00";
+
 // The bytes of words, the highest byte of each first.
 fn bytes_of(alloc: Global, words: &[u32]) -> Result<Vec<u8>, Fail> {
     let mut bytes = Vec::new(alloc);
@@ -165,8 +171,8 @@ fn a_tick_that_is_not_built_ends_the_run(rt: HostRuntime) -> Result<(), Fail> {
         (&[0x0100_0000], 0x4000_0004, 1), // nop, and a word of zeros
     ];
     for (words, pc, ticks) in cases {
-        let (answer, done, out) = run_of(rt.alloc(), words, 5, &[])?;
-        let report = "SYSTEM parts=1 plans=1 ticks=5\n";
+        let (answer, done, out) = run_of(rt.alloc(), words, 8, &[])?;
+        let report = "SYSTEM parts=1 plans=1 ticks=8\n";
         assert_eq!(rt; answer, Err(RunFault::NotBuilt { part: 0, pc }));
         assert_eq!(rt; done, ticks, "at {pc:x}");
         assert_eq!(rt; out.got(), report.as_bytes());
@@ -280,15 +286,7 @@ fn a_sink_that_fails_ends_the_run(rt: HostRuntime) -> Result<(), Fail> {
 // Eight times SAVE, then eight times RESTORE, over one stack: windows are spilled and filled where they must be.
 #[test]
 fn windows_spill_and_fill(rt: HostRuntime) -> Result<(), Fail> {
-    let mut words = Vec::new(rt.alloc());
-    for _ in 0..8u8 {
-        words.push(0x9de3_bfa0)?; // save %sp, -96, %sp
-    }
-    for _ in 0..8u8 {
-        words.push(0x81e8_0000)?; // restore
-    }
-    let image = bytes_of(rt.alloc(), &words)?;
-    let mut memory = AreaMemory::new(rt.alloc(), &image)?;
+    let mut memory = AreaMemory::new(rt.alloc(), WINDOWS)?;
     let mut core = Core::start(AREA_START);
     core.set(14, 0x4000_0f00);
     core.set(16, 0x1111_1111);
