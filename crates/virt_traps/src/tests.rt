@@ -316,3 +316,53 @@ fn a_step_without_a_window_trap_is_the_instruction(rt: HostRuntime) {
         assert_eq!(rt; core.pc, pc, "{word:x}");
     }
 }
+
+// Each row: the word that a spill puts in the place of its own SAVE, what the step comes to, and pc after it.
+#[test]
+fn a_spill_may_overwrite_its_own_save(rt: HostRuntime) {
+    for (word, outcome, pc) in [
+        (0x0100_0000, Turn::Went, START + 4),
+        (0x91d0_2070, Turn::Call, START + 4),
+        (0x0000_0000, Turn::Trap(0x02), START),
+    ] {
+        let mut core = numbered(START, 0);
+        core.windows[16 * 7 + 8] = word;
+        core.inv = 0;
+        core.cwp = 1;
+        let mut stack = Stack {
+            bytes: [0; 192],
+            read_only: false,
+        };
+        assert_eq!(rt; stack.store(START, Size::Four, 0x9de3_bfa0), Ok(()));
+        assert_eq!(rt; settle(&mut core, &mut stack), outcome, "{word:x}");
+        assert_eq!(rt; [core.cwp, core.inv], [1, 7], "{word:x}");
+        assert_eq!(rt; core.pc, pc, "{word:x}");
+        assert_eq!(rt; stack.load(START, Size::Four), Ok(u64::from(word)));
+    }
+}
+
+// Each row: an instruction on the memory, and what it comes to where that may only be read.
+#[test]
+fn what_may_only_be_read_is_not_stored_to(rt: HostRuntime) {
+    for (word, outcome) in [
+        (0xc400_4000, Turn::Went), // ld [%g1], %g2
+        (0xc420_4000, Turn::Trap(0x09)), // st %g2, [%g1]
+        (0xc428_4000, Turn::Trap(0x09)), // stb %g2, [%g1]
+        (0xc430_4000, Turn::Trap(0x09)), // sth %g2, [%g1]
+        (0xc438_4000, Turn::Trap(0x09)), // std %g2, [%g1]
+        (0xc468_4000, Turn::Trap(0x09)), // ldstub [%g1], %g2
+        (0xc478_4000, Turn::Trap(0x09)), // swap [%g1], %g2
+    ] {
+        let mut core = Core::start(START);
+        core.set(1, START + 8);
+        core.set(2, 5);
+        let mut stack = Stack {
+            bytes: [0; 192],
+            read_only: false,
+        };
+        assert_eq!(rt; stack.store(START, Size::Four, word), Ok(()));
+        stack.read_only = true;
+        assert_eq!(rt; settle(&mut core, &mut stack), outcome, "{word:x}");
+        assert_eq!(rt; stack.load(START + 8, Size::Eight), Ok(0), "{word:x}");
+    }
+}
