@@ -24,26 +24,7 @@ static unsigned next_word(void)
 
 static unsigned words[COUNT];
 
-static __attribute__((noinline)) void quicksort(unsigned *from, int count)
-{
-    if (count < 2)
-        return;
-    unsigned pivot = from[count / 2];
-    int low = 0, high = count - 1;
-    while (low <= high) {
-        while (from[low] < pivot)
-            low++;
-        while (pivot < from[high])
-            high--;
-        if (low <= high) {
-            unsigned held = from[low];
-            from[low++] = from[high];
-            from[high--] = held;
-        }
-    }
-    quicksort(from, high + 1);
-    quicksort(from + low, count - low);
-}
+#include "../examples/bare/quicksort.h"
 
 static unsigned sorting(void)
 {
