@@ -1,2 +1,4 @@
+pub mod OutsideLemmas
+pub mod ParsingLemmas
 pub mod TopLemmas
 pub mod WorkLemmas

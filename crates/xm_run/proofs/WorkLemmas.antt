@@ -1,22 +1,29 @@
 -- What the work of a command comes to.
-use Rattle.std.proofs.Common.{◌≡◌, ℕ, ◌<◌, ◌≤◌, ◌⊎◌, ⊎_elim, Bool, true, false, ◌&&◌, ◌||◌, nat_le, nat_lt, nat_eq, if◌then◌else◌, List, [], ◌∷◌, length, codes, Option, Some, None, Ok, Err, refl, sym, ap, ◌∙◌, arith}
+use Rattle.std.proofs.Common.{◌≡◌, ℕ, ◌<◌, ◌≤◌, ◌⊎◌, ⊎_elim, Bool, true, false, ◌&&◌, ◌||◌, nat_le, nat_lt, nat_eq, if◌then◌else◌, List, [], ◌∷◌, length, codes, Option, Some, None, Ok, Err, refl, sym, ap, ◌∙◌, subst, arith}
 use Rattle.std.proofs.lemmas.Bool.Decides.{nat_tests}
+use Rattle.std.specs.Str.{bytes_eq}
 use Rattle.std.specs.Str.Parse.{digits_value}
 use Rattle.xm_base.specs.declared.limits.TheConstants.{FILE_BYTES, IMAGE_BYTES, TICKS}
-use Rattle.xm_outside.specs.Growth.{grown, GrewByPrefix}
+use Rattle.xm_outside.specs.Files.{Files, ReadsFile}
+use Rattle.xm_outside.specs.Growth.{grown, grown-nothing, GrewByPrefix}
 use Rattle.xm_machine.specs.Bare.{IsImageLength}
 use Rattle.xm_machine.specs.Outcome.{IsRun}
 use Rattle.xm_machine.specs.State.{MachineState, booted}
 use Rattle.xm_machine.specs.System.{System, bare_system}
 use Rattle.xm_machine.specs.declared.run.Ran.{Ran}
 use Rattle.xm_machine.specs.declared.run.RunFault.TheVariants.{Write, NotBuilt}
-use Rattle.xm_words.specs.Words.{Bare, bare_of, command_of, is_number, ticks_of}
-use Rattle.xm_run.specs.Answer.{outcome_of, ran, refusal_of}
-use Rattle.xm_run.specs.Ending.{length_text, unbuilt_text}
-use Rattle.xm_run.specs.Told.{HasTicks}
+use Rattle.xm_words.specs.Words.{Command, Bare, Parse, bare_of, command_of, command_of_two, is_file, is_number, parse_of, ticks_of}
 use Rattle.xm_words.specs.Seen.{seen}
 use Rattle.xm_words.specs.declared.commands.Command as code
 use Rattle.xm_words.specs.declared.commands.Command.TheVariants as variant
+use Rattle.xm_run.specs.Ending.{Ending, Finished, Misused, Unread, Denied, Unwritten, Unsaved, Starved, length_text, unbuilt_text}
+use Rattle.xm_run.specs.Outcome.{Outcome, bare_outcome, inputs_of, made, outcome_of, ran, refused, stuck_denial, unless_long, worked}
+use Rattle.xm_run.specs.Parsing.{xmc_of}
+use Rattle.xm_run.specs.Told.{HasTicks}
+use Rattle.xm_run.proofs.OutsideLemmas.{no_output, output-named}
+use Rattle.xm_run.specs.Work.{Outside, Comes, IsDone, IsNotRead, Reports, called, outside, reported, with_report, wrote}
+
+-- Runs.
 
 -- a machine boots with no tick done
 pub booted-ticks : (system : System) → (booted system).ticks ≡ 0
@@ -29,44 +36,134 @@ unfolding booted
 booted-halted system = refl
 
 -- a run that reached its end
-pub finished : (r : Ran) (system : System) (ticks : ℕ) (new : MachineState) (had got : Option (List ℕ)) → IsRun (Ok r) ticks (booted system) new had got → ((ran ticks system).refusal ≡ None) × (got ≡ grown had (ran ticks system).out)
+pub finished : (r : Ran) (file : List ℕ) (system : System) (ticks : ℕ) (new : MachineState) (had got : Option (List ℕ)) → IsRun (Ok r) ticks (booted system) new had got → ((ran file ticks system).denial ≡ None) × (got ≡ grown had (ran file ticks system).report)
 unfolding ran booted
-finished r system ticks new had got is = (ap refusal_of is.built, is.report)
+finished r file system ticks new had got is = (ap (stuck_denial file) is.built, is.report)
 
 -- a run whose report was not taken whole
-pub unwritten : (system : System) (ticks : ℕ) (new : MachineState) (had got : Option (List ℕ)) → IsRun (Err Write) ticks (booted system) new had got → GrewByPrefix had (ran ticks system).out got
+pub unwritten : (file : List ℕ) (system : System) (ticks : ℕ) (new : MachineState) (had got : Option (List ℕ)) → IsRun (Err Write) ticks (booted system) new had got → GrewByPrefix had (ran file ticks system).report got
 unfolding ran booted
-unwritten system ticks new had got is = is.report
+unwritten file system ticks new had got is = is.report
 
 -- a run that met a tick that is not built
-pub denied : (part pc : ℕ) (system : System) (ticks : ℕ) (new : MachineState) (had got : Option (List ℕ)) → IsRun (Err (NotBuilt part pc)) ticks (booted system) new had got → ((ran ticks system).refusal ≡ Some (unbuilt_text part pc)) × (got ≡ grown had (ran ticks system).out)
+pub denied : (part pc : ℕ) (file : List ℕ) (system : System) (ticks : ℕ) (new : MachineState) (had got : Option (List ℕ)) → IsRun (Err (NotBuilt part pc)) ticks (booted system) new had got → ((ran file ticks system).denial ≡ Some (record { file = file; text = unbuilt_text part pc })) × (got ≡ grown had (ran file ticks system).report)
 unfolding ran booted
-denied part pc system ticks new had got is = (ap refusal_of is.place, is.report)
+denied part pc file system ticks new had got is = (ap (stuck_denial file) is.place, is.report)
 
--- what a file comes to by its length: too long a file
-pub outcome-long : (ticks : ℕ) (bytes : List ℕ) → FILE_BYTES < length bytes → outcome_of ticks bytes ≡ record { refusal = Some (codes "too-long"); out = [] }
+-- What one file comes to.
+
+-- a file that is too long
+pub one-long : (command : Command) (file bytes : List ℕ) → inputs_of command ≡ file ∷ [] → FILE_BYTES < length bytes → outcome_of command (bytes ∷ []) ≡ refused file (codes "too-long")
 unfolding outcome_of
-outcome-long ticks bytes long = let test : nat_lt FILE_BYTES (length bytes) ≡ true = grind (arith, nat_tests) in rw test refl
+one-long command file bytes one long = let test : nat_lt FILE_BYTES (length bytes) ≡ true = grind (arith, nat_tests) in rw (one, test) refl
+
+-- a file that is not too long
+pub one-short : (command : Command) (file bytes : List ℕ) → inputs_of command ≡ file ∷ [] → length bytes ≤ FILE_BYTES → outcome_of command (bytes ∷ []) ≡ worked command (bytes ∷ [])
+unfolding outcome_of
+one-short command file bytes one short = let test : nat_lt FILE_BYTES (length bytes) ≡ false = grind (arith, nat_tests) in rw (one, test) refl
 
 -- the test of an image's length
 length_test : (n : ℕ) → ((n ≡ 0) ⊎ (IMAGE_BYTES < n)) → (nat_eq n 0 || nat_lt IMAGE_BYTES n) ≡ true
 length_test n wrong = ⊎_elim (λ h. grind (arith, nat_tests)) (λ h. grind (arith, nat_tests)) wrong
 
 -- a file that is no image
-pub outcome-length : (ticks : ℕ) (bytes : List ℕ) → length bytes ≤ FILE_BYTES → ((length bytes ≡ 0) ⊎ (IMAGE_BYTES < length bytes)) → outcome_of ticks bytes ≡ record { refusal = Some (length_text (length bytes)); out = [] }
-unfolding outcome_of
-outcome-length ticks bytes short wrong =
-    let long : nat_lt FILE_BYTES (length bytes) ≡ false = grind (arith, nat_tests) in
-    let test = length_test (length bytes) wrong in
-    rw (long, test) refl
+pub outcome-length : (file : List ℕ) (ticks : ℕ) (bytes : List ℕ) → length bytes ≤ FILE_BYTES → ((length bytes ≡ 0) ⊎ (IMAGE_BYTES < length bytes)) → outcome_of (Bare file ticks) (bytes ∷ []) ≡ refused file (length_text (length bytes))
+unfolding bare_outcome
+outcome-length file ticks bytes short wrong = one-short (Bare file ticks) file bytes refl short ∙ (let test = length_test (length bytes) wrong in rw test refl)
 
 -- a file that is an image
-pub outcome-image : (ticks : ℕ) (bytes : List ℕ) → IsImageLength (length bytes) → outcome_of ticks bytes ≡ ran ticks (bare_system bytes)
-unfolding outcome_of
-outcome-image ticks bytes is =
-    let long : nat_lt FILE_BYTES (length bytes) ≡ false = grind (arith, nat_tests, is.most) in
+pub outcome-image : (file : List ℕ) (ticks : ℕ) (bytes : List ℕ) → IsImageLength (length bytes) → outcome_of (Bare file ticks) (bytes ∷ []) ≡ ran file ticks (bare_system bytes)
+unfolding bare_outcome
+outcome-image file ticks bytes is =
+    let short : length bytes ≤ FILE_BYTES = omega (arith, is.most) in
     let test : (nat_eq (length bytes) 0 || nat_lt IMAGE_BYTES (length bytes)) ≡ false = grind (arith, nat_tests, is.most, is.some) in
-    rw (long, test) refl
+    one-short (Bare file ticks) file bytes refl short ∙ rw test refl
+
+-- a text that is not too long
+pub outcome-text : (file output bytes : List ℕ) → length bytes ≤ FILE_BYTES → outcome_of (Parse file output) (bytes ∷ []) ≡ made file output (xmc_of bytes)
+outcome-text file output bytes short = one-short (Parse file output) file bytes refl short
+
+-- a run of an image writes no file
+pub bare-writes : (file : List ℕ) (ticks : ℕ) (bytes : List ℕ) → (outcome_of (Bare file ticks) (bytes ∷ [])).output ≡ None
+bare-writes file ticks bytes = no_output _ (λ output is. none_named (output-named (Bare file ticks) (bytes ∷ []) output is))
+  where
+    none_named : {X : Type 0} {x : X} → None ≡ Some x → ⊥
+    none_named e = cc
+
+-- a command that is refused does nothing
+pub refused_comes : (file text : List ℕ) (before : Outside) → Comes (Denied file text) (refused file text) before before
+refused_comes file text before = (refl, sym (ap (λ (g : Option (List ℕ)). record before { got = g }) (grown-nothing before.got)))
+
+-- From what is done with one file to what is done in all.
+
+-- a command that reads one file did all of its work
+pub done_by_one : (e : Ending) (command : Command) (file bytes : List ℕ) (before after : Outside) → inputs_of command ≡ file ∷ [] → ReadsFile before.files file FILE_BYTES bytes → Comes e (outcome_of command (bytes ∷ [])) (called before) after → IsDone e command before after
+done_by_one Finished command file bytes before after one read comes = record {
+  contents = bytes ∷ [];
+  read = rw one (read, tt);
+  denied = comes.0;
+  outside = rw one comes.1;
+}
+done_by_one Misused command file bytes before after one read comes = absurd comes
+done_by_one (Unread other) command file bytes before after one read comes = absurd comes
+done_by_one (Denied other text) command file bytes before after one read comes = record {
+  contents = bytes ∷ [];
+  read = rw one (read, tt);
+  denied = comes.0;
+  outside = rw one comes.1;
+}
+done_by_one Unwritten command file bytes before after one read comes = record {
+  contents = bytes ∷ [];
+  read = rw one (read, tt);
+  cause = comes.0;
+  front = comes.1;
+  outside = rw one comes.2;
+}
+done_by_one (Unsaved other) command file bytes before after one read comes = record {
+  contents = bytes ∷ [];
+  read = rw one (read, tt);
+  output = comes.output;
+  named = comes.named;
+  made = comes.made;
+  cause = comes.cause;
+  others = comes.others;
+  outside = rw one comes.outside;
+}
+done_by_one Starved command file bytes before after one read comes = record { first = file ∷ []; rest = []; named = one; outside = comes }
+
+-- what is done, seen from another state that is the same
+pub comes_from : (e : Ending) (outcome : Outcome) (mid other after : Outside) → mid ≡ other → Comes e outcome mid after → Comes e outcome other after
+comes_from e outcome mid other after same comes = subst (λ (m : Outside). Comes e outcome m after) same comes
+
+-- a command whose one file was not read ends so
+pub not_read_done : (e : Ending) (command : Command) (file : List ℕ) (before after : Outside) → inputs_of command ≡ file ∷ [] → IsNotRead e file before after → IsDone e command before after
+not_read_done Finished command file before after one not_read = absurd not_read
+not_read_done Misused command file before after one not_read = absurd not_read
+not_read_done (Unread other) command file before after one not_read = record {
+  first = [];
+  rest = [];
+  named = rw not_read.0 one;
+  contents = [];
+  read = tt;
+  cause = rw not_read.0 not_read.1;
+  outside = not_read.2;
+}
+not_read_done (Denied other text) command file before after one not_read = absurd not_read
+not_read_done Unwritten command file before after one not_read = absurd not_read
+not_read_done (Unsaved other) command file before after one not_read = absurd not_read
+not_read_done Starved command file before after one not_read = record { first = file ∷ []; rest = []; named = one; outside = not_read }
+
+-- a report is all that is done, where no file is written
+pub comes_by_report : (e : Ending) (outcome : Outcome) (files : Option Files) (reads writes calls : ℕ) (had got : Option (List ℕ)) (faults now : ℕ) → outcome.output ≡ None → Reports e outcome had faults got now → Comes e outcome (outside files reads writes calls had faults) (outside files reads writes calls got now)
+comes_by_report Finished outcome files reads writes calls had got faults now none r = (r.0, rw (none, r.1, r.2) refl)
+comes_by_report Misused outcome files reads writes calls had got faults now none r = absurd r
+comes_by_report (Unread file) outcome files reads writes calls had got faults now none r = absurd r
+comes_by_report (Denied file text) outcome files reads writes calls had got faults now none r = (r.0, rw (none, r.1, r.2) refl)
+comes_by_report Unwritten outcome files reads writes calls had got faults now none r = (r.0, r.1, rw none refl)
+comes_by_report (Unsaved file) outcome files reads writes calls had got faults now none r = absurd r
+comes_by_report Starved outcome files reads writes calls had got faults now none r = rw (r.0, r.1) refl
+
+-- Ticks.
 
 -- a word that spells ticks spells at most the limit
 ticks_of-le : (word : List ℕ) (n : ℕ) → ticks_of word ≡ Some n → n ≤ TICKS
@@ -78,20 +175,29 @@ ticks_of-le word n e = at (is_number word) (nat_le (digits_value 10 word) TICKS)
     at true false test e = absurd (cc)
     at true true test e = let same : digits_value 10 word ≡ n = cc in grind (arith, nat_tests)
 
+-- the ticks of a command of two words are at most the limit
+command_of_two-ticks : (name first second image : List ℕ) (n : ℕ) → command_of_two name first second ≡ Some (Bare image n) → n ≤ TICKS
+unfolding command_of_two
+command_of_two-ticks name first second image n e = at (bytes_eq name (codes "bare")) (bytes_eq name (codes "xmcparser")) (is_file first) (is_file first && is_file second) (ticks_of second) refl e
+  where
+    at : (bare parse right files : Bool) (ticks : Option ℕ) → ticks_of second ≡ ticks → (if bare then bare_of right first ticks else if parse then parse_of files first second else None) ≡ Some (Bare image n) → n ≤ TICKS
+    at true parse true files None is e = absurd (cc)
+    at true parse true files (Some m) is e = let same : m ≡ n = cc in ticks_of-le second n (is ∙ ap Some same)
+    at true parse false files ticks is e = absurd (cc)
+    at false true right true ticks is e = absurd (cc)
+    at false true right false ticks is e = absurd (cc)
+    at false false right files ticks is e = absurd (cc)
+
 -- the ticks of a command are at most the limit
 pub command_of-ticks : (words : List (List ℕ)) (image : List ℕ) (n : ℕ) → command_of words ≡ Some (Bare image n) → n ≤ TICKS
 unfolding command_of
 command_of-ticks [] image n e = absurd (cc)
 command_of-ticks (name ∷ []) image n e = absurd (cc)
-command_of-ticks (name ∷ file ∷ []) image n e = absurd (cc)
-command_of-ticks (name ∷ file ∷ word ∷ []) image n e = at _ (ticks_of word) refl e
-  where
-    at : (right : Bool) (ticks : Option ℕ) → ticks_of word ≡ ticks → bare_of right file ticks ≡ Some (Bare image n) → n ≤ TICKS
-    at false ticks is e = absurd (cc)
-    at true None is e = absurd (cc)
-    at true (Some m) is e = let same : m ≡ n = cc in ticks_of-le word n (is ∙ ap Some same)
-command_of-ticks (name ∷ file ∷ word ∷ more ∷ rest) image n e = absurd (cc)
+command_of-ticks (name ∷ first ∷ []) image n e = absurd (cc)
+command_of-ticks (name ∷ first ∷ second ∷ []) image n e = command_of_two-ticks name first second image n e
+command_of-ticks (name ∷ first ∷ second ∷ more ∷ rest) image n e = absurd (cc)
 
 -- the ticks of the program's command are at most the limit
 pub has_ticks : (command : code.Command) (words : List (List ℕ)) → seen (Some command) ≡ command_of words → HasTicks command
 has_ticks (variant.Bare image ticks) words e = command_of-ticks words image.now ticks (sym e)
+has_ticks (variant.Parse description output) words e = tt

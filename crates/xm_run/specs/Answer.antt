@@ -1,45 +1,21 @@
 -- What the program answers to words and files in a world without faults.
-use Rattle.std.specs.Prelude.{ℕ, ◌==◌, if◌then◌else◌, nat_lt, ◌||◌, List, [], length, codes, Option, Some, None}
-use Rattle.std.specs.FinMap.{get}
-use Rattle.xm_base.specs.Options.{on}
-use Rattle.xm_base.specs.declared.limits.TheConstants.{FILE_BYTES, IMAGE_BYTES}
+use Rattle.std.specs.Prelude.{ℕ, List, [], ◌∷◌, Option, Some, None, Result, Ok, Err}
+use Rattle.std.specs.FinMap.{get, insert}
 use Rattle.xm_outside.specs.Files.{Files}
-use Rattle.xm_report.specs.Report.{texts}
-use Rattle.xm_machine.specs.State.{booted}
-use Rattle.xm_machine.specs.Step.{run_of, report_of}
-use Rattle.xm_machine.specs.System.{System, bare_system}
-use Rattle.xm_words.specs.Words.{Command, Bare, command_of}
-use Rattle.xm_run.specs.Ending.{Ending, Finished, Misused, Unread, Denied, complaint, length_text, status_of, unbuilt_text}
+use Rattle.xm_words.specs.Words.{Command, command_of}
+use Rattle.xm_run.specs.Ending.{Ending, Finished, Misused, Unread, Denied, complaint, status_of}
+use Rattle.xm_run.specs.Outcome.{Denial, Output, Outcome, inputs_of, outcome_of}
 use Rattle.xm_run.specs.declared.status.Status.{Status}
 
--- what an image comes to: the text of its refusal, if it has one, and what goes to the report
-pub record Outcome : Type 0 where
-  pub refusal : Option (List ℕ)
-  pub out : List ℕ
+-- how a command ends that met no fault
+abbrev pub ending_by : Option Denial → Ending
+ending_by None = Finished
+ending_by (Some denial) = Denied denial.file denial.text
 
--- the refusal of a run that is stuck
-abbrev pub refusal_of : Option (ℕ × ℕ) → Option (List ℕ)
-refusal_of None = None
-refusal_of (Some place) = Some (unbuilt_text place.0 place.1)
-
--- what a run of a booted system comes to
-unfoldable pub ran : ℕ → System → Outcome
-ran ticks system =
-    let run = run_of (booted system) ticks in
-    record { refusal = refusal_of run.stuck; out = texts (report_of system ticks run) }
-
--- what the bytes of a file come to as a raw image, run for so many ticks
-unfoldable pub outcome_of : ℕ → List ℕ → Outcome
-outcome_of ticks bytes =
-    if nat_lt FILE_BYTES (length bytes) then record { refusal = Some (codes "too-long"); out = [] }
-    else if (length bytes == 0) || nat_lt IMAGE_BYTES (length bytes)
-    then record { refusal = Some (length_text (length bytes)); out = [] }
-    else ran ticks (bare_system bytes)
-
--- how a call ends that read a file of this name and met no fault
-abbrev pub ending_by : List ℕ → Option (List ℕ) → Ending
-ending_by file None = Finished
-ending_by file (Some text) = Denied file text
+-- the files after a command has written its own
+abbrev pub saved : Option Output → Files → Files
+saved None files = files
+saved (Some output) files = insert files output.file output.bytes
 
 -- an answer: the status, what goes to the report and to the error output, and the files as they stand afterwards
 pub record Answer : Type 0 where
@@ -48,19 +24,34 @@ pub record Answer : Type 0 where
   pub err : List ℕ
   pub files : Files
 
--- the answer of an ending, with what went to the report; no command writes a file
+-- the answer of an ending, with what went to the report, and the files
 abbrev pub answer_of : Ending → List ℕ → Files → Answer
 answer_of ending out files = record { status = status_of ending; out = out; err = complaint ending; files = files }
 
--- the answer to a file of this name, where it is there
-abbrev pub answer_to_file : List ℕ → Option Outcome → Files → Answer
-answer_to_file file None files = answer_of (Unread file) [] files
-answer_to_file file (Some outcome) files = answer_of (ending_by file outcome.refusal) outcome.out files
+-- a file's content before those of others, or the first file that is not there
+abbrev pub read_before : List ℕ → Option (List ℕ) → Result (List (List ℕ)) (List ℕ) → Result (List (List ℕ)) (List ℕ)
+read_before file None rest = Err file
+read_before file (Some bytes) (Ok contents) = Ok (bytes ∷ contents)
+read_before file (Some bytes) (Err absent) = Err absent
+
+-- the contents of files, or the first of them that is not there
+abbrev pub read_all : Files → List (List ℕ) → Result (List (List ℕ)) (List ℕ)
+read_all files [] = Ok []
+read_all files (file ∷ others) = read_before file (get files file) (read_all files others)
+
+-- the answer of a command that comes to this
+abbrev pub answer_by : Outcome → Files → Answer
+answer_by outcome files = answer_of (ending_by outcome.denial) outcome.report (saved outcome.output files)
+
+-- the answer to a command, by what is read
+abbrev pub answer_to_read : Command → Result (List (List ℕ)) (List ℕ) → Files → Answer
+answer_to_read command (Ok contents) files = answer_by (outcome_of command contents) files
+answer_to_read command (Err absent) files = answer_of (Unread absent) [] files
 
 -- the answer to a command
 abbrev pub answer_to : Option Command → Files → Answer
 answer_to None files = answer_of Misused [] files
-answer_to (Some (Bare image ticks)) files = answer_to_file image (on (outcome_of ticks) (get files image)) files
+answer_to (Some command) files = answer_to_read command (read_all files (inputs_of command)) files
 
 -- the answer to words, in a world of these files and without faults
 unfoldable pub answer : List (List ℕ) → Files → Answer

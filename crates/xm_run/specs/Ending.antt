@@ -12,6 +12,7 @@ pub data Ending : Type 0 where
   Unread : (file : List ℕ) → Ending
   Denied : (file text : List ℕ) → Ending
   Unwritten : Ending
+  Unsaved : (file : List ℕ) → Ending
   Starved : Ending
 
 -- the status of an ending
@@ -21,6 +22,7 @@ status_of Misused = Usage
 status_of (Unread file) = ReadFault
 status_of (Denied file text) = Refused
 status_of Unwritten = WriteFault
+status_of (Unsaved file) = WriteFault
 status_of Starved = NoMemory
 
 -- what stands behind the file's name in its line
@@ -34,6 +36,7 @@ complaint Misused = codes "xm_run: usage\n"
 complaint (Unread file) = codes "xm_run: " ++ file ++ behind_file (codes "cannot read")
 complaint (Denied file text) = codes "xm_run: " ++ file ++ behind_file text
 complaint Unwritten = codes "xm_run: report: cannot write\n"
+complaint (Unsaved file) = codes "xm_run: " ++ file ++ behind_file (codes "cannot write")
 complaint Starved = codes "xm_run: no memory\n"
 
 -- the fault text of an image whose length is refused

@@ -1,5 +1,8 @@
 pub mod Answer
 pub mod Ending
+pub mod Makes
+pub mod Outcome
+pub mod Parsing
 pub mod Status
 pub mod Told
 pub mod Top

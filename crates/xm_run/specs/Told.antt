@@ -1,11 +1,14 @@
 -- What the program's endings say.
-use Rattle.std.specs.Prelude.{ℕ, ◌≤◌, List, codes}
-use Rattle.xm_base.specs.declared.limits.TheConstants.{TICKS}
+use Rattle.std.specs.Prelude.{◌≡◌, ℕ, ◌≤◌, ⊤, List, codes, Vec, Result, Ok, Err}
+use Rattle.std.specs.String.{string_bytes}
+use Rattle.xm_base.specs.declared.limits.TheConstants.{FILE_BYTES, TICKS}
+use Rattle.xm_outside.specs.Files.{ReadsFile}
 use Rattle.xm_words.specs.declared.commands.Command.{Command}
 use Rattle.xm_words.specs.declared.commands.Command.TheVariants as words
-use Rattle.xm_run.specs.Ending.{Ending, Finished, Misused, Unread, Denied, Unwritten, Starved, length_text, unbuilt_text}
+use Rattle.xm_run.specs.Ending.{Ending, Finished, Misused, Unread, Denied, Unwritten, Unsaved, Starved, length_text, unbuilt_text}
+use Rattle.xm_run.specs.Work.{Outside, IsNotRead, called}
 use Rattle.xm_run.specs.declared.ending.Refusal.{Refusal}
-use Rattle.xm_run.specs.declared.ending.Refusal.TheVariants.{TooLong, Length, NotBuilt}
+use Rattle.xm_run.specs.declared.ending.Refusal.TheVariants.{TooLong, Length, NotBuilt, Told}
 use Rattle.xm_run.specs.declared.ending.Ending as code
 use Rattle.xm_run.specs.declared.ending.Ending.TheVariants as variant
 
@@ -14,6 +17,7 @@ abbrev pub refusal_text : Refusal → List ℕ
 refusal_text TooLong = codes "too-long"
 refusal_text (Length found) = length_text found
 refusal_text (NotBuilt part pc) = unbuilt_text part pc
+refusal_text (Told text) = string_bytes text
 
 -- what an ending of the program says
 abbrev pub ending_of : code.Ending → Ending
@@ -22,8 +26,15 @@ ending_of variant.Misused = Misused
 ending_of (variant.Unread file) = Unread file.now
 ending_of (variant.Denied file why) = Denied file.now (refusal_text why)
 ending_of variant.Unwritten = Unwritten
+ending_of (variant.Unsaved file) = Unsaved file.now
 ending_of variant.Starved = Starved
 
 -- the ticks of a command are at most the limit
 abbrev pub HasTicks : Command → Type 0
 HasTicks (words.Bare image ticks) = ticks ≤ TICKS
+HasTicks (words.Parse description output) = ⊤
+
+-- a file was read, or the call ends without it
+abbrev pub IsRead : {A : Type 0} → Result (Vec ℕ A) code.Ending → List ℕ → Outside → Outside → Type 0
+IsRead (Ok bytes) file before after = ReadsFile before.files file FILE_BYTES bytes.items × (after ≡ called before)
+IsRead (Err ending) file before after = IsNotRead (ending_of ending) file before after

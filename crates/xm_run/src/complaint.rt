@@ -17,28 +17,67 @@ pub(crate) fn complain<E: Sink>(err: &mut E, ending: &Ending<'_>) -> Result<(), 
     ensures cause { HasCause result (E.faults err.old) (E.faults err.new) }
     ensures silent { ending_of ending.now ≡ Finished → err.new ≡ err.old }
 {
-    match *ending {
+    match ending {
         Ending::Finished => Ok(()),
         Ending::Misused => write_all(err, b"xm_run: usage\n"),
         Ending::Unread { file } => name_file(err, file, b": cannot read\n"),
         Ending::Denied { file, why } => deny(err, file, why),
         Ending::Unwritten => write_all(err, b"xm_run: report: cannot write\n"),
+        Ending::Unsaved { file } => name_file(err, file, b": cannot write\n"),
         Ending::Starved => write_all(err, b"xm_run: no memory\n"),
     }
 }
 
 // Writes the line of a file that is refused.
-fn deny<E: Sink>(err: &mut E, file: &str, why: Refusal) -> Result<(), Failed>
-    ensures line { Writes result (E.got err.old) (codes "xm_run: " ++ file.now ++ behind_file (refusal_text why)) (E.got err.new) }
+fn deny<E: Sink>(err: &mut E, file: &str, why: &Refusal) -> Result<(), Failed>
+    ensures line { Writes result (E.got err.old) (codes "xm_run: " ++ file.now ++ behind_file (refusal_text why.now)) (E.got err.new) }
     ensures cause { HasCause result (E.faults err.old) (E.faults err.new) }
 {
-    let mut pen = Pen::new();
     match why {
-        Refusal::TooLong => pen.text(b": too-long\n"),
-        Refusal::Length { found } => length_line(&mut pen, found),
-        Refusal::NotBuilt { part, pc } => unbuilt_line(&mut pen, part, pc),
+        Refusal::TooLong => name_file(err, file, b": too-long\n"),
+        Refusal::Length { found } => {
+            let mut pen = Pen::new();
+            length_line(&mut pen, *found);
+            name_file(err, file, pen.bytes())
+        }
+        Refusal::NotBuilt { part, pc } => {
+            let mut pen = Pen::new();
+            unbuilt_line(&mut pen, *part, *pc);
+            name_file(err, file, pen.bytes())
+        }
+        Refusal::Told { text } => tell(err, file, text),
     }
-    name_file(err, file, pen.bytes())
+}
+
+// Writes the line of a file of which a text says why it is refused.
+fn tell<E: Sink>(err: &mut E, file: &str, text: &str) -> Result<(), Failed>
+    ensures line { Writes result (E.got err.old) (codes "xm_run: " ++ file.now ++ behind_file text.now) (E.got err.new) }
+    ensures cause { HasCause result (E.faults err.old) (E.faults err.new) }
+{
+    tell_line(err, b"xm_run: ", file.as_bytes(), text.as_bytes())
+}
+
+// Writes the program's name, the file's and the text.
+#[tactic(auto, using(xm_outside::specs::Growth::writes_then))]
+fn tell_line<E: Sink>(
+    err: &mut E,
+    program: &[u8],
+    file: &[u8],
+    text: &[u8],
+) -> Result<(), Failed>
+    ensures line { Writes result (E.got err.old) (program.now ++ file.now ++ behind_file text.now) (E.got err.new) }
+    ensures cause { HasCause result (E.faults err.old) (E.faults err.new) }
+{
+    write_two(err, program, file)?;
+    tell_behind(err, text)
+}
+
+// Writes what stands behind the file's name.
+fn tell_behind<E: Sink>(err: &mut E, text: &[u8]) -> Result<(), Failed>
+    ensures line { Writes result (E.got err.old) (behind_file text.now) (E.got err.new) }
+    ensures cause { HasCause result (E.faults err.old) (E.faults err.new) }
+{
+    write_three(err, b": ", text, b"\n")
 }
 
 // Writes what is said of an image's length.

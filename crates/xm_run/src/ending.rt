@@ -7,7 +7,7 @@ ghost use Rattle.xm_run.specs.Told.{ending_of};
 use crate::status::Status;
 
 /// Why a file that was read is refused.
-#[derive(Clone, Copy, Debug, PartialEq, Eq)]
+#[derive(Debug, Drop)]
 pub(crate) enum Refusal {
     /// It has more bytes than a file may have.
     TooLong,
@@ -15,10 +15,12 @@ pub(crate) enum Refusal {
     Length { found: usize },
     /// A partition came to an instruction that isn't built.
     NotBuilt { part: u8, pc: u32 },
+    /// What it should be it is not, as this text says.
+    Told { text: String },
 }
 
 /// How a call ends.
-#[derive(Clone, Copy, Debug, PartialEq, Eq)]
+#[derive(Debug, Drop)]
 pub(crate) enum Ending<'a> {
     /// The command was carried out.
     Finished,
@@ -30,6 +32,8 @@ pub(crate) enum Ending<'a> {
     Denied { file: &'a str, why: Refusal },
     /// The report was not written whole.
     Unwritten,
+    /// The file was not written.
+    Unsaved { file: &'a str },
     /// There was no memory.
     Starved,
 }
@@ -43,7 +47,7 @@ pub(crate) fn status(ending: &Ending<'_>) -> Status
         Ending::Misused => Status::Usage,
         Ending::Unread { .. } => Status::ReadFault,
         Ending::Denied { .. } => Status::Refused,
-        Ending::Unwritten => Status::WriteFault,
+        Ending::Unwritten | Ending::Unsaved { .. } => Status::WriteFault,
         Ending::Starved => Status::NoMemory,
     }
 }

@@ -5,11 +5,16 @@ ghost use Rattle.std.specs.Prelude.{◌≡◌};
 ghost use Rattle.xm_run.specs.Top.{IsQuiet};
 
 mod complaint;
+mod delivery;
 mod ending;
+mod parsing;
+mod reading;
+mod running;
 mod status;
 #[cfg(test)]
 mod tests;
 mod top;
+mod unmade;
 mod work;
 
 use crate::complaint::complain;

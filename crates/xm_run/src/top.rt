@@ -1,7 +1,7 @@
 //! The top call: from words and files to a report and a status.
 
 ghost use Rattle.std.specs.Prelude.{◌≡◌, ◌≢◌, ◌↔◌, None};
-ghost use Rattle.xm_run.specs.Top.{Answers, HasCauses, IsExplained, IsQuiet};
+ghost use Rattle.xm_run.specs.Top.{Answers, HasCauses, IsBarren, IsExplained, IsQuiet, OtherFilesStay};
 ghost use Rattle.xm_run.specs.Work.{outside};
 ghost use Rattle.xm_words.specs.Words.{command_of};
 
@@ -14,8 +14,8 @@ use xm_machine::Board;
 use xm_outside::{Sink, Store};
 use xm_words::Words;
 
-/// Does what the words say: the named file is read, the report goes to `out`, and each status but
-/// Done is told by one line on `err`.
+/// Does what the words say: the named files are read, what is made of them is written, the report goes to
+/// `out`, and each status but Done is told by one line on `err`.
 pub fn xm_main<S: Store, O: Sink, E: Sink>(
     alloc: Global,
     words: &Words,
@@ -44,8 +44,9 @@ pub fn xm_main<S: Store, O: Sink, E: Sink>(
     // What stands afterwards.
     ensures silent { result ≡ Status.Done → err.new ≡ err.old }
     ensures quiet { IsQuiet result → O.got out.new ≡ O.got out.old }
-    ensures files { S.files files.new ≡ S.files files.old }
-    ensures writes { S.write_faults files.new ≡ S.write_faults files.old }
+    ensures files { OtherFilesStay (command_of words.now) (S.files files.old) (S.files files.new) }
+    ensures barren { IsBarren result → S.files files.new ≡ S.files files.old }
+    ensures writes { result ≢ Status.WriteFault → S.write_faults files.new ≡ S.write_faults files.old }
 {
     let ending = work(alloc, words, files, out, board);
     // A fault of `err` changes no status.

@@ -5,9 +5,10 @@ use Rattle.std.specs.Str.{all_ascii_digits, bytes_eq}
 use Rattle.std.specs.Str.Parse.{digits_value}
 use Rattle.xm_base.specs.declared.limits.TheConstants.{TICKS}
 
--- a command: the file of a raw image, and for how many ticks it runs
+-- a command: a raw image runs for so many ticks; the binary configuration of a system description is made
 pub data Command : Type 0 where
   Bare : (image : List ℕ) (ticks : ℕ) → Command
+  Parse : (description output : List ℕ) → Command
 
 -- a decimal number: digits without a sign, and without a leading zero unless it is `0`
 abbrev pub is_number : List ℕ → Bool
@@ -32,10 +33,22 @@ bare_of true image (Some ticks) = Some (Bare image ticks)
 bare_of true image None = None
 bare_of false image ticks = None
 
--- the command that words spell: `bare FILE TICKS`
+-- a configuration to be made where its words are right
+abbrev pub parse_of : Bool → List ℕ → List ℕ → Option Command
+parse_of true description output = Some (Parse description output)
+parse_of false description output = None
+
+-- the command of a name and two words: `bare FILE TICKS` or `xmcparser FILE FILE`
+unfoldable pub command_of_two : List ℕ → List ℕ → List ℕ → Option Command
+command_of_two name first second =
+    if bytes_eq name (codes "bare") then bare_of (is_file first) first (ticks_of second)
+    else if bytes_eq name (codes "xmcparser") then parse_of (is_file first && is_file second) first second
+    else None
+
+-- the command that words spell
 unfoldable pub command_of : List (List ℕ) → Option Command
 command_of [] = None
 command_of (name ∷ []) = None
-command_of (name ∷ image ∷ []) = None
-command_of (name ∷ image ∷ ticks ∷ []) = bare_of (bytes_eq name (codes "bare") && is_file image) image (ticks_of ticks)
-command_of (name ∷ image ∷ ticks ∷ more ∷ rest) = None
+command_of (name ∷ first ∷ []) = None
+command_of (name ∷ first ∷ second ∷ []) = command_of_two name first second
+command_of (name ∷ first ∷ second ∷ more ∷ rest) = None

@@ -5,4 +5,9 @@
 pub enum Command<'a> {
     /// Run the raw image in this file for so many ticks.
     Bare { image: &'a str, ticks: u64 },
+    /// Make the binary configuration of the system description in this file.
+    Parse {
+        description: &'a str,
+        output: &'a str,
+    },
 }

@@ -1,9 +1,10 @@
 //! The grammar in the words of its users.
 
-ghost use Rattle.xm_words.specs.Grammar.{BareIsSpelled, TicksAreDecimal};
+ghost use Rattle.xm_words.specs.Grammar.{BareIsSpelled, ParseIsSpelled, TicksAreDecimal};
 
 /// What is to be typed for a number of ticks, and for each command.
 pub fn grammar()
     ensures ticks { TicksAreDecimal }
     ensures bare { BareIsSpelled }
+    ensures parse { ParseIsSpelled }
 {}

@@ -1,9 +1,8 @@
 //! What words spell.
 
-ghost use Rattle.std.specs.Prelude.{◌≡◌, ◌&&◌, ◌↔◌, IsTrue, codes};
-ghost use Rattle.std.specs.Str.{bytes_eq};
+ghost use Rattle.std.specs.Prelude.{◌≡◌, ◌&&◌, ◌↔◌, IsTrue};
 ghost use Rattle.xm_words.specs.Seen.{seen};
-ghost use Rattle.xm_words.specs.Words.{IsPlain, bare_of, command_of, is_file, ticks_of};
+ghost use Rattle.xm_words.specs.Words.{IsPlain, bare_of, command_of, command_of_two, is_file, parse_of, ticks_of};
 
 use crate::commands::Command;
 use crate::words::Words;
@@ -15,20 +14,48 @@ pub fn command(words: &Words) -> Option<Command<'_>>
     ensures { seen result ≡ command_of words.now }
 {
     match words.texts() {
-        [name, image, ticks] => bare(name.as_str(), image.as_str(), ticks.as_str()),
+        [name, first, second] => command_of_two(name.as_str(), first.as_str(), second.as_str()),
         _ => None,
     }
 }
 
-/// The run of an image that three words spell.
-fn bare<'a>(name: &str, image: &'a str, count: &str) -> Option<Command<'a>>
-    ensures { seen result ≡ bare_of (bytes_eq name.now (codes "bare") && is_file image.now) image.now (ticks_of count.now) }
+/// The command of a name and two words.
+#[tactic(auto, unfolding(crate::specs::Words::command_of_two))]
+fn command_of_two<'a>(name: &str, first: &'a str, second: &'a str) -> Option<Command<'a>>
+    ensures { seen result ≡ command_of_two name.now first.now second.now }
 {
-    if name != "bare" || !is_file(image) {
+    if name == "bare" {
+        bare(first, second)
+    } else if name == "xmcparser" {
+        parse(first, second)
+    } else {
+        None
+    }
+}
+
+/// The run of an image that two words ask for.
+fn bare<'a>(image: &'a str, count: &str) -> Option<Command<'a>>
+    ensures { seen result ≡ bare_of (is_file image.now) image.now (ticks_of count.now) }
+{
+    if !is_file(image) {
         return None;
     }
     let ticks = ticks(count)?;
     Some(Command::Bare { image, ticks })
+}
+
+/// The configuration that two words ask for.
+fn parse<'a>(description: &'a str, output: &'a str) -> Option<Command<'a>>
+    ensures { seen result ≡ parse_of (is_file description.now && is_file output.now) description.now output.now }
+{
+    if is_file(description) && is_file(output) {
+        Some(Command::Parse {
+            description,
+            output,
+        })
+    } else {
+        None
+    }
 }
 
 /// Whether the word names a file.

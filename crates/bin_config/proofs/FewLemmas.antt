@@ -1,0 +1,39 @@
+-- What a configuration that meets the rules gives to its writer.
+use Rattle.std.proofs.Common.{◌≡◌, ◌≤◌, List, length, get_or, arith}
+use Rattle.std.specs.Prelude.{All}
+use Rattle.xm_conf.specs.Configuration.{Conf}
+use Rattle.xm_conf.specs.Description.{described}
+use Rattle.xm_conf.specs.Fits.{Fits, HasCounts, HasFewDests, IsKind}
+use Rattle.xm_conf.specs.declared.channel.ChanKind.{ChanKind}
+use Rattle.xm_conf.specs.declared.channel.ChanKind.TheVariants as chan_kind
+use Rattle.xm_conf.specs.declared.channel.End.{End}
+
+-- plans have few slots
+pub few_slots : (conf : Conf) → HasCounts conf → All (λ plan. length plan.slots ≤ 64) conf.plans
+few_slots conf h n d below = (h.slots n d below).few
+
+-- partitions have few areas
+pub few_areas : (conf : Conf) → HasCounts conf → All (λ part. length part.areas ≤ 8) conf.parts
+few_areas conf h n d below = (h.areas n d below).few
+
+-- what the counts tell
+pub ruleset few = (few_slots, few_areas)
+
+-- a channel of its kind has few destinations
+pub few_of_kind : (of : ChanKind) (dests : List End) → HasFewDests of dests → IsKind of dests → length dests ≤ 16
+few_of_kind (chan_kind.Sampling refresh) dests few is = few
+few_of_kind (chan_kind.Queuing most) dests few is = let one : length dests ≡ 1 = is.0 in omega arith
+
+-- channels have few destinations
+pub fitting_dests : (conf : Conf) → Fits (described conf) → All (λ chan. length chan.dests ≤ 16) conf.chans
+unfolding described
+fitting_dests conf fits n d below =
+    few_of_kind (get_or conf.chans n d).kind (get_or conf.chans n d).dests (fits.counts.dests n d below) (fits.messages n d below).kind
+
+-- the counts hold
+pub fitting_counts : (conf : Conf) → Fits (described conf) → HasCounts conf
+unfolding described
+fitting_counts conf fits = fits.counts
+
+-- what the rules tell
+pub ruleset fitting = (fitting_counts, fitting_dests)

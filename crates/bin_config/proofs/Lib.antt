@@ -1,0 +1,4 @@
+pub mod ElementsLemmas
+pub mod FewLemmas
+pub mod PutsLemmas
+pub mod ReadLemmas

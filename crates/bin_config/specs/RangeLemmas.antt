@@ -1,0 +1,87 @@
+-- What has its fields' ranges and meets the rules can be spelled.
+use Rattle.std.proofs.Common.{ℕ, ◌<◌, ◌≤◌, List, length, get_or, Option, Some, None, subst, arith}
+use Rattle.std.specs.Prelude.{IfSome}
+use Rattle.std.proofs.lemmas.List.{length-map, get_or-map}
+use Rattle.xm_conf.specs.Configuration.{Plan, Part, Conf}
+use Rattle.xm_conf.specs.Description.{described, monitor_of}
+use Rattle.xm_conf.specs.Fits.{Fits, HasSome, HasFewDests, HasAnswers, IsKind, IsNeed}
+use Rattle.xm_conf.specs.declared.part.Need.{Need}
+use Rattle.xm_conf.specs.declared.channel.ChanKind.{ChanKind}
+use Rattle.xm_conf.specs.declared.channel.ChanKind.TheVariants as chan_kind
+use Rattle.xm_conf.specs.declared.channel.End.{End}
+use Rattle.bin_config.specs.Spelled.{IsSpelledPlan, IsSpelledNeed, IsSpelledPart, IsSpelled, HasPlanRanges, HasNeedRanges, HasRanges}
+
+-- a plan with few slots
+plan_spelled : (plan : Plan) → HasPlanRanges plan → HasSome plan.slots 64 → IsSpelledPlan plan
+plan_spelled plan h slots = record { frame = h.frame; slots = record { few = omega (arith, slots.few); each = h.slots } }
+
+-- the UART of a console is one of few
+console_spelled : (console : Option ℕ) (uarts : ℕ) → uarts ≤ 8 → IfSome console (λ uart. uart < uarts) → IfSome console (λ uart. uart < 255)
+console_spelled None uarts few below = tt
+console_spelled (Some uart) uarts few below = omega (arith, few, below)
+
+-- a requirement that meets its rule has no zero
+need_spelled : (need : Option Need) → IfSome need HasNeedRanges → IfSome need IsNeed → IfSome need IsSpelledNeed
+need_spelled None h is = tt
+need_spelled (Some need) h is = record {
+  duration = h.duration;
+  period = h.period;
+  lasts = λ none. absurd (omega (arith, none, is.some));
+  returns = λ none. absurd (omega (arith, none, is.some, is.inside));
+}
+
+-- the log flags of a partition
+logged_spelled : (part : Part) (plans : ℕ) → HasAnswers plans (monitor_of part) → part.hm.logged < 4096
+unfolding monitor_of
+logged_spelled part plans is = is.logged
+
+-- a channel of its kind has few destinations
+few_dests : (of : ChanKind) (dests : List End) → HasFewDests of dests → IsKind of dests → length dests < 256
+few_dests (chan_kind.Sampling refresh) dests few is = omega (arith, few)
+few_dests (chan_kind.Queuing most) dests few is = omega (arith, is.0)
+
+-- what has its fields' ranges and meets the rules can be spelled
+pub spelled_if_fits : (conf : Conf) → HasRanges conf → Fits (described conf) → IsSpelled conf
+unfolding described
+spelled_if_fits conf h fits = record {
+  name = h.name;
+  regions = record { few = omega (arith, fits.counts.regions.few); each = h.regions };
+  hv_size = h.hv_size;
+  uarts = record { few = omega (arith, fits.counts.uarts); each = h.uarts };
+  plans = record {
+    few = omega (arith, fits.counts.plans.few);
+    each = λ n d below. plan_spelled (get_or conf.plans n d) (h.plans n d below) (fits.counts.slots n d below);
+  };
+  parts = record { few = omega (arith, fits.counts.parts.few); each = λ n d below. part n d below };
+  chans = record {
+    few = omega (arith, fits.counts.chans);
+    each = λ n d below.
+        let is = h.chans n d below in
+        let c = get_or conf.chans n d in
+        record {
+          kind = is.kind;
+          length = is.length;
+          source = is.source;
+          dests = record { few = few_dests c.kind c.dests (fits.counts.dests n d below) (fits.messages n d below).kind; each = is.dests };
+        };
+  };
+}
+  where
+    answers : (n : ℕ) (d : Part) → n < length conf.parts → HasAnswers (length conf.plans) (monitor_of (get_or conf.parts n d))
+    answers n d below =
+        subst (HasAnswers (length conf.plans)) (get_or-map monitor_of conf.parts n d (monitor_of d) below)
+        (fits.answers n (monitor_of d) (omega (arith, below, length-map conf.parts monitor_of)))
+
+    part : (n : ℕ) (d : Part) → n < length conf.parts → IsSpelledPart (get_or conf.parts n d)
+    part n d below =
+        let p = get_or conf.parts n d in
+        let is = h.parts n d below in
+        record {
+          name = is.name;
+          console = console_spelled p.console (length conf.uarts) fits.counts.uarts (fits.consoles n d below);
+          need = need_spelled p.need is.need (fits.needs n d below);
+          trace_mask = is.trace_mask;
+          hm = record { actions = is.actions; logged = logged_spelled p (length conf.plans) (answers n d below) };
+          areas = record { few = omega (arith, (fits.counts.areas n d below).few); each = is.areas };
+          ports = record { few = omega (arith, fits.counts.ports n d below); each = is.ports };
+        }

@@ -1,0 +1,135 @@
+-- What can be spelled, and what values of the fields' types are.
+use Rattle.std.specs.Prelude.{◌≡◌, ◌≢◌, ℕ, ◌<◌, ◌^◌, List, length, All, IfSome}
+use Rattle.xm_conf.specs.Configuration.{Plan, Part, Chan, Conf}
+use Rattle.xm_conf.specs.Name.{IsName}
+use Rattle.xm_conf.specs.declared.plan.Slot.{Slot}
+use Rattle.xm_conf.specs.declared.part.Area.{Area}
+use Rattle.xm_conf.specs.declared.part.Need.{Need}
+use Rattle.xm_conf.specs.declared.part.HmTable.{HmTable}
+use Rattle.xm_conf.specs.declared.channel.ChanKind.{ChanKind}
+use Rattle.xm_conf.specs.declared.channel.ChanKind.TheVariants as chan_kind
+use Rattle.xm_conf.specs.declared.channel.End.{End}
+use Rattle.xm_conf.specs.declared.raw.Region.{Region}
+
+-- a number has one byte
+abbrev pub IsByte : ℕ → Type 0
+IsByte n = n < 256
+
+-- a number has two bytes
+abbrev pub IsHalfWord : ℕ → Type 0
+IsHalfWord n = n < 2 ^ 16
+
+-- a number has four bytes
+abbrev pub IsWord : ℕ → Type 0
+IsWord n = n < 2 ^ 32
+
+-- a list has no more elements than a byte can tell, and each is so
+pub record AreFew {X : Type 0} (P : X → Type 0) (xs : List X) : Type 0 where
+  pub few : length xs < 256
+  pub each : All P xs
+
+-- a region
+pub record IsSpelledRegion (region : Region) : Type 0 where
+  pub start : IsWord region.start
+  pub size : IsWord region.size
+
+-- a slot
+pub record IsSpelledSlot (slot : Slot) : Type 0 where
+  pub start : IsWord slot.start
+  pub duration : IsWord slot.duration
+  pub part : IsByte slot.part
+
+-- a plan
+pub record IsSpelledPlan (plan : Plan) : Type 0 where
+  pub frame : IsWord plan.frame
+  pub slots : AreFew IsSpelledSlot plan.slots
+
+-- a requirement: neither number is 0, since two zeros say that there is none
+pub record IsSpelledNeed (need : Need) : Type 0 where
+  pub duration : IsWord need.duration
+  pub period : IsWord need.period
+  pub lasts : need.duration ≢ 0
+  pub returns : need.period ≢ 0
+
+-- a partition's table of health events: an action for each of the twelve, and a flag for each
+pub record IsSpelledMonitor (hm : HmTable) : Type 0 where
+  pub actions : length hm.actions ≡ 12
+  pub logged : hm.logged < 4096
+
+-- an area
+pub record IsSpelledArea (area : Area) : Type 0 where
+  pub start : IsWord area.start
+  pub size : IsWord area.size
+
+-- a partition. A console's UART is not 255, which says that there is none
+pub record IsSpelledPart (part : Part) : Type 0 where
+  pub name : IsName part.name
+  pub console : IfSome part.console (λ uart. uart < 255)
+  pub need : IfSome part.need IsSpelledNeed
+  pub trace_mask : IsWord part.trace_mask
+  pub hm : IsSpelledMonitor part.hm
+  pub areas : AreFew IsSpelledArea part.areas
+  pub ports : AreFew (λ port. IsName port.name) part.ports
+
+-- an end of a channel
+pub record IsSpelledEnd (end : End) : Type 0 where
+  pub part : IsByte end.part
+  pub port : IsByte end.port
+
+-- what a channel's kind has beside it
+abbrev pub IsSpelledKind : ChanKind → Type 0
+IsSpelledKind (chan_kind.Sampling refresh) = IsWord refresh
+IsSpelledKind (chan_kind.Queuing most) = IsByte most
+
+-- a channel
+pub record IsSpelledChan (chan : Chan) : Type 0 where
+  pub kind : IsSpelledKind chan.kind
+  pub length : IsHalfWord chan.length
+  pub source : IsSpelledEnd chan.source
+  pub dests : AreFew IsSpelledEnd chan.dests
+
+-- a configuration
+pub record IsSpelled (conf : Conf) : Type 0 where
+  pub name : IsName conf.name
+  pub regions : AreFew IsSpelledRegion conf.regions
+  pub hv_size : IsWord conf.hv_size
+  pub uarts : AreFew IsName conf.uarts
+  pub plans : AreFew IsSpelledPlan conf.plans
+  pub parts : AreFew IsSpelledPart conf.parts
+  pub chans : AreFew IsSpelledChan conf.chans
+
+-- a plan's numbers are in the ranges of their fields
+pub record HasPlanRanges (plan : Plan) : Type 0 where
+  pub frame : IsWord plan.frame
+  pub slots : All IsSpelledSlot plan.slots
+
+-- a requirement's numbers are
+pub record HasNeedRanges (need : Need) : Type 0 where
+  pub duration : IsWord need.duration
+  pub period : IsWord need.period
+
+-- a partition's numbers are, its names are names, and it has an action for each of the twelve health events
+pub record HasPartRanges (part : Part) : Type 0 where
+  pub name : IsName part.name
+  pub need : IfSome part.need HasNeedRanges
+  pub trace_mask : IsWord part.trace_mask
+  pub actions : length part.hm.actions ≡ 12
+  pub areas : All IsSpelledArea part.areas
+  pub ports : All (λ port. IsName port.name) part.ports
+
+-- a channel's numbers are in the ranges of their fields
+pub record HasChanRanges (chan : Chan) : Type 0 where
+  pub kind : IsSpelledKind chan.kind
+  pub length : IsHalfWord chan.length
+  pub source : IsSpelledEnd chan.source
+  pub dests : All IsSpelledEnd chan.dests
+
+-- all numbers of a configuration are in the ranges of their fields, and its names are names
+pub record HasRanges (conf : Conf) : Type 0 where
+  pub name : IsName conf.name
+  pub regions : All IsSpelledRegion conf.regions
+  pub hv_size : IsWord conf.hv_size
+  pub uarts : All IsName conf.uarts
+  pub plans : All HasPlanRanges conf.plans
+  pub parts : All HasPartRanges conf.parts
+  pub chans : All HasChanRanges conf.chans

@@ -1,0 +1,46 @@
+//! The laws of the binary form.
+
+ghost use Rattle.bin_config.specs.Laws.{
+  CutIsShort,
+  IsPrefixFree,
+  IsShort,
+  MoreIsTrailing,
+  ReadIsSpelled,
+  SpelledIsRead,
+};
+
+use xm_conf::broken_unless_fits;
+
+/// What is read of bytes is what they spell: no two files are read as the same configuration.
+pub fn read_is_spelled()
+    ensures law { ReadIsSpelled }
+{
+    broken_unless_fits();
+}
+
+/// A configuration that meets the rules is read of its spelling.
+pub fn spelled_is_read()
+    ensures law { SpelledIsRead }
+{
+    broken_unless_fits();
+}
+
+/// Nothing is read of a spelling with something behind it.
+pub fn more_is_trailing()
+    ensures law { MoreIsTrailing }
+{}
+
+/// A spelling that is cut behind its length field is short where it ends.
+pub fn cut_is_short()
+    ensures law { CutIsShort }
+{}
+
+/// No spelling is a proper front of another.
+pub fn prefix_free()
+    ensures law { IsPrefixFree }
+{}
+
+/// The length of a spelling is one that it can tell.
+pub fn spelling_is_short()
+    ensures law { IsShort }
+{}

@@ -1,0 +1,717 @@
+//! The fields of a configuration, read one after another.
+
+ghost use Rattle.std.specs.Prelude.{◌≡◌, IfOk, codes, length, slice_get};
+ghost use Rattle.std.specs.Str.{bytes_eq};
+ghost use Rattle.xm_conf.specs.Health.{actions};
+ghost use Rattle.bin_config.specs.Gives.{Gives, GivesFilled, GivesItems, GivesWhole};
+ghost use Rattle.xm_conf.specs.Description.{described};
+ghost use Rattle.xm_conf.specs.Rules.{first_broken};
+ghost use Rattle.bin_config.specs.Reading as reading;
+ghost use Rattle.bin_config.specs.Xmc.{xmc};
+
+use crate::fault::XmcFault;
+use crate::identity::Identity;
+use crate::law::read_is_spelled;
+use std::alloc::Global;
+use xm_base::Cursor;
+use xm_conf::{
+    Action, Area, Chan, ChanKind, Conf, End, HmTable, Kind, Name, Need, Part, Plan, Port, RawConf,
+    Region, Slot, Way, broken_unless_fits,
+};
+
+/// A number of one byte.
+#[tactic(auto, unfolding(crate::specs::Reading::byte_at))]
+fn byte(cursor: &mut Cursor<'_>) -> Result<u8, XmcFault>
+    ensures { Gives result cursor.new (reading.byte_at cursor.old) }
+{
+    Ok(cursor.u8()?)
+}
+
+/// A number of two bytes.
+#[tactic(auto, unfolding(crate::specs::Reading::half_word_at))]
+fn half_word(cursor: &mut Cursor<'_>) -> Result<u16, XmcFault>
+    ensures { Gives result cursor.new (reading.half_word_at cursor.old) }
+{
+    Ok(cursor.u16()?)
+}
+
+/// A number of four bytes.
+#[tactic(auto, unfolding(crate::specs::Reading::word_at))]
+fn word(cursor: &mut Cursor<'_>) -> Result<u32, XmcFault>
+    ensures { Gives result cursor.new (reading.word_at cursor.old) }
+{
+    Ok(cursor.u32()?)
+}
+
+/// A region.
+#[tactic(auto, unfolding(crate::specs::Reading::region_at))]
+fn region(cursor: &mut Cursor<'_>) -> Result<Region, XmcFault>
+    ensures { Gives result cursor.new (reading.region_at cursor.old) }
+{
+    let start = word(cursor)?;
+    let size = word(cursor)?;
+    Ok(Region { start, size })
+}
+
+/// A slot.
+#[tactic(auto, unfolding(crate::specs::Reading::slot_at))]
+fn slot(cursor: &mut Cursor<'_>) -> Result<Slot, XmcFault>
+    ensures { Gives result cursor.new (reading.slot_at cursor.old) }
+{
+    let start = word(cursor)?;
+    let duration = word(cursor)?;
+    let part = byte(cursor)?;
+    Ok(Slot {
+        start,
+        duration,
+        part,
+    })
+}
+
+/// What a byte means that is 0 or 1.
+fn flag_of(byte: u8) -> Option<bool>
+    ensures { result ≡ reading.flag_of byte }
+{
+    if byte == 0 {
+        return Some(false);
+    }
+    if byte == 1 {
+        return Some(true);
+    }
+    None
+}
+
+/// A byte that is 0 or 1.
+#[tactic(auto, unfolding(crate::specs::Reading::flag_at))]
+fn flag(cursor: &mut Cursor<'_>) -> Result<bool, XmcFault>
+    ensures { Gives result cursor.new (reading.flag_at cursor.old) }
+{
+    let at = cursor.at();
+    let byte = byte(cursor)?;
+    match flag_of(byte) {
+        Some(value) => Ok(value),
+        None => Err(XmcFault::Field { at }),
+    }
+}
+
+/// The bytes of a text that begins at a place.
+fn text_behind(at: usize, count: u8, cursor: &mut Cursor<'_>) -> Result<Name, XmcFault>
+    ensures { Gives result cursor.new (reading.text_behind at count cursor.old) }
+{
+    match cursor.take(usize::from(count)) {
+        Ok(bytes) => match Name::new(bytes) {
+            Some(name) => Ok(name),
+            None => Err(XmcFault::Field { at }),
+        },
+        Err(_) => Err(XmcFault::Short { at }),
+    }
+}
+
+/// A text.
+#[tactic(auto, unfolding(crate::specs::Reading::text_at))]
+fn text(cursor: &mut Cursor<'_>) -> Result<Name, XmcFault>
+    ensures { Gives result cursor.new (reading.text_at cursor.old) }
+{
+    let at = cursor.at();
+    let count = byte(cursor)?;
+    text_behind(at, count, cursor)
+}
+
+/// The kind of a port that a byte means.
+fn kind_of(byte: u8) -> Option<Kind>
+    ensures { result ≡ reading.kind_of byte }
+{
+    if byte == 0 {
+        return Some(Kind::Sampling);
+    }
+    if byte == 1 {
+        return Some(Kind::Queuing);
+    }
+    None
+}
+
+/// A port's kind.
+#[tactic(auto, unfolding(crate::specs::Reading::kind_at))]
+fn kind(cursor: &mut Cursor<'_>) -> Result<Kind, XmcFault>
+    ensures { Gives result cursor.new (reading.kind_at cursor.old) }
+{
+    let at = cursor.at();
+    let byte = byte(cursor)?;
+    match kind_of(byte) {
+        Some(value) => Ok(value),
+        None => Err(XmcFault::Field { at }),
+    }
+}
+
+/// The way of a port that a byte means.
+fn way_of(byte: u8) -> Option<Way>
+    ensures { result ≡ reading.way_of byte }
+{
+    if byte == 0 {
+        return Some(Way::Source);
+    }
+    if byte == 1 {
+        return Some(Way::Destination);
+    }
+    None
+}
+
+/// A port's way.
+#[tactic(auto, unfolding(crate::specs::Reading::way_at))]
+fn way(cursor: &mut Cursor<'_>) -> Result<Way, XmcFault>
+    ensures { Gives result cursor.new (reading.way_at cursor.old) }
+{
+    let at = cursor.at();
+    let byte = byte(cursor)?;
+    match way_of(byte) {
+        Some(value) => Ok(value),
+        None => Err(XmcFault::Field { at }),
+    }
+}
+
+/// A port.
+#[tactic(auto, unfolding(crate::specs::Reading::port_at))]
+fn port(cursor: &mut Cursor<'_>) -> Result<Port, XmcFault>
+    ensures { Gives result cursor.new (reading.port_at cursor.old) }
+{
+    let name = text(cursor)?;
+    let kind = kind(cursor)?;
+    let way = way(cursor)?;
+    Ok(Port { name, kind, way })
+}
+
+/// An area.
+#[tactic(auto, unfolding(crate::specs::Reading::area_at))]
+fn area(cursor: &mut Cursor<'_>) -> Result<Area, XmcFault>
+    ensures { Gives result cursor.new (reading.area_at cursor.old) }
+{
+    let start = word(cursor)?;
+    let size = word(cursor)?;
+    let read_only = flag(cursor)?;
+    Ok(Area {
+        start,
+        size,
+        read_only,
+    })
+}
+
+/// An end of a channel.
+#[tactic(auto, unfolding(crate::specs::Reading::end_at))]
+fn end(cursor: &mut Cursor<'_>) -> Result<End, XmcFault>
+    ensures { Gives result cursor.new (reading.end_at cursor.old) }
+{
+    let part = byte(cursor)?;
+    let port = byte(cursor)?;
+    Ok(End { part, port })
+}
+
+/// What a channel's kind has beside it.
+#[tactic(auto, unfolding(crate::specs::Reading::keeps_at))]
+fn keeps(kind: Kind, cursor: &mut Cursor<'_>) -> Result<ChanKind, XmcFault>
+    ensures { Gives result cursor.new (reading.keeps_at kind cursor.old) }
+{
+    match kind {
+        Kind::Sampling => {
+            let refresh = word(cursor)?;
+            Ok(ChanKind::Sampling { refresh })
+        }
+        Kind::Queuing => {
+            let most = byte(cursor)?;
+            Ok(ChanKind::Queuing { most })
+        }
+    }
+}
+
+/// A requirement of a duration and a period: both are 0 or neither.
+fn need_of(duration: u32, period: u32) -> Option<Option<Need>>
+    ensures { result ≡ reading.need_of duration period }
+{
+    if duration == 0 && period == 0 {
+        return Some(None);
+    }
+    if duration == 0 || period == 0 {
+        return None;
+    }
+    Some(Some(Need { duration, period }))
+}
+
+/// A requirement.
+#[tactic(auto, unfolding(crate::specs::Reading::need_at))]
+fn need(cursor: &mut Cursor<'_>) -> Result<Option<Need>, XmcFault>
+    ensures { Gives result cursor.new (reading.need_at cursor.old) }
+{
+    let duration = word(cursor)?;
+    let at = cursor.at();
+    let period = word(cursor)?;
+    match need_of(duration, period) {
+        Some(value) => Ok(value),
+        None => Err(XmcFault::Field { at }),
+    }
+}
+
+/// The flags of the events that are logged.
+fn flags_of(byte: u16) -> Option<u16>
+    ensures { result ≡ reading.flags_of byte }
+{
+    if byte < 4096 {
+        return Some(byte);
+    }
+    None
+}
+
+/// The flags of the events that are logged.
+#[tactic(auto, unfolding(crate::specs::Reading::flags_at))]
+fn flags(cursor: &mut Cursor<'_>) -> Result<u16, XmcFault>
+    ensures { Gives result cursor.new (reading.flags_at cursor.old) }
+{
+    let at = cursor.at();
+    let byte = half_word(cursor)?;
+    match flags_of(byte) {
+        Some(value) => Ok(value),
+        None => Err(XmcFault::Field { at }),
+    }
+}
+
+/// Regions.
+#[tactic(auto, using(crate::proofs::ElementsLemmas::elements_loop))]
+fn each_region(alloc: Global, count: u8, cursor: &mut Cursor<'_>) -> Result<Vec<Region>, XmcFault>
+    ensures { GivesItems result cursor.new (reading.elements_at reading.region_at count cursor.old) }
+{
+    let mut regions = Vec::new(alloc);
+    for _ in 0..count {
+        let region = region(cursor)?;
+        regions.push(region)?;
+    }
+    Ok(regions)
+}
+
+/// Regions.
+fn regions(alloc: Global, cursor: &mut Cursor<'_>) -> Result<Vec<Region>, XmcFault>
+    ensures { GivesItems result cursor.new (reading.counted_at reading.region_at cursor.old) }
+{
+    let count = byte(cursor)?;
+    each_region(alloc, count, cursor)
+}
+
+/// Slots.
+#[tactic(auto, using(crate::proofs::ElementsLemmas::elements_loop))]
+fn each_slot(alloc: Global, count: u8, cursor: &mut Cursor<'_>) -> Result<Vec<Slot>, XmcFault>
+    ensures { GivesItems result cursor.new (reading.elements_at reading.slot_at count cursor.old) }
+{
+    let mut slots = Vec::new(alloc);
+    for _ in 0..count {
+        let slot = slot(cursor)?;
+        slots.push(slot)?;
+    }
+    Ok(slots)
+}
+
+/// Slots.
+fn slots(alloc: Global, cursor: &mut Cursor<'_>) -> Result<Vec<Slot>, XmcFault>
+    ensures { GivesItems result cursor.new (reading.counted_at reading.slot_at cursor.old) }
+{
+    let count = byte(cursor)?;
+    each_slot(alloc, count, cursor)
+}
+
+/// A plan.
+#[tactic(auto, unfolding(crate::specs::Reading::plan_at))]
+fn plan(alloc: Global, cursor: &mut Cursor<'_>) -> Result<Plan, XmcFault>
+    ensures { Gives result cursor.new (reading.plan_at cursor.old) }
+{
+    let frame = word(cursor)?;
+    let slots = slots(alloc, cursor)?;
+    Ok(Plan { frame, slots })
+}
+
+/// Plans.
+#[tactic(auto, using(crate::proofs::ElementsLemmas::elements_loop))]
+fn each_plan(alloc: Global, count: u8, cursor: &mut Cursor<'_>) -> Result<Vec<Plan>, XmcFault>
+    ensures { GivesItems result cursor.new (reading.elements_at reading.plan_at count cursor.old) }
+{
+    let mut plans = Vec::new(alloc);
+    for _ in 0..count {
+        let plan = plan(alloc, cursor)?;
+        plans.push(plan)?;
+    }
+    Ok(plans)
+}
+
+/// Plans.
+fn plans(alloc: Global, cursor: &mut Cursor<'_>) -> Result<Vec<Plan>, XmcFault>
+    ensures { GivesItems result cursor.new (reading.counted_at reading.plan_at cursor.old) }
+{
+    let count = byte(cursor)?;
+    each_plan(alloc, count, cursor)
+}
+
+/// Names.
+#[tactic(auto, using(crate::proofs::ElementsLemmas::elements_loop))]
+fn each_text(alloc: Global, count: u8, cursor: &mut Cursor<'_>) -> Result<Vec<Name>, XmcFault>
+    ensures { GivesItems result cursor.new (reading.elements_at reading.text_at count cursor.old) }
+{
+    let mut texts = Vec::new(alloc);
+    for _ in 0..count {
+        let text = text(cursor)?;
+        texts.push(text)?;
+    }
+    Ok(texts)
+}
+
+/// Names.
+fn texts(alloc: Global, cursor: &mut Cursor<'_>) -> Result<Vec<Name>, XmcFault>
+    ensures { GivesItems result cursor.new (reading.counted_at reading.text_at cursor.old) }
+{
+    let count = byte(cursor)?;
+    each_text(alloc, count, cursor)
+}
+
+/// Areas.
+#[tactic(auto, using(crate::proofs::ElementsLemmas::elements_loop))]
+fn each_area(alloc: Global, count: u8, cursor: &mut Cursor<'_>) -> Result<Vec<Area>, XmcFault>
+    ensures { GivesItems result cursor.new (reading.elements_at reading.area_at count cursor.old) }
+{
+    let mut areas = Vec::new(alloc);
+    for _ in 0..count {
+        let area = area(cursor)?;
+        areas.push(area)?;
+    }
+    Ok(areas)
+}
+
+/// Areas.
+fn areas(alloc: Global, cursor: &mut Cursor<'_>) -> Result<Vec<Area>, XmcFault>
+    ensures { GivesItems result cursor.new (reading.counted_at reading.area_at cursor.old) }
+{
+    let count = byte(cursor)?;
+    each_area(alloc, count, cursor)
+}
+
+/// Ports.
+#[tactic(auto, using(crate::proofs::ElementsLemmas::elements_loop))]
+fn each_port(alloc: Global, count: u8, cursor: &mut Cursor<'_>) -> Result<Vec<Port>, XmcFault>
+    ensures { GivesItems result cursor.new (reading.elements_at reading.port_at count cursor.old) }
+{
+    let mut ports = Vec::new(alloc);
+    for _ in 0..count {
+        let port = port(cursor)?;
+        ports.push(port)?;
+    }
+    Ok(ports)
+}
+
+/// Ports.
+fn ports(alloc: Global, cursor: &mut Cursor<'_>) -> Result<Vec<Port>, XmcFault>
+    ensures { GivesItems result cursor.new (reading.counted_at reading.port_at cursor.old) }
+{
+    let count = byte(cursor)?;
+    each_port(alloc, count, cursor)
+}
+
+/// Ends of a channel.
+#[tactic(auto, using(crate::proofs::ElementsLemmas::elements_loop))]
+fn each_end(alloc: Global, count: u8, cursor: &mut Cursor<'_>) -> Result<Vec<End>, XmcFault>
+    ensures { GivesItems result cursor.new (reading.elements_at reading.end_at count cursor.old) }
+{
+    let mut ends = Vec::new(alloc);
+    for _ in 0..count {
+        let end = end(cursor)?;
+        ends.push(end)?;
+    }
+    Ok(ends)
+}
+
+/// Ends of a channel.
+fn ends(alloc: Global, cursor: &mut Cursor<'_>) -> Result<Vec<End>, XmcFault>
+    ensures { GivesItems result cursor.new (reading.counted_at reading.end_at cursor.old) }
+{
+    let count = byte(cursor)?;
+    each_end(alloc, count, cursor)
+}
+
+/// A channel.
+#[tactic(auto, unfolding(crate::specs::Reading::chan_at))]
+fn chan(alloc: Global, cursor: &mut Cursor<'_>) -> Result<Chan, XmcFault>
+    ensures { Gives result cursor.new (reading.chan_at cursor.old) }
+{
+    let kind = kind(cursor)?;
+    let length = half_word(cursor)?;
+    let kind = keeps(kind, cursor)?;
+    let source = end(cursor)?;
+    let dests = ends(alloc, cursor)?;
+    Ok(Chan {
+        kind,
+        length,
+        source,
+        dests,
+    })
+}
+
+/// Channels.
+#[tactic(auto, using(crate::proofs::ElementsLemmas::elements_loop))]
+fn each_chan(alloc: Global, count: u8, cursor: &mut Cursor<'_>) -> Result<Vec<Chan>, XmcFault>
+    ensures { GivesItems result cursor.new (reading.elements_at reading.chan_at count cursor.old) }
+{
+    let mut chans = Vec::new(alloc);
+    for _ in 0..count {
+        let chan = chan(alloc, cursor)?;
+        chans.push(chan)?;
+    }
+    Ok(chans)
+}
+
+/// Channels.
+fn chans(alloc: Global, cursor: &mut Cursor<'_>) -> Result<Vec<Chan>, XmcFault>
+    ensures { GivesItems result cursor.new (reading.counted_at reading.chan_at cursor.old) }
+{
+    let count = byte(cursor)?;
+    each_chan(alloc, count, cursor)
+}
+
+/// The actions, in the order of their numbers.
+const ACTIONS: [Action; 11] = [
+    Action::Ignore,
+    Action::Shutdown,
+    Action::PartitionColdReset,
+    Action::PartitionWarmReset,
+    Action::Suspend,
+    Action::Halt,
+    Action::Propagate,
+    Action::HypervisorColdReset,
+    Action::HypervisorWarmReset,
+    Action::HypervisorHalt,
+    Action::SwitchToMaintenance,
+];
+
+/// The action of a number.
+fn action_of(number: u8) -> Option<Action>
+    ensures { result ≡ slice_get actions number }
+{
+    ACTIONS.get(usize::from(number)).copied()
+}
+
+/// An action.
+#[tactic(auto, unfolding(crate::specs::Reading::action_at))]
+fn action(cursor: &mut Cursor<'_>) -> Result<Action, XmcFault>
+    ensures { Gives result cursor.new (reading.action_at cursor.old) }
+{
+    let at = cursor.at();
+    let byte = byte(cursor)?;
+    match action_of(byte) {
+        Some(value) => Ok(value),
+        None => Err(XmcFault::Field { at }),
+    }
+}
+
+/// So many actions as there are places for.
+#[tactic(auto, using(crate::proofs::ElementsLemmas::elements_fill))]
+fn fill(places: &mut [Action], cursor: &mut Cursor<'_>) -> Result<(), XmcFault>
+    ensures { GivesFilled result places.new cursor.new (reading.elements_at reading.action_at (length places.old) cursor.old) }
+{
+    for n in 0..places.len() {
+        places[n] = action(cursor)?;
+    }
+    Ok(())
+}
+
+/// A partition's table of health events.
+#[tactic(auto, unfolding(crate::specs::Reading::monitor_at, crate::specs::Reading::event_count))]
+fn monitor(cursor: &mut Cursor<'_>) -> Result<HmTable, XmcFault>
+    ensures { Gives result cursor.new (reading.monitor_at cursor.old) }
+{
+    let mut actions = [Action::Ignore; 12];
+    fill(&mut actions, cursor)?;
+    let logged = flags(cursor)?;
+    Ok(HmTable { actions, logged })
+}
+
+/// The UART of a console.
+fn console_of(byte: u8) -> Option<u8>
+    ensures { result ≡ reading.console_of byte }
+{
+    if byte == 255 {
+        return None;
+    }
+    Some(byte)
+}
+
+/// Who a partition is, and what time it requires.
+#[tactic(auto, unfolding(crate::specs::Reading::identity_at))]
+fn identity(cursor: &mut Cursor<'_>) -> Result<Identity, XmcFault>
+    ensures { Gives result cursor.new (reading.identity_at cursor.old) }
+{
+    let name = text(cursor)?;
+    let system = flag(cursor)?;
+    let console = byte(cursor)?;
+    let need = need(cursor)?;
+    let trace_mask = word(cursor)?;
+    Ok(Identity {
+        name,
+        system,
+        console: console_of(console),
+        need,
+        trace_mask,
+    })
+}
+
+/// A partition.
+#[tactic(auto, unfolding(crate::specs::Reading::part_at))]
+fn part(alloc: Global, cursor: &mut Cursor<'_>) -> Result<Part, XmcFault>
+    ensures { Gives result cursor.new (reading.part_at cursor.old) }
+{
+    let identity = identity(cursor)?;
+    let hm = monitor(cursor)?;
+    let areas = areas(alloc, cursor)?;
+    let ports = ports(alloc, cursor)?;
+    Ok(Part {
+        name: identity.name,
+        system: identity.system,
+        console: identity.console,
+        need: identity.need,
+        trace_mask: identity.trace_mask,
+        hm,
+        areas,
+        ports,
+    })
+}
+
+/// Partitions.
+#[tactic(auto, using(crate::proofs::ElementsLemmas::elements_loop))]
+fn each_part(alloc: Global, count: u8, cursor: &mut Cursor<'_>) -> Result<Vec<Part>, XmcFault>
+    ensures { GivesItems result cursor.new (reading.elements_at reading.part_at count cursor.old) }
+{
+    let mut parts = Vec::new(alloc);
+    for _ in 0..count {
+        let part = part(alloc, cursor)?;
+        parts.push(part)?;
+    }
+    Ok(parts)
+}
+
+/// Partitions.
+fn parts(alloc: Global, cursor: &mut Cursor<'_>) -> Result<Vec<Part>, XmcFault>
+    ensures { GivesItems result cursor.new (reading.counted_at reading.part_at cursor.old) }
+{
+    let count = byte(cursor)?;
+    each_part(alloc, count, cursor)
+}
+
+/// What stands behind the length of the whole.
+#[tactic(auto, unfolding(crate::specs::Reading::conf_at))]
+fn conf(alloc: Global, cursor: &mut Cursor<'_>) -> Result<RawConf, XmcFault>
+    ensures { Gives result cursor.new (reading.conf_at cursor.old) }
+{
+    let name = text(cursor)?;
+    let regions = regions(alloc, cursor)?;
+    let hv_size = word(cursor)?;
+    let uarts = texts(alloc, cursor)?;
+    let plans = plans(alloc, cursor)?;
+    let parts = parts(alloc, cursor)?;
+    let chans = chans(alloc, cursor)?;
+    Ok(RawConf {
+        name,
+        regions,
+        hv_size,
+        uarts,
+        plans,
+        parts,
+        chans,
+    })
+}
+
+/// Whether the first four bytes are those of a configuration.
+fn is_magic(bytes: &[u8]) -> bool
+    ensures { result ≡ bytes_eq bytes.now (codes "XMCF") }
+{
+    bytes == b"XMCF".as_slice()
+}
+
+/// The first four bytes.
+#[tactic(auto, unfolding(crate::specs::Reading::magic_at))]
+fn magic(cursor: &mut Cursor<'_>) -> Result<usize, XmcFault>
+    ensures { Gives result cursor.new (reading.magic_at cursor.old) }
+{
+    let bytes = cursor.take(4)?;
+    if is_magic(bytes) {
+        return Ok(4);
+    }
+    Err(XmcFault::Magic)
+}
+
+/// The version, which is 1.
+#[tactic(auto, unfolding(crate::specs::Reading::version_at))]
+fn version(cursor: &mut Cursor<'_>) -> Result<u16, XmcFault>
+    ensures { Gives result cursor.new (reading.version_at cursor.old) }
+{
+    let found = half_word(cursor)?;
+    if found == 1 {
+        return Ok(found);
+    }
+    Err(XmcFault::Version { found })
+}
+
+/// The first fields: what comes first, the version, and the length of the whole, which has so many
+/// bytes.
+#[tactic(auto, unfolding(crate::specs::Reading::head_at))]
+fn head(total: usize, cursor: &mut Cursor<'_>) -> Result<u32, XmcFault>
+    requires { total ≡ length cursor.old.bytes }
+    ensures { Gives result cursor.new (reading.head_at cursor.old) }
+{
+    magic(cursor)?;
+    version(cursor)?;
+    let told = word(cursor)?;
+    is_whole(total, told)?;
+    Ok(told)
+}
+
+/// The bytes are as many as they tell.
+fn is_whole(total: usize, told: u32) -> Result<(), XmcFault>
+    ensures { GivesWhole result (reading.whole total told) }
+{
+    let length = told as usize;
+    if total < length {
+        return Err(XmcFault::Short { at: total });
+    }
+    if length < total {
+        return Err(XmcFault::Trailing { at: length });
+    }
+    Ok(())
+}
+
+/// All fields, and nothing behind them.
+#[tactic(auto, unfolding(crate::specs::Reading::fields_of))]
+fn fields(alloc: Global, bytes: &[u8]) -> Result<RawConf, XmcFault>
+    ensures { GivesWhole result (reading.fields_of bytes.now) }
+{
+    let mut cursor = Cursor::new(bytes);
+    head(bytes.len(), &mut cursor)?;
+    let raw = conf(alloc, &mut cursor)?;
+    if cursor.left() > 0 {
+        return Err(XmcFault::Trailing { at: cursor.at() });
+    }
+    Ok(raw)
+}
+
+/// A configuration, where no rule is broken.
+fn unbroken(raw: RawConf) -> Result<Conf, XmcFault>
+    ensures { GivesWhole result (reading.unbroken raw (first_broken (described raw))) }
+{
+    broken_unless_fits();
+    match Conf::new(raw) {
+        Ok(conf) => Ok(conf),
+        Err(broken) => Err(XmcFault::NotFit { rule: broken.rule }),
+    }
+}
+
+/// The configuration that these bytes are, or the first fault: of the head, then of the length,
+/// then of the other fields from left to right, then a byte that is left, then a broken rule.
+/// `Memory` where there is none.
+#[tactic(auto, unfolding(crate::specs::Reading::read_of))]
+pub fn read_xmc(alloc: Global, bytes: &[u8]) -> Result<Conf, XmcFault>
+    ensures exact { GivesWhole result (reading.read_of bytes.now) }
+    ensures spelled { IfOk result (λ conf. bytes.now ≡ xmc conf) }
+{
+    read_is_spelled();
+    let raw = fields(alloc, bytes)?;
+    unbroken(raw)
+}

@@ -1,0 +1,90 @@
+-- What the contents of the files that a command reads come to.
+use Rattle.std.specs.Prelude.{ℕ, ◌==◌, if◌then◌else◌, nat_lt, ◌||◌, List, [], ◌∷◌, ◌++◌, length, codes, decimal, slice_index_or, Option, Some, None, Result, Ok, Err}
+use Rattle.xm_base.specs.declared.limits.TheConstants.{FILE_BYTES, IMAGE_BYTES}
+use Rattle.xm_report.specs.Report.{texts}
+use Rattle.xm_machine.specs.State.{booted}
+use Rattle.xm_machine.specs.Step.{run_of, report_of}
+use Rattle.xm_machine.specs.System.{System, bare_system}
+use Rattle.xm_words.specs.Words.{Command, Bare, Parse}
+use Rattle.xm_run.specs.Ending.{length_text, unbuilt_text}
+use Rattle.xm_run.specs.Parsing.{xmc_of}
+
+-- why a command is refused: the file that is named, and the text
+pub record Denial : Type 0 where
+  pub file : List ℕ
+  pub text : List ℕ
+
+-- a file that is written
+pub record Output : Type 0 where
+  pub file : List ℕ
+  pub bytes : List ℕ
+
+-- what a command comes to: its refusal, if there is one, the file that it writes, and what goes to the report
+pub record Outcome : Type 0 where
+  pub denial : Option Denial
+  pub output : Option Output
+  pub report : List ℕ
+
+-- a command that is refused, and does nothing
+abbrev pub refused : List ℕ → List ℕ → Outcome
+refused file text = record { denial = Some (record { file = file; text = text }); output = None; report = [] }
+
+-- the files that a command reads, in the order of its words
+abbrev pub inputs_of : Command → List (List ℕ)
+inputs_of (Bare image ticks) = image ∷ []
+inputs_of (Parse description output) = description ∷ []
+
+-- the file that a command writes
+abbrev pub output_of : Command → Option (List ℕ)
+output_of (Bare image ticks) = None
+output_of (Parse description output) = Some output
+
+-- the refusal of a run that is stuck
+abbrev pub stuck_denial : List ℕ → Option (ℕ × ℕ) → Option Denial
+stuck_denial file None = None
+stuck_denial file (Some place) = Some (record { file = file; text = unbuilt_text place.0 place.1 })
+
+-- what a run of a booted system comes to, whose image stands in a file
+unfoldable pub ran : List ℕ → ℕ → System → Outcome
+ran file ticks system =
+    let run = run_of (booted system) ticks in
+    record { denial = stuck_denial file run.stuck; output = None; report = texts (report_of system ticks run) }
+
+-- what a raw image comes to, run for so many ticks
+unfoldable pub bare_outcome : List ℕ → ℕ → List ℕ → Outcome
+bare_outcome file ticks image =
+    if (length image == 0) || nat_lt IMAGE_BYTES (length image) then refused file (length_text (length image))
+    else ran file ticks (bare_system image)
+
+-- what is printed of a file that was made
+unfoldable pub made_text : ℕ → List ℕ
+made_text length = codes "ok length=" ++ decimal length ++ codes "\n"
+
+-- what a file comes to out of which another is made: that file, or a refusal
+abbrev pub made : List ℕ → List ℕ → Result (List ℕ) (List ℕ) → Outcome
+made input output (Ok bytes) = record { denial = None; output = Some (record { file = output; bytes = bytes }); report = made_text (length bytes) }
+made input output (Err text) = refused input text
+
+-- the content of the file of this number
+abbrev pub content : ℕ → List (List ℕ) → List ℕ
+content n contents = slice_index_or contents n []
+
+-- what the contents of the files come to, where none of them is too long
+abbrev pub worked : Command → List (List ℕ) → Outcome
+worked (Bare image ticks) contents = bare_outcome image ticks (content 0 contents)
+worked (Parse description output) contents = made description output (xmc_of (content 0 contents))
+
+-- the first of the files that has more bytes than a file may have
+abbrev pub first_long : List (List ℕ) → List (List ℕ) → Option (List ℕ)
+first_long [] contents = None
+first_long (file ∷ files) [] = None
+first_long (file ∷ files) (bytes ∷ contents) = if nat_lt FILE_BYTES (length bytes) then Some file else first_long files contents
+
+-- a file that is too long is refused before any work is done
+abbrev pub unless_long : Option (List ℕ) → Outcome → Outcome
+unless_long None outcome = outcome
+unless_long (Some file) outcome = refused file (codes "too-long")
+
+-- what the contents of the files that a command reads come to
+unfoldable pub outcome_of : Command → List (List ℕ) → Outcome
+outcome_of command contents = unless_long (first_long (inputs_of command) contents) (worked command contents)

@@ -1,0 +1,104 @@
+-- What each element of a draft adds to a configuration, by its values alone.
+use Rattle.std.specs.Prelude.{ℕ, List, Option, None, Some}
+use Rattle.xmcf_reader.specs.declared.draft.Element.{Element}
+use Rattle.xmcf_reader.specs.declared.draft.Element.TheVariants as element
+use Rattle.xm_conf.specs.declared.part.Area.{Area}
+use Rattle.xm_conf.specs.declared.part.Need.{Need}
+use Rattle.xm_conf.specs.declared.plan.Slot.{Slot}
+use Rattle.xm_conf.specs.declared.port.Port.{Port}
+use Rattle.xm_conf.specs.declared.raw.Region.{Region}
+use Rattle.xm_conf.specs.declared.channel.ChanKind.TheVariants as kind
+use Rattle.xmcf_check.specs.Capped.{capped, capped_kind}
+use Rattle.xmcf_check.specs.declared.elements.Carried.{Carried}
+use Rattle.xmcf_check.specs.declared.elements.Given.{Given}
+use Rattle.xmcf_check.specs.declared.elements.Own.{Own}
+
+-- a region
+abbrev pub region_of : Element → Option Region
+region_of (element.Region start size) = Some record { start = start; size = size }
+region_of _ = None
+
+-- the processor's id
+abbrev pub processor_of : Element → Option ℕ
+processor_of (element.Processor id) = Some id
+processor_of _ = None
+
+-- a plan's frame
+abbrev pub frame_of : Element → Option ℕ
+frame_of (element.Plan id frame) = Some frame
+frame_of _ = None
+
+-- a plan's id
+abbrev pub plan_id_of : Element → Option ℕ
+plan_id_of (element.Plan id frame) = Some id
+plan_id_of _ = None
+
+-- a slot
+abbrev pub slot_of : Element → Option Slot
+slot_of (element.Slot id start duration part) = Some record { start = start; duration = duration; part = part }
+slot_of _ = None
+
+-- a slot's id
+abbrev pub slot_id_of : Element → Option ℕ
+slot_id_of (element.Slot id start duration part) = Some id
+slot_id_of _ = None
+
+-- a UART's name
+abbrev pub uart_of : Element → Option (List ℕ)
+uart_of (element.Uart id name) = Some name
+uart_of _ = None
+
+-- a UART's id
+abbrev pub uart_id_of : Element → Option ℕ
+uart_id_of (element.Uart id name) = Some id
+uart_id_of _ = None
+
+-- the size of the hypervisor
+abbrev pub size_of : Element → Option ℕ
+size_of (element.HvArea size) = Some size
+size_of _ = None
+
+-- a partition's id
+abbrev pub part_id_of : Element → Option ℕ
+part_id_of (element.Partition id name system console) = Some id
+part_id_of _ = None
+
+-- what a partition calls itself
+abbrev pub own_of : Element → Option Own
+own_of (element.Partition id name system console) = Some record { name = name; system = system; console = console }
+own_of _ = None
+
+-- an area
+abbrev pub area_of : Element → Option Area
+area_of (element.Area start size read_only) = Some record { start = start; size = size; read_only = read_only }
+area_of _ = None
+
+-- what time is required
+abbrev pub need_of : Element → Option Need
+need_of (element.Need duration period) = Some record { duration = duration; period = period }
+need_of _ = None
+
+-- an answer to a health event
+abbrev pub given_of : Element → Option Given
+given_of (element.Event event action log) = Some record { event = event; action = action; log = log }
+given_of _ = None
+
+-- the mask of a trace
+abbrev pub mask_of : Element → Option ℕ
+mask_of (element.Trace mask) = Some mask
+mask_of _ = None
+
+-- a port
+abbrev pub port_of : Element → Option Port
+port_of (element.Port name kind way) = Some record { name = name; kind = kind; way = way }
+port_of _ = None
+
+-- what a channel carries
+abbrev pub carried_of : Element → Option Carried
+carried_of (element.Sampling size refresh) = Some record { kind = kind.Sampling refresh; size = size }
+carried_of (element.Queuing size most) = Some record { kind = kind.Queuing most; size = size }
+carried_of _ = None
+
+-- what a channel carries, with its numbers capped
+unfoldable pub capped_carried : Carried → Carried
+capped_carried carried = record { kind = capped_kind carried.kind; size = capped 65535 carried.size }

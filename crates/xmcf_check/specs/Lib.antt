@@ -1,0 +1,14 @@
+pub mod Answered
+pub mod Capped
+pub mod Defaults
+pub mod Described
+pub mod Elements
+pub mod Families
+pub mod Gathered
+pub mod Judged
+pub mod Misplaced
+pub mod Numbers
+pub mod Places
+pub mod Texts
+pub mod Told
+pub mod Verdict

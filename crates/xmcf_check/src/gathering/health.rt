@@ -1,0 +1,199 @@
+//! The answers of a partition to health events.
+
+ghost use Rattle.std.specs.Prelude.{◌≡◌, ◌≤◌, ◌^◌, ◌++◌, IfOk, OnOk, flat_map};
+ghost use Rattle.xm_conf.specs.Health.{event_row};
+ghost use Rattle.xmcf_check.specs.Defaults.{default_action};
+ghost use Rattle.xmcf_check.specs.Described.{action_for, among, answers_of, answers_to, flag_for, given_to, hm_of, is_to, log_given, logged_of, with_grandparent};
+ghost use Rattle.xmcf_check.specs.Elements.{given_of};
+
+use crate::gathered::Answer;
+use crate::elements::{Given, given_of};
+use crate::events::EVENTS;
+use crate::family::is_grandchild;
+use std::alloc::{AllocError, Global};
+use xm_base::Memory;
+use xm_conf::{Action, Event, HmTable};
+use xmcf_reader::Entry;
+
+/// The answers among entries that are given by children of children of the entry of a number.
+pub(super) fn given(
+    alloc: Global,
+    entries: &[Entry],
+    inside: &[Entry],
+    number: usize,
+) -> Result<Vec<Given>, AllocError>
+    ensures { IfOk result (λ given. given.items ≡ among given_of (with_grandparent entries.now number inside.now)) }
+{
+    inside
+        .iter()
+        .filter(|entry| is_grandchild(entries, entry, number))
+        .filter_map(|entry| given_of(&entry.what))
+        .collect(alloc)
+}
+
+/// Whether what is given answers the event.
+fn is_to(event: Event, given: &Given) -> bool
+    ensures { result ≡ is_to event given.now }
+{
+    given.event.number() == event.number()
+}
+
+/// The first answer to the event.
+#[tactic(auto, unfolding(crate::specs::Described::given_to))]
+fn given_to(given: &[Given], event: Event) -> Option<Given>
+    ensures { result ≡ given_to given.now event }
+{
+    given.iter().copied().find(|given| is_to(event, given))
+}
+
+/// The action for an event that is not answered.
+fn default_action(event: Event) -> Action
+    ensures { result ≡ default_action event }
+{
+    match event {
+        Event::PartitionError
+        | Event::MemProtection
+        | Event::SparcInstrAccess
+        | Event::SparcDataAccess => Action::Halt,
+        Event::UnexpectedTrap
+        | Event::SparcIllegalInstruction
+        | Event::SparcPrivilegedInstruction
+        | Event::SparcFpDisabled
+        | Event::SparcCpDisabled
+        | Event::SparcAddressNotAligned
+        | Event::SparcTagOverflow
+        | Event::SparcDivideException => Action::Propagate,
+    }
+}
+
+/// The action for an event.
+#[tactic(auto, unfolding(crate::specs::Described::action_for))]
+fn action_for(given: &[Given], event: Event) -> Action
+    ensures { result ≡ action_for given.now event }
+{
+    match given_to(given, event) {
+        Some(given) => given.action,
+        None => default_action(event),
+    }
+}
+
+/// The bit of an event.
+fn bit(event: Event) -> u16
+    ensures { result ≡ 2 ^ (event_row event).number }
+{
+    match event {
+        Event::PartitionError => 0x001,
+        Event::MemProtection => 0x002,
+        Event::UnexpectedTrap => 0x004,
+        Event::SparcIllegalInstruction => 0x008,
+        Event::SparcPrivilegedInstruction => 0x010,
+        Event::SparcFpDisabled => 0x020,
+        Event::SparcCpDisabled => 0x040,
+        Event::SparcAddressNotAligned => 0x080,
+        Event::SparcTagOverflow => 0x100,
+        Event::SparcDivideException => 0x200,
+        Event::SparcInstrAccess => 0x400,
+        Event::SparcDataAccess => 0x800,
+    }
+}
+
+/// Whether an event is logged.
+fn is_logged(given: &[Given], event: Event) -> bool
+    ensures { result ≡ log_given (given_to given.now event) }
+{
+    match given_to(given, event) {
+        Some(given) => given.log,
+        None => true,
+    }
+}
+
+/// The bit of an event that is logged.
+#[tactic(auto, unfolding(crate::specs::Described::flag_for))]
+fn flag_for(given: &[Given], event: Event) -> u16
+    ensures value { result ≡ flag_for given.now event }
+    ensures bound { result ≤ 2 ^ (event_row event).number }
+{
+    if is_logged(given, event) {
+        bit(event)
+    } else {
+        0
+    }
+}
+
+/// The bits of the events that are logged.
+#[tactic(auto, unfolding(crate::specs::Described::logged_of))]
+fn logged(given: &[Given]) -> u16
+    ensures { result ≡ logged_of given.now }
+{
+    flag_for(given, Event::PartitionError)
+        + flag_for(given, Event::MemProtection)
+        + flag_for(given, Event::UnexpectedTrap)
+        + flag_for(given, Event::SparcIllegalInstruction)
+        + flag_for(given, Event::SparcPrivilegedInstruction)
+        + flag_for(given, Event::SparcFpDisabled)
+        + flag_for(given, Event::SparcCpDisabled)
+        + flag_for(given, Event::SparcAddressNotAligned)
+        + flag_for(given, Event::SparcTagOverflow)
+        + flag_for(given, Event::SparcDivideException)
+        + flag_for(given, Event::SparcInstrAccess)
+        + flag_for(given, Event::SparcDataAccess)
+}
+
+/// A partition's table of health events.
+#[tactic(auto, unfolding(crate::specs::Described::hm_of))]
+pub(super) fn table(given: &[Given]) -> HmTable
+    ensures { result ≡ hm_of given.now }
+{
+    HmTable {
+        actions: [
+            action_for(given, Event::PartitionError),
+            action_for(given, Event::MemProtection),
+            action_for(given, Event::UnexpectedTrap),
+            action_for(given, Event::SparcIllegalInstruction),
+            action_for(given, Event::SparcPrivilegedInstruction),
+            action_for(given, Event::SparcFpDisabled),
+            action_for(given, Event::SparcCpDisabled),
+            action_for(given, Event::SparcAddressNotAligned),
+            action_for(given, Event::SparcTagOverflow),
+            action_for(given, Event::SparcDivideException),
+            action_for(given, Event::SparcInstrAccess),
+            action_for(given, Event::SparcDataAccess),
+        ],
+        logged: logged(given),
+    }
+}
+
+/// All answers to an event, behind the others.
+#[tactic(auto, unfolding(crate::specs::Described::answers_to))]
+fn push_answers(answers: &mut Vec<Answer>, given: &[Given], event: Event) -> Result<(), Memory>
+    ensures { OnOk result (answers.new.items ≡ answers.old.items ++ answers_to given.now event) }
+{
+    for one in given {
+        if is_to(event, one) {
+            answers.push(Answer {
+                event: one.event,
+                action: one.action,
+            })?;
+        }
+    }
+    Ok(())
+}
+
+/// All answers to these events, in the order of the events and then of the text.
+fn answers_for(alloc: Global, given: &[Given], events: &[Event]) -> Result<Vec<Answer>, Memory>
+    ensures { IfOk result (λ answers. answers.items ≡ flat_map (answers_to given.now) events.now) }
+{
+    let mut answers = Vec::new(alloc);
+    for event in events {
+        push_answers(&mut answers, given, *event)?;
+    }
+    Ok(answers)
+}
+
+/// All answers, in the order of the events' numbers and then of the text.
+#[tactic(auto, unfolding(crate::specs::Described::answers_of))]
+pub(super) fn answers(alloc: Global, given: &[Given]) -> Result<Vec<Answer>, Memory>
+    ensures { IfOk result (λ answers. answers.items ≡ answers_of given.now) }
+{
+    answers_for(alloc, given, &EVENTS)
+}

@@ -1,0 +1,20 @@
+//! Checks a draft by the rules of a configuration: the configuration that it describes, or the first broken rule.
+#![tactic(auto)]
+
+mod answers;
+mod broken;
+mod checking;
+mod elements;
+mod events;
+mod family;
+mod fault;
+mod gathered;
+mod gathering;
+mod ids;
+mod judging;
+mod numbers;
+mod places;
+mod sorts;
+
+pub use checking::check;
+pub use fault::CheckFault;
