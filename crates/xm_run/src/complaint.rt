@@ -59,12 +59,7 @@ fn tell<E: Sink>(err: &mut E, file: &str, text: &str) -> Result<(), Failed>
 
 // Writes the program's name, the file's and the text.
 #[tactic(auto, using(xm_outside::specs::Growth::writes_then))]
-fn tell_line<E: Sink>(
-    err: &mut E,
-    program: &[u8],
-    file: &[u8],
-    text: &[u8],
-) -> Result<(), Failed>
+fn tell_line<E: Sink>(err: &mut E, program: &[u8], file: &[u8], text: &[u8]) -> Result<(), Failed>
     ensures line { Writes result (E.got err.old) (program.now ++ file.now ++ behind_file text.now) (E.got err.new) }
     ensures cause { HasCause result (E.faults err.old) (E.faults err.new) }
 {

@@ -4,7 +4,10 @@
 #[derive(Clone, Copy, Debug, PartialEq, Eq)]
 pub enum Command<'a> {
     /// Run the raw image in this file for so many ticks.
-    Bare { image: &'a str, ticks: u64 },
+    Bare {
+        image: &'a str,
+        ticks: u64,
+    },
     /// Make the binary configuration of the system description in this file.
     Parse {
         description: &'a str,

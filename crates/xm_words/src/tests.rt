@@ -70,3 +70,31 @@ fn there_are_three_words(rt: HostRuntime) -> Result<(), Fail> {
     assert_eq!(rt; command(&Words::new(rt.alloc())), None);
     Ok(())
 }
+
+#[test]
+fn a_configuration_is_asked_for_by_two_files(rt: HostRuntime) -> Result<(), Fail> {
+    for (name, description, output, asked) in [
+        ("xmcparser", "x", "o", true),
+        ("xmcparser", "x", "x", true),
+        ("xmcparser", "upgrade", "o", true),
+        ("xmcparser", "-", "-o", true),
+        ("xmcparser", "", "o", false),
+        ("xmcparser", "x", "", false),
+        ("xmcparser", "--x", "o", false),
+        ("xmcparser", "x", "--o", false),
+        ("xmcparse", "x", "o", false),
+        ("xmcparsers", "x", "o", false),
+        ("bare", "x", "o", false),
+    ] {
+        let mut words = Words::new(rt.alloc());
+        for word in [name, description, output] {
+            words.push(word)?;
+        }
+        let wanted = asked.then_some(Command::Parse {
+            description,
+            output,
+        });
+        assert_eq!(rt; command(&words), wanted, "at {name} {description} {output}");
+    }
+    Ok(())
+}

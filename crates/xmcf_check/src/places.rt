@@ -1,6 +1,6 @@
 //! The place of each item in the text.
 
-ghost use Rattle.std.specs.Prelude.{◌≡◌, Option, filter, flat_map, length, slice_get};
+ghost use Rattle.std.specs.Prelude.{◌≡◌, filter, flat_map, length};
 ghost use Rattle.xm_conf.specs.Health.{events};
 ghost use Rattle.xmcf_reader.specs.Drafts.{behind_root};
 ghost use Rattle.xmcf_check.specs.Places.{child_items, end_place, event_items, grandchild_items, is_item, items, number_nth, place_nth, place_of};

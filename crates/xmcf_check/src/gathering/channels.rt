@@ -1,10 +1,10 @@
 //! The channels and their ends.
 
-ghost use Rattle.std.specs.Prelude.{◌≡◌, ◌<◌, ◌==◌, ◌++◌, if◌then◌else◌, IfOk, None, OnOk, length, map, slice_get};
+ghost use Rattle.std.specs.Prelude.{◌≡◌, ◌<◌, ◌++◌, IfOk, OnOk, length, map, slice_get};
 ghost use Rattle.xm_base.specs.Options.{on};
 ghost use Rattle.xmcf_reader.specs.Drafts.{IsDraft};
 ghost use Rattle.xmcf_check.specs.Capped.{capped_chan, capped_end};
-ghost use Rattle.xmcf_check.specs.Described.{among, chan_with, chans_by, children, dest_of, end_named, first_among, no_end, port_names, source_of, with_parent};
+ghost use Rattle.xmcf_check.specs.Described.{among, chan_with, chans_by, children, dest_of, end_named, first_among, port_names, source_of, with_parent};
 ghost use Rattle.xmcf_check.specs.Elements.{capped_carried, carried_of};
 ghost use Rattle.xmcf_check.specs.Families.{picked};
 ghost use Rattle.xmcf_check.specs.Numbers.{HasPortNumbers};

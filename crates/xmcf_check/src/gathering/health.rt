@@ -6,10 +6,10 @@ ghost use Rattle.xmcf_check.specs.Defaults.{default_action};
 ghost use Rattle.xmcf_check.specs.Described.{action_for, among, answers_of, answers_to, flag_for, given_to, hm_of, is_to, log_given, logged_of, with_grandparent};
 ghost use Rattle.xmcf_check.specs.Elements.{given_of};
 
-use crate::gathered::Answer;
 use crate::elements::{Given, given_of};
 use crate::events::EVENTS;
 use crate::family::is_grandchild;
+use crate::gathered::Answer;
 use std::alloc::{AllocError, Global};
 use xm_base::Memory;
 use xm_conf::{Action, Event, HmTable};

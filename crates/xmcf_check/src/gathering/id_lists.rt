@@ -7,9 +7,9 @@ ghost use Rattle.xmcf_check.specs.Elements.{plan_id_of, slot_id_of};
 ghost use Rattle.xmcf_check.specs.Families.{picked};
 
 use super::lists::{part_ids, processor_id, uart_ids};
-use crate::gathered::{Ids, PlanIds};
 use crate::elements::{plan_id_of, slot_id_of};
 use crate::family::{is_child, within};
+use crate::gathered::{Ids, PlanIds};
 use std::alloc::{AllocError, Global};
 use xm_base::Memory;
 use xmcf_reader::Entry;

@@ -6,10 +6,10 @@ ghost use Rattle.xmcf_check.specs.Described.{grandchildren, monitor_with, monito
 ghost use Rattle.xmcf_check.specs.Elements.{part_id_of};
 ghost use Rattle.xmcf_check.specs.Families.{picked};
 
-use crate::gathered::Answer;
 use super::health::{answers, given};
 use crate::elements::part_id_of;
 use crate::family::within;
+use crate::gathered::Answer;
 use std::alloc::Global;
 use xm_base::Memory;
 use xmcf_reader::Entry;

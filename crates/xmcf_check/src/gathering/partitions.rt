@@ -4,8 +4,8 @@ ghost use Rattle.std.specs.Prelude.{◌≡◌, ◌<◌, ◌++◌, ◌∷◌, [],
 ghost use Rattle.xm_base.specs.Options.{on};
 ghost use Rattle.xmcf_reader.specs.Drafts.{IsDraft};
 ghost use Rattle.xmcf_check.specs.Capped.{capped, capped_part};
-ghost use Rattle.xmcf_check.specs.Described.{among, answers_of, children, first_among, grandchildren, monitor_with, monitors_of, number_of, part_with, parts_by, with_grandparent, with_parent};
-ghost use Rattle.xmcf_check.specs.Elements.{area_of, given_of, mask_of, need_of, own_of, part_id_of, port_of};
+ghost use Rattle.xmcf_check.specs.Described.{among, children, first_among, grandchildren, number_of, part_with, parts_by, with_grandparent, with_parent};
+ghost use Rattle.xmcf_check.specs.Elements.{area_of, mask_of, need_of, own_of, port_of};
 ghost use Rattle.xmcf_check.specs.Families.{picked};
 ghost use Rattle.xmcf_check.specs.Numbers.{HasFirsts};
 

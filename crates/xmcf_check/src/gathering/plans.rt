@@ -1,12 +1,12 @@
 //! The cyclic plans and their slots.
 
-ghost use Rattle.std.specs.Prelude.{◌≡◌, ◌<◌, ◌++◌, IfOk, OnOk, Option, Some, length, map, slice_get};
+ghost use Rattle.std.specs.Prelude.{◌≡◌, ◌<◌, ◌++◌, IfOk, OnOk, length, map, slice_get};
 ghost use Rattle.xm_base.specs.Options.{on};
 ghost use Rattle.xmcf_reader.specs.Drafts.{IsDraft};
 ghost use Rattle.xmcf_check.specs.Capped.{capped_plan, capped_slot};
 ghost use Rattle.xmcf_check.specs.Described.{among, children, plan_with, plans_of, with_parent};
 ghost use Rattle.xmcf_check.specs.Elements.{frame_of, slot_of};
-ghost use Rattle.xmcf_check.specs.Families.{picked, within};
+ghost use Rattle.xmcf_check.specs.Families.{picked};
 
 use crate::elements::{frame_of, slot_of};
 use crate::family::{is_child, within};

@@ -1,0 +1,5 @@
+pub mod Ascii
+pub mod AssignedLemmas
+pub mod FaultLemmas
+pub mod Fronts
+pub mod LineLemmas

@@ -1,0 +1,11 @@
+use Rattle.std.proofs.Common.{rules}
+use Rattle.xm_container.specs.PackLemmas.{entries_on, entries_done}
+use Rattle.xm_container.proofs.writing.put_entries.Goals as goal
+
+pub loop-id-preserved : goal.loop-id-preserved
+loop-id-preserved c =
+    rw c.in_ok-put_entry.ensures
+    (entries_on c.args.images.now c.args.parts c.loop-id.id c.image_at.result.now c.loop-id.out.items _ c.loop-id-test.true c.image_at.ensures c.loop-id.invariant)
+
+pub returns : goal.returns
+returns c = entries_done c.args.images.now c.args.parts c.loop-id.id c.loop-id.out.items _ c.loop-id-test.false c.loop-id.invariant

@@ -1,0 +1,41 @@
+-- The one spelling of a system: its container, byte by byte.
+use Rattle.std.specs.Prelude.{ℕ, ◌+◌, List, [], ◌∷◌, ◌++◌, length, codes}
+use Rattle.std.specs.Int.{w16, w32, to_be_bytes}
+use Rattle.md5.specs.Md5.{md5}
+use Rattle.bin_config.specs.Xmc.{xmc}
+use Rattle.xef_images.specs.Image.{Image}
+use Rattle.xef_images.specs.Spelling.{xef_text}
+use Rattle.loaded_system.specs.System.{System}
+
+-- bytes behind their length
+unfoldable pub sized_text : List ℕ → List ℕ
+sized_text bytes = to_be_bytes w32 (length bytes) ++ bytes
+
+-- an image: the number of its partition, its length and its bytes
+unfoldable pub entry_text : ℕ → Image → List ℕ
+entry_text id image = id ∷ sized_text (xef_text image)
+
+-- images, of which the first has this number, and each later one the next number
+abbrev pub entries_text : ℕ → List Image → List ℕ
+entries_text id [] = []
+entries_text id (image ∷ images) = entry_text id image ++ entries_text (id + 1) images
+
+-- what stands between the length of the whole and the digest: the configuration, the number of images, and the images
+unfoldable pub fields_text : System → List ℕ
+fields_text system = sized_text (xmc system.conf) ++ length system.images ∷ entries_text 0 system.images
+
+-- the length of a container with these fields: 10 bytes before them and 16 behind them
+abbrev pub box_length : List ℕ → ℕ
+box_length fields = 26 + length fields
+
+-- what stands before the digest: the name, version 1, the length of the whole, and the fields
+unfoldable pub front_text : List ℕ → List ℕ
+front_text fields = codes "XMPK" ++ to_be_bytes w16 1 ++ to_be_bytes w32 (box_length fields) ++ fields
+
+-- a container with these fields: the digest of all that stands before it is at its end
+unfoldable pub sealed_text : List ℕ → List ℕ
+sealed_text fields = front_text fields ++ md5 (front_text fields)
+
+-- the container of a system
+unfoldable pub box_text : System → List ℕ
+box_text system = sealed_text (fields_text system)

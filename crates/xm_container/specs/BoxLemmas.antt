@@ -1,0 +1,196 @@
+-- A container tells its length, and a system is unpacked from its container.
+use Rattle.std.proofs.Common.{◌≡◌, ℕ, zero, suc, ◌+◌, ◌-◌, ◌*◌, ◌%◌, ◌^◌, ◌<◌, ◌≤◌, Bool, true, false, not, List, [], ◌∷◌, ◌++◌, length, get_or, take, drop, Option, None, Some, Result, Ok, refl, sym, ap, subst, ◌∙◌, append_assoc, arith}
+use Rattle.std.specs.Prelude.{nat_le, nat_lt, ◌==◌, ◌&&◌, ◌||◌, All}
+use Rattle.std.specs.Int.{w8, w16, w32, to_be_bytes}
+use Rattle.std.proofs.lemmas.List.{append-nil, nil_from_length, length-append, drop_at}
+use Rattle.std.proofs.lemmas.List.Elements.{All-head, All-tail}
+use Rattle.std.proofs.lemmas.Bool.Decides.{Decides-eqb, nat_tests}
+use Rattle.md5.specs.Md5.{md5}
+use Rattle.md5.proofs.StandardFacts.{length-md5}
+use Rattle.xm_base.specs.Cursor.{Place, ahead, left, past, start}
+use Rattle.xm_conf.specs.Configuration.{Conf, Part}
+use Rattle.xm_conf.specs.Description.{described}
+use Rattle.xm_conf.specs.Laws.{IsBrokenUnlessFits}
+use Rattle.bin_config.specs.RangeLemmas.{spelled_if_fits}
+use Rattle.bin_config.specs.Reading.{read_of}
+use Rattle.bin_config.specs.Xmc.{xmc}
+use Rattle.bin_config.specs.XmcLemmas.{spelled_read, xmc_short}
+use Rattle.xef_images.specs.FieldLemmas.{wide8, wide32}
+use Rattle.xef_images.specs.Image.{Image, IsImage}
+use Rattle.xef_images.specs.ImageLemmas.{Decides-nat_le}
+use Rattle.xef_images.specs.Reading.{xef}
+use Rattle.xef_images.specs.Spelling.{xef_text}
+use Rattle.xef_images.specs.Steps.{◌>>=◌}
+use Rattle.xef_images.specs.XefLemmas.{length-xef_text, xef_again}
+use Rattle.loaded_system.specs.Inside.{first_outside}
+use Rattle.loaded_system.specs.InsideLemmas.{none_if_inside}
+use Rattle.loaded_system.specs.System.{System, IsSystem, AreInside}
+use Rattle.xm_container.specs.Box.{sized_text, entry_text, entries_text, fields_text, front_text, sealed_text, box_text}
+use Rattle.xm_container.specs.Entries.{Entries}
+use Rattle.xm_container.specs.FieldLemmas.{Reads, bytes_again, number_again, listed_again}
+use Rattle.xm_container.specs.HeadLemmas.{IsSigned, lead_text, told_again, signed_again}
+use Rattle.xm_container.specs.Laws.{NoneGoesOn, PackedIsUnpacked}
+use Rattle.xm_container.specs.NumberLemmas.{numbers}
+use Rattle.xm_container.specs.Numbers.{least_where, has_id, extra, missing}
+use Rattle.xm_container.specs.Reading.{bytes_at, number_at, as_config, as_image, told, signed, length_at, conf_at, id_at, image_at, entry_at, entries_at, table_at, fields_of, assigned, unpacked}
+use Rattle.xm_container.specs.declared.image.Image.{Image as Given}
+
+-- what stands before the digest has 16 bytes less than the container
+length-front : (fields : List ℕ) → length (front_text fields) ≡ 10 + length fields
+unfolding front_text
+length-front fields = length-append (lead_text (26 + length fields)) fields
+
+-- the length of a container
+length-sealed : (fields : List ℕ) → length (sealed_text fields) ≡ 26 + length fields
+unfolding sealed_text
+length-sealed fields = omega (arith, length-append (front_text fields) (md5 (front_text fields)), length-md5 (front_text fields), length-front fields)
+
+-- a container tells its length, whatever stands behind it
+sealed_told : (fields rest : List ℕ) → 26 + length fields < 2 ^ 32 → told (sealed_text fields ++ rest) ≡ Ok (26 + length fields)
+unfolding sealed_text front_text
+sealed_told fields rest below =
+    let lead = lead_text (26 + length fields) in
+    ap told (ap (λ x. x ++ rest) (append_assoc lead fields (md5 (front_text fields))) ∙ append_assoc lead (fields ++ md5 (front_text fields)) rest)
+    ∙ told_again (26 + length fields) ((fields ++ md5 (front_text fields)) ++ rest) below
+
+-- the same value
+same_value : {A F : Type 0} (x y : A) → (let done : Result A F = Ok x in done ≡ Ok y) → x ≡ y
+same_value x y e = cc
+
+-- no container is a proper front of another
+pub none_goes_on : NoneGoesOn
+unfolding box_text
+none_goes_on one other rest below is =
+    let a = fields_text one in
+    let b = fields_text other in
+    let long = ap length is ∙ length-append (sealed_text a) rest in
+    let size_a = length-sealed a in
+    let size_b = length-sealed b in
+    let told_b : told (sealed_text b) ≡ Ok (26 + length b) = ap told (sym (append-nil (sealed_text b))) ∙ sealed_told b [] (omega (arith, below, size_b)) in
+    let told_a : told (sealed_text b) ≡ Ok (26 + length a) = ap told is ∙ sealed_told a rest (omega (arith, below, size_a, long)) in
+    let same : 26 + length b ≡ 26 + length a = same_value (26 + length b) (26 + length a) (sym told_b ∙ told_a) in
+    nil_from_length rest (omega (arith, same, size_a, size_b, long))
+
+-- bytes behind their length are read
+sized_again : (place : Place) (bytes rest : List ℕ) → length bytes < 2 ^ 32 → ahead place ≡ sized_text bytes ++ rest
+    → (count : Reads (number_at w32 place) (length bytes) (bytes ++ rest)) × Reads (bytes_at (length bytes) count.after) bytes rest
+unfolding sized_text
+sized_again place bytes rest below stands =
+    let a = number_again w32 (2 ^ 32) wide32 place (length bytes) (bytes ++ rest) below (stands ∙ append_assoc (to_be_bytes w32 (length bytes)) bytes rest) in
+    (a, bytes_again (length bytes) a.after bytes rest refl a.ahead)
+
+-- a number of one byte is that byte
+pub byte_of : (n : ℕ) → n < 256 → to_be_bytes w8 n ≡ n ∷ []
+byte_of n below =
+    let same : n % 256 ≡ n = omega arith in
+    ap (λ b. b ∷ []) same
+
+-- an image that stands there is read
+entry_again : (floor id : ℕ) (place : Place) (image : Image) (rest : List ℕ) → floor ≤ id → id < 256 → IsImage image → ahead place ≡ entry_text id image ++ rest
+    → Reads (entry_at floor place) (record { id = id; xef = image }) rest
+unfolding entry_text entry_at id_at image_at
+entry_again floor id place image rest above byte is stands =
+    let text = xef_text image in
+    let short : length text < 2 ^ 32 = omega (arith, length-xef_text image is.most, is.short) in
+    let first : ahead place ≡ to_be_bytes w8 id ++ (sized_text text ++ rest) = stands ∙ ap (λ b. b ++ (sized_text text ++ rest)) (sym (byte_of id byte)) in
+    let a = listed_again w8 256 wide8 (λ n. nat_le floor n) place id (sized_text text ++ rest) byte ((Decides-nat_le floor id).1 above) first in
+    let b = sized_again a.after text rest short a.ahead in
+    let loads : xef text ≡ Ok image = xef_again image is in
+    record { after = b.1.after; is = rw (a.is, b.0.is, b.1.is, loads) refl; ahead = b.1.ahead }
+
+-- images that stand there are read
+entries_again : (id : ℕ) (place : Place) (images : List Image) (rest : List ℕ) → id + length images ≤ 256 → All IsImage images → ahead place ≡ entries_text id images ++ rest
+    → Reads (entries_at (length images) id place) (record { ids = numbers id (length images); images = images }) rest
+unfolding entries_at
+entries_again id place [] rest few each stands = record { after = place; is = refl; ahead = stands }
+entries_again id place (image ∷ images) rest few each stands =
+    let first = entry_again id id place image (entries_text (id + 1) images ++ rest) (omega arith) (omega (arith, few)) (All-head IsImage image images each)
+    (stands ∙ append_assoc (entry_text id image) (entries_text (id + 1) images) rest) in
+    let others = entries_again (id + 1) first.after images rest (omega (arith, few)) (All-tail IsImage image images each) first.ahead in
+    record { after = others.after; is = rw (first.is, others.is) refl; ahead = others.ahead }
+
+-- where no number passes there is no smallest one
+least_none : (test : ℕ → Bool) (from count : ℕ) → ((n : ℕ) → from ≤ n → n < from + count → test n ≡ false) → least_where test from count ≡ None
+least_none test from zero fails = refl
+least_none test from (suc count) fails =
+    let here : test from ≡ false = fails from (omega arith) (omega arith) in
+    rw here (least_none test (from + 1) count (λ n least most. fails n (omega (arith, least)) (omega (arith, most))))
+
+-- whether a number is among those from one on
+among : (from count n : ℕ) → has_id (numbers from count) n ≡ (nat_le from n && nat_lt n (from + count))
+unfolding has_id
+among from zero n = grind (arith, nat_tests)
+among from (suc count) n =
+    let rest = among (from + 1) count n in
+    rw rest (either from count n)
+  where
+    either : (from count n : ℕ) → ((from == n) || (nat_le (from + 1) n && nat_lt n ((from + 1) + count))) ≡ (nat_le from n && nat_lt n (from + suc count))
+    either from count n = grind (arith, nat_tests)
+
+-- no number of a partition is extra
+no_extra : (parts : ℕ) → extra parts (numbers 0 parts) ≡ None
+unfolding extra
+no_extra parts = least_none (has_id (numbers 0 parts)) parts (256 - parts) (λ n least most. among 0 parts n ∙ grind (arith, nat_tests))
+
+-- no number of a partition is missing
+no_missing : (parts : ℕ) → missing parts (numbers 0 parts) ≡ None
+unfolding missing
+no_missing parts = least_none (λ n. not (has_id (numbers 0 parts) n)) 0 parts (λ n least most. ap not (among 0 parts n) ∙ grind (arith, nat_tests))
+
+-- images that lie inside make their system
+assigned_again : (system : System) → IsSystem system → assigned system.conf (record { ids = numbers 0 (length system.images); images = system.images }) ≡ Ok system
+unfolding assigned
+assigned_again system is =
+    let parts = length system.conf.parts in
+    let counted : length system.images ≡ parts = is.counted in
+    let none_extra : extra parts (numbers 0 (length system.images)) ≡ None = ap (λ n. extra parts (numbers 0 n)) counted ∙ no_extra parts in
+    let none_missing : missing parts (numbers 0 (length system.images)) ≡ None = ap (λ n. missing parts (numbers 0 n)) counted ∙ no_missing parts in
+    let none_outside : first_outside system.conf.parts system.images ≡ None = none_if_inside system.conf.parts system.images is.inside in
+    rw (none_extra, none_missing, none_outside) refl
+
+-- there are at most 16 images
+few_images : (system : System) → IsSystem system → length system.images ≤ 16
+unfolding described
+few_images system is = omega (arith, is.counted, is.fits.counts.parts.few)
+
+-- a configuration and images that stand there are read
+fields_again : (system : System) (front : List ℕ) → IsSystem system → read_of (xmc system.conf) ≡ Ok system.conf → length (xmc system.conf) < 2 ^ 32 → drop 10 front ≡ fields_text system
+    → fields_of front ≡ Ok (system.conf, record { ids = numbers 0 (length system.images); images = system.images })
+unfolding fields_of conf_at length_at table_at fields_text
+fields_again system front is read short stands =
+    let images = system.images in
+    let count = length system.images in
+    let few = few_images system is in
+    let entries = entries_text 0 system.images in
+    let c = sized_again (past 10 (start front)) (xmc system.conf) (length system.images ∷ entries_text 0 system.images) short stands in
+    let n = number_again w8 256 wide8 c.1.after (length system.images) entries (omega (arith, few)) (c.1.ahead ∙ ap (λ b. b ++ entries) (sym (byte_of (length system.images) (omega (arith, few))))) in
+    let e = entries_again 0 n.after system.images [] (omega (arith, few)) is.images (n.ahead ∙ sym (append-nil entries)) in
+    let none : left e.after ≡ 0 = ap length e.ahead in
+    let ended : (left e.after == 0) ≡ true = (Decides-eqb (left e.after) 0).1 none in
+    rw (c.0.is, c.1.is, read, n.is, e.is, ended) refl
+
+-- what stands before the digest, behind name, version and length
+front_fields : (fields : List ℕ) → drop 10 (front_text fields) ≡ fields
+unfolding front_text
+front_fields fields = drop_at (lead_text (26 + length fields)) fields 10 refl
+
+-- a container has the digest of what stands before it
+sealed_signed : (fields : List ℕ) → 26 + length fields < 2 ^ 32 → IsSigned (sealed_text fields) (front_text fields)
+unfolding sealed_text
+sealed_signed fields below = record {
+  told = ap told (sym (append-nil (sealed_text fields))) ∙ sealed_told fields [] below ∙ ap (λ n. Ok n) (sym (length-sealed fields));
+  parts = refl;
+  count = omega (arith, length-front fields, length-sealed fields);
+}
+
+-- a system is unpacked from its container
+pub packed_unpacked : IsBrokenUnlessFits → PackedIsUnpacked
+unfolding unpacked box_text
+packed_unpacked law system is ranges below =
+    let fields = fields_text system in
+    let small : 26 + length (fields_text system) < 2 ^ 32 = omega (arith, below, length-sealed (fields_text system)) in
+    let read : read_of (xmc system.conf) ≡ Ok system.conf = spelled_read law system.conf ranges is.fits in
+    let short : length (xmc system.conf) < 2 ^ 32 = xmc_short system.conf (spelled_if_fits system.conf ranges is.fits) in
+    let first = signed_again (sealed_text fields) (front_text fields) (sealed_signed fields small) in
+    let second = fields_again system (front_text fields) is read short (front_fields fields) in
+    rw (first, second) (assigned_again system is)

@@ -1,0 +1,16 @@
+pub mod Bare
+pub mod BareLemmas
+pub mod Box
+pub mod BoxLemmas
+pub mod Entries
+pub mod FieldLemmas
+pub mod Gives
+pub mod HeadLemmas
+pub mod Laws
+pub mod NumberLemmas
+pub mod Numbers
+pub mod Pack
+pub mod PackLemmas
+pub mod Reading
+pub mod SpelledLemmas
+pub mod Texts

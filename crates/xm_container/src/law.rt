@@ -1,0 +1,24 @@
+//! The laws of containers.
+
+ghost use Rattle.xm_container.specs.Laws.{NoneGoesOn, PackedIsUnpacked, UnpackedIsPacked};
+
+use xm_conf::broken_unless_fits;
+
+/// No container is a proper front of another.
+pub fn none_goes_on()
+    ensures law { NoneGoesOn }
+{}
+
+/// A system is unpacked from its container.
+pub fn packed_is_unpacked()
+    ensures law { PackedIsUnpacked }
+{
+    broken_unless_fits();
+}
+
+/// The system that is unpacked is the one whose container the bytes are.
+pub fn unpacked_is_packed()
+    ensures law { UnpackedIsPacked }
+{
+    broken_unless_fits();
+}

@@ -1,0 +1,28 @@
+//! Containers: a configuration and its images in one file, and the system that runs one raw image.
+#![tactic(auto)]
+
+mod digits;
+mod entries;
+mod fault;
+mod image;
+mod law;
+mod lines;
+mod numbers;
+mod put;
+mod raw_image;
+mod reading;
+mod writing;
+
+pub use fault::{BoxFault, PackFault};
+pub use image::Image;
+pub use law::{none_goes_on, packed_is_unpacked, unpacked_is_packed};
+pub use lines::list_lines;
+pub use loaded_system::System;
+pub use raw_image::{BareFault, bare};
+pub use reading::unpack;
+pub use writing::pack;
+
+#[cfg(test)]
+mod bare_tests;
+#[cfg(test)]
+mod tests;

@@ -1,0 +1,183 @@
+//! The lines that tell a container.
+
+ghost use Rattle.std.specs.Prelude.{◌≡◌, ◌++◌, ◌-◌, ◌≤◌, IfOk, OnOk, Ok, decimal, drop, length};
+ghost use Rattle.hex.specs.Hex.{encode_lower};
+ghost use Rattle.xef_images.specs.Texts.{address_text};
+ghost use Rattle.xm_container.specs.Reading.{unpacked};
+ghost use Rattle.xm_container.specs.Texts.{box_lines, container_line, file_line, image_line, image_lines, system_line};
+
+use crate::digits::{address_digits, digest_digits};
+use loaded_system::System;
+use md5::DIGEST_LEN;
+use std::alloc::Global;
+use xef_images::{Xef, build_xef};
+use xm_base::Memory;
+use xm_conf::RawConf;
+
+/// The lines that tell a container and the system that it is: its length and digest, its configuration, and each
+/// image.
+#[tactic(auto, unfolding(crate::specs::Texts::box_lines))]
+pub fn list_lines(alloc: Global, bytes: &[u8], system: &System) -> Result<Vec<u8>, Memory>
+    requires { unpacked bytes.now ≡ Ok system.now }
+    ensures { IfOk result (λ lines. lines.items ≡ box_lines bytes.now system.now) }
+{
+    let mut lines = Vec::new(alloc);
+    put_container(alloc, &mut lines, bytes.len(), stored(bytes))?;
+    let raw = system.conf().raw();
+    put_system(alloc, &mut lines, raw.name.bytes(), counts_of(raw))?;
+    put_images(alloc, &mut lines, system)?;
+    Ok(lines)
+}
+
+/// What a configuration has.
+#[derive(Clone, Copy, Debug)]
+struct Counts {
+    parts: usize,
+    plans: usize,
+    channels: usize,
+}
+
+/// How many partitions, plans and channels a configuration has.
+fn counts_of(raw: &RawConf) -> Counts
+    ensures parts { result.parts ≡ length raw.now.parts }
+    ensures plans { result.plans ≡ length raw.now.plans }
+    ensures channels { result.channels ≡ length raw.now.chans }
+{
+    Counts {
+        parts: raw.parts.len(),
+        plans: raw.plans.len(),
+        channels: raw.chans.len(),
+    }
+}
+
+/// The digest at the end of a file.
+fn stored(bytes: &[u8]) -> &[u8]
+    requires { 16 ≤ length bytes.now }
+    ensures value { result.now ≡ drop (length bytes.now - 16) bytes.now }
+    ensures size { length result.now ≡ 16 }
+{
+    &bytes[bytes.len() - DIGEST_LEN..]
+}
+
+/// Writes the line of a container.
+#[tactic(auto, unfolding(crate::specs::Texts::container_line))]
+fn put_container(
+    alloc: Global,
+    lines: &mut Vec<u8>,
+    total: usize,
+    digest: &[u8],
+) -> Result<(), Memory>
+    requires { length digest.now ≡ 16 }
+    ensures { OnOk result (lines.new.items ≡ lines.old.items ++ container_line total digest.now) }
+{
+    put_number(alloc, lines, b"container length=", total)?;
+    put_digest(lines, b" md5=", digest)?;
+    lines.extend_from_slice(b"\n")?;
+    Ok(())
+}
+
+/// Writes the line of a configuration.
+#[tactic(auto, unfolding(crate::specs::Texts::system_line))]
+fn put_system(alloc: Global, lines: &mut Vec<u8>, name: &[u8], counts: Counts) -> Result<(), Memory>
+    ensures { OnOk result (lines.new.items ≡ lines.old.items ++ system_line name.now counts.parts counts.plans counts.channels) }
+{
+    lines.extend_from_slice(b"system name=")?;
+    lines.extend_from_slice(name)?;
+    put_number(alloc, lines, b" parts=", counts.parts)?;
+    put_number(alloc, lines, b" plans=", counts.plans)?;
+    put_number(alloc, lines, b" channels=", counts.channels)?;
+    lines.extend_from_slice(b"\n")?;
+    Ok(())
+}
+
+/// Writes the lines of all images.
+fn put_images(alloc: Global, lines: &mut Vec<u8>, system: &System) -> Result<(), Memory>
+    ensures { OnOk result (lines.new.items ≡ lines.old.items ++ image_lines 0 system.now.images) }
+{
+    for id in 0..parts(system) {
+        put_image(alloc, lines, id, system.image(id))?;
+    }
+    Ok(())
+}
+
+/// How many partitions a system has.
+#[tactic(auto, unfolding(xm_conf::specs::Description::described))]
+fn parts(system: &System) -> u8
+    ensures value { result ≡ length system.now.conf.parts }
+    ensures images { result ≡ length system.now.images }
+{
+    system.conf().raw().parts.len() as u8
+}
+
+/// Writes the line of an image.
+fn put_image(alloc: Global, lines: &mut Vec<u8>, id: u8, xef: &Xef) -> Result<(), Memory>
+    ensures { OnOk result (lines.new.items ≡ lines.old.items ++ image_line id xef.now) }
+{
+    let file = build_xef(alloc, xef)?;
+    put_spelled(alloc, lines, id, xef.entry(), &file)?;
+    Ok(())
+}
+
+/// Writes the line of an image's file, with the digest at its end.
+fn put_spelled(
+    alloc: Global,
+    lines: &mut Vec<u8>,
+    id: u8,
+    entry: u32,
+    file: &[u8],
+) -> Result<(), Memory>
+    requires { 16 ≤ length file.now }
+    ensures { OnOk result (lines.new.items ≡ lines.old.items ++ file_line id (length file.now) entry (drop (length file.now - 16) file.now)) }
+{
+    put_file(alloc, lines, id, file.len(), entry, stored(file))
+}
+
+/// Writes the line of an image's file.
+#[tactic(auto, unfolding(crate::specs::Texts::file_line))]
+fn put_file(
+    alloc: Global,
+    lines: &mut Vec<u8>,
+    id: u8,
+    total: usize,
+    entry: u32,
+    digest: &[u8],
+) -> Result<(), Memory>
+    requires { length digest.now ≡ 16 }
+    ensures { OnOk result (lines.new.items ≡ lines.old.items ++ file_line id total entry digest.now) }
+{
+    put_number(alloc, lines, b"image id=", usize::from(id))?;
+    put_number(alloc, lines, b" length=", total)?;
+    put_address(lines, b" entry=", entry)?;
+    put_digest(lines, b" md5=", digest)?;
+    lines.extend_from_slice(b"\n")?;
+    Ok(())
+}
+
+/// Writes an address with eight hexadecimal digits, behind its name.
+fn put_address(lines: &mut Vec<u8>, name: &[u8], address: u32) -> Result<(), Memory>
+    ensures { OnOk result (lines.new.items ≡ lines.old.items ++ (name.now ++ address_text address)) }
+{
+    lines.extend_from_slice(name)?;
+    lines.extend_from_slice(&address_digits(address))?;
+    Ok(())
+}
+
+/// Writes a number with decimal digits, behind its name.
+fn put_number(alloc: Global, lines: &mut Vec<u8>, name: &[u8], number: usize) -> Result<(), Memory>
+    ensures { OnOk result (lines.new.items ≡ lines.old.items ++ (name.now ++ decimal number)) }
+{
+    let digits = format!(in alloc; "{number}")?;
+    lines.extend_from_slice(name)?;
+    lines.extend_from_slice(digits.as_bytes())?;
+    Ok(())
+}
+
+/// Writes a digest with 32 hexadecimal digits, behind its name.
+fn put_digest(lines: &mut Vec<u8>, name: &[u8], digest: &[u8]) -> Result<(), Memory>
+    requires { length digest.now ≡ 16 }
+    ensures { OnOk result (lines.new.items ≡ lines.old.items ++ (name.now ++ encode_lower digest.now)) }
+{
+    lines.extend_from_slice(name)?;
+    lines.extend_from_slice(&digest_digits(digest))?;
+    Ok(())
+}

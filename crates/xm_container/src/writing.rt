@@ -1,0 +1,183 @@
+//! The writing of a container.
+
+ghost use Rattle.std.specs.Prelude.{◌≡◌, ◌≤◌, ◌+◌, ◌++◌, ◌<◌, IfOk, OnOk, None, Some, length, map, option_copied};
+ghost use Rattle.loaded_system.specs.Inside.{first_outside as first_outside_of};
+ghost use Rattle.xm_container.specs.Box.{entries_text, entry_text, fields_text, front_text};
+ghost use Rattle.xm_container.specs.Numbers.{missing as missing_of};
+ghost use Rattle.xm_container.specs.Pack.{Packs, ids_of, image_of, in_order, packed, sealed, system_of};
+
+use crate::fault::PackFault;
+use crate::image::Image;
+use crate::numbers::{extra, missing};
+use crate::put::{put_half, put_sized, put_word};
+use bin_config::write_xmc;
+use loaded_system::{Outside, outside_of};
+use md5::{Digest, Md5};
+use std::alloc::Global;
+use xef_images::{Xef, build_xef};
+use xm_base::{FILE_BYTES, Memory};
+use xm_conf::{Conf, Part};
+
+/// The bytes of a container before and behind its fields.
+const FRAME: usize = 26;
+
+/// The numbers of images.
+fn ids_of(alloc: Global, images: &[Image]) -> Result<Vec<u8>, Memory>
+    ensures { IfOk result (λ ids. ids.items ≡ ids_of images.now) }
+{
+    let mut ids = Vec::new(alloc);
+    for image in images {
+        ids.push(image.id)?;
+    }
+    Ok(ids)
+}
+
+/// The image of a partition's number.
+fn image_of(images: &[Image], id: usize) -> Option<&Xef>
+    ensures { option_copied result ≡ image_of images.now id }
+{
+    for image in images {
+        if usize::from(image.id) == id {
+            return Some(&image.xef);
+        }
+    }
+    None
+}
+
+/// The image of a partition's number, where no image is missing.
+fn image_at(images: &[Image], id: usize, parts: usize) -> &Xef
+    requires complete { missing_of parts (ids_of images.now) ≡ None }
+    requires below { id < parts }
+    ensures { image_of images.now id ≡ Some result.now }
+{
+    let Some(xef) = image_of(images, id) else {
+        unreachable!();
+    };
+    xef
+}
+
+/// The first segment of the images that lies inside no area of its partition.
+fn first_outside(parts: &[Part], images: &[Image]) -> Option<Outside>
+    requires few { length parts.now ≤ 16 }
+    requires complete { missing_of (length parts.now) (ids_of images.now) ≡ None }
+    ensures { result ≡ first_outside_of parts.now (in_order images.now 0 (length parts.now)) }
+{
+    for id in 0..parts.len() {
+        let xef = image_at(images, id, parts.len());
+        if let Some(address) = outside_of(&parts[id], xef) {
+            return Some(Outside {
+                id: id as u8,
+                address,
+            });
+        }
+    }
+    None
+}
+
+/// Puts an image behind the number of its partition.
+#[tactic(auto, unfolding(crate::specs::Box::entry_text))]
+fn put_entry(alloc: Global, out: &mut Vec<u8>, id: u8, xef: &Xef) -> Result<(), Memory>
+    ensures { OnOk result (out.new.items ≡ out.old.items ++ entry_text id xef.now) }
+{
+    let bytes = build_xef(alloc, xef)?;
+    out.push(id)?;
+    put_sized(out, &bytes)
+}
+
+/// Puts the images of all partitions.
+fn put_entries(
+    alloc: Global,
+    out: &mut Vec<u8>,
+    parts: usize,
+    images: &[Image],
+) -> Result<(), Memory>
+    requires few { parts ≤ 16 }
+    requires complete { missing_of parts (ids_of images.now) ≡ None }
+    ensures { OnOk result (out.new.items ≡ out.old.items ++ entries_text 0 (in_order images.now 0 parts)) }
+{
+    for id in 0..parts {
+        put_entry(alloc, out, id as u8, image_at(images, id, parts))?;
+    }
+    Ok(())
+}
+
+/// The fields of a container.
+fn fields(alloc: Global, conf: &Conf, parts: usize, images: &[Image]) -> Result<Vec<u8>, Memory>
+    requires parts { parts ≡ length conf.now.parts }
+    requires few { parts ≤ 16 }
+    requires complete { missing_of parts (ids_of images.now) ≡ None }
+    ensures { IfOk result (λ fields. fields.items ≡ fields_text (system_of conf.now images.now)) }
+{
+    let xmc = write_xmc(alloc, conf)?;
+    let mut fields = Vec::new(alloc);
+    put_sized(&mut fields, &xmc)?;
+    fields.push(parts as u8)?;
+    put_entries(alloc, &mut fields, parts, images)?;
+    Ok(fields)
+}
+
+/// What stands before the digest.
+#[tactic(auto, unfolding(crate::specs::Box::front_text))]
+fn front(alloc: Global, total: u32, fields: &[u8]) -> Result<Vec<u8>, Memory>
+    requires { total ≡ 26 + length fields.now }
+    ensures { IfOk result (λ front. front.items ≡ front_text fields.now) }
+{
+    let mut front = Vec::new(alloc);
+    front.extend_from_slice(b"XMPK")?;
+    put_half(&mut front, 1)?;
+    put_word(&mut front, total)?;
+    front.extend_from_slice(fields)?;
+    Ok(front)
+}
+
+/// The container with these fields, where it is not too long.
+#[tactic(auto, unfolding(crate::specs::Box::sealed_text, crate::specs::Pack::sealed))]
+fn sealed(alloc: Global, fields: &[u8]) -> Result<Vec<u8>, PackFault>
+    ensures { Packs result (sealed fields.now) }
+{
+    let total = FRAME + fields.len();
+    if FILE_BYTES < total {
+        return Err(PackFault::Long {
+            length: total as u64,
+        });
+    }
+    let mut bytes = front(alloc, total as u32, fields)?;
+    let digest = Md5::digest(bytes.as_slice());
+    bytes.extend_from_slice(&digest)?;
+    Ok(bytes)
+}
+
+/// The container of a configuration and an image for each of its partitions, in any order. Refused in this order: an
+/// image whose number is no partition's, the smallest; a partition without an image, the smallest; a segment that
+/// lies inside no area of its partition, the first one of the smallest partition; more bytes than `FILE_BYTES`. Of two
+/// images of one number the first one counts.
+#[tactic(auto, unfolding(crate::specs::Pack::packed))]
+pub fn pack(alloc: Global, conf: &Conf, images: &[Image]) -> Result<Vec<u8>, PackFault>
+    ensures exact { Packs result (packed conf.now images.now) }
+{
+    let parts = parts(conf);
+    let ids = ids_of(alloc, images)?;
+    if let Some(id) = extra(parts.len(), &ids) {
+        return Err(PackFault::Extra { id });
+    }
+    if let Some(id) = missing(parts.len(), &ids) {
+        return Err(PackFault::Missing { id });
+    }
+    if let Some(outside) = first_outside(parts, images) {
+        return Err(PackFault::Outside {
+            id: outside.id,
+            address: outside.address,
+        });
+    }
+    let fields = fields(alloc, conf, parts.len(), images)?;
+    sealed(alloc, &fields)
+}
+
+/// The partitions of a configuration.
+#[tactic(auto, unfolding(xm_conf::specs::Description::described))]
+fn parts(conf: &Conf) -> &[Part]
+    ensures value { result.now ≡ conf.now.parts }
+    ensures few { length result.now ≤ 16 }
+{
+    &conf.raw().parts
+}
