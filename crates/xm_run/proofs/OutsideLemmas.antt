@@ -1,5 +1,5 @@
 -- What stays of the outside, and what the files come to.
-use Rattle.std.proofs.Common.{◌≡◌, ◌≢◌, ℕ, zero, suc, ◌+◌, ◌<◌, ◌≤◌, cond, min, ⊎_elim, Bool, true, false, nat_lt, ◌==◌, ◌||◌, codes, subst, if◌then◌else◌, List, [], ◌∷◌, ◌++◌, length, take, Option, Some, None, Result, Ok, Err, refl, sym, ap, ◌∙◌, arith, length-append}
+use Rattle.std.proofs.Common.{◌≡◌, ◌≢◌, ℕ, zero, suc, ◌+◌, ◌<◌, ◌≤◌, cond, min, ⊎_elim, Bool, true, false, nat_lt, ◌==◌, ◌||◌, codes, subst, if◌then◌else◌, List, [], ◌∷◌, ◌++◌, length, take, Option, Some, None, Result, Ok, Err, refl, sym, ap, ◌∙◌, arith}
 use Rattle.std.proofs.lemmas.Bool.{cases_lt}
 use Rattle.std.proofs.lemmas.Bool.Decides.{nat_tests}
 use Rattle.std.proofs.lemmas.List.{length-take, take_all}
@@ -11,14 +11,14 @@ use Rattle.std.specs.declared.cmp.Ordering.TheVariants.{Less, Equal, Greater}
 use Rattle.xm_base.specs.Options.{on}
 use Rattle.xm_base.specs.declared.limits.TheConstants.{FILE_BYTES, IMAGE_BYTES}
 use Rattle.xm_outside.specs.Causes.{counted}
-use Rattle.xm_outside.specs.Files.{Files, IsAbsent, OthersStay, ReadsFile, stored}
+use Rattle.xm_outside.specs.Files.{Files, OthersStay, stored}
 use Rattle.xm_words.specs.Words.{Command, Bare, Parse}
 use Rattle.xm_run.specs.Answer.{read_all, read_before, saved}
 use Rattle.xm_machine.specs.System.{System, bare_system}
 use Rattle.xm_run.specs.Ending.{length_text}
 use Rattle.xm_run.specs.Parsing.{xmc_of}
-use Rattle.xm_run.specs.Outcome.{Denial, Output, Outcome, bare_outcome, content, first_long, made, ran, refused, inputs_of, outcome_of, output_of, unless_long, worked}
-use Rattle.xm_run.specs.Top.{AreContents, FilesStay, HasCalls, counted_by, named_count, output_count}
+use Rattle.xm_run.specs.Outcome.{Denial, Output, bare_outcome, content, first_long, made, ran, refused, inputs_of, outcome_of, output_of, unless_long, worked}
+use Rattle.xm_run.specs.Top.{AreContents, FilesStay, HasCalls, counted_by, output_count}
 use Rattle.xm_run.specs.Work.{Outside, ReadsFiles, called, called_for, wrote}
 
 -- Calls.

@@ -1,7 +1,6 @@
 -- What is said of a text that makes no configuration.
-use Rattle.std.proofs.Common.{◌≡◌, ◌⊎◌, ⊎_elim, ℕ, List, Option, Some, None, Result, Ok, Err, refl, sym, ap, ◌∙◌, subst}
-use Rattle.std.specs.String.{string_bytes}
-use Rattle.xmcf_reader.specs.Faults.{draft_of, xmcf_fault}
+use Rattle.std.proofs.Common.{◌≡◌, ◌⊎◌, ⊎_elim, ℕ, List, Option, Some, Result, Err, refl, sym, ap, ◌∙◌}
+use Rattle.xmcf_reader.specs.Faults.{xmcf_fault}
 use Rattle.xmcf_reader.specs.Texts.{fault_text}
 use Rattle.xmcf_reader.specs.declared.draft.Entry.{Entry}
 use Rattle.xmcf_reader.specs.declared.fault.ReadFault.{ReadFault}
@@ -10,7 +9,6 @@ use Rattle.xmcf_check.specs.Texts.{check_fault_text}
 use Rattle.xmcf_check.specs.Verdict.{IsVerdict, verdict_of}
 use Rattle.xmcf_check.specs.declared.fault.CheckFault.{CheckFault}
 use Rattle.xmcf_check.specs.declared.fault.CheckFault.TheVariants as check
-use Rattle.xm_conf.specs.Configuration.{Conf}
 use Rattle.xm_run.specs.Makes.{IsTold, IsUnmade}
 use Rattle.xm_run.specs.Parsing.{xmc_by_reading, xmc_by_verdict, xmc_of}
 use Rattle.xm_run.specs.declared.unmade.Unmade.{Unmade}

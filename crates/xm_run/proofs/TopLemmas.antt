@@ -1,16 +1,15 @@
 -- What the top call promises, from what the work did.
-use Rattle.std.proofs.Common.{◌≡◌, ◌≢◌, ℕ, zero, suc, ◌+◌, ◌≤◌, ◌↔◌, inl, inr, ⊎_elim, List, [], ◌∷◌, ◌++◌, length, Option, Some, None, Result, Ok, Err, refl, sym, ap, ◌∙◌, subst, arith, length-append}
-use Rattle.std.specs.FinMap.{get}
-use Rattle.xm_outside.specs.Causes.{HasCause, Rose}
-use Rattle.xm_outside.specs.Files.{Files, IsAbsent, OthersStay}
+use Rattle.std.proofs.Common.{◌≡◌, ◌≢◌, ℕ, suc, ◌+◌, ◌↔◌, inl, inr, ⊎_elim, List, [], length, Option, Some, None, Result, Ok, Err, refl, sym, ap, ◌∙◌, subst, arith, length-append}
+use Rattle.xm_outside.specs.Causes.{HasCause}
+use Rattle.xm_outside.specs.Files.{Files, IsAbsent}
 use Rattle.xm_outside.specs.Growth.{grown, grown-nothing, GrewByPrefix, Writes}
 use Rattle.xm_words.specs.Words.{Command, command_of}
-use Rattle.xm_run.specs.Answer.{Answer, answer, answer_by, answer_of, answer_to, answer_to_read, ending_by, read_all, saved}
+use Rattle.xm_run.specs.Answer.{Answer, answer, answer_of, answer_to, answer_to_read, ending_by, read_all, saved}
 use Rattle.xm_run.specs.Ending.{Ending, Finished, Misused, Unread, Denied, Unwritten, Unsaved, Starved, complaint, status_of}
 use Rattle.xm_run.specs.Outcome.{Denial, Output, Outcome, inputs_of, outcome_of, output_of}
 use Rattle.xm_run.specs.Top.{Answers, AreContents, FilesStay, HasCalls, HasCauses, HasNoFault, IsBarren, IsFaultless, IsQuiet, IsReadCause, IsRefusal, IsSaid, IsWriteCause, OtherFilesStay, counted_by}
-use Rattle.xm_run.specs.Work.{Outside, IsCarriedOut, IsDone, IsMisuse, IsStarved, IsUnread, IsUnsaved, IsUnwritten, IsWorked, ReadsFiles, called, called_for, reported, wrote}
-use Rattle.xm_run.proofs.OutsideLemmas.{called_for-is, counted-counted_by, files_same, output-denied, output-named, read_all-absent, told_outcome, with_calls, wrote-calls, wrote-faults, wrote-files, wrote-got, wrote-read_faults, wrote-stays, wrote-write_faults}
+use Rattle.xm_run.specs.Work.{Outside, IsCarriedOut, IsDone, IsMisuse, IsUnread, IsWorked, ReadsFiles, called, called_for, wrote}
+use Rattle.xm_run.proofs.OutsideLemmas.{called_for-is, counted-counted_by, files_same, output-denied, output-named, read_all-absent, told_outcome, wrote-calls, wrote-faults, wrote-files, wrote-got, wrote-read_faults, wrote-stays, wrote-write_faults}
 use Rattle.xm_run.specs.declared.status.Status.{Status}
 use Rattle.xm_run.specs.declared.status.Status.TheVariants.{Done, Refused, Usage, ReadFault, WriteFault, UartFault, NoMemory}
 

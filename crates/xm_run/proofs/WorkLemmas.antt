@@ -17,11 +17,11 @@ use Rattle.xm_words.specs.Seen.{seen}
 use Rattle.xm_words.specs.declared.commands.Command as code
 use Rattle.xm_words.specs.declared.commands.Command.TheVariants as variant
 use Rattle.xm_run.specs.Ending.{Ending, Finished, Misused, Unread, Denied, Unwritten, Unsaved, Starved, length_text, unbuilt_text}
-use Rattle.xm_run.specs.Outcome.{Outcome, bare_outcome, inputs_of, made, outcome_of, ran, refused, stuck_denial, unless_long, worked}
+use Rattle.xm_run.specs.Outcome.{Outcome, bare_outcome, inputs_of, made, outcome_of, ran, refused, stuck_denial, worked}
 use Rattle.xm_run.specs.Parsing.{xmc_of}
 use Rattle.xm_run.specs.Told.{HasTicks}
 use Rattle.xm_run.proofs.OutsideLemmas.{no_output, output-named}
-use Rattle.xm_run.specs.Work.{Outside, Comes, IsDone, IsNotRead, Reports, called, outside, reported, with_report, wrote}
+use Rattle.xm_run.specs.Work.{Outside, Comes, IsDone, IsNotRead, Reports, called, outside}
 
 -- Runs.
 

@@ -1,5 +1,5 @@
 -- What the top call promises, each promise by a name.
-use Rattle.std.specs.Prelude.{◌≡◌, ◌≢◌, ℕ, zero, suc, ◌+◌, ◌≤◌, ◌⊎◌, List, [], ◌∷◌, ◌++◌, length, Option, Some, None, IsSome, Result, Ok, Err}
+use Rattle.std.specs.Prelude.{◌≡◌, ◌≢◌, ℕ, zero, suc, ◌+◌, ◌≤◌, ◌⊎◌, List, ◌∷◌, ◌++◌, length, Option, Some, None, IsSome, Ok}
 use Rattle.xm_outside.specs.Causes.{Rose, counted}
 use Rattle.xm_outside.specs.Files.{Files, IsAbsent, OthersStay}
 use Rattle.xm_outside.specs.Growth.{grown, GrewByPrefix}
@@ -7,7 +7,7 @@ use Rattle.xm_words.specs.Words.{Command}
 use Rattle.xm_run.specs.Answer.{answer, read_all}
 use Rattle.xm_run.specs.Ending.{Ending, complaint, status_of}
 use Rattle.xm_run.specs.Outcome.{inputs_of, outcome_of, output_of}
-use Rattle.xm_run.specs.Work.{Outside, IsWorked, ReadsFiles}
+use Rattle.xm_run.specs.Work.{Outside, IsWorked}
 use Rattle.xm_run.specs.declared.status.Status.{Status}
 use Rattle.xm_run.specs.declared.status.Status.TheVariants.{Done, Refused, Usage, ReadFault, WriteFault, NoMemory}
 

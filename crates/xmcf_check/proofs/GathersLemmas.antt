@@ -1,21 +1,20 @@
 -- What is gathered out of a draft is gathered of its description.
-use Rattle.std.proofs.Common.{◌≡◌, ℕ, ◌+◌, ◌<◌, Bool, true, false, List, [], ◌∷◌, ◌++◌, length, map, Option, Some, None, is_some, refl, sym, ap, ◌∙◌, subst, length-append, arith}
+use Rattle.std.proofs.Common.{◌≡◌, ℕ, ◌+◌, ◌<◌, List, [], ◌∷◌, length, map, Option, Some, None, is_some, refl, sym, ap, ◌∙◌, subst, length-append, arith}
 use Rattle.std.specs.Prelude.{All, filter_map}
 use Rattle.std.specs.List.{find, cons_option}
 use Rattle.std.proofs.lemmas.List.Elements.{All-append, All-cons, All-nil}
 use Rattle.xm_base.specs.Options.{on}
 use Rattle.xm_conf.specs.Along.{each_from}
-use Rattle.xm_conf.specs.Configuration.{Conf, Part, Plan}
-use Rattle.xm_conf.specs.Description.{Answer, Description, Ids, Monitor, PlanIds}
+use Rattle.xm_conf.specs.Configuration.{Part, Plan}
+use Rattle.xm_conf.specs.Description.{Monitor, PlanIds}
 use Rattle.xm_conf.specs.Health.{events}
 use Rattle.xm_conf.specs.declared.health.Action.{Action}
 use Rattle.xm_conf.specs.declared.health.Event.{Event}
 use Rattle.xm_conf.specs.declared.part.HmTable.{HmTable}
-use Rattle.xm_conf.specs.declared.plan.Slot.{Slot}
 use Rattle.xmcf_reader.specs.declared.draft.Element.{Element}
 use Rattle.xmcf_reader.specs.declared.draft.Element.TheVariants as element
 use Rattle.xmcf_reader.specs.declared.draft.Entry.{Entry}
-use Rattle.xmcf_check.specs.Capped.{capped_chan, capped_conf, capped_part, capped_plan, capped_slot}
+use Rattle.xmcf_check.specs.Capped.{capped_conf, capped_part, capped_plan, capped_slot}
 use Rattle.xmcf_check.specs.Described as described
 use Rattle.xmcf_check.specs.Elements.{frame_of, given_of, own_of, part_id_of, plan_id_of, slot_id_of, slot_of, uart_id_of, uart_of}
 use Rattle.xmcf_check.specs.Gathered.{Gathered}

@@ -1,5 +1,5 @@
 -- What is told of a draft is what its description breaks.
-use Rattle.std.proofs.Common.{◌≡◌, ℕ, List, Some, None, ap}
+use Rattle.std.proofs.Common.{◌≡◌, List, Some, None, ap}
 use Rattle.xm_base.specs.Options.{on}
 use Rattle.xm_conf.specs.Rules.{first_broken}
 use Rattle.xm_conf.specs.declared.item.Broken.{Broken}

@@ -237,135 +237,135 @@ fn put_numbered(alloc: Global, text: &mut Vec<u8>, part: &str, number: u32) -> R
     Ok(())
 }
 
-// Each row: what stands behind the parts that are put in, the part, its first number, how many there are, and what is
-// said of the text.
+// Each row: what stands behind the parts that are put in, the part, its first number and the one behind its last, and
+// what is said of the text.
 #[test]
 fn each_limit_is_taken_and_one_more_is_not(rt: HostRuntime) -> Result<(), Fail> {
-    for (behind, part, first, count, said) in [
+    for (behind, part, first, end, said) in [
         (
             "</MemoryLayout>",
             "<Region type='c' start='0x9#000000' size='4KB'/>",
             2,
-            6,
+            8,
             "ok",
         ),
         (
             "</MemoryLayout>",
             "<Region type='c' start='0x9#000000' size='4KB'/>",
             2,
-            7,
+            9,
             "rule number=1 at=458 and=458",
         ),
-        ("</Devices>", "<Uart id='#' name='U#'/>", 2, 6, "ok"),
+        ("</Devices>", "<Uart id='#' name='U#'/>", 2, 8, "ok"),
         (
             "</Devices>",
             "<Uart id='#' name='U#'/>",
             2,
-            7,
+            9,
             "rule number=1 at=740 and=740",
         ),
         (
             "</CyclicPlanTable>",
             "<Plan id='#' majorFrame='1ms'><Slot id='0' start='0ms' duration='1ms' partitionId='0'/></Plan>",
             2,
-            6,
+            8,
             "ok",
         ),
         (
             "</CyclicPlanTable>",
             "<Plan id='#' majorFrame='1ms'><Slot id='0' start='0ms' duration='1ms' partitionId='0'/></Plan>",
             2,
-            7,
+            9,
             "rule number=1 at=1055 and=1055",
         ),
         (
             "</Plan>\n</CyclicPlanTable>",
             "<Slot id='#' start='#ms' duration='1ms' partitionId='0'/>",
             1,
-            63,
+            64,
             "ok",
         ),
         (
             "</Plan>\n</CyclicPlanTable>",
             "<Slot id='#' start='#ms' duration='1ms' partitionId='0'/>",
             1,
-            64,
+            65,
             "rule number=1 at=4182 and=4182",
         ),
         (
             "</PartitionTable>",
             "<Partition id='#' name='P#'><PhysicalMemoryAreas><Area start='0x403@000' size='4KB'/></PhysicalMemoryAreas></Partition>",
             2,
-            14,
+            16,
             "ok",
         ),
         (
             "</PartitionTable>",
             "<Partition id='#' name='P#'><PhysicalMemoryAreas><Area start='0x403@000' size='4KB'/></PhysicalMemoryAreas></Partition>",
             2,
-            15,
+            17,
             "rule number=1 at=3251 and=3251",
         ),
         (
             "</PhysicalMemoryAreas>\n<TemporalRequirements duration='2ms'",
             "<Area start='0x402@000' size='4KB'/>",
             1,
-            7,
+            8,
             "ok",
         ),
         (
             "</PhysicalMemoryAreas>\n<TemporalRequirements duration='2ms'",
             "<Area start='0x402@000' size='4KB'/>",
             1,
-            8,
+            9,
             "rule number=1 at=1596 and=1596",
         ),
         (
             "</PortTable></Partition>\n</PartitionTable>",
             "<Port name='p#' type='sampling' direction='destination'/>",
             2,
-            30,
+            32,
             "ok",
         ),
         (
             "</PortTable></Partition>\n</PartitionTable>",
             "<Port name='p#' type='sampling' direction='destination'/>",
             2,
-            31,
+            33,
             "rule number=1 at=3266 and=3266",
         ),
         (
             "</Channels>",
             "<QueuingChannel maxMessageLength='8B' maxNoMessages='2'><Source partitionId='0' portName='q'/><Destination partitionId='1' portName='q'/></QueuingChannel>",
             2,
-            62,
+            64,
             "rule number=18 at=1959 and=1687",
         ),
         (
             "</Channels>",
             "<QueuingChannel maxMessageLength='8B' maxNoMessages='2'><Source partitionId='0' portName='q'/><Destination partitionId='1' portName='q'/></QueuingChannel>",
             2,
-            63,
+            65,
             "rule number=1 at=11451 and=11451",
         ),
         (
             "</SamplingChannel>",
             "<Destination partitionId='1' portName='s'/>",
             1,
-            15,
+            16,
             "rule number=18 at=1884 and=1841",
         ),
         (
             "</SamplingChannel>",
             "<Destination partitionId='1' portName='s'/>",
             1,
-            16,
+            17,
             "rule number=1 at=2529 and=2529",
         ),
     ] {
         let (front, back) = FULL.split_once(behind).unwrap_or((FULL, ""));
         let mut text = Vec::from_slice(rt.alloc(), front.as_bytes())?;
-        for number in first..first + count {
+        for number in first..end {
             put_numbered(rt.alloc(), &mut text, part, number)?;
         }
         text.extend_from_slice(behind.as_bytes())?;

@@ -1,4 +1,4 @@
-use Rattle.std.proofs.Common.{◌≡◌, ℕ, ◌⊎◌, ◌<◌, List, length, Option, Some, refl, sym, ◌∙◌, ap, subst}
+use Rattle.std.proofs.Common.{◌≡◌, ℕ, ◌⊎◌, ◌<◌, length, Option, Some, refl, sym, ◌∙◌, ap, subst}
 use Rattle.xm_base.specs.declared.limits.TheConstants.{IMAGE_BYTES}
 use Rattle.xm_outside.specs.Growth.{grown, grown-nothing}
 use Rattle.xm_words.specs.Words.{Bare}

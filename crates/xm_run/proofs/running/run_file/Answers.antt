@@ -1,4 +1,4 @@
-use Rattle.std.proofs.Common.{List, [], ◌∷◌, refl}
+use Rattle.std.proofs.Common.{[], ◌∷◌, refl}
 use Rattle.xm_words.specs.Words.{Bare}
 use Rattle.xm_run.specs.Outcome.{outcome_of}
 use Rattle.xm_run.specs.Told.{ending_of}

@@ -1,4 +1,4 @@
-use Rattle.std.proofs.Common.{◌∙◌, ap, refl}
+use Rattle.std.proofs.Common.{◌∙◌, ap}
 use Rattle.xm_machine.specs.State.{MachineState}
 use Rattle.xm_run.proofs.WorkLemmas.{booted-ticks, booted-halted, finished, unwritten, denied}
 use Rattle.xm_run.proofs.running.run_system.Goals as goal
