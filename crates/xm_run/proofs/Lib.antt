@@ -1,3 +1,4 @@
+pub mod ImagingLemmas
 pub mod OutsideLemmas
 pub mod ParsingLemmas
 pub mod TopLemmas

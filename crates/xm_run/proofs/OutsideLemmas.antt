@@ -12,12 +12,13 @@ use Rattle.xm_base.specs.Options.{on}
 use Rattle.xm_base.specs.declared.limits.TheConstants.{FILE_BYTES, IMAGE_BYTES}
 use Rattle.xm_outside.specs.Causes.{counted}
 use Rattle.xm_outside.specs.Files.{Files, OthersStay, stored}
-use Rattle.xm_words.specs.Words.{Command, Bare, Parse}
+use Rattle.xm_words.specs.Words.{Command, Bare, Parse, BuildImage, ReadImage, ListContainer, CheckContainer}
 use Rattle.xm_run.specs.Answer.{read_all, read_before, saved}
 use Rattle.xm_machine.specs.System.{System, bare_system}
 use Rattle.xm_run.specs.Ending.{length_text}
+use Rattle.xm_run.specs.Imaging.{container_lines_of, container_verdict_of, image_lines_of, xef_of}
 use Rattle.xm_run.specs.Parsing.{xmc_of}
-use Rattle.xm_run.specs.Outcome.{Denial, Output, bare_outcome, content, first_long, made, ran, refused, inputs_of, outcome_of, output_of, unless_long, worked}
+use Rattle.xm_run.specs.Outcome.{Denial, Output, bare_outcome, content, first_long, made, ran, refused, told, inputs_of, outcome_of, output_of, unless_long, worked}
 use Rattle.xm_run.specs.Top.{AreContents, FilesStay, HasCalls, counted_by, output_count}
 use Rattle.xm_run.specs.Work.{Outside, ReadsFiles, called, called_for, wrote}
 
@@ -93,6 +94,11 @@ made-output : (input file : List ℕ) (made_of : Result (List ℕ) (List ℕ)) (
 made-output input file (Ok bytes) output e = (let same : record { file = file; bytes = bytes } ≡ output = cc in ap (λ (o : Output). Some o.file) same)
 made-output input file (Err text) output e = absurd (cc)
 
+-- what is told writes no file
+told-output : (file : List ℕ) (text : Result (List ℕ) (List ℕ)) (output : Output) → (told file text).output ≡ Some output → ⊥
+told-output file (Ok text) output e = cc
+told-output file (Err text) output e = cc
+
 -- a run of a system writes no file
 ran-output : (file : List ℕ) (ticks : ℕ) (system : System) (output : Output) → (ran file ticks system).output ≡ Some output → ⊥
 unfolding ran
@@ -121,6 +127,10 @@ output-named command contents output is = at command (first_long (inputs_of comm
     at command (Some file) e = absurd (cc)
     at (Bare image ticks) None e = absurd (bare-output image ticks (content 0 contents) output e)
     at (Parse description out) None e = made-output description out (xmc_of (content 0 contents)) output e
+    at (BuildImage program out) None e = made-output program out (xef_of (content 0 contents)) output e
+    at (ReadImage image) None e = absurd (told-output image (image_lines_of (content 0 contents)) output e)
+    at (ListContainer container) None e = absurd (told-output container (container_lines_of (content 0 contents)) output e)
+    at (CheckContainer container) None e = absurd (told-output container (container_verdict_of (content 0 contents)) output e)
 
 -- a file that is made or refused is not both
 made-denied : (input file : List ℕ) (made_of : Result (List ℕ) (List ℕ)) (denial : Denial) → (made input file made_of).denial ≡ Some denial → (made input file made_of).output ≡ None
@@ -141,6 +151,10 @@ output-denied command contents denial is = at command (first_long (inputs_of com
     at command (Some file) e = refl
     at (Bare image ticks) None e = no_output _ (bare-output image ticks (content 0 contents))
     at (Parse description out) None e = made-denied description out (xmc_of (content 0 contents)) denial e
+    at (BuildImage program out) None e = made-denied program out (xef_of (content 0 contents)) denial e
+    at (ReadImage image) None e = no_output _ (told-output image (image_lines_of (content 0 contents)))
+    at (ListContainer container) None e = no_output _ (told-output container (container_lines_of (content 0 contents)))
+    at (CheckContainer container) None e = no_output _ (told-output container (container_verdict_of (content 0 contents)))
 
 -- what a command writes leaves the other files
 pub wrote-stays : (out : Option (List ℕ)) (o : Option Output) (x : Outside) → ((output : Output) → o ≡ Some output → out ≡ Some output.file) → FilesStay out x.files (wrote o x).files

@@ -20,7 +20,7 @@ told_makes (Refused told) made text is same = is ∙ ap Err (sym same)
 told_makes Memory made text is same = tt
 
 -- want of memory says nothing
-starved_makes : (why : Unmade) (made : Result (List ℕ) (List ℕ)) → why ≡ Memory → IsUnmade why made
+pub starved_makes : (why : Unmade) (made : Result (List ℕ) (List ℕ)) → why ≡ Memory → IsUnmade why made
 starved_makes (Refused told) made is = absurd (cc)
 starved_makes Memory made is = tt
 

@@ -1,9 +1,7 @@
 -- What the work of a command comes to.
-use Rattle.std.proofs.Common.{◌≡◌, ℕ, ◌<◌, ◌≤◌, ◌⊎◌, ⊎_elim, Bool, true, false, ◌&&◌, ◌||◌, nat_le, nat_lt, nat_eq, if◌then◌else◌, List, [], ◌∷◌, length, codes, Option, Some, None, Ok, Err, refl, sym, ap, ◌∙◌, subst, arith}
+use Rattle.std.proofs.Common.{◌≡◌, ℕ, ◌<◌, ◌≤◌, ◌⊎◌, ⊎_elim, true, false, ◌||◌, nat_lt, nat_eq, List, [], ◌∷◌, length, codes, Option, Some, None, Result, Ok, Err, refl, sym, ap, ◌∙◌, subst, arith}
 use Rattle.std.proofs.lemmas.Bool.Decides.{nat_tests}
-use Rattle.std.specs.Str.{bytes_eq}
-use Rattle.std.specs.Str.Parse.{digits_value}
-use Rattle.xm_base.specs.declared.limits.TheConstants.{FILE_BYTES, IMAGE_BYTES, TICKS}
+use Rattle.xm_base.specs.declared.limits.TheConstants.{FILE_BYTES, IMAGE_BYTES}
 use Rattle.xm_outside.specs.Files.{Files, ReadsFile}
 use Rattle.xm_outside.specs.Growth.{grown, grown-nothing, GrewByPrefix}
 use Rattle.xm_machine.specs.Bare.{IsImageLength}
@@ -12,14 +10,18 @@ use Rattle.xm_machine.specs.State.{MachineState, booted}
 use Rattle.xm_machine.specs.System.{System, bare_system}
 use Rattle.xm_machine.specs.declared.run.Ran.{Ran}
 use Rattle.xm_machine.specs.declared.run.RunFault.TheVariants.{Write, NotBuilt}
-use Rattle.xm_words.specs.Words.{Command, Bare, Parse, bare_of, command_of, command_of_two, is_file, is_number, parse_of, ticks_of}
+use Rattle.xm_words.specs.Words.{Command, Bare, Parse, command_of}
+use Rattle.xm_words.specs.Grammar.{CommandsAreSpelled}
 use Rattle.xm_words.specs.Seen.{seen}
 use Rattle.xm_words.specs.declared.commands.Command as code
 use Rattle.xm_words.specs.declared.commands.Command.TheVariants as variant
 use Rattle.xm_run.specs.Ending.{Ending, Finished, Misused, Unread, Denied, Unwritten, Unsaved, Starved, length_text, unbuilt_text}
-use Rattle.xm_run.specs.Outcome.{Outcome, bare_outcome, inputs_of, made, outcome_of, ran, refused, stuck_denial, worked}
+use Rattle.xm_run.specs.Outcome.{Outcome, bare_outcome, inputs_of, made, outcome_of, output_of, ran, refused, stuck_denial, told, worked}
 use Rattle.xm_run.specs.Parsing.{xmc_of}
+use Rattle.xm_run.specs.Makes.{IsUnmade, IsUnmadeOf}
 use Rattle.xm_run.specs.Told.{HasTicks}
+use Rattle.xm_run.specs.declared.unmade.Unmade.{Unmade}
+use Rattle.xm_run.specs.declared.unmade.Unmade.TheVariants as unmade
 use Rattle.xm_run.proofs.OutsideLemmas.{no_output, output-named}
 use Rattle.xm_run.specs.Work.{Outside, Comes, IsDone, IsNotRead, Reports, called, outside}
 
@@ -83,16 +85,27 @@ outcome-image file ticks bytes is =
 pub outcome-text : (file output bytes : List ℕ) → length bytes ≤ FILE_BYTES → outcome_of (Parse file output) (bytes ∷ []) ≡ made file output (xmc_of bytes)
 outcome-text file output bytes short = one-short (Parse file output) file bytes refl short
 
--- a run of an image writes no file
-pub bare-writes : (file : List ℕ) (ticks : ℕ) (bytes : List ℕ) → (outcome_of (Bare file ticks) (bytes ∷ [])).output ≡ None
-bare-writes file ticks bytes = no_output _ (λ output is. none_named (output-named (Bare file ticks) (bytes ∷ []) output is))
-  where
-    none_named : {X : Type 0} {x : X} → None ≡ Some x → ⊥
-    none_named e = cc
+-- a command whose words name no file to be written writes none
+pub no-writes : (command : Command) (contents : List (List ℕ)) → output_of command ≡ None → (outcome_of command contents).output ≡ None
+no-writes command contents none = no_output _ (λ output is. (let named = output-named command contents output is in let no : ⊥ = cc in no))
 
 -- a command that is refused does nothing
 pub refused_comes : (file text : List ℕ) (before : Outside) → Comes (Denied file text) (refused file text) before before
 refused_comes file text before = (refl, sym (ap (λ (g : Option (List ℕ)). record before { got = g }) (grown-nothing before.got)))
+
+-- and its report has got nothing
+pub refused_reports : (file text : List ℕ) (had : Option (List ℕ)) (faults : ℕ) → Reports (Denied file text) (refused file text) had faults had faults
+refused_reports file text had faults = (refl, sym (grown-nothing had), refl)
+
+-- where nothing was made, nothing is done
+pub unmade_comes : (e : Ending) (input output : List ℕ) (why : Unmade) (m : Result (List ℕ) (List ℕ)) (before : Outside) → IsUnmadeOf e input why → IsUnmade why m → Comes e (made input output m) before before
+unmade_comes e input output (unmade.Refused text) m before ends is = rw (ends, is) (refused_comes input _ before)
+unmade_comes e input output unmade.Memory m before ends is = rw ends refl
+
+-- and nothing is told
+pub unmade_reports : (e : Ending) (file : List ℕ) (why : Unmade) (m : Result (List ℕ) (List ℕ)) (had : Option (List ℕ)) (faults : ℕ) → IsUnmadeOf e file why → IsUnmade why m → Reports e (told file m) had faults had faults
+unmade_reports e file (unmade.Refused text) m had faults ends is = rw (ends, is) (refused_reports file _ had faults)
+unmade_reports e file unmade.Memory m had faults ends is = rw ends (refl, refl)
 
 -- From what is done with one file to what is done in all.
 
@@ -165,39 +178,11 @@ comes_by_report Starved outcome files reads writes calls had got faults now none
 
 -- Ticks.
 
--- a word that spells ticks spells at most the limit
-ticks_of-le : (word : List ℕ) (n : ℕ) → ticks_of word ≡ Some n → n ≤ TICKS
-unfolding ticks_of
-ticks_of-le word n e = at (is_number word) (nat_le (digits_value 10 word) TICKS) refl e
-  where
-    at : (a b : Bool) → nat_le (digits_value 10 word) TICKS ≡ b → (if a && b then Some (digits_value 10 word) else None) ≡ Some n → n ≤ TICKS
-    at false b test e = absurd (cc)
-    at true false test e = absurd (cc)
-    at true true test e = let same : digits_value 10 word ≡ n = cc in grind (arith, nat_tests)
-
--- the ticks of a command of two words are at most the limit
-command_of_two-ticks : (name first second image : List ℕ) (n : ℕ) → command_of_two name first second ≡ Some (Bare image n) → n ≤ TICKS
-unfolding command_of_two
-command_of_two-ticks name first second image n e = at (bytes_eq name (codes "bare")) (bytes_eq name (codes "xmcparser")) (is_file first) (is_file first && is_file second) (ticks_of second) refl e
-  where
-    at : (bare parse right files : Bool) (ticks : Option ℕ) → ticks_of second ≡ ticks → (if bare then bare_of right first ticks else if parse then parse_of files first second else None) ≡ Some (Bare image n) → n ≤ TICKS
-    at true parse true files None is e = absurd (cc)
-    at true parse true files (Some m) is e = let same : m ≡ n = cc in ticks_of-le second n (is ∙ ap Some same)
-    at true parse false files ticks is e = absurd (cc)
-    at false true right true ticks is e = absurd (cc)
-    at false true right false ticks is e = absurd (cc)
-    at false false right files ticks is e = absurd (cc)
-
--- the ticks of a command are at most the limit
-pub command_of-ticks : (words : List (List ℕ)) (image : List ℕ) (n : ℕ) → command_of words ≡ Some (Bare image n) → n ≤ TICKS
-unfolding command_of
-command_of-ticks [] image n e = absurd (cc)
-command_of-ticks (name ∷ []) image n e = absurd (cc)
-command_of-ticks (name ∷ first ∷ []) image n e = absurd (cc)
-command_of-ticks (name ∷ first ∷ second ∷ []) image n e = command_of_two-ticks name first second image n e
-command_of-ticks (name ∷ first ∷ second ∷ more ∷ rest) image n e = absurd (cc)
-
 -- the ticks of the program's command are at most the limit
-pub has_ticks : (command : code.Command) (words : List (List ℕ)) → seen (Some command) ≡ command_of words → HasTicks command
-has_ticks (variant.Bare image ticks) words e = command_of-ticks words image.now ticks (sym e)
-has_ticks (variant.Parse description output) words e = tt
+pub has_ticks : (command : code.Command) (words : List (List ℕ)) → CommandsAreSpelled → seen (Some command) ≡ command_of words → HasTicks command
+has_ticks (variant.Bare image ticks) words law e = ((law words (Bare image.now ticks)).0 (sym e)).1.1
+has_ticks (variant.Parse description output) words law e = tt
+has_ticks (variant.BuildImage program output) words law e = tt
+has_ticks (variant.ReadImage image) words law e = tt
+has_ticks (variant.ListContainer container) words law e = tt
+has_ticks (variant.CheckContainer container) words law e = tt

@@ -1,5 +1,6 @@
 pub mod Answer
 pub mod Ending
+pub mod Imaging
 pub mod Makes
 pub mod Outcome
 pub mod Parsing

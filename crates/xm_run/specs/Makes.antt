@@ -1,6 +1,7 @@
 -- What a call answers that makes a file out of another.
 use Rattle.std.specs.Prelude.{◌≡◌, ℕ, ⊤, List, Vec, Result, Ok, Err}
 use Rattle.std.specs.String.{string_bytes}
+use Rattle.xm_run.specs.Ending.{Ending, Denied, Starved}
 use Rattle.xm_run.specs.declared.unmade.Unmade.{Unmade}
 use Rattle.xm_run.specs.declared.unmade.Unmade.TheVariants.{Refused, Memory}
 
@@ -8,6 +9,11 @@ use Rattle.xm_run.specs.declared.unmade.Unmade.TheVariants.{Refused, Memory}
 abbrev pub IsUnmade : Unmade → Result (List ℕ) (List ℕ) → Type 0
 IsUnmade (Refused text) made = made ≡ Err (string_bytes text)
 IsUnmade Memory made = ⊤
+
+-- how a call ends that made nothing of a file
+abbrev pub IsUnmadeOf : Ending → List ℕ → Unmade → Type 0
+IsUnmadeOf ending file (Refused text) = ending ≡ Denied file (string_bytes text)
+IsUnmadeOf ending file Memory = ending ≡ Starved
 
 -- the bytes are those of the definition, and so is the text of a refusal
 abbrev pub Makes : {A : Type 0} → Result (Vec ℕ A) Unmade → Result (List ℕ) (List ℕ) → Type 0

@@ -5,8 +5,9 @@ use Rattle.xm_report.specs.Report.{texts}
 use Rattle.xm_machine.specs.State.{booted}
 use Rattle.xm_machine.specs.Step.{run_of, report_of}
 use Rattle.xm_machine.specs.System.{System, bare_system}
-use Rattle.xm_words.specs.Words.{Command, Bare, Parse}
+use Rattle.xm_words.specs.Words.{Command, Bare, Parse, BuildImage, ReadImage, ListContainer, CheckContainer}
 use Rattle.xm_run.specs.Ending.{length_text, unbuilt_text}
+use Rattle.xm_run.specs.Imaging.{container_lines_of, container_verdict_of, image_lines_of, xef_of}
 use Rattle.xm_run.specs.Parsing.{xmc_of}
 
 -- why a command is refused: the file that is named, and the text
@@ -33,11 +34,19 @@ refused file text = record { denial = Some (record { file = file; text = text })
 abbrev pub inputs_of : Command → List (List ℕ)
 inputs_of (Bare image ticks) = image ∷ []
 inputs_of (Parse description output) = description ∷ []
+inputs_of (BuildImage program output) = program ∷ []
+inputs_of (ReadImage image) = image ∷ []
+inputs_of (ListContainer container) = container ∷ []
+inputs_of (CheckContainer container) = container ∷ []
 
 -- the file that a command writes
 abbrev pub output_of : Command → Option (List ℕ)
 output_of (Bare image ticks) = None
 output_of (Parse description output) = Some output
+output_of (BuildImage program output) = Some output
+output_of (ReadImage image) = None
+output_of (ListContainer container) = None
+output_of (CheckContainer container) = None
 
 -- the refusal of a run that is stuck
 abbrev pub stuck_denial : List ℕ → Option (ℕ × ℕ) → Option Denial
@@ -65,6 +74,11 @@ abbrev pub made : List ℕ → List ℕ → Result (List ℕ) (List ℕ) → Out
 made input output (Ok bytes) = record { denial = None; output = Some (record { file = output; bytes = bytes }); report = made_text (length bytes) }
 made input output (Err text) = refused input text
 
+-- what a file comes to that is told: its text, or a refusal
+abbrev pub told : List ℕ → Result (List ℕ) (List ℕ) → Outcome
+told file (Ok text) = record { denial = None; output = None; report = text }
+told file (Err text) = refused file text
+
 -- the content of the file of this number
 abbrev pub content : ℕ → List (List ℕ) → List ℕ
 content n contents = slice_index_or contents n []
@@ -73,6 +87,10 @@ content n contents = slice_index_or contents n []
 abbrev pub worked : Command → List (List ℕ) → Outcome
 worked (Bare image ticks) contents = bare_outcome image ticks (content 0 contents)
 worked (Parse description output) contents = made description output (xmc_of (content 0 contents))
+worked (BuildImage program output) contents = made program output (xef_of (content 0 contents))
+worked (ReadImage image) contents = told image (image_lines_of (content 0 contents))
+worked (ListContainer container) contents = told container (container_lines_of (content 0 contents))
+worked (CheckContainer container) contents = told container (container_verdict_of (content 0 contents))
 
 -- the first of the files that has more bytes than a file may have
 abbrev pub first_long : List (List ℕ) → List (List ℕ) → Option (List ℕ)

@@ -33,6 +33,10 @@ ending_of variant.Starved = Starved
 abbrev pub HasTicks : Command → Type 0
 HasTicks (words.Bare image ticks) = ticks ≤ TICKS
 HasTicks (words.Parse description output) = ⊤
+HasTicks (words.BuildImage program output) = ⊤
+HasTicks (words.ReadImage image) = ⊤
+HasTicks (words.ListContainer container) = ⊤
+HasTicks (words.CheckContainer container) = ⊤
 
 -- a file was read, or the call ends without it
 abbrev pub IsRead : {A : Type 0} → Result (Vec ℕ A) code.Ending → List ℕ → Outside → Outside → Type 0

@@ -1,18 +1,51 @@
-//! A file that was made is written, and told in the report.
+//! What was made is written or told.
 
-ghost use Rattle.std.specs.Prelude.{◌≡◌, [], length, Ok};
+ghost use Rattle.std.specs.Prelude.{◌≡◌, ℕ, List, [], length, Ok, Result};
 ghost use Rattle.xm_outside.specs.Causes.{HasCause};
 ghost use Rattle.xm_outside.specs.Growth.{Writes};
-ghost use Rattle.xm_run.specs.Outcome.{made, made_text};
+ghost use Rattle.xm_run.specs.Makes.{IsUnmadeOf, Makes};
+ghost use Rattle.xm_run.specs.Outcome.{made, made_text, told};
 ghost use Rattle.xm_run.specs.Told.{ending_of};
-ghost use Rattle.xm_run.specs.Work.{Comes, outside};
+ghost use Rattle.xm_run.specs.Work.{Comes, Reports, outside};
 
-use crate::ending::Ending;
+use crate::ending::{Ending, Refusal};
+use crate::unmade::Unmade;
 use xm_outside::{Failed, Sink, Store, write_all};
 use xm_report::Pen;
 
-/// Writes a file that was made out of another, and tells its length.
+/// Writes a file that was made out of another, and tells its length; or tells why it was not made.
 pub(crate) fn deliver<'a, S: Store, O: Sink>(
+    input: &'a str,
+    output: &'a str,
+    file: Result<Vec<u8>, Unmade>,
+    files: &mut S,
+    out: &mut O,
+) -> Ending<'a>
+    ensures { (m : Result (List ℕ) (List ℕ)) → Makes file m → Comes (ending_of result) (made input.now output.now m)
+        (outside (S.files files.old) (S.read_faults files.old) (S.write_faults files.old) (S.calls files.old) (O.got out.old) (O.faults out.old))
+        (outside (S.files files.new) (S.read_faults files.new) (S.write_faults files.new) (S.calls files.new) (O.got out.new) (O.faults out.new)) }
+{
+    match file {
+        Ok(bytes) => save(input, output, &bytes, files, out),
+        Err(why) => unmade(input, why),
+    }
+}
+
+// How a call ends that made nothing.
+fn unmade<'a>(input: &'a str, why: Unmade) -> Ending<'a>
+    ensures { IsUnmadeOf (ending_of result) input.now why }
+{
+    match why {
+        Unmade::Refused { text } => Ending::Denied {
+            file: input,
+            why: Refusal::Told { text },
+        },
+        Unmade::Memory => Ending::Starved,
+    }
+}
+
+// Writes a file that was made out of another, and tells its length.
+fn save<'a, S: Store, O: Sink>(
     input: &'a str,
     output: &'a str,
     bytes: &[u8],
@@ -29,6 +62,30 @@ pub(crate) fn deliver<'a, S: Store, O: Sink>(
             Err(Failed) => Ending::Unwritten,
         },
         Err(Failed) => Ending::Unsaved { file: output },
+    }
+}
+
+/// Writes the text that tells a file to the report; or tells why there is none.
+pub(crate) fn tell<'a, O: Sink>(
+    file: &'a str,
+    text: Result<Vec<u8>, Unmade>,
+    out: &mut O,
+) -> Ending<'a>
+    ensures { (m : Result (List ℕ) (List ℕ)) → Makes text m → Reports (ending_of result) (told file.now m) (O.got out.old) (O.faults out.old) (O.got out.new) (O.faults out.new) }
+{
+    match text {
+        Ok(text) => report(&text, out),
+        Err(why) => unmade(file, why),
+    }
+}
+
+// Writes a text to the report.
+fn report<'a, O: Sink>(text: &[u8], out: &mut O) -> Ending<'a>
+    ensures { (file : List ℕ) → Reports (ending_of result) (told file (Ok text.now)) (O.got out.old) (O.faults out.old) (O.got out.new) (O.faults out.new) }
+{
+    match write_all(out, text) {
+        Ok(()) => Ending::Finished,
+        Err(Failed) => Ending::Unwritten,
     }
 }
 

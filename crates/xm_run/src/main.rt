@@ -7,6 +7,7 @@ ghost use Rattle.xm_run.specs.Top.{IsQuiet};
 mod complaint;
 mod delivery;
 mod ending;
+mod imaging;
 mod parsing;
 mod reading;
 mod running;

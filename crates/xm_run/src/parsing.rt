@@ -59,14 +59,7 @@ fn parse_text<'a, S: Store, O: Sink>(
             why: Refusal::TooLong,
         };
     }
-    match make_xmc(alloc, text) {
-        Ok(bytes) => deliver(description, output, &bytes, files, out),
-        Err(Unmade::Refused { text }) => Ending::Denied {
-            file: description,
-            why: Refusal::Told { text },
-        },
-        Err(Unmade::Memory) => Ending::Starved,
-    }
+    deliver(description, output, make_xmc(alloc, text), files, out)
 }
 
 // The binary configuration of a system description.

@@ -7,12 +7,13 @@ ghost use Rattle.xm_words.specs.Seen.{seen};
 ghost use Rattle.xm_words.specs.Words.{command_of};
 
 use crate::ending::Ending;
+use crate::imaging::{build_image, check_container, list_container, read_image};
 use crate::parsing::parse;
 use crate::running::run_file;
 use std::alloc::Global;
 use xm_machine::Board;
 use xm_outside::{Sink, Store};
-use xm_words::{Command, Words, command};
+use xm_words::{Command, Words, command, grammar};
 
 /// Does what the words say. The answer is how that ended.
 pub(crate) fn work<'a, S: Store, O: Sink>(
@@ -26,6 +27,7 @@ pub(crate) fn work<'a, S: Store, O: Sink>(
         (outside (S.files files.old) (S.read_faults files.old) (S.write_faults files.old) (S.calls files.old) (O.got out.old) (O.faults out.old))
         (outside (S.files files.new) (S.read_faults files.new) (S.write_faults files.new) (S.calls files.new) (O.got out.new) (O.faults out.new)) }
 {
+    grammar();
     match command(words) {
         None => Ending::Misused,
         Some(command) => carry_out(alloc, command, files, out, board),
@@ -51,5 +53,9 @@ fn carry_out<'a, S: Store, O: Sink>(
             description,
             output,
         } => parse(alloc, description, output, files, out),
+        Command::BuildImage { program, output } => build_image(alloc, program, output, files, out),
+        Command::ReadImage { image } => read_image(alloc, image, files, out),
+        Command::ListContainer { container } => list_container(alloc, container, files, out),
+        Command::CheckContainer { container } => check_container(alloc, container, files, out),
     }
 }

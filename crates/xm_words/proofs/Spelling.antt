@@ -1,5 +1,5 @@
 -- What is to be typed for a number, a file and a command.
-use Rattle.std.proofs.Common.{◌≡◌, ℕ, ◌^◌, ◌<◌, ◌≤◌, Bool, true, false, ◌&&◌, if◌then◌else◌, not, nat_eq, nat_lt, subst, List, [], ◌∷◌, length, codes, decimal, slice_index, Option, Some, None, refl, sym, ap, ◌∙◌, arith, inl, inr}
+use Rattle.std.proofs.Common.{◌≡◌, ℕ, ◌^◌, ◌<◌, ◌≤◌, Bool, true, false, ◌&&◌, if◌then◌else◌, not, nat_eq, nat_lt, subst, List, [], ◌∷◌, length, codes, decimal, slice_index, Option, Some, None, refl, sym, ap, ◌∙◌, arith, ◌⊎◌, ⊎_elim, inl, inr}
 use Rattle.std.specs.Str.{bytes_eq}
 use Rattle.std.specs.Str.Parse.{digits_value}
 use Rattle.std.specs.List.{starts_with}
@@ -8,8 +8,8 @@ use Rattle.std.proofs.lemmas.Bool.Decides.{Decides-eqb}
 use Rattle.std.proofs.lemmas.Slice.Eq.{bytes_eq-Decides, starts_is}
 use Rattle.std.proofs.lemmas.Fmt.{digits_decimal, digits_value-decimal, decimal-digits_value, decimal_nonempty, decimal_digit, first_decimal}
 use Rattle.xm_base.specs.declared.limits.TheConstants.{TICKS}
-use Rattle.xm_words.specs.Grammar.{BareIsSpelled, IsFile, ParseIsSpelled, TicksAreDecimal}
-use Rattle.xm_words.specs.Words.{Bare, Parse, bare_of, command_of, command_of_two, is_file, is_number, parse_of, ticks_of}
+use Rattle.xm_words.specs.Grammar.{CommandsAreSpelled, IsFile, IsRight, TicksAreDecimal, words_of}
+use Rattle.xm_words.specs.Words.{Command, Bare, Parse, BuildImage, ReadImage, ListContainer, CheckContainer, asked, bare_of, command_of, command_of_three, command_of_two, format_command, is_file, is_number, of_file, of_files, pack_command, ticks_of}
 use Rattle.xm_words.proofs.Numbers.{numerals, number_digits, number_plain, plain_number, spelled, unspelled, above}
 
 -- the text of a number begins with a zero only where it is `0`
@@ -67,101 +67,143 @@ is_of_file word file = and_from (nat_lt 0 (length word)) _ (lt-ltb _ _ file.some
     front true begins = absurd (file.plain _ ((starts_is Decides-eqb word (codes "--") _ refl).0 begins))
     front false other = refl
 
--- where a run of an image is spelled, each of its words is right
-pub bare_parts : (right : Bool) (word image : List ℕ) (ticks : Option ℕ) (n : ℕ) → bare_of right word ticks ≡ Some (Bare image n) → (right ≡ true) × (word ≡ image) × (ticks ≡ Some n)
-bare_parts true word image (Some ticks) n e = (refl, cc, cc)
-bare_parts true word image None n e = cc
-bare_parts false word image ticks n e = cc
+-- words are what is typed for a command, and what they name is right
+pub record Typed (words : List (List ℕ)) (command : Command) : Type 0 where
+  pub text : words ≡ words_of command
+  pub right : IsRight command
 
--- what asks for a configuration is no run of an image
-parse_is_no_bare : (right : Bool) (first second image : List ℕ) (n : ℕ) → parse_of right first second ≡ Some (Bare image n) → ⊥
-parse_is_no_bare true first second image n e = cc
-parse_is_no_bare false first second image n e = cc
+-- so it is with a command that is the same
+typed_as : (words : List (List ℕ)) (made command : Command) → Typed words made → Some made ≡ Some command → Typed words command
+typed_as words made command typed e = (let same : made ≡ command = cc in subst (Typed words) same typed)
 
--- a run of an image is no configuration that is asked for
-bare_is_no_parse : (right : Bool) (word : List ℕ) (ticks : Option ℕ) (description output : List ℕ) → bare_of right word ticks ≡ Some (Parse description output) → ⊥
-bare_is_no_parse true word (Some ticks) description output e = cc
-bare_is_no_parse true word None description output e = cc
-bare_is_no_parse false word ticks description output e = cc
+-- a command that is asked for by a test passed it
+asked_parts : (t : Bool) (made command : Command) → asked t made ≡ Some command → (t ≡ true) × (Some made ≡ Some command)
+asked_parts true made command e = (refl, e)
+asked_parts false made command e = cc
 
--- where a configuration is asked for, each of its words is right
-parse_parts : (right : Bool) (first second description output : List ℕ) → parse_of right first second ≡ Some (Parse description output) → (right ≡ true) × (first ≡ description) × (second ≡ output)
-parse_parts true first second description output e = (refl, cc, cc)
-parse_parts false first second description output e = cc
+-- a name that passes its test is that text
+named : (word text : List ℕ) → bytes_eq word text ≡ true → word ≡ text
+named word text e = (bytes_eq-Decides word text).0 e
 
--- which name a run of an image has
-bare_two : (name first second image : List ℕ) (n : ℕ) → command_of_two name first second ≡ Some (Bare image n) → (name ≡ codes "bare") × (is_file first ≡ true) × (first ≡ image) × (ticks_of second ≡ Some n)
-unfolding command_of_two
-bare_two name first second image n e = at (bytes_eq name (codes "bare")) refl e
+-- a choice whose test fails
+other : (t : Bool) (x y : Option Command) (command : Command) → (if t then x else y) ≡ Some command → (t ≡ true × (x ≡ Some command)) ⊎ (y ≡ Some command)
+other true x y command e = inl (refl, e)
+other false x y command e = inr e
+
+-- a run of an image
+bare_typed : (name first second : List ℕ) (command : Command) → name ≡ codes "bare" → bare_of (is_file first) first (ticks_of second) ≡ Some command → Typed (name ∷ first ∷ second ∷ []) command
+bare_typed name first second command is e = at (is_file first) (ticks_of second) refl refl e
   where
-    other : (t : Bool) → (if t then parse_of (is_file first && is_file second) first second else None) ≡ Some (Bare image n) → ⊥
-    other true e = parse_is_no_bare _ first second image n e
-    other false e = cc
+    at : (t : Bool) (ticks : Option ℕ) → is_file first ≡ t → ticks_of second ≡ ticks → bare_of t first ticks ≡ Some command → Typed (name ∷ first ∷ second ∷ []) command
+    at true (Some n) file count e =
+        let text = ticks_text second n count in
+        let word : second ≡ decimal n = text.1 in
+        typed_as _ (Bare first n) command (record { text = cc; right = (file_is first file, text.0) }) e
+    at true None file count e = absurd (let no : ⊥ = cc in no)
+    at false ticks file count e = absurd (let no : ⊥ = cc in no)
 
-    at : (t : Bool) → bytes_eq name (codes "bare") ≡ t → (if t then bare_of (is_file first) first (ticks_of second) else if bytes_eq name (codes "xmcparser") then parse_of (is_file first && is_file second) first second else None) ≡ Some (Bare image n) → (name ≡ codes "bare") × (is_file first ≡ true) × (first ≡ image) × (ticks_of second ≡ Some n)
-    at true named e = (let parts = bare_parts (is_file first) first image (ticks_of second) n e in ((bytes_eq-Decides name (codes "bare")).0 named, parts.0, parts.1, parts.2))
-    at false named e = absurd (other (bytes_eq name (codes "xmcparser")) e)
+-- a command of two files
+files_typed : (words : List (List ℕ)) (make : List ℕ → List ℕ → Command) (first second : List ℕ) (command : Command) → (IsFile first × IsFile second → Typed words (make first second)) → of_files make first second ≡ Some command → Typed words command
+files_typed words make first second command typed e =
+    let parts = asked_parts (is_file first && is_file second) (make first second) command e in
+    let files = and_parts (is_file first) (is_file second) parts.0 in
+    typed_as words (make first second) command (typed (file_is first files.0, file_is second files.1)) parts.1
 
--- which name a configuration that is asked for has
-parse_two : (name first second description output : List ℕ) → command_of_two name first second ≡ Some (Parse description output) → (name ≡ codes "xmcparser") × (is_file first ≡ true) × (is_file second ≡ true) × (first ≡ description) × (second ≡ output)
-unfolding command_of_two
-parse_two name first second description output e = at (bytes_eq name (codes "bare")) e
+-- a command of one file
+file_typed : (words : List (List ℕ)) (make : List ℕ → Command) (file : List ℕ) (command : Command) → (IsFile file → Typed words (make file)) → of_file make file ≡ Some command → Typed words command
+file_typed words make file command typed e =
+    let parts = asked_parts (is_file file) (make file) command e in
+    typed_as words (make file) command (typed (file_is file parts.0)) parts.1
+
+-- what `xmeformat` is asked for
+format_typed : (name verb file : List ℕ) (command : Command) → name ≡ codes "xmeformat" → format_command verb file ≡ Some command → Typed (name ∷ verb ∷ file ∷ []) command
+unfolding format_command
+format_typed name verb file command is e = ⊎_elim read none (other (bytes_eq verb (codes "read")) (of_file ReadImage file) None command e)
   where
-    other : (t : Bool) → bytes_eq name (codes "xmcparser") ≡ t → (if t then parse_of (is_file first && is_file second) first second else None) ≡ Some (Parse description output) → (name ≡ codes "xmcparser") × (is_file first ≡ true) × (is_file second ≡ true) × (first ≡ description) × (second ≡ output)
-    other true named e =
-        let parts = parse_parts (is_file first && is_file second) first second description output e in
-        let files = and_parts (is_file first) (is_file second) parts.0 in
-        ((bytes_eq-Decides name (codes "xmcparser")).0 named, files.0, files.1, parts.1, parts.2)
-    other false named e = cc
+    read : ((bytes_eq verb (codes "read") ≡ true) × (of_file ReadImage file ≡ Some command)) → Typed (name ∷ verb ∷ file ∷ []) command
+    read h = (let verb_is = named verb (codes "read") h.0 in file_typed _ ReadImage file command (λ right. record { text = cc; right = right }) h.1)
 
-    at : (t : Bool) → (if t then bare_of (is_file first) first (ticks_of second) else if bytes_eq name (codes "xmcparser") then parse_of (is_file first && is_file second) first second else None) ≡ Some (Parse description output) → (name ≡ codes "xmcparser") × (is_file first ≡ true) × (is_file second ≡ true) × (first ≡ description) × (second ≡ output)
-    at true e = absurd (bare_is_no_parse (is_file first) first (ticks_of second) description output e)
-    at false e = other (bytes_eq name (codes "xmcparser")) refl e
+    none : None ≡ Some command → Typed (name ∷ verb ∷ file ∷ []) command
+    none h = absurd (let no : ⊥ = cc in no)
 
--- what spells a run of an image
-pub bare_words : (words : List (List ℕ)) (image : List ℕ) (n : ℕ) → command_of words ≡ Some (Bare image n) → (words ≡ codes "bare" ∷ image ∷ decimal n ∷ []) × IsFile image × (n ≤ TICKS)
+-- what `xmpack` is asked for
+pack_typed : (name verb file : List ℕ) (command : Command) → name ≡ codes "xmpack" → pack_command verb file ≡ Some command → Typed (name ∷ verb ∷ file ∷ []) command
+unfolding pack_command
+pack_typed name verb file command is e =
+    ⊎_elim list (λ h. ⊎_elim check none (other (bytes_eq verb (codes "check")) (of_file CheckContainer file) None command h))
+    (other (bytes_eq verb (codes "list")) (of_file ListContainer file) (if bytes_eq verb (codes "check") then of_file CheckContainer file else None) command e)
+  where
+    list : ((bytes_eq verb (codes "list") ≡ true) × (of_file ListContainer file ≡ Some command)) → Typed (name ∷ verb ∷ file ∷ []) command
+    list h = (let verb_is = named verb (codes "list") h.0 in file_typed _ ListContainer file command (λ right. record { text = cc; right = right }) h.1)
+
+    check : ((bytes_eq verb (codes "check") ≡ true) × (of_file CheckContainer file ≡ Some command)) → Typed (name ∷ verb ∷ file ∷ []) command
+    check h = (let verb_is = named verb (codes "check") h.0 in file_typed _ CheckContainer file command (λ right. record { text = cc; right = right }) h.1)
+
+    none : None ≡ Some command → Typed (name ∷ verb ∷ file ∷ []) command
+    none h = absurd (let no : ⊥ = cc in no)
+
+-- what a name and two words ask for
+two_typed : (name first second : List ℕ) (command : Command) → command_of_two name first second ≡ Some command → Typed (name ∷ first ∷ second ∷ []) command
+unfolding command_of_two
+two_typed name first second command e =
+    ⊎_elim bare (λ h. ⊎_elim parse (λ h. ⊎_elim format (λ h. ⊎_elim pack none
+    (other (bytes_eq name (codes "xmpack")) (pack_command first second) None command h))
+    (other (bytes_eq name (codes "xmeformat")) (format_command first second) (if bytes_eq name (codes "xmpack") then pack_command first second else None) command h))
+    (other (bytes_eq name (codes "xmcparser")) (of_files Parse first second) (if bytes_eq name (codes "xmeformat") then format_command first second else if bytes_eq name (codes "xmpack") then pack_command first second else None) command h))
+    (other (bytes_eq name (codes "bare")) (bare_of (is_file first) first (ticks_of second)) (if bytes_eq name (codes "xmcparser") then of_files Parse first second else if bytes_eq name (codes "xmeformat") then format_command first second else if bytes_eq name (codes "xmpack") then pack_command first second else None) command e)
+  where
+    bare : ((bytes_eq name (codes "bare") ≡ true) × (bare_of (is_file first) first (ticks_of second) ≡ Some command)) → Typed (name ∷ first ∷ second ∷ []) command
+    bare h = bare_typed name first second command (named name (codes "bare") h.0) h.1
+
+    parse : ((bytes_eq name (codes "xmcparser") ≡ true) × (of_files Parse first second ≡ Some command)) → Typed (name ∷ first ∷ second ∷ []) command
+    parse h = (let name_is = named name (codes "xmcparser") h.0 in files_typed _ Parse first second command (λ right. record { text = cc; right = right }) h.1)
+
+    format : ((bytes_eq name (codes "xmeformat") ≡ true) × (format_command first second ≡ Some command)) → Typed (name ∷ first ∷ second ∷ []) command
+    format h = format_typed name first second command (named name (codes "xmeformat") h.0) h.1
+
+    pack : ((bytes_eq name (codes "xmpack") ≡ true) × (pack_command first second ≡ Some command)) → Typed (name ∷ first ∷ second ∷ []) command
+    pack h = pack_typed name first second command (named name (codes "xmpack") h.0) h.1
+
+    none : None ≡ Some command → Typed (name ∷ first ∷ second ∷ []) command
+    none h = absurd (let no : ⊥ = cc in no)
+
+-- what a name and three words ask for
+three_typed : (name verb first second : List ℕ) (command : Command) → command_of_three name verb first second ≡ Some command → Typed (name ∷ verb ∷ first ∷ second ∷ []) command
+unfolding command_of_three
+three_typed name verb first second command e =
+    ⊎_elim build none (other (bytes_eq name (codes "xmeformat") && bytes_eq verb (codes "build")) (of_files BuildImage first second) None command e)
+  where
+    build : ((bytes_eq name (codes "xmeformat") && bytes_eq verb (codes "build")) ≡ true × (of_files BuildImage first second ≡ Some command)) → Typed (name ∷ verb ∷ first ∷ second ∷ []) command
+    build h =
+        let tests = and_parts (bytes_eq name (codes "xmeformat")) (bytes_eq verb (codes "build")) h.0 in
+        let name_is = named name (codes "xmeformat") tests.0 in
+        let verb_is = named verb (codes "build") tests.1 in
+        files_typed _ BuildImage first second command (λ right. record { text = cc; right = right }) h.1
+
+    none : None ≡ Some command → Typed (name ∷ verb ∷ first ∷ second ∷ []) command
+    none h = absurd (let no : ⊥ = cc in no)
+
+-- what words ask for is typed so
+typed : (words : List (List ℕ)) (command : Command) → command_of words ≡ Some command → Typed words command
 unfolding command_of
-bare_words [] image n e = cc
-bare_words (name ∷ []) image n e = cc
-bare_words (name ∷ word ∷ []) image n e = cc
-bare_words (name ∷ word ∷ ticks ∷ []) image n e =
-    let parts = bare_two name word ticks image n e in
-    let text = ticks_text ticks n parts.3 in
-    let named : name ≡ codes "bare" = parts.0 in
-    (cc, subst IsFile parts.2 (file_is word parts.1), text.0)
-bare_words (name ∷ word ∷ ticks ∷ more ∷ rest) image n e = cc
+typed [] command e = absurd (let no : ⊥ = cc in no)
+typed (name ∷ []) command e = absurd (let no : ⊥ = cc in no)
+typed (name ∷ first ∷ []) command e = absurd (let no : ⊥ = cc in no)
+typed (name ∷ first ∷ second ∷ []) command e = two_typed name first second command e
+typed (name ∷ first ∷ second ∷ third ∷ []) command e = three_typed name first second third command e
+typed (name ∷ first ∷ second ∷ third ∷ more ∷ rest) command e = absurd (let no : ⊥ = cc in no)
 
--- what spells a configuration that is asked for
-pub parse_words : (words : List (List ℕ)) (description output : List ℕ) → command_of words ≡ Some (Parse description output) → (words ≡ codes "xmcparser" ∷ description ∷ output ∷ []) × IsFile description × IsFile output
-unfolding command_of
-parse_words [] description output e = cc
-parse_words (name ∷ []) description output e = cc
-parse_words (name ∷ first ∷ []) description output e = cc
-parse_words (name ∷ first ∷ second ∷ []) description output e =
-    let parts = parse_two name first second description output e in
-    let named : name ≡ codes "xmcparser" = parts.0 in
-    (cc, subst IsFile parts.3 (file_is first parts.1), subst IsFile parts.4 (file_is second parts.2))
-parse_words (name ∷ first ∷ second ∷ more ∷ rest) description output e = cc
+-- what is typed for a command asks for it
+reads : (command : Command) → IsRight command → command_of (words_of command) ≡ Some command
+unfolding command_of command_of_two command_of_three format_command pack_command
+reads (Bare image ticks) right = rw (is_of_file image right.0, text_ticks (decimal ticks) ticks right.1 refl)
+reads (Parse description output) right = rw (is_of_file description right.0, is_of_file output right.1)
+reads (BuildImage program output) right = rw (is_of_file program right.0, is_of_file output right.1)
+reads (ReadImage image) right = rw (is_of_file image right)
+reads (ListContainer container) right = rw (is_of_file container right)
+reads (CheckContainer container) right = rw (is_of_file container right)
 
--- what the words of a run of an image spell
-pub bare_reads : (image : List ℕ) (n : ℕ) → IsFile image → n ≤ TICKS → command_of (codes "bare" ∷ image ∷ decimal n ∷ []) ≡ Some (Bare image n)
-unfolding command_of command_of_two
-bare_reads image n file small = rw (is_of_file image file, text_ticks (decimal n) n small refl)
-
--- what the words that ask for a configuration spell
-parse_reads : (description output : List ℕ) → IsFile description → IsFile output → command_of (codes "xmcparser" ∷ description ∷ output ∷ []) ≡ Some (Parse description output)
-unfolding command_of command_of_two
-parse_reads description output first second = rw (is_of_file description first, is_of_file output second)
-
--- the words of a run of an image spell it
-pub words_bare : (words : List (List ℕ)) (image : List ℕ) (n : ℕ) → words ≡ codes "bare" ∷ image ∷ decimal n ∷ [] → IsFile image → n ≤ TICKS → command_of words ≡ Some (Bare image n)
-words_bare words image n are file small = ap command_of are ∙ bare_reads image n file small
-
--- words are a run of an image exactly where they are its words
-pub bare_spelled : BareIsSpelled
-bare_spelled words image n = (bare_words words image n, λ spells. words_bare words image n spells.0 spells.1 spells.2)
-
--- words ask for a configuration exactly where they are its words
-pub parse_spelled : ParseIsSpelled
-parse_spelled words description output =
-    (parse_words words description output, λ spells. ap command_of spells.0 ∙ parse_reads description output spells.1 spells.2)
+-- words are a command exactly where they are what is typed for it
+pub commands_spelled : CommandsAreSpelled
+commands_spelled words command =
+    (λ e. (let is = typed words command e in (is.text, is.right)), λ spells. ap command_of spells.0 ∙ reads command spells.1)

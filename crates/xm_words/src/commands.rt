@@ -13,4 +13,21 @@ pub enum Command<'a> {
         description: &'a str,
         output: &'a str,
     },
+    /// Make the image of the program in this file.
+    BuildImage {
+        program: &'a str,
+        output: &'a str,
+    },
+    /// Tell the image in this file.
+    ReadImage {
+        image: &'a str,
+    },
+    /// Tell the container in this file.
+    ListContainer {
+        container: &'a str,
+    },
+    /// Tell whether this file is a container.
+    CheckContainer {
+        container: &'a str,
+    },
 }

@@ -1,10 +1,9 @@
 //! The grammar in the words of its users.
 
-ghost use Rattle.xm_words.specs.Grammar.{BareIsSpelled, ParseIsSpelled, TicksAreDecimal};
+ghost use Rattle.xm_words.specs.Grammar.{CommandsAreSpelled, TicksAreDecimal};
 
 /// What is to be typed for a number of ticks, and for each command.
 pub fn grammar()
     ensures ticks { TicksAreDecimal }
-    ensures bare { BareIsSpelled }
-    ensures parse { ParseIsSpelled }
+    ensures commands { CommandsAreSpelled }
 {}

@@ -1,8 +1,8 @@
 //! What words spell.
 
-ghost use Rattle.std.specs.Prelude.{◌≡◌, ◌&&◌, ◌↔◌, IsTrue};
+ghost use Rattle.std.specs.Prelude.{◌≡◌, ◌↔◌, IsTrue};
 ghost use Rattle.xm_words.specs.Seen.{seen};
-ghost use Rattle.xm_words.specs.Words.{IsPlain, bare_of, command_of, command_of_two, is_file, parse_of, ticks_of};
+ghost use Rattle.xm_words.specs.Words.{BuildImage, IsPlain, Parse, bare_of, command_of, command_of_three, command_of_two, format_command, is_file, of_files, pack_command, ticks_of};
 
 use crate::commands::Command;
 use crate::words::Words;
@@ -15,6 +15,12 @@ pub fn command(words: &Words) -> Option<Command<'_>>
 {
     match words.texts() {
         [name, first, second] => command_of_two(name.as_str(), first.as_str(), second.as_str()),
+        [name, first, second, third] => command_of_three(
+            name.as_str(),
+            first.as_str(),
+            second.as_str(),
+            third.as_str(),
+        ),
         _ => None,
     }
 }
@@ -28,6 +34,27 @@ fn command_of_two<'a>(name: &str, first: &'a str, second: &'a str) -> Option<Com
         bare(first, second)
     } else if name == "xmcparser" {
         parse(first, second)
+    } else if name == "xmeformat" {
+        format_command(first, second)
+    } else if name == "xmpack" {
+        pack_command(first, second)
+    } else {
+        None
+    }
+}
+
+/// The command of a name and three words.
+#[tactic(auto, unfolding(crate::specs::Words::command_of_three))]
+fn command_of_three<'a>(
+    name: &str,
+    verb: &str,
+    first: &'a str,
+    second: &'a str,
+) -> Option<Command<'a>>
+    ensures { seen result ≡ command_of_three name.now verb.now first.now second.now }
+{
+    if name == "xmeformat" && verb == "build" {
+        build_image(first, second)
     } else {
         None
     }
@@ -46,13 +73,52 @@ fn bare<'a>(image: &'a str, count: &str) -> Option<Command<'a>>
 
 /// The configuration that two words ask for.
 fn parse<'a>(description: &'a str, output: &'a str) -> Option<Command<'a>>
-    ensures { seen result ≡ parse_of (is_file description.now && is_file output.now) description.now output.now }
+    ensures { seen result ≡ of_files Parse description.now output.now }
 {
     if is_file(description) && is_file(output) {
         Some(Command::Parse {
             description,
             output,
         })
+    } else {
+        None
+    }
+}
+
+/// The image that two words ask for.
+fn build_image<'a>(program: &'a str, output: &'a str) -> Option<Command<'a>>
+    ensures { seen result ≡ of_files BuildImage program.now output.now }
+{
+    if is_file(program) && is_file(output) {
+        Some(Command::BuildImage { program, output })
+    } else {
+        None
+    }
+}
+
+/// What `xmeformat` is asked to do with a file.
+#[tactic(auto, unfolding(crate::specs::Words::format_command))]
+fn format_command<'a>(verb: &str, image: &'a str) -> Option<Command<'a>>
+    ensures { seen result ≡ format_command verb.now image.now }
+{
+    if verb == "read" && is_file(image) {
+        Some(Command::ReadImage { image })
+    } else {
+        None
+    }
+}
+
+/// What `xmpack` is asked to do with a file.
+#[tactic(auto, unfolding(crate::specs::Words::pack_command))]
+fn pack_command<'a>(verb: &str, container: &'a str) -> Option<Command<'a>>
+    ensures { seen result ≡ pack_command verb.now container.now }
+{
+    if !is_file(container) {
+        None
+    } else if verb == "list" {
+        Some(Command::ListContainer { container })
+    } else if verb == "check" {
+        Some(Command::CheckContainer { container })
     } else {
         None
     }

@@ -98,3 +98,42 @@ fn a_configuration_is_asked_for_by_two_files(rt: HostRuntime) -> Result<(), Fail
     }
     Ok(())
 }
+
+// Each row: words, and the command that they are.
+#[test]
+fn each_tool_has_its_words(rt: HostRuntime) -> Result<(), Fail> {
+    let build = Command::BuildImage {
+        program: "x",
+        output: "o",
+    };
+    let read = Command::ReadImage { image: "x" };
+    let list = Command::ListContainer { container: "x" };
+    let check = Command::CheckContainer { container: "x" };
+    let cases: [(&[&str], Option<Command>); 17] = [
+        (&["xmeformat", "build", "x", "o"], Some(build)),
+        (&["xmeformat", "build", "x"], None),
+        (&["xmeformat", "build", "--x", "o"], None),
+        (&["xmeformat", "build", "x", "--o"], None),
+        (&["xmeformat", "build", "x", "o", "o"], None),
+        (&["xmeformat", "builds", "x", "o"], None),
+        (&["xmeformat", "read", "x"], Some(read)),
+        (&["xmeformat", "read", ""], None),
+        (&["xmeformat", "read", "x", "o"], None),
+        (&["xmeformat", "list", "x"], None),
+        (&["xmpack", "list", "x"], Some(list)),
+        (&["xmpack", "list", "--x"], None),
+        (&["xmpack", "check", "x"], Some(check)),
+        (&["xmpack", "check"], None),
+        (&["xmpack", "read", "x"], None),
+        (&["xmpack", "list", "x", "o"], None),
+        (&["list", "x"], None),
+    ];
+    for (texts, wanted) in cases {
+        let mut words = Words::new(rt.alloc());
+        for text in texts {
+            words.push(text)?;
+        }
+        assert_eq!(rt; command(&words), wanted);
+    }
+    Ok(())
+}

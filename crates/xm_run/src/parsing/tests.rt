@@ -223,6 +223,76 @@ fn each_rule_is_told_with_its_places(rt: HostRuntime) -> Result<(), Fail> {
     Ok(())
 }
 
+// A text with another part in the place of one.
+fn changed(alloc: Global, text: &[u8], old: &str, new: &str) -> Result<Vec<u8>, Fail> {
+    let text = str::from_utf8(text).unwrap_or("");
+    let (front, back) = text.split_once(old).unwrap_or((text, ""));
+    let mut changed = Vec::from_slice(alloc, front.as_bytes())?;
+    changed.extend_from_slice(new.as_bytes())?;
+    changed.extend_from_slice(back.as_bytes())?;
+    Ok(changed)
+}
+
+// Each row: a text, two of its parts with what stands in their places, and what is said of it.
+#[test]
+fn two_changes_break_a_rule_or_none(rt: HostRuntime) -> Result<(), Fail> {
+    for (text, first, one, second, other, said) in [
+        (
+            FULL,
+            "type='b' start='0x80000000' size='1MB'",
+            "type='b' start='0x80000000' size='64MB'",
+            "Area start='0x80000000' size='4KB'",
+            "Area start='0x80000000' size='31MB'",
+            "ok",
+        ),
+        (
+            FULL,
+            "type='b' start='0x80000000' size='1MB'",
+            "type='b' start='0x80000000' size='64MB'",
+            "Area start='0x80000000' size='4KB'",
+            "Area start='0x80000000' size='31748KB'",
+            "rule number=10 at=0 and=0",
+        ),
+        (
+            FULL,
+            "<Plan id='1' majorFrame='1s'><Slot id='0' start='100us' duration='900us' partitionId='1'/></Plan>",
+            "",
+            "XM_HM_AC_SUSPEND",
+            "XM_HM_AC_SWITCH_TO_MAINTENANCE",
+            "rule number=19 at=992 and=992",
+        ),
+        (
+            FULL,
+            "<Plan id='1' majorFrame='1s'><Slot id='0' start='100us' duration='900us' partitionId='1'/></Plan>",
+            "",
+            "XM_HM_AC_SUSPEND",
+            "XM_HM_AC_HYPERVISOR_WARM_RESET",
+            "ok",
+        ),
+        (
+            DEMO,
+            "start=\"1ms\" duration=\"1ms\"",
+            "start=\"1ms\" duration=\"1001us\"",
+            "name=\"P1\"",
+            "name=\"P1\"",
+            "rule number=11 at=405 and=308",
+        ),
+        (
+            DEMO,
+            "start=\"0x40180000\"",
+            "start=\"0x4017f000\"",
+            "name=\"P1\"",
+            "name=\"P1\"",
+            "rule number=9 at=987 and=788",
+        ),
+    ] {
+        let text = changed(rt.alloc(), text.as_bytes(), first, one)?;
+        let text = changed(rt.alloc(), &text, second, other)?;
+        comes_to(&rt, rt.alloc(), &text, said)?;
+    }
+    Ok(())
+}
+
 // Puts a part of a text, with a number for each `#`, and its two last digits for each `@`.
 fn put_numbered(alloc: Global, text: &mut Vec<u8>, part: &str, number: u32) -> Result<(), Fail> {
     let decimal = format!(in alloc; "{number}")?;
