@@ -1,4 +1,4 @@
-//! Small types that all crates share: partition numbers and states, want of memory, the limits, and a cursor over bytes.
+//! Small types that all crates share: partition numbers, states and orders, want of memory, the limits, and a cursor over bytes.
 #![tactic(auto)]
 
 mod cursor;
@@ -8,7 +8,7 @@ mod want;
 
 pub use cursor::{Cursor, Short};
 pub use limits::{CONSOLE_BYTES, FILE_BYTES, IMAGE_BYTES, TICKS};
-pub use partition::{Mode, PartId, State};
+pub use partition::{Mode, Order, PartId, State};
 pub use want::Memory;
 
 #[cfg(test)]

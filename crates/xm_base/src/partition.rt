@@ -1,4 +1,4 @@
-//! What a partition is called, and the states that it can be in.
+//! What a partition is called, the states that it can be in, and the orders upon it.
 
 ghost use Rattle.std.specs.Prelude.{◌≡◌};
 ghost use Rattle.xm_base.specs.State.{state_text};
@@ -26,6 +26,21 @@ pub enum State {
     Suspended,
     /// It has stopped until it is reset.
     Halted,
+}
+
+/// An order upon a partition, given by another one, by itself or in answer to a health event.
+#[derive(Clone, Copy, Debug, PartialEq, Eq)]
+pub enum Order {
+    /// It stops until it is reset.
+    Halt,
+    /// It waits until it is resumed or reset.
+    Suspend,
+    /// It goes on from where it was suspended.
+    Resume,
+    /// It is asked to shut down, by an interrupt.
+    Shutdown,
+    /// It starts again, with a status that it can ask for.
+    Reset { mode: Mode, status: u32 },
 }
 
 impl State {

@@ -1,4 +1,3 @@
-pub mod AlongLemmas
 pub mod AnswerLemmas
 pub mod CountLemmas
 pub mod DecidesLemmas

@@ -1,4 +1,4 @@
--- Health events and actions: the number and the name of each.
+-- Health events and actions: the number and the name of each, which action may answer which event, and which does where none is named.
 use Rattle.std.specs.Prelude.{◌≡◌, ℕ, Bool, true, false, List, [], ◌∷◌, codes, ◌↔◌, Option, Some}
 use Rattle.std.specs.List.{find}
 use Rattle.std.specs.Str.{bytes_eq}
@@ -82,3 +82,18 @@ is_allowed event.MemProtection action.Propagate = false
 is_allowed event.MemProtection action.Ignore = false
 is_allowed event.SparcInstrAccess action.Ignore = false
 is_allowed _ _ = true
+
+-- the action for an event that nothing answers
+abbrev pub default_action : Event → Action
+default_action event.PartitionError = action.Halt
+default_action event.MemProtection = action.Halt
+default_action event.UnexpectedTrap = action.Propagate
+default_action event.SparcIllegalInstruction = action.Propagate
+default_action event.SparcPrivilegedInstruction = action.Propagate
+default_action event.SparcFpDisabled = action.Propagate
+default_action event.SparcCpDisabled = action.Propagate
+default_action event.SparcAddressNotAligned = action.Propagate
+default_action event.SparcTagOverflow = action.Propagate
+default_action event.SparcDivideException = action.Propagate
+default_action event.SparcInstrAccess = action.Halt
+default_action event.SparcDataAccess = action.Halt

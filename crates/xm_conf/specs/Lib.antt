@@ -1,4 +1,5 @@
 pub mod Along
+pub mod AlongLemmas
 pub mod Configuration
 pub mod Description
 pub mod Fits

@@ -1,8 +1,8 @@
 //! Health events and the actions that answer them, by their numbers and names.
 
-ghost use Rattle.std.specs.Prelude.{◌≡◌};
+ghost use Rattle.std.specs.Prelude.{◌≡◌, ◌<◌};
 ghost use Rattle.std.specs.Str.{bytes_eq};
-ghost use Rattle.xm_conf.specs.Health.{IsActionNamed, IsEventNamed, action_named, action_row, event_named, event_row, is_allowed};
+ghost use Rattle.xm_conf.specs.Health.{IsActionNamed, IsEventNamed, action_named, action_row, default_action, event_named, event_row, is_allowed};
 
 /// What can go wrong in a partition.
 #[derive(Clone, Copy, Debug, PartialEq, Eq)]
@@ -34,7 +34,7 @@ pub enum Event {
 }
 
 /// All health events, in the order of their numbers.
-pub(crate) const EVENTS: [Event; 12] = [
+pub const EVENTS: [Event; 12] = [
     Event::PartitionError,
     Event::MemProtection,
     Event::UnexpectedTrap,
@@ -52,7 +52,8 @@ pub(crate) const EVENTS: [Event; 12] = [
 impl Event {
     /// The event's number.
     pub fn number(self) -> u8
-        ensures { result ≡ (event_row self).number }
+        ensures value { result ≡ (event_row self).number }
+        ensures below { result < 12 }
     {
         self as u8
     }
@@ -74,6 +75,26 @@ impl Event {
             Event::SparcDivideException => "XM_HM_EV_SPARC_DIVIDE_EXCEPTION",
             Event::SparcInstrAccess => "XM_HM_EV_SPARC_INSTR_ACCESS",
             Event::SparcDataAccess => "XM_HM_EV_SPARC_DATA_ACCESS",
+        }
+    }
+
+    /// What is done about the event where nothing answers it.
+    pub fn default_action(self) -> Action
+        ensures value { result ≡ default_action self }
+    {
+        match self {
+            Event::PartitionError
+            | Event::MemProtection
+            | Event::SparcInstrAccess
+            | Event::SparcDataAccess => Action::Halt,
+            Event::UnexpectedTrap
+            | Event::SparcIllegalInstruction
+            | Event::SparcPrivilegedInstruction
+            | Event::SparcFpDisabled
+            | Event::SparcCpDisabled
+            | Event::SparcAddressNotAligned
+            | Event::SparcTagOverflow
+            | Event::SparcDivideException => Action::Propagate,
         }
     }
 

@@ -15,7 +15,7 @@ mod rules;
 
 pub use channel::{Chan, ChanKind, End};
 pub use conf::{Conf, Seen};
-pub use health::{Action, Event, allowed};
+pub use health::{Action, EVENTS, Event, allowed};
 pub use item::{Broken, Item};
 pub use law::broken_unless_fits;
 pub use name::Name;

@@ -31,7 +31,7 @@ use plans::{rule_11, rule_12, rule_13};
 use stretches::rule_9;
 
 /// The first item that breaks a rule on regions and the hypervisor.
-#[tactic(auto, using(crate::proofs::AlongLemmas::in_turn))]
+#[tactic(auto, using(crate::specs::AlongLemmas::in_turn))]
 fn regions_broken(raw: &RawConf) -> Option<Broken>
     requires { HasCounts raw.now }
     ensures { result ≡ head_of (specs.rule_4 raw.now ++ specs.rule_5 raw.now ++ specs.rule_6 raw.now) }
@@ -48,7 +48,7 @@ fn regions_broken(raw: &RawConf) -> Option<Broken>
 }
 
 /// The first item that breaks a rule on memory.
-#[tactic(auto, using(crate::proofs::AlongLemmas::in_turn), unfolding(crate::specs::Rules::memory_rules))]
+#[tactic(auto, using(crate::specs::AlongLemmas::in_turn), unfolding(crate::specs::Rules::memory_rules))]
 fn memory_broken(raw: &RawConf) -> Option<Broken>
     requires { HasCounts raw.now }
     ensures { result ≡ head_of (specs.memory_rules raw.now) }
@@ -73,7 +73,7 @@ fn memory_broken(raw: &RawConf) -> Option<Broken>
 }
 
 /// The first item that breaks a rule on plans and consoles.
-#[tactic(auto, using(crate::proofs::AlongLemmas::in_turn), unfolding(crate::specs::Rules::plan_rules))]
+#[tactic(auto, using(crate::specs::AlongLemmas::in_turn), unfolding(crate::specs::Rules::plan_rules))]
 fn plans_broken(raw: &RawConf) -> Option<Broken>
     requires { HasCounts raw.now }
     ensures { result ≡ head_of (specs.plan_rules raw.now) }
@@ -94,7 +94,7 @@ fn plans_broken(raw: &RawConf) -> Option<Broken>
 }
 
 /// The first item that breaks a rule on channels.
-#[tactic(auto, using(crate::proofs::AlongLemmas::in_turn), unfolding(crate::specs::Rules::chan_rules))]
+#[tactic(auto, using(crate::specs::AlongLemmas::in_turn), unfolding(crate::specs::Rules::chan_rules))]
 fn channels_broken(raw: &RawConf) -> Option<Broken>
     requires { HasCounts raw.now }
     ensures { result ≡ head_of (specs.chan_rules raw.now) }
@@ -115,7 +115,7 @@ fn channels_broken(raw: &RawConf) -> Option<Broken>
 }
 
 /// The first rule that is broken, in the order of the rules.
-#[tactic(auto, using(crate::proofs::AlongLemmas::in_turn), unfolding(crate::specs::Walks::walk_broken))]
+#[tactic(auto, using(crate::specs::AlongLemmas::in_turn), unfolding(crate::specs::Walks::walk_broken))]
 fn walk(raw: &RawConf) -> Option<Broken>
     ensures { result ≡ head_of (walk_broken raw.now) }
 {

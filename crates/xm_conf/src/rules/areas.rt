@@ -31,7 +31,7 @@ fn unsized_area(p: u8, n: u8, area: &Area) -> Option<Broken>
 }
 
 /// The first area of a partition that is not whole pages.
-#[tactic(auto, using(crate::proofs::AlongLemmas::each_loop))]
+#[tactic(auto, using(crate::specs::AlongLemmas::each_loop))]
 fn unsized_areas(p: u8, areas: &[Area]) -> Option<Broken>
     requires { length areas.now ≤ 8 }
     ensures { result ≡ head_of (each (rules.unsized_area p) areas.now) }
@@ -46,7 +46,7 @@ fn unsized_areas(p: u8, areas: &[Area]) -> Option<Broken>
 }
 
 /// The first area of all that is not whole pages.
-#[tactic(auto, using(crate::proofs::AlongLemmas::each_loop), unfolding(crate::specs::Rules::unsized_areas))]
+#[tactic(auto, using(crate::specs::AlongLemmas::each_loop), unfolding(crate::specs::Rules::unsized_areas))]
 fn parts_unsized_areas(parts: &[Part]) -> Option<Broken>
     requires few { length parts.now ≤ 16 }
     requires areas { All (λ part. length part.areas ≤ 8) parts.now }
@@ -86,7 +86,7 @@ fn outside_area(regions: &[Region], p: u8, n: u8, area: &Area) -> Option<Broken>
 }
 
 /// The first area of a partition that is not inside a region.
-#[tactic(auto, using(crate::proofs::AlongLemmas::each_loop))]
+#[tactic(auto, using(crate::specs::AlongLemmas::each_loop))]
 fn outside_areas(regions: &[Region], p: u8, areas: &[Area]) -> Option<Broken>
     requires { length areas.now ≤ 8 }
     ensures { result ≡ head_of (each (rules.outside_area regions.now p) areas.now) }
@@ -101,7 +101,7 @@ fn outside_areas(regions: &[Region], p: u8, areas: &[Area]) -> Option<Broken>
 }
 
 /// The first area of all that is not inside a region.
-#[tactic(auto, using(crate::proofs::AlongLemmas::each_loop), unfolding(crate::specs::Rules::outside_areas))]
+#[tactic(auto, using(crate::specs::AlongLemmas::each_loop), unfolding(crate::specs::Rules::outside_areas))]
 fn parts_outside_areas(regions: &[Region], parts: &[Part]) -> Option<Broken>
     requires few { length parts.now ≤ 16 }
     requires areas { All (λ part. length part.areas ≤ 8) parts.now }

@@ -38,7 +38,7 @@ fn unfit_chan(n: u8, chan: &Chan) -> Option<Broken>
 }
 
 /// The first channel with messages or destinations that are none.
-#[tactic(auto, using(crate::proofs::AlongLemmas::each_loop))]
+#[tactic(auto, using(crate::specs::AlongLemmas::each_loop))]
 fn unfit_chans(chans: &[Chan]) -> Option<Broken>
     requires { length chans.now ≤ 64 }
     ensures { result ≡ head_of (each rules.unfit_chan chans.now) }
@@ -88,7 +88,7 @@ fn stray_dest(parts: &[Part], c: u8, n: u8, end: &End) -> Option<Broken>
 }
 
 /// The first destination that is no port.
-#[tactic(auto, using(crate::proofs::AlongLemmas::each_loop))]
+#[tactic(auto, using(crate::specs::AlongLemmas::each_loop))]
 fn stray_dests(parts: &[Part], c: u8, dests: &[End]) -> Option<Broken>
     requires { length dests.now ≤ 16 }
     ensures { result ≡ head_of (each (rules.stray_dest parts.now c) dests.now) }
@@ -103,7 +103,7 @@ fn stray_dests(parts: &[Part], c: u8, dests: &[End]) -> Option<Broken>
 }
 
 /// The first end of a channel that is no port.
-#[tactic(auto, using(crate::proofs::AlongLemmas::in_turn), unfolding(crate::specs::Rules::stray_ends))]
+#[tactic(auto, using(crate::specs::AlongLemmas::in_turn), unfolding(crate::specs::Rules::stray_ends))]
 fn stray_ends(parts: &[Part], c: u8, chan: &Chan) -> Option<Broken>
     requires { length chan.now.dests ≤ 16 }
     ensures { result ≡ head_of (rules.stray_ends parts.now c chan.now) }
@@ -116,7 +116,7 @@ fn stray_ends(parts: &[Part], c: u8, chan: &Chan) -> Option<Broken>
 }
 
 /// The first end of all channels that is no port.
-#[tactic(auto, using(crate::proofs::AlongLemmas::each_loop))]
+#[tactic(auto, using(crate::specs::AlongLemmas::each_loop))]
 fn chans_stray_ends(parts: &[Part], chans: &[Chan]) -> Option<Broken>
     requires few { length chans.now ≤ 64 }
     requires dests { All (λ chan. length chan.dests ≤ 16) chans.now }
@@ -190,7 +190,7 @@ fn wrong_dest(parts: &[Part], kind: ChanKind, c: u8, n: u8, end: &End) -> Option
 }
 
 /// The first destination whose port is of another kind or way.
-#[tactic(auto, using(crate::proofs::AlongLemmas::each_loop))]
+#[tactic(auto, using(crate::specs::AlongLemmas::each_loop))]
 fn wrong_dests(parts: &[Part], kind: ChanKind, c: u8, dests: &[End]) -> Option<Broken>
     requires { length dests.now ≤ 16 }
     ensures { result ≡ head_of (each (rules.wrong_dest parts.now kind c) dests.now) }
@@ -205,7 +205,7 @@ fn wrong_dests(parts: &[Part], kind: ChanKind, c: u8, dests: &[End]) -> Option<B
 }
 
 /// The first end of a channel whose port is of another kind or way.
-#[tactic(auto, using(crate::proofs::AlongLemmas::in_turn), unfolding(crate::specs::Rules::wrong_ends))]
+#[tactic(auto, using(crate::specs::AlongLemmas::in_turn), unfolding(crate::specs::Rules::wrong_ends))]
 fn wrong_ends(parts: &[Part], c: u8, chan: &Chan) -> Option<Broken>
     requires { length chan.now.dests ≤ 16 }
     ensures { result ≡ head_of (rules.wrong_ends parts.now c chan.now) }
@@ -218,7 +218,7 @@ fn wrong_ends(parts: &[Part], c: u8, chan: &Chan) -> Option<Broken>
 }
 
 /// The first end of all channels whose port is of another kind or way.
-#[tactic(auto, using(crate::proofs::AlongLemmas::each_loop))]
+#[tactic(auto, using(crate::specs::AlongLemmas::each_loop))]
 fn chans_wrong_ends(parts: &[Part], chans: &[Chan]) -> Option<Broken>
     requires few { length chans.now ≤ 64 }
     requires dests { All (λ chan. length chan.dests ≤ 16) chans.now }

@@ -65,7 +65,7 @@ fn plan_counts(n: u8, plan: &Plan) -> Option<Broken>
 }
 
 /// The first plan past the limit, or with too few or too many slots.
-#[tactic(auto, using(crate::proofs::AlongLemmas::each_loop))]
+#[tactic(auto, using(crate::specs::AlongLemmas::each_loop))]
 fn plans_counts(plans: &[Plan]) -> Option<Broken>
     ensures { result ≡ head_of (each rules.plan_counts plans.now) }
 {
@@ -94,7 +94,7 @@ fn part_counts(n: u8, part: &Part) -> Option<Broken>
 }
 
 /// The first partition past the limit, or with too few or too many areas and ports.
-#[tactic(auto, using(crate::proofs::AlongLemmas::each_loop))]
+#[tactic(auto, using(crate::specs::AlongLemmas::each_loop))]
 fn parts_counts(parts: &[Part]) -> Option<Broken>
     ensures { result ≡ head_of (each rules.part_counts parts.now) }
 {
@@ -123,7 +123,7 @@ fn chan_counts(n: u8, chan: &Chan) -> Option<Broken>
 }
 
 /// The first channel past the limit, or with a destination past the limit.
-#[tactic(auto, using(crate::proofs::AlongLemmas::each_loop))]
+#[tactic(auto, using(crate::specs::AlongLemmas::each_loop))]
 fn chans_counts(chans: &[Chan]) -> Option<Broken>
     ensures { result ≡ head_of (each rules.chan_counts chans.now) }
 {
@@ -137,7 +137,7 @@ fn chans_counts(chans: &[Chan]) -> Option<Broken>
 }
 
 /// The first item that is missing, or past its limit.
-#[tactic(auto, using(crate::proofs::AlongLemmas::in_turn), unfolding(crate::specs::Rules::rule_1))]
+#[tactic(auto, using(crate::specs::AlongLemmas::in_turn), unfolding(crate::specs::Rules::rule_1))]
 fn first_count(raw: &RawConf) -> Option<Broken>
     ensures { result ≡ head_of (rules.rule_1 raw.now) }
 {

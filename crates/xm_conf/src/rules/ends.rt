@@ -53,7 +53,7 @@ fn source_hit(at: &End, c: u8, source: &End) -> Option<Item>
 }
 
 /// The first end of a channel that is one port with an end.
-#[tactic(auto, using(crate::proofs::AlongLemmas::in_turn), unfolding(crate::specs::Walks::chan_hits, crate::specs::Walks::source_hits, crate::specs::Walks::dest_hits, crate::specs::Rules::chan_ends))]
+#[tactic(auto, using(crate::specs::AlongLemmas::in_turn), unfolding(crate::specs::Walks::chan_hits, crate::specs::Walks::source_hits, crate::specs::Walks::dest_hits, crate::specs::Rules::chan_ends))]
 fn chan_hit(at: &End, c: u8, chan: &Chan) -> Option<Item>
     requires { length chan.now.dests ≤ 16 }
     ensures { result ≡ head_of (walks.chan_hits at.now c chan.now) }
@@ -66,7 +66,7 @@ fn chan_hit(at: &End, c: u8, chan: &Chan) -> Option<Item>
 }
 
 /// The first end of all channels that is one port with an end.
-#[tactic(auto, using(crate::proofs::AlongLemmas::each_loop))]
+#[tactic(auto, using(crate::specs::AlongLemmas::each_loop))]
 fn chans_hit(at: &End, chans: &[Chan]) -> Option<Item>
     requires few { length chans.now ≤ 64 }
     requires dests { All (λ chan. length chan.dests ≤ 16) chans.now }
@@ -82,7 +82,7 @@ fn chans_hit(at: &End, chans: &[Chan]) -> Option<Item>
 }
 
 /// The first end that stands before a destination and is one port with an end.
-#[tactic(auto, using(crate::proofs::AlongLemmas::in_turn))]
+#[tactic(auto, using(crate::specs::AlongLemmas::in_turn))]
 fn first_before(at: &End, chans: &[Chan], source: &End, before: &[End]) -> Option<Item>
     requires few { length chans.now ≤ 64 }
     requires dests { All (λ chan. length chan.dests ≤ 16) chans.now }
@@ -114,7 +114,7 @@ fn dest_meets(chans: &[Chan], source: &End, before: &[End], dest: &End) -> Optio
 }
 
 /// The first destination of a channel that is a port of an end before it.
-#[tactic(auto, using(crate::proofs::AlongLemmas::along_loop))]
+#[tactic(auto, using(crate::specs::AlongLemmas::along_loop))]
 fn dests_meet(chans: &[Chan], source: &End, dests: &[End]) -> Option<Broken>
     requires few { length chans.now ≤ 64 }
     requires dests { All (λ chan. length chan.dests ≤ 16) chans.now }
@@ -144,7 +144,7 @@ fn source_meets(chans: &[Chan], source: &End) -> Option<Broken>
 }
 
 /// The first end of a channel that is a port of an end before it.
-#[tactic(auto, using(crate::proofs::AlongLemmas::in_turn), unfolding(crate::specs::Walks::chan_meets))]
+#[tactic(auto, using(crate::specs::AlongLemmas::in_turn), unfolding(crate::specs::Walks::chan_meets))]
 fn chan_meets(before: &[Chan], chan: &Chan) -> Option<Broken>
     requires few { length before.now ≤ 64 }
     requires dests { All (λ chan. length chan.dests ≤ 16) before.now }
@@ -159,7 +159,7 @@ fn chan_meets(before: &[Chan], chan: &Chan) -> Option<Broken>
 }
 
 /// The first end of all channels that is a port of an end before it.
-#[tactic(auto, using(crate::proofs::AlongLemmas::along_loop))]
+#[tactic(auto, using(crate::specs::AlongLemmas::along_loop))]
 fn chans_meet(chans: &[Chan]) -> Option<Broken>
     requires few { length chans.now ≤ 64 }
     requires dests { All (λ chan. length chan.dests ≤ 16) chans.now }

@@ -52,7 +52,7 @@ fn unsized_region(n: u8, region: &Region) -> Option<Broken>
 }
 
 /// The first region that is not whole pages.
-#[tactic(auto, using(crate::proofs::AlongLemmas::each_loop))]
+#[tactic(auto, using(crate::specs::AlongLemmas::each_loop))]
 fn unsized_regions(regions: &[Region]) -> Option<Broken>
     requires { length regions.now ≤ 8 }
     ensures { result ≡ head_of (each rules.unsized_region regions.now) }
@@ -87,7 +87,7 @@ fn overlapping_region(before: &[Region], region: &Region) -> Option<Broken>
 }
 
 /// The first region that overlaps an earlier one.
-#[tactic(auto, using(crate::proofs::AlongLemmas::along_loop))]
+#[tactic(auto, using(crate::specs::AlongLemmas::along_loop))]
 fn overlapping_regions(regions: &[Region]) -> Option<Broken>
     requires { length regions.now ≤ 8 }
     ensures { result ≡ head_of (along (rules.repeated 5 item.Region rules.overlaps) regions.now) }

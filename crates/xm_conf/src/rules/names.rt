@@ -36,7 +36,7 @@ fn uart_name(before: &[Name], name: &Name) -> Option<Broken>
 }
 
 /// The first UART with an earlier one's name.
-#[tactic(auto, using(crate::proofs::AlongLemmas::along_loop))]
+#[tactic(auto, using(crate::specs::AlongLemmas::along_loop))]
 fn uart_names(uarts: &[Name]) -> Option<Broken>
     requires { length uarts.now ≤ 8 }
     ensures { result ≡ head_of (along (rules.repeated 3 item.Uart bytes_eq) uarts.now) }
@@ -78,7 +78,7 @@ fn port_name(p: u8, before: &[Port], port: &Port) -> Option<Broken>
 }
 
 /// The first port of a partition with an earlier one's name.
-#[tactic(auto, using(crate::proofs::AlongLemmas::along_loop))]
+#[tactic(auto, using(crate::specs::AlongLemmas::along_loop))]
 fn port_names(p: u8, ports: &[Port]) -> Option<Broken>
     requires { length ports.now ≤ 32 }
     ensures { result ≡ head_of (along (rules.repeated 3 (item.Port p) rules.same_port) ports.now) }
@@ -120,7 +120,7 @@ fn part_name(before: &[Part], part: &Part) -> Option<Broken>
 }
 
 /// A partition with an earlier one's name, or its first port with an earlier one's name.
-#[tactic(auto, using(crate::proofs::AlongLemmas::in_turn), unfolding(crate::specs::Rules::part_names))]
+#[tactic(auto, using(crate::specs::AlongLemmas::in_turn), unfolding(crate::specs::Rules::part_names))]
 fn part_names(before: &[Part], part: &Part) -> Option<Broken>
     requires few { length before.now ≤ 16 }
     requires ports { length part.now.ports ≤ 32 }
@@ -134,7 +134,7 @@ fn part_names(before: &[Part], part: &Part) -> Option<Broken>
 }
 
 /// The first partition or port with an earlier one's name.
-#[tactic(auto, using(crate::proofs::AlongLemmas::along_loop))]
+#[tactic(auto, using(crate::specs::AlongLemmas::along_loop))]
 fn parts_names(parts: &[Part]) -> Option<Broken>
     requires few { length parts.now ≤ 16 }
     requires ports { All (λ part. length part.ports ≤ 32) parts.now }
@@ -150,7 +150,7 @@ fn parts_names(parts: &[Part]) -> Option<Broken>
 }
 
 /// The first UART, partition or port with an earlier one's name.
-#[tactic(auto, using(crate::proofs::AlongLemmas::in_turn), unfolding(crate::specs::Rules::rule_3))]
+#[tactic(auto, using(crate::specs::AlongLemmas::in_turn), unfolding(crate::specs::Rules::rule_3))]
 pub(super) fn rule_3(raw: &RawConf) -> Option<Broken>
     requires { HasCounts raw.now }
     ensures { result ≡ head_of (rules.rule_3 raw.now) }

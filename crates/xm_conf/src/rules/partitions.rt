@@ -37,7 +37,7 @@ fn no_console(uarts: usize, n: u8, part: &Part) -> Option<Broken>
 }
 
 /// The first partition whose console is no UART.
-#[tactic(auto, using(crate::proofs::AlongLemmas::each_loop))]
+#[tactic(auto, using(crate::specs::AlongLemmas::each_loop))]
 fn parts_no_console(uarts: usize, parts: &[Part]) -> Option<Broken>
     requires { length parts.now ≤ 16 }
     ensures { result ≡ head_of (each (rules.no_console uarts) parts.now) }
@@ -73,7 +73,7 @@ fn unfit_need(n: u8, part: &Part) -> Option<Broken>
 }
 
 /// The first partition whose requirement is none.
-#[tactic(auto, using(crate::proofs::AlongLemmas::each_loop))]
+#[tactic(auto, using(crate::specs::AlongLemmas::each_loop))]
 fn unfit_needs(parts: &[Part]) -> Option<Broken>
     requires { length parts.now ≤ 16 }
     ensures { result ≡ head_of (each rules.unfit_need parts.now) }
@@ -128,7 +128,7 @@ fn action_broken(plans: usize, p: u8, n: u8, action: Action) -> Option<Broken>
 }
 
 /// The first of the actions of a partition that is not allowed, or whose plan is none.
-#[tactic(auto, using(crate::proofs::AlongLemmas::each_loop))]
+#[tactic(auto, using(crate::specs::AlongLemmas::each_loop))]
 fn actions_broken(plans: usize, p: u8, actions: &[Action]) -> Option<Broken>
     requires { length actions.now ≤ 12 }
     ensures { result ≡ head_of (each (walks.action_broken plans p) actions.now) }
@@ -143,7 +143,7 @@ fn actions_broken(plans: usize, p: u8, actions: &[Action]) -> Option<Broken>
 }
 
 /// A table that logs an event that is none, or the first of its actions that may not stand.
-#[tactic(auto, using(crate::proofs::AlongLemmas::in_turn))]
+#[tactic(auto, using(crate::specs::AlongLemmas::in_turn))]
 fn table_broken(plans: usize, p: u8, hm: &HmTable) -> Option<Broken>
     ensures first { result ≡ head_of (unless_of (nat_lt hm.now.logged 4096) (rules.alone 19 (item.Part p)) ++ each (walks.action_broken plans p) hm.now.actions) }
     ensures few { length hm.now.actions ≤ 12 }
@@ -164,7 +164,7 @@ fn part_monitor(plans: usize, p: u8, part: &Part) -> Option<Broken>
 }
 
 /// The first partition or action that breaks the rule on health events.
-#[tactic(auto, using(crate::proofs::AlongLemmas::each_loop))]
+#[tactic(auto, using(crate::specs::AlongLemmas::each_loop))]
 fn parts_monitors(plans: usize, parts: &[Part]) -> Option<Broken>
     requires { length parts.now ≤ 16 }
     ensures { result ≡ head_of (each (walks.part_monitor plans) parts.now) }

@@ -38,7 +38,7 @@ fn late_slot(p: u8, frame: u32, n: u8, slot: &Slot) -> Option<Broken>
 }
 
 /// The first slot that does not last, or ends behind the frame.
-#[tactic(auto, using(crate::proofs::AlongLemmas::each_loop))]
+#[tactic(auto, using(crate::specs::AlongLemmas::each_loop))]
 fn late_slots(p: u8, frame: u32, slots: &[Slot]) -> Option<Broken>
     requires { length slots.now ≤ 64 }
     ensures { result ≡ head_of (each (rules.late_slot p frame) slots.now) }
@@ -65,7 +65,7 @@ fn frame_broken(p: u8, plan: &Plan) -> Option<Broken>
 }
 
 /// The first plan or slot that breaks rule 11.
-#[tactic(auto, using(crate::proofs::AlongLemmas::each_loop))]
+#[tactic(auto, using(crate::specs::AlongLemmas::each_loop))]
 fn frames_broken(plans: &[Plan]) -> Option<Broken>
     requires few { length plans.now ≤ 8 }
     requires slots { All (λ plan. length plan.slots ≤ 64) plans.now }
@@ -110,7 +110,7 @@ fn early_slot(p: u8, before: &[Slot], slot: &Slot) -> Option<Broken>
 }
 
 /// The first slot that starts before the end of the one before it.
-#[tactic(auto, using(crate::proofs::AlongLemmas::along_loop))]
+#[tactic(auto, using(crate::specs::AlongLemmas::along_loop))]
 fn early_slots(p: u8, slots: &[Slot]) -> Option<Broken>
     requires { length slots.now ≤ 64 }
     ensures { result ≡ head_of (along (rules.early_slot p) slots.now) }
@@ -125,7 +125,7 @@ fn early_slots(p: u8, slots: &[Slot]) -> Option<Broken>
 }
 
 /// The first slot of all plans that starts too early.
-#[tactic(auto, using(crate::proofs::AlongLemmas::each_loop), unfolding(crate::specs::Rules::early_slots))]
+#[tactic(auto, using(crate::specs::AlongLemmas::each_loop), unfolding(crate::specs::Rules::early_slots))]
 fn plans_early_slots(plans: &[Plan]) -> Option<Broken>
     requires few { length plans.now ≤ 8 }
     requires slots { All (λ plan. length plan.slots ≤ 64) plans.now }
@@ -149,7 +149,7 @@ fn stray_slot(parts: usize, p: u8, n: u8, slot: &Slot) -> Option<Broken>
 }
 
 /// The first slot of a plan whose partition is none.
-#[tactic(auto, using(crate::proofs::AlongLemmas::each_loop))]
+#[tactic(auto, using(crate::specs::AlongLemmas::each_loop))]
 fn stray_slots(parts: usize, p: u8, slots: &[Slot]) -> Option<Broken>
     requires { length slots.now ≤ 64 }
     ensures { result ≡ head_of (each (rules.stray_slot parts p) slots.now) }
@@ -164,7 +164,7 @@ fn stray_slots(parts: usize, p: u8, slots: &[Slot]) -> Option<Broken>
 }
 
 /// The first slot of all plans whose partition is none.
-#[tactic(auto, using(crate::proofs::AlongLemmas::each_loop), unfolding(crate::specs::Rules::stray_slots))]
+#[tactic(auto, using(crate::specs::AlongLemmas::each_loop), unfolding(crate::specs::Rules::stray_slots))]
 fn plans_stray_slots(parts: usize, plans: &[Plan]) -> Option<Broken>
     requires few { length plans.now ≤ 8 }
     requires slots { All (λ plan. length plan.slots ≤ 64) plans.now }

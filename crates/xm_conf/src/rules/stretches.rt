@@ -74,7 +74,7 @@ fn area_hit(at: &Region, p: u8, areas: &[Area]) -> Option<Item>
 }
 
 /// The first area of all partitions that overlaps a stretch.
-#[tactic(auto, using(crate::proofs::AlongLemmas::each_loop))]
+#[tactic(auto, using(crate::specs::AlongLemmas::each_loop))]
 fn parts_hit(at: &Region, parts: &[Part]) -> Option<Item>
     requires few { length parts.now ≤ 16 }
     requires areas { All (λ part. length part.areas ≤ 8) parts.now }
@@ -99,7 +99,7 @@ fn part_hit(at: &Region, p: u8, part: &Part) -> Option<Item>
 }
 
 /// The first of what stands before an area and overlaps a stretch.
-#[tactic(auto, using(crate::proofs::AlongLemmas::in_turn))]
+#[tactic(auto, using(crate::specs::AlongLemmas::in_turn))]
 fn first_before(at: &Region, whole: Option<Region>, parts: &[Part], before: &[Area]) -> Option<Item>
     requires few { length parts.now ≤ 16 }
     requires areas { All (λ part. length part.areas ≤ 8) parts.now }
@@ -130,7 +130,7 @@ fn area_meets(whole: Option<Region>, parts: &[Part], before: &[Area], area: &Are
 }
 
 /// The first area of a partition that overlaps one before it.
-#[tactic(auto, using(crate::proofs::AlongLemmas::along_loop))]
+#[tactic(auto, using(crate::specs::AlongLemmas::along_loop))]
 fn areas_meet(whole: Option<Region>, parts: &[Part], areas: &[Area]) -> Option<Broken>
     requires few { length parts.now ≤ 16 }
     requires areas { All (λ part. length part.areas ≤ 8) parts.now }
@@ -158,7 +158,7 @@ fn part_meets(whole: Option<Region>, before: &[Part], part: &Part) -> Option<Bro
 }
 
 /// The first area of all partitions that overlaps one before it.
-#[tactic(auto, using(crate::proofs::AlongLemmas::along_loop))]
+#[tactic(auto, using(crate::specs::AlongLemmas::along_loop))]
 fn parts_meet(whole: Option<Region>, parts: &[Part]) -> Option<Broken>
     requires few { length parts.now ≤ 16 }
     requires areas { All (λ part. length part.areas ≤ 8) parts.now }
