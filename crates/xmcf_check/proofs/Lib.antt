@@ -1,4 +1,3 @@
-pub mod AlongLemmas
 pub mod BoundLemmas
 pub mod CappedChanLemmas
 pub mod CappedLemmas

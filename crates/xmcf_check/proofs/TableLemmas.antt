@@ -7,7 +7,7 @@ use Rattle.std.proofs.lemmas.Bool.Decides.{nat_tests}
 use Rattle.xm_conf.specs.Along.{each, each_from, along, along_from, unless}
 use Rattle.xm_conf.specs.Configuration.{Part}
 use Rattle.xm_conf.specs.Description.{Answer, Monitor, event_numbered, answer_of, monitor_of}
-use Rattle.xm_conf.specs.Health.{event_row, events, is_allowed}
+use Rattle.xm_conf.specs.Health.{default_action, event_row, events, is_allowed}
 use Rattle.xm_conf.specs.Rules as rules
 use Rattle.xm_conf.specs.declared.health.Event.{Event}
 use Rattle.xm_conf.specs.declared.health.Event.TheVariants as event
@@ -16,7 +16,6 @@ use Rattle.xm_conf.specs.declared.part.HmTable.{HmTable}
 use Rattle.xm_conf.specs.declared.item.Item.TheVariants as item
 use Rattle.xmcf_check.specs.Answered.{answers_broken}
 use Rattle.xmcf_check.specs.Capped.{capped_part}
-use Rattle.xmcf_check.specs.Defaults.{default_action}
 use Rattle.xmcf_check.specs.Judged.{action_or_default, action_for, table_of}
 use Rattle.xmcf_check.proofs.ListLemmas.{both, front_none, back_none}
 use Rattle.xmcf_check.proofs.CappedChanLemmas.{unless_none}

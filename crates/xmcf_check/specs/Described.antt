@@ -6,7 +6,7 @@ use Rattle.xm_base.specs.Options.{on}
 use Rattle.xm_conf.specs.Along.{head_of, each}
 use Rattle.xm_conf.specs.Configuration.{Plan, Part, Chan, Conf}
 use Rattle.xm_conf.specs.Description.{PlanIds, Ids, Answer, Monitor, Description}
-use Rattle.xm_conf.specs.Health.{event_row, events}
+use Rattle.xm_conf.specs.Health.{default_action, event_row, events}
 use Rattle.xm_conf.specs.declared.channel.End.{End}
 use Rattle.xm_conf.specs.declared.health.Action.{Action}
 use Rattle.xm_conf.specs.declared.health.Event.{Event}
@@ -17,7 +17,6 @@ use Rattle.xmcf_reader.specs.declared.draft.Element.{Element}
 use Rattle.xmcf_reader.specs.declared.draft.Element.TheVariants as element
 use Rattle.xmcf_reader.specs.declared.draft.Entry.{Entry}
 use Rattle.xmcf_reader.specs.Drafts.{behind_root}
-use Rattle.xmcf_check.specs.Defaults.{default_action}
 use Rattle.xmcf_check.specs.Elements.{area_of, carried_of, frame_of, given_of, mask_of, need_of, own_of, part_id_of, plan_id_of, port_of, processor_of, region_of, size_of, slot_id_of, slot_of, uart_id_of, uart_of}
 use Rattle.xmcf_check.specs.declared.elements.Carried.{Carried}
 use Rattle.xmcf_check.specs.declared.elements.Given.{Given}

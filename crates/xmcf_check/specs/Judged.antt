@@ -3,14 +3,13 @@ use Rattle.std.specs.Prelude.{◌≡◌, ◌<◌, ◌==◌, List, length, map, A
 use Rattle.std.specs.List.{find}
 use Rattle.xm_conf.specs.Configuration.{Conf}
 use Rattle.xm_conf.specs.Description.{Ids, Answer, Monitor, Description}
-use Rattle.xm_conf.specs.Health.{event_row, events}
+use Rattle.xm_conf.specs.Health.{default_action, event_row, events}
 use Rattle.xm_conf.specs.Rules.{first_broken}
 use Rattle.xm_conf.specs.declared.health.Event.{Event}
 use Rattle.xm_conf.specs.declared.health.Action.{Action}
 use Rattle.xm_conf.specs.declared.part.HmTable.{HmTable}
 use Rattle.xm_conf.specs.declared.item.Broken.{Broken}
 use Rattle.xmcf_check.specs.Capped.{capped_conf}
-use Rattle.xmcf_check.specs.Defaults.{default_action}
 use Rattle.xmcf_check.specs.Gathered.{Gathered}
 
 -- the action of an answer to an event, or the default where there is none

@@ -1,6 +1,5 @@
 pub mod Answered
 pub mod Capped
-pub mod Defaults
 pub mod Described
 pub mod Elements
 pub mod Families

@@ -64,7 +64,7 @@ fn repeated(p: u8, before: &[Answer], answer: &Answer) -> Option<Broken>
 }
 
 /// An answer that is not allowed, that is to the event of one before it, or whose plan is none.
-#[tactic(auto, using(crate::proofs::AlongLemmas::in_turn), unfolding(xm_conf::specs::Rules::answer_broken))]
+#[tactic(auto, using(xm_conf::specs::AlongLemmas::in_turn), unfolding(xm_conf::specs::Rules::answer_broken))]
 fn answer_broken(plans: usize, p: u8, before: &[Answer], answer: &Answer) -> Option<Broken>
     requires { length before.now ≤ 12 }
     ensures { result ≡ head_of (rules.answer_broken plans p before.now answer.now) }
@@ -82,7 +82,7 @@ fn answer_broken(plans: usize, p: u8, before: &[Answer], answer: &Answer) -> Opt
 }
 
 /// The first answer of a partition that may not stand.
-#[tactic(auto, using(crate::proofs::AlongLemmas::along_loop), unfolding(crate::specs::Answered::answers_broken))]
+#[tactic(auto, using(xm_conf::specs::AlongLemmas::along_loop), unfolding(crate::specs::Answered::answers_broken))]
 fn answers_broken(plans: usize, p: u8, answers: &[Answer]) -> Option<Broken>
     ensures { result ≡ head_of (answers_broken plans p answers.now) }
 {
@@ -96,7 +96,7 @@ fn answers_broken(plans: usize, p: u8, answers: &[Answer]) -> Option<Broken>
 }
 
 /// The first answer of a partition that may not stand.
-#[tactic(auto, using(crate::proofs::AlongLemmas::each_loop))]
+#[tactic(auto, using(xm_conf::specs::AlongLemmas::each_loop))]
 fn lists_broken(plans: usize, answers: &[Vec<Answer>]) -> Option<Broken>
     requires { length answers.now ≤ 16 }
     ensures { result ≡ head_of (each (λ p list. answers_broken plans p list.items) answers.now) }

@@ -11,7 +11,7 @@ use crate::gathered::{Ids, PlanIds};
 use xm_conf::{Broken, Item};
 
 /// The place of the first id that is not its place.
-#[tactic(auto, using(crate::proofs::AlongLemmas::each_loop))]
+#[tactic(auto, using(xm_conf::specs::AlongLemmas::each_loop))]
 fn misplaced(ids: &[u32]) -> Option<u8>
     requires { length ids.now ≤ 64 }
     ensures { result ≡ head_of (each misplace ids.now) }
@@ -69,7 +69,7 @@ fn parts_misplaced(ids: &[u32]) -> Option<Broken>
 }
 
 /// A plan whose id is not its place, or the first of its slots.
-#[tactic(auto, using(crate::proofs::AlongLemmas::in_turn), unfolding(xm_conf::specs::Rules::plan_misplaced))]
+#[tactic(auto, using(xm_conf::specs::AlongLemmas::in_turn), unfolding(xm_conf::specs::Rules::plan_misplaced))]
 fn plan_misplaced(n: u8, ids: &PlanIds) -> Option<Broken>
     requires { length ids.now.slots ≤ 64 }
     ensures { result ≡ head_of (rules.plan_misplaced n ids.now) }
@@ -82,7 +82,7 @@ fn plan_misplaced(n: u8, ids: &PlanIds) -> Option<Broken>
 }
 
 /// The first plan or slot whose id is not its place.
-#[tactic(auto, using(crate::proofs::AlongLemmas::each_loop))]
+#[tactic(auto, using(xm_conf::specs::AlongLemmas::each_loop))]
 fn plans_misplaced(ids: &[PlanIds]) -> Option<Broken>
     requires few { length ids.now ≤ 8 }
     requires slots { All (λ plan. length plan.slots ≤ 64) ids.now }
@@ -98,7 +98,7 @@ fn plans_misplaced(ids: &[PlanIds]) -> Option<Broken>
 }
 
 /// The first item whose id is not its place.
-#[tactic(auto, using(crate::proofs::AlongLemmas::in_turn), unfolding(xm_conf::specs::Rules::rule_2))]
+#[tactic(auto, using(xm_conf::specs::AlongLemmas::in_turn), unfolding(xm_conf::specs::Rules::rule_2))]
 pub(crate) fn rule_2(ids: &Ids) -> Option<Broken>
     requires uarts { length ids.now.uarts ≤ 8 }
     requires plans { length ids.now.plans ≤ 8 }

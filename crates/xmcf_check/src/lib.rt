@@ -5,7 +5,6 @@ mod answers;
 mod broken;
 mod checking;
 mod elements;
-mod events;
 mod family;
 mod fault;
 mod gathered;

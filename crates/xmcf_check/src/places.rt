@@ -5,9 +5,8 @@ ghost use Rattle.xm_conf.specs.Health.{events};
 ghost use Rattle.xmcf_reader.specs.Drafts.{behind_root};
 ghost use Rattle.xmcf_check.specs.Places.{child_items, end_place, event_items, grandchild_items, is_item, items, number_nth, place_nth, place_of};
 
-use crate::events::EVENTS;
 use crate::sorts::{Owner, Sort, is_item, is_of};
-use xm_conf::{Event, Item};
+use xm_conf::{EVENTS, Event, Item};
 use xmcf_reader::{Draft, Entry};
 
 /// The entries behind the first.

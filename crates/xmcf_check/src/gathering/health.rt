@@ -2,17 +2,15 @@
 
 ghost use Rattle.std.specs.Prelude.{◌≡◌, ◌≤◌, ◌^◌, ◌++◌, IfOk, OnOk, flat_map};
 ghost use Rattle.xm_conf.specs.Health.{event_row};
-ghost use Rattle.xmcf_check.specs.Defaults.{default_action};
 ghost use Rattle.xmcf_check.specs.Described.{action_for, among, answers_of, answers_to, flag_for, given_to, hm_of, is_to, log_given, logged_of, with_grandparent};
 ghost use Rattle.xmcf_check.specs.Elements.{given_of};
 
 use crate::elements::{Given, given_of};
-use crate::events::EVENTS;
 use crate::family::is_grandchild;
 use crate::gathered::Answer;
 use std::alloc::{AllocError, Global};
 use xm_base::Memory;
-use xm_conf::{Action, Event, HmTable};
+use xm_conf::{Action, EVENTS, Event, HmTable};
 use xmcf_reader::Entry;
 
 /// The answers among entries that are given by children of children of the entry of a number.
@@ -46,26 +44,6 @@ fn given_to(given: &[Given], event: Event) -> Option<Given>
     given.iter().copied().find(|given| is_to(event, given))
 }
 
-/// The action for an event that is not answered.
-fn default_action(event: Event) -> Action
-    ensures { result ≡ default_action event }
-{
-    match event {
-        Event::PartitionError
-        | Event::MemProtection
-        | Event::SparcInstrAccess
-        | Event::SparcDataAccess => Action::Halt,
-        Event::UnexpectedTrap
-        | Event::SparcIllegalInstruction
-        | Event::SparcPrivilegedInstruction
-        | Event::SparcFpDisabled
-        | Event::SparcCpDisabled
-        | Event::SparcAddressNotAligned
-        | Event::SparcTagOverflow
-        | Event::SparcDivideException => Action::Propagate,
-    }
-}
-
 /// The action for an event.
 #[tactic(auto, unfolding(crate::specs::Described::action_for))]
 fn action_for(given: &[Given], event: Event) -> Action
@@ -73,7 +51,7 @@ fn action_for(given: &[Given], event: Event) -> Action
 {
     match given_to(given, event) {
         Some(given) => given.action,
-        None => default_action(event),
+        None => event.default_action(),
     }
 }
 
@@ -81,20 +59,7 @@ fn action_for(given: &[Given], event: Event) -> Action
 fn bit(event: Event) -> u16
     ensures { result ≡ 2 ^ (event_row event).number }
 {
-    match event {
-        Event::PartitionError => 0x001,
-        Event::MemProtection => 0x002,
-        Event::UnexpectedTrap => 0x004,
-        Event::SparcIllegalInstruction => 0x008,
-        Event::SparcPrivilegedInstruction => 0x010,
-        Event::SparcFpDisabled => 0x020,
-        Event::SparcCpDisabled => 0x040,
-        Event::SparcAddressNotAligned => 0x080,
-        Event::SparcTagOverflow => 0x100,
-        Event::SparcDivideException => 0x200,
-        Event::SparcInstrAccess => 0x400,
-        Event::SparcDataAccess => 0x800,
-    }
+    1 << event.number()
 }
 
 /// Whether an event is logged.
