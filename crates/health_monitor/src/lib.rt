@@ -1,0 +1,17 @@
+//! The health monitor: the event that a trap raises, the action that a partition's table has for it, and what the action comes to.
+#![tactic(auto)]
+
+mod actions;
+mod effects;
+mod entry;
+mod events;
+mod table;
+
+pub use actions::effect;
+pub use effects::{Effect, Own, Whole};
+pub use entry::HealthEntry;
+pub use events::event_of;
+pub use table::{action_of, is_logged};
+
+#[cfg(test)]
+mod tests;
