@@ -1,0 +1,120 @@
+//! The clocks of one partition.
+
+ghost use Rattle.std.specs.Prelude.{◌≡◌, ◌↔◌, ℕ, ◌+◌, ◌^◌, ◌<◌, ◌<ℤ◌, ◌⊎◌, pos, unsigned_abs, IfSome, IsErr, IsNone, OnErr, OnOk};
+ghost use Rattle.virt_clocks.specs.Clocks.{AreTimers, IsFirstDue, NoneCounted, armed, counted, is_due, lesser, looked_at, next_due, no_clocks, ticks_until, timer_of, with_timer};
+
+use crate::timer::{
+    Clock, Negative, Timer, armed, counted, is_due, is_negative, lesser, looked_at, ticks_until,
+};
+use std::marker::Model;
+
+/// The clocks of a partition: how many ticks it ran, and its timers.
+#[derive(Debug, Drop)]
+pub struct Clocks {
+    execution: u64,
+    hardware_timer: Option<Timer>,
+    execution_timer: Option<Timer>,
+}
+
+impl Model for Clocks {
+    ghost use Rattle.virt_clocks.specs.Clocks.{AreTimers, PartitionClocks};
+
+    ghost Value = { PartitionClocks };
+
+    ghost view = { λ c. record { execution = c.execution; hardware_timer = c.hardware_timer; execution_timer = c.execution_timer } };
+
+    ghost invariant = { λ c. AreTimers (record { execution = c.execution; hardware_timer = c.hardware_timer; execution_timer = c.execution_timer }) };
+}
+
+impl Clocks {
+    /// The clocks of a partition that begins. No timer is armed.
+    #[tactic(auto, unfolding(crate::specs::Clocks::no_clocks))]
+    pub fn new() -> Clocks
+        ensures value { result ≡ no_clocks }
+    {
+        Clocks {
+            execution: 0,
+            hardware_timer: None,
+            execution_timer: None,
+        }
+    }
+
+    /// How many ticks the partition ran.
+    pub fn exec(&self) -> u64
+        ensures value { result ≡ self.now.execution }
+    {
+        self.execution
+    }
+
+    /// The timer on a clock, or `None` where it is not armed.
+    pub fn timer(&self, clock: Clock) -> Option<Timer>
+        ensures value { result ≡ timer_of clock self.now }
+    {
+        match clock {
+            Clock::Hw => self.hardware_timer,
+            Clock::Exec => self.execution_timer,
+        }
+    }
+
+    /// Arms the timer on a clock, or disarms it where the deadline is 0.
+    ///
+    /// The deadline is a reading of that clock, in microseconds. With an interval of 0 the timer is due once.
+    pub fn set_timer(&mut self, clock: Clock, deadline: i64, interval: i64) -> Result<(), Negative>
+        ensures negative { IsErr result ↔ ((deadline <ℤ pos 0) ⊎ (interval <ℤ pos 0)) }
+        ensures set { OnOk result (self.new ≡ with_timer clock (armed (unsigned_abs deadline) (unsigned_abs interval)) self.old) }
+        ensures unchanged { OnErr result (self.new ≡ self.old) }
+    {
+        if is_negative(deadline, interval) {
+            return Err(Negative);
+        }
+        let timer = armed(deadline.unsigned_abs(), interval.unsigned_abs());
+        match clock {
+            Clock::Hw => self.hardware_timer = timer,
+            Clock::Exec => self.execution_timer = timer,
+        }
+        Ok(())
+    }
+
+    /// Counts a tick in which the partition ran.
+    pub fn pass(&mut self)
+        requires { self.old.execution < 2 ^ 63 }
+        ensures value { self.new ≡ record self.old { execution = self.old.execution + 1 } }
+    {
+        self.execution += 1;
+    }
+
+    /// Whether the timer on the hardware clock is due. If so, it is moved on or disarmed.
+    pub fn hw_due(&mut self, now: u64) -> bool
+        ensures value { result ≡ is_due now self.old.hardware_timer }
+        ensures timer { self.new ≡ record self.old { hardware_timer = looked_at now self.old.hardware_timer } }
+    {
+        let due = is_due(now, self.hardware_timer);
+        self.hardware_timer = looked_at(now, self.hardware_timer);
+        due
+    }
+
+    /// Whether the timer on the execution clock is due. If so, it is moved on or disarmed.
+    pub fn exec_due(&mut self) -> bool
+        ensures value { result ≡ is_due self.old.execution self.old.execution_timer }
+        ensures timer { self.new ≡ record self.old { execution_timer = looked_at self.old.execution self.old.execution_timer } }
+    {
+        let due = is_due(self.execution, self.execution_timer);
+        self.execution_timer = looked_at(self.execution, self.execution_timer);
+        due
+    }
+
+    /// How many ticks are left until a timer is due if nothing changes, 0 where one is due at once, or `None` where no
+    /// timer is armed. The timer on the execution clock counts only where the partition runs.
+    #[tactic(auto, unfolding(crate::specs::Clocks::next_due))]
+    pub fn next_due(&self, now: u64, running: bool) -> Option<u64>
+        ensures value { result ≡ next_due now running self.now }
+        ensures none { IsNone result ↔ NoneCounted running self.now }
+        ensures least { IfSome result (IsFirstDue now running self.now) }
+    {
+        let execution_timer = counted(running, self.execution_timer);
+        lesser(
+            ticks_until(now, self.hardware_timer),
+            ticks_until(self.execution, execution_timer),
+        )
+    }
+}
