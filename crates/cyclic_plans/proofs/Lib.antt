@@ -1,0 +1,4 @@
+pub mod ClockLemmas
+pub mod PlanLemmas
+pub mod SlotLemmas
+pub mod StretchLemmas

@@ -1,0 +1,2 @@
+pub mod PlanClock
+pub mod Slots
