@@ -1,0 +1,125 @@
+//! A channel of either kind.
+
+ghost use Rattle.std.specs.Prelude.{◌≡◌, ◌↔◌, ◌≤◌, ◌++◌, IfOk, IfSome, IsErr, IfNone, OnErr, OnOk, drop, length, option_map};
+ghost use Rattle.xm_ports.specs.Channels.{IsMessage, IsQueuing, IsSampling, cleared, empty, first_message, messages_of, most_of, put, sample_of, shape_of, taken};
+ghost use Rattle.xm_ports.specs.Stored.{channel_content, channel_shape};
+
+use crate::queuing::{Full, QueuingChannel};
+use crate::sampling::{Sample, SamplingChannel};
+use std::alloc::Global;
+use xm_base::Memory;
+use xm_conf::{Chan, ChanKind};
+
+/// A channel with the messages that it holds.
+#[derive(Debug, Drop)]
+pub(crate) enum Channel {
+    Sampling(SamplingChannel),
+    Queuing(QueuingChannel),
+}
+
+impl Channel {
+    /// A configured channel, before the first message.
+    pub(crate) fn new(alloc: Global, chan: &Chan) -> Result<Channel, Memory>
+        ensures shape { IfOk result (λ channel. channel_shape channel ≡ shape_of chan.now) }
+        ensures content { IfOk result (λ channel. channel_content channel ≡ empty (shape_of chan.now)) }
+    {
+        match chan.kind {
+            ChanKind::Sampling { refresh } => {
+                let state = SamplingChannel::new(alloc, refresh, chan.length)?;
+                Ok(Channel::Sampling(state))
+            }
+            ChanKind::Queuing { most } => {
+                let state = QueuingChannel::new(alloc, most, chan.length)?;
+                Ok(Channel::Queuing(state))
+            }
+        }
+    }
+
+    /// Writes a message to a sampling channel.
+    #[tactic(auto, unfolding(crate::specs::Channels::put))]
+    pub(crate) fn put_sampling(&mut self, bytes: &[u8], now: u64)
+        requires channel { IsSampling (channel_shape self.old).kind }
+        requires bytes { length bytes.now ≤ (channel_shape self.old).length }
+        ensures shape { channel_shape self.new ≡ channel_shape self.old }
+        ensures content { channel_content self.new ≡ put now bytes.now (channel_content self.old) }
+    {
+        match self {
+            Channel::Sampling(state) => state.put(bytes, now),
+            Channel::Queuing(_) => unreachable!(),
+        }
+    }
+
+    /// The message that a sampling channel holds.
+    pub(crate) fn last(&self) -> Option<Sample<'_>>
+        ensures value { result ≡ sample_of (channel_content self.now) }
+    {
+        match self {
+            Channel::Sampling(state) => state.last(),
+            Channel::Queuing(_) => None,
+        }
+    }
+
+    /// Puts a message at the end of a queue, where it is not full.
+    #[tactic(auto, unfolding(crate::specs::Channels::put))]
+    pub(crate) fn send(&mut self, bytes: &[u8]) -> Result<(), Full>
+        requires channel { IsQueuing (channel_shape self.old).kind }
+        requires bytes { length bytes.now ≤ (channel_shape self.old).length }
+        ensures full { IsErr result ↔ (length (messages_of (channel_content self.old)) ≡ most_of (channel_shape self.old).kind) }
+        ensures shape { channel_shape self.new ≡ channel_shape self.old }
+        ensures sent { OnOk result (channel_content self.new ≡ put 0 bytes.now (channel_content self.old)) }
+        ensures unchanged { OnErr result (self.new ≡ self.old) }
+    {
+        match self {
+            Channel::Sampling(_) => unreachable!(),
+            Channel::Queuing(state) => state.send(bytes),
+        }
+    }
+
+    /// The message that waits longest in a queue.
+    pub(crate) fn first(&self) -> Option<&[u8]>
+        ensures value { option_map (λ bytes. bytes.now) result ≡ first_message (channel_content self.now) }
+    {
+        match self {
+            Channel::Sampling(_) => None,
+            Channel::Queuing(state) => state.first(),
+        }
+    }
+
+    /// Takes the message that waits longest in a queue, and tells how many bytes it has.
+    #[tactic(auto, unfolding(crate::specs::Channels::taken))]
+    pub(crate) fn receive(&mut self, into: &mut [u8]) -> Option<usize>
+        requires { IfSome (first_message (channel_content self.old)) (λ first. length first ≤ length into.old) }
+        ensures length { result ≡ option_map length (first_message (channel_content self.old)) }
+        ensures bytes { IfSome (first_message (channel_content self.old)) (λ first. into.new ≡ first ++ drop (length first) into.old) }
+        ensures shape { channel_shape self.new ≡ channel_shape self.old }
+        ensures taken { channel_content self.new ≡ taken (channel_content self.old) }
+        ensures unchanged { IfNone result (into.new ≡ into.old) }
+    {
+        match self {
+            Channel::Sampling(_) => None,
+            Channel::Queuing(state) => state.receive(into),
+        }
+    }
+
+    /// How many messages wait in a queue.
+    pub(crate) fn count(&self) -> usize
+        ensures value { result ≡ length (messages_of (channel_content self.now)) }
+    {
+        match self {
+            Channel::Sampling(_) => 0,
+            Channel::Queuing(state) => state.count(),
+        }
+    }
+
+    /// Drops all messages.
+    #[tactic(auto, unfolding(crate::specs::Channels::cleared))]
+    pub(crate) fn clear(&mut self)
+        ensures shape { channel_shape self.new ≡ channel_shape self.old }
+        ensures content { channel_content self.new ≡ cleared (channel_content self.old) }
+    {
+        match self {
+            Channel::Sampling(state) => state.clear(),
+            Channel::Queuing(state) => state.clear(),
+        }
+    }
+}

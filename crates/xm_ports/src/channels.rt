@@ -1,0 +1,141 @@
+//! All channels of a system.
+
+ghost use Rattle.std.specs.Prelude.{◌≡◌, ◌↔◌, ◌≤◌, All, ◌++◌, IfOk, IfSome, IfNone, IsErr, IsNone, OnErr, OnOk, OnSome, None, drop, length, map, option_map};
+ghost use Rattle.xm_conf.specs.Fits.{IsChan};
+ghost use Rattle.xm_ports.specs.Stored.{table_of};
+ghost use Rattle.xm_ports.specs.Channels.{FitsChannel, HasQueue, HasSampling, IsFull, IsTable, all_cleared, content_at, empty, first_message, messages_of, put, sample_of, shape_of, shapes_of, taken, with_content};
+
+use crate::channel::Channel;
+use crate::queuing::Full;
+use crate::sampling::Sample;
+use std::alloc::Global;
+use std::marker::Model;
+use xm_base::Memory;
+use xm_conf::{Chan, Conf};
+
+/// The channels of a system, each by its number, with the messages that they hold.
+#[derive(Debug, Drop)]
+pub struct Channels {
+    channels: Vec<Channel>,
+}
+
+impl Model for Channels {
+    ghost use Rattle.xm_ports.specs.Channels.{ChannelTable, IsTable};
+    ghost use Rattle.xm_ports.specs.Stored.{table_of};
+
+    ghost Value = { ChannelTable };
+
+    ghost view = { λ all. table_of all.channels.items };
+
+    ghost invariant = { λ all. IsTable (table_of all.channels.items) };
+}
+
+impl Channels {
+    /// The channels of a configuration, without a message. All room for messages is taken here: no other call
+    /// needs memory.
+    pub fn new(alloc: Global, conf: &Conf) -> Result<Channels, Memory>
+        ensures value { IfOk result (λ table. table ≡ record { shapes = shapes_of conf.now; contents = map empty (shapes_of conf.now) }) }
+    {
+        let channels = made(alloc, chans_of(conf))?;
+        Ok(Channels { channels })
+    }
+
+    /// Writes a message to a sampling channel at a time, in microseconds. It replaces the one before.
+    pub fn put_sampling(&mut self, chan: u8, bytes: &[u8], now: u64)
+        requires channel { HasSampling chan self.old }
+        requires bytes { FitsChannel bytes.now chan self.old }
+        ensures put { self.new ≡ with_content (put now bytes.now) chan self.old }
+    {
+        self.channels[usize::from(chan)].put_sampling(bytes, now);
+    }
+
+    /// The message that a sampling channel holds, or `None` before the first. It stays.
+    pub fn get_sampling(&self, chan: u8) -> Option<Sample<'_>>
+        requires channel { HasSampling chan self.now }
+        ensures value { result ≡ sample_of (content_at chan self.now) }
+        ensures none { IsNone result ↔ (sample_of (content_at chan self.now) ≡ None) }
+        ensures kept { IsTable self.now }
+    {
+        self.channels[usize::from(chan)].last()
+    }
+
+    /// Puts a message at the end of a queue, or answers `Full` where the queue holds as many as it may.
+    pub fn send(&mut self, chan: u8, bytes: &[u8]) -> Result<(), Full>
+        requires channel { HasQueue chan self.old }
+        requires bytes { FitsChannel bytes.now chan self.old }
+        ensures full { IsErr result ↔ IsFull chan self.old }
+        ensures sent { OnOk result (self.new ≡ with_content (put 0 bytes.now) chan self.old) }
+        ensures unchanged { OnErr result (self.new ≡ self.old) }
+    {
+        self.channels[usize::from(chan)].send(bytes)
+    }
+
+    /// The message that waits longest in a queue, or `None` where none waits. It stays.
+    pub fn first(&self, chan: u8) -> Option<&[u8]>
+        requires channel { HasQueue chan self.now }
+        ensures value { option_map (λ bytes. bytes.now) result ≡ first_message (content_at chan self.now) }
+        ensures none { IsNone result ↔ (first_message (content_at chan self.now) ≡ None) }
+        ensures kept { IsTable self.now }
+    {
+        self.channels[usize::from(chan)].first()
+    }
+
+    /// Takes the message that waits longest in a queue, copies it to the front of `into`, and tells how many bytes
+    /// it has; or `None` where none waits.
+    pub fn receive(&mut self, chan: u8, into: &mut [u8]) -> Option<usize>
+        requires channel { HasQueue chan self.old }
+        requires room { IfSome (first_message (content_at chan self.old)) (λ first. length first ≤ length into.old) }
+        ensures none { IsNone result ↔ (first_message (content_at chan self.old) ≡ None) }
+        ensures unchanged { IfNone result ((self.new ≡ self.old) × (into.new ≡ into.old)) }
+        ensures length { result ≡ option_map length (first_message (content_at chan self.old)) }
+        ensures bytes { IfSome (first_message (content_at chan self.old)) (λ first. into.new ≡ first ++ drop (length first) into.old) }
+        ensures taken { OnSome result (self.new ≡ with_content taken chan self.old) }
+    {
+        self.channels[usize::from(chan)].receive(into)
+    }
+
+    /// How many messages wait in a queue.
+    pub fn count(&self, chan: u8) -> usize
+        requires channel { HasQueue chan self.now }
+        ensures value { result ≡ length (messages_of (content_at chan self.now)) }
+    {
+        self.channels[usize::from(chan)].count()
+    }
+
+    /// Drops all messages of all channels.
+    pub fn clear(&mut self)
+        ensures contents { self.new ≡ all_cleared self.old }
+    {
+        clear_all(&mut self.channels);
+    }
+}
+
+/// The channels of a configuration.
+#[tactic(auto, unfolding(xm_conf::specs::Description::described))]
+fn chans_of(conf: &Conf) -> &[Chan]
+    ensures value { result.now ≡ conf.now.chans }
+    ensures few { length result.now ≤ 64 }
+    ensures chans { All IsChan result.now }
+{
+    &conf.raw().chans
+}
+
+/// Configured channels, before the first message.
+fn made(alloc: Global, chans: &[Chan]) -> Result<Vec<Channel>, Memory>
+    ensures table { IfOk result (λ channels. table_of channels.items ≡ record { shapes = map shape_of chans.now; contents = map empty (map shape_of chans.now) }) }
+{
+    let mut channels = Vec::with_capacity(alloc, chans.len())?;
+    for chan in chans {
+        channels.push_reserved(Channel::new(alloc, chan)?);
+    }
+    Ok(channels)
+}
+
+/// Drops all messages of these channels.
+fn clear_all(channels: &mut [Channel])
+    ensures table { table_of channels.new ≡ all_cleared (table_of channels.old) }
+{
+    for channel in channels {
+        channel.clear();
+    }
+}

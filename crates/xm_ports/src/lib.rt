@@ -1,0 +1,17 @@
+//! Ports and channels: which ports a partition has made, and the messages that channels hold.
+#![tactic(auto)]
+
+mod channel;
+mod channels;
+mod ports;
+mod queuing;
+mod room;
+mod sampling;
+
+pub use channels::Channels;
+pub use ports::{CreateFault, Ports};
+pub use queuing::Full;
+pub use sampling::Sample;
+
+#[cfg(test)]
+mod tests;
