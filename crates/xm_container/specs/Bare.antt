@@ -2,32 +2,13 @@
 use Rattle.std.specs.Prelude.{◌≡◌, ℕ, ◌<◌, ◌≤◌, ◌⊎◌, false, List, [], ◌∷◌, length, map, codes, Some, None, Result, Ok, Err}
 use Rattle.xm_base.specs.declared.limits.TheConstants.{IMAGE_BYTES}
 use Rattle.xm_conf.specs.Configuration.{Conf, Part, Plan}
-use Rattle.xm_conf.specs.Health.{events}
-use Rattle.xm_conf.specs.declared.health.Action.{Action}
-use Rattle.xm_conf.specs.declared.health.Action.TheVariants as action
-use Rattle.xm_conf.specs.declared.health.Event.{Event}
-use Rattle.xm_conf.specs.declared.health.Event.TheVariants as event
+use Rattle.xm_conf.specs.Health.{default_action, events}
 use Rattle.xm_conf.specs.declared.part.HmTable.{HmTable}
 use Rattle.xm_conf.specs.declared.raw.Region.{Region}
 use Rattle.xef_images.specs.Image.{Image}
 use Rattle.loaded_system.specs.System.{System}
 use Rattle.xm_container.specs.declared.raw_image.BareFault.{BareFault}
 use Rattle.xm_container.specs.declared.raw_image.BareFault.TheVariants.{Length, Memory}
-
--- the action that answers a health event where nothing else is said
-abbrev pub default_action : Event → Action
-default_action event.PartitionError = action.Halt
-default_action event.MemProtection = action.Halt
-default_action event.UnexpectedTrap = action.Propagate
-default_action event.SparcIllegalInstruction = action.Propagate
-default_action event.SparcPrivilegedInstruction = action.Propagate
-default_action event.SparcFpDisabled = action.Propagate
-default_action event.SparcCpDisabled = action.Propagate
-default_action event.SparcAddressNotAligned = action.Propagate
-default_action event.SparcTagOverflow = action.Propagate
-default_action event.SparcDivideException = action.Propagate
-default_action event.SparcInstrAccess = action.Halt
-default_action event.SparcDataAccess = action.Halt
 
 -- the default answers to all events, each of which is logged
 abbrev pub default_table : HmTable

@@ -8,7 +8,7 @@ use loaded_system::System;
 use std::alloc::Global;
 use xef_images::{Segment, Xef};
 use xm_base::{IMAGE_BYTES, Memory};
-use xm_conf::{Action, Area, Conf, HmTable, Name, Part, Plan, RawConf, Region, Slot};
+use xm_conf::{Area, Conf, EVENTS, Event, HmTable, Name, Part, Plan, RawConf, Region, Slot};
 
 /// Why an image makes no system.
 #[derive(Clone, Copy, Debug, PartialEq, Eq)]
@@ -33,22 +33,6 @@ const AREA_BYTES: u32 = 0x0010_0000;
 
 /// The microseconds of the frame and of its one slot.
 const FRAME: u32 = 1000;
-
-/// The actions that answer health events where nothing else is said, in the order of the events.
-const ACTIONS: [Action; 12] = [
-    Action::Halt,
-    Action::Halt,
-    Action::Propagate,
-    Action::Propagate,
-    Action::Propagate,
-    Action::Propagate,
-    Action::Propagate,
-    Action::Propagate,
-    Action::Propagate,
-    Action::Propagate,
-    Action::Halt,
-    Action::Halt,
-];
 
 /// The system of one partition that runs a raw image: one plan of one slot, and one area of 1 MiB at whose start
 /// the image is loaded and entered. Refused where the image has no bytes or more than `IMAGE_BYTES`.
@@ -177,7 +161,7 @@ fn part(alloc: Global) -> Result<Part, Memory>
         need: None,
         trace_mask: 0,
         hm: HmTable {
-            actions: ACTIONS,
+            actions: EVENTS.map(Event::default_action),
             logged: 0x0fff,
         },
         areas: Vec::from_array(alloc, [area])?,
