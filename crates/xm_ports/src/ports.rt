@@ -1,9 +1,10 @@
 //! The ports that a partition has made.
 
-ghost use Rattle.std.specs.Prelude.{◌≡◌, ◌<◌, ◌≤◌, IfOk, IfSome, IsSome, IsSomeAnd, OnErr, OnOk, length as length_of, slice_get};
+ghost use Rattle.std.specs.Prelude.{◌≡◌, ◌<◌, ◌≤◌, IfOk, IfSome, IsSome, IsSomeAnd, OnErr, OnOk, length as length_of, option_map, slice_get};
 ghost use Rattle.xm_conf.specs.Rules.{port_of};
 ghost use Rattle.xm_conf.specs.View.{channel_of};
-ghost use Rattle.xm_ports.specs.Ports.{IsCalled, IsPort, agrees, agrees_end, agrees_most, chan_at, created, granted, is_called, is_kind, is_made, is_way_of, no_ports, port_with, ports_of, unless_made, way_number, with_port};
+ghost use Rattle.xm_ports.specs.Ports.{IsCalled, IsPort, agrees, agrees_end, agrees_most, created, granted, is_called, is_kind, is_made, is_way_of, no_ports, port_with, ports_of, shape_of_port, unless_made, way_number, with_port};
+ghost use Rattle.xm_ports.specs.Channels.{shape_of};
 
 use std::marker::Model;
 use xm_base::PartId;
@@ -85,7 +86,7 @@ impl Ports {
 
 impl Ports {
     /// What an order to make a port answers.
-    #[tactic(auto, unfolding(crate::specs::Ports::created))]
+    #[tactic(auto, unfolding(crate::specs::Ports::created, crate::specs::Ports::created_over))]
     fn answer(
         &self,
         conf: &Conf,
@@ -119,12 +120,12 @@ impl Ports {
     ) -> Result<u8, CreateFault>
         requires part { p < length_of conf.now.parts }
         requires port { port < length_of (ports_of (slice_get conf.now.parts p)) }
-        ensures answer { result ≡ granted conf.now p way length most self.now port }
+        ensures answer { result ≡ granted (ports_of (slice_get conf.now.parts p)) (shape_of_port conf.now p) way length most self.now port }
         ensures made { IfOk result (λ made. made ≡ port) }
         ensures end { OnOk result (IsSome (channel_of conf.now p port)) }
     {
-        let channel = conf.channel_of(p, port);
-        if !is_way_of(ports_of(conf, p), port, way) || !agrees_end(conf, channel, length, most) {
+        let channel = chan_of(conf, p, port);
+        if !is_way_of(ports_of(conf, p), port, way) || !agrees_end(channel, length, most) {
             return Err(CreateFault::Differs);
         }
         match channel {
@@ -214,13 +215,24 @@ fn way_number(way: Way) -> u32
     }
 }
 
+/// The channel that has a port of a partition as an end, where there is one.
+#[tactic(auto, unfolding(crate::specs::Ports::shape_of_port))]
+fn chan_of(conf: &Conf, p: PartId, port: u8) -> Option<&Chan>
+    ensures shape { option_map (λ chan. shape_of chan.now) result ≡ shape_of_port conf.now p port }
+    ensures end { IsSome result → IsSome (channel_of conf.now p port) }
+{
+    match conf.channel_of(p, port) {
+        Some(c) => Some(&conf.raw().chans[usize::from(c)]),
+        None => None,
+    }
+}
+
 /// Whether a length and a number of messages are those of a channel, where there is one.
-fn agrees_end(conf: &Conf, channel: Option<u8>, length: u32, most: u32) -> bool
-    requires { IfSome channel (λ c. c < length_of conf.now.chans) }
-    ensures { result ≡ agrees_end length most (chan_at conf.now.chans channel) }
+fn agrees_end(channel: Option<&Chan>, length: u32, most: u32) -> bool
+    ensures { result ≡ agrees_end length most (option_map (λ chan. shape_of chan.now) channel.entry) }
 {
     match channel {
-        Some(c) => agrees(&conf.raw().chans[usize::from(c)], length, most),
+        Some(chan) => agrees(chan, length, most),
         None => true,
     }
 }
@@ -228,7 +240,7 @@ fn agrees_end(conf: &Conf, channel: Option<u8>, length: u32, most: u32) -> bool
 /// Whether a length is a channel's, and for a queue the number of messages, too.
 #[tactic(auto, unfolding(crate::specs::Ports::agrees))]
 fn agrees(chan: &Chan, length: u32, most: u32) -> bool
-    ensures { result ≡ agrees length most chan.now }
+    ensures { result ≡ agrees length most (shape_of chan.now) }
 {
     length == u32::from(chan.length) && agrees_most(chan.kind, most)
 }
