@@ -6,6 +6,9 @@ use Rattle.hex.specs.Hex.{encode_lower}
 use Rattle.xm_base.specs.State.{state_text}
 use Rattle.xm_base.specs.declared.limits.TheConstants.{CONSOLE_BYTES}
 use Rattle.xm_base.specs.declared.partition.State.{State}
+use Rattle.xm_conf.specs.Health.{action_row, event_row}
+use Rattle.xm_conf.specs.declared.health.Action.{Action}
+use Rattle.xm_conf.specs.declared.health.Event.{Event}
 use Rattle.xm_report.specs.declared.line.Line.{Line}
 use Rattle.xm_report.specs.declared.line.Line.TheVariants as code
 use Rattle.xm_report.specs.declared.line.Move.{Move}
@@ -16,7 +19,11 @@ use Rattle.xm_report.specs.declared.pen.TheConstants.{LINE_BYTES}
 pub data ReportLine : Type 0 where
   SystemLine : (parts plans ticks : ℕ) → ReportLine
   ConsoleLine : (n p : ℕ) (bytes : List ℕ) → ReportLine
+  HealthLine : (n p : ℕ) (event : Event) (word : ℕ) (action : Action) → ReportLine
+  TraceLine : (n p bits : ℕ) (load : List ℕ) → ReportLine
   MovedLine : (n p : ℕ) (to : Move) → ReportLine
+  WholeLine : (n : ℕ) (to : Move) → ReportLine
+  PlanLine : (n plan : ℕ) → ReportLine
   EndPart : (p : ℕ) (state : State) (resets exec pc : ℕ) → ReportLine
   EndWhole : (halted : Bool) (plan clock ticks : ℕ) → ReportLine
 
@@ -32,7 +39,11 @@ line_of (code.EndWhole halted plan clock ticks) = EndWhole halted plan clock tic
 abbrev pub IsShort : ReportLine → Type 0
 IsShort (SystemLine parts plans ticks) = Unit {0}
 IsShort (ConsoleLine n p bytes) = length bytes ≤ CONSOLE_BYTES
+IsShort (HealthLine n p event word action) = Unit {0}
+IsShort (TraceLine n p bits load) = Unit {0}
 IsShort (MovedLine n p to) = Unit {0}
+IsShort (WholeLine n to) = Unit {0}
+IsShort (PlanLine n plan) = Unit {0}
 IsShort (EndPart p state resets exec pc) = Unit {0}
 IsShort (EndWhole halted plan clock ticks) = Unit {0}
 
@@ -75,6 +86,26 @@ unfoldable pub console_text : ℕ → ℕ → List ℕ → List ℕ
 console_text n p bytes =
     codes "[" ++ decimal n ++ codes "] P" ++ decimal p ++ codes " CON " ++ escaped bytes ++ codes "\n"
 
+-- a health event of a partition in a tick, with its word and the action that answers it
+unfoldable pub health_text : ℕ → ℕ → Event → ℕ → Action → List ℕ
+health_text n p event word action =
+    codes "[" ++ decimal n ++ codes "] P" ++ decimal p ++ codes " HM " ++ (event_row event).text ++ codes " "
+    ++ encode_lower (to_be_bytes w32 word) ++ codes " " ++ (action_row action).text ++ codes "\n"
+
+-- what a partition traced in a tick: the bits, and the eight bytes
+unfoldable pub trace_text : ℕ → ℕ → ℕ → List ℕ → List ℕ
+trace_text n p bits load =
+    codes "[" ++ decimal n ++ codes "] P" ++ decimal p ++ codes " TRACE " ++ encode_lower (to_be_bytes w32 bits) ++ codes " "
+    ++ encode_lower load ++ codes "\n"
+
+-- a change of the whole system in a tick
+unfoldable pub whole_text : ℕ → Move → List ℕ
+whole_text n to = codes "[" ++ decimal n ++ codes "] XM " ++ move_text to ++ codes "\n"
+
+-- the plan that starts after a tick
+unfoldable pub plan_text : ℕ → ℕ → List ℕ
+plan_text n plan = codes "[" ++ decimal n ++ codes "] XM PLAN " ++ decimal plan ++ codes "\n"
+
 -- a partition's change in a tick
 unfoldable pub moved_text : ℕ → ℕ → Move → List ℕ
 moved_text n p to =
@@ -96,7 +127,11 @@ end_whole_text halted plan clock ticks =
 abbrev pub text_of : ReportLine → List ℕ
 text_of (SystemLine parts plans ticks) = system_text parts plans ticks
 text_of (ConsoleLine n p bytes) = console_text n p bytes
+text_of (HealthLine n p event word action) = health_text n p event word action
+text_of (TraceLine n p bits load) = trace_text n p bits load
 text_of (MovedLine n p to) = moved_text n p to
+text_of (WholeLine n to) = whole_text n to
+text_of (PlanLine n plan) = plan_text n plan
 text_of (EndPart p state resets exec pc) = end_part_text p state resets exec pc
 text_of (EndWhole halted plan clock ticks) = end_whole_text halted plan clock ticks
 

@@ -1,0 +1,9 @@
+pub mod ListLemmas
+pub mod NameLemmas
+pub mod TrafficLemmas
+pub mod StepLemmas
+pub mod LineLemmas
+pub mod RunLemmas
+pub mod StartLemmas
+pub mod SightLemmas
+pub mod ReportLemmas

@@ -1,0 +1,143 @@
+-- What a partition's health events come to.
+use Rattle.std.specs.Prelude.{ℕ, ◌+◌, Bool, true, false, List, [], ◌∷◌, ◌++◌, Option, Some, None, Result, Ok, Err}
+use Rattle.sparc_step.specs.Registers.{advanced}
+use Rattle.virt_traps.specs.Delivery.{Delivered, delivered}
+use Rattle.virt_traps.specs.Virtual.{cleared, raised}
+use Rattle.virt_traps.specs.declared.windows.StackFault.{StackFault}
+use Rattle.xm_base.specs.declared.partition.Order.{Order}
+use Rattle.xm_base.specs.declared.partition.Order.TheVariants as order
+use Rattle.xm_conf.specs.declared.health.Action.{Action}
+use Rattle.xm_conf.specs.declared.health.Action.TheVariants as action
+use Rattle.xm_conf.specs.declared.health.Event.{Event}
+use Rattle.xm_conf.specs.declared.health.Event.TheVariants as event
+use Rattle.xm_traces.specs.Ring.{noted}
+use Rattle.health_monitor.specs.Monitor.{action_in, effect_of, is_logged}
+use Rattle.health_monitor.specs.declared.effects.Effect.{Effect}
+use Rattle.health_monitor.specs.declared.effects.Own.{Own}
+use Rattle.health_monitor.specs.declared.effects.Own.TheVariants as own
+use Rattle.health_monitor.specs.declared.effects.Whole.{Whole}
+use Rattle.health_monitor.specs.declared.effects.Whole.TheVariants as whole
+use Rattle.machine_model.specs.Partition.{PartitionState, areas_of, ordered, ordered_told, shutdown}
+use Rattle.machine_model.specs.Told.{Act, HaltAll, Health, Maintenance, Nothing, ResetAll, Told}
+use Rattle.machine_model.specs.View.{PartitionView}
+
+-- what a partition's part of a tick came to
+pub record Worked : Type 0 where
+  pub after : PartitionState
+  pub told : List Told
+  pub act : Act
+
+-- a tick that told nothing and did not reach beyond the partition
+abbrev pub quiet : PartitionState → Worked
+quiet ps = record { after = ps; told = []; act = Nothing }
+
+-- a partition that entered an event in its health log
+unfoldable pub entered : ℕ → Event → ℕ → Action → PartitionState → PartitionState
+entered time an_event word an_action ps = record ps {
+  health = noted (record { time = time; seq = ps.health.next; event = an_event; action = an_action; word = word }) ps.health;
+}
+
+-- the event is entered and told where it is logged
+abbrev pub entered_if : Bool → ℕ → Event → ℕ → Action → PartitionState → PartitionState
+entered_if true time an_event word an_action ps = entered time an_event word an_action ps
+entered_if false time an_event word an_action ps = ps
+
+abbrev pub entered_told : Bool → Event → ℕ → Action → List Told
+entered_told true an_event word an_action = Health an_event word an_action ∷ []
+entered_told false an_event word an_action = []
+
+-- an order upon oneself
+unfoldable pub self_ordered : PartitionView → Order → PartitionState → Worked
+self_ordered view an_order ps = record { after = ordered view an_order ps; told = ordered_told an_order ps; act = Nothing }
+
+-- a trap or an interrupt that could not be delivered: it is logged and told whatever the log flags say, and the partition halts
+unfoldable pub undelivered : PartitionView → ℕ → PartitionState → Worked
+undelivered view time ps = record {
+  after = ordered view order.Halt (entered time event.MemProtection ps.core.pc action.Halt ps);
+  told = Health event.MemProtection ps.core.pc action.Halt ∷ ordered_told order.Halt ps;
+  act = Nothing;
+}
+
+-- the partition behind a delivery
+abbrev pub behind : Delivered → PartitionState → PartitionState
+behind d ps = record ps { core = d.core; memory = d.memory; traps = d.traps }
+
+-- a delivery that was made or refused
+abbrev pub by_delivery : Result (Unit {0}) StackFault → PartitionView → ℕ → Delivered → PartitionState → Worked
+by_delivery (Ok made) view time d ps = quiet (behind d ps)
+by_delivery (Err fault) view time d ps = undelivered view time ps
+
+-- a trap is delivered to the partition
+unfoldable pub trap_delivered : PartitionView → ℕ → ℕ → PartitionState → Worked
+trap_delivered view time type ps =
+    let d = delivered (areas_of view) ps.traps ps.core ps.memory type in
+    by_delivery d.answer view time d ps
+
+-- the delivery of an interrupt clears its pending bit; one that could not be delivered stays pending
+abbrev pub by_interrupt : Result (Unit {0}) StackFault → PartitionView → ℕ → ℕ → Delivered → PartitionState → Worked
+by_interrupt (Ok made) view time n d ps = quiet (behind (record d { traps = cleared n d.traps }) ps)
+by_interrupt (Err fault) view time n d ps = undelivered view time ps
+
+-- an interrupt is delivered to the partition; its trap type is 0xE0 and its number
+unfoldable pub interrupt_delivered : PartitionView → ℕ → ℕ → PartitionState → Worked
+interrupt_delivered view time n ps =
+    let d = delivered (areas_of view) ps.traps ps.core ps.memory (0xE0 + n) in
+    by_interrupt d.answer view time n d ps
+
+-- the trap that goes on to the partition, where the event was a trap
+abbrev pub propagated : PartitionView → ℕ → Option ℕ → PartitionState → Worked
+propagated view time None ps = quiet ps
+propagated view time (Some type) ps = trap_delivered view time type ps
+
+-- what an action does to the partition itself
+abbrev pub done_to_itself : PartitionView → ℕ → Option ℕ → Own → PartitionState → Worked
+done_to_itself view time type own.Nothing ps = quiet ps
+done_to_itself view time type own.Shutdown ps = quiet (record ps { traps = raised shutdown ps.traps })
+done_to_itself view time type (own.Reset mode) ps = self_ordered view (order.Reset mode 0) ps
+done_to_itself view time type own.Suspend ps = self_ordered view order.Suspend ps
+done_to_itself view time type own.Halt ps = self_ordered view order.Halt ps
+done_to_itself view time type own.Propagate ps = propagated view time type ps
+
+-- what an action does to the whole system
+abbrev pub done_to_all : Whole → Act
+done_to_all whole.Nothing = Nothing
+done_to_all (whole.Reset mode) = ResetAll mode
+done_to_all whole.Halt = HaltAll
+done_to_all whole.Maintenance = Maintenance
+
+-- whether the program counter is moved past the instruction: after a raised event it has moved already
+abbrev pub is_passed_over : Event → Effect → Bool
+is_passed_over event.PartitionError effect = false
+is_passed_over event.MemProtection effect = effect.pass
+is_passed_over event.UnexpectedTrap effect = effect.pass
+is_passed_over event.SparcIllegalInstruction effect = effect.pass
+is_passed_over event.SparcPrivilegedInstruction effect = effect.pass
+is_passed_over event.SparcFpDisabled effect = effect.pass
+is_passed_over event.SparcCpDisabled effect = effect.pass
+is_passed_over event.SparcAddressNotAligned effect = effect.pass
+is_passed_over event.SparcTagOverflow effect = effect.pass
+is_passed_over event.SparcDivideException effect = effect.pass
+is_passed_over event.SparcInstrAccess effect = effect.pass
+is_passed_over event.SparcDataAccess effect = effect.pass
+
+-- the partition past the instruction that it was at
+abbrev pub passed_over_if : Bool → PartitionState → PartitionState
+passed_over_if true ps = record ps { core = advanced ps.core }
+passed_over_if false ps = ps
+
+-- what was told before, and what a part of the tick came to
+abbrev pub after_telling : List Told → Act → Worked → Worked
+after_telling told act w = record w { told = told ++ w.told; act = act }
+
+-- an event with its effect: it is entered and told, then passed over, then answered
+unfoldable pub answered_by : PartitionView → ℕ → Event → ℕ → Option ℕ → Effect → PartitionState → Worked
+answered_by view time an_event word type effect ps =
+    let logged = is_logged view.part.hm an_event in
+    let logged_state = entered_if logged time an_event word effect.action ps in
+    let passed = passed_over_if (is_passed_over an_event effect) logged_state in
+    after_telling (entered_told logged an_event word effect.action) (done_to_all effect.whole) (done_to_itself view time type effect.own passed)
+
+-- a health event with its word, and the trap type where it is a trap's: the partition's health table says what is done
+unfoldable pub event_handled : PartitionView → ℕ → Event → ℕ → Option ℕ → PartitionState → Worked
+event_handled view time an_event word type ps =
+    answered_by view time an_event word type (effect_of (action_in view.part.hm an_event) ps.traps.enabled) ps

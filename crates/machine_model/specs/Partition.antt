@@ -1,0 +1,209 @@
+-- The state of one partition: how it boots, how it is reset, and what an order upon it does.
+use Rattle.std.specs.Prelude.{ℕ, ◌+◌, ◌%◌, ◌^◌, Bool, true, false, if◌then◌else◌, List, [], ◌∷◌, map, replicate, None}
+use Rattle.std.specs.FinMap.{empty}
+use Rattle.guest_bus.specs.Memory.{Area, Memory, with_bytes}
+use Rattle.sparc_step.specs.Registers.{Registers, started}
+use Rattle.virt_traps.specs.Virtual.{VirtualTraps, no_traps, raised}
+use Rattle.virt_clocks.specs.Clocks.{PartitionClocks, is_due, looked_at, no_clocks}
+use Rattle.xef_images.specs.Image.{Segment}
+use Rattle.xm_base.specs.declared.partition.Mode.{Mode}
+use Rattle.xm_base.specs.declared.partition.Mode.TheVariants.{Cold, Warm}
+use Rattle.xm_base.specs.declared.partition.Order.{Order}
+use Rattle.xm_base.specs.declared.partition.Order.TheVariants as order
+use Rattle.xm_base.specs.declared.partition.State.{State}
+use Rattle.xm_base.specs.declared.partition.State.TheVariants.{Ready, Idle, Suspended, Halted}
+use Rattle.xm_conf.specs.declared.part.Area as configured
+use Rattle.xm_ports.specs.Ports.{no_ports}
+use Rattle.xm_report.specs.declared.line.Move.{Move}
+use Rattle.xm_report.specs.declared.line.Move.TheVariants as move
+use Rattle.xm_traces.specs.Ring.{Kept, nothing_kept}
+use Rattle.xm_traces.specs.declared.entry.TraceEntry.{TraceEntry}
+use Rattle.health_monitor.specs.declared.entry.HealthEntry.{HealthEntry}
+use Rattle.machine_model.specs.Told.{Told, Moved}
+use Rattle.machine_model.specs.View.{PartitionView}
+
+-- the state of one partition: its processor and memory, its virtual traps, clocks and timers, its state and how often it was reset,
+-- which of its ports are made, its traces and health log, and the input words that are left
+pub record PartitionState : Type 0 where
+  pub core : Registers
+  pub memory : Memory
+  pub traps : VirtualTraps
+  pub clocks : PartitionClocks
+  pub state : State
+  pub resets : ℕ
+  pub reset_status : ℕ
+  pub made : List Bool
+  pub traces : Kept TraceEntry
+  pub health : Kept HealthEntry
+  pub inputs : List ℕ
+
+-- the virtual interrupts
+abbrev pub hardware_timer : ℕ
+hardware_timer = 0
+
+abbrev pub execution_timer : ℕ
+execution_timer = 1
+
+abbrev pub shutdown : ℕ
+shutdown = 2
+
+abbrev pub sampling_port : ℕ
+sampling_port = 3
+
+abbrev pub queuing_port : ℕ
+queuing_port = 4
+
+abbrev pub slot_start : ℕ
+slot_start = 5
+
+-- an area of the configuration as an area of a memory
+abbrev pub area_of : configured.Area → Area
+area_of area = record { start = area.start; size = area.size; read_only = area.read_only }
+
+-- the areas of a partition's memory
+unfoldable pub areas_of : PartitionView → List Area
+areas_of view = map area_of view.part.areas
+
+-- a memory with a zero at each address of these areas
+abbrev pub with_zeros : Memory → List Area → Memory
+with_zeros memory [] = memory
+with_zeros memory (area ∷ areas) = with_zeros (with_bytes memory area.start (replicate area.size 0)) areas
+
+-- a memory with the bytes of these segments, each at its address
+abbrev pub with_segments : Memory → List Segment → Memory
+with_segments memory [] = memory
+with_segments memory (segment ∷ segments) = with_segments (with_bytes memory segment.address segment.bytes) segments
+
+-- a partition's memory with its image loaded and zeros in all other places
+unfoldable pub loaded : PartitionView → Memory
+loaded view = with_segments (with_zeros empty (areas_of view)) view.image.segments
+
+-- the memory behind a reset: a cold one loads the image anew
+abbrev pub memory_after : Mode → PartitionView → Memory → Memory
+memory_after Cold view memory = loaded view
+memory_after Warm view memory = memory
+
+-- the reset counter behind a reset: a cold one sets it to zero
+abbrev pub resets_after : Mode → ℕ → ℕ
+resets_after Cold resets = 0
+resets_after Warm resets = (resets + 1) % 2 ^ 32
+
+-- a partition behind a reset; its traces, its health log and its input words stay
+unfoldable pub reset : PartitionView → Mode → ℕ → PartitionState → PartitionState
+reset view mode status ps = record ps {
+  core = started view.image.entry;
+  memory = memory_after mode view ps.memory;
+  traps = no_traps;
+  clocks = no_clocks;
+  state = Ready;
+  resets = resets_after mode ps.resets;
+  reset_status = status;
+  made = no_ports;
+}
+
+-- a partition as it boots
+unfoldable pub booted : PartitionView → PartitionState
+booted view = record {
+  core = started view.image.entry;
+  memory = loaded view;
+  traps = no_traps;
+  clocks = no_clocks;
+  state = Ready;
+  resets = 0;
+  reset_status = 0;
+  made = no_ports;
+  traces = nothing_kept;
+  health = nothing_kept;
+  inputs = view.inputs;
+}
+
+-- whether a partition in this state has halted
+abbrev pub is_halted : State → Bool
+is_halted Ready = false
+is_halted Idle = false
+is_halted Suspended = false
+is_halted Halted = true
+
+-- whether a partition in this state takes its turn in its slots
+abbrev pub takes_turns : State → Bool
+takes_turns Ready = true
+takes_turns Idle = true
+takes_turns Suspended = false
+takes_turns Halted = false
+
+-- whether a partition in this state can be resumed
+abbrev pub is_suspended : State → Bool
+is_suspended Ready = false
+is_suspended Idle = false
+is_suspended Suspended = true
+is_suspended Halted = false
+
+-- whether an order applies to a partition in this state
+abbrev pub applies : Order → State → Bool
+applies order.Halt Halted = false
+applies order.Halt Ready = true
+applies order.Halt Idle = true
+applies order.Halt Suspended = true
+applies order.Suspend state = takes_turns state
+applies order.Resume state = is_suspended state
+applies order.Shutdown Halted = false
+applies order.Shutdown Ready = true
+applies order.Shutdown Idle = true
+applies order.Shutdown Suspended = true
+applies (order.Reset mode status) state = true
+
+-- a partition with no timer armed
+unfoldable pub disarmed : PartitionState → PartitionState
+disarmed ps = record ps { clocks = record ps.clocks { hardware_timer = None; execution_timer = None } }
+
+-- what an order does that applies
+abbrev pub carried_out : PartitionView → Order → PartitionState → PartitionState
+carried_out view order.Halt ps = record (disarmed ps) { state = Halted }
+carried_out view order.Suspend ps = record ps { state = Suspended }
+carried_out view order.Resume ps = record ps { state = Ready }
+carried_out view order.Shutdown ps = record ps { traps = raised shutdown ps.traps }
+carried_out view (order.Reset mode status) ps = reset view mode status ps
+
+-- the change of state that a reset tells
+abbrev pub reset_move : Mode → Move
+reset_move Cold = move.Cold
+reset_move Warm = move.Warm
+
+-- what an order tells that applies
+abbrev pub order_told : Order → List Told
+order_told order.Halt = Moved move.Halt ∷ []
+order_told order.Suspend = Moved move.Suspend ∷ []
+order_told order.Resume = Moved move.Resume ∷ []
+order_told order.Shutdown = []
+order_told (order.Reset mode status) = Moved (reset_move mode) ∷ []
+
+-- an order upon a partition; one that does not apply changes nothing
+unfoldable pub ordered : PartitionView → Order → PartitionState → PartitionState
+ordered view an_order ps = if applies an_order ps.state then carried_out view an_order ps else ps
+
+-- what an order upon a partition tells; one that does not apply tells nothing
+unfoldable pub ordered_told : Order → PartitionState → List Told
+ordered_told an_order ps = if applies an_order ps.state then order_told an_order else []
+
+-- an interrupt becomes pending where it is due
+abbrev pub raised_if : Bool → ℕ → VirtualTraps → VirtualTraps
+raised_if true n traps = raised n traps
+raised_if false n traps = traps
+
+-- a partition whose hardware timer was looked at
+unfoldable pub hardware_looked_at : ℕ → PartitionState → PartitionState
+hardware_looked_at time ps = record ps {
+  traps = raised_if (is_due time ps.clocks.hardware_timer) hardware_timer ps.traps;
+  clocks = record ps.clocks { hardware_timer = looked_at time ps.clocks.hardware_timer };
+}
+
+-- a partition whose execution timer was looked at
+unfoldable pub execution_looked_at : PartitionState → PartitionState
+execution_looked_at ps = record ps {
+  traps = raised_if (is_due ps.clocks.execution ps.clocks.execution_timer) execution_timer ps.traps;
+  clocks = record ps.clocks { execution_timer = looked_at ps.clocks.execution ps.clocks.execution_timer };
+}
+
+-- a partition after a tick in which it did nothing: only its hardware timer is looked at, and not where it has halted
+unfoldable pub rested : ℕ → PartitionState → PartitionState
+rested time ps = if is_halted ps.state then ps else hardware_looked_at time ps

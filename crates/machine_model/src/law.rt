@@ -1,0 +1,62 @@
+//! The laws of the machine: a partition depends on nothing but its own things and its cues.
+
+ghost use Rattle.machine_model.specs.Laws.{
+  AllTicks,
+  BootsAlone,
+  HasOwnTag,
+  LastCue,
+  NeverUponItself,
+  NoScript,
+  OneTick,
+  OwnLines,
+  SeesNothing,
+  TwoRuns,
+};
+
+/// One tick of a machine that has not halted is, for each partition, one tick of that partition
+/// alone under its cue: its state, its lines and its console bytes.
+pub fn one_tick()
+    ensures law { OneTick }
+{}
+
+/// A run of the machine is, for each partition, a run of that partition alone under its script.
+pub fn all_ticks()
+    ensures law { AllTicks }
+{}
+
+/// Each partition boots as it boots alone.
+pub fn boots_alone()
+    ensures law { BootsAlone }
+{}
+
+/// Two runs of two systems in which a partition has the same view and meets the same script: its
+/// state, its lines and its console bytes are equal after every tick, whatever the others do.
+pub fn two_runs()
+    ensures law { TwoRuns }
+{}
+
+/// A script ends with the tick in which the hypervisor halts, and is empty from then on.
+pub fn scripts_end()
+    ensures last { LastCue }
+    ensures none { NoScript }
+{}
+
+/// A partition's own lines of a report are those of the partition alone and the line of its end.
+pub fn own_lines()
+    ensures law { OwnLines }
+{}
+
+/// A partition without the system flag is shown nothing of the rest of the system.
+pub fn sees_nothing()
+    ensures law { SeesNothing }
+{}
+
+/// An order upon another partition never names the partition that gives it.
+pub fn never_upon_itself()
+    ensures law { NeverUponItself }
+{}
+
+/// Each line that a partition's part of a tick gives has that partition's tag.
+pub fn has_own_tag()
+    ensures law { HasOwnTag }
+{}
