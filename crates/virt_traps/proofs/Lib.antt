@@ -2,4 +2,6 @@ mod RangeLemmas
 mod AccessLemmas
 mod WindowLemmas
 mod SettledLemmas
+mod InterruptLemmas
+mod DeliveryLemmas
 mod TestLemmas

@@ -1,11 +1,15 @@
-//! The register windows of a guest, spilled and filled, and its step with them.
+//! The register windows of a guest, spilled and filled, its step with them, and its virtual traps.
 #![tactic(auto)]
 
+mod delivery;
+mod interrupts;
 mod save_area;
 mod step;
 #[cfg(test)]
 mod tests;
 mod windows;
 
+pub use delivery::{IretFault, deliver, iret};
+pub use interrupts::Virt;
 pub use step::{settle, settle_at_hand};
 pub use windows::{StackFault, fill, spill};

@@ -1,4 +1,4 @@
-//! Windows that are spilled to a small stack, and filled from it.
+//! Windows that are spilled to a small stack and filled from it, and virtual traps on it.
 
 ghost use Rattle.std.specs.Prelude.{◌≡◌, ◌+◌, ◌<◌, ◌≤◌, ◌↔◌, Bool, IfSome, IsSome, IsTrue, length, take, drop, []};
 ghost use Rattle.std.specs.Int.{byte_len, from_be_bytes, to_be_bytes, w8, w16, w32, w64};
@@ -8,7 +8,7 @@ ghost use Rattle.guest_bus.specs.Memory.{all_from, is_readable, memory_of};
 ghost use Rattle.guest_bus.specs.Whole.{IsMemoryOf};
 ghost use Rattle.virt_traps.specs.TestStack.{Places, stack_areas, stack_bytes, stack_start};
 
-use crate::{StackFault, fill, settle, spill};
+use crate::{IretFault, StackFault, Virt, deliver, fill, iret, settle, spill};
 use guest_bus::{Bus, BusFault, Size};
 use sparc_step::{Core, Turn};
 
@@ -364,5 +364,216 @@ fn what_may_only_be_read_is_not_stored_to(rt: HostRuntime) {
         stack.read_only = true;
         assert_eq!(rt; settle(&mut core, &mut stack), outcome, "{word:x}");
         assert_eq!(rt; stack.load(START + 8, Size::Eight), Ok(0), "{word:x}");
+    }
+}
+
+// Where the table of traps begins in these tests: as high as one can.
+const TABLE: u32 = 0xffff_f000;
+
+#[test]
+fn a_new_guest_takes_no_traps(rt: HostRuntime) {
+    let mut v = Virt::new();
+    assert_eq!(rt; v.enabled, false);
+    assert_eq!(rt; [v.base, v.pending, v.mask], [0, 0, 0xffff_ffff]);
+    v.raise(31);
+    v.raise(5);
+    v.raise(5);
+    assert_eq!(rt; v.pending, 0x8000_0020);
+    assert_eq!(rt; v.due(), None);
+    v.mask = 0;
+    assert_eq!(rt; v.due(), Some(5));
+    v.clear(5);
+    assert_eq!(rt; v.pending, 0x8000_0000);
+    v.clear(5);
+    assert_eq!(rt; v.due(), Some(31));
+    v.clear(31);
+    assert_eq!(rt; v.due(), None);
+}
+
+// Each row: what is pending, what is masked, and what is due.
+#[test]
+fn the_lowest_interrupt_that_is_not_masked_is_due(rt: HostRuntime) {
+    for (pending, mask, due) in [
+        (0x0000_0000, 0x0000_0000, None),
+        (0x0000_0001, 0x0000_0000, Some(0)),
+        (0x0000_000c, 0x0000_0000, Some(2)),
+        (0x0000_000c, 0x0000_0004, Some(3)),
+        (0x0000_000c, 0x0000_000c, None),
+        (0x8000_0001, 0x0000_0001, Some(31)),
+        (0x8000_0000, 0x7fff_ffff, Some(31)),
+        (0xffff_ffff, 0xffff_ffff, None),
+        (0xffff_ffff, 0xfffe_ffff, Some(16)),
+    ] {
+        for enabled in [false, true] {
+            let v = Virt {
+                enabled,
+                base: 0,
+                pending,
+                mask,
+            };
+            assert_eq!(rt; v.due(), due, "{pending:x} {mask:x}");
+        }
+    }
+}
+
+// Registers in window 2, between a branch and its target. The window below is the invalid one, so
+// that window 0 has to be spilled, or is free.
+fn interrupted(below_is_invalid: bool, icc: u8, pointer: u32) -> Core
+    requires { icc < 16 }
+{
+    let mut core = Core::start(START + 16);
+    core.windows[6] = pointer;
+    core.npc = START + 64;
+    core.icc = icc;
+    core.inv = if below_is_invalid { 1 } else { 5 };
+    core.cwp = 2;
+    core
+}
+
+// Each row: whether the window below is the invalid one, which window is then invalid, whether
+// traps are enabled, the condition codes, the trap type, the virtual PSR, and the entry.
+#[test]
+fn a_return_undoes_a_delivery(rt: HostRuntime) {
+    for (spills, invalid, enabled, icc, tt, psr, entry) in [
+        (false, 5, true, 0b1010, 0x11, 0x00a0_00a2, 0xffff_f110),
+        (false, 5, false, 0b0101, 0xff, 0x0050_0082, 0xffff_fff0),
+        (true, 0, true, 0b1111, 0x00, 0x00f0_00a2, 0xffff_f000),
+        (true, 0, false, 0b0000, 0xff, 0x0000_0082, 0xffff_fff0),
+    ] {
+        let mut core = interrupted(spills, icc & 15, START + 128);
+        core.windows[8] = 0x0102_0304;
+        let mut v = Virt {
+            enabled,
+            base: TABLE,
+            pending: 0x12,
+            mask: 0x34,
+        };
+        let mut stack = Stack {
+            bytes: [0; 192],
+            read_only: false,
+        };
+        assert_eq!(rt; deliver(&mut v, &mut core, &mut stack, tt), Ok(()));
+        assert_eq!(rt;
+            (v.enabled, v.base, v.pending, v.mask),
+            (false, TABLE, 0x12, 0x34)
+        );
+        assert_eq!(rt; (core.cwp, core.inv, core.icc), (1, invalid, icc & 15));
+        assert_eq!(rt; [core.pc, core.npc], [entry, entry + 4]);
+        assert_eq!(rt;
+            [core.get(16), core.get(17), core.get(18)],
+            [psr, START + 16, START + 64]
+        );
+        let local = if spills { 0x0102_0304 } else { 0 };
+        assert_eq!(rt; stack.load(START + 128, Size::Four), Ok(local), "{psr:x}");
+        core.icc = 0;
+        assert_eq!(rt; iret(&mut v, &mut core, &mut stack), Ok(()));
+        assert_eq!(rt;
+            (v.enabled, v.base, v.pending, v.mask),
+            (enabled, TABLE, 0x12, 0x34)
+        );
+        assert_eq!(rt; (core.cwp, core.inv, core.icc), (2, invalid, icc & 15));
+        assert_eq!(rt; [core.pc, core.npc], [START + 16, START + 64]);
+    }
+}
+
+// Each row: the stack pointer of the window that has to be spilled, and whether the stack may only be read.
+#[test]
+fn a_delivery_without_a_stack_changes_nothing(rt: HostRuntime) {
+    for (pointer, read_only) in [
+        (START + 4, false),
+        (START + 136, false),
+        (START - 8, false),
+        (0, false),
+        (START, true),
+    ] {
+        let mut core = interrupted(true, 9, pointer);
+        let mut v = Virt {
+            enabled: true,
+            base: TABLE,
+            pending: 2,
+            mask: 0,
+        };
+        let mut stack = Stack {
+            bytes: [9; 192],
+            read_only,
+        };
+        assert_eq!(rt;
+            deliver(&mut v, &mut core, &mut stack, 0x11),
+            Err(StackFault),
+            "{pointer:x}"
+        );
+        assert_eq!(rt; (v.enabled, v.base, v.pending, v.mask), (true, TABLE, 2, 0));
+        assert_eq!(rt; (core.cwp, core.inv, core.icc), (2, 1, 9), "{pointer:x}");
+        assert_eq!(rt;
+            [core.pc, core.npc, core.windows[16 + 8]],
+            [START + 16, START + 64, 0]
+        );
+        for byte in &stack.bytes {
+            assert_eq!(rt; *byte, 9, "{pointer:x}");
+        }
+    }
+}
+
+// Registers in window 1 as a handler leaves them. The window above is the invalid one, and is
+// filled from the frame pointer.
+fn handled(psr: u32, pc: u32, npc: u32, frame: u32) -> Core {
+    let mut core = Core::start(TABLE);
+    core.inv = 2;
+    core.cwp = 1;
+    core.set(16, psr);
+    core.set(17, pc);
+    core.set(18, npc);
+    core.set(30, frame);
+    core
+}
+
+#[test]
+fn a_return_may_fill_its_window(rt: HostRuntime) {
+    let mut core = handled(0xff3f_ff5f, START, START + 8, START + 64);
+    let mut v = Virt::new();
+    v.enabled = true;
+    let mut stack = Stack {
+        bytes: [7; 192],
+        read_only: true,
+    };
+    assert_eq!(rt; iret(&mut v, &mut core, &mut stack), Ok(()));
+    assert_eq!(rt; (core.cwp, core.inv, core.icc, v.enabled), (2, 3, 3, false));
+    assert_eq!(rt; [core.pc, core.npc], [START, START + 8]);
+    assert_eq!(rt;
+        [core.get(14), core.get(16), core.get(31)],
+        [START + 64, 0x0707_0707, 0x0707_0707]
+    );
+}
+
+// Each row: pc, npc and the frame pointer that a handler leaves, and what the return comes to.
+#[test]
+fn a_return_that_is_refused_changes_nothing(rt: HostRuntime) {
+    for (pc, npc, frame, fault) in [
+        (START + 2, START + 4, START, IretFault::Unaligned),
+        (START, START + 1, START, IretFault::Unaligned),
+        (START + 3, START + 3, START + 4, IretFault::Unaligned),
+        (START, START + 4, START + 4, IretFault::Stack),
+        (START, START + 4, START + 136, IretFault::Stack),
+        (START, START + 4, 0, IretFault::Stack),
+    ] {
+        let mut core = handled(0x00f0_00a0, pc, npc, frame);
+        let mut v = Virt::new();
+        let mut stack = Stack {
+            bytes: [9; 192],
+            read_only: false,
+        };
+        assert_eq!(rt;
+            iret(&mut v, &mut core, &mut stack),
+            Err(fault),
+            "{pc:x} {npc:x} {frame:x}"
+        );
+        assert_eq!(rt; (core.cwp, core.inv, core.icc, v.enabled), (1, 2, 0, false));
+        assert_eq!(rt;
+            [core.pc, core.npc, core.windows[16 * 2 + 8]],
+            [TABLE, TABLE + 4, 0]
+        );
+        for byte in &stack.bytes {
+            assert_eq!(rt; *byte, 9, "{pc:x}");
+        }
     }
 }

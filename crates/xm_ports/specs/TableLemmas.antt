@@ -11,7 +11,7 @@ use Rattle.xm_conf.specs.Configuration.{Chan, Conf}
 use Rattle.xm_conf.specs.Fits.{IsChan, IsKind}
 use Rattle.xm_conf.specs.declared.channel.End.{End}
 use Rattle.xm_ports.specs.Channels.{Shape, Content, Sampling, Queuing, ChannelTable, shape_of, shapes_of, empty, empty_of, HasMost, IsShape, put, taken, cleared, first_message, changed, with_content, all_cleared, messages_of, content_at, most_of, IsSampling, IsQueuing, HasSampling, HasQueue, IsMessage, FitsChannel, IsFull, SuitsKind, Suits, IsTable}
-use Rattle.xm_ports.specs.ChangedLemmas.{changed-here, changed-elsewhere, length-changed}
+use Rattle.xm_ports.specs.ChangedLemmas.{slice_get-changed_same, slice_get-changed_other, length-changed}
 
 -- what one change does to each content that suits its shape
 abbrev pub Keeps : (Content → Content) → Shape → Content → Type 0
@@ -37,8 +37,8 @@ kept_changed f table c is keeps = record {
   where
     at : (p : ℕ) → (p ≡ c) ⊎ (p ≡ c → ⊥) → IfSome (slice_get table.shapes p) (λ s. IfSome (slice_get (changed f c table.contents) p) (Suits s))
     at p (inl same) =
-        rw (same, changed-here f c table.contents) (change_there f (slice_get table.shapes c) (slice_get table.contents c) keeps (is.contents c))
-    at p (inr differs) = rw (changed-elsewhere f c p table.contents differs) (is.contents p)
+        rw (same, slice_get-changed_same f c table.contents) (change_there f (slice_get table.shapes c) (slice_get table.contents c) keeps (is.contents c))
+    at p (inr differs) = rw (slice_get-changed_other f c p table.contents differs) (is.contents p)
 
 -- a sampling channel holds a message that is written
 put_sampling_suits : (time : ℕ) (bytes : List ℕ) (kind : ChanKind) (room : ℕ) (content : Content)

@@ -1,7 +1,7 @@
 //! A channel of either kind.
 
 ghost use Rattle.std.specs.Prelude.{◌≡◌, ◌↔◌, ◌≤◌, ◌++◌, IfOk, IfSome, IsErr, IfNone, OnErr, OnOk, drop, length, option_map};
-ghost use Rattle.xm_ports.specs.Channels.{IsMessage, IsQueuing, IsSampling, cleared, empty, first_message, messages_of, most_of, put, sample_of, shape_of, taken};
+ghost use Rattle.xm_ports.specs.Channels.{IsQueuing, IsSampling, cleared, empty, first_message, messages_of, most_of, put, sample_of, shape_of, taken};
 ghost use Rattle.xm_ports.specs.Stored.{channel_content, channel_shape};
 
 use crate::queuing::{Full, QueuingChannel};

@@ -1,6 +1,6 @@
 //! Queues: all messages, in order, until each is taken.
 
-ghost use Rattle.std.specs.Prelude.{◌≡◌, ◌↔◌, ◌≤◌, ◌++◌, ◌∷◌, [], IfOk, IfSome, IsErr, IsNone, OnErr, OnOk, IfNone, drop, length, slice_get, option_map, vec_capacity};
+ghost use Rattle.std.specs.Prelude.{◌≡◌, ◌↔◌, ◌≤◌, ◌++◌, ◌∷◌, [], IfOk, IfSome, IsErr, OnErr, OnOk, IfNone, drop, length, slice_get, option_map, vec_capacity};
 ghost use Rattle.xm_ports.specs.Kept.{HaveRoom};
 
 use crate::room::{Room, copy_to};

@@ -1,7 +1,6 @@
 //! Places for messages.
 
 ghost use Rattle.std.specs.Prelude.{◌≡◌, ◌≤◌, ◌++◌, [], IfOk, drop, length};
-ghost use Rattle.xm_ports.specs.Kept.{Room as Place};
 
 use std::alloc::Global;
 use std::marker::Model;

@@ -1,7 +1,6 @@
 //! Sampling channels: the last message.
 
 ghost use Rattle.std.specs.Prelude.{◌≡◌, ◌≤◌, IfOk, None, Some, length};
-ghost use Rattle.xm_ports.specs.Kept.{SamplingState};
 
 use crate::room::Room;
 use std::alloc::Global;
