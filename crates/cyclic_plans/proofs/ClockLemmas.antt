@@ -9,7 +9,7 @@ use Rattle.xm_conf.specs.Fits.{Fits}
 use Rattle.xm_conf.specs.declared.plan.Slot.{Slot}
 use Rattle.cyclic_plans.specs.Slots.{Covers, slots_of, frame_of, slot_from, here_in, RunsIn, IsHere, IsGap}
 use Rattle.cyclic_plans.specs.PlanClock.{CyclicClock, IsInFrame, frame_from, moment, slot_at, here, next_plan, AsksPlan, ticks_left}
-use Rattle.cyclic_plans.proofs.PlanLemmas.{plan_fits}
+use Rattle.cyclic_plans.specs.PlanLemmas.{plan_fits, begins_in_frame}
 use Rattle.cyclic_plans.proofs.SlotLemmas.{slot_from-found, slot_from-gap, slot_from-none}
 use Rattle.cyclic_plans.proofs.StretchLemmas.{stretch_end-past, stretch_end-inside, stretch_end-alike}
 
@@ -67,11 +67,8 @@ ticks_some conf clock now in_frame =
 -- the first tick of a frame is in that frame
 pub entered_in_frame : (conf : Conf) (clock : CyclicClock) (now : ℕ) → Fits (described conf) → IsInFrame conf clock now → AsksPlan conf clock
     → IsInFrame conf (frame_from (next_plan clock) (now + 1)) (now + 1)
-entered_in_frame conf clock now fits in_frame asks =
-    let below = next clock.asked refl asks in
-    let frame = (plan_fits conf (next_plan clock) fits below).frame in
-    record { plan = below; begun = omega arith; before_end = omega (arith, frame) }
+entered_in_frame conf clock now fits in_frame asks = begins_in_frame conf (next_plan clock) (now + 1) fits (next clock.asked asks)
   where
-    next : (o : Option ℕ) → clock.asked ≡ o → IfSome o (λ plan. plan < length conf.plans) → unwrap_or o clock.plan < length conf.plans
-    next None is asks = in_frame.plan
-    next (Some plan) is asks = asks
+    next : (o : Option ℕ) → IfSome o (λ plan. plan < length conf.plans) → unwrap_or o clock.plan < length conf.plans
+    next None asks = in_frame.plan
+    next (Some plan) asks = asks

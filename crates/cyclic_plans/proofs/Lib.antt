@@ -1,4 +1,3 @@
 pub mod ClockLemmas
-pub mod PlanLemmas
 pub mod SlotLemmas
 pub mod StretchLemmas

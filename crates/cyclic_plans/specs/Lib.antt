@@ -1,2 +1,3 @@
 pub mod PlanClock
+pub mod PlanLemmas
 pub mod Slots

@@ -11,7 +11,7 @@ pub record PartitionClocks : Type 0 where
   pub hardware_timer : Option Timer
   pub execution_timer : Option Timer
 
--- a timer's deadline is not 0, and both of its numbers are whole numbers of 64 bits with a sign
+-- a timer that can be set: its deadline is not 0, and a signed number of 64 bits holds each of its numbers
 pub record IsTimer (timer : Timer) : Type 0 where
   pub some : 0 < timer.deadline
   pub deadline : timer.deadline < 2 ^ 63

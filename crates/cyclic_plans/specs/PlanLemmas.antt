@@ -5,6 +5,7 @@ use Rattle.std.proofs.lemmas.Option.{slice_get-get_or}
 use Rattle.xm_conf.specs.Configuration.{Conf, Plan}
 use Rattle.xm_conf.specs.Description.{described}
 use Rattle.xm_conf.specs.Fits.{Fits, InFrame, InTurn}
+use Rattle.cyclic_plans.specs.PlanClock.{IsInFrame, frame_from}
 use Rattle.cyclic_plans.specs.Slots.{slots_of, frame_of, slots_in, frame_in}
 
 -- a plan that meets the rules
@@ -40,3 +41,9 @@ stands_at conf n plan fits below is =
     let there : slice_get conf.plans n ≡ Some plan = slice_get-get_or conf.plans n plan below ∙ ap (λ (p : Plan). Some p) (sym is) in
     let slots : slots_in (slice_get conf.plans n) ≡ plan.slots = ap slots_in there in
     record { slots = slots; frame = ap frame_in there; few = let few = (plan_fits conf n fits below).few in omega (arith, ap length slots, few) }
+
+-- the tick with which a frame of one of the plans begins is in that frame
+pub begins_in_frame : (conf : Conf) (plan start : ℕ) → Fits (described conf) → plan < length conf.plans → IsInFrame conf (frame_from plan start) start
+begins_in_frame conf plan start fits below =
+    let frame = (plan_fits conf plan fits below).frame in
+    record { plan = below; begun = omega arith; before_end = omega (arith, frame) }
