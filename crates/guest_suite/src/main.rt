@@ -4,9 +4,10 @@
 ghost use Rattle.std.specs.Prelude.{◌≡◌, false, IfSome};
 
 use anyhow::{Context, Result};
+use loaded_system::bare;
 use std::alloc::Global;
 use std::fs;
-use xm_machine::{Board, Machine, bare};
+use xm_machine::{Board, Machine};
 use xm_outside::OutSink;
 
 // A raw image, compiled from C.

@@ -1,11 +1,15 @@
-//! Systems: a configuration, and an image for each of its partitions.
+//! Systems: a configuration, and an image for each of its partitions; the system that runs one raw image.
 #![tactic(auto)]
 
 mod inside;
+mod raw_image;
 mod system;
 
 pub use inside::outside_of;
+pub use raw_image::{BareFault, bare};
 pub use system::{Outside, System};
 
+#[cfg(test)]
+mod bare_tests;
 #[cfg(test)]
 mod tests;

@@ -1,5 +1,4 @@
-pub mod Bare
-pub mod BareLemmas
+pub use Rattle.loaded_system.specs.Bare
 pub mod Box
 pub mod BoxLemmas
 pub mod Entries

@@ -9,7 +9,6 @@ mod law;
 mod lines;
 mod numbers;
 mod put;
-mod raw_image;
 mod reading;
 mod writing;
 
@@ -17,12 +16,9 @@ pub use fault::{BoxFault, PackFault};
 pub use image::Image;
 pub use law::{none_goes_on, packed_is_unpacked, unpacked_is_packed};
 pub use lines::list_lines;
-pub use loaded_system::System;
-pub use raw_image::{BareFault, bare};
+pub use loaded_system::{BareFault, System, bare};
 pub use reading::unpack;
 pub use writing::pack;
 
-#[cfg(test)]
-mod bare_tests;
 #[cfg(test)]
 mod tests;

@@ -1,5 +1,5 @@
 -- Quiet ticks: of a partition that runs, of one that waits, and of their machine.
-use Rattle.std.proofs.Common.{◌≡◌, ◌⊎◌, inl, inr, subst, ℕ, zero, suc, ◌+◌, ◌-◌, ◌<◌, ◌≤◌, Bool, false, List, [], ◌∷◌, length, get_or, set, slice_get, map, Option, Some, None, Result, Ok, Err, refl, sym, ap, ◌∙◌, arith, add-zero, add-suc, add-one}
+use Rattle.std.proofs.Common.{◌≡◌, ◌⊎◌, inl, inr, subst, ℕ, zero, suc, ◌+◌, ◌-◌, ◌<◌, ◌≤◌, false, List, [], ◌∷◌, length, get_or, set, slice_get, map, Option, Some, None, Result, Ok, Err, refl, sym, ap, ◌∙◌, arith, add-zero, add-suc}
 use Rattle.std.proofs.lemmas.List.{append-nil}
 use Rattle.std.specs.Option.{ok_or}
 use Rattle.std.specs.Prelude.{IfOk}
@@ -12,10 +12,10 @@ use Rattle.virt_traps.specs.Settled.{settled}
 use Rattle.xm_base.specs.declared.partition.State.{State}
 use Rattle.xm_base.specs.declared.partition.State.TheVariants.{Ready, Idle, Suspended, Halted}
 use Rattle.xm_outside.specs.Growth.{grown}
-use Rattle.xm_report.specs.Report.{ReportLine, texts}
 use Rattle.xm_machine.specs.declared.note.Note.{Note}
 use Rattle.xm_machine.specs.declared.note.Note.TheVariants.{Console, Nothing, Stopped}
 use Rattle.xm_machine.specs.Area.{bare_areas}
+use Rattle.xm_machine.specs.System.{partitions}
 use Rattle.xm_machine.specs.Local.{Local, after_turn, clocked, counted_on_clock, local_tick, part_turn, served, turn_in_state, with_turned}
 use Rattle.xm_machine.specs.Machine.{RunsTicks, TakesTurn, Tells, lines_at, lines_by}
 use Rattle.xm_machine.specs.Note.{CanBeTold, IsTurn, lines_of}
@@ -24,7 +24,7 @@ use Rattle.xm_machine.specs.declared.run.RunFault.{RunFault}
 use Rattle.xm_machine.specs.declared.run.RunFault.TheVariants.{NotBuilt, Write}
 use Rattle.xm_machine.specs.Quiet.{AreQuiet, AreTurns, IsCall, IsGone, StepsQuietly, TakesTurns, stepped, then_settled, ticks_done}
 use Rattle.xm_machine.specs.State.{MachineState, PartitionState}
-use Rattle.xm_machine.specs.Step.{Stepped, Unbuilt, passed, run_of, step, step_by, with_part}
+use Rattle.xm_machine.specs.Step.{Stepped, Unbuilt, passed, step, step_by, with_part}
 use Rattle.xm_machine.proofs.MachineLemmas.{step-counts, step-done, step-turn, step-unbuilt}
 use Rattle.xm_machine.proofs.RunLemmas.{Goes, goes_on, goes_wrong}
 
@@ -172,7 +172,7 @@ abbrev pub quietly : ℕ → PartitionState → MachineState → MachineState
 quietly count ps g = record g { parts = ps ∷ []; time = g.time + count; ticks = g.ticks + count }
 
 -- its steps are quiet
-pub quiet_steps : (g : MachineState) (first : PartitionState) (count : ℕ) (ps : PartitionState) → map (λ entry. entry.areas) g.system.partitions ≡ bare_areas ∷ [] → g.parts ≡ first ∷ [] → g.halted ≡ false → AreQuiet count 0 first ps → StepsQuietly count g (quietly count ps g)
+pub quiet_steps : (g : MachineState) (first : PartitionState) (count : ℕ) (ps : PartitionState) → map (λ entry. entry.areas) (partitions g.system) ≡ bare_areas ∷ [] → g.parts ≡ first ∷ [] → g.halted ≡ false → AreQuiet count 0 first ps → StepsQuietly count g (quietly count ps g)
 quiet_steps g first zero ps areas one running quiet =
     let time : g.time + 0 ≡ g.time = add-zero g.time in
     let ticks : g.ticks + 0 ≡ g.ticks = add-zero g.ticks in
@@ -245,7 +245,7 @@ abbrev pub turned_on : ℕ → PartitionState → MachineState → MachineState
 turned_on done ps g = record g { parts = set g.parts 0 ps; time = g.time + done; ticks = g.ticks + done }
 
 -- the turns of its partition are the machine's
-pub machine_turns : (g : MachineState) (first new : PartitionState) (quiet : ℕ) (last : Result Note ℕ) → map (λ entry. entry.areas) g.system.partitions ≡ bare_areas ∷ [] → length g.parts ≡ 1 → g.halted ≡ false → first ≡ get_or g.parts 0 first → AreTurns quiet last 0 first new → IfOk last CanBeTold → TakesTurns quiet last g (turned_on (ticks_done quiet last) new g)
+pub machine_turns : (g : MachineState) (first new : PartitionState) (quiet : ℕ) (last : Result Note ℕ) → map (λ entry. entry.areas) (partitions g.system) ≡ bare_areas ∷ [] → length g.parts ≡ 1 → g.halted ≡ false → first ≡ get_or g.parts 0 first → AreTurns quiet last 0 first new → IfOk last CanBeTold → TakesTurns quiet last g (turned_on (ticks_done quiet last) new g)
 machine_turns g first new quiet last areas one running at turns told = record {
   between = mid;
   before = quiet_steps g first quiet turns.between areas only running turns.before;

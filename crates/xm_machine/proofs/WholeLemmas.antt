@@ -9,7 +9,7 @@ use Rattle.xm_machine.specs.Machine.{Puts, Tells, RunsTicks}
 use Rattle.xm_machine.specs.Outcome.{IsRun}
 use Rattle.xm_machine.specs.State.{MachineState}
 use Rattle.xm_machine.specs.Step.{Progress, run_of, report_of, first_line, end_of, end_lines}
-use Rattle.xm_machine.specs.System.{System}
+use Rattle.loaded_system.specs.System.{System}
 use Rattle.xm_machine.specs.declared.run.Ran.{Ran}
 use Rattle.xm_machine.specs.declared.run.RunFault.{RunFault}
 use Rattle.xm_machine.specs.declared.run.RunFault.TheVariants.{Write, NotBuilt}

@@ -1,5 +1,4 @@
 pub mod Area
-pub mod Bare
 pub mod Local
 pub mod Machine
 pub mod Note

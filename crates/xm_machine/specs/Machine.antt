@@ -10,6 +10,7 @@ use Rattle.xm_machine.specs.Step.{Step, Stepped, Unbuilt, Progress, run_of}
 use Rattle.xm_base.specs.declared.limits.TheConstants.{TICKS}
 use Rattle.xm_machine.specs.Area.{bare_areas}
 use Rattle.xm_machine.specs.State.{PartitionState, MachineState}
+use Rattle.xm_machine.specs.System.{partitions}
 
 -- the meaning of a machine
 pub record Meaning : Type 0 where
@@ -22,7 +23,7 @@ NoneAhead ticks (ps ∷ parts) = (ps.execution_clock ≤ ticks) × NoneAhead tic
 
 -- what holds of every machine: one partition with the areas of a raw image, and clocks below their limit
 pub record IsMachine (g : MachineState) : Type 0 where
-  pub areas : map (λ entry. entry.areas) g.system.partitions ≡ bare_areas ∷ []
+  pub areas : map (λ entry. entry.areas) (partitions g.system) ≡ bare_areas ∷ []
   pub parts : length g.parts ≡ 1
   pub clocks : NoneAhead g.ticks g.parts
   pub time : g.time ≤ g.ticks

@@ -6,7 +6,9 @@ use Rattle.sparc_step.specs.Registers.{Registers, started}
 use Rattle.xm_base.specs.declared.partition.State.{State}
 use Rattle.xm_base.specs.declared.partition.State.TheVariants.{Ready}
 use Rattle.xm_machine.specs.Area.{zeros}
-use Rattle.xm_machine.specs.System.{Segment, Entry, System}
+use Rattle.loaded_system.specs.System.{System}
+use Rattle.xef_images.specs.Image.{Segment}
+use Rattle.xm_machine.specs.System.{Entry, partitions}
 
 -- the state of one partition; its execution clock counts the ticks that it has run
 pub record PartitionState : Type 0 where
@@ -29,7 +31,7 @@ abbrev pub zeroed : List Area → Memory
 zeroed [] = empty
 zeroed (area ∷ areas) = with_bytes (zeroed areas) area.start (zeros area.size)
 
--- the memory with each segment's bytes at its address
+-- the memory with each segment's bytes at its address; what the segment has beyond them is as it was
 abbrev pub with_segments : Memory → List Segment → Memory
 with_segments memory [] = memory
 with_segments memory (segment ∷ segments) = with_segments (with_bytes memory segment.address segment.bytes) segments
@@ -48,7 +50,7 @@ booted_partition entry = record {
 unfoldable pub booted : System → MachineState
 booted system = record {
   system = system;
-  parts = map booted_partition system.partitions;
+  parts = map booted_partition (partitions system);
   time = 0;
   ticks = 0;
   halted = false;

@@ -1,7 +1,8 @@
 -- One tick of the machine, and whole runs.
 use Rattle.std.specs.Prelude.{ℕ, zero, suc, ◌+◌, Bool, true, false, List, [], ◌∷◌, ◌++◌, length, Option, Some, None, slice_get, slice_set}
 use Rattle.xm_report.specs.Report.{ReportLine, SystemLine, EndPart, EndWhole}
-use Rattle.xm_machine.specs.System.{Entry, System}
+use Rattle.loaded_system.specs.System.{System}
+use Rattle.xm_machine.specs.System.{Entry, partitions}
 use Rattle.xm_machine.specs.State.{PartitionState, MachineState}
 use Rattle.xm_machine.specs.Local.{Local, part_turn}
 
@@ -36,7 +37,7 @@ step_of g p None other = Stepped (passed g) []
 -- a halted machine stays as it is
 abbrev pub step_unless : Bool → MachineState → Step
 step_unless true g = Stepped g []
-step_unless false g = step_of g (turn_of g) (slice_get g.system.partitions (turn_of g)) (slice_get g.parts (turn_of g))
+step_unless false g = step_of g (turn_of g) (slice_get (partitions g.system) (turn_of g)) (slice_get g.parts (turn_of g))
 
 -- one tick of the machine
 unfoldable pub step : MachineState → Step
@@ -91,7 +92,7 @@ end_of None g = end_lines g
 
 -- the first line of a report: the number of ticks is the one asked
 abbrev pub first_line : System → ℕ → ReportLine
-first_line system ticks = SystemLine (length system.partitions) system.plans ticks
+first_line system ticks = SystemLine (length system.conf.parts) (length system.conf.plans) ticks
 
 -- the lines of the report of a run, as far as its first so many ticks
 abbrev pub lines_to : MachineState → ℕ → ℕ → List ReportLine

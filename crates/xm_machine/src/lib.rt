@@ -13,7 +13,6 @@ pub use area::{AREA_BYTES, AREA_START};
 pub use board::Board;
 pub use machine::Machine;
 pub use run::{Ran, RunFault};
-pub use system::{BareFault, System, bare};
 pub use xm_report::{Line, Move, WriteFault, put_line};
 
 #[cfg(test)]

@@ -1,6 +1,7 @@
 //! The machine: it boots, and does its ticks one by one.
 
 ghost use Rattle.std.specs.Prelude.{◌≡◌, ◌+◌, ◌<◌, ◌≤◌, false, IfOk};
+ghost use Rattle.loaded_system.specs.Bare.{RunsImage};
 ghost use Rattle.xm_machine.specs.Machine.{Puts, RunsTicks, TakesTurn, Tells, lines_at};
 ghost use Rattle.xm_machine.specs.Note.{CanBeTold};
 ghost use Rattle.xm_machine.specs.Outcome.{CountsLines, HasRunCause, IsRun, IsTick};
@@ -13,7 +14,8 @@ use crate::board::Board;
 use crate::note::{Note, Turns};
 use crate::partition::Partition;
 use crate::run::{Ran, RunFault};
-use crate::system::System;
+use crate::system::{parts, plans, raw_image};
+use loaded_system::System;
 use std::alloc::Global;
 use std::marker::Model;
 use xm_base::{Memory, PartId, TICKS};
@@ -62,12 +64,14 @@ impl Model for Machine {
 }
 
 impl Machine {
-    /// The machine with this system, before its first tick. All memory of a run is taken here.
+    /// The machine with this system, before its first tick. The system is that of a raw image, as `bare`
+    /// makes it. All memory of a run is taken here.
     #[tactic(auto, unfolding(crate::specs::State::booted))]
     pub fn boot(alloc: Global, system: System) -> Result<Machine, Memory>
+        requires bare { RunsImage system }
         ensures { IfOk result (λ machine. machine.state ≡ booted system) }
     {
-        let part = Partition::boot(alloc, system.image())?;
+        let part = Partition::boot(alloc, raw_image(&system))?;
         let mut parts = Vec::with_capacity(alloc, 1)?;
         parts.push(part)?;
         Ok(Machine {
@@ -193,8 +197,8 @@ impl Machine {
         ensures { line_of result ≡ first_line self.now.state.system ticks }
     {
         Line::System {
-            parts: self.system.parts(),
-            plans: self.system.plans(),
+            parts: parts(&self.system),
+            plans: plans(&self.system),
             ticks,
         }
     }

@@ -1,85 +1,33 @@
-//! A system that the machine boots, and the one that runs a raw image.
+//! What the machine takes of a system.
 
 ghost use Rattle.std.specs.Prelude.{◌≡◌, length};
-ghost use Rattle.xm_machine.specs.Bare.{IsBare, IsImageLength};
-ghost use Rattle.xm_machine.specs.System.{bare_system};
+ghost use Rattle.loaded_system.specs.Bare.{IsImageLength, RunsImage, bare_system};
 
-use std::alloc::{AllocError, Global};
-use std::marker::Model;
-use xm_base::IMAGE_BYTES;
+use loaded_system::System;
 
-/// A system: its partitions with their areas and images.
-#[derive(Debug, Drop)]
-pub struct System {
-    image: Vec<u8>,
-}
-
-impl Model for System {
-    ghost use Rattle.std.specs.Vec.{vec_len};
-    ghost use Rattle.xm_machine.specs.System.{System as Meaning, bare_system};
-    ghost use Rattle.xm_machine.specs.Bare.{IsImageLength};
-
-    ghost Value = { Meaning };
-
-    ghost view = { λ a. bare_system a.image.items };
-
-    ghost invariant = { λ a. IsImageLength (vec_len a.image) };
-}
-
-impl System {
-    /// How many plans it has.
-    pub(crate) fn plans(&self) -> u8
-        ensures { result ≡ self.now.plans }
-    {
-        let _ = &self.image;
-        1
-    }
-
-    /// How many partitions it has.
-    pub(crate) fn parts(&self) -> u8
-        ensures { result ≡ length self.now.partitions }
-    {
-        let _ = &self.image;
-        1
-    }
-
-    /// The image of its one partition.
-    pub(crate) fn image(&self) -> &[u8]
-        ensures system { self.now ≡ bare_system result.now }
-        ensures length { IsImageLength (length result.now) }
-    {
-        &self.image
-    }
-}
-
-/// Why an image makes no system.
-#[derive(Clone, Copy, Debug, PartialEq, Eq)]
-pub enum BareFault {
-    /// It has no bytes, or more than `IMAGE_BYTES`.
-    Length { found: usize },
-    /// There was no memory for it.
-    Memory,
-}
-
-impl From<AllocError> for BareFault {
-    ghost use Rattle.xm_machine.specs.declared.system.BareFault.TheVariants.{Memory};
-
-    ghost from_gives = { λ _ fault. fault ≡ Memory };
-
-    fn from(_: AllocError) -> BareFault {
-        BareFault::Memory
-    }
-}
-
-/// The system of one partition that runs a raw image: one plan, and one area of 1 MiB at whose
-/// start the image is loaded and entered.
-pub fn bare(alloc: Global, image: &[u8]) -> Result<System, BareFault>
-    ensures { IsBare result image.now }
+/// How many partitions a system has.
+#[tactic(auto, unfolding(xm_conf::specs::Description::described))]
+pub(crate) fn parts(system: &System) -> u8
+    ensures { result ≡ length system.now.conf.parts }
 {
-    let found = image.len();
-    if found == 0 || IMAGE_BYTES < found {
-        return Err(BareFault::Length { found });
-    }
-    let image = Vec::from_slice(alloc, image)?;
-    Ok(System { image })
+    system.conf().raw().parts.len() as u8
+}
+
+/// How many plans a system has.
+#[tactic(auto, unfolding(xm_conf::specs::Description::described))]
+pub(crate) fn plans(system: &System) -> u8
+    ensures { result ≡ length system.now.conf.plans }
+{
+    system.conf().raw().plans.len() as u8
+}
+
+/// The raw image that a system runs.
+#[tactic(auto, unfolding(loaded_system::specs::Bare::bare_conf, loaded_system::specs::Bare::bare_image))]
+pub(crate) fn raw_image(system: &System) -> &[u8]
+    requires { RunsImage system.now }
+    ensures system { system.now ≡ bare_system result.now }
+    ensures length { IsImageLength (length result.now) }
+{
+    let segment = &system.image(0).segments()[0];
+    &segment.bytes
 }

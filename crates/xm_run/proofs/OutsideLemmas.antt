@@ -14,7 +14,8 @@ use Rattle.xm_outside.specs.Causes.{counted}
 use Rattle.xm_outside.specs.Files.{Files, OthersStay, stored}
 use Rattle.xm_words.specs.Words.{Command, Bare, Parse, BuildImage, ReadImage, ListContainer, CheckContainer}
 use Rattle.xm_run.specs.Answer.{read_all, read_before, saved}
-use Rattle.xm_machine.specs.System.{System, bare_system}
+use Rattle.loaded_system.specs.Bare.{bare_system}
+use Rattle.loaded_system.specs.System.{System}
 use Rattle.xm_run.specs.Ending.{length_text}
 use Rattle.xm_run.specs.Imaging.{container_lines_of, container_verdict_of, image_lines_of, xef_of}
 use Rattle.xm_run.specs.Parsing.{xmc_of}

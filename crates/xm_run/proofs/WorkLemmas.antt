@@ -4,10 +4,10 @@ use Rattle.std.proofs.lemmas.Bool.Decides.{nat_tests}
 use Rattle.xm_base.specs.declared.limits.TheConstants.{FILE_BYTES, IMAGE_BYTES}
 use Rattle.xm_outside.specs.Files.{Files, ReadsFile}
 use Rattle.xm_outside.specs.Growth.{grown, grown-nothing, GrewByPrefix}
-use Rattle.xm_machine.specs.Bare.{IsImageLength}
 use Rattle.xm_machine.specs.Outcome.{IsRun}
 use Rattle.xm_machine.specs.State.{MachineState, booted}
-use Rattle.xm_machine.specs.System.{System, bare_system}
+use Rattle.loaded_system.specs.Bare.{IsImageLength, bare_system}
+use Rattle.loaded_system.specs.System.{System}
 use Rattle.xm_machine.specs.declared.run.Ran.{Ran}
 use Rattle.xm_machine.specs.declared.run.RunFault.TheVariants.{Write, NotBuilt}
 use Rattle.xm_words.specs.Words.{Command, Bare, Parse, command_of}

@@ -4,7 +4,8 @@ use Rattle.xm_base.specs.declared.limits.TheConstants.{FILE_BYTES, IMAGE_BYTES}
 use Rattle.xm_report.specs.Report.{texts}
 use Rattle.xm_machine.specs.State.{booted}
 use Rattle.xm_machine.specs.Step.{run_of, report_of}
-use Rattle.xm_machine.specs.System.{System, bare_system}
+use Rattle.loaded_system.specs.Bare.{bare_system}
+use Rattle.loaded_system.specs.System.{System}
 use Rattle.xm_words.specs.Words.{Command, Bare, Parse, BuildImage, ReadImage, ListContainer, CheckContainer}
 use Rattle.xm_run.specs.Ending.{length_text, unbuilt_text}
 use Rattle.xm_run.specs.Imaging.{container_lines_of, container_verdict_of, image_lines_of, xef_of}

@@ -2,6 +2,7 @@
 
 ghost use Rattle.std.specs.Prelude.{◌≤◌, [], ◌∷◌};
 ghost use Rattle.xm_base.specs.declared.limits.TheConstants.{TICKS};
+ghost use Rattle.loaded_system.specs.Bare.{RunsImage};
 ghost use Rattle.xm_run.specs.Outcome.{outcome_of, ran};
 ghost use Rattle.xm_run.specs.Told.{ending_of};
 ghost use Rattle.xm_run.specs.Work.{IsDone, Reports, outside};
@@ -11,7 +12,8 @@ use crate::ending::{Ending, Refusal};
 use crate::reading::read_file;
 use std::alloc::Global;
 use xm_base::FILE_BYTES;
-use xm_machine::{BareFault, Board, Machine, RunFault, System, bare};
+use xm_container::{BareFault, System, bare};
+use xm_machine::{Board, Machine, RunFault};
 use xm_outside::{Sink, Store};
 
 /// Reads a raw image and runs it for so many ticks.
@@ -71,7 +73,8 @@ fn run_system<'a, O: Sink>(
     out: &mut O,
     board: &mut Board,
 ) -> Ending<'a>
-    requires { ticks ≤ TICKS }
+    requires most { ticks ≤ TICKS }
+    requires bare { RunsImage system }
     ensures { Reports (ending_of result) (ran image.now ticks system) (O.got out.old) (O.faults out.old) (O.got out.new) (O.faults out.new) }
 {
     let Ok(mut machine) = Machine::boot(alloc, system) else {

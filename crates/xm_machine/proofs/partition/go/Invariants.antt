@@ -1,5 +1,4 @@
-use Rattle.std.proofs.Common.{◌≡◌, ◌≤◌, ◌-◌}
-use Rattle.xm_machine.specs.Area.{bare_areas}
+use Rattle.std.proofs.Common.{◌≤◌, ◌-◌}
 use Rattle.xm_machine.proofs.QuietLemmas.{AreSteps}
 use Rattle.xm_machine.proofs.partition.go.Given as goal
 

@@ -13,11 +13,11 @@ returns-then-bytes-gt-FILE_BYTES g c =
 
 pub returns-in-Ok : goal.returns-in-Ok
 returns-in-Ok g c =
-    rw (outcome-image c.args.image.now c.args.ticks c.args.bytes.now c.in-Ok.ensures.0, ← c.in-Ok.ensures.1) c.run_system.ensures
+    rw (outcome-image c.args.image.now c.args.ticks c.args.bytes.now c.in-Ok.ensures.value.0, ← c.in-Ok.ensures.value.1) c.run_system.ensures
 
 pub returns-in-Err-Length : goal.returns-in-Err-Length
 returns-in-Err-Length g c =
-    let found = rw c.in-Err-Length.field-0-is at c.in-Err-Length.ensures in
+    let found = rw c.in-Err-Length.field-0-is at c.in-Err-Length.ensures.value in
     let wrong : (length c.args.bytes.now ≡ 0) ⊎ (IMAGE_BYTES < length c.args.bytes.now) =
     let P : ℕ → Type 0 = λ n. (n ≡ 0) ⊎ (IMAGE_BYTES < n) in subst P found.0 found.1 in
     let outcome = outcome-length c.args.image.now c.args.ticks c.args.bytes.now c.if-bytes-gt-FILE_BYTES.false wrong in

@@ -1,7 +1,6 @@
-use Rattle.std.proofs.Common.{ℕ, slice_get, ◌≡◌, ◌+◌, ◌<◌, ◌≤◌, ◌∙◌, ap, arith}
+use Rattle.std.proofs.Common.{ℕ, slice_get, ◌+◌, ◌∙◌, ap, arith}
 use Rattle.std.proofs.lemmas.Result.{err_from_is_err_and}
 use Rattle.xm_machine.proofs.QuietLemmas.{lines_few, turns_cut, turns_go, turns_running, turns_stuck}
-use Rattle.xm_machine.specs.Quiet.{ticks_done}
 use Rattle.xm_machine.proofs.machine.Machine.run_ticks.Goals as goal
 
 pub returns-in_err-said-in-Ok-clause-run : goal.returns-in_err-said-in-Ok-clause-run

@@ -1,4 +1,3 @@
-use Rattle.std.proofs.Common.{sym, ◌∙◌, ap}
 use Rattle.xm_machine.proofs.QuietLemmas.{machine_turns}
 use Rattle.xm_machine.proofs.machine.Machine.take_turns.Goals as goal
 

@@ -1,5 +1,4 @@
-use Rattle.std.proofs.Common.{◌≡◌, ◌≤◌, sym, ◌∙◌, arith}
-use Rattle.xm_base.specs.declared.partition.State.TheVariants.{Ready}
+use Rattle.std.proofs.Common.{arith}
 use Rattle.xm_machine.proofs.QuietLemmas.{not_ready, waiting_turns}
 use Rattle.xm_machine.proofs.partition.Partition.turns.Goals as goal
 

@@ -1,6 +1,6 @@
 use Rattle.std.proofs.Common.{true, false, ◌≡◌}
-use Rattle.xm_container.specs.BareLemmas.{bare_counted, bare_all_inside}
-use Rattle.xm_container.proofs.raw_image.system.Goals as goal
+use Rattle.loaded_system.specs.BareLemmas.{bare_counted, bare_all_inside}
+use Rattle.loaded_system.proofs.raw_image.system.Goals as goal
 
 pub new-requires : goal.new-requires
 new-requires c = bare_counted c.in_ok-conf.conf c.in_ok-images.images.items c.in_ok-xef.xef c.in_ok-conf.ensures c.in_ok-images.ensures.items

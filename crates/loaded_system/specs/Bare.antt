@@ -7,8 +7,8 @@ use Rattle.xm_conf.specs.declared.part.HmTable.{HmTable}
 use Rattle.xm_conf.specs.declared.raw.Region.{Region}
 use Rattle.xef_images.specs.Image.{Image}
 use Rattle.loaded_system.specs.System.{System}
-use Rattle.xm_container.specs.declared.raw_image.BareFault.{BareFault}
-use Rattle.xm_container.specs.declared.raw_image.BareFault.TheVariants.{Length, Memory}
+use Rattle.loaded_system.specs.declared.raw_image.BareFault.{BareFault}
+use Rattle.loaded_system.specs.declared.raw_image.BareFault.TheVariants.{Length, Memory}
 
 -- the default answers to all events, each of which is logged
 abbrev pub default_table : HmTable
@@ -66,3 +66,9 @@ abbrev pub IsBare : Result System BareFault → List ℕ → Type 0
 IsBare (Ok system) image = IsImageLength (length image) × (system ≡ bare_system image)
 IsBare (Err (Length found)) image = (found ≡ length image) × ((found ≡ 0) ⊎ (IMAGE_BYTES < found))
 IsBare (Err Memory) image = IsImageLength (length image)
+
+-- the system is that of a raw image
+pub record RunsImage (system : System) : Type 0 where
+  pub image : List ℕ
+  pub fits : IsImageLength (length image)
+  pub is : system ≡ bare_system image

@@ -9,7 +9,7 @@ use Rattle.xm_conf.specs.declared.item.Broken.{Broken}
 use Rattle.xm_conf.specs.declared.part.Area.{Area}
 use Rattle.xef_images.specs.Image.{Image, IsImage, Segment}
 use Rattle.loaded_system.specs.System.{AreInside, HasSegment}
-use Rattle.xm_container.specs.Bare.{IsImageLength, bare_conf, bare_image, bare_part, bare_plan, bare_regions}
+use Rattle.loaded_system.specs.Bare.{IsImageLength, bare_conf, bare_image, bare_part, bare_plan, bare_regions}
 
 -- the configuration breaks no rule
 pub bare_unbroken : first_broken (described bare_conf) ≡ None

@@ -2,9 +2,9 @@
 
 ghost use Rattle.std.specs.Prelude.{◌≡◌, IfOk, IsTrue, length};
 ghost use Rattle.xm_conf.specs.Name.{is_name};
-ghost use Rattle.xm_container.specs.Bare.{IsBare, IsImageLength, bare_conf, bare_image, bare_part, bare_plan, bare_regions, bare_system};
+ghost use Rattle.loaded_system.specs.Bare.{IsBare, IsImageLength, RunsImage, bare_conf, bare_image, bare_part, bare_plan, bare_regions, bare_system};
 
-use loaded_system::System;
+use crate::system::System;
 use std::alloc::Global;
 use xef_images::{Segment, Xef};
 use xm_base::{IMAGE_BYTES, Memory};
@@ -37,7 +37,8 @@ const FRAME: u32 = 1000;
 /// The system of one partition that runs a raw image: one plan of one slot, and one area of 1 MiB at whose start
 /// the image is loaded and entered. Refused where the image has no bytes or more than `IMAGE_BYTES`.
 pub fn bare(alloc: Global, image: &[u8]) -> Result<System, BareFault>
-    ensures { IsBare result image.now }
+    ensures value { IsBare result image.now }
+    ensures runs { IfOk result RunsImage }
 {
     let found = image.len();
     if found == 0 || IMAGE_BYTES < found {
