@@ -1,2 +1,4 @@
-pub mod Numbers
+pub mod NumberLemmas
+pub mod PartFileLemmas
 pub mod Spelling
+pub mod WordLemmas

@@ -1,71 +1,12 @@
--- What is to be typed for a number, a file and a command.
-use Rattle.std.proofs.Common.{◌≡◌, ℕ, ◌^◌, ◌<◌, ◌≤◌, Bool, true, false, ◌&&◌, if◌then◌else◌, not, nat_eq, nat_lt, subst, List, [], ◌∷◌, length, codes, decimal, slice_index, Option, Some, None, refl, sym, ap, ◌∙◌, arith, ◌⊎◌, ⊎_elim, inl, inr}
+-- What is to be typed for each command.
+use Rattle.std.proofs.Common.{◌≡◌, ℕ, Bool, true, false, ◌&&◌, if◌then◌else◌, subst, List, [], ◌∷◌, length, map, codes, decimal, Option, Some, None, arith, refl, ap, ◌∙◌, ◌⊎◌, ⊎_elim, inl, inr}
 use Rattle.std.specs.Str.{bytes_eq}
-use Rattle.std.specs.Str.Parse.{digits_value}
-use Rattle.std.specs.List.{starts_with}
-use Rattle.std.proofs.lemmas.Bool.{and_parts, and_from, both_ways, cases_lt, ltb-true, lt-ltb, not-true}
-use Rattle.std.proofs.lemmas.Bool.Decides.{Decides-eqb}
-use Rattle.std.proofs.lemmas.Slice.Eq.{bytes_eq-Decides, starts_is}
-use Rattle.std.proofs.lemmas.Fmt.{digits_decimal, digits_value-decimal, decimal-digits_value, decimal_nonempty, decimal_digit, first_decimal}
-use Rattle.xm_base.specs.declared.limits.TheConstants.{TICKS}
-use Rattle.xm_words.specs.Grammar.{CommandsAreSpelled, IsFile, IsRight, TicksAreDecimal, words_of}
-use Rattle.xm_words.specs.Words.{Command, Bare, Parse, BuildImage, ReadImage, ListContainer, CheckContainer, asked, bare_of, command_of, command_of_three, command_of_two, format_command, is_file, is_number, of_file, of_files, pack_command, ticks_of}
-use Rattle.xm_words.proofs.Numbers.{numerals, number_digits, number_plain, plain_number, spelled, unspelled, above}
-
--- the text of a number begins with a zero only where it is `0`
-pub decimal_zero : (n : ℕ) → n < 2 ^ 64 → slice_index (decimal n) 0 ≡ 48 → length (decimal n) ≤ 1
-decimal_zero n small zero_first = elim (cases_lt 0 n) [
-  | inl some ↦ (let first = first_decimal n some small in absurd (omega arith))
-  | inr none ↦ (let text : length (decimal n) ≡ 1 = ap length (decimal_digit n (omega arith)) in omega arith)
-]
-
--- the text of a number is a number
-pub decimal_number : (n : ℕ) → n < 2 ^ 64 → is_number (decimal n) ≡ true
-decimal_number n small = plain_number (decimal n) (digits_decimal numerals n small) (decimal_nonempty n small) (decimal_zero n small)
-
--- what spells so many ticks is their text
-pub ticks_text : (word : List ℕ) (n : ℕ) → ticks_of word ≡ Some n → (n ≤ TICKS) × (word ≡ decimal n)
-ticks_text word n spells = at (is_number word) refl
-  where
-    at : (t : Bool) → is_number word ≡ t → (n ≤ TICKS) × (word ≡ decimal n)
-    at false none = (let no = unspelled word (λ is. both_ways (is_number word) none is) in cc)
-    at true is = elim (cases_lt TICKS (digits_value 10 word)) [
-      | inl large ↦ (let none = above word large in cc)
-      | inr small ↦ (
-          let same : n ≡ digits_value 10 word = cc (spelled word is small) in
-          let digits = number_digits word is in
-          let plain = number_plain word is in
-          (omega arith, sym (decimal-digits_value numerals word digits.0 digits.1 (λ zero_first. omega (arith, plain.1 zero_first)) (omega arith)) ∙ ap decimal (sym same)))
-    ]
-
--- the text of a number that is not above the limit spells so many ticks
-pub text_ticks : (word : List ℕ) (n : ℕ) → n ≤ TICKS → word ≡ decimal n → ticks_of word ≡ Some n
-text_ticks word n small text =
-    let same : digits_value 10 (decimal n) ≡ n = digits_value-decimal numerals n (omega arith) in
-    ap ticks_of text ∙ sym (spelled (decimal n) (decimal_number n (omega arith)) (omega arith)) ∙ ap Some same
-
--- a word is so many ticks exactly where it is their text
-pub ticks_decimal : TicksAreDecimal
-ticks_decimal word n = (ticks_text word n, λ spells. text_ticks word n spells.0 spells.1)
-
--- what the test of a file's name says
-pub file_is : (word : List ℕ) → is_file word ≡ true → IsFile word
-unfolding is_file
-file_is word is =
-    let parts = and_parts (nat_lt 0 (length word)) (not (starts_with nat_eq word (codes "--"))) is in
-    record {
-      some = ltb-true 0 (length word) parts.0;
-      plain = λ rest begins. both_ways (starts_with nat_eq word (codes "--")) (not-true _ parts.1) ((starts_is Decides-eqb word (codes "--") _ refl).1 rest begins);
-    }
-
--- and what passes it
-pub is_of_file : (word : List ℕ) → IsFile word → is_file word ≡ true
-unfolding is_file
-is_of_file word file = and_from (nat_lt 0 (length word)) _ (lt-ltb _ _ file.some) (front (starts_with nat_eq word (codes "--")) refl)
-  where
-    front : (t : Bool) → starts_with nat_eq word (codes "--") ≡ t → not t ≡ true
-    front true begins = absurd (file.plain _ ((starts_is Decides-eqb word (codes "--") _ refl).0 begins))
-    front false other = refl
+use Rattle.std.proofs.lemmas.Bool.{and_parts, and_from}
+use Rattle.std.proofs.lemmas.Slice.Eq.{bytes_eq-Decides}
+use Rattle.xm_words.specs.Grammar.{CommandsAreSpelled, IsFile, IsRight, words_of}
+use Rattle.xm_words.specs.Words.{Command, PartFile, Bare, Parse, BuildImage, ReadImage, Pack, ListContainer, CheckContainer, are_part_files, asked, bare_of, command_of, command_of_more, command_of_three, command_of_two, format_command, is_file, of_file, of_files, pack_command, part_files, ticks_of}
+use Rattle.xm_words.proofs.PartFileLemmas.{files_named, files_typed_right}
+use Rattle.xm_words.proofs.WordLemmas.{file_is, is_of_file, text_ticks, ticks_text}
 
 -- words are what is typed for a command, and what they name is right
 pub record Typed (words : List (List ℕ)) (command : Command) : Type 0 where
@@ -183,6 +124,28 @@ three_typed name verb first second command e =
     none : None ≡ Some command → Typed (name ∷ verb ∷ first ∷ second ∷ []) command
     none h = absurd (let no : ⊥ = cc in no)
 
+-- what a name and four words or more ask for
+more_typed : (name verb configuration output : List ℕ) (images : List (List ℕ)) (command : Command) → command_of_more name verb configuration output images ≡ Some command → Typed (name ∷ verb ∷ configuration ∷ output ∷ images) command
+unfolding command_of_more
+more_typed name verb configuration output images command e =
+    ⊎_elim pack none (other (bytes_eq name (codes "xmpack") && bytes_eq verb (codes "build")) (asked (is_file configuration && is_file output && are_part_files images) (Pack configuration output (part_files images))) None command e)
+  where
+    pack : ((bytes_eq name (codes "xmpack") && bytes_eq verb (codes "build")) ≡ true) × (asked (is_file configuration && is_file output && are_part_files images) (Pack configuration output (part_files images)) ≡ Some command) → Typed (name ∷ verb ∷ configuration ∷ output ∷ images) command
+    pack h =
+        let tests = and_parts (bytes_eq name (codes "xmpack")) (bytes_eq verb (codes "build")) h.0 in
+        let name_is = named name (codes "xmpack") tests.0 in
+        let verb_is = named verb (codes "build") tests.1 in
+        let parts = asked_parts (is_file configuration && is_file output && are_part_files images) (Pack configuration output (part_files images)) command h.1 in
+        let words = and_parts (is_file configuration && is_file output) (are_part_files images) parts.0 in
+        let files = and_parts (is_file configuration) (is_file output) words.0 in
+        let right = files_named images words.1 in
+        typed_as _ (Pack configuration output (part_files images)) command
+        (record { text = ap (λ front. front ∷ verb ∷ configuration ∷ output ∷ images) name_is ∙ ap (λ second. codes "xmpack" ∷ second ∷ configuration ∷ output ∷ images) verb_is ∙ ap (λ images. codes "xmpack" ∷ codes "build" ∷ configuration ∷ output ∷ images) right.0; right = (file_is configuration files.0, file_is output files.1, right.1) })
+        parts.1
+
+    none : None ≡ Some command → Typed (name ∷ verb ∷ configuration ∷ output ∷ images) command
+    none h = absurd (let no : ⊥ = cc in no)
+
 -- what words ask for is typed so
 typed : (words : List (List ℕ)) (command : Command) → command_of words ≡ Some command → Typed words command
 unfolding command_of
@@ -191,7 +154,15 @@ typed (name ∷ []) command e = absurd (let no : ⊥ = cc in no)
 typed (name ∷ first ∷ []) command e = absurd (let no : ⊥ = cc in no)
 typed (name ∷ first ∷ second ∷ []) command e = two_typed name first second command e
 typed (name ∷ first ∷ second ∷ third ∷ []) command e = three_typed name first second third command e
-typed (name ∷ first ∷ second ∷ third ∷ more ∷ rest) command e = absurd (let no : ⊥ = cc in no)
+typed (name ∷ first ∷ second ∷ third ∷ fourth ∷ rest) command e = more_typed name first second third (fourth ∷ rest) command e
+
+-- what is typed for a container asks for it
+reads_pack : (configuration output : List ℕ) (images : List PartFile) → IsRight (Pack configuration output images) → command_of (words_of (Pack configuration output images)) ≡ Some (Pack configuration output images)
+unfolding command_of command_of_more
+reads_pack configuration output [] right = absurd (omega (arith, right.2.some))
+reads_pack configuration output (image ∷ images) right =
+    let typed = files_typed_right (image ∷ images) right.2 in
+    rw (is_of_file configuration right.0, is_of_file output right.1, typed.0, typed.1) refl
 
 -- what is typed for a command asks for it
 reads : (command : Command) → IsRight command → command_of (words_of command) ≡ Some command
@@ -200,6 +171,7 @@ reads (Bare image ticks) right = rw (is_of_file image right.0, text_ticks (decim
 reads (Parse description output) right = rw (is_of_file description right.0, is_of_file output right.1)
 reads (BuildImage program output) right = rw (is_of_file program right.0, is_of_file output right.1)
 reads (ReadImage image) right = rw (is_of_file image right)
+reads (Pack configuration output images) right = reads_pack configuration output images right
 reads (ListContainer container) right = rw (is_of_file container right)
 reads (CheckContainer container) right = rw (is_of_file container right)
 

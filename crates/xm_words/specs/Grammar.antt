@@ -1,7 +1,7 @@
 -- The grammar in the words of its users: what is to be typed for each command.
-use Rattle.std.specs.Prelude.{◌≡◌, ◌≢◌, ℕ, ◌<◌, ◌≤◌, ◌↔◌, List, [], ◌∷◌, ◌++◌, length, codes, decimal, Some}
+use Rattle.std.specs.Prelude.{◌≡◌, ◌≢◌, ℕ, ◌<◌, ◌≤◌, ◌↔◌, List, [], ◌∷◌, ◌++◌, length, map, codes, decimal, All, AllPairs, Some}
 use Rattle.xm_base.specs.declared.limits.TheConstants.{TICKS}
-use Rattle.xm_words.specs.Words.{Command, Bare, Parse, BuildImage, ReadImage, ListContainer, CheckContainer, command_of, ticks_of}
+use Rattle.xm_words.specs.Words.{Command, PartFile, Bare, Parse, BuildImage, ReadImage, Pack, ListContainer, CheckContainer, command_of, ticks_of}
 
 -- a word is so many ticks where it is their number in decimal, and they are not above the limit
 abbrev pub TicksAreDecimal : Type 0
@@ -12,14 +12,29 @@ pub record IsFile (word : List ℕ) : Type 0 where
   pub some : 0 < length word
   pub plain : (rest : List ℕ) → word ≢ codes "--" ++ rest
 
+-- what is typed for a file for a partition
+abbrev pub part_word : PartFile → List ℕ
+part_word named = decimal named.part ++ codes "=" ++ named.file
+
 -- what is typed for each command
 abbrev pub words_of : Command → List (List ℕ)
 words_of (Bare image ticks) = codes "bare" ∷ image ∷ decimal ticks ∷ []
 words_of (Parse description output) = codes "xmcparser" ∷ description ∷ output ∷ []
 words_of (BuildImage program output) = codes "xmeformat" ∷ codes "build" ∷ program ∷ output ∷ []
 words_of (ReadImage image) = codes "xmeformat" ∷ codes "read" ∷ image ∷ []
+words_of (Pack configuration output images) = codes "xmpack" ∷ codes "build" ∷ configuration ∷ output ∷ map part_word images
 words_of (ListContainer container) = codes "xmpack" ∷ codes "list" ∷ container ∷ []
 words_of (CheckContainer container) = codes "xmpack" ∷ codes "check" ∷ container ∷ []
+
+-- a file for a partition: the partition's number is at most 31, and the file is one
+abbrev pub IsPartFile : PartFile → Type 0
+IsPartFile named = (named.part ≤ 31) × IsFile named.file
+
+-- files for partitions: there is one, each is one, and no partition has two
+pub record ArePartFiles (files : List PartFile) : Type 0 where
+  pub some : 0 < length files
+  pub each : All IsPartFile files
+  pub apart : AllPairs (λ one other. one.part ≢ other.part) files
 
 -- what each command names is a file, and its ticks are not above the limit
 abbrev pub IsRight : Command → Type 0
@@ -27,6 +42,7 @@ IsRight (Bare image ticks) = IsFile image × (ticks ≤ TICKS)
 IsRight (Parse description output) = IsFile description × IsFile output
 IsRight (BuildImage program output) = IsFile program × IsFile output
 IsRight (ReadImage image) = IsFile image
+IsRight (Pack configuration output images) = IsFile configuration × IsFile output × ArePartFiles images
 IsRight (ListContainer container) = IsFile container
 IsRight (CheckContainer container) = IsFile container
 

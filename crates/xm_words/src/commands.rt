@@ -1,5 +1,7 @@
 //! What the program is asked to do.
 
+use crate::part_files::PartFiles;
+
 /// A command, with what its words name.
 #[derive(Clone, Copy, Debug, PartialEq, Eq)]
 pub enum Command<'a> {
@@ -21,6 +23,12 @@ pub enum Command<'a> {
     /// Tell the image in this file.
     ReadImage {
         image: &'a str,
+    },
+    /// Pack the binary configuration in this file and the images of its partitions into a container.
+    Pack {
+        configuration: &'a str,
+        output: &'a str,
+        images: PartFiles<'a>,
     },
     /// Tell the container in this file.
     ListContainer {

@@ -3,11 +3,14 @@
 
 mod commands;
 mod law;
+mod numbers;
+mod part_files;
 mod reading;
 mod words;
 
 pub use commands::Command;
 pub use law::grammar;
+pub use part_files::{PartFile, PartFiles};
 pub use reading::command;
 pub use words::Words;
 

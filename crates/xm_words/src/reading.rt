@@ -1,12 +1,14 @@
 //! What words spell.
 
-ghost use Rattle.std.specs.Prelude.{◌≡◌, ◌↔◌, IsTrue};
+ghost use Rattle.std.specs.Prelude.{◌≡◌, ◌&&◌};
 ghost use Rattle.xm_words.specs.Seen.{seen};
-ghost use Rattle.xm_words.specs.Words.{BuildImage, IsPlain, Parse, bare_of, command_of, command_of_three, command_of_two, format_command, is_file, of_files, pack_command, ticks_of};
+ghost use Rattle.xm_words.specs.Texts.{texts_of};
+ghost use Rattle.xm_words.specs.Words.{BuildImage, Pack, Parse, are_part_files, asked, bare_of, command_of, command_of_more, command_of_three, command_of_two, format_command, is_file, of_files, pack_command, part_files, ticks_of};
 
 use crate::commands::Command;
+use crate::numbers::ticks;
+use crate::part_files::PartFiles;
 use crate::words::Words;
-use xm_base::TICKS;
 
 /// The command that the words spell, or `None` where they spell none.
 #[tactic(auto, unfolding(crate::specs::Words::command_of))]
@@ -20,6 +22,13 @@ pub fn command(words: &Words) -> Option<Command<'_>>
             first.as_str(),
             second.as_str(),
             third.as_str(),
+        ),
+        [name, verb, configuration, output, images @ ..] => command_of_more(
+            name.as_str(),
+            verb.as_str(),
+            configuration.as_str(),
+            output.as_str(),
+            images,
         ),
         _ => None,
     }
@@ -55,6 +64,24 @@ fn command_of_three<'a>(
 {
     if name == "xmeformat" && verb == "build" {
         build_image(first, second)
+    } else {
+        None
+    }
+}
+
+/// The command of a name and four words or more.
+#[tactic(auto, unfolding(crate::specs::Words::command_of_more))]
+fn command_of_more<'a>(
+    name: &str,
+    verb: &str,
+    configuration: &'a str,
+    output: &'a str,
+    images: &'a [String],
+) -> Option<Command<'a>>
+    ensures { seen result ≡ command_of_more name.now verb.now configuration.now output.now (texts_of images.now) }
+{
+    if name == "xmpack" && verb == "build" {
+        pack(configuration, output, images)
     } else {
         None
     }
@@ -96,6 +123,21 @@ fn build_image<'a>(program: &'a str, output: &'a str) -> Option<Command<'a>>
     }
 }
 
+/// The container that two words and the words of the images ask for.
+fn pack<'a>(configuration: &'a str, output: &'a str, images: &'a [String]) -> Option<Command<'a>>
+    ensures { seen result ≡ asked (is_file configuration.now && is_file output.now && are_part_files (texts_of images.now)) (Pack configuration.now output.now (part_files (texts_of images.now))) }
+{
+    if !is_file(configuration) || !is_file(output) {
+        return None;
+    }
+    let images = PartFiles::new(images)?;
+    Some(Command::Pack {
+        configuration,
+        output,
+        images,
+    })
+}
+
 /// What `xmeformat` is asked to do with a file.
 #[tactic(auto, unfolding(crate::specs::Words::format_command))]
 fn format_command<'a>(verb: &str, image: &'a str) -> Option<Command<'a>>
@@ -126,31 +168,8 @@ fn pack_command<'a>(verb: &str, container: &'a str) -> Option<Command<'a>>
 
 /// Whether the word names a file.
 #[tactic(auto, unfolding(crate::specs::Words::is_file))]
-fn is_file(word: &str) -> bool
+pub(crate) fn is_file(word: &str) -> bool
     ensures { result ≡ is_file word.now }
 {
     !word.is_empty() && !word.as_bytes().starts_with(b"--")
-}
-
-/// The number of ticks that the word spells.
-fn ticks(word: &str) -> Option<u64>
-    ensures { result ≡ ticks_of word.now }
-{
-    if !is_plain(word) {
-        return None;
-    }
-    match word.parse::<u64>() {
-        Ok(ticks) if ticks <= TICKS => Some(ticks),
-        _ => None,
-    }
-}
-
-/// Whether neither a plus sign nor a needless zero stands in front.
-fn is_plain(word: &str) -> bool
-    ensures { IsTrue result ↔ IsPlain word.now }
-{
-    match word.as_bytes() {
-        [b'+', ..] | [b'0', _, ..] => false,
-        _ => true,
-    }
 }

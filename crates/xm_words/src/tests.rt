@@ -1,6 +1,7 @@
 //! The edges of the grammar.
 
 use crate::commands::Command;
+use crate::part_files::PartFiles;
 use crate::reading::command;
 use crate::words::Words;
 use std::test::Fail;
@@ -134,6 +135,99 @@ fn each_tool_has_its_words(rt: HostRuntime) -> Result<(), Fail> {
             words.push(text)?;
         }
         assert_eq!(rt; command(&words), wanted);
+    }
+    Ok(())
+}
+
+// Whether these are the files for partitions, in this order.
+fn are(files: PartFiles<'_>, wanted: &[(u8, &str)]) -> bool {
+    let mut rest = files;
+    for (part, file) in wanted {
+        match rest.split_first() {
+            Some((first, others)) if first.part == *part && first.file == *file => rest = others,
+            _ => return false,
+        }
+    }
+    rest.split_first().is_none()
+}
+
+// Each row: the words behind `xmpack build x o`, and the files for partitions that they name.
+#[test]
+fn a_container_is_packed_of_files_for_partitions(rt: HostRuntime) -> Result<(), Fail> {
+    let cases: [(&[&str], Option<&[(u8, &str)]>); 26] = [
+        (&["0=a"], Some(&[(0, "a")])),
+        (&["31=a"], Some(&[(31, "a")])),
+        (&["32=a"], None),
+        (&["256=a"], None),
+        (&["18446744073709551616=a"], None),
+        (&["1=b", "0=a"], Some(&[(1, "b"), (0, "a")])),
+        (&["0=a", "1=a"], Some(&[(0, "a"), (1, "a")])),
+        (&["0=a", "0=a"], None),
+        (&["0=a", "1=b", "0=c"], None),
+        (&["0=a", "1=b", "1=b"], None),
+        (&["0=a=b"], Some(&[(0, "a=b")])),
+        (&["0==a"], Some(&[(0, "=a")])),
+        (&["1=2=3", "2=1"], Some(&[(1, "2=3"), (2, "1")])),
+        (&["0=-a"], Some(&[(0, "-a")])),
+        (&["0=--a"], None),
+        (&["--0=a"], None),
+        (&["0="], None),
+        (&["=a"], None),
+        (&["0"], None),
+        (&["a"], None),
+        (&["00=a"], None),
+        (&["01=a"], None),
+        (&["+1=a"], None),
+        (&[" 1=a"], None),
+        (&["0=a", "b"], None),
+        (&[], None),
+    ];
+    for (texts, wanted) in cases {
+        let mut words = Words::new(rt.alloc());
+        for word in ["xmpack", "build", "x", "o"] {
+            words.push(word)?;
+        }
+        for text in texts {
+            words.push(text)?;
+        }
+        let right = match (command(&words), wanted) {
+            (
+                Some(
+                    Command::Pack {
+                        configuration,
+                        output,
+                        images,
+                    },
+                ),
+                Some(wanted),
+            ) => configuration == "x" && output == "o" && are(images, wanted),
+            (found, _) => found.is_none() && wanted.is_none(),
+        };
+        assert!(rt; right);
+    }
+    Ok(())
+}
+
+#[test]
+fn other_words_pack_nothing(rt: HostRuntime) -> Result<(), Fail> {
+    for (name, verb, configuration, output) in [
+        ("xmpack", "build", "--x", "o"),
+        ("xmpack", "build", "x", "--o"),
+        ("xmpack", "build", "", "o"),
+        ("xmpack", "builds", "x", "o"),
+        ("xmpack", "list", "x", "o"),
+        ("xmeformat", "build", "x", "o"),
+        ("", "build", "x", "o"),
+    ] {
+        let mut words = Words::new(rt.alloc());
+        for word in [name, verb, configuration, output, "0=a"] {
+            words.push(word)?;
+        }
+        assert_eq!(rt;
+            command(&words),
+            None,
+            "at {name} {verb} {configuration} {output}"
+        );
     }
     Ok(())
 }

@@ -1,5 +1,6 @@
 -- Both ways, for numbers and for commands.
-use Rattle.xm_words.proofs.Spelling.{commands_spelled, ticks_decimal}
+use Rattle.xm_words.proofs.Spelling.{commands_spelled}
+use Rattle.xm_words.proofs.WordLemmas.{ticks_decimal}
 use Rattle.xm_words.proofs.law.grammar.Goals as goal
 
 pub returns : goal.returns

@@ -4,8 +4,7 @@ use Rattle.std.specs.Str.{all_ascii_digits}
 use Rattle.std.specs.Str.Parse.{digits_value, ParsesUnsigned}
 use Rattle.std.proofs.lemmas.Bool.{and_parts, and_from, and_left, and_right, or_cases, cases_Bool, cases_lt, lt-leb, le-leb, eqb-true, eq-eqb, not-true, both_ways}
 use Rattle.std.proofs.lemmas.Str.Parse.{IsNumeralModel, numerals_by_value, tells_all_ascii_digits, parse_plain, not_in_digits}
-use Rattle.xm_base.specs.declared.limits.TheConstants.{TICKS}
-use Rattle.xm_words.specs.Words.{IsPlain, is_number, ticks_of}
+use Rattle.xm_words.specs.Words.{IsPlain, is_number, number_of}
 
 -- texts of digits and their values
 pub numerals : IsNumeralModel (λ digits. all_ascii_digits digits ≡ true) (digits_value 10)
@@ -37,20 +36,20 @@ plain_number (digit ∷ rest) digits some plain = and_from (all_ascii_digits (di
     first true zero_first = (let short = plain (eqb-true digit 48 zero_first) in eq-eqb (length rest) 0 (omega arith))
     first false other = refl
 
--- a word that is no number spells no ticks
-pub unspelled : (word : List ℕ) → is_number word ≢ true → None ≡ ticks_of word
-unfolding ticks_of
-unspelled word none = elim (cases_Bool (is_number word)) [ inl is ↦ absurd (none is) | inr is ↦ rw (and_left (is_number word) _ is) ]
+-- a word that is no number spells none
+pub unspelled : (limit : ℕ) (word : List ℕ) → is_number word ≢ true → None ≡ number_of limit word
+unfolding number_of
+unspelled limit word none = elim (cases_Bool (is_number word)) [ inl is ↦ absurd (none is) | inr is ↦ rw (and_left (is_number word) _ is) ]
 
--- a word with a number above the limit spells no ticks
-pub above : (word : List ℕ) → TICKS < digits_value 10 word → None ≡ ticks_of word
-unfolding ticks_of
-above word large = rw (and_right (is_number word) _ (lt-leb _ _ large))
+-- a word with a number above the limit spells none
+pub above : (limit : ℕ) (word : List ℕ) → limit < digits_value 10 word → None ≡ number_of limit word
+unfolding number_of
+above limit word large = rw (and_right (is_number word) _ (lt-leb _ _ large))
 
--- a number that is not above the limit is so many ticks
-pub spelled : (word : List ℕ) → is_number word ≡ true → digits_value 10 word ≤ TICKS → Some (digits_value 10 word) ≡ ticks_of word
-unfolding ticks_of
-spelled word is small = rw (and_from (is_number word) _ is (le-leb _ _ small))
+-- a number that is not above the limit is spelled
+pub spelled : (limit : ℕ) (word : List ℕ) → is_number word ≡ true → digits_value 10 word ≤ limit → Some (digits_value 10 word) ≡ number_of limit word
+unfolding number_of
+spelled limit word is small = rw (and_from (is_number word) _ is (le-leb _ _ small))
 
 -- where a plain word is read, it is a number, and that one
 pub read_is : (word : List ℕ) (n : ℕ) → ParsesUnsigned {E = ℕ} 64 10 word (Ok n) → IsPlain word → (is_number word ≡ true) × (n ≡ digits_value 10 word)
@@ -58,15 +57,15 @@ read_is word n parsed plain =
     let read = parse_plain numerals {E = ℕ} 64 word (Ok n) parsed plain.0 in
     (plain_number word read.0.0 read.0.1 plain.1, read.1)
 
--- a plain word that isn't read spells no ticks
-pub unread : {E : Type 0} (word : List ℕ) (e : E) → ParsesUnsigned 64 10 word (Err e) → IsPlain word → None ≡ ticks_of word
-unread word e parsed plain =
+-- a plain word that isn't read spells no number
+pub unread : {E : Type 0} (limit : ℕ) (word : List ℕ) (e : E) → limit < 2 ^ 64 → ParsesUnsigned 64 10 word (Err e) → IsPlain word → None ≡ number_of limit word
+unread limit word e fits parsed plain =
     let refused = parse_plain numerals 64 word (Err e) parsed plain.0 in
     elim (cases_Bool (is_number word)) [
       | inl is ↦ (let digits = number_digits word is in
           elim (cases_lt (digits_value 10 word) (2 ^ 64)) [
             | inl small ↦ absurd (refused (digits.0, digits.1, small))
-            | inr large ↦ above word (omega arith)
+            | inr large ↦ above limit word (omega arith)
           ])
-      | inr none ↦ unspelled word (λ is. both_ways (is_number word) none is)
+      | inr none ↦ unspelled limit word (λ is. both_ways (is_number word) none is)
     ]
