@@ -1,5 +1,6 @@
 pub mod ImagingLemmas
 pub mod OutsideLemmas
+pub mod PackingLemmas
 pub mod ParsingLemmas
 pub mod TopLemmas
 pub mod WorkLemmas

@@ -1,5 +1,5 @@
 -- What stays of the outside, and what the files come to.
-use Rattle.std.proofs.Common.{◌≡◌, ◌≢◌, ℕ, zero, suc, ◌+◌, ◌<◌, ◌≤◌, cond, min, ⊎_elim, Bool, true, false, nat_lt, ◌==◌, ◌||◌, codes, subst, if◌then◌else◌, List, [], ◌∷◌, ◌++◌, length, take, Option, Some, None, Result, Ok, Err, refl, sym, ap, ◌∙◌, arith}
+use Rattle.std.proofs.Common.{◌≡◌, ◌≢◌, ℕ, zero, suc, ◌+◌, ◌<◌, ◌≤◌, cond, min, ⊎_elim, Bool, true, false, nat_lt, ◌==◌, ◌||◌, codes, subst, if◌then◌else◌, List, [], ◌∷◌, ◌++◌, length, take, drop, Option, Some, None, Result, Ok, Err, refl, sym, ap, ◌∙◌, arith}
 use Rattle.std.proofs.lemmas.Bool.{cases_lt}
 use Rattle.std.proofs.lemmas.Bool.Decides.{nat_tests}
 use Rattle.std.proofs.lemmas.List.{length-take, take_all}
@@ -12,14 +12,16 @@ use Rattle.xm_base.specs.Options.{on}
 use Rattle.xm_base.specs.declared.limits.TheConstants.{FILE_BYTES, IMAGE_BYTES}
 use Rattle.xm_outside.specs.Causes.{counted}
 use Rattle.xm_outside.specs.Files.{Files, OthersStay, stored}
-use Rattle.xm_words.specs.Words.{Command, Bare, Parse, BuildImage, ReadImage, ListContainer, CheckContainer}
+use Rattle.xm_words.specs.Words.{Command, Bare, Parse, BuildImage, ReadImage, Pack, ListContainer, CheckContainer}
 use Rattle.xm_run.specs.Answer.{read_all, read_before, saved}
 use Rattle.loaded_system.specs.Bare.{bare_system}
 use Rattle.loaded_system.specs.System.{System}
 use Rattle.xm_run.specs.Ending.{length_text}
 use Rattle.xm_run.specs.Imaging.{container_lines_of, container_verdict_of, image_lines_of, xef_of}
+use Rattle.xm_run.specs.Packing.{container_of}
 use Rattle.xm_run.specs.Parsing.{xmc_of}
-use Rattle.xm_run.specs.Outcome.{Denial, Output, bare_outcome, content, first_long, made, ran, refused, told, inputs_of, outcome_of, output_of, unless_long, worked}
+use Rattle.xm_run.specs.Denial.{Denial}
+use Rattle.xm_run.specs.Outcome.{Output, bare_outcome, content, first_long, made, packed_to, ran, refused, told, inputs_of, outcome_of, output_of, unless_long, worked}
 use Rattle.xm_run.specs.Top.{AreContents, FilesStay, HasCalls, counted_by, output_count}
 use Rattle.xm_run.specs.Work.{Outside, ReadsFiles, called, called_for, wrote}
 
@@ -95,6 +97,11 @@ made-output : (input file : List ℕ) (made_of : Result (List ℕ) (List ℕ)) (
 made-output input file (Ok bytes) output e = (let same : record { file = file; bytes = bytes } ≡ output = cc in ap (λ (o : Output). Some o.file) same)
 made-output input file (Err text) output e = absurd (cc)
 
+-- what is packed is written where the words say
+packed-output : (file : List ℕ) (packed : Result (List ℕ) Denial) (output : Output) → (packed_to file packed).output ≡ Some output → Some file ≡ Some output.file
+packed-output file (Ok bytes) output e = (let same : record { file = file; bytes = bytes } ≡ output = cc in ap (λ (o : Output). Some o.file) same)
+packed-output file (Err refusal) output e = absurd (cc)
+
 -- what is told writes no file
 told-output : (file : List ℕ) (text : Result (List ℕ) (List ℕ)) (output : Output) → (told file text).output ≡ Some output → ⊥
 told-output file (Ok text) output e = cc
@@ -130,6 +137,7 @@ output-named command contents output is = at command (first_long (inputs_of comm
     at (Parse description out) None e = made-output description out (xmc_of (content 0 contents)) output e
     at (BuildImage program out) None e = made-output program out (xef_of (content 0 contents)) output e
     at (ReadImage image) None e = absurd (told-output image (image_lines_of (content 0 contents)) output e)
+    at (Pack configuration out images) None e = packed-output out (container_of configuration (content 0 contents) images (drop 1 contents)) output e
     at (ListContainer container) None e = absurd (told-output container (container_lines_of (content 0 contents)) output e)
     at (CheckContainer container) None e = absurd (told-output container (container_verdict_of (content 0 contents)) output e)
 
@@ -137,6 +145,11 @@ output-named command contents output is = at command (first_long (inputs_of comm
 made-denied : (input file : List ℕ) (made_of : Result (List ℕ) (List ℕ)) (denial : Denial) → (made input file made_of).denial ≡ Some denial → (made input file made_of).output ≡ None
 made-denied input file (Ok bytes) denial e = absurd (cc)
 made-denied input file (Err text) denial e = refl
+
+-- what is packed or refused is not both
+packed-denied : (file : List ℕ) (packed : Result (List ℕ) Denial) (denial : Denial) → (packed_to file packed).denial ≡ Some denial → (packed_to file packed).output ≡ None
+packed-denied file (Ok bytes) denial e = absurd (cc)
+packed-denied file (Err refusal) denial e = refl
 
 -- where there is no file, none is written
 pub no_output : (o : Option Output) → ((output : Output) → o ≡ Some output → ⊥) → o ≡ None
@@ -154,6 +167,7 @@ output-denied command contents denial is = at command (first_long (inputs_of com
     at (Parse description out) None e = made-denied description out (xmc_of (content 0 contents)) denial e
     at (BuildImage program out) None e = made-denied program out (xef_of (content 0 contents)) denial e
     at (ReadImage image) None e = no_output _ (told-output image (image_lines_of (content 0 contents)))
+    at (Pack configuration out images) None e = packed-denied out (container_of configuration (content 0 contents) images (drop 1 contents)) denial e
     at (ListContainer container) None e = no_output _ (told-output container (container_lines_of (content 0 contents)))
     at (CheckContainer container) None e = no_output _ (told-output container (container_verdict_of (content 0 contents)))
 

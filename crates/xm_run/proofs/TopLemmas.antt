@@ -6,7 +6,8 @@ use Rattle.xm_outside.specs.Growth.{grown, grown-nothing, GrewByPrefix, Writes}
 use Rattle.xm_words.specs.Words.{Command, command_of}
 use Rattle.xm_run.specs.Answer.{Answer, answer, answer_of, answer_to, answer_to_read, ending_by, read_all, saved}
 use Rattle.xm_run.specs.Ending.{Ending, Finished, Misused, Unread, Denied, Unwritten, Unsaved, Starved, complaint, status_of}
-use Rattle.xm_run.specs.Outcome.{Denial, Output, Outcome, inputs_of, outcome_of, output_of}
+use Rattle.xm_run.specs.Denial.{Denial}
+use Rattle.xm_run.specs.Outcome.{Output, Outcome, inputs_of, outcome_of, output_of}
 use Rattle.xm_run.specs.Top.{Answers, AreContents, FilesStay, HasCalls, HasCauses, HasNoFault, IsBarren, IsFaultless, IsQuiet, IsReadCause, IsRefusal, IsSaid, IsWriteCause, OtherFilesStay, counted_by}
 use Rattle.xm_run.specs.Work.{Outside, IsCarriedOut, IsDone, IsMisuse, IsUnread, IsWorked, ReadsFiles, called, called_for, wrote}
 use Rattle.xm_run.proofs.OutsideLemmas.{called_for-is, counted-counted_by, files_same, output-denied, output-named, read_all-absent, told_outcome, wrote-calls, wrote-faults, wrote-files, wrote-got, wrote-read_faults, wrote-stays, wrote-write_faults}
@@ -293,7 +294,7 @@ carried_answer e denial command before after files w told ends =
     }
 
 -- a file that was not read is the first that is not there
-unread_answer : (file : List ℕ) (command : Command) (before after : Outside) (files : Files) → IsUnread file command before after → before.files ≡ Some files → HasNoFault before after → IsAnswer (Unread file) (Some command) before after files
+unread_answer : (file : List ℕ) (command : Command) (before after : Outside) (files : Files) → IsUnread file (inputs_of command) before after → before.files ≡ Some files → HasNoFault before after → IsAnswer (Unread file) (Some command) before after files
 unread_answer file command before after files w told none =
     let absent : IsAbsent (Some files) file = ⊎_elim (λ rose. absurd (none.reads rose)) (λ absent. subst (λ (o : Option Files). IsAbsent o file) told absent) w.cause in
     let read : ReadsFiles (Some files) w.first w.contents = subst (λ (o : Option Files). ReadsFiles o w.first w.contents) told w.read in

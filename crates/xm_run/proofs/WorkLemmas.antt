@@ -1,8 +1,10 @@
 -- What the work of a command comes to.
 use Rattle.std.proofs.Common.{◌≡◌, ℕ, ◌<◌, ◌≤◌, ◌⊎◌, ⊎_elim, true, false, ◌||◌, nat_lt, nat_eq, List, [], ◌∷◌, length, codes, Option, Some, None, Result, Ok, Err, refl, sym, ap, ◌∙◌, subst, arith}
 use Rattle.std.proofs.lemmas.Bool.Decides.{nat_tests}
+use Rattle.std.proofs.lemmas.List.{append-nil}
 use Rattle.xm_base.specs.declared.limits.TheConstants.{FILE_BYTES, IMAGE_BYTES}
-use Rattle.xm_outside.specs.Files.{Files, ReadsFile}
+use Rattle.xm_outside.specs.Causes.{Rose}
+use Rattle.xm_outside.specs.Files.{Files, OthersStay, ReadsFile}
 use Rattle.xm_outside.specs.Growth.{grown, grown-nothing, GrewByPrefix}
 use Rattle.xm_machine.specs.Outcome.{IsRun}
 use Rattle.xm_machine.specs.State.{MachineState, booted}
@@ -22,8 +24,8 @@ use Rattle.xm_run.specs.Makes.{IsUnmade, IsUnmadeOf}
 use Rattle.xm_run.specs.Told.{HasTicks}
 use Rattle.xm_run.specs.declared.unmade.Unmade.{Unmade}
 use Rattle.xm_run.specs.declared.unmade.Unmade.TheVariants as unmade
-use Rattle.xm_run.proofs.OutsideLemmas.{no_output, output-named}
-use Rattle.xm_run.specs.Work.{Outside, Comes, IsDone, IsNotRead, Reports, called, outside}
+use Rattle.xm_run.proofs.OutsideLemmas.{called_for-is, no_output, output-named}
+use Rattle.xm_run.specs.Work.{Outside, AreNotRead, Comes, IsDone, IsNotRead, ReadsFiles, Reports, called, called_for, outside}
 
 -- Runs.
 
@@ -107,42 +109,50 @@ pub unmade_reports : (e : Ending) (file : List ℕ) (why : Unmade) (m : Result (
 unmade_reports e file (unmade.Refused text) m had faults ends is = rw (ends, is) (refused_reports file _ had faults)
 unmade_reports e file unmade.Memory m had faults ends is = rw ends (refl, refl)
 
--- From what is done with one file to what is done in all.
+-- From what is done with files to what is done in all.
+
+-- a command whose files were read did all of its work
+pub done_by : (e : Ending) (command : Command) (contents : List (List ℕ)) (before after : Outside) → ReadsFiles before.files (inputs_of command) contents → Comes e (outcome_of command contents) (called_for (inputs_of command) before) after → IsDone e command before after
+done_by Finished command contents before after read comes = record { contents = contents; read = read; denied = comes.0; outside = comes.1 }
+done_by Misused command contents before after read comes = absurd comes
+done_by (Unread other) command contents before after read comes = absurd comes
+done_by (Denied other text) command contents before after read comes = record { contents = contents; read = read; denied = comes.0; outside = comes.1 }
+done_by Unwritten command contents before after read comes =
+    let same = called_for-is (inputs_of command) before in
+    record {
+      contents = contents;
+      read = read;
+      cause = subst (λ (n : ℕ). Rose n after.faults) (ap (λ (x : Outside). x.faults) same) comes.0;
+      front = subst (λ (g : Option (List ℕ)). GrewByPrefix g (outcome_of command contents).report after.got) (ap (λ (x : Outside). x.got) same) comes.1;
+      outside = comes.2;
+    }
+done_by (Unsaved other) command contents before after read comes =
+    let same = called_for-is (inputs_of command) before in
+    record {
+      contents = contents;
+      read = read;
+      output = comes.output;
+      named = comes.named;
+      made = comes.made;
+      cause = subst (λ (n : ℕ). Rose n after.write_faults) (ap (λ (x : Outside). x.write_faults) same) comes.cause;
+      others = subst (λ (told : Option Files). OthersStay told other after.files) (ap (λ (x : Outside). x.files) same) comes.others;
+      outside = comes.outside;
+    }
+done_by Starved command contents before after read comes = record { first = inputs_of command; rest = []; named = sym (append-nil (inputs_of command)); outside = comes }
 
 -- a command that reads one file did all of its work
 pub done_by_one : (e : Ending) (command : Command) (file bytes : List ℕ) (before after : Outside) → inputs_of command ≡ file ∷ [] → ReadsFile before.files file FILE_BYTES bytes → Comes e (outcome_of command (bytes ∷ [])) (called before) after → IsDone e command before after
-done_by_one Finished command file bytes before after one read comes = record {
-  contents = bytes ∷ [];
-  read = rw one (read, tt);
-  denied = comes.0;
-  outside = rw one comes.1;
-}
-done_by_one Misused command file bytes before after one read comes = absurd comes
-done_by_one (Unread other) command file bytes before after one read comes = absurd comes
-done_by_one (Denied other text) command file bytes before after one read comes = record {
-  contents = bytes ∷ [];
-  read = rw one (read, tt);
-  denied = comes.0;
-  outside = rw one comes.1;
-}
-done_by_one Unwritten command file bytes before after one read comes = record {
-  contents = bytes ∷ [];
-  read = rw one (read, tt);
-  cause = comes.0;
-  front = comes.1;
-  outside = rw one comes.2;
-}
-done_by_one (Unsaved other) command file bytes before after one read comes = record {
-  contents = bytes ∷ [];
-  read = rw one (read, tt);
-  output = comes.output;
-  named = comes.named;
-  made = comes.made;
-  cause = comes.cause;
-  others = comes.others;
-  outside = rw one comes.outside;
-}
-done_by_one Starved command file bytes before after one read comes = record { first = file ∷ []; rest = []; named = one; outside = comes }
+done_by_one e command file bytes before after one read comes = done_by e command (bytes ∷ []) before after (rw one (read, tt)) (rw one comes)
+
+-- a command whose files were not all read ends so
+pub not_all_read_done : (e : Ending) (command : Command) (before after : Outside) → AreNotRead e (inputs_of command) before after → IsDone e command before after
+not_all_read_done Finished command before after not_read = absurd not_read
+not_all_read_done Misused command before after not_read = absurd not_read
+not_all_read_done (Unread other) command before after not_read = not_read
+not_all_read_done (Denied other text) command before after not_read = absurd not_read
+not_all_read_done Unwritten command before after not_read = absurd not_read
+not_all_read_done (Unsaved other) command before after not_read = absurd not_read
+not_all_read_done Starved command before after not_read = not_read
 
 -- what is done, seen from another state that is the same
 pub comes_from : (e : Ending) (outcome : Outcome) (mid other after : Outside) → mid ≡ other → Comes e outcome mid after → Comes e outcome other after
@@ -184,5 +194,6 @@ has_ticks (variant.Bare image ticks) words law e = ((law words (Bare image.now t
 has_ticks (variant.Parse description output) words law e = tt
 has_ticks (variant.BuildImage program output) words law e = tt
 has_ticks (variant.ReadImage image) words law e = tt
+has_ticks (variant.Pack configuration output images) words law e = tt
 has_ticks (variant.ListContainer container) words law e = tt
 has_ticks (variant.CheckContainer container) words law e = tt

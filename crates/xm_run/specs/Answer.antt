@@ -4,7 +4,8 @@ use Rattle.std.specs.FinMap.{get, insert}
 use Rattle.xm_outside.specs.Files.{Files}
 use Rattle.xm_words.specs.Words.{Command, command_of}
 use Rattle.xm_run.specs.Ending.{Ending, Finished, Misused, Unread, Denied, complaint, status_of}
-use Rattle.xm_run.specs.Outcome.{Denial, Output, Outcome, inputs_of, outcome_of}
+use Rattle.xm_run.specs.Denial.{Denial}
+use Rattle.xm_run.specs.Outcome.{Output, Outcome, inputs_of, outcome_of}
 use Rattle.xm_run.specs.declared.status.Status.{Status}
 
 -- how a command ends that met no fault

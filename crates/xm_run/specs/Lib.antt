@@ -1,8 +1,10 @@
 pub mod Answer
+pub mod Denial
 pub mod Ending
 pub mod Imaging
 pub mod Makes
 pub mod Outcome
+pub mod Packing
 pub mod Parsing
 pub mod Status
 pub mod Told

@@ -1,20 +1,17 @@
 -- What the contents of the files that a command reads come to.
-use Rattle.std.specs.Prelude.{ℕ, ◌==◌, if◌then◌else◌, nat_lt, ◌||◌, List, [], ◌∷◌, ◌++◌, length, codes, decimal, slice_index_or, Option, Some, None, Result, Ok, Err}
+use Rattle.std.specs.Prelude.{ℕ, ◌==◌, if◌then◌else◌, nat_lt, ◌||◌, List, [], ◌∷◌, ◌++◌, length, drop, codes, decimal, slice_index_or, Option, Some, None, Result, Ok, Err}
 use Rattle.xm_base.specs.declared.limits.TheConstants.{FILE_BYTES, IMAGE_BYTES}
 use Rattle.xm_report.specs.Report.{texts}
 use Rattle.xm_machine.specs.State.{booted}
 use Rattle.xm_machine.specs.Step.{run_of, report_of}
 use Rattle.loaded_system.specs.Bare.{bare_system}
 use Rattle.loaded_system.specs.System.{System}
-use Rattle.xm_words.specs.Words.{Command, Bare, Parse, BuildImage, ReadImage, ListContainer, CheckContainer}
+use Rattle.xm_words.specs.Words.{Command, Bare, Parse, BuildImage, ReadImage, Pack, ListContainer, CheckContainer}
+use Rattle.xm_run.specs.Denial.{Denial}
 use Rattle.xm_run.specs.Ending.{length_text, unbuilt_text}
 use Rattle.xm_run.specs.Imaging.{container_lines_of, container_verdict_of, image_lines_of, xef_of}
+use Rattle.xm_run.specs.Packing.{container_of, names_of}
 use Rattle.xm_run.specs.Parsing.{xmc_of}
-
--- why a command is refused: the file that is named, and the text
-pub record Denial : Type 0 where
-  pub file : List ℕ
-  pub text : List ℕ
 
 -- a file that is written
 pub record Output : Type 0 where
@@ -37,6 +34,7 @@ inputs_of (Bare image ticks) = image ∷ []
 inputs_of (Parse description output) = description ∷ []
 inputs_of (BuildImage program output) = program ∷ []
 inputs_of (ReadImage image) = image ∷ []
+inputs_of (Pack configuration output images) = configuration ∷ names_of images
 inputs_of (ListContainer container) = container ∷ []
 inputs_of (CheckContainer container) = container ∷ []
 
@@ -46,6 +44,7 @@ output_of (Bare image ticks) = None
 output_of (Parse description output) = Some output
 output_of (BuildImage program output) = Some output
 output_of (ReadImage image) = None
+output_of (Pack configuration output images) = Some output
 output_of (ListContainer container) = None
 output_of (CheckContainer container) = None
 
@@ -75,6 +74,11 @@ abbrev pub made : List ℕ → List ℕ → Result (List ℕ) (List ℕ) → Out
 made input output (Ok bytes) = record { denial = None; output = Some (record { file = output; bytes = bytes }); report = made_text (length bytes) }
 made input output (Err text) = refused input text
 
+-- what files come to that are packed: their container, or the refusal of one of them
+abbrev pub packed_to : List ℕ → Result (List ℕ) Denial → Outcome
+packed_to output (Ok bytes) = record { denial = None; output = Some (record { file = output; bytes = bytes }); report = made_text (length bytes) }
+packed_to output (Err denial) = record { denial = Some denial; output = None; report = [] }
+
 -- what a file comes to that is told: its text, or a refusal
 abbrev pub told : List ℕ → Result (List ℕ) (List ℕ) → Outcome
 told file (Ok text) = record { denial = None; output = None; report = text }
@@ -90,6 +94,7 @@ worked (Bare image ticks) contents = bare_outcome image ticks (content 0 content
 worked (Parse description output) contents = made description output (xmc_of (content 0 contents))
 worked (BuildImage program output) contents = made program output (xef_of (content 0 contents))
 worked (ReadImage image) contents = told image (image_lines_of (content 0 contents))
+worked (Pack configuration output images) contents = packed_to output (container_of configuration (content 0 contents) images (drop 1 contents))
 worked (ListContainer container) contents = told container (container_lines_of (content 0 contents))
 worked (CheckContainer container) contents = told container (container_verdict_of (content 0 contents))
 

@@ -1,12 +1,13 @@
 -- What the program's endings say.
-use Rattle.std.specs.Prelude.{◌≡◌, ℕ, ◌≤◌, ⊤, List, codes, Vec, Result, Ok, Err}
+use Rattle.std.specs.Prelude.{◌≡◌, ℕ, ◌≤◌, ⊤, List, map, codes, Vec, Result, Ok, Err}
 use Rattle.std.specs.String.{string_bytes}
 use Rattle.xm_base.specs.declared.limits.TheConstants.{FILE_BYTES, TICKS}
 use Rattle.xm_outside.specs.Files.{ReadsFile}
 use Rattle.xm_words.specs.declared.commands.Command.{Command}
 use Rattle.xm_words.specs.declared.commands.Command.TheVariants as words
 use Rattle.xm_run.specs.Ending.{Ending, Finished, Misused, Unread, Denied, Unwritten, Unsaved, Starved, length_text, unbuilt_text}
-use Rattle.xm_run.specs.Work.{Outside, IsNotRead, called}
+use Rattle.xm_run.specs.Denial.{Denial}
+use Rattle.xm_run.specs.Work.{Outside, AreNotRead, IsNotRead, ReadsFiles, called, called_for}
 use Rattle.xm_run.specs.declared.ending.Refusal.{Refusal}
 use Rattle.xm_run.specs.declared.ending.Refusal.TheVariants.{TooLong, Length, NotBuilt, Told}
 use Rattle.xm_run.specs.declared.ending.Ending as code
@@ -35,6 +36,7 @@ HasTicks (words.Bare image ticks) = ticks ≤ TICKS
 HasTicks (words.Parse description output) = ⊤
 HasTicks (words.BuildImage program output) = ⊤
 HasTicks (words.ReadImage image) = ⊤
+HasTicks (words.Pack configuration output images) = ⊤
 HasTicks (words.ListContainer container) = ⊤
 HasTicks (words.CheckContainer container) = ⊤
 
@@ -42,3 +44,27 @@ HasTicks (words.CheckContainer container) = ⊤
 abbrev pub IsRead : {A : Type 0} → Result (Vec ℕ A) code.Ending → List ℕ → Outside → Outside → Type 0
 IsRead (Ok bytes) file before after = ReadsFile before.files file FILE_BYTES bytes.items × (after ≡ called before)
 IsRead (Err ending) file before after = IsNotRead (ending_of ending) file before after
+
+-- the bytes of a vector
+abbrev pub bytes_of : {A : Type 0} → Vec ℕ A → List ℕ
+bytes_of bytes = bytes.items
+
+-- files were read, or the call ends without them
+abbrev pub AreRead : {A B : Type 0} → Result (Vec (Vec ℕ A) B) code.Ending → List (List ℕ) → Outside → Outside → Type 0
+AreRead (Ok contents) files before after = ReadsFiles before.files files (map bytes_of contents.items) × (after ≡ called_for files before)
+AreRead (Err ending) files before after = AreNotRead (ending_of ending) files before after
+
+-- the call ends by this refusal, or there was no memory
+abbrev pub IsDenied : {X : Type 0} → Ending → Result X Denial → Type 0
+IsDenied Finished made = ⊥
+IsDenied Misused made = ⊥
+IsDenied (Unread file) made = ⊥
+IsDenied (Denied file text) made = made ≡ Err (record { file = file; text = text })
+IsDenied Unwritten made = ⊥
+IsDenied (Unsaved file) made = ⊥
+IsDenied Starved made = ⊤
+
+-- what was made is that of the definition, and so is the refusal by which the call ends
+abbrev pub MakesOr : {X Y : Type 0} → (X → Y) → Result X code.Ending → Result Y Denial → Type 0
+MakesOr view (Ok value) made = made ≡ Ok (view value)
+MakesOr view (Err ending) made = IsDenied (ending_of ending) made

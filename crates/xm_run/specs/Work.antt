@@ -5,7 +5,8 @@ use Rattle.xm_outside.specs.Causes.{Rose, counted}
 use Rattle.xm_outside.specs.Files.{Files, IsAbsent, OthersStay, ReadsFile, stored}
 use Rattle.xm_outside.specs.Growth.{grown, GrewByPrefix}
 use Rattle.xm_words.specs.Words.{Command}
-use Rattle.xm_run.specs.Outcome.{Denial, Output, Outcome, inputs_of, outcome_of}
+use Rattle.xm_run.specs.Denial.{Denial}
+use Rattle.xm_run.specs.Outcome.{Output, Outcome, inputs_of, outcome_of}
 use Rattle.xm_run.specs.Ending.{Ending, Finished, Misused, Unread, Denied, Unwritten, Unsaved, Starved}
 
 -- the outside as it can be told: the store's files and counts, and the report's sink
@@ -65,11 +66,11 @@ ReadsFiles told [] (bytes ∷ contents) = ⊥
 ReadsFiles told (file ∷ files) [] = ⊥
 ReadsFiles told (file ∷ files) (bytes ∷ contents) = ReadsFile told file FILE_BYTES bytes × ReadsFiles told files contents
 
--- the files before one were read, and that one was not: the store's fault, or no file has the name
-pub record IsUnread (file : List ℕ) (command : Command) (before after : Outside) : Type 0 where
+-- of these files those before one were read, and that one was not: the store's fault, or no file has the name
+pub record IsUnread (file : List ℕ) (files : List (List ℕ)) (before after : Outside) : Type 0 where
   pub first : List (List ℕ)
   pub rest : List (List ℕ)
-  pub named : inputs_of command ≡ first ++ file ∷ rest
+  pub named : files ≡ first ++ file ∷ rest
   pub contents : List (List ℕ)
   pub read : ReadsFiles before.files first contents
   pub cause : Rose before.read_faults after.read_faults ⊎ IsAbsent before.files file
@@ -101,22 +102,22 @@ pub record IsUnsaved (file : List ℕ) (command : Command) (before after : Outsi
   pub others : OthersStay before.files file after.files
   pub outside : after ≡ with_files after.files after.write_faults (called (called_for (inputs_of command) before))
 
--- there was no memory, and all that was done is that the first of the files were read
-pub record IsStarved (command : Command) (before after : Outside) : Type 0 where
+-- there was no memory, and all that was done is that the first of these files were read
+pub record IsStarved (files : List (List ℕ)) (before after : Outside) : Type 0 where
   pub first : List (List ℕ)
   pub rest : List (List ℕ)
-  pub named : inputs_of command ≡ first ++ rest
+  pub named : files ≡ first ++ rest
   pub outside : after ≡ called_for first before
 
 -- what a command did, by cases on how it ended
 abbrev pub IsDone : Ending → Command → Outside → Outside → Type 0
 IsDone Finished command before after = IsCarriedOut None command before after
 IsDone Misused command before after = ⊥
-IsDone (Unread file) command before after = IsUnread file command before after
+IsDone (Unread file) command before after = IsUnread file (inputs_of command) before after
 IsDone (Denied file text) command before after = IsCarriedOut (Some (record { file = file; text = text })) command before after
 IsDone Unwritten command before after = IsUnwritten command before after
 IsDone (Unsaved file) command before after = IsUnsaved file command before after
-IsDone Starved command before after = IsStarved command before after
+IsDone Starved command before after = IsStarved (inputs_of command) before after
 
 -- words that spell no command change nothing
 abbrev pub IsMisuse : Ending → Outside → Outside → Type 0
@@ -177,3 +178,13 @@ IsNotRead (Denied other text) file before after = ⊥
 IsNotRead Unwritten file before after = ⊥
 IsNotRead (Unsaved other) file before after = ⊥
 IsNotRead Starved file before after = after ≡ called before
+
+-- not all of these files were read, or there was no memory for them
+abbrev pub AreNotRead : Ending → List (List ℕ) → Outside → Outside → Type 0
+AreNotRead Finished files before after = ⊥
+AreNotRead Misused files before after = ⊥
+AreNotRead (Unread file) files before after = IsUnread file files before after
+AreNotRead (Denied file text) files before after = ⊥
+AreNotRead Unwritten files before after = ⊥
+AreNotRead (Unsaved file) files before after = ⊥
+AreNotRead Starved files before after = IsStarved files before after

@@ -3,9 +3,10 @@
 ghost use Rattle.std.specs.Prelude.{◌≡◌, ℕ, List, [], length, Ok, Result};
 ghost use Rattle.xm_outside.specs.Causes.{HasCause};
 ghost use Rattle.xm_outside.specs.Growth.{Writes};
+ghost use Rattle.xm_run.specs.Denial.{Denial};
 ghost use Rattle.xm_run.specs.Makes.{IsUnmadeOf, Makes};
-ghost use Rattle.xm_run.specs.Outcome.{made, made_text, told};
-ghost use Rattle.xm_run.specs.Told.{ending_of};
+ghost use Rattle.xm_run.specs.Outcome.{made, made_text, packed_to, told};
+ghost use Rattle.xm_run.specs.Told.{MakesOr, bytes_of, ending_of};
 ghost use Rattle.xm_run.specs.Work.{Comes, Reports, outside};
 
 use crate::ending::{Ending, Refusal};
@@ -26,13 +27,30 @@ pub(crate) fn deliver<'a, S: Store, O: Sink>(
         (outside (S.files files.new) (S.read_faults files.new) (S.write_faults files.new) (S.calls files.new) (O.got out.new) (O.faults out.new)) }
 {
     match file {
-        Ok(bytes) => save(input, output, &bytes, files, out),
+        Ok(bytes) => save(output, &bytes, files, out),
         Err(why) => unmade(input, why),
     }
 }
 
-// How a call ends that made nothing.
-fn unmade<'a>(input: &'a str, why: Unmade) -> Ending<'a>
+/// Writes a container, and tells its length; or ends as it was refused.
+pub(crate) fn put<'a, S: Store, O: Sink>(
+    output: &'a str,
+    container: Result<Vec<u8>, Ending<'a>>,
+    files: &mut S,
+    out: &mut O,
+) -> Ending<'a>
+    ensures { (m : Result (List ℕ) Denial) → MakesOr bytes_of container.entry m → Comes (ending_of result) (packed_to output.now m)
+        (outside (S.files files.old) (S.read_faults files.old) (S.write_faults files.old) (S.calls files.old) (O.got out.old) (O.faults out.old))
+        (outside (S.files files.new) (S.read_faults files.new) (S.write_faults files.new) (S.calls files.new) (O.got out.new) (O.faults out.new)) }
+{
+    match container {
+        Ok(bytes) => save(output, &bytes, files, out),
+        Err(ending) => ending,
+    }
+}
+
+/// How a call ends that made nothing of a file.
+pub(crate) fn unmade<'a>(input: &'a str, why: Unmade) -> Ending<'a>
     ensures { IsUnmadeOf (ending_of result) input.now why }
 {
     match why {
@@ -44,15 +62,14 @@ fn unmade<'a>(input: &'a str, why: Unmade) -> Ending<'a>
     }
 }
 
-// Writes a file that was made out of another, and tells its length.
+// Writes a file that was made, and tells its length.
 fn save<'a, S: Store, O: Sink>(
-    input: &'a str,
     output: &'a str,
     bytes: &[u8],
     files: &mut S,
     out: &mut O,
 ) -> Ending<'a>
-    ensures { Comes (ending_of result) (made input.now output.now (Ok bytes.now))
+    ensures { Comes (ending_of result) (packed_to output.now (Ok bytes.now))
         (outside (S.files files.old) (S.read_faults files.old) (S.write_faults files.old) (S.calls files.old) (O.got out.old) (O.faults out.old))
         (outside (S.files files.new) (S.read_faults files.new) (S.write_faults files.new) (S.calls files.new) (O.got out.new) (O.faults out.new)) }
 {

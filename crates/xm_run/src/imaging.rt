@@ -252,8 +252,8 @@ fn no_program(alloc: Global, fault: ElfFault) -> Unmade
     }
 }
 
-// What is said of a file that is no image.
-fn no_image(alloc: Global, fault: XefFault) -> Unmade
+/// What is said of a file that is no image.
+pub(crate) fn no_image(alloc: Global, fault: XefFault) -> Unmade
     ensures text { IsTold result (xef_fault_text fault) }
     ensures memory { fault ≡ XefFault.Memory → result ≡ Unmade.Memory }
 {
@@ -281,4 +281,6 @@ fn no_container(alloc: Global, fault: BoxFault) -> Unmade
 }
 
 #[cfg(test)]
-mod tests;
+mod linked;
+#[cfg(test)]
+pub(crate) mod tests;

@@ -1,4 +1,4 @@
-//! The program: it runs a raw image for so many ticks, and writes the report.
+//! The program: it does what the words of its command line say.
 #![tactic(auto)]
 
 ghost use Rattle.std.specs.Prelude.{◌≡◌};
@@ -8,6 +8,7 @@ mod complaint;
 mod delivery;
 mod ending;
 mod imaging;
+mod packing;
 mod parsing;
 mod reading;
 mod running;

@@ -8,6 +8,7 @@ ghost use Rattle.xm_words.specs.Words.{command_of};
 
 use crate::ending::Ending;
 use crate::imaging::{build_image, check_container, list_container, read_image};
+use crate::packing::pack_files;
 use crate::parsing::parse;
 use crate::running::run_file;
 use std::alloc::Global;
@@ -55,6 +56,11 @@ fn carry_out<'a, S: Store, O: Sink>(
         } => parse(alloc, description, output, files, out),
         Command::BuildImage { program, output } => build_image(alloc, program, output, files, out),
         Command::ReadImage { image } => read_image(alloc, image, files, out),
+        Command::Pack {
+            configuration,
+            output,
+            images,
+        } => pack_files(alloc, configuration, output, images, files, out),
         Command::ListContainer { container } => list_container(alloc, container, files, out),
         Command::CheckContainer { container } => check_container(alloc, container, files, out),
     }

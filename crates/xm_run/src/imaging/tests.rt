@@ -29,7 +29,7 @@ const IMAGE: &[u8] = b"\
 \x71\xc5\x6a\x47\xd2\x0c\x23\x95\x5e\xa4\xab\x63\x1d";
 
 // The container of the worked description and two images that loop.
-const CONTAINER: &[u8] = b"\
+pub(crate) const CONTAINER: &[u8] = b"\
 \x58\x4d\x50\x4b\x00\x01\x00\x00\x01\x1f\x00\x00\x00\x90\x58\x4d\
 \x43\x46\x00\x01\x00\x00\x00\x90\x04\x64\x65\x6d\x6f\x01\x40\x00\
 \x00\x00\x00\x40\x00\x00\x00\x08\x00\x00\x01\x04\x55\x61\x72\x74\
@@ -57,7 +57,7 @@ md5=e5198071c56a47d20c23955ea4ab631d
 ";
 
 // What tells the container.
-const CONTAINER_LINES: &str = "\
+pub(crate) const CONTAINER_LINES: &str = "\
 container length=287 md5=19a43bfbb2acfa9daae4a4ac0ae4c9f5
 system name=demo parts=2 plans=1 channels=0
 image id=0 length=51 entry=40100000 md5=ae0bd1d7de1d15b55aa3b6fe993b7a4e

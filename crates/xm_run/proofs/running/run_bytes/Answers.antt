@@ -3,7 +3,8 @@ use Rattle.xm_base.specs.declared.limits.TheConstants.{IMAGE_BYTES}
 use Rattle.xm_outside.specs.Growth.{grown, grown-nothing}
 use Rattle.xm_words.specs.Words.{Bare}
 use Rattle.xm_run.specs.Ending.{length_text}
-use Rattle.xm_run.specs.Outcome.{Denial, Outcome}
+use Rattle.xm_run.specs.Denial.{Denial}
+use Rattle.xm_run.specs.Outcome.{Outcome}
 use Rattle.xm_run.proofs.WorkLemmas.{one-long, outcome-length, outcome-image}
 use Rattle.xm_run.proofs.running.run_bytes.Goals as goal
 

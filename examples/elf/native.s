@@ -1,0 +1,5 @@
+# A program for another processor: one that calls nothing, for the machine that it is made on.
+    .text
+    .globl _start
+_start:
+    jmp _start
