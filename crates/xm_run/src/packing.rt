@@ -206,11 +206,7 @@ fn read_images<'a>(
 }
 
 // The image of a partition, by the bytes of its file.
-fn read_image<'a>(
-    alloc: Global,
-    named: PartFile<'a>,
-    bytes: &[u8],
-) -> Result<Xef, Ending<'a>>
+fn read_image<'a>(alloc: Global, named: PartFile<'a>, bytes: &[u8]) -> Result<Xef, Ending<'a>>
     ensures value { MakesOr (λ image. image) result (image_by (seen_file named.entry).file (xef bytes.now)) }
 {
     match read_xef(alloc, bytes) {

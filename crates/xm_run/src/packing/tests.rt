@@ -222,18 +222,10 @@ fn the_first_file_that_is_too_long_is_told(rt: HostRuntime) -> Result<(), Fail> 
 fn each_call_of_the_store_may_fail(rt: HostRuntime) -> Result<(), Fail> {
     let alloc = rt.alloc();
     for (number, status, line) in [
-        (
-            0,
-            Status::ReadFault,
-            "xm_run: demo.xmc: cannot read\n",
-        ),
+        (0, Status::ReadFault, "xm_run: demo.xmc: cannot read\n"),
         (1, Status::ReadFault, "xm_run: b.xef: cannot read\n"),
         (2, Status::ReadFault, "xm_run: a.xef: cannot read\n"),
-        (
-            3,
-            Status::WriteFault,
-            "xm_run: duo.xmp: cannot write\n",
-        ),
+        (3, Status::WriteFault, "xm_run: duo.xmp: cannot write\n"),
     ] {
         let mut files = store(alloc, &[number])?;
         let texts = ["build", "demo.xmc", "duo.xmp", "1=b.xef", "0=a.xef"];
@@ -265,7 +257,14 @@ fn a_container_that_is_cut_is_short_there(rt: HostRuntime) -> Result<(), Fail> {
         bytes.resize(count, 0)?;
         files.put("duo", &bytes)?;
         for verb in ["check", "list"] {
-            refuses(&rt, alloc, &[verb, "duo"], &mut files, Status::Refused, line)?;
+            refuses(
+                &rt,
+                alloc,
+                &[verb, "duo"],
+                &mut files,
+                Status::Refused,
+                line,
+            )?;
         }
     }
     Ok(())

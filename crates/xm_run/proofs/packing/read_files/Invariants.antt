@@ -1,4 +1,4 @@
-use Rattle.std.proofs.Common.{◌≡◌, ℕ, List, ◌∷◌, Option, map, length}
+use Rattle.std.proofs.Common.{ℕ, List, ◌∷◌, Option, map, length}
 use denote.Text.{Utf8}
 use denote.Shadow.{shadow}
 use Rattle.xm_words.specs.Seen.{seen_files}

@@ -1,4 +1,4 @@
-use Rattle.std.proofs.Common.{map, drop, ap, ◌∙◌, arith}
+use Rattle.std.proofs.Common.{map, ap, ◌∙◌, arith}
 use Rattle.std.proofs.lemmas.List.{drop_all}
 use Rattle.xm_run.specs.Told.{bytes_of}
 use Rattle.xm_run.proofs.PackingLemmas.{no_more_contents}
