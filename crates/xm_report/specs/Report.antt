@@ -31,7 +31,11 @@ pub data ReportLine : Type 0 where
 abbrev pub line_of : Line → ReportLine
 line_of (code.System parts plans ticks) = SystemLine parts plans ticks
 line_of (code.Console n p bytes) = ConsoleLine n p bytes.now
+line_of (code.Health n p event word action) = HealthLine n p event word action
+line_of (code.Trace n p bits load) = TraceLine n p bits load
 line_of (code.Moved n p to) = MovedLine n p to
+line_of (code.Whole n to) = WholeLine n to
+line_of (code.PlanIs n plan) = PlanLine n plan
 line_of (code.EndPart p state resets exec pc) = EndPart p state resets exec pc
 line_of (code.EndWhole halted plan clock ticks) = EndWhole halted plan clock ticks
 

@@ -4,8 +4,9 @@ ghost use Rattle.std.specs.Prelude.{◌≡◌};
 ghost use Rattle.xm_report.specs.Report.{move_text};
 
 use xm_base::{PartId, State};
+use xm_conf::{Action, Event};
 
-/// A change of a partition's state that the report tells.
+/// A change of a partition, or of the whole system, that the report tells.
 #[derive(Clone, Copy, Debug, PartialEq, Eq)]
 pub enum Move {
     /// It was halted.
@@ -50,11 +51,37 @@ pub enum Line<'a> {
         p: PartId,
         bytes: &'a [u8],
     },
+    /// Partition `p` met a health event in tick `n`, and the action answers it. The word is an address,
+    /// or the code of an error that the partition reports itself.
+    Health {
+        n: u64,
+        p: PartId,
+        event: Event,
+        word: u32,
+        action: Action,
+    },
+    /// Partition `p` entered a trace in tick `n`: the bits that it is told by, and eight bytes of its own.
+    Trace {
+        n: u64,
+        p: PartId,
+        bits: u32,
+        load: [u8; 8],
+    },
     /// Partition `p` changed its state in tick `n`.
     Moved {
         n: u64,
         p: PartId,
         to: Move,
+    },
+    /// The whole system was halted or reset in tick `n`.
+    Whole {
+        n: u64,
+        to: Move,
+    },
+    /// The plan, another than before, starts after tick `n`.
+    PlanIs {
+        n: u64,
+        plan: u8,
     },
     /// How partition `p` stands at the end of the run.
     EndPart {

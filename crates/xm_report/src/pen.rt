@@ -53,10 +53,10 @@ impl Pen {
 
     /// Writes a name.
     pub(crate) fn name(&mut self, name: &str)
-        requires short { length name.now ≤ 9 }
-        requires room { HasRoom self.old 9 }
+        requires short { length name.now ≤ 40 }
+        requires room { HasRoom self.old 40 }
         ensures value { self.new ≡ self.old ++ name.now }
-        ensures room { length self.new ≤ length self.old + 9 }
+        ensures room { length self.new ≤ length self.old + 40 }
     {
         self.text(name.as_bytes());
     }
@@ -79,6 +79,17 @@ impl Pen {
     {
         let mut digits = [0; 8];
         hex::encode_to_slice(word.to_be_bytes(), &mut digits).unwrap();
+        self.text(&digits);
+    }
+
+    /// Writes eight bytes with two hexadecimal digits each.
+    pub(crate) fn eight_bytes(&mut self, bytes: [u8; 8])
+        requires { HasRoom self.old 16 }
+        ensures value { self.new ≡ self.old ++ encode_lower bytes }
+        ensures room { length self.new ≤ length self.old + 16 }
+    {
+        let mut digits = [0; 16];
+        hex::encode_to_slice(bytes, &mut digits).unwrap();
         self.text(&digits);
     }
 

@@ -1,9 +1,10 @@
-//! The worked reports, the escapes of a console's text, and sinks that take few bytes or fail.
+//! The worked reports, each kind of line, the escapes of a console's text, and sinks that take few bytes or fail.
 
 use crate::line::{Line, Move};
 use crate::output::{WriteFault, put_line};
 use std::test::Fail;
 use xm_base::State;
+use xm_conf::{Action, Event};
 use xm_outside::{MemSink, SureSink};
 
 #[test]
@@ -133,16 +134,246 @@ fn the_whole_system_halts(rt: HostRuntime) -> Result<(), Fail> {
 }
 
 #[test]
-fn each_change_has_its_name(rt: HostRuntime) -> Result<(), Fail> {
-    for (to, text) in [
-        (Move::Halt, "[2] P1 HALT\n"),
-        (Move::Suspend, "[2] P1 SUSPEND\n"),
-        (Move::Resume, "[2] P1 RESUME\n"),
-        (Move::Cold, "[2] P1 COLD\n"),
-        (Move::Warm, "[2] P1 WARM\n"),
+fn each_kind_of_line_has_its_text(rt: HostRuntime) -> Result<(), Fail> {
+    for (line, text) in [
+        (
+            Line::System {
+                parts: 2,
+                plans: 1,
+                ticks: 6000,
+            },
+            "SYSTEM parts=2 plans=1 ticks=6000\n",
+        ),
+        (
+            Line::Console {
+                n: 4,
+                p: 0,
+                bytes: b"a\\b\n\t~\xff",
+            },
+            "[4] P0 CON a\\\\b\\n\\x09~\\xff\n",
+        ),
+        (
+            Line::Health {
+                n: 6,
+                p: 0,
+                event: Event::MemProtection,
+                word: 0x4000_0018,
+                action: Action::Halt,
+            },
+            "[6] P0 HM XM_HM_EV_MEM_PROTECTION 40000018 XM_HM_AC_HALT\n",
+        ),
+        (
+            Line::Health {
+                n: 1000,
+                p: 1,
+                event: Event::SparcIllegalInstruction,
+                word: 0x4018_0000,
+                action: Action::Halt,
+            },
+            "[1000] P1 HM XM_HM_EV_SPARC_ILLEGAL_INSTRUCTION 40180000 XM_HM_AC_HALT\n",
+        ),
+        (
+            Line::Health {
+                n: 2,
+                p: 0,
+                event: Event::PartitionError,
+                word: 42,
+                action: Action::HypervisorWarmReset,
+            },
+            "[2] P0 HM XM_HM_EV_PARTITION_ERROR 0000002a XM_HM_AC_HYPERVISOR_WARM_RESET\n",
+        ),
+        (
+            Line::Health {
+                n: 0,
+                p: 0,
+                event: Event::SparcIllegalInstruction,
+                word: 0x4010_0000,
+                action: Action::HypervisorHalt,
+            },
+            "[0] P0 HM XM_HM_EV_SPARC_ILLEGAL_INSTRUCTION 40100000 XM_HM_AC_HYPERVISOR_HALT\n",
+        ),
+        (
+            Line::Trace {
+                n: 12,
+                p: 3,
+                bits: 0x8000_000c,
+                load: [0x00, 0x01, 0x23, 0x45, 0xab, 0xcd, 0xef, 0xff],
+            },
+            "[12] P3 TRACE 8000000c 00012345abcdefff\n",
+        ),
+        (
+            Line::Trace {
+                n: 0,
+                p: 255,
+                bits: 0,
+                load: [0; 8],
+            },
+            "[0] P255 TRACE 00000000 0000000000000000\n",
+        ),
+        (
+            Line::Moved {
+                n: 7,
+                p: 0,
+                to: Move::Halt,
+            },
+            "[7] P0 HALT\n",
+        ),
+        (
+            Line::Moved {
+                n: 2,
+                p: 1,
+                to: Move::Suspend,
+            },
+            "[2] P1 SUSPEND\n",
+        ),
+        (
+            Line::Moved {
+                n: 2,
+                p: 1,
+                to: Move::Resume,
+            },
+            "[2] P1 RESUME\n",
+        ),
+        (
+            Line::Moved {
+                n: 2,
+                p: 1,
+                to: Move::Cold,
+            },
+            "[2] P1 COLD\n",
+        ),
+        (
+            Line::Moved {
+                n: 2,
+                p: 1,
+                to: Move::Warm,
+            },
+            "[2] P1 WARM\n",
+        ),
+        (
+            Line::Whole {
+                n: 0,
+                to: Move::Halt,
+            },
+            "[0] XM HALT\n",
+        ),
+        (
+            Line::Whole {
+                n: 2,
+                to: Move::Cold,
+            },
+            "[2] XM COLD\n",
+        ),
+        (
+            Line::Whole {
+                n: 2,
+                to: Move::Warm,
+            },
+            "[2] XM WARM\n",
+        ),
+        (Line::PlanIs { n: 1999, plan: 2 }, "[1999] XM PLAN 2\n"),
+        (Line::PlanIs { n: 1999, plan: 1 }, "[1999] XM PLAN 1\n"),
+        (
+            Line::EndPart {
+                p: 0,
+                state: State::Ready,
+                resets: 1,
+                exec: 1,
+                pc: 0x4010_0004,
+            },
+            "END P0 ready resets=1 exec=1 pc=40100004\n",
+        ),
+        (
+            Line::EndWhole {
+                halted: true,
+                plan: 0,
+                clock: 0,
+                ticks: 0,
+            },
+            "END XM halted plan=0 clock=0 ticks=0\n",
+        ),
     ] {
         let mut out = MemSink::new(rt.alloc(), Vec::new(rt.alloc()), 2);
-        put_line(&mut out, &Line::Moved { n: 2, p: 1, to })?;
+        put_line(&mut out, &line)?;
+        assert_eq!(rt; out.got(), text.as_bytes(), "at {text}");
+    }
+    Ok(())
+}
+
+#[test]
+fn events_and_actions_have_their_full_names(rt: HostRuntime) -> Result<(), Fail> {
+    let (n, p, word) = (7, 2, 0x4010_abcd);
+    for (event, action, text) in [
+        (
+            Event::PartitionError,
+            Action::Ignore,
+            "[7] P2 HM XM_HM_EV_PARTITION_ERROR 4010abcd XM_HM_AC_IGNORE\n",
+        ),
+        (
+            Event::MemProtection,
+            Action::Shutdown,
+            "[7] P2 HM XM_HM_EV_MEM_PROTECTION 4010abcd XM_HM_AC_SHUTDOWN\n",
+        ),
+        (
+            Event::UnexpectedTrap,
+            Action::PartitionColdReset,
+            "[7] P2 HM XM_HM_EV_UNEXPECTED_TRAP 4010abcd XM_HM_AC_PARTITION_COLD_RESET\n",
+        ),
+        (
+            Event::SparcIllegalInstruction,
+            Action::PartitionWarmReset,
+            "[7] P2 HM XM_HM_EV_SPARC_ILLEGAL_INSTRUCTION 4010abcd XM_HM_AC_PARTITION_WARM_RESET\n",
+        ),
+        (
+            Event::SparcPrivilegedInstruction,
+            Action::Suspend,
+            "[7] P2 HM XM_HM_EV_SPARC_PRIVILEGED_INSTRUCTION 4010abcd XM_HM_AC_SUSPEND\n",
+        ),
+        (
+            Event::SparcFpDisabled,
+            Action::Halt,
+            "[7] P2 HM XM_HM_EV_SPARC_FP_DISABLED 4010abcd XM_HM_AC_HALT\n",
+        ),
+        (
+            Event::SparcCpDisabled,
+            Action::Propagate,
+            "[7] P2 HM XM_HM_EV_SPARC_CP_DISABLED 4010abcd XM_HM_AC_PROPAGATE\n",
+        ),
+        (
+            Event::SparcAddressNotAligned,
+            Action::HypervisorColdReset,
+            "[7] P2 HM XM_HM_EV_SPARC_ADDRESS_NOT_ALIGNED 4010abcd XM_HM_AC_HYPERVISOR_COLD_RESET\n",
+        ),
+        (
+            Event::SparcTagOverflow,
+            Action::HypervisorWarmReset,
+            "[7] P2 HM XM_HM_EV_SPARC_TAG_OVERFLOW 4010abcd XM_HM_AC_HYPERVISOR_WARM_RESET\n",
+        ),
+        (
+            Event::SparcDivideException,
+            Action::HypervisorHalt,
+            "[7] P2 HM XM_HM_EV_SPARC_DIVIDE_EXCEPTION 4010abcd XM_HM_AC_HYPERVISOR_HALT\n",
+        ),
+        (
+            Event::SparcInstrAccess,
+            Action::SwitchToMaintenance,
+            "[7] P2 HM XM_HM_EV_SPARC_INSTR_ACCESS 4010abcd XM_HM_AC_SWITCH_TO_MAINTENANCE\n",
+        ),
+        (
+            Event::SparcDataAccess,
+            Action::Halt,
+            "[7] P2 HM XM_HM_EV_SPARC_DATA_ACCESS 4010abcd XM_HM_AC_HALT\n",
+        ),
+    ] {
+        let mut out = MemSink::new(rt.alloc(), Vec::new(rt.alloc()), 30);
+        let line = Line::Health {
+            n,
+            p,
+            event,
+            word,
+            action,
+        };
+        put_line(&mut out, &line)?;
         assert_eq!(rt; out.got(), text.as_bytes(), "at {text}");
     }
     Ok(())
@@ -196,21 +427,38 @@ fn the_longest_line_goes_out_whole(rt: HostRuntime) -> Result<(), Fail> {
 
 #[test]
 fn a_sink_that_fails_has_a_front_of_the_line(rt: HostRuntime) -> Result<(), Fail> {
-    let line = Line::System {
+    let system = Line::System {
         parts: 2,
         plans: 1,
         ticks: 6000,
     };
-    for (call, step, text) in [
-        (0, 5, ""),
-        (2, 5, "SYSTEM par"),
-        (9, 0, ""),
-        (6, 5, "SYSTEM parts=2 plans=1 ticks=6"),
+    let health = Line::Health {
+        n: 6,
+        p: 0,
+        event: Event::MemProtection,
+        word: 0x4000_0018,
+        action: Action::Halt,
+    };
+    let trace = Line::Trace {
+        n: 12,
+        p: 3,
+        bits: 0x8000_000c,
+        load: [0xab; 8],
+    };
+    let plan = Line::PlanIs { n: 1999, plan: 2 };
+    for (line, call, step, text) in [
+        (system, 0, 5, ""),
+        (system, 2, 5, "SYSTEM par"),
+        (system, 9, 0, ""),
+        (system, 6, 5, "SYSTEM parts=2 plans=1 ticks=6"),
+        (health, 1, 40, "[6] P0 HM XM_HM_EV_MEM_PROTECTION 400000"),
+        (trace, 3, 8, "[12] P3 TRACE 8000000c a"),
+        (plan, 1, 16, "[1999] XM PLAN 2"),
     ] {
         let mut out = MemSink::new(rt.alloc(), vec![in rt.alloc(); call]?, step);
         assert_eq!(rt; put_line(&mut out, &line), Err(WriteFault), "at {text}");
         assert_eq!(rt; out.got(), text.as_bytes(), "at {text}");
+        assert_eq!(rt; put_line(&mut SureSink::new(), &line), Ok(()), "at {text}");
     }
-    assert_eq!(rt; put_line(&mut SureSink::new(), &line), Ok(()));
     Ok(())
 }

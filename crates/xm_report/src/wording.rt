@@ -1,11 +1,12 @@
 //! What each kind of line looks like.
 
 ghost use Rattle.std.specs.Prelude.{◌≡◌, ◌≤◌, [], length};
-ghost use Rattle.xm_report.specs.Report.{IsShort, console_text, end_part_text, end_whole_text, line_of, moved_text, running_text, system_text, text_of};
+ghost use Rattle.xm_report.specs.Report.{IsShort, console_text, end_part_text, end_whole_text, health_text, line_of, moved_text, plan_text, running_text, system_text, text_of, trace_text, whole_text};
 
 use crate::line::{Line, Move};
 use crate::pen::Pen;
 use xm_base::{CONSOLE_BYTES, PartId, State};
+use xm_conf::{Action, Event};
 
 // Whether the whole system still runs.
 fn running(halted: bool) -> &'static str
@@ -43,6 +44,40 @@ fn console_line(pen: &mut Pen, n: u64, p: PartId, bytes: &[u8])
     pen.text(b"\n");
 }
 
+#[tactic(auto, unfolding(crate::specs::Report::health_text))]
+fn health_line(pen: &mut Pen, n: u64, p: PartId, event: Event, word: u32, action: Action)
+    requires { pen.old ≡ [] }
+    ensures { pen.new ≡ health_text n p event word action }
+{
+    pen.text(b"[");
+    pen.number(n);
+    pen.text(b"] P");
+    pen.number(u64::from(p));
+    pen.text(b" HM ");
+    pen.name(event.text());
+    pen.text(b" ");
+    pen.word(word);
+    pen.text(b" ");
+    pen.name(action.text());
+    pen.text(b"\n");
+}
+
+#[tactic(auto, unfolding(crate::specs::Report::trace_text))]
+fn trace_line(pen: &mut Pen, n: u64, p: PartId, bits: u32, load: [u8; 8])
+    requires { pen.old ≡ [] }
+    ensures { pen.new ≡ trace_text n p bits load }
+{
+    pen.text(b"[");
+    pen.number(n);
+    pen.text(b"] P");
+    pen.number(u64::from(p));
+    pen.text(b" TRACE ");
+    pen.word(bits);
+    pen.text(b" ");
+    pen.eight_bytes(load);
+    pen.text(b"\n");
+}
+
 #[tactic(auto, unfolding(crate::specs::Report::moved_text))]
 fn moved_line(pen: &mut Pen, n: u64, p: PartId, to: Move)
     requires { pen.old ≡ [] }
@@ -54,6 +89,30 @@ fn moved_line(pen: &mut Pen, n: u64, p: PartId, to: Move)
     pen.number(u64::from(p));
     pen.text(b" ");
     pen.name(to.text());
+    pen.text(b"\n");
+}
+
+#[tactic(auto, unfolding(crate::specs::Report::whole_text))]
+fn whole_line(pen: &mut Pen, n: u64, to: Move)
+    requires { pen.old ≡ [] }
+    ensures { pen.new ≡ whole_text n to }
+{
+    pen.text(b"[");
+    pen.number(n);
+    pen.text(b"] XM ");
+    pen.name(to.text());
+    pen.text(b"\n");
+}
+
+#[tactic(auto, unfolding(crate::specs::Report::plan_text))]
+fn plan_line(pen: &mut Pen, n: u64, plan: u8)
+    requires { pen.old ≡ [] }
+    ensures { pen.new ≡ plan_text n plan }
+{
+    pen.text(b"[");
+    pen.number(n);
+    pen.text(b"] XM PLAN ");
+    pen.number(u64::from(plan));
     pen.text(b"\n");
 }
 
@@ -104,7 +163,17 @@ pub(crate) fn write_text(pen: &mut Pen, line: &Line<'_>)
             ticks,
         } => system_line(pen, parts, plans, ticks),
         Line::Console { n, p, bytes } => console_line(pen, n, p, bytes),
+        Line::Health {
+            n,
+            p,
+            event,
+            word,
+            action,
+        } => health_line(pen, n, p, event, word, action),
+        Line::Trace { n, p, bits, load } => trace_line(pen, n, p, bits, load),
         Line::Moved { n, p, to } => moved_line(pen, n, p, to),
+        Line::Whole { n, to } => whole_line(pen, n, to),
+        Line::PlanIs { n, plan } => plan_line(pen, n, plan),
         Line::EndPart {
             p,
             state,
