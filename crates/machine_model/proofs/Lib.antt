@@ -7,3 +7,13 @@ pub mod RunLemmas
 pub mod StartLemmas
 pub mod SightLemmas
 pub mod ReportLemmas
+pub mod WordLemmas
+pub mod Computing
+pub mod SlotRowLemmas
+pub mod HealthRowLemmas
+pub mod CallRowLemmas
+pub mod PortRowLemmas
+pub mod TrapRowLemmas
+pub mod OwnRowLemmas
+pub mod StartRowLemmas
+pub mod HeldLemmas

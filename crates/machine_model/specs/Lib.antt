@@ -22,3 +22,11 @@ pub mod Alone
 pub mod CoreFile
 pub mod Laws
 pub mod Rows
+pub mod SlotRows
+pub mod HealthRows
+pub mod CallRows
+pub mod PortRows
+pub mod TrapRows
+pub mod OwnRows
+pub mod StartRows
+pub mod WordRows

@@ -2,8 +2,15 @@
 #![tactic(auto)]
 
 mod law;
+mod rows;
 
 pub use law::{
     all_ticks, boots_alone, has_own_tag, never_upon_itself, one_tick, own_lines, scripts_end,
     sees_nothing, two_runs,
+};
+pub use rows::{
+    asks_for_plans, holds_words, keeps_time, meets_illegal, observes_another, orders_another,
+    reaches_all, receives_messages, resets_itself, rules_system, runs_in_slots, says_hi,
+    sends_messages, serves_itself, takes_traps, timer_goes_on, traces_in_mask, waits_for_slot,
+    writes_samples,
 };

@@ -1,0 +1,36 @@
+-- The rows on health events: each is the run by its words.
+use Rattle.std.proofs.Common.{[], ◌∷◌, Some, None, refl}
+use Rattle.machine_model.specs.HealthRows.{HaltsAll, HaltsAtIllegal, IgnoresIllegal, PropagatesToHalt, ResetsAllWarm, RestsInHaltingTick, StartsMaintenance}
+use Rattle.machine_model.proofs.Computing.{computing}
+use Rattle.machine_model.proofs.WordLemmas.{leaves_words, prints_words}
+
+pub halts_at_illegal : HaltsAtIllegal
+unfolding computing
+halts_at_illegal memory illegal = (prints_words (Some 0 ∷ []) _ _ (illegal, tt) refl, leaves_words (Some 0 ∷ []) _ _ _ (illegal, tt) refl)
+
+pub ignores_illegal : IgnoresIllegal
+unfolding computing
+ignores_illegal memory illegal = (prints_words (Some 0 ∷ []) _ _ (illegal, tt) refl, leaves_words (Some 0 ∷ []) _ _ _ (illegal, tt) refl)
+
+pub halts_all : HaltsAll
+unfolding computing
+halts_all one other illegal = (
+  prints_words (Some 0 ∷ None ∷ None ∷ None ∷ []) _ _ (illegal, (tt, (tt, (tt, tt)))) refl,
+  leaves_words (Some 0 ∷ None ∷ None ∷ None ∷ []) _ _ _ (illegal, (tt, (tt, (tt, tt)))) refl,
+)
+
+pub propagates_to_halt : PropagatesToHalt
+unfolding computing
+propagates_to_halt memory illegal = (prints_words (Some 0 ∷ []) _ _ (illegal, tt) refl, leaves_words (Some 0 ∷ []) _ _ _ (illegal, tt) refl)
+
+pub resets_all_warm : ResetsAllWarm
+unfolding computing
+resets_all_warm one other illegal = (prints_words (Some 0 ∷ []) _ _ (illegal, tt) refl, leaves_words (Some 0 ∷ []) _ _ _ (illegal, tt) refl)
+
+pub starts_maintenance : StartsMaintenance
+unfolding computing
+starts_maintenance memory illegal = (prints_words (Some 0 ∷ []) _ _ (illegal, tt) refl, leaves_words (Some 0 ∷ []) _ _ _ (illegal, tt) refl)
+
+pub rests_in_halting_tick : RestsInHaltingTick
+unfolding computing
+rests_in_halting_tick one other illegal = (leaves_words (Some 0 ∷ []) _ _ _ (illegal, tt) refl, leaves_words (Some 0 ∷ []) _ _ _ (illegal, tt) refl)

@@ -1,0 +1,5 @@
+use Rattle.machine_model.proofs.TrapRowLemmas.{timer_is_delivered, timer_waits_for_slot}
+use Rattle.machine_model.proofs.rows.takes_traps.Goals as goal
+
+pub returns : goal.returns
+returns c = record { delivered = timer_is_delivered; later = timer_waits_for_slot }

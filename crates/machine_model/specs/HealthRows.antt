@@ -1,0 +1,122 @@
+-- Rows on health events: an illegal instruction under the actions that a table may have for it.
+use Rattle.std.specs.Prelude.{ℕ, true, false, List, [], ◌∷◌, Option, Some}
+use Rattle.guest_bus.specs.Memory.{Memory}
+use Rattle.health_monitor.specs.declared.entry.HealthEntry.{HealthEntry}
+use Rattle.cyclic_plans.specs.PlanClock.{frame_from}
+use Rattle.virt_clocks.specs.Clocks.{no_clocks}
+use Rattle.virt_traps.specs.Virtual.{no_traps}
+use Rattle.xm_base.specs.declared.partition.State.TheVariants.{Ready, Halted}
+use Rattle.xm_conf.specs.Configuration.{Chan, Part}
+use Rattle.xm_conf.specs.declared.channel.ChanKind.TheVariants.{Queuing as QueueOf}
+use Rattle.xm_conf.specs.declared.health.Action.{Action}
+use Rattle.xm_conf.specs.declared.health.Action.TheVariants as action
+use Rattle.xm_conf.specs.declared.health.Event.TheVariants as event
+use Rattle.xm_conf.specs.declared.port.Kind.TheVariants as kind
+use Rattle.xm_conf.specs.declared.port.Port.{Port}
+use Rattle.xm_conf.specs.declared.port.Way.{Way}
+use Rattle.xm_conf.specs.declared.port.Way.TheVariants as way
+use Rattle.xm_ports.specs.Channels.{Queuing}
+use Rattle.xm_report.specs.Report.{ReportLine, HealthLine, MovedLine, PlanLine, WholeLine, EndPart, EndWhole}
+use Rattle.xm_report.specs.declared.line.Move.TheVariants as move
+use Rattle.machine_model.specs.Machine.{Machine}
+use Rattle.machine_model.specs.Rows.{Holds, Leaves, Prints, at, conf_of, halves, machine, of_part, plain, table_of, whole_frame, with_illegal}
+
+-- a partition whose table has this action for an illegal instruction
+abbrev pub answering : Action → Part
+answering an_action = record (plain 0x40000000 4) { hm = table_of (with_illegal an_action) }
+
+-- it alone, at a tick
+abbrev pub alone : Action → ℕ → Memory → Machine
+alone an_action tick memory = machine (conf_of (whole_frame ∷ []) (answering an_action ∷ []) []) (0x40000000 ∷ []) tick (at 0x40000000 memory ∷ [])
+
+-- its memory has a word that is no instruction where it begins
+abbrev pub IsIllegal : Action → Memory → Type 0
+IsIllegal an_action memory = Holds (answering an_action) memory 0x40000000 0
+
+-- the line and the entry of an illegal instruction in tick 0, with the action that was taken
+abbrev pub illegal_line : Action → ReportLine
+illegal_line an_action = HealthLine 0 0 event.SparcIllegalInstruction 0x40000000 an_action
+
+abbrev pub illegal_entry : Action → HealthEntry
+illegal_entry an_action = record { time = 0; seq = 0; event = event.SparcIllegalInstruction; action = an_action; word = 0x40000000 }
+
+-- the entries of a partition's health log
+abbrev pub log_of : ℕ → Machine → Option (List HealthEntry)
+log_of p g = of_part (λ ps. ps.health.entries) p g
+
+-- HALT: the partition halts at the instruction, and has the event in its health log
+abbrev pub HaltsAtIllegal : Type 0
+HaltsAtIllegal = (memory : Memory) → IsIllegal action.Halt memory
+    → Prints (alone action.Halt 0 memory) 1
+    (illegal_line action.Halt ∷ MovedLine 0 0 move.Halt ∷ EndPart 0 Halted 0 1 0x40000000 ∷ EndWhole false 0 1 1 ∷ [])
+    × Leaves (log_of 0) (alone action.Halt 0 memory) 1 (Some (illegal_entry action.Halt ∷ []))
+
+-- IGNORE: the partition goes on behind the instruction
+abbrev pub IgnoresIllegal : Type 0
+IgnoresIllegal = (memory : Memory) → IsIllegal action.Ignore memory
+    → Prints (alone action.Ignore 0 memory) 1 (illegal_line action.Ignore ∷ EndPart 0 Ready 0 1 0x40000004 ∷ EndWhole false 0 1 1 ∷ [])
+    × Leaves (log_of 0) (alone action.Ignore 0 memory) 1 (Some (illegal_entry action.Ignore ∷ []))
+
+-- a port of a queue
+abbrev pub queue_port : Way → Port
+queue_port a_way = record { name = []; kind = kind.Queuing; way = a_way }
+
+-- a queue of two messages of at most eight bytes, from partition 0 to partition 1
+abbrev pub queue : Chan
+queue = record { kind = QueueOf 2; length = 8; source = record { part = 0; port = 0 }; dests = record { part = 1; port = 0 } ∷ [] }
+
+-- two partitions at the ends of a queue that holds a message; the first has this action for an illegal instruction
+abbrev pub ends_of_queue : Action → Memory → Memory → Machine
+ends_of_queue an_action one other =
+    record (machine (conf_of (halves ∷ []) (record (answering an_action) { ports = queue_port way.Source ∷ [] } ∷ record (plain 0x40000100 8) { ports = queue_port way.Destination ∷ [] } ∷ []) (queue ∷ []))
+    (0x40000000 ∷ 0x40000100 ∷ []) 0 (at 0x40000000 one ∷ record (at 0x40000100 other) { clocks = record no_clocks { execution = 3 } } ∷ [])) {
+      channels = Queuing ((0x68 ∷ 0x69 ∷ []) ∷ []) ∷ [];
+    }
+
+-- HYPERVISOR_HALT: the tick is not counted, no further tick does anything, and the queue keeps its message
+abbrev pub HaltsAll : Type 0
+HaltsAll = (one other : Memory) → IsIllegal action.HypervisorHalt one
+    → Prints (ends_of_queue action.HypervisorHalt one other) 4
+    (illegal_line action.HypervisorHalt ∷ WholeLine 0 move.Halt ∷ EndPart 0 Ready 0 1 0x40000000 ∷ EndPart 1 Ready 0 3 0x40000100 ∷ EndWhole true 0 0 0 ∷ [])
+    × Leaves (λ g. g.channels) (ends_of_queue action.HypervisorHalt one other) 4 (Queuing ((0x68 ∷ 0x69 ∷ []) ∷ []) ∷ [])
+
+-- PROPAGATE where traps are disabled: the partition halts, and the line and the entry say so
+abbrev pub PropagatesToHalt : Type 0
+PropagatesToHalt = (memory : Memory) → IsIllegal action.Propagate memory
+    → Prints (alone action.Propagate 0 memory) 1
+    (illegal_line action.Halt ∷ MovedLine 0 0 move.Halt ∷ EndPart 0 Halted 0 1 0x40000000 ∷ EndWhole false 0 1 1 ∷ [])
+    × Leaves (log_of 0) (alone action.Propagate 0 memory) 1 (Some (illegal_entry action.Halt ∷ []))
+
+-- HYPERVISOR_WARM_RESET: both partitions are reset, their clocks and the hardware clock begin anew, the tick is counted, and the queue is empty
+abbrev pub ResetsAllWarm : Type 0
+ResetsAllWarm = (one other : Memory) → IsIllegal action.HypervisorWarmReset one
+    → Prints (ends_of_queue action.HypervisorWarmReset one other) 1
+    (illegal_line action.HypervisorWarmReset ∷ WholeLine 0 move.Warm ∷ MovedLine 0 0 move.Warm ∷ MovedLine 0 1 move.Warm
+    ∷ EndPart 0 Ready 1 0 0x40000000 ∷ EndPart 1 Ready 1 0 0x40000100 ∷ EndWhole false 0 0 1 ∷ [])
+    × Leaves (λ g. g.channels) (ends_of_queue action.HypervisorWarmReset one other) 1 (Queuing [] ∷ [])
+
+-- a machine with a maintenance plan, in the second tick of a frame, in which a plan is asked for
+abbrev pub with_maintenance : Memory → Machine
+with_maintenance memory =
+    record (machine (conf_of (whole_frame ∷ whole_frame ∷ []) (answering action.SwitchToMaintenance ∷ []) []) (0x40000000 ∷ []) 1 (at 0x40000000 memory ∷ [])) {
+      clock = record (frame_from 0 0) { asked = Some 0 };
+    }
+
+-- SWITCH_TO_MAINTENANCE: plan 1 starts with the next tick, in the middle of the frame, nothing is asked any more, and the partition goes on
+abbrev pub StartsMaintenance : Type 0
+StartsMaintenance = (memory : Memory) → IsIllegal action.SwitchToMaintenance memory
+    → Prints (with_maintenance memory) 1
+    (HealthLine 1 0 event.SparcIllegalInstruction 0x40000000 action.SwitchToMaintenance ∷ PlanLine 1 1 ∷ EndPart 0 Ready 0 1 0x40000004 ∷ EndWhole false 1 2 2 ∷ [])
+    × Leaves (λ g. g.clock) (with_maintenance memory) 1 (frame_from 1 2)
+
+-- two partitions, of which the first halts the hypervisor in a tick in which the second one's hardware timer is due
+abbrev pub halting_at_deadline : Memory → Memory → Machine
+halting_at_deadline one other =
+    machine (conf_of (whole_frame ∷ []) (answering action.HypervisorHalt ∷ plain 0x40000100 4 ∷ []) []) (0x40000000 ∷ 0x40000100 ∷ []) 1
+    (at 0x40000000 one ∷ record (at 0x40000100 other) { clocks = record no_clocks { hardware_timer = Some (record { deadline = 1; interval = 0 }) } } ∷ [])
+
+-- a partition rests in the tick in which the hypervisor halts, too: its timer is looked at
+abbrev pub RestsInHaltingTick : Type 0
+RestsInHaltingTick = (one other : Memory) → IsIllegal action.HypervisorHalt one
+    → Leaves (of_part (λ ps. ps.traps) 1) (halting_at_deadline one other) 1 (Some (record no_traps { pending = 1 }))
+    × Leaves (of_part (λ ps. ps.clocks) 1) (halting_at_deadline one other) 1 (Some no_clocks)

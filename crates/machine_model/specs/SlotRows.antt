@@ -1,0 +1,118 @@
+-- Rows on slots, plans and clocks.
+use Rattle.std.specs.Prelude.{ℕ, true, false, List, [], ◌∷◌, Option, Some, None}
+use Rattle.cyclic_plans.specs.PlanClock.{frame_from}
+use Rattle.guest_bus.specs.Memory.{Memory}
+use Rattle.virt_clocks.specs.Clocks.{no_clocks}
+use Rattle.virt_traps.specs.Virtual.{VirtualTraps, no_traps}
+use Rattle.xm_base.specs.declared.partition.State.TheVariants.{Ready, Idle, Suspended}
+use Rattle.xm_conf.specs.Configuration.{Conf, Part, Plan}
+use Rattle.xm_report.specs.Report.{PlanLine, EndPart, EndWhole}
+use Rattle.machine_model.specs.Machine.{Machine}
+use Rattle.machine_model.specs.Partition.{PartitionState}
+use Rattle.machine_model.specs.Rows.{Holds, HoldsAll, Leaves, Prints, at, calling, conf_of, halves, machine, plain, slot}
+
+-- the two partitions of the rows
+abbrev pub first_part : Part
+first_part = plain 0x40000000 8
+
+abbrev pub second_part : Part
+second_part = plain 0x40000100 8
+
+-- each of them in two ticks of four
+abbrev pub in_turns : Conf
+in_turns = conf_of (halves ∷ []) (first_part ∷ second_part ∷ []) []
+
+-- a machine of two such partitions at a tick
+abbrev pub two_parts : ℕ → PartitionState → PartitionState → Machine
+two_parts tick one other = machine in_turns (0x40000000 ∷ 0x40000100 ∷ []) tick (one ∷ other ∷ [])
+
+-- the words of a loop: a branch to itself, and a word that does nothing
+abbrev pub loop_words : List ℕ
+loop_words = 0x10800000 ∷ 0x01000000 ∷ []
+
+abbrev pub Loops : Part → Memory → ℕ → Type 0
+Loops part memory entry = HoldsAll part memory entry loop_words
+
+-- each of two partitions that loop runs in its own slot, and its execution clock counts the ticks of that slot alone
+abbrev pub RunInTheirSlots : Type 0
+RunInTheirSlots = (one other : Memory) → Loops first_part one 0x40000000 → Loops second_part other 0x40000100
+    → Prints (two_parts 0 (at 0x40000000 one) (at 0x40000100 other)) 4
+    (EndPart 0 Ready 0 2 0x40000000 ∷ EndPart 1 Ready 0 2 0x40000100 ∷ EndWhole false 0 4 4 ∷ [])
+
+-- a partition that waits, after five ticks of its own
+abbrev pub waiting : Memory → PartitionState
+waiting memory = record (at 0x40000000 memory) { state = Idle; clocks = record no_clocks { execution = 5 } }
+
+-- a partition that waits, and that nothing wakes in its own slot: nothing of it changes, and its execution clock stays
+abbrev pub WaitsOn : Type 0
+WaitsOn = (one other : Memory)
+    → Prints (two_parts 1 (waiting one) (at 0x40000100 other)) 1
+    (EndPart 0 Idle 0 5 0x40000000 ∷ EndPart 1 Ready 0 0 0x40000100 ∷ EndWhole false 0 2 2 ∷ [])
+    × Leaves (λ g. g.parts) (two_parts 1 (waiting one) (at 0x40000100 other)) 1 (waiting one ∷ at 0x40000100 other ∷ [])
+
+-- a partition that waits is woken by the first tick of its slot, and executes an instruction in it
+abbrev pub WakesInItsSlot : Type 0
+WakesInItsSlot = (one other : Memory) → Loops first_part one 0x40000000
+    → Prints (two_parts 0 (waiting one) (at 0x40000100 other)) 1
+    (EndPart 0 Ready 0 6 0x40000004 ∷ EndPart 1 Ready 0 0 0x40000100 ∷ EndWhole false 0 1 1 ∷ [])
+
+-- a partition with a hardware timer of this deadline and interval
+abbrev pub timed : ℕ → ℕ → Memory → PartitionState
+timed deadline interval memory = record (at 0x40000000 memory) {
+  clocks = record no_clocks { hardware_timer = Some (record { deadline = deadline; interval = interval }) };
+}
+
+-- a partition that is suspended
+abbrev pub held : Memory → PartitionState
+held memory = record (at 0x40000100 memory) { state = Suspended }
+
+-- interrupt 0 waits
+abbrev pub timer_pending : VirtualTraps
+timer_pending = record no_traps { pending = 1 }
+
+-- the hardware timer of a partition is due in a tick of another one's slot: its interrupt is pending, and the timer is disarmed
+-- or, with an interval, moved on. The other one is suspended, and its execution clock stays
+abbrev pub IsDueInAnothersSlot : Type 0
+IsDueInAnothersSlot = (one other : Memory)
+    → Leaves (λ g. g.parts) (two_parts 3 (timed 3 0 one) (held other)) 1 (record (at 0x40000000 one) { traps = timer_pending } ∷ held other ∷ [])
+    × Leaves (λ g. g.parts) (two_parts 3 (timed 3 5 one) (held other)) 1 (record (timed 8 5 one) { traps = timer_pending } ∷ held other ∷ [])
+    × Leaves (λ g. g.parts) (two_parts 2 (timed 3 0 one) (held other)) 1 (timed 3 0 one ∷ held other ∷ [])
+
+-- three plans of 2000 ticks, whose last ticks are in no slot
+abbrev pub three_plans : List Plan
+three_plans =
+    record { frame = 2000; slots = slot 0 100 0 ∷ [] } ∷ record { frame = 2000; slots = slot 0 100 0 ∷ [] }
+    ∷ record { frame = 2000; slots = slot 0 100 0 ∷ [] } ∷ []
+
+-- a system partition with room for a word behind its instruction
+abbrev pub planner : Part
+planner = record (plain 0x40000000 8) { system = true }
+
+-- the system partition at a tick, about to ask for a plan, where this plan is asked for already
+abbrev pub planning : ℕ → ℕ → Option ℕ → Memory → Machine
+planning tick plan asked memory =
+    record (machine (conf_of three_plans (planner ∷ []) []) (0x40000000 ∷ []) tick (calling 0x40000000 (14 ∷ plan ∷ 0x40000004 ∷ []) memory ∷ [])) {
+      clock = record (frame_from 0 0) { asked = asked };
+    }
+
+-- the plan that was asked for last starts when the frame ends: plan 1 is asked for in tick 10 and plan 2 in tick 20, neither of which
+-- prints a line, and with tick 1999 plan 2 is the next
+abbrev pub LastAskedStarts : Type 0
+LastAskedStarts = (memory : Memory) → Holds planner memory 0x40000000 0x91d02070
+    → Prints (planning 10 1 None memory) 1 (EndPart 0 Ready 0 1 0x40000004 ∷ EndWhole false 0 11 11 ∷ [])
+    × Leaves (λ g. g.clock) (planning 10 1 None memory) 1 (record (frame_from 0 0) { asked = Some 1 })
+    × Prints (planning 20 2 (Some 1) memory) 1 (EndPart 0 Ready 0 1 0x40000004 ∷ EndWhole false 0 21 21 ∷ [])
+    × Leaves (λ g. g.clock) (planning 20 2 (Some 1) memory) 1 (record (frame_from 0 0) { asked = Some 2 })
+    × Prints (planning 1999 0 (Some 2) memory) 1 (PlanLine 1999 2 ∷ EndPart 0 Ready 0 0 0x40000000 ∷ EndWhole false 2 2000 2000 ∷ [])
+    × Leaves (λ g. g.clock) (planning 1999 0 (Some 2) memory) 1 (frame_from 2 2000)
+
+-- two plans of one tick
+abbrev pub short_plans : Conf
+short_plans = conf_of (record { frame = 1; slots = slot 0 1 0 ∷ [] } ∷ record { frame = 1; slots = slot 0 1 0 ∷ [] } ∷ []) (planner ∷ []) []
+
+-- a plan that is asked for in the last tick of a frame starts with the next tick
+abbrev pub AskedInLastTick : Type 0
+AskedInLastTick = (memory : Memory) → Holds planner memory 0x40000000 0x91d02070
+    → Prints (machine short_plans (0x40000000 ∷ []) 0 (calling 0x40000000 (14 ∷ 1 ∷ 0x40000004 ∷ []) memory ∷ [])) 1
+    (PlanLine 0 1 ∷ EndPart 0 Ready 0 1 0x40000004 ∷ EndWhole false 1 1 1 ∷ [])
+    × Leaves (λ g. g.clock) (machine short_plans (0x40000000 ∷ []) 0 (calling 0x40000000 (14 ∷ 1 ∷ 0x40000004 ∷ []) memory ∷ [])) 1 (frame_from 1 1)
