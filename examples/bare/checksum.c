@@ -28,48 +28,7 @@ static void make_crc_table(void)
     }
 }
 
-/* A line of text, put together in a buffer. */
-struct line {
-    char text[80];
-    unsigned size;
-};
-
-static struct line line;
-
-static void put_char(char c)
-{
-    if (line.size < sizeof line.text)
-        line.text[line.size++] = c;
-}
-
-static void put_text(const char *text)
-{
-    while (*text)
-        put_char(*text++);
-}
-
-static void put_unsigned(unsigned number)
-{
-    if (number >= 10)
-        put_unsigned(number / 10);
-    put_char((char)('0' + number % 10));
-}
-
-static void put_signed(int number)
-{
-    if (number < 0) {
-        put_char('-');
-        put_unsigned(0u - (unsigned)number);
-    } else {
-        put_unsigned((unsigned)number);
-    }
-}
-
-static void put_hex(unsigned number)
-{
-    for (int shift = 28; shift >= 0; shift -= 4)
-        put_char("0123456789abcdef"[number >> shift & 15]);
-}
+#include "lines.h"
 
 /* Prints the line, and counts it into the checksum. */
 static void end_line(void)

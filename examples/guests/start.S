@@ -1,13 +1,13 @@
-! Start-up of a compiled guest.
+! Start-up of a compiled guest, which is entered at its first byte.
 !
-! The image is loaded and entered at 0x40000000, the start of the partition's one area of 1 MiB.
+! The linker gives stack_top, zeroed_from and zeroed_to (area.ld), and PARTITION, the partition's own number.
 ! The stack grows down from the area's end. Each window that is spilled goes to its own %sp, so 64 bytes
 ! stand free above the first %sp; the calling convention wants 92, and %sp is a multiple of 8.
 
         .section .text.start, "ax"
         .global _start
 _start:
-        set     0x40100000 - 96, %sp
+        set     stack_top, %sp
         mov     0, %fp                  ! the stack ends here
         set     zeroed_from, %o0
         set     zeroed_to, %o1
@@ -22,7 +22,7 @@ _start:
 2:      call    main
         nop
         mov     2, %o0                  ! call 2: halt a partition
-        mov     0, %o1                  ! this partition's own number
+        mov     PARTITION, %o1
         ta      0x70
 3:      ba      3b                      ! not reached
         nop

@@ -1,9 +1,9 @@
-/* A raw image for the area of 1 MiB at 0x40000000, entered at its first byte. */
+/* A program for the area of AREA_SIZE bytes at AREA_BASE, entered at the area's first byte. */
 ENTRY(_start)
 
 SECTIONS
 {
-    . = 0x40000000;
+    . = AREA_BASE;
     .text : { *(.text.start) *(.text .text.*) }
     .rodata : ALIGN(8) { *(.rodata .rodata.*) }
     .data : ALIGN(8) { *(.data .data.*) }
@@ -14,6 +14,7 @@ SECTIONS
         . = ALIGN(8);
         zeroed_to = .;
     }
-    ASSERT(. <= 0x400f0000, "no room for a stack of 64 KiB")
+    stack_top = AREA_BASE + AREA_SIZE - 96;
+    ASSERT(. <= AREA_BASE + AREA_SIZE - 0x10000, "no room for a stack of 64 KiB")
     /DISCARD/ : { *(.comment) *(.gnu.attributes) *(.note .note.*) *(.eh_frame) }
 }

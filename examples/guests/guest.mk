@@ -1,0 +1,25 @@
+# How a guest is made of C, with Debian's cross packages (gcc-sparc64-linux-gnu, which brings the binutils).
+# Nothing is linked but what is named: the 32-bit libgcc of these packages has instructions that V8 lacks.
+# Whoever includes this says where the folder is, by GUESTS.
+CROSS = sparc64-linux-gnu-
+LEVEL = -O2
+GUEST_CFLAGS = $(LEVEL) -std=c11 -Wall -Wextra -m32 -mcpu=v8 -msoft-float -ffreestanding -fno-pic -fno-pie \
+    -fno-stack-protector -fno-asynchronous-unwind-tables
+GUEST_LDFLAGS = -m32 -nostdlib -static -no-pie -Wl,-m,elf32_sparc -Wl,--build-id=none -Wl,-n \
+    -Wl,--fatal-warnings
+
+# The area, and the partition's own number; those of `bare`, where a target doesn't say others.
+AREA_BASE = 0x40000000
+AREA_SIZE = 0x100000
+PARTITION = 0
+
+AREA = $(GUESTS)/area.ld
+START = $(GUESTS)/start.S
+
+# $(call link,SOURCES): links $@ of these sources, the area's linker script among them
+link = $(CROSS)gcc $(GUEST_CFLAGS) -I$(GUESTS) $(GUEST_LDFLAGS) -Wl,--defsym=AREA_BASE=$(AREA_BASE) \
+    -Wl,--defsym=AREA_SIZE=$(AREA_SIZE) -Wl,--defsym=PARTITION=$(PARTITION) \
+    -T $(filter %.ld,$(1)) $(filter-out %.ld %.h,$(1)) -o $@
+
+%.bin: %.elf
+	$(CROSS)objcopy -O binary $< $@
