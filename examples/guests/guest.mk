@@ -23,3 +23,4 @@ link = $(CROSS)gcc $(GUEST_CFLAGS) -I$(GUESTS) $(GUEST_LDFLAGS) -Wl,--defsym=ARE
 
 %.bin: %.elf
 	$(CROSS)objcopy -O binary $< $@
+	chmod a-x $@
