@@ -7,11 +7,10 @@ use Rattle.sparc_code.specs.Decoded.{decoded, format2_row, memory_row, operand, 
 use Rattle.sparc_code.specs.Fields.{annul, cond, disp22, i, imm22, imm7, op, op2, op3, rd, rs1, signed, simm13}
 use Rattle.sparc_step.specs.Conditions.{holds, holds_below_eight}
 use Rattle.sparc_step.specs.Execution.{turned}
-use Rattle.sparc_step.specs.Flow.{branch_row, entered as window_entered, jumped, moved, passed, sethi_row, taken, target, trap_turn, trap_type, window_below}
+use Rattle.sparc_step.specs.Flow.{branch_row, entered as window_entered, moved, sethi_row, taken, target, trap_turn, trap_type, window_below}
 use Rattle.sparc_step.specs.Operands.{sum_of}
 use Rattle.sparc_step.specs.Outcome.{with_result}
 use Rattle.sparc_step.specs.Registers.{advanced, branched, in_window, register_at, started as core_started, with_register}
-use Rattle.sparc_step.specs.Words.{sum}
 use Rattle.virt_clocks.specs.Clocks.{looked_at, no_clocks}
 use Rattle.virt_traps.specs.Delivery.{at_entry, brought_above, delivered, entered_below, freed_below, restored, returned, virtual_psr}
 use Rattle.virt_traps.specs.Moves.{spill_address, spilled}
@@ -23,12 +22,12 @@ use Rattle.xm_ports.specs.Channels.{cleared as channel_cleared, put, shapes_of, 
 use Rattle.xm_ports.specs.Ports.{no_ports}
 use Rattle.xm_traces.specs.Ring.{entry_at, noted, nothing_kept}
 use Rattle.machine_model.specs.Caller.{with_answer, with_written}
-use Rattle.machine_model.specs.Health.{answered_by, entered, event_handled, interrupt_delivered, self_ordered, trap_delivered, undelivered}
+use Rattle.machine_model.specs.Health.{answered_by, entered, event_handled, interrupt_delivered, self_ordered, trap_delivered}
 use Rattle.machine_model.specs.Hypercalls.{served}
 use Rattle.machine_model.specs.Lines.{end_lines, lines_of, order_lines, step_lines}
 use Rattle.machine_model.specs.LocalTick.{called, clocked, executed, local_tick, with_interrupts, worked}
 use Rattle.machine_model.specs.LogCalls.{hm_read, raise_event, trace_event}
-use Rattle.machine_model.specs.Machine.{after, after_tick, channel_after, copies, happened, happened_by, local, local_of, next_clock, part_after, sight, sight_of_state, step, tick_of, turn_of}
+use Rattle.machine_model.specs.Machine.{after, after_tick, channel_after, copies, happened, happened_by, local, local_of, next_clock, part_after, sight_of_state, step, tick_of, turn_of}
 use Rattle.machine_model.specs.Observed.{asked_by, asks}
 use Rattle.machine_model.specs.Partition.{areas_of, disarmed, execution_looked_at, hardware_looked_at, loaded, ordered, ordered_told, reset, rested}
 use Rattle.machine_model.specs.PartitionCalls.{get_partition_status, get_system_status, halt_partition, halt_system, idle_self, reset_partition, reset_system, resume_partition, shutdown_partition, suspend_partition}
@@ -36,7 +35,7 @@ use Rattle.machine_model.specs.PortCalls.{made_port, receive_queuing_message, se
 use Rattle.machine_model.specs.ProcessorCalls.{iret, read_input, write_console}
 use Rattle.machine_model.specs.Structures.{health_bytes, partition_status, system_status}
 use Rattle.machine_model.specs.TimeCalls.{get_time, set_timer, switch_sched_plan}
-use Rattle.machine_model.specs.Traffic.{after_message, copies_after, copies_of}
+use Rattle.machine_model.specs.Traffic.{after_message, copies_of}
 use Rattle.machine_model.specs.View.{name_of, named, part_of, port_channel, view_of}
 
 -- the plan clock and the slots
@@ -56,7 +55,7 @@ keeping_registers = tt
 
 -- an instruction
 unfoldable pub executing : Unit {0}
-unfolding branch_row holds holds_below_eight jumped moved passed sethi_row sum sum_of taken target trap_turn trap_type turned value_loaded window_below window_entered
+unfolding branch_row holds holds_below_eight moved sethi_row sum_of taken target trap_turn trap_type turned value_loaded window_below window_entered
 executing = tt
 
 -- virtual traps, spills and fills
@@ -71,12 +70,12 @@ keeping_time = tt
 
 -- channels and ports
 unfoldable pub keeping_channels : Unit {0}
-unfolding after_message channel_cleared channel_of copies_after copies_of first_taken has_end is_port name_of named no_ports part_of port_channel put sees shapes_of view_of
+unfolding after_message channel_cleared channel_of copies_of first_taken has_end is_port name_of named no_ports part_of port_channel put sees shapes_of view_of
 keeping_channels = tt
 
 -- health events and logs
 unfoldable pub monitoring : Unit {0}
-unfolding action_in answered_by entered entry_at event_handled effect_of event_of_type interrupt_delivered is_logged noted nothing_kept self_ordered trap_delivered undelivered
+unfolding action_in answered_by effect_of entered entry_at event_handled event_of_type interrupt_delivered is_logged noted nothing_kept self_ordered trap_delivered
 monitoring = tt
 
 -- hypercalls
@@ -86,7 +85,7 @@ serving = tt
 
 -- partitions and the whole machine
 unfoldable pub running : Unit {0}
-unfolding after after_tick areas_of asked_by asks called channel_after clocked copies disarmed end_lines executed execution_looked_at happened happened_by hardware_looked_at lines_of loaded local local_of local_tick next_clock order_lines ordered ordered_told part_after reset rested sight sight_of_state step step_lines tick_of turn_of with_interrupts worked
+unfolding after after_tick areas_of asked_by asks called channel_after clocked copies disarmed end_lines executed execution_looked_at happened happened_by hardware_looked_at lines_of loaded local local_of local_tick next_clock order_lines ordered ordered_told part_after reset rested sight_of_state step step_lines tick_of turn_of with_interrupts worked
 running = tt
 
 -- all of them

@@ -1,8 +1,8 @@
 -- Rows on health events: an illegal instruction under the actions that a table may have for it.
 use Rattle.std.specs.Prelude.{ℕ, true, false, List, [], ◌∷◌, Option, Some}
+use Rattle.cyclic_plans.specs.PlanClock.{frame_from}
 use Rattle.guest_bus.specs.Memory.{Memory}
 use Rattle.health_monitor.specs.declared.entry.HealthEntry.{HealthEntry}
-use Rattle.cyclic_plans.specs.PlanClock.{frame_from}
 use Rattle.virt_clocks.specs.Clocks.{no_clocks}
 use Rattle.virt_traps.specs.Virtual.{no_traps}
 use Rattle.xm_base.specs.declared.partition.State.TheVariants.{Ready, Halted}
@@ -16,10 +16,10 @@ use Rattle.xm_conf.specs.declared.port.Port.{Port}
 use Rattle.xm_conf.specs.declared.port.Way.{Way}
 use Rattle.xm_conf.specs.declared.port.Way.TheVariants as way
 use Rattle.xm_ports.specs.Channels.{Queuing}
-use Rattle.xm_report.specs.Report.{ReportLine, HealthLine, MovedLine, PlanLine, WholeLine, EndPart, EndWhole}
+use Rattle.xm_report.specs.Report.{ReportLine, HealthLine, MovedLine, WholeLine, PlanLine, EndPart, EndWhole}
 use Rattle.xm_report.specs.declared.line.Move.TheVariants as move
 use Rattle.machine_model.specs.Machine.{Machine}
-use Rattle.machine_model.specs.Rows.{Holds, Leaves, Prints, at, conf_of, halves, machine, of_part, plain, table_of, whole_frame, with_illegal}
+use Rattle.machine_model.specs.Rows.{Holds, HoldsAll, Leaves, Prints, at, conf_of, halves, machine, of_part, plain, slot, table_of, whole_frame, with_answers, with_illegal}
 
 -- a partition whose table has this action for an illegal instruction
 abbrev pub answering : Action → Part
@@ -57,6 +57,13 @@ IgnoresIllegal = (memory : Memory) → IsIllegal action.Ignore memory
     → Prints (alone action.Ignore 0 memory) 1 (illegal_line action.Ignore ∷ EndPart 0 Ready 0 1 0x40000004 ∷ EndWhole false 0 1 1 ∷ [])
     × Leaves (log_of 0) (alone action.Ignore 0 memory) 1 (Some (illegal_entry action.Ignore ∷ []))
 
+-- PROPAGATE, where traps are disabled: the partition halts, and the line and the entry have HALT
+abbrev pub PropagatesToHalt : Type 0
+PropagatesToHalt = (memory : Memory) → IsIllegal action.Propagate memory
+    → Prints (alone action.Propagate 0 memory) 1
+    (illegal_line action.Halt ∷ MovedLine 0 0 move.Halt ∷ EndPart 0 Halted 0 1 0x40000000 ∷ EndWhole false 0 1 1 ∷ [])
+    × Leaves (log_of 0) (alone action.Propagate 0 memory) 1 (Some (illegal_entry action.Halt ∷ []))
+
 -- a port of a queue
 abbrev pub queue_port : Way → Port
 queue_port a_way = record { name = []; kind = kind.Queuing; way = a_way }
@@ -73,6 +80,17 @@ ends_of_queue an_action one other =
       channels = Queuing ((0x68 ∷ 0x69 ∷ []) ∷ []) ∷ [];
     }
 
+-- HYPERVISOR_WARM_RESET: each partition is reset, not only the one that met the event, the queue is empty, the hardware clock begins anew,
+-- and the tick is counted
+abbrev pub ResetsAllWarm : Type 0
+ResetsAllWarm = (one other : Memory) → IsIllegal action.HypervisorWarmReset one
+    → Prints (ends_of_queue action.HypervisorWarmReset one other) 1
+    (illegal_line action.HypervisorWarmReset ∷ WholeLine 0 move.Warm ∷ MovedLine 0 0 move.Warm ∷ MovedLine 0 1 move.Warm
+    ∷ EndPart 0 Ready 1 0 0x40000000 ∷ EndPart 1 Ready 1 0 0x40000100 ∷ EndWhole false 0 0 1 ∷ [])
+    × Leaves (λ g. g.channels) (ends_of_queue action.HypervisorWarmReset one other) 1 (Queuing [] ∷ [])
+    × Leaves (log_of 0) (ends_of_queue action.HypervisorWarmReset one other) 1 (Some (illegal_entry action.HypervisorWarmReset ∷ []))
+    × Leaves (λ g. g.resets) (ends_of_queue action.HypervisorWarmReset one other) 1 1
+
 -- HYPERVISOR_HALT: the tick is not counted, no further tick does anything, and the queue keeps its message
 abbrev pub HaltsAll : Type 0
 HaltsAll = (one other : Memory) → IsIllegal action.HypervisorHalt one
@@ -80,34 +98,41 @@ HaltsAll = (one other : Memory) → IsIllegal action.HypervisorHalt one
     (illegal_line action.HypervisorHalt ∷ WholeLine 0 move.Halt ∷ EndPart 0 Ready 0 1 0x40000000 ∷ EndPart 1 Ready 0 3 0x40000100 ∷ EndWhole true 0 0 0 ∷ [])
     × Leaves (λ g. g.channels) (ends_of_queue action.HypervisorHalt one other) 4 (Queuing ((0x68 ∷ 0x69 ∷ []) ∷ []) ∷ [])
 
--- PROPAGATE where traps are disabled: the partition halts, and the line and the entry say so
-abbrev pub PropagatesToHalt : Type 0
-PropagatesToHalt = (memory : Memory) → IsIllegal action.Propagate memory
-    → Prints (alone action.Propagate 0 memory) 1
-    (illegal_line action.Halt ∷ MovedLine 0 0 move.Halt ∷ EndPart 0 Halted 0 1 0x40000000 ∷ EndWhole false 0 1 1 ∷ [])
-    × Leaves (log_of 0) (alone action.Propagate 0 memory) 1 (Some (illegal_entry action.Halt ∷ []))
+-- a partition that raises an event of its own with the code 42, which resets the whole system warm
+abbrev pub raising : Part
+raising = record (plain 0x40100000 12) { hm = table_of (with_answers action.HypervisorWarmReset action.Propagate) }
 
--- HYPERVISOR_WARM_RESET: both partitions are reset, their clocks and the hardware clock begin anew, the tick is counted, and the queue is empty
-abbrev pub ResetsAllWarm : Type 0
-ResetsAllWarm = (one other : Memory) → IsIllegal action.HypervisorWarmReset one
-    → Prints (ends_of_queue action.HypervisorWarmReset one other) 1
-    (illegal_line action.HypervisorWarmReset ∷ WholeLine 0 move.Warm ∷ MovedLine 0 0 move.Warm ∷ MovedLine 0 1 move.Warm
-    ∷ EndPart 0 Ready 1 0 0x40000000 ∷ EndPart 1 Ready 1 0 0x40000100 ∷ EndWhole false 0 0 1 ∷ [])
-    × Leaves (λ g. g.channels) (ends_of_queue action.HypervisorWarmReset one other) 1 (Queuing [] ∷ [])
+-- it, and another one, each in a thousand ticks of two thousand
+abbrev pub raised_at : Memory → Memory → Machine
+raised_at one other =
+    machine (conf_of (record { frame = 2000; slots = slot 0 1000 0 ∷ slot 1000 1000 1 ∷ [] } ∷ []) (raising ∷ plain 0x40180000 8 ∷ []) [])
+    (0x40100000 ∷ 0x40180000 ∷ []) 0 (at 0x40100000 one ∷ at 0x40180000 other ∷ [])
 
--- a machine with a maintenance plan, in the second tick of a frame, in which a plan is asked for
-abbrev pub with_maintenance : Memory → Machine
-with_maintenance memory =
-    record (machine (conf_of (whole_frame ∷ whole_frame ∷ []) (answering action.SwitchToMaintenance ∷ []) []) (0x40000000 ∷ []) 1 (at 0x40000000 memory ∷ [])) {
-      clock = record (frame_from 0 0) { asked = Some 0 };
+-- call 27 with the code 42
+abbrev pub raise_words : List ℕ
+raise_words = 0x9010201b ∷ 0x9210202a ∷ 0x91d02070 ∷ []
+
+-- a raised event has its code as word; all is reset with it, and the partition begins again in the fourth tick, its memory kept
+abbrev pub ResetsAllByCall : Type 0
+ResetsAllByCall = (one other : Memory) → HoldsAll raising one 0x40100000 raise_words
+    → Prints (raised_at one other) 4
+    (HealthLine 2 0 event.PartitionError 42 action.HypervisorWarmReset ∷ WholeLine 2 move.Warm ∷ MovedLine 2 0 move.Warm ∷ MovedLine 2 1 move.Warm
+    ∷ EndPart 0 Ready 1 1 0x40100004 ∷ EndPart 1 Ready 1 0 0x40180000 ∷ EndWhole false 0 1 4 ∷ [])
+
+-- a partition alone in the second tick of a frame of four, under three plans of which plan 2 is asked for
+abbrev pub in_mid_frame : Action → Memory → Machine
+in_mid_frame an_action memory =
+    record (machine (conf_of (whole_frame ∷ whole_frame ∷ whole_frame ∷ []) (answering an_action ∷ []) []) (0x40000000 ∷ []) 1 (at 0x40000000 memory ∷ [])) {
+      clock = record (frame_from 0 0) { asked = Some 2 };
     }
 
--- SWITCH_TO_MAINTENANCE: plan 1 starts with the next tick, in the middle of the frame, nothing is asked any more, and the partition goes on
-abbrev pub StartsMaintenance : Type 0
-StartsMaintenance = (memory : Memory) → IsIllegal action.SwitchToMaintenance memory
-    → Prints (with_maintenance memory) 1
-    (HealthLine 1 0 event.SparcIllegalInstruction 0x40000000 action.SwitchToMaintenance ∷ PlanLine 1 1 ∷ EndPart 0 Ready 0 1 0x40000004 ∷ EndWhole false 1 2 2 ∷ [])
-    × Leaves (λ g. g.clock) (with_maintenance memory) 1 (frame_from 1 2)
+-- SWITCH_TO_MAINTENANCE: plan 1 begins with the next tick, in the middle of the frame, and nothing is asked any more
+abbrev pub SwitchesInMidFrame : Type 0
+SwitchesInMidFrame = (memory : Memory) → IsIllegal action.SwitchToMaintenance memory
+    → Prints (in_mid_frame action.SwitchToMaintenance memory) 1
+    (HealthLine 1 0 event.SparcIllegalInstruction 0x40000000 action.SwitchToMaintenance ∷ PlanLine 1 1
+    ∷ EndPart 0 Ready 0 1 0x40000004 ∷ EndWhole false 1 2 2 ∷ [])
+    × Leaves (λ g. g.clock) (in_mid_frame action.SwitchToMaintenance memory) 1 (frame_from 1 2)
 
 -- two partitions, of which the first halts the hypervisor in a tick in which the second one's hardware timer is due
 abbrev pub halting_at_deadline : Memory → Memory → Machine

@@ -1,12 +1,12 @@
 //! Rows worked by hand: small systems, and what runs of them come to.
 
 ghost use Rattle.machine_model.specs.CallRows.{CountsWarm, HaltsAnother, IsRefusedAnother, KeepsLogsCold, OrdersNone, ResetsAnother, ResumesAnother, ResumesNothing, SeesAnother, ShutsDownAnother, SuspendsAnother};
-ghost use Rattle.machine_model.specs.HealthRows.{HaltsAll, HaltsAtIllegal, IgnoresIllegal, PropagatesToHalt, ResetsAllWarm, RestsInHaltingTick, StartsMaintenance};
+ghost use Rattle.machine_model.specs.HealthRows.{HaltsAll, HaltsAtIllegal, IgnoresIllegal, PropagatesToHalt, ResetsAllByCall, ResetsAllWarm, RestsInHaltingTick, SwitchesInMidFrame};
 ghost use Rattle.machine_model.specs.OwnRows.{HaltsSystem, Idles, ReachesNotAll, ReadsInput, ReadsOwnLog, RefusesDeadline, ResetsSystemCold, ReturnsFromTrap, SeesSystem, SetsTimer, ShowsClocks, TracesInMask, TracesNotElse, UnknownCall};
 ghost use Rattle.machine_model.specs.PortRows.{EmptyQueueRefuses, FullQueueRefuses, NoRoomKeepsMessage, OldestIsReceived, QueueTakesMessage, SampleInterrupts, UnmadePortIsSilent};
 ghost use Rattle.machine_model.specs.SlotRows.{AskedInLastTick, IsDueInAnothersSlot, LastAskedStarts, RunInTheirSlots, WaitsOn, WakesInItsSlot};
 ghost use Rattle.machine_model.specs.StartRows.{BeginsAtEntry, HaltsAfterHi, ReportsHi, StaysHalted};
-ghost use Rattle.machine_model.specs.TrapRows.{TimerIsDelivered, TimerWaitsForSlot};
+ghost use Rattle.machine_model.specs.TrapRows.{HaltsAtSpill, HaltsAtStrayLoad, TakesTrap, TimerIsDelivered, TimerWaitsForSlot};
 ghost use Rattle.machine_model.specs.WordRows.{WordsCanBeHeld};
 
 /// A system of one partition that writes `hi` to its console and halts, from its start on.
@@ -48,16 +48,28 @@ pub fn meets_illegal()
 
 /// An event that resets or halts the whole system.
 pub fn reaches_all()
-    ensures halted { HaltsAll }
     ensures reset { ResetsAllWarm }
-    ensures maintenance { StartsMaintenance }
+    ensures raised { ResetsAllByCall }
+    ensures halted { HaltsAll }
     ensures rests { RestsInHaltingTick }
+{}
+
+/// An illegal instruction that starts the maintenance plan.
+pub fn switches_to_maintenance()
+    ensures switched { SwitchesInMidFrame }
 {}
 
 /// A trap and timer interrupts that are delivered to their partition.
 pub fn takes_traps()
+    ensures trap { TakesTrap }
     ensures delivered { TimerIsDelivered }
     ensures later { TimerWaitsForSlot }
+{}
+
+/// A spill without a stack, and a load from another partition: each halts the partition that made it.
+pub fn halts_at_faults()
+    ensures spill { HaltsAtSpill }
+    ensures load { HaltsAtStrayLoad }
 {}
 
 /// A system partition gives orders to another one, and a partition without the flag may not.

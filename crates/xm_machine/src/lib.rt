@@ -12,6 +12,7 @@ mod system;
 pub use area::{AREA_BYTES, AREA_START};
 pub use board::Board;
 pub use machine::Machine;
+pub use machine_model::two_runs;
 pub use run::{Ran, RunFault};
 pub use xm_report::{Line, Move, WriteFault, put_line};
 
