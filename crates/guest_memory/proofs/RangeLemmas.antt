@@ -1,0 +1,145 @@
+-- Ranges of addresses: which of them is the first that is not allowed, and their bytes by parts.
+use Rattle.std.proofs.Common.{◌≡◌, ℕ, zero, suc, ◌+◌, ◌-◌, ◌<◌, ◌≤◌, ◌^◌, Bool, true, false, ◌&&◌, not, cond, List, [], ◌∷◌, ◌++◌, length, map, min, set, get_or, take, drop, Option, Some, None, is_some, refl, sym, ap, ◌∙◌, arith, length-take, take-add}
+use borrow.Rule.Slice.PartMut.{put_mid}
+use Rattle.std.specs.Prelude.{slice_get}
+use Rattle.std.proofs.lemmas.Bool.{and_parts}
+use Rattle.std.proofs.lemmas.List.{take_rest}
+use Rattle.std.proofs.lemmas.Slice.{take-put_mid}
+use Rattle.std.specs.FinMap.{insert}
+use Rattle.guest_bus.specs.Memory.{Area, Memory, is_readable, all_from, bytes_at, with_bytes}
+use Rattle.guest_bus.specs.MemoryLemmas.{all_from-each, all_from-true, length-bytes_at}
+use Rattle.guest_memory.specs.Held.{HeldArea, seen, areas_in, memory_in, holds, LiesAt, IsAt, IsSpace, zeroed}
+use Rattle.guest_memory.specs.Memories.{allows, first_refused, refuses}
+use Rattle.guest_memory.specs.declared.access.Access.{Access}
+use Rattle.guest_memory.specs.declared.access.Access.TheVariants.{Read, Write}
+use Rattle.guest_memory.specs.declared.find.Place.{Place}
+use Rattle.guest_memory.proofs.AccessLemmas.{placed_at, writable_at, writable_readable}
+use Rattle.guest_memory.proofs.HeldLemmas.{bytes_at-memory_in, covers_at, readable_at, there}
+
+-- behind addresses that all are allowed the first refused is that of the rest
+pub first_refused-on : (allowed : ℕ → Bool) (address piece left : ℕ) → all_from allowed address piece ≡ true → piece ≤ left → first_refused allowed (address + piece) (left - piece) ≡ first_refused allowed address left
+first_refused-on allowed address zero left all within =
+    let same : address + 0 ≡ address = omega arith in
+    let rest : left - 0 ≡ left = omega arith in
+    rw (same, rest)
+first_refused-on allowed address (suc piece) zero all within = absurd (omega arith)
+first_refused-on allowed address (suc piece) (suc left) all within =
+    let parts = and_parts (allowed address) (all_from allowed (suc address) piece) all in
+    let same : address + suc piece ≡ suc address + piece = omega arith in
+    let rest : suc left - suc piece ≡ left - piece = omega arith in
+    rw (same, rest, parts.0) (first_refused-on allowed (suc address) piece left parts.1 (omega arith))
+
+-- the front of a range that is allowed is allowed
+pub all_from-front : (allowed : ℕ → Bool) (address count front : ℕ) → all_from allowed address count ≡ true → front ≤ count → all_from allowed address front ≡ true
+all_from-front allowed address count front all within = all_from-true allowed address front (λ q from under. all_from-each allowed address count q all from (omega arith))
+
+-- where the first of some addresses is not allowed, it is the first refused
+pub first_refused-here : (allowed : ℕ → Bool) (address left : ℕ) → allowed address ≡ false → 0 < left → first_refused allowed address left ≡ Some address
+first_refused-here allowed address zero none some = absurd (omega arith)
+first_refused-here allowed address (suc left) none some = rw none
+
+-- all are allowed exactly where none is refused
+pub all_from-none : (allowed : ℕ → Bool) (address count : ℕ) → all_from allowed address count ≡ not (is_some (first_refused allowed address count))
+all_from-none allowed address zero = refl
+all_from-none allowed address (suc count) = at (allowed address) (all_from-none allowed (suc address) count)
+  where
+    at : (b : Bool) → all_from allowed (suc address) count ≡ not (is_some (first_refused allowed (suc address) count))
+        → (b && all_from allowed (suc address) count) ≡ not (is_some (cond b (first_refused allowed (suc address) count) (Some address)))
+    at true later = later
+    at false later = refl
+
+-- where none is refused, all are allowed
+pub all_allowed : (allowed : ℕ → Bool) (address count : ℕ) → first_refused allowed address count ≡ None → all_from allowed address count ≡ true
+all_allowed allowed address count none = all_from-none allowed address count ∙ ap (λ (found : Option ℕ). not (is_some found)) none
+
+-- an access to an address that may not be read is not allowed
+pub nothing_allowed : (access : Access) (areas : List Area) (q : ℕ) → is_readable areas q ≡ false → allows access areas q ≡ false
+nothing_allowed Read areas q none = none
+nothing_allowed Write areas q none = writable_readable areas q none
+
+-- an access is allowed where the one area that has the address does not refuse it
+pub allowed_in : (access : Access) (areas : List HeldArea) (k q : ℕ) (held : HeldArea) → IsSpace areas → slice_get areas k ≡ Some held → holds q held ≡ true → allows access (areas_in areas) q ≡ not (refuses access held.read_only)
+allowed_in Read areas k q held space is has = readable_at areas k q held is has
+allowed_in Write areas k q held space is has = writable_at areas k q held space.placed.apart is has
+
+-- the rest of an area that does not refuse an access is allowed
+pub room_allowed : (access : Access) (areas : List HeldArea) (place : Place) (held : HeldArea) (q : ℕ) → IsSpace areas → IsAt q 1 place areas → held ≡ get_or areas place.area held → refuses access held.read_only ≡ false
+    → all_from (allows access (areas_in areas)) q (length held.bytes - place.at) ≡ true
+room_allowed access areas place held q space stands e free =
+    let here = there areas place held q 1 stands e in
+    let lies : LiesAt q place.at 1 held = rw here at stands in
+    all_from-true (allows access (areas_in areas)) q (length held.bytes - place.at) (λ p from under.
+    allowed_in access areas place.area p held space here (covers_at (seen held) p (omega (arith, lies.lies, lies.fits)) (omega (arith, lies.lies, lies.fits))) ∙ ap not free)
+
+-- it ends at or below 2^32, and has at least one byte
+pub room_ends : (areas : List HeldArea) (place : Place) (held : HeldArea) (q : ℕ) → IsSpace areas → IsAt q 1 place areas → held ≡ get_or areas place.area held
+    → (place.at + 1 ≤ length held.bytes) × (q + (length held.bytes - place.at) ≤ 2 ^ 32)
+room_ends areas place held q space stands e =
+    let here = there areas place held q 1 stands e in
+    let lies : LiesAt q place.at 1 held = rw here at stands in
+    let placed = placed_at areas place.area held space.placed.each here in
+    (lies.fits, omega (arith, lies.lies, lies.fits, placed.ends))
+
+-- an area that refuses an access
+pub room_refused : (access : Access) (areas : List HeldArea) (place : Place) (held : HeldArea) (q : ℕ) → IsSpace areas → IsAt q 1 place areas → held ≡ get_or areas place.area held → refuses access held.read_only ≡ true
+    → allows access (areas_in areas) q ≡ false
+room_refused access areas place held q space stands e refused =
+    let here = there areas place held q 1 stands e in
+    let lies : LiesAt q place.at 1 held = rw here at stands in
+    allowed_in access areas place.area q held space here (covers_at (seen held) q (omega (arith, lies.lies)) (omega (arith, lies.lies, lies.fits))) ∙ ap not refused
+
+-- the bytes of a range in two parts
+pub bytes_at-add : (m : Memory) (a n k : ℕ) → bytes_at m a (n + k) ≡ bytes_at m a n ++ bytes_at m (a + n) k
+bytes_at-add m a zero k =
+    let same : a + 0 ≡ a = omega arith in
+    let none : 0 + k ≡ k = omega arith in
+    rw (same, none)
+bytes_at-add m a (suc n) k =
+    let same : a + suc n ≡ suc a + n = omega arith in
+    let more : suc n + k ≡ suc (n + k) = omega arith in
+    rw (more, same, bytes_at-add m (suc a) n k)
+
+-- bytes written in two parts
+pub with_bytes-append : (m : Memory) (a : ℕ) (xs ys : List ℕ) → with_bytes m a (xs ++ ys) ≡ with_bytes (with_bytes m a xs) (a + length xs) ys
+with_bytes-append m a [] ys = let same : a + 0 ≡ a = omega arith in rw same
+with_bytes-append m a (x ∷ xs) ys =
+    let same : a + suc (length xs) ≡ suc a + length xs = omega arith in
+    rw same (with_bytes-append (insert m a x) (suc a) xs ys)
+
+-- a piece of a range is read from the area that has its first address
+pub piece_read : (areas : List HeldArea) (place : Place) (held : HeldArea) (address size count most done : ℕ) (into new part : List ℕ) → IsSpace areas → IsAt address 1 place areas
+    → held ≡ get_or areas place.area held → size ≡ length held.bytes → count ≡ min (size - place.at) most → part ≡ take count (drop place.at held.bytes)
+    → new ≡ put_mid done (length part) into part → new ≡ put_mid done count into (bytes_at (memory_in areas) address count)
+piece_read areas place held address size count most done into new part space stands is sized counted part_is changed =
+    let here = there areas place held address 1 stands is in
+    let lies : LiesAt address place.at 1 held = rw here at stands in
+    let same : part ≡ bytes_at (memory_in areas) address count =
+    part_is ∙ sym (bytes_at-memory_in areas place.area address place.at count held space.placed.apart here lies.lies (omega (arith, lies.fits))) in
+    changed ∙ ap (λ (p : List ℕ). put_mid done (length p) into p) same
+    ∙ ap (λ (n : ℕ). put_mid done n into (bytes_at (memory_in areas) address count)) (length-bytes_at (memory_in areas) address count)
+
+-- a range of which a piece more was read
+pub read_more : (m : Memory) (address done n : ℕ) (old new : List ℕ) → done + n ≤ length old → take done old ≡ bytes_at m address done → new ≡ put_mid done n old (bytes_at m (address + done) n)
+    → take (done + n) new ≡ bytes_at m address (done + n)
+read_more m address done n old new within front changed =
+    let counted : done + n ≡ done + length (bytes_at m (address + done) n) = omega (arith, length-bytes_at m (address + done) n) in
+    ap (take (done + n)) changed ∙ take-put_mid done n old (bytes_at m (address + done) n) (done + n) counted (omega arith)
+    ∙ ap (λ (f : List ℕ). f ++ bytes_at m (address + done) n) front ∙ sym (bytes_at-add m address done n)
+
+-- bytes of which a piece more was written
+pub written_more : (old mid new : Memory) (address done n : ℕ) (from : List ℕ) → done + n ≤ length from → mid ≡ with_bytes old address (take done from)
+    → new ≡ with_bytes mid (address + done) (take n (take (length from - done) (drop done from))) → new ≡ with_bytes old address (take (done + n) from)
+written_more old mid new address done n from within front changed =
+    let rest : take (length from - done) (drop done from) ≡ drop done from = take_rest from done in
+    let counted : length (take done from) ≡ done = omega (arith, length-take done from) in
+    let joined : take done from ++ take n (drop done from) ≡ take (done + n) from = sym (take-add done n from) in
+    changed ∙ ap (λ (r : List ℕ). with_bytes mid (address + done) (take n r)) rest ∙ ap (λ (m : Memory). with_bytes m (address + done) (take n (drop done from))) front
+    ∙ ap (λ (k : ℕ). with_bytes (with_bytes old address (take done from)) (address + k) (take n (drop done from))) (sym counted)
+    ∙ sym (with_bytes-append old address (take done from) (take n (drop done from))) ∙ ap (with_bytes old address) joined
+
+-- one area more is zero
+pub cleared_more : (old : List HeldArea) (i : ℕ) (item : HeldArea) → i < length old
+    → set (map zeroed (take i old) ++ drop i old) i (zeroed (get_or (map zeroed (take i old) ++ drop i old) i item)) ≡ map zeroed (take (suc i) old) ++ drop (suc i) old
+cleared_more [] i item below = absurd (omega arith)
+cleared_more (x ∷ xs) zero item below = refl
+cleared_more (x ∷ xs) (suc i) item below = ap (λ (rest : List HeldArea). zeroed x ∷ rest) (cleared_more xs i item (omega arith))

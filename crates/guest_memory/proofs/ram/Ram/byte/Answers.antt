@@ -1,0 +1,12 @@
+use Rattle.std.proofs.Common.{sym, ap, ◌∙◌}
+use Rattle.guest_memory.specs.Memories.{areas_at, map_at}
+use Rattle.guest_memory.proofs.MemoriesLemmas.{areas_there, map_there}
+use Rattle.guest_memory.proofs.ram.Ram.byte.Goals as goal
+
+pub returns : goal.returns
+returns c =
+    let below = rw (← c.self.view_is) at c.requires in
+    let here = rw c.from.ensures at c.index.ensures in
+    let bytes = ap (map_at c.args.p) (sym c.self.view_is) ∙ map_there c.self.inside.parts.items c.self.inside.selected c.args.p c.index.result.now below here in
+    let areas = ap (areas_at c.args.p) (sym c.self.view_is) ∙ areas_there c.self.inside.parts.items c.self.inside.selected c.args.p c.index.result.now below here in
+    record { value = rw bytes c.byte.ensures.value; none = rw areas c.byte.ensures.none }

@@ -1,0 +1,13 @@
+use Rattle.std.proofs.Common.{List, map, sym, ap, ◌∙◌, subst}
+use Rattle.std.specs.Prelude.{All}
+use Rattle.xm_conf.specs.Configuration.{Conf, Part}
+use Rattle.xm_conf.specs.declared.item.Item.TheVariants.{Whole}
+use Rattle.guest_memory.specs.Loading.{areas_of}
+use Rattle.guest_memory.specs.Memories.{ArePlaced}
+use Rattle.guest_memory.proofs.ConfigurationLemmas.{fits_placed}
+use Rattle.guest_memory.proofs.ram.parts_of.Goals as goal
+
+pub returns-clause-placed : goal.returns-clause-placed
+returns-clause-placed c =
+    let parts = c.deref.ensures.value ∙ ap (λ (conf : Conf). conf.parts) c.behind-conf.view_is ∙ ap (λ (conf : Conf). conf.parts) c.raw.ensures.value in
+    subst (λ (given : List Part). All ArePlaced (map areas_of given)) (sym parts) (fits_placed c.args.conf.now Whole c.raw.ensures.fits)

@@ -1,0 +1,85 @@
+-- The memories of all partitions, and where an access to one of them is refused.
+use Rattle.std.specs.Prelude.{◌≡◌, ◌≢◌, ℕ, zero, suc, ◌+◌, ◌%◌, ◌^◌, ◌<◌, ◌≤◌, ◌⊎◌, Bool, false, if◌then◌else◌, nat_lt, List, [], length, slice_index_or, slice_set, remove, All, AllPairs, Option, None, Some, Result, Ok, Err}
+use Rattle.std.specs.FinMap.{empty}
+use Rattle.guest_bus.specs.Memory.{Area, Memory, Others, is_readable, is_writable}
+use Rattle.guest_bus.specs.Whole.{IsMemoryOf}
+use Rattle.guest_memory.specs.declared.access.Access.{Access}
+use Rattle.guest_memory.specs.declared.access.Access.TheVariants.{Read, Write}
+use Rattle.guest_memory.specs.declared.outside.Outside.{Outside}
+
+-- the memories of all partitions by the partitions' numbers: the areas and the bytes of each, and the one that is selected
+pub record Memories : Type 0 where
+  pub areas : List (List Area)
+  pub maps : List Memory
+  pub selected : ℕ
+
+-- the areas of a partition
+abbrev pub areas_at : ℕ → Memories → List Area
+areas_at p memories = slice_index_or memories.areas p []
+
+-- the bytes of a partition by their addresses
+abbrev pub map_at : ℕ → Memories → Memory
+map_at p memories = slice_index_or memories.maps p empty
+
+-- the memories with other bytes for one partition
+abbrev pub with_map : ℕ → Memory → Memories → Memories
+with_map p memory memories = record { areas = memories.areas; maps = slice_set memories.maps p memory; selected = memories.selected }
+
+-- the memories with another partition selected
+abbrev pub with_selected : ℕ → Memories → Memories
+with_selected p memories = record { areas = memories.areas; maps = memories.maps; selected = p }
+
+-- the number of the selected partition, and the bytes of all others, in order
+abbrev pub others_of : Memories → Others
+others_of memories = (memories.selected, remove memories.maps memories.selected)
+
+-- every other partition has the bytes that it had
+abbrev pub SameElsewhere : ℕ → Memories → Memories → Type 0
+SameElsewhere p old new = (other : ℕ) → other ≢ p → map_at other new ≡ map_at other old
+
+-- one area ends before the other begins
+abbrev pub Apart : Area → Area → Type 0
+Apart a b = (a.start + a.size ≤ b.start) ⊎ (b.start + b.size ≤ a.start)
+
+-- an area is whole pages, and ends at or below 2^32
+pub record IsPlaced (area : Area) : Type 0 where
+  pub start : area.start % 4096 ≡ 0
+  pub size : area.size % 4096 ≡ 0
+  pub ends : area.start + area.size ≤ 2 ^ 32
+
+-- the areas of one partition
+pub record ArePlaced (areas : List Area) : Type 0 where
+  pub each : All IsPlaced areas
+  pub apart : AllPairs Apart areas
+
+-- memories of partitions: each has a byte at exactly the addresses of its areas
+pub record AreMemories (memories : Memories) : Type 0 where
+  pub counted : length memories.maps ≡ length memories.areas
+  pub selected : memories.selected < length memories.areas
+  pub few : length memories.areas ≤ 16
+  pub placed : All ArePlaced memories.areas
+  pub whole : (p : ℕ) → p < length memories.areas → IsMemoryOf (areas_at p memories) (map_at p memories)
+
+-- whether an access to the byte at an address is allowed
+abbrev pub allows : Access → List Area → ℕ → Bool
+allows Read areas = is_readable areas
+allows Write areas = is_writable areas
+
+-- whether an access is refused in an area that may only be read, or in one that may be written
+abbrev pub refuses : Access → Bool → Bool
+refuses Read read_only = false
+refuses Write read_only = read_only
+
+-- the first of so many addresses from one on that is not allowed
+abbrev pub first_refused : (ℕ → Bool) → ℕ → ℕ → Option ℕ
+first_refused allowed address zero = None
+first_refused allowed address (suc count) = if allowed address then first_refused allowed (suc address) count else Some address
+
+-- the fault at an address; it tells 0 for one past 2^32 - 1
+abbrev pub fault_at : ℕ → Outside
+fault_at address = record { address = if nat_lt address (2 ^ 32) then address else 0 }
+
+-- the answer of a copy, by the address that refuses it
+abbrev pub answer_by : Option ℕ → Result (Unit {0}) Outside
+answer_by None = Ok tt
+answer_by (Some address) = Err (fault_at address)
