@@ -12,3 +12,6 @@ mod space;
 
 pub use outside::Outside;
 pub use ram::Ram;
+
+#[cfg(test)]
+mod tests;
