@@ -103,6 +103,7 @@ impl Ram {
         requires { p < length self.now.areas }
         ensures value { result ≡ get (map_at p self.now) address }
         ensures none { IsNone result ↔ (is_readable (areas_at p self.now) address ≡ false) }
+        ensures memories { AreMemories self.now }
     {
         self.parts[usize::from(p)].byte(address)
     }

@@ -9,4 +9,4 @@ returns c =
     let here = rw c.from.ensures at c.index.ensures in
     let bytes = ap (map_at c.args.p) (sym c.self.view_is) ∙ map_there c.self.inside.parts.items c.self.inside.selected c.args.p c.index.result.now below here in
     let areas = ap (areas_at c.args.p) (sym c.self.view_is) ∙ areas_there c.self.inside.parts.items c.self.inside.selected c.args.p c.index.result.now below here in
-    record { value = rw bytes c.byte.ensures.value; none = rw areas c.byte.ensures.none }
+    record { value = rw bytes c.byte.ensures.value; none = rw areas c.byte.ensures.none; memories = rw (← c.self.view_is) c.self.invariant }
