@@ -1,6 +1,7 @@
 -- What a row computes with: the definitions of each part of the machine, opened where a proof opens their group.
 use Rattle.cyclic_plans.specs.PlanClock.{ended, here, in_maintenance, slot_at, started as clock_started}
 use Rattle.cyclic_plans.specs.Slots.{frame_of, slots_of}
+use Rattle.guest_memory.specs.Loading.{areas_of as part_areas, loaded as loaded_in}
 use Rattle.guest_bus.specs.Access.{loaded as value_loaded}
 use Rattle.health_monitor.specs.Monitor.{action_in, effect_of, event_of_type, is_logged}
 use Rattle.sparc_code.specs.Decoded.{decoded, format2_row, memory_row, operand, registers_row}
@@ -85,7 +86,7 @@ serving = tt
 
 -- partitions and the whole machine
 unfoldable pub running : Unit {0}
-unfolding after after_tick areas_of asked_by asks called channel_after clocked copies disarmed end_lines executed execution_looked_at happened happened_by hardware_looked_at lines_of loaded local local_of local_tick next_clock order_lines ordered ordered_told part_after reset rested sight_of_state step step_lines tick_of turn_of with_interrupts worked
+unfolding after after_tick areas_of part_areas loaded_in asked_by asks called channel_after clocked copies disarmed end_lines executed execution_looked_at happened happened_by hardware_looked_at lines_of loaded local local_of local_tick next_clock order_lines ordered ordered_told part_after reset rested sight_of_state step step_lines tick_of turn_of with_interrupts worked
 running = tt
 
 -- all of them

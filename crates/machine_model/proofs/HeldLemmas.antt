@@ -7,7 +7,7 @@ use Rattle.guest_bus.specs.Access.{access_fault, fetched, unless_refused}
 use Rattle.guest_bus.specs.Memory.{Memory, bytes_at, is_readable, with_bytes}
 use Rattle.guest_bus.specs.MemoryLemmas.{bytes_at-with_bytes, bytes_at-with_bytes_apart}
 use Rattle.xm_conf.specs.Configuration.{Part}
-use Rattle.machine_model.specs.Partition.{area_of}
+use Rattle.guest_memory.specs.Loading.{area_of}
 use Rattle.machine_model.specs.Rows.{CanHold, Holds, HoldsAll, plain, with_words}
 use Rattle.machine_model.specs.CallRows.{caller}
 use Rattle.machine_model.specs.HealthRows.{answering, raise_words, raising}

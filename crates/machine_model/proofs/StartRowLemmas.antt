@@ -13,7 +13,8 @@ use Rattle.xm_report.specs.Report.{ReportLine, ConsoleLine, EndPart, EndWhole, M
 use Rattle.xm_report.specs.declared.line.Move.TheVariants as move
 use Rattle.machine_model.specs.Lines.{report}
 use Rattle.machine_model.specs.Machine.{Machine, start}
-use Rattle.machine_model.specs.Partition.{area_of, areas_of, booted, with_zeros}
+use Rattle.guest_memory.specs.Loading.{area_of, with_zeros}
+use Rattle.machine_model.specs.Partition.{areas_of, booted}
 use Rattle.machine_model.specs.Rows.{Holds, Prints, at, plain}
 use Rattle.machine_model.specs.StartRows.{BeginsAtEntry, HaltsAfterHi, ReportsHi, StaysHalted, hi, hi_bytes}
 use Rattle.machine_model.specs.View.{view_of}

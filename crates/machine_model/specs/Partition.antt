@@ -1,18 +1,16 @@
 -- The state of one partition: how it boots, how it is reset, and what an order upon it does.
-use Rattle.std.specs.Prelude.{ℕ, ◌+◌, ◌%◌, ◌^◌, Bool, true, false, if◌then◌else◌, List, [], ◌∷◌, map, replicate, None}
-use Rattle.std.specs.FinMap.{empty}
-use Rattle.guest_bus.specs.Memory.{Area, Memory, with_bytes}
+use Rattle.std.specs.Prelude.{ℕ, ◌+◌, ◌%◌, ◌^◌, Bool, true, false, if◌then◌else◌, List, [], ◌∷◌, None}
+use Rattle.guest_bus.specs.Memory.{Area, Memory}
+use Rattle.guest_memory.specs.Loading.{areas_of as part_areas, loaded as loaded_in}
 use Rattle.sparc_step.specs.Registers.{Registers, started}
 use Rattle.virt_traps.specs.Virtual.{VirtualTraps, no_traps, raised}
 use Rattle.virt_clocks.specs.Clocks.{PartitionClocks, is_due, looked_at, no_clocks}
-use Rattle.xef_images.specs.Image.{Segment}
 use Rattle.xm_base.specs.declared.partition.Mode.{Mode}
 use Rattle.xm_base.specs.declared.partition.Mode.TheVariants.{Cold, Warm}
 use Rattle.xm_base.specs.declared.partition.Order.{Order}
 use Rattle.xm_base.specs.declared.partition.Order.TheVariants as order
 use Rattle.xm_base.specs.declared.partition.State.{State}
 use Rattle.xm_base.specs.declared.partition.State.TheVariants.{Ready, Idle, Suspended, Halted}
-use Rattle.xm_conf.specs.declared.part.Area as configured
 use Rattle.xm_ports.specs.Ports.{no_ports}
 use Rattle.xm_report.specs.declared.line.Move.{Move}
 use Rattle.xm_report.specs.declared.line.Move.TheVariants as move
@@ -56,27 +54,13 @@ queuing_port = 4
 abbrev pub slot_start : ℕ
 slot_start = 5
 
--- an area of the configuration as an area of a memory
-abbrev pub area_of : configured.Area → Area
-area_of area = record { start = area.start; size = area.size; read_only = area.read_only }
-
 -- the areas of a partition's memory
 unfoldable pub areas_of : PartitionView → List Area
-areas_of view = map area_of view.part.areas
-
--- a memory with a zero at each address of these areas
-abbrev pub with_zeros : Memory → List Area → Memory
-with_zeros memory [] = memory
-with_zeros memory (area ∷ areas) = with_zeros (with_bytes memory area.start (replicate area.size 0)) areas
-
--- a memory with the bytes of these segments, each at its address
-abbrev pub with_segments : Memory → List Segment → Memory
-with_segments memory [] = memory
-with_segments memory (segment ∷ segments) = with_segments (with_bytes memory segment.address segment.bytes) segments
+areas_of view = part_areas view.part
 
 -- a partition's memory with its image loaded and zeros in all other places
 unfoldable pub loaded : PartitionView → Memory
-loaded view = with_segments (with_zeros empty (areas_of view)) view.image.segments
+loaded view = loaded_in (areas_of view) view.image
 
 -- the memory behind a reset: a cold one loads the image anew
 abbrev pub memory_after : Mode → PartitionView → Memory → Memory

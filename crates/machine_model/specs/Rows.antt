@@ -23,7 +23,8 @@ use Rattle.xm_report.specs.Report.{ReportLine}
 use Rattle.xm_traces.specs.Ring.{nothing_kept}
 use Rattle.machine_model.specs.Lines.{end_lines, lines}
 use Rattle.machine_model.specs.Machine.{Machine, run}
-use Rattle.machine_model.specs.Partition.{PartitionState, area_of}
+use Rattle.guest_memory.specs.Loading.{area_of}
+use Rattle.machine_model.specs.Partition.{PartitionState}
 
 -- a program of these words, and then these bytes
 abbrev pub program : List ℕ → List ℕ → List ℕ
