@@ -1,3 +1,4 @@
 pub mod Held
 pub mod Loading
+pub mod LoadingLemmas
 pub mod Memories

@@ -1,13 +1,16 @@
 //! Two partitions and their memories, at the edges of their areas.
 
-ghost use Rattle.std.specs.Prelude.{◌≡◌, IfOk, IfSome, length};
+ghost use Rattle.std.specs.Prelude.{◌≡◌, ◌<◌, IfOk, IfSome, length, map};
+ghost use Rattle.guest_memory.specs.Loading.{areas_of};
 
 use crate::{Outside, Ram};
 use guest_bus::{Bus, BusFault, Size};
+use loaded_system::System;
 use std::alloc::{AllocError, Global};
 use std::process::Abort;
 use std::test::Fail;
-use xm_base::Memory;
+use xef_images::{Segment, Xef};
+use xm_base::{Memory, PartId};
 use xm_conf::{Action, Area, Conf, HmTable, Name, Part, Plan, RawConf, Region, Slot};
 
 /// The areas of the first partition: two side by side, and one behind them that may only be read.
@@ -29,12 +32,19 @@ const FIRST: [Area; 3] = [
     },
 ];
 
-/// The area of the second partition, which begins where the first partition's end.
-const SECOND: [Area; 1] = [Area {
-    start: 0x4010_3000,
-    size: 0x1000,
-    read_only: false,
-}];
+/// The areas of the second partition: one that begins where the first partition's end, and the last page of all.
+const SECOND: [Area; 2] = [
+    Area {
+        start: 0x4010_3000,
+        size: 0x1000,
+        read_only: false,
+    },
+    Area {
+        start: 0xffff_f000,
+        size: 0x1000,
+        read_only: false,
+    },
+];
 
 /// A partition with these areas.
 fn part(alloc: Global, name: Name, areas: &[Area]) -> Result<Part, AllocError> {
@@ -60,10 +70,16 @@ fn conf(alloc: Global) -> Result<Option<Conf>, AllocError>
     let (Some(first), Some(second)) = (Name::new(b"A"), Name::new(b"B")) else {
         return Ok(None);
     };
-    let region = Region {
-        start: 0x4000_0000,
-        size: 0x0040_0000,
-    };
+    let regions = [
+        Region {
+            start: 0x4000_0000,
+            size: 0x0040_0000,
+        },
+        Region {
+            start: 0xffff_f000,
+            size: 0x1000,
+        },
+    ];
     let slot = Slot {
         start: 0,
         duration: 1000,
@@ -76,7 +92,7 @@ fn conf(alloc: Global) -> Result<Option<Conf>, AllocError>
     let parts = [part(alloc, first, &FIRST)?, part(alloc, second, &SECOND)?];
     let raw = RawConf {
         name: first,
-        regions: Vec::from_array(alloc, [region])?,
+        regions: Vec::from_array(alloc, regions)?,
         hv_size: 0x1000,
         uarts: Vec::new(alloc),
         plans: Vec::from_array(alloc, [plan])?,
@@ -176,6 +192,204 @@ fn a_copy_is_refused_at_its_first_byte_that_is_not_allowed(rt: HostRuntime) -> R
             copied,
             write.map_err(|address| Outside { address }),
             "write at {address}"
+        );
+    }
+    Ok(())
+}
+
+#[test]
+fn a_range_past_the_last_address_is_refused_at_address_0(rt: HostRuntime) -> Result<(), Fail> {
+    for (address, count, answer) in [
+        (0xffff_f000, 4, Ok(())),
+        (0xffff_fffc, 4, Ok(())),
+        (0xffff_fffd, 4, Err(0)),
+        (0xffff_ffff, 4, Err(0)),
+        // Before the last page.
+        (0xffff_effe, 4, Err(0xffff_effe)),
+    ] {
+        let mut ram = ram(&rt, rt.alloc())?;
+        let mut into = [9; 4];
+        let answer = answer.map_err(|address| Outside { address });
+        assert_eq!(rt;
+            ram.copy_in(1, address, &mut into),
+            answer,
+            "read at {address}"
+        );
+        assert_eq!(rt;
+            ram.may_write(1, address, count),
+            answer.is_ok(),
+            "write at {address}"
+        );
+        assert_eq!(rt;
+            ram.copy_out(1, address, &[1, 2, 3, 4]),
+            answer,
+            "write at {address}"
+        );
+    }
+    Ok(())
+}
+
+/// A value whose eight bytes differ, and what is there when it was stored in a size: the value that a load of this
+/// size gives, and all eight bytes from the address on.
+const STORED: [(Size, u64, u64); 4] = [
+    (Size::One, 0x88, 0x8800_0000_0000_0000),
+    (Size::Two, 0x7788, 0x7788_0000_0000_0000),
+    (Size::Four, 0x5566_7788, 0x5566_7788_0000_0000),
+    (Size::Eight, 0x1122_3344_5566_7788, 0x1122_3344_5566_7788),
+];
+
+#[test]
+fn a_store_writes_the_low_bytes_the_highest_first(rt: HostRuntime) -> Result<(), Fail> {
+    for (size, value, eight) in STORED {
+        let mut ram = ram(&rt, rt.alloc())?;
+        let bytes = size.bytes();
+        assert_eq!(rt; ram.store(0x4010_0ff8, size, 0x1122_3344_5566_7788), Ok(()));
+        assert_eq!(rt; ram.load(0x4010_0ff8, size), Ok(value), "{bytes} bytes");
+        assert_eq!(rt;
+            ram.load(0x4010_0ff8, Size::Eight),
+            Ok(eight),
+            "{bytes} bytes"
+        );
+        assert_eq!(rt;
+            ram.fetch(0x4010_0ff8),
+            Ok((eight >> 32) as u32),
+            "{bytes} bytes"
+        );
+        // The bytes before and behind, which are the next area's.
+        assert_eq!(rt;
+            ram.load(0x4010_0ff0, Size::Eight),
+            Ok(0),
+            "before {bytes} bytes"
+        );
+        assert_eq!(rt;
+            ram.load(0x4010_1000, Size::Eight),
+            Ok(0),
+            "behind {bytes} bytes"
+        );
+    }
+    Ok(())
+}
+
+#[test]
+fn a_partition_has_bytes_in_its_areas_alone(rt: HostRuntime) -> Result<(), Fail> {
+    let ram = ram(&rt, rt.alloc())?;
+    for (p, address, byte) in [
+        (0, 0x400f_ffff, None),
+        (0, 0x4010_0000, Some(0)),
+        (0, 0x4010_1000, Some(0)),
+        // The area that may only be read.
+        (0, 0x4010_2fff, Some(0)),
+        (0, 0x4010_3000, None),
+        (0, 0xffff_ffff, None),
+        (1, 0x4010_2fff, None),
+        (1, 0x4010_3000, Some(0)),
+        (1, 0x4010_3fff, Some(0)),
+        (1, 0x4010_4000, None),
+        (1, 0xffff_efff, None),
+        (1, 0xffff_ffff, Some(0)),
+    ] {
+        let p: PartId = p & 1;
+        assert_eq!(rt; ram.byte(p, address), byte, "partition {p} at {address}");
+    }
+    Ok(())
+}
+
+/// Writes bytes, and tells whether that was allowed.
+fn put(ram: &mut Ram, p: PartId, address: u32, from: &[u8]) -> bool
+    requires { p < length ram.old.areas }
+    ensures areas { ram.new.areas ≡ ram.old.areas }
+{
+    match ram.copy_out(p, address, from) {
+        Ok(()) => true,
+        Err(_) => false,
+    }
+}
+
+#[test]
+fn a_processor_sees_the_selected_partition_alone(rt: HostRuntime) -> Result<(), Fail> {
+    for (p, first, second) in [
+        (0, Ok(0x0102_0304), Err(BusFault::Outside)),
+        (1, Err(BusFault::Outside), Ok(0x0506_0708)),
+    ] {
+        let mut ram = ram(&rt, rt.alloc())?;
+        assert!(rt; put(&mut ram, 0, 0x4010_0000, &[1, 2, 3, 4]));
+        assert!(rt; put(&mut ram, 1, 0x4010_3000, &[5, 6, 7, 8]));
+        ram.select(p & 1);
+        // What is written by a partition's number stands there for this one alone.
+        assert!(rt; put(&mut ram, 1, 0x4010_3004, &[9]));
+        assert_eq!(rt; ram.byte(0, 0x4010_0000), Some(1));
+        assert_eq!(rt; ram.byte(0, 0x4010_0004), Some(0));
+        assert_eq!(rt; ram.byte(1, 0x4010_3004), Some(9));
+        assert_eq!(rt; ram.load(0x4010_0000, Size::Four), first, "partition {p}");
+        assert_eq!(rt; ram.load(0x4010_3000, Size::Four), second, "partition {p}");
+    }
+    Ok(())
+}
+
+/// A segment of eight bytes that begins with these.
+fn segment(alloc: Global, address: u32, bytes: &[u8]) -> Result<Segment, AllocError> {
+    Ok(Segment {
+        address,
+        memory: 8,
+        bytes: Vec::from_slice(alloc, bytes)?,
+    })
+}
+
+/// The system of the two partitions. The image of the first one has a segment in the area that may only be read, too.
+fn system(rt: &impl Abort, alloc: Global) -> Result<System, Memory>
+    ensures { IfOk result (λ system. length system.conf.parts ≡ 2) }
+{
+    let conf = conf(alloc)?.expect(rt, "a configuration");
+    let first = [
+        segment(alloc, 0x4010_0000, &[1, 2, 3, 4, 5])?,
+        segment(alloc, 0x4010_2ff8, &[6])?,
+    ];
+    let second = [segment(alloc, 0x4010_3000, &[7])?];
+    let images = [
+        Xef::new(0x4010_0000, Vec::from_array(alloc, first)?).expect(rt, "an image"),
+        Xef::new(0x4010_3000, Vec::from_array(alloc, second)?).expect(rt, "an image"),
+    ];
+    let system = System::new(conf, Vec::from_array(alloc, images)?);
+    Ok(system.ok().expect(rt, "a system"))
+}
+
+/// Loads the image of a partition.
+fn reload(ram: &mut Ram, system: &System, p: PartId)
+    requires areas { ram.old.areas ≡ map areas_of system.now.conf.parts }
+    requires partition { p < length system.now.conf.parts }
+    ensures areas { ram.new.areas ≡ ram.old.areas }
+{
+    ram.reload(p, system.image(p));
+}
+
+#[test]
+fn a_reload_leaves_the_image_and_zeros(rt: HostRuntime) -> Result<(), Fail> {
+    let system = system(&rt, rt.alloc())?;
+    let mut ram = Ram::new(rt.alloc(), system.conf())?;
+    assert!(rt; put(&mut ram, 0, 0x4010_0000, &[9; 16]));
+    assert!(rt; put(&mut ram, 0, 0x4010_1ffc, &[9; 4]));
+    assert!(rt; put(&mut ram, 1, 0x4010_3000, &[9; 16]));
+    reload(&mut ram, &system, 0);
+    for (p, address, byte) in [
+        (0, 0x4010_0000, 1),
+        (0, 0x4010_0004, 5),
+        // Behind the bytes of a segment, and behind the segment.
+        (0, 0x4010_0005, 0),
+        (0, 0x4010_0008, 0),
+        // The next area, which has no segment.
+        (0, 0x4010_1fff, 0),
+        // The area that may only be read.
+        (0, 0x4010_2ff8, 6),
+        (0, 0x4010_2ff9, 0),
+        // The other partition.
+        (1, 0x4010_3000, 9),
+        (1, 0x4010_300f, 9),
+    ] {
+        let p: PartId = p & 1;
+        assert_eq!(rt;
+            ram.byte(p, address),
+            Some(byte),
+            "partition {p} at {address}"
         );
     }
     Ok(())
