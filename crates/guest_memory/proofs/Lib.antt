@@ -4,4 +4,5 @@ pub mod HeldLemmas
 pub mod MemoriesLemmas
 pub mod RangeLemmas
 pub mod SegmentLemmas
+pub mod TestLemmas
 pub mod WriteLemmas

@@ -255,7 +255,7 @@ fn a_store_writes_the_low_bytes_the_highest_first(rt: HostRuntime) -> Result<(),
             Ok((eight >> 32) as u32),
             "{bytes} bytes"
         );
-        // The bytes before and behind, which are the next area's.
+        // The bytes before, and those behind, which are the next area's.
         assert_eq!(rt;
             ram.load(0x4010_0ff0, Size::Eight),
             Ok(0),
@@ -322,6 +322,33 @@ fn a_processor_sees_the_selected_partition_alone(rt: HostRuntime) -> Result<(), 
         assert_eq!(rt; ram.byte(1, 0x4010_3004), Some(9));
         assert_eq!(rt; ram.load(0x4010_0000, Size::Four), first, "partition {p}");
         assert_eq!(rt; ram.load(0x4010_3000, Size::Four), second, "partition {p}");
+    }
+    Ok(())
+}
+
+/// Stores a word of ones for the selected partition. Where that is allowed, it gives a byte of the first partition.
+fn first_after_store(ram: &mut Ram, address: u32, seen: u32) -> Option<u8> {
+    match ram.store(address, Size::Four, 0xffff_ffff) {
+        Ok(()) => ram.byte(0, seen),
+        Err(_) => None,
+    }
+}
+
+#[test]
+fn a_store_changes_the_selected_partition_alone(rt: HostRuntime) -> Result<(), Fail> {
+    for (p, address, byte) in [
+        (0, 0x4010_0000, Some(0xff)),
+        (1, 0x4010_3000, Some(1)),
+        (1, 0xffff_fffc, Some(1)),
+        // An address of the other partition.
+        (0, 0x4010_3000, None),
+        (1, 0x4010_0000, None),
+    ] {
+        let mut ram = ram(&rt, rt.alloc())?;
+        assert!(rt; put(&mut ram, 0, 0x4010_0000, &[1, 2, 3, 4]));
+        ram.select(p & 1);
+        let first = first_after_store(&mut ram, address, 0x4010_0000);
+        assert_eq!(rt; first, byte, "partition {p} stores at {address}");
     }
     Ok(())
 }
