@@ -139,6 +139,14 @@ fn each_tool_has_its_words(rt: HostRuntime) -> Result<(), Fail> {
     Ok(())
 }
 
+// Puts words behind the others.
+fn push_all(words: &mut Words, texts: &[&str]) -> Result<(), Fail> {
+    for text in texts {
+        words.push(text)?;
+    }
+    Ok(())
+}
+
 // Whether these are the files for partitions, in this order.
 fn are(files: PartFiles<'_>, wanted: &[(u8, &str)]) -> bool {
     let mut rest = files;
@@ -184,12 +192,8 @@ fn a_container_is_packed_of_files_for_partitions(rt: HostRuntime) -> Result<(), 
     ];
     for (texts, wanted) in cases {
         let mut words = Words::new(rt.alloc());
-        for word in ["xmpack", "build", "x", "o"] {
-            words.push(word)?;
-        }
-        for text in texts {
-            words.push(text)?;
-        }
+        push_all(&mut words, &["xmpack", "build", "x", "o"])?;
+        push_all(&mut words, texts)?;
         let right = match (command(&words), wanted) {
             (
                 Some(
