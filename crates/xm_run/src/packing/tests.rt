@@ -35,6 +35,19 @@ fn store(alloc: Global, fails: &[u64]) -> Result<MemStore, Fail> {
     Ok(files)
 }
 
+// The words that pack a configuration and images.
+fn packing<'a>(
+    alloc: Global,
+    configuration: &'a str,
+    images: &[&'a str],
+) -> Result<Vec<&'a str>, Fail> {
+    let mut texts = Vec::from_array(alloc, ["build", configuration, "duo.xmp"])?;
+    for image in images {
+        texts.push(*image)?;
+    }
+    Ok(texts)
+}
+
 // Calls the program with `xmpack` and these words.
 fn call(
     alloc: Global,
@@ -184,13 +197,7 @@ fn the_first_refusal_is_told_with_its_file(rt: HostRuntime) -> Result<(), Fail> 
     for (configuration, images, status, line) in cases {
         let mut files = store(alloc, &[])?;
         files.put("cut.xef", first_image().get(..50).unwrap_or(b""))?;
-        let mut texts = Vec::new(alloc);
-        for text in ["build", configuration, "duo.xmp"] {
-            texts.push(text)?;
-        }
-        for image in images {
-            texts.push(*image)?;
-        }
+        let texts = packing(alloc, configuration, images)?;
         refuses(&rt, alloc, &texts, &mut files, status, line)?;
     }
     Ok(())
