@@ -19,9 +19,15 @@ Memory = FinMap nat_cmp ℕ
 abbrev pub memory_code : Coded Memory
 memory_code = code coded_ℕ coded_ℕ
 
--- the number of a guest, and the memories of all others
-abbrev pub Others : Type 0
-Others = ℕ × List Memory
+-- the number of a guest, and the areas and the memories of all others, in order
+pub record Others : Type 0 where
+  pub number : ℕ
+  pub areas : List (List Area)
+  pub memories : List Memory
+
+-- a guest without others
+abbrev pub no_others : Others
+no_others = record { number = 0; areas = []; memories = [] }
 
 -- the area holds the address
 abbrev pub covers : ℕ → Area → Bool

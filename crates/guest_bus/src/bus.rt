@@ -46,7 +46,7 @@ pub trait Bus {
     /// The bytes of the areas by their addresses: one at each address of an area, and nothing elsewhere.
     ghost memory: { Self → Memory };
 
-    /// The number of this guest, and the memories of all others, which no call changes.
+    /// The number of this guest, and the areas and the memories of all others, which no call changes.
     ghost others: { Self → Others };
 
     /// The instruction word at the address.

@@ -64,7 +64,9 @@ remove-set {X} (y ∷ xs) (suc i) x = ap (λ (rest : List X). y ∷ rest) (remov
 
 -- the bytes of all others
 pub others-with_map : (memories : Memories) (memory : Memory) → others_of (with_map memories.selected memory memories) ≡ others_of memories
-others-with_map memories memory = ap (λ (maps : List Memory). (memories.selected, maps)) (remove-set memories.maps memories.selected memory)
+others-with_map memories memory =
+    ap (λ (maps : List Memory). record { number = memories.selected; areas = remove memories.areas memories.selected; memories = maps })
+    (remove-set memories.maps memories.selected memory)
 
 -- memories of which one was changed, as they are kept
 pub kept_set : (spaces : List (List HeldArea)) (selected p : ℕ) (old new : List HeldArea) → AreMemories (memories_of spaces selected) → p < length (map areas_in spaces) → old ≡ get_or spaces p old → areas_in new ≡ areas_in old

@@ -16,6 +16,11 @@ use Rattle.guest_memory.specs.declared.find.Place.{Place}
 use Rattle.guest_memory.proofs.AccessLemmas.{placed_at, writable_at, writable_readable}
 use Rattle.guest_memory.proofs.HeldLemmas.{bytes_at-memory_in, covers_at, readable_at, there}
 
+-- twice not
+pub not_not : (b : Bool) → not (not b) ≡ b
+not_not true = refl
+not_not false = refl
+
 -- behind addresses that all are allowed the first refused is that of the rest
 pub first_refused-on : (allowed : ℕ → Bool) (address piece left : ℕ) → all_from allowed address piece ≡ true → piece ≤ left → first_refused allowed (address + piece) (left - piece) ≡ first_refused allowed address left
 first_refused-on allowed address zero left all within =

@@ -2,3 +2,5 @@ pub mod Held
 pub mod Loading
 pub mod LoadingLemmas
 pub mod Memories
+pub mod SelectedLemmas
+pub mod RefusedLemmas

@@ -29,9 +29,13 @@ with_map p memory memories = record { areas = memories.areas; maps = slice_set m
 abbrev pub with_selected : ℕ → Memories → Memories
 with_selected p memories = record { areas = memories.areas; maps = memories.maps; selected = p }
 
--- the number of the selected partition, and the bytes of all others, in order
+-- the number of the selected partition, and the areas and the bytes of all others, in order
 abbrev pub others_of : Memories → Others
-others_of memories = (memories.selected, remove memories.maps memories.selected)
+others_of memories = record {
+  number = memories.selected;
+  areas = remove memories.areas memories.selected;
+  memories = remove memories.maps memories.selected;
+}
 
 -- every other partition has the bytes that it had
 abbrev pub SameElsewhere : ℕ → Memories → Memories → Type 0

@@ -59,6 +59,14 @@ impl Ram {
         self.selected = p;
     }
 
+    /// The partition whose memory a processor sees.
+    pub fn selected(&self) -> PartId
+        ensures value { result ≡ self.now.selected }
+        ensures memories { AreMemories self.now }
+    {
+        self.selected
+    }
+
     /// Copies bytes of a partition's memory from an address on, where all of them may be read.
     pub fn copy_in(&self, p: PartId, address: u32, into: &mut [u8]) -> Result<(), Outside>
         requires { p < length self.now.areas }
@@ -78,6 +86,14 @@ impl Ram {
         ensures others { SameElsewhere p self.old self.new }
     {
         self.parts[usize::from(p)].copy_out(address, from)
+    }
+
+    /// Whether so many bytes of a partition's memory from an address on may be read.
+    pub fn may_read(&self, p: PartId, address: u32, size: u32) -> bool
+        requires { p < length self.now.areas }
+        ensures value { result ≡ all_from (is_readable (areas_at p self.now)) address size }
+    {
+        self.parts[usize::from(p)].may_read(address, size)
     }
 
     /// Whether so many bytes of a partition's memory from an address on may be written.

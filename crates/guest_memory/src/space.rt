@@ -128,6 +128,13 @@ impl Space {
         }
     }
 
+    /// Whether so many bytes from an address on may be read.
+    pub(crate) fn may_read(&self, address: u32, size: u32) -> bool
+        ensures value { result ≡ all_from (is_readable (areas_in self.now)) address size }
+    {
+        refused(&self.areas, Access::Read, address, size as usize).is_none()
+    }
+
     /// Whether so many bytes from an address on may be written.
     pub(crate) fn may_write(&self, address: u32, size: u32) -> bool
         ensures value { result ≡ all_from (is_writable (areas_in self.now)) address size }

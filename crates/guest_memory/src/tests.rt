@@ -183,6 +183,11 @@ fn a_copy_is_refused_at_its_first_byte_that_is_not_allowed(rt: HostRuntime) -> R
             "read at {address}"
         );
         assert_eq!(rt;
+            ram.may_read(0, address, 4),
+            read.is_ok(),
+            "read at {address}"
+        );
+        assert_eq!(rt;
             ram.may_write(0, address, 4),
             write.is_ok(),
             "write at {address}"
@@ -315,6 +320,7 @@ fn a_processor_sees_the_selected_partition_alone(rt: HostRuntime) -> Result<(), 
         assert!(rt; put(&mut ram, 0, 0x4010_0000, &[1, 2, 3, 4]));
         assert!(rt; put(&mut ram, 1, 0x4010_3000, &[5, 6, 7, 8]));
         ram.select(p & 1);
+        assert_eq!(rt; ram.selected(), p);
         // What is written by a partition's number stands there for this one alone.
         assert!(rt; put(&mut ram, 1, 0x4010_3004, &[9]));
         assert_eq!(rt; ram.byte(0, 0x4010_0000), Some(1));

@@ -4,7 +4,7 @@ ghost use Rattle.std.specs.Prelude.{◌≡◌, ◌+◌, ◌<◌, ◌≤◌, ◌�
 ghost use Rattle.std.specs.Int.{byte_len, from_be_bytes, to_be_bytes, w16, w32, w64};
 ghost use borrow.Rule.Slice.PartMut.{put_mid};
 ghost use Rattle.guest_bus.specs.Access.{Stores, after_store, fetched, loaded, store_fault, width_of};
-ghost use Rattle.guest_bus.specs.Memory.{all_from, is_readable, memory_of};
+ghost use Rattle.guest_bus.specs.Memory.{all_from, is_readable, memory_of, no_others};
 ghost use Rattle.guest_bus.specs.Whole.{IsMemoryOf};
 ghost use Rattle.sparc_vectors.specs.Area.{Places, vector_areas};
 
@@ -81,7 +81,7 @@ impl Bus for VectorMemory {
 
     ghost memory = { λ m. m };
 
-    ghost others = { λ _. (0, []) };
+    ghost others = { λ _. no_others };
 
     fn fetch(&mut self, address: u32) -> Result<u32, BusFault> {
         fetch_word(&self.bytes, address)

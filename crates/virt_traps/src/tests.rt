@@ -4,7 +4,7 @@ ghost use Rattle.std.specs.Prelude.{◌≡◌, ◌+◌, ◌<◌, ◌≤◌, ◌�
 ghost use Rattle.std.specs.Int.{byte_len, from_be_bytes, to_be_bytes, w8, w16, w32, w64};
 ghost use borrow.Rule.Slice.PartMut.{put_mid};
 ghost use Rattle.guest_bus.specs.Access.{Stores, after_store, fetched, loaded, store_fault, width_of};
-ghost use Rattle.guest_bus.specs.Memory.{all_from, is_readable, memory_of};
+ghost use Rattle.guest_bus.specs.Memory.{all_from, is_readable, memory_of, no_others};
 ghost use Rattle.guest_bus.specs.Whole.{IsMemoryOf};
 ghost use Rattle.virt_traps.specs.TestStack.{Places, stack_areas, stack_bytes, stack_start};
 
@@ -30,7 +30,7 @@ impl Bus for Stack {
 
     ghost memory = { λ m. memory_of stack_start m.bytes };
 
-    ghost others = { λ _. (0, []) };
+    ghost others = { λ _. no_others };
 
     #[tactic(auto, unfolding(crate::specs::TestStack::stack_bytes))]
     fn fetch(&mut self, address: u32) -> Result<u32, BusFault> {

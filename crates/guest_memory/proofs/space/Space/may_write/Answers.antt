@@ -1,13 +1,8 @@
-use Rattle.std.proofs.Common.{◌≡◌, ℕ, Bool, true, false, not, Option, is_some, refl, sym, ap, ◌∙◌}
+use Rattle.std.proofs.Common.{ℕ, not, Option, is_some, sym, ap, ◌∙◌}
 use Rattle.guest_bus.specs.Memory.{is_writable}
 use Rattle.guest_memory.specs.Held.{areas_in}
-use Rattle.guest_memory.proofs.RangeLemmas.{all_from-none}
+use Rattle.guest_memory.proofs.RangeLemmas.{all_from-none, not_not}
 use Rattle.guest_memory.proofs.space.Space.may_write.Goals as goal
-
--- twice not
-not_not : (b : Bool) → not (not b) ≡ b
-not_not true = refl
-not_not false = refl
 
 pub returns : goal.returns
 returns c =
