@@ -1,6 +1,6 @@
 //! The clocks of one partition.
 
-ghost use Rattle.std.specs.Prelude.{◌≡◌, ◌↔◌, ℕ, ◌+◌, ◌^◌, ◌<◌, ◌<ℤ◌, ◌⊎◌, pos, unsigned_abs, IfSome, IsErr, IsNone, OnErr, OnOk};
+ghost use Rattle.std.specs.Prelude.{◌≡◌, ◌↔◌, ℕ, ◌+◌, ◌^◌, ◌<◌, ◌<ℤ◌, ◌⊎◌, None, pos, unsigned_abs, IfSome, IsErr, IsNone, OnErr, OnOk};
 ghost use Rattle.virt_clocks.specs.Clocks.{AreTimers, IsFirstDue, NoneCounted, armed, counted, is_due, lesser, looked_at, next_due, no_clocks, ticks_until, timer_of, with_timer};
 
 use crate::timer::{
@@ -81,6 +81,22 @@ impl Clocks {
         ensures value { self.new ≡ record self.old { execution = self.old.execution + 1 } }
     {
         self.execution += 1;
+    }
+
+    /// Counts ticks in which the partition ran.
+    pub fn pass_many(&mut self, ticks: u64)
+        requires { self.old.execution + ticks < 2 ^ 64 }
+        ensures value { self.new ≡ record self.old { execution = self.old.execution + ticks } }
+    {
+        self.execution += ticks;
+    }
+
+    /// Disarms both timers.
+    pub fn disarm(&mut self)
+        ensures value { self.new ≡ record self.old { hardware_timer = None; execution_timer = None } }
+    {
+        self.hardware_timer = None;
+        self.execution_timer = None;
     }
 
     /// Whether the timer on the hardware clock is due. If so, it is moved on or disarmed.

@@ -167,3 +167,19 @@ fn the_next_timer_is_the_one_with_fewer_ticks_left(rt: HostRuntime) {
         );
     }
 }
+
+#[tactic(auto, unfolding(crate::specs::Clocks::no_clocks))]
+#[test]
+fn ticks_are_counted_at_once_and_timers_disarmed(rt: HostRuntime) {
+    let mut clocks = Clocks::new();
+    clocks.pass_many(42);
+    assert_eq!(rt; clocks.set_timer(Clock::Hw, 10, 4), Ok(()));
+    assert_eq!(rt; clocks.exec(), 42);
+    assert_eq!(rt; clocks.set_timer(Clock::Exec, 50, 0), Ok(()));
+    clocks.disarm();
+    assert_eq!(rt;
+        (clocks.timer(Clock::Hw), clocks.timer(Clock::Exec)),
+        (None, None)
+    );
+    assert_eq!(rt; clocks.exec(), 42);
+}
