@@ -1,0 +1,65 @@
+-- Steps of a processor, one after another.
+use Rattle.std.proofs.Common.{◌≡◌, ℕ, suc, List, sym, ap, ◌∙◌, subst}
+use Rattle.guest_bus.specs.Memory.{Area, Memory, Others}
+use Rattle.guest_memory.specs.Memories.{AreMemories, Memories, areas_at, map_at, others_of, with_map, with_selected}
+use Rattle.guest_memory.specs.SelectedLemmas.{changed_selected}
+use Rattle.machine_model.specs.Partition.{PartitionState}
+use Rattle.sparc_step.specs.Execution.{Turned}
+use Rattle.sparc_step.specs.Registers.{Registers}
+use Rattle.sparc_step.specs.declared.outcome.Turn.{Turn}
+use Rattle.sparc_step.specs.declared.outcome.Turn.TheVariants.{Went}
+use Rattle.slot_runs.specs.Stepping.{stepped, then_settled}
+use Rattle.virt_traps.specs.Settled.{settled}
+use Rattle.hypercalls.specs.Stepping.{IsGone, with_turned}
+
+-- behind a step that went, one more is settled
+then_is : (t : Turned) (areas : List Area) → t.turn ≡ Went → then_settled t.turn areas t ≡ settled areas t.core t.memory
+then_is t areas went = ap (λ (turn : Turn). then_settled turn areas t) went
+
+-- so many steps that all went
+pub record AreSteps (count : ℕ) (areas : List Area) (core : Registers) (memory : Memory) (after : Registers) (new : Memory) : Type 0 where
+  pub went : (stepped count areas core memory).turn ≡ Went
+  pub registers : after ≡ (stepped count areas core memory).core
+  pub bytes : new ≡ (stepped count areas core memory).memory
+
+-- what the next one comes to
+pub next_step : (count : ℕ) (areas here : List Area) (core after : Registers) (memory new : Memory) → here ≡ areas → AreSteps count areas core memory after new → settled here after new ≡ stepped (suc count) areas core memory
+next_step count areas here core after memory new same steps =
+    let t = stepped count areas core memory in
+    ap (λ (a : List Area). settled a after new) same
+    ∙ ap (λ (r : Registers). settled areas r new) steps.registers ∙ ap (λ (m : Memory). settled areas t.core m) steps.bytes
+    ∙ sym (then_is t areas steps.went)
+
+-- one more that went
+pub one_step_more : (count next : ℕ) (areas here : List Area) (core after last : Registers) (memory new newest : Memory) (turn : Turn) → next ≡ suc count → here ≡ areas → AreSteps count areas core memory after new → turn ≡ Went → turn ≡ (settled here after new).turn → last ≡ (settled here after new).core → newest ≡ (settled here after new).memory
+    → AreSteps next areas core memory last newest
+one_step_more count next areas here core after last memory new newest turn next_is same steps went turn_is last_is newest_is =
+    let one = next_step count areas here core after memory new same steps in
+    subst (λ (n : ℕ). AreSteps n areas core memory last newest) (sym next_is) (record {
+      went = sym (ap (λ (x : Turned). x.turn) one) ∙ sym turn_is ∙ went;
+      registers = last_is ∙ ap (λ (x : Turned). x.core) one;
+      bytes = newest_is ∙ ap (λ (x : Turned). x.memory) one;
+    })
+
+-- what steps leave of all memories, where partition p was selected for them
+pub selected_changed : (p : ℕ) (old mid new : Memories) → mid ≡ with_selected p old → AreMemories mid → AreMemories new → others_of new ≡ others_of mid → areas_at new.selected new ≡ areas_at mid.selected mid → new ≡ with_selected p (with_map p (map_at p new) old)
+selected_changed p old mid new is were are same areas_same =
+    let number : new.selected ≡ p = ap (λ (o : Others). o.number) same ∙ ap (λ (m : Memories). m.selected) is in
+    changed_selected mid new were are same areas_same
+    ∙ ap (λ (k : ℕ). with_map mid.selected (map_at k new) mid) number
+    ∙ ap (λ (m : Memories). with_map m.selected (map_at p new) m) is
+
+-- what steps came to, of a partition as it is seen
+pub gone_seen : (turn : Turn) (went most : ℕ) (here areas : List Area) (before after seen_before seen_after : PartitionState) → here ≡ areas → seen_before ≡ before → seen_after ≡ after
+    → IsGone turn went most here (stepped went here before.core before.memory) after.core after.memory → IsGone turn went most areas (stepped went areas seen_before.core seen_before.memory) seen_after.core seen_after.memory
+gone_seen turn went most here areas before after seen_before seen_after same before_is after_is gone =
+    subst (λ (x : PartitionState). IsGone turn went most areas (stepped went areas seen_before.core seen_before.memory) x.core x.memory) (sym after_is)
+    (subst (λ (x : PartitionState). IsGone turn went most areas (stepped went areas x.core x.memory) after.core after.memory) (sym before_is)
+    (subst (λ (a : List Area). IsGone turn went most a (stepped went a before.core before.memory) after.core after.memory) same gone))
+
+-- what they leave of it
+pub turned_seen : (before after seen_before seen_after : PartitionState) → seen_before ≡ before → seen_after ≡ after → after ≡ with_turned after.core after.memory before → after ≡ with_turned seen_after.core seen_after.memory seen_before
+turned_seen before after seen_before seen_after before_is after_is turned =
+    turned
+    ∙ ap (λ (x : PartitionState). with_turned x.core x.memory before) (sym after_is)
+    ∙ ap (λ (x : PartitionState). with_turned seen_after.core seen_after.memory x) (sym before_is)

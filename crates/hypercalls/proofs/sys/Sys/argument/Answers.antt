@@ -1,0 +1,12 @@
+use Rattle.std.proofs.Common.{arith}
+use Rattle.hypercalls.proofs.InsideLemmas.{is_kept, is_part}
+use Rattle.hypercalls.proofs.sys.Sys.argument.Goals as goal
+
+pub index-requires : goal.index-requires
+index-requires c = omega (arith, c.from.ensures, is_kept c.self.inside c.args.self.now c.args.p c.self.invariant c.self.view_is c.requires.partition)
+
+pub returns : goal.returns
+returns c =
+    let here = rw c.from.ensures at c.index.ensures in
+    let part = is_part c.self.inside c.args.self.now c.args.p c.index.result.now c.self.invariant c.self.view_is c.requires.partition here in
+    rw (part, ← c.behind-self.view_is) (record { value = c.get.ensures.value })

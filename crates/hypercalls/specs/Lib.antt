@@ -1,0 +1,4 @@
+pub mod Serving
+pub mod ServingLemmas
+pub mod State
+pub mod Stepping

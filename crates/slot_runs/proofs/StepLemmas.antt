@@ -1,0 +1,75 @@
+-- Instructions of a partition that only go, one a tick.
+use Rattle.std.proofs.Common.{◌≡◌, ℕ, suc, ◌+◌, false, List, [], Option, refl, sym, ap, ◌∙◌, arith}
+use Rattle.std.proofs.Math.Nat.{add-zero}
+use Rattle.guest_bus.specs.Memory.{Area, Memory}
+use Rattle.sparc_step.specs.Execution.{Turned}
+use Rattle.sparc_step.specs.Registers.{Registers}
+use Rattle.sparc_step.specs.declared.outcome.Turn.{Turn}
+use Rattle.sparc_step.specs.declared.outcome.Turn.TheVariants.{Went, Trap, Call}
+use Rattle.virt_traps.specs.Settled.{settled}
+use Rattle.xm_ports.specs.Channels.{Content}
+use Rattle.machine_model.specs.Health.{quiet}
+use Rattle.machine_model.specs.LocalTick.{by_turn, clocked, executed, turned_state}
+use Rattle.machine_model.specs.Partition.{PartitionState, areas_of}
+use Rattle.machine_model.specs.Told.{Sight}
+use Rattle.machine_model.specs.View.{PartitionView}
+use Rattle.slot_runs.specs.Built.{is_unbuilt, is_unbuilt_turn}
+use Rattle.slot_runs.specs.Laws.{Executes, HasGone}
+use Rattle.slot_runs.specs.Parts.{gone_on}
+use Rattle.slot_runs.specs.Stepping.{stepped, then_settled}
+
+-- where a step more only went, all before it only went
+went_before : (t : Turned) (areas : List Area) → (then_settled t.turn areas t).turn ≡ Went → t.turn ≡ Went
+went_before t areas went = at t.turn refl went
+  where
+    at : (turn : Turn) → t.turn ≡ turn → (then_settled turn areas t).turn ≡ Went → t.turn ≡ Went
+    at Went is went = is
+    at (Trap type) is went = went
+    at Call is went = went
+
+-- where one instruction more only went, so did those before it
+pub gone_before : (k : ℕ) (view : PartitionView) (ps : PartitionState) → HasGone (suc k) view ps → HasGone k view ps
+gone_before k view ps gone = went_before (stepped k (areas_of view) ps.core ps.memory) (areas_of view) gone
+
+-- the step behind steps that only went
+settled_next : (k : ℕ) (areas : List Area) (core : Registers) (memory : Memory) → (stepped k areas core memory).turn ≡ Went
+    → settled areas (stepped k areas core memory).core (stepped k areas core memory).memory ≡ stepped (suc k) areas core memory
+settled_next k areas core memory went = ap (λ turn. then_settled turn areas (stepped k areas core memory)) (sym went)
+
+-- no instruction yet
+pub gone_none : (areas : List Area) (ps : PartitionState) → gone_on 0 areas ps ≡ ps
+gone_none areas ps = rw (add-zero ps.clocks.execution) refl
+
+-- an instruction that only goes
+executed_went : (view : PartitionView) (contents : List (Option Content)) (time : ℕ) (sight : Sight) (ps : PartitionState) (t : Turned)
+    → settled (areas_of view) ps.core ps.memory ≡ t → t.turn ≡ Went → executed view contents time sight ps ≡ quiet (clocked (turned_state t ps))
+unfolding executed
+executed_went view contents time sight ps t is went =
+    ap (λ (s : Turned). by_turn s.turn view contents time sight ps (turned_state s ps)) is
+    ∙ ap (λ turn. by_turn turn view contents time sight ps (turned_state t ps)) went
+
+-- it adds a step and a tick
+goes_further : (k : ℕ) (areas : List Area) (ps : PartitionState) → clocked (turned_state (stepped (suc k) areas ps.core ps.memory) (gone_on k areas ps)) ≡ gone_on (suc k) areas ps
+unfolding clocked
+goes_further k areas ps =
+    let same : ps.clocks.execution + k + 1 ≡ ps.clocks.execution + suc k = omega arith in
+    rw same refl
+
+-- the instruction behind so many that went, where it only goes, too
+pub next_goes : (k : ℕ) (view : PartitionView) (ps : PartitionState) → HasGone (suc k) view ps
+    → Executes view (gone_on k (areas_of view) ps) (gone_on (suc k) (areas_of view) ps) []
+next_goes k view ps gone = λ contents time sight.
+    executed_went view contents time sight (gone_on k (areas_of view) ps) (stepped (suc k) (areas_of view) ps.core ps.memory)
+    (settled_next k (areas_of view) ps.core ps.memory (gone_before k view ps gone)) gone
+    ∙ ap quiet (goes_further k (areas_of view) ps)
+
+-- an instruction that only goes is built
+built_went : (view : PartitionView) (ps : PartitionState) (t : Turned) → settled (areas_of view) ps.core ps.memory ≡ t → t.turn ≡ Went → is_unbuilt view ps ≡ false
+unfolding is_unbuilt
+built_went view ps t is went = ap (λ (s : Turned). is_unbuilt_turn s.turn view s.core) is ∙ ap (λ turn. is_unbuilt_turn turn view t.core) went
+
+-- so the instruction behind them is built, where it only goes
+pub next_built : (k : ℕ) (view : PartitionView) (ps : PartitionState) → HasGone (suc k) view ps → is_unbuilt view (gone_on k (areas_of view) ps) ≡ false
+next_built k view ps gone =
+    built_went view (gone_on k (areas_of view) ps) (stepped (suc k) (areas_of view) ps.core ps.memory)
+    (settled_next k (areas_of view) ps.core ps.memory (gone_before k view ps gone)) gone

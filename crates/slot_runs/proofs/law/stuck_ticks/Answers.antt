@@ -1,0 +1,5 @@
+use Rattle.slot_runs.proofs.SlotLemmas.{stuck_ticks}
+use Rattle.slot_runs.proofs.law.stuck_ticks.Goals as goal
+
+pub returns : goal.returns
+returns c = record { law = stuck_ticks }

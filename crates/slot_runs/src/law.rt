@@ -1,0 +1,19 @@
+//! What ticks of one slot or gap leave of the whole machine.
+
+ghost use Rattle.slot_runs.specs.Laws.{ReadyTicks, StuckTicks, WaitingTicks};
+
+/// In its slot a partition that is ready executes instructions, and while they only go there is nothing to tell; the
+/// tick behind them is the machine's, too.
+pub fn ready_ticks()
+    ensures law { ReadyTicks }
+{}
+
+/// An instruction that is not built is met behind those that only went.
+pub fn stuck_ticks()
+    ensures law { StuckTicks }
+{}
+
+/// In a gap, and in the slot of a partition that is not ready, only the clocks go on.
+pub fn waiting_ticks()
+    ensures law { WaitingTicks }
+{}

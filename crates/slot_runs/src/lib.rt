@@ -1,0 +1,6 @@
+//! Runs of the machine slot by slot, as mathematics: which ticks are built so far, and what so many of them leave.
+#![tactic(auto)]
+
+mod law;
+
+pub use law::{ready_ticks, stuck_ticks, waiting_ticks};
