@@ -1,9 +1,4 @@
-pub mod Area
-pub mod Local
 pub mod Machine
-pub mod Note
 pub mod Outcome
-pub mod Quiet
 pub mod State
-pub mod Step
-pub mod System
+pub mod Turns

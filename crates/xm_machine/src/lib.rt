@@ -1,15 +1,13 @@
 //! The machine: it boots a system, does its ticks one by one, and writes the report of a run.
 #![tactic(auto)]
 
-mod area;
 mod board;
 mod machine;
-mod note;
-mod partition;
+mod report;
 mod run;
-mod system;
+mod slot;
+mod telling;
 
-pub use area::{AREA_BYTES, AREA_START};
 pub use board::Board;
 pub use machine::Machine;
 pub use machine_model::two_runs;

@@ -1,36 +1,33 @@
 //! The machine: it boots, and does its ticks one by one.
 
-ghost use Rattle.std.specs.Prelude.{◌≡◌, ◌+◌, ◌<◌, ◌≤◌, false, IfOk};
-ghost use Rattle.loaded_system.specs.Bare.{RunsImage};
-ghost use Rattle.xm_machine.specs.Machine.{Puts, RunsTicks, TakesTurn, Tells, lines_at};
-ghost use Rattle.xm_machine.specs.Note.{CanBeTold};
-ghost use Rattle.xm_machine.specs.Outcome.{CountsLines, HasRunCause, IsRun, IsTick};
-ghost use Rattle.xm_machine.specs.Quiet.{TakesTurns, ticks_done};
+ghost use Rattle.std.specs.Prelude.{◌≡◌, ◌+◌, ◌<◌, ◌≤◌, false, IfOk, length};
+ghost use Rattle.hypercalls.specs.State.{machine_of};
+ghost use Rattle.machine_model.specs.Lines.{end_lines};
+ghost use Rattle.xm_machine.specs.Machine.{CanTellIn, RunsTicks, Steps, TakesTurns, Tells};
+ghost use Rattle.xm_machine.specs.Outcome.{HasRunCause, IsRun, IsTick};
+ghost use Rattle.slot_runs.specs.Run.{first_line, last_line};
 ghost use Rattle.xm_machine.specs.State.{booted};
-ghost use Rattle.xm_machine.specs.Step.{end_lines, first_line, last_line, step};
-ghost use Rattle.xm_report.specs.Report.{IsShort, line_of};
+ghost use Rattle.xm_machine.specs.Turns.{ticks_done};
+ghost use Rattle.xm_report.specs.Report.{line_of};
 
 use crate::board::Board;
-use crate::note::{Note, Turns};
-use crate::partition::Partition;
+use crate::report::{end_parts, put, say};
 use crate::run::{Ran, RunFault};
-use crate::system::{parts, plans, raw_image};
+use crate::slot::{pass, ticks_left, turns_in};
+use crate::telling::Turns;
+use hypercalls::Sys;
 use loaded_system::System;
+use slot_runs::{ready_ticks, stuck_ticks, waiting_ticks};
 use std::alloc::Global;
 use std::marker::Model;
-use xm_base::{Memory, PartId, TICKS};
+use xm_base::{Memory, TICKS};
 use xm_outside::Sink;
-use xm_report::{Line, WriteFault, put_line};
-
-// The partition whose tick every tick is.
-const TURN: PartId = 0;
+use xm_report::Line;
 
 /// A machine that was booted.
-#[derive(Drop)]
+#[derive(Debug, Drop)]
 pub struct Machine {
-    system: System,
-    parts: Vec<Partition>,
-    time: u64,
+    sys: Sys,
     ticks: u64,
     halted: bool,
 }
@@ -38,49 +35,37 @@ pub struct Machine {
 impl Model for Machine {
     ghost use Rattle.std.specs.Coded.{codes};
     ghost use Rattle.guest_bus.specs.Memory.{memory_code};
-    ghost use Rattle.xm_machine.specs.Machine.{Meaning, IsMachine};
+    ghost use Rattle.hypercalls.specs.State.{machine_of};
+    ghost use Rattle.xm_machine.specs.Machine.{Meaning};
+    ghost use Rattle.slot_runs.specs.Parts.{IsMachine};
 
     ghost Value = { Meaning };
 
     ghost coded = { Prim.hlevel (codes, memory_code) };
 
-    ghost view = { λ a. record {
-      state = record {
-        system = a.system;
-        parts = a.parts.items;
-        time = a.time;
-        ticks = a.ticks;
-        halted = a.halted;
-      };
-    } };
+    ghost view = { λ a. record { state = machine_of a.sys a.ticks a.halted } };
 
-    ghost invariant = { λ a. IsMachine record {
-      system = a.system;
-      parts = a.parts.items;
-      time = a.time;
-      ticks = a.ticks;
-      halted = a.halted;
-    } };
+    ghost invariant = { λ a. IsMachine (machine_of a.sys a.ticks a.halted) };
 }
 
 impl Machine {
-    /// The machine with this system, before its first tick. The system is that of a raw image, as `bare`
-    /// makes it. All memory of a run is taken here.
+    /// The machine with this system, before its first tick. All memory of a run is taken here.
     #[tactic(auto, unfolding(crate::specs::State::booted))]
     pub fn boot(alloc: Global, system: System) -> Result<Machine, Memory>
-        requires bare { RunsImage system }
         ensures { IfOk result (λ machine. machine.state ≡ booted system) }
     {
-        let part = Partition::boot(alloc, raw_image(&system))?;
-        let mut parts = Vec::with_capacity(alloc, 1)?;
-        parts.push(part)?;
         Ok(Machine {
-            system,
-            parts,
-            time: 0,
+            sys: Sys::new(alloc, system)?,
             ticks: 0,
             halted: false,
         })
+    }
+
+    /// The whole system as it stands.
+    pub fn sys(&self) -> &Sys
+        ensures { self.now.state ≡ machine_of result.now self.now.state.ticks self.now.state.halted }
+    {
+        &self.sys
     }
 
     /// How many ticks were done.
@@ -102,10 +87,10 @@ impl Machine {
     /// is not counted, and nothing else is said of the machine.
     pub fn tick<O: Sink>(&mut self, out: &mut O, _board: &mut Board) -> Result<(), RunFault>
         requires { self.old.state.ticks < TICKS }
-        ensures step { IsTick result (step self.old.state) self.old.state self.new.state (O.got out.old) (O.got out.new) }
+        ensures tick { IsTick result self.old.state self.new.state (O.got out.old) (O.got out.new) }
         ensures cause { HasRunCause result (O.faults out.old) (O.faults out.new) }
     {
-        self.step(out).map(|_| ())
+        self.step(1, out).map(|_| ())
     }
 
     /// The run of so many ticks, with its whole report: the first line, the ticks' lines and the
@@ -133,96 +118,68 @@ impl Machine {
         })
     }
 
-    // One tick, and how many lines it said.
-    #[tactic(auto, unfolding(crate::specs::Step::step))]
-    fn step<O: Sink>(&mut self, out: &mut O) -> Result<u64, RunFault>
-        requires { self.old.state.ticks < TICKS }
-        ensures step { IsTick result (step self.old.state) self.old.state self.new.state (O.got out.old) (O.got out.new) }
-        ensures count { CountsLines result (step self.old.state) }
-        ensures ticks { self.new.state.ticks ≤ self.old.state.ticks + 1 }
-        ensures cause { HasRunCause result (O.faults out.old) (O.faults out.new) }
-    {
-        if self.halted {
-            return Ok(0);
-        }
-        let n = self.ticks;
-        match self.take_turn() {
-            Ok(note) => self.tell(n, note, out),
-            Err(pc) => Err(RunFault::NotBuilt { part: TURN, pc }),
-        }
-    }
-
-    // The work of a tick; where it is not built, the program counter at which it stands.
-    fn take_turn(&mut self) -> Result<Note, u32>
-        requires running { self.old.state.halted ≡ false }
-        requires most { self.old.state.ticks < TICKS }
-        ensures turn { TakesTurn result (step self.old.state) self.old.state self.new.state }
-        ensures ticks { self.new.state.ticks ≤ self.old.state.ticks + 1 }
-    {
-        self.take_turns(1).last
-    }
-
-    // The work of ticks, at most so many: those of which there is nothing to tell, and the one after them.
-    fn take_turns(&mut self, most: u64) -> Turns
-        requires running { self.old.state.halted ≡ false }
+    // The ticks of one slot or gap, at most so many, up to the first that has a line; it goes out. Tells how many lines
+    // that was.
+    fn step<O: Sink>(&mut self, most: u64, out: &mut O) -> Result<u64, RunFault>
         requires some { 0 < most }
         requires most { self.old.state.ticks + most ≤ TICKS }
-        ensures turns { TakesTurns result.quiet result.last self.old.state self.new.state }
+        ensures step { Steps result most self.old.state self.new.state (O.got out.old) (O.got out.new) }
+        ensures few { IfOk result (λ said. said ≤ 1) }
+        ensures cause { HasRunCause result (O.faults out.old) (O.faults out.new) }
+    {
+        let n = self.done();
+        let turns = self.take_turns(most);
+        say(&self.sys, n + turns.quiet, turns, out)
+    }
+
+    // The work of ticks of one slot or gap, at most so many: those of which there is nothing to tell, and the one after
+    // them.
+    fn take_turns(&mut self, most: u64) -> Turns
+        requires some { 0 < most }
+        requires most { self.old.state.ticks + most ≤ TICKS }
+        ensures turns { TakesTurns result.part result.quiet result.last self.old.state self.new.state }
         ensures few { result.quiet < most }
+        ensures part { result.part < length self.new.state.parts }
+        ensures told { IfOk result.last (λ telling. CanTellIn telling result.part self.new.state) }
         ensures ticks { self.new.state.ticks ≡ self.old.state.ticks + ticks_done result.quiet result.last }
     {
-        let turns = self.parts[usize::from(TURN)].turns(TURN, most);
-        self.time += turns.done();
+        ready_ticks();
+        stuck_ticks();
+        waiting_ticks();
+        let most = most.min(ticks_left(&self.sys));
+        let turns = turns_in(&mut self.sys, most);
         self.ticks += turns.done();
+        pass(&mut self.sys, turns.done());
         turns
     }
 
-    // Puts the line of a note out, and tells how many lines that was.
-    fn tell<O: Sink>(&self, n: u64, note: Note, out: &mut O) -> Result<u64, RunFault>
-        requires { CanBeTold note }
-        ensures told { Tells result (lines_at note n TURN self.now.state) (O.got out.old) (O.got out.new) }
-        ensures cause { HasRunCause result (O.faults out.old) (O.faults out.new) }
-    {
-        match self.parts[usize::from(TURN)].line(n, TURN, note) {
-            None => Ok(0),
-            Some(line) => match put_line(out, &line) {
-                Ok(()) => Ok(1),
-                Err(WriteFault) => Err(RunFault::Write),
-            },
-        }
-    }
-
     // The first line of the report.
+    #[tactic(auto, unfolding(xm_conf::specs::Description::described))]
     fn first_line(&self, ticks: u64) -> Line<'static>
-        ensures { line_of result ≡ first_line self.now.state.system ticks }
+        ensures { line_of result ≡ first_line self.now.state ticks }
     {
+        let conf = self.sys.conf().raw();
         Line::System {
-            parts: parts(&self.system),
-            plans: plans(&self.system),
+            parts: conf.parts.len() as u8,
+            plans: conf.plans.len() as u8,
             ticks,
         }
     }
 
     // So many ticks, and how many lines they said.
     fn run_ticks<O: Sink>(&mut self, ticks: u64, out: &mut O) -> Result<u64, RunFault>
-        requires running { self.old.state.halted ≡ false }
         requires most { self.old.state.ticks + ticks ≤ TICKS }
         ensures run { RunsTicks result ticks self.old.state self.new.state (O.got out.old) (O.got out.new) }
         ensures few { IfOk result (λ said. said ≤ ticks) }
+        ensures ticks { IfOk result (λ said. self.new.state.ticks ≡ self.old.state.ticks + ticks) }
         ensures cause { HasRunCause result (O.faults out.old) (O.faults out.new) }
     {
         let mut said = 0;
         let mut done = 0;
         while done < ticks {
-            let n = self.done();
-            let turns = self.take_turns(ticks - done);
-            match turns.last {
-                Ok(note) => {
-                    said += self.tell(n + turns.quiet, note, out)?;
-                    done += turns.quiet + 1;
-                }
-                Err(pc) => return Err(RunFault::NotBuilt { part: TURN, pc }),
-            }
+            let before = self.done();
+            said += self.step(ticks - done, out)?;
+            done += self.done() - before;
         }
         Ok(said)
     }
@@ -230,12 +187,12 @@ impl Machine {
     // The lines of the end, and how many they are.
     fn end<O: Sink>(&self, out: &mut O) -> Result<u64, RunFault>
         ensures told { Tells result (end_lines self.now.state) (O.got out.old) (O.got out.new) }
-        ensures few { IfOk result (λ ended. ended ≤ 2) }
+        ensures few { IfOk result (λ ended. ended ≤ 17) }
         ensures cause { HasRunCause result (O.faults out.old) (O.faults out.new) }
     {
-        put(out, &self.parts[usize::from(TURN)].end_line(TURN))?;
+        let ended = end_parts(&self.sys, out)?;
         put(out, &self.last_line())?;
-        Ok(2)
+        Ok(ended + 1)
     }
 
     // The last line of the report.
@@ -244,21 +201,9 @@ impl Machine {
     {
         Line::EndWhole {
             halted: self.halted,
-            plan: 0,
-            clock: self.time,
+            plan: self.sys.plan_clock().plan(),
+            clock: self.sys.now(),
             ticks: self.ticks,
         }
-    }
-}
-
-// Puts one line out.
-fn put<O: Sink>(out: &mut O, line: &Line<'_>) -> Result<(), RunFault>
-    requires { IsShort (line_of line.now) }
-    ensures told { Puts result (line_of line.now) (O.got out.old) (O.got out.new) }
-    ensures cause { HasRunCause result (O.faults out.old) (O.faults out.new) }
-{
-    match put_line(out, line) {
-        Ok(()) => Ok(()),
-        Err(WriteFault) => Err(RunFault::Write),
     }
 }

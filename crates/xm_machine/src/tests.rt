@@ -2,14 +2,10 @@
 
 ghost use Rattle.std.specs.Prelude.{◌≡◌, ◌≤◌, false, IfOk};
 
-use crate::area::AreaMemory;
-use crate::{AREA_START, Board, Machine, Ran, RunFault};
-use guest_bus::{Bus, Size};
+use crate::{Board, Machine, Ran, RunFault};
 use loaded_system::bare;
-use sparc_step::{Core, Turn};
 use std::alloc::Global;
 use std::test::Fail;
-use virt_traps::settle;
 use xm_base::TICKS;
 use xm_outside::MemSink;
 
@@ -57,12 +53,6 @@ const PRINT_RESULT: [u32; 6] = [
     0x91d0_2070, // ta 0x70
 ];
 
-// Eight times save %sp, -96, %sp, then eight times restore.
-const WINDOWS: &[u8; 64] = b"\x9d\xe3\xbf\xa0\x9d\xe3\xbf\xa0\x9d\xe3\xbf\xa0\x9d\xe3\xbf\xa0\
-\x9d\xe3\xbf\xa0\x9d\xe3\xbf\xa0\x9d\xe3\xbf\xa0\x9d\xe3\xbf\xa0\
-\x81\xe8\x00\x00\x81\xe8\x00\x00\x81\xe8\x00\x00\x81\xe8\x00\x00\
-\x81\xe8\x00\x00\x81\xe8\x00\x00\x81\xe8\x00\x00\x81\xe8\x00\x00";
-
 // The bytes of words, the highest byte of each first.
 fn bytes_of(alloc: Global, words: &[u32]) -> Result<Vec<u8>, Fail> {
     let mut bytes = Vec::new(alloc);
@@ -73,7 +63,7 @@ fn bytes_of(alloc: Global, words: &[u32]) -> Result<Vec<u8>, Fail> {
 }
 
 // A machine that runs these words.
-#[tactic(auto, unfolding(crate::specs::State::booted))]
+#[tactic(auto, unfolding(crate::specs::State::booted, machine_model::specs::Machine::start))]
 fn booted(alloc: Global, words: &[u32]) -> Result<Machine, Fail>
     ensures fresh { IfOk result (λ machine. machine.state.ticks ≡ 0) }
     ensures running { IfOk result (λ machine. machine.state.halted ≡ false) }
@@ -111,6 +101,8 @@ fn lines_of(alloc: Global, words: &[u32], ticks: u64) -> Result<MemSink, Fail> {
     }
     Ok(out)
 }
+
+mod plans;
 
 #[test]
 fn a_run_reports_its_ticks_and_its_end(rt: HostRuntime) -> Result<(), Fail> {
@@ -276,48 +268,5 @@ fn a_sink_that_fails_ends_the_run(rt: HostRuntime) -> Result<(), Fail> {
         assert_eq!(rt; done, ticks, "at {call}");
         assert_eq!(rt; out.got(), report.as_bytes());
     }
-    Ok(())
-}
-
-// Eight times SAVE, then eight times RESTORE, over one stack: windows are spilled and filled where they must be.
-#[test]
-fn windows_spill_and_fill(rt: HostRuntime) -> Result<(), Fail> {
-    let mut memory = AreaMemory::new(rt.alloc(), WINDOWS)?;
-    let mut core = Core::start(AREA_START);
-    core.set(14, 0x4000_0f00);
-    core.set(16, 0x1111_1111);
-    core.set(31, 0x2222_2222);
-    for (cwp, inv, stack) in [
-        (6, 0, 0x4000_0ea0),
-        (5, 0, 0x4000_0e40),
-        (4, 0, 0x4000_0de0),
-        (3, 0, 0x4000_0d80),
-        (2, 0, 0x4000_0d20),
-        (1, 0, 0x4000_0cc0),
-        (0, 7, 0x4000_0c60),
-        (7, 6, 0x4000_0c00),
-    ] {
-        assert_eq!(rt; settle(&mut core, &mut memory), Turn::Went);
-        assert_eq!(rt; (core.cwp, core.inv, core.get(14)), (cwp, inv, stack));
-    }
-    assert_eq!(rt; memory.load(0x4000_0f00, Size::Four), Ok(0x1111_1111));
-    assert_eq!(rt; memory.load(0x4000_0f3c, Size::Four), Ok(0x2222_2222));
-    assert_eq!(rt; memory.load(0x4000_0ed8, Size::Four), Ok(0x4000_0f00));
-    core.set(16, 0);
-    core.set(17, 0);
-    for (cwp, inv, stack) in [
-        (0, 6, 0x4000_0c60),
-        (1, 6, 0x4000_0cc0),
-        (2, 6, 0x4000_0d20),
-        (3, 6, 0x4000_0d80),
-        (4, 6, 0x4000_0de0),
-        (5, 6, 0x4000_0e40),
-        (6, 7, 0x4000_0ea0),
-        (7, 0, 0x4000_0f00),
-    ] {
-        assert_eq!(rt; settle(&mut core, &mut memory), Turn::Went);
-        assert_eq!(rt; (core.cwp, core.inv, core.get(14)), (cwp, inv, stack));
-    }
-    assert_eq!(rt; [core.get(16), core.get(31)], [0x1111_1111, 0x2222_2222]);
     Ok(())
 }

@@ -1,14 +1,12 @@
-use Rattle.std.proofs.Common.{◌≡◌, ◌+◌, ◌-◌, ◌≤◌, false}
-use Rattle.xm_machine.proofs.RunLemmas.{Goes}
+use Rattle.std.proofs.Common.{◌≡◌, ◌-◌, ◌≤◌}
+use Rattle.xm_machine.specs.Machine.{AreRun}
 use Rattle.xm_machine.proofs.machine.Machine.run_ticks.Given as goal
 
 abbrev pub invariant-loop-done : goal.invariant-loop-done
 invariant-loop-done g l = record {
-  goes : Goes l.fn.self.state l.done l.self.state l.said (g.O.Sink.got l.fn.out) (g.O.Sink.got l.out);
-  running : l.self.state.halted ≡ false;
+  goes : AreRun l.done l.said l.fn.self.state l.self.state (g.O.Sink.got l.fn.out) (g.O.Sink.got l.out);
   few : l.said ≤ l.done;
   within : l.done ≤ l.ticks;
-  ticks : l.self.state.ticks ≡ l.fn.self.state.ticks + l.done;
   faults : g.O.Sink.faults l.out ≡ g.O.Sink.faults l.fn.out;
 }
 
