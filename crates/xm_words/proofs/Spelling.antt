@@ -1,10 +1,13 @@
 -- What is to be typed for each command.
-use Rattle.std.proofs.Common.{◌≡◌, ℕ, Bool, true, false, ◌&&◌, if◌then◌else◌, subst, List, [], ◌∷◌, codes, decimal, Option, Some, None, arith, refl, ap, ◌∙◌, ◌⊎◌, ⊎_elim, inl, inr}
+use Rattle.std.proofs.Common.{◌≡◌, ℕ, ◌≤◌, Bool, true, false, ◌&&◌, if◌then◌else◌, subst, List, [], ◌∷◌, codes, decimal, Option, Some, None, arith, refl, ap, ◌∙◌, ◌⊎◌, ⊎_elim, inl, inr}
 use Rattle.std.specs.Str.{bytes_eq}
 use Rattle.std.proofs.lemmas.Bool.{and_parts}
 use Rattle.std.proofs.lemmas.Slice.Eq.{bytes_eq-Decides}
-use Rattle.xm_words.specs.Grammar.{CommandsAreSpelled, IsFile, IsRight, words_of}
-use Rattle.xm_words.specs.Words.{Command, PartFile, Bare, Parse, BuildImage, ReadImage, Pack, ListContainer, CheckContainer, are_part_files, asked, bare_of, command_of, command_of_more, command_of_three, command_of_two, format_command, is_file, of_file, of_files, pack_command, part_files, ticks_of}
+use Rattle.xm_base.specs.declared.limits.TheConstants.{TICKS}
+use Rattle.xm_words.specs.declared.commands.Span.{Span}
+use Rattle.xm_words.specs.declared.commands.Span.TheVariants.{Frames, Ticks}
+use Rattle.xm_words.specs.Grammar.{CommandsAreSpelled, IsFile, IsRight, count_of, option_of, words_of}
+use Rattle.xm_words.specs.Words.{Command, PartFile, Bare, Parse, BuildImage, ReadImage, Pack, ListContainer, CheckContainer, Run, are_part_files, asked, bare_of, command_of, command_of_more, command_of_three, command_of_two, format_command, is_file, of_file, of_files, pack_command, part_files, run_of, span_of, spanned, ticks_of}
 use Rattle.xm_words.proofs.PartFileLemmas.{files_named, files_typed_right}
 use Rattle.xm_words.proofs.WordLemmas.{file_is, is_of_file, text_ticks, ticks_text}
 
@@ -108,20 +111,66 @@ two_typed name first second command e =
     none : None ≡ Some command → Typed (name ∷ first ∷ second ∷ []) command
     none h = absurd (let no : ⊥ = cc in no)
 
--- what a name and three words ask for
-three_typed : (name verb first second : List ℕ) (command : Command) → command_of_three name verb first second ≡ Some command → Typed (name ∷ verb ∷ first ∷ second ∷ []) command
-unfolding command_of_three
-three_typed name verb first second command e =
-    ⊎_elim build none (other (bytes_eq name (codes "xmeformat") && bytes_eq verb (codes "build")) (of_files BuildImage first second) None command e)
-  where
-    build : ((bytes_eq name (codes "xmeformat") && bytes_eq verb (codes "build")) ≡ true × (of_files BuildImage first second ≡ Some command)) → Typed (name ∷ verb ∷ first ∷ second ∷ []) command
-    build h =
-        let tests = and_parts (bytes_eq name (codes "xmeformat")) (bytes_eq verb (codes "build")) h.0 in
-        let name_is = named name (codes "xmeformat") tests.0 in
-        let verb_is = named verb (codes "build") tests.1 in
-        files_typed _ BuildImage first second command (λ right. record { text = cc; right = right }) h.1
+-- words are an option and its number, and that is not above the limit
+record TypedSpan (option number : List ℕ) (span : Span) : Type 0 where
+  pub option_is : option ≡ option_of span
+  pub number_is : number ≡ decimal (count_of span)
+  pub small : count_of span ≤ TICKS
 
-    none : None ≡ Some command → Typed (name ∷ verb ∷ first ∷ second ∷ []) command
+-- so it is with a length that is the same
+span_as : (option number : List ℕ) (made span : Span) → TypedSpan option number made → Some made ≡ Some span → TypedSpan option number span
+span_as option number made span typed e = (let same : made ≡ span = cc in subst (TypedSpan option number) same typed)
+
+-- how long a run is
+span_typed : (option number : List ℕ) (span : Span) → span_of option number ≡ Some span → TypedSpan option number span
+unfolding span_of
+span_typed option number span e = at (bytes_eq option (codes "--frames")) (bytes_eq option (codes "--ticks")) (ticks_of number) refl refl refl e
+  where
+    at : (frames ticks : Bool) (count : Option ℕ) → bytes_eq option (codes "--frames") ≡ frames → bytes_eq option (codes "--ticks") ≡ ticks → ticks_of number ≡ count
+        → (if frames then spanned Frames count else if ticks then spanned Ticks count else None) ≡ Some span → TypedSpan option number span
+    at true ticks (Some n) is asked count e =
+        let text = ticks_text number n count in
+        span_as option number (Frames n) span (record { option_is = named option (codes "--frames") is; number_is = text.1; small = text.0 }) e
+    at true ticks None is asked count e = absurd (let no : ⊥ = cc in no)
+    at false true (Some n) is asked count e =
+        let text = ticks_text number n count in
+        span_as option number (Ticks n) span (record { option_is = named option (codes "--ticks") asked; number_is = text.1; small = text.0 }) e
+    at false true None is asked count e = absurd (let no : ⊥ = cc in no)
+    at false false count is asked counted e = absurd (let no : ⊥ = cc in no)
+
+-- a run of a container
+run_typed : (name container option number : List ℕ) (command : Command) → name ≡ codes "run" → run_of (is_file container) container (span_of option number) ≡ Some command
+    → Typed (name ∷ container ∷ option ∷ number ∷ []) command
+run_typed name container option number command is e = at (is_file container) (span_of option number) refl refl e
+  where
+    at : (t : Bool) (span : Option Span) → is_file container ≡ t → span_of option number ≡ span → run_of t container span ≡ Some command → Typed (name ∷ container ∷ option ∷ number ∷ []) command
+    at true (Some span) file told e =
+        let words = span_typed option number span told in
+        let option_is : option ≡ option_of span = words.option_is in
+        let number_is : number ≡ decimal (count_of span) = words.number_is in
+        typed_as _ (Run container span) command (record { text = cc; right = (file_is container file, words.small) }) e
+    at true None file told e = absurd (let no : ⊥ = cc in no)
+    at false span file told e = absurd (let no : ⊥ = cc in no)
+
+-- what a name and three words ask for
+three_typed : (name first second third : List ℕ) (command : Command) → command_of_three name first second third ≡ Some command → Typed (name ∷ first ∷ second ∷ third ∷ []) command
+unfolding command_of_three
+three_typed name first second third command e =
+    ⊎_elim build (λ h. ⊎_elim run none
+    (other (bytes_eq name (codes "run")) (run_of (is_file first) first (span_of second third)) None command h))
+    (other (bytes_eq name (codes "xmeformat") && bytes_eq first (codes "build")) (of_files BuildImage second third) (if bytes_eq name (codes "run") then run_of (is_file first) first (span_of second third) else None) command e)
+  where
+    build : ((bytes_eq name (codes "xmeformat") && bytes_eq first (codes "build")) ≡ true × (of_files BuildImage second third ≡ Some command)) → Typed (name ∷ first ∷ second ∷ third ∷ []) command
+    build h =
+        let tests = and_parts (bytes_eq name (codes "xmeformat")) (bytes_eq first (codes "build")) h.0 in
+        let name_is = named name (codes "xmeformat") tests.0 in
+        let verb_is = named first (codes "build") tests.1 in
+        files_typed _ BuildImage second third command (λ right. record { text = cc; right = right }) h.1
+
+    run : ((bytes_eq name (codes "run") ≡ true) × (run_of (is_file first) first (span_of second third) ≡ Some command)) → Typed (name ∷ first ∷ second ∷ third ∷ []) command
+    run h = run_typed name first second third command (named name (codes "run") h.0) h.1
+
+    none : None ≡ Some command → Typed (name ∷ first ∷ second ∷ third ∷ []) command
     none h = absurd (let no : ⊥ = cc in no)
 
 -- what a name and four words or more ask for
@@ -164,6 +213,12 @@ reads_pack configuration output (image ∷ images) right =
     let typed = files_typed_right (image ∷ images) right.2 in
     rw (is_of_file configuration right.0, is_of_file output right.1, typed.0, typed.1) refl
 
+-- what is typed for the length of a run tells it
+reads_span : (span : Span) → count_of span ≤ TICKS → span_of (option_of span) (decimal (count_of span)) ≡ Some span
+unfolding span_of
+reads_span (Frames count) small = rw (text_ticks (decimal count) count small refl) refl
+reads_span (Ticks count) small = rw (text_ticks (decimal count) count small refl) refl
+
 -- what is typed for a command asks for it
 reads : (command : Command) → IsRight command → command_of (words_of command) ≡ Some command
 unfolding command_of command_of_two command_of_three format_command pack_command
@@ -174,6 +229,7 @@ reads (ReadImage image) right = rw (is_of_file image right)
 reads (Pack configuration output images) right = reads_pack configuration output images right
 reads (ListContainer container) right = rw (is_of_file container right)
 reads (CheckContainer container) right = rw (is_of_file container right)
+reads (Run container span) right = rw (is_of_file container right.0, reads_span span right.1)
 
 -- words are a command exactly where they are what is typed for it
 pub commands_spelled : CommandsAreSpelled

@@ -1,7 +1,9 @@
 -- The grammar in the words of its users: what is to be typed for each command.
 use Rattle.std.specs.Prelude.{◌≡◌, ◌≢◌, ℕ, ◌<◌, ◌≤◌, ◌↔◌, List, [], ◌∷◌, ◌++◌, length, map, codes, decimal, All, AllPairs, Some}
 use Rattle.xm_base.specs.declared.limits.TheConstants.{TICKS}
-use Rattle.xm_words.specs.Words.{Command, PartFile, Bare, Parse, BuildImage, ReadImage, Pack, ListContainer, CheckContainer, command_of, ticks_of}
+use Rattle.xm_words.specs.declared.commands.Span.{Span}
+use Rattle.xm_words.specs.declared.commands.Span.TheVariants.{Frames, Ticks}
+use Rattle.xm_words.specs.Words.{Command, PartFile, Bare, Parse, BuildImage, ReadImage, Pack, ListContainer, CheckContainer, Run, command_of, ticks_of}
 
 -- a word is so many ticks where it is their number in decimal, and they are not above the limit
 abbrev pub TicksAreDecimal : Type 0
@@ -16,6 +18,16 @@ pub record IsFile (word : List ℕ) : Type 0 where
 abbrev pub part_word : PartFile → List ℕ
 part_word named = decimal named.part ++ codes "=" ++ named.file
 
+-- the option that is typed for how long a run is
+abbrev pub option_of : Span → List ℕ
+option_of (Frames count) = codes "--frames"
+option_of (Ticks count) = codes "--ticks"
+
+-- the number behind it
+abbrev pub count_of : Span → ℕ
+count_of (Frames count) = count
+count_of (Ticks count) = count
+
 -- what is typed for each command
 abbrev pub words_of : Command → List (List ℕ)
 words_of (Bare image ticks) = codes "bare" ∷ image ∷ decimal ticks ∷ []
@@ -25,6 +37,7 @@ words_of (ReadImage image) = codes "xmeformat" ∷ codes "read" ∷ image ∷ []
 words_of (Pack configuration output images) = codes "xmpack" ∷ codes "build" ∷ configuration ∷ output ∷ map part_word images
 words_of (ListContainer container) = codes "xmpack" ∷ codes "list" ∷ container ∷ []
 words_of (CheckContainer container) = codes "xmpack" ∷ codes "check" ∷ container ∷ []
+words_of (Run container span) = codes "run" ∷ container ∷ option_of span ∷ decimal (count_of span) ∷ []
 
 -- a file for a partition: the partition's number is at most 31, and the file is one
 abbrev pub IsPartFile : PartFile → Type 0
@@ -36,7 +49,7 @@ pub record ArePartFiles (files : List PartFile) : Type 0 where
   pub each : All IsPartFile files
   pub apart : AllPairs (λ one other. one.part ≢ other.part) files
 
--- what each command names is a file, and its ticks are not above the limit
+-- what each command names is a file, and its ticks or major frames are not above the limit
 abbrev pub IsRight : Command → Type 0
 IsRight (Bare image ticks) = IsFile image × (ticks ≤ TICKS)
 IsRight (Parse description output) = IsFile description × IsFile output
@@ -45,6 +58,7 @@ IsRight (ReadImage image) = IsFile image
 IsRight (Pack configuration output images) = IsFile configuration × IsFile output × ArePartFiles images
 IsRight (ListContainer container) = IsFile container
 IsRight (CheckContainer container) = IsFile container
+IsRight (Run container span) = IsFile container × (count_of span ≤ TICKS)
 
 -- words are a command exactly where they are what is typed for it, and what they name is right
 abbrev pub CommandsAreSpelled : Type 0

@@ -1,7 +1,7 @@
 -- What the program's commands say.
 use Rattle.std.specs.Prelude.{List, Option, Some, None}
 use Rattle.xm_words.specs.Texts.{texts_of}
-use Rattle.xm_words.specs.Words.{Command, PartFile, Bare, Parse, BuildImage, ReadImage, Pack, ListContainer, CheckContainer, part_files}
+use Rattle.xm_words.specs.Words.{Command, PartFile, Bare, Parse, BuildImage, ReadImage, Pack, ListContainer, CheckContainer, Run, part_files}
 use Rattle.xm_words.specs.declared.commands.Command as code
 use Rattle.xm_words.specs.declared.commands.Command.TheVariants as variant
 use Rattle.xm_words.specs.declared.part_files.PartFile as file
@@ -29,6 +29,7 @@ seen_command (variant.ReadImage image) = ReadImage image.now
 seen_command (variant.Pack configuration output images) = Pack configuration.now output.now (seen_files images)
 seen_command (variant.ListContainer container) = ListContainer container.now
 seen_command (variant.CheckContainer container) = CheckContainer container.now
+seen_command (variant.Run container span) = Run container.now span
 
 -- what a command of the program says, where there is one
 abbrev pub seen : Option code.Command → Option Command

@@ -4,6 +4,8 @@ use Rattle.std.specs.List.{after_first, before_first, list_all, starts_with}
 use Rattle.std.specs.Str.{all_ascii_digits, bytes_eq}
 use Rattle.std.specs.Str.Parse.{digits_value}
 use Rattle.xm_base.specs.declared.limits.TheConstants.{TICKS}
+use Rattle.xm_words.specs.declared.commands.Span.{Span}
+use Rattle.xm_words.specs.declared.commands.Span.TheVariants.{Frames, Ticks}
 
 -- a file for a partition
 pub record PartFile : Type 0 where
@@ -12,7 +14,7 @@ pub record PartFile : Type 0 where
 
 -- a command: a raw image runs for so many ticks; the binary configuration of a system description is made; the image of
 -- a program is made; an image is told; a configuration and the images of its partitions are packed into a container; a
--- container is told; a container is checked
+-- container is told; a container is checked; a container runs for so long
 pub data Command : Type 0 where
   Bare : (image : List ℕ) (ticks : ℕ) → Command
   Parse : (description output : List ℕ) → Command
@@ -21,6 +23,7 @@ pub data Command : Type 0 where
   Pack : (configuration output : List ℕ) (images : List PartFile) → Command
   ListContainer : (container : List ℕ) → Command
   CheckContainer : (container : List ℕ) → Command
+  Run : (container : List ℕ) (span : Span) → Command
 
 -- a decimal number: digits without a sign, and without a leading zero unless it is `0`
 abbrev pub is_number : List ℕ → Bool
@@ -38,6 +41,10 @@ number_of limit word = if is_number word && nat_le (digits_value 10 word) limit 
 -- the number of ticks that a word spells
 abbrev pub ticks_of : List ℕ → Option ℕ
 ticks_of word = number_of TICKS word
+
+-- the number of major frames that a word spells: each has a tick at least, and so their limit is that of ticks
+abbrev pub frames_of : List ℕ → Option ℕ
+frames_of word = number_of TICKS word
 
 -- the partition that a word spells
 abbrev pub part_of : List ℕ → Option ℕ
@@ -104,6 +111,28 @@ abbrev pub bare_of : Bool → List ℕ → Option ℕ → Option Command
 bare_of true image ticks = bare_for image ticks
 bare_of false image ticks = None
 
+-- how long a run is, where there is a number
+abbrev pub spanned : (ℕ → Span) → Option ℕ → Option Span
+spanned make None = None
+spanned make (Some count) = Some (make count)
+
+-- how long a run is, by an option and its number
+unfoldable pub span_of : List ℕ → List ℕ → Option Span
+span_of option number =
+    if bytes_eq option (codes "--frames") then spanned Frames (frames_of number)
+    else if bytes_eq option (codes "--ticks") then spanned Ticks (ticks_of number)
+    else None
+
+-- a run of a container for so long, where that is told
+abbrev pub run_for : List ℕ → Option Span → Option Command
+run_for container None = None
+run_for container (Some span) = Some (Run container span)
+
+-- a run of a container, where its word names a file
+abbrev pub run_of : Bool → List ℕ → Option Span → Option Command
+run_of true container span = run_for container span
+run_of false container span = None
+
 -- a command of one file, where its word names one
 abbrev pub of_file : (List ℕ → Command) → List ℕ → Option Command
 of_file command file = asked (is_file file) (command file)
@@ -134,8 +163,10 @@ command_of_two name first second =
 
 -- the command of a name and three words
 unfoldable pub command_of_three : List ℕ → List ℕ → List ℕ → List ℕ → Option Command
-command_of_three name verb first second =
-    if bytes_eq name (codes "xmeformat") && bytes_eq verb (codes "build") then of_files BuildImage first second else None
+command_of_three name first second third =
+    if bytes_eq name (codes "xmeformat") && bytes_eq first (codes "build") then of_files BuildImage second third
+    else if bytes_eq name (codes "run") then run_of (is_file first) first (span_of second third)
+    else None
 
 -- the command of a name and four words or more
 unfoldable pub command_of_more : List ℕ → List ℕ → List ℕ → List ℕ → List (List ℕ) → Option Command

@@ -2,6 +2,15 @@
 
 use crate::part_files::PartFiles;
 
+/// How long a run is.
+#[derive(Clone, Copy, Debug, PartialEq, Eq)]
+pub enum Span {
+    /// So many major frames of the first plan.
+    Frames(u64),
+    /// So many ticks.
+    Ticks(u64),
+}
+
 /// A command, with what its words name.
 #[derive(Clone, Copy, Debug, PartialEq, Eq)]
 pub enum Command<'a> {
@@ -37,5 +46,10 @@ pub enum Command<'a> {
     /// Tell whether this file is a container.
     CheckContainer {
         container: &'a str,
+    },
+    /// Run the container in this file for so long.
+    Run {
+        container: &'a str,
+        span: Span,
     },
 }

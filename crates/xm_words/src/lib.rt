@@ -8,7 +8,7 @@ mod part_files;
 mod reading;
 mod words;
 
-pub use commands::Command;
+pub use commands::{Command, Span};
 pub use law::grammar;
 pub use part_files::{PartFile, PartFiles};
 pub use reading::command;

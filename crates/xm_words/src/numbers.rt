@@ -1,7 +1,7 @@
 //! The numbers that words spell.
 
 ghost use Rattle.std.specs.Prelude.{◌≡◌, ◌≤◌, ◌↔◌, IfSome, IsTrue};
-ghost use Rattle.xm_words.specs.Words.{IsPlain, number_of, part_of, ticks_of};
+ghost use Rattle.xm_words.specs.Words.{IsPlain, frames_of, number_of, part_of, ticks_of};
 
 use xm_base::{PartId, TICKS};
 
@@ -13,6 +13,13 @@ pub(crate) fn ticks(word: &str) -> Option<u64>
     ensures value { result ≡ ticks_of word.now }
 {
     number(word, TICKS)
+}
+
+/// The number of major frames that the word spells, with the limit of ticks.
+pub(crate) fn frames(word: &str) -> Option<u64>
+    ensures value { result ≡ frames_of word.now }
+{
+    ticks(word)
 }
 
 /// The partition that the word spells.

@@ -3,10 +3,10 @@
 ghost use Rattle.std.specs.Prelude.{◌≡◌, ◌&&◌};
 ghost use Rattle.xm_words.specs.Seen.{seen};
 ghost use Rattle.xm_words.specs.Texts.{texts_of};
-ghost use Rattle.xm_words.specs.Words.{BuildImage, Pack, Parse, are_part_files, asked, bare_of, command_of, command_of_more, command_of_three, command_of_two, format_command, is_file, of_files, pack_command, part_files, ticks_of};
+ghost use Rattle.xm_words.specs.Words.{BuildImage, Pack, Parse, are_part_files, asked, bare_of, command_of, command_of_more, command_of_three, command_of_two, format_command, is_file, of_files, pack_command, part_files, run_of, span_of, ticks_of};
 
-use crate::commands::Command;
-use crate::numbers::ticks;
+use crate::commands::{Command, Span};
+use crate::numbers::{frames, ticks};
 use crate::part_files::PartFiles;
 use crate::words::Words;
 
@@ -56,14 +56,16 @@ fn command_of_two<'a>(name: &str, first: &'a str, second: &'a str) -> Option<Com
 #[tactic(auto, unfolding(crate::specs::Words::command_of_three))]
 fn command_of_three<'a>(
     name: &str,
-    verb: &str,
     first: &'a str,
     second: &'a str,
+    third: &'a str,
 ) -> Option<Command<'a>>
-    ensures { seen result ≡ command_of_three name.now verb.now first.now second.now }
+    ensures { seen result ≡ command_of_three name.now first.now second.now third.now }
 {
-    if name == "xmeformat" && verb == "build" {
-        build_image(first, second)
+    if name == "xmeformat" && first == "build" {
+        build_image(second, third)
+    } else if name == "run" {
+        run(first, second, third)
     } else {
         None
     }
@@ -96,6 +98,32 @@ fn bare<'a>(image: &'a str, count: &str) -> Option<Command<'a>>
     }
     let ticks = ticks(count)?;
     Some(Command::Bare { image, ticks })
+}
+
+/// The run of a container that three words ask for.
+fn run<'a>(container: &'a str, option: &str, count: &str) -> Option<Command<'a>>
+    ensures { seen result ≡ run_of (is_file container.now) container.now (span_of option.now count.now) }
+{
+    let span = span(option, count)?;
+    if is_file(container) {
+        Some(Command::Run { container, span })
+    } else {
+        None
+    }
+}
+
+/// How long the run is that an option and its number ask for.
+#[tactic(auto, unfolding(crate::specs::Words::span_of))]
+fn span(option: &str, count: &str) -> Option<Span>
+    ensures { result ≡ span_of option.now count.now }
+{
+    if option == "--frames" {
+        frames(count).map(Span::Frames)
+    } else if option == "--ticks" {
+        ticks(count).map(Span::Ticks)
+    } else {
+        None
+    }
 }
 
 /// The configuration that two words ask for.

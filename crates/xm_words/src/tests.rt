@@ -1,6 +1,6 @@
 //! The edges of the grammar.
 
-use crate::commands::Command;
+use crate::commands::{Command, Span};
 use crate::part_files::PartFiles;
 use crate::reading::command;
 use crate::words::Words;
@@ -135,6 +135,95 @@ fn each_tool_has_its_words(rt: HostRuntime) -> Result<(), Fail> {
             words.push(text)?;
         }
         assert_eq!(rt; command(&words), wanted);
+    }
+    Ok(())
+}
+
+// Each row: the words behind `run`, and how long the container `x` runs by them.
+#[test]
+fn a_container_runs_for_frames_or_ticks(rt: HostRuntime) -> Result<(), Fail> {
+    let cases: [(&[&str], Option<Span>); 37] = [
+        (&["x", "--frames", "3"], Some(Span::Frames(3))),
+        (&["x", "--ticks", "3"], Some(Span::Ticks(3))),
+        (&["x", "--frames", "0"], Some(Span::Frames(0))),
+        (&["x", "--ticks", "0"], Some(Span::Ticks(0))),
+        (
+            &["x", "--frames", "4000000000"],
+            Some(Span::Frames(4_000_000_000)),
+        ),
+        (
+            &["x", "--ticks", "4000000000"],
+            Some(Span::Ticks(4_000_000_000)),
+        ),
+        (&["x", "--frames", "4000000001"], None),
+        (&["x", "--ticks", "4000000001"], None),
+        (&["x", "--frames", "18446744073709551616"], None),
+        (&["x", "--ticks", "18446744073709551616"], None),
+        (&["x", "--frames", "007"], None),
+        (&["x", "--ticks", "007"], None),
+        (&["x", "--ticks", "+7"], None),
+        (&["x", "--ticks", "-7"], None),
+        (&["x", "--ticks", ""], None),
+        (&["x", "--ticks", "7 "], None),
+        (&["x", "--ticks"], None),
+        (&["x", "--ticks=7"], None),
+        (&["x", "7"], None),
+        (&["x", "7", "--ticks"], None),
+        (&["x", "-ticks", "7"], None),
+        (&["x", "ticks", "7"], None),
+        (&["x", "--tick", "7"], None),
+        (&["x", "--Ticks", "7"], None),
+        (&["x", "", "7"], None),
+        (&["x", "--frames", "3", "--ticks", "3"], None),
+        (&["x", "--ticks", "3", "--ticks", "3"], None),
+        (&["x", "--frames", "--ticks", "3"], None),
+        (&["--ticks", "3", "x"], None),
+        (&["--ticks", "--ticks", "3"], None),
+        (&["", "--ticks", "3"], None),
+        (&["x", "y", "--ticks", "3"], None),
+        (&["x", "--ticks", "3", "y"], None),
+        (&["x", "--ticks", "3", "--input", "0=a"], None),
+        (&["x", "--core", "0=a"], None),
+        (&["x"], None),
+        (&[], None),
+    ];
+    for (texts, wanted) in cases {
+        let mut words = Words::new(rt.alloc());
+        push_all(&mut words, &["run"])?;
+        push_all(&mut words, texts)?;
+        let wanted = wanted.map(|span| Command::Run {
+            container: "x",
+            span,
+        });
+        assert_eq!(rt; command(&words), wanted);
+    }
+    Ok(())
+}
+
+#[test]
+fn a_run_has_its_name_and_its_container(rt: HostRuntime) -> Result<(), Fail> {
+    for (name, container, right) in [
+        ("run", "-x", true),
+        ("run", "-", true),
+        ("run", "run", true),
+        ("run", "build", true),
+        ("run", "--x", false),
+        ("run", "--", false),
+        ("runs", "x", false),
+        ("ru", "x", false),
+        ("Run", "x", false),
+        ("", "x", false),
+        ("bare", "x", false),
+        ("xmpack", "list", false),
+        ("xmeformat", "x", false),
+    ] {
+        let mut words = Words::new(rt.alloc());
+        push_all(&mut words, &[name, container, "--frames", "3"])?;
+        let wanted = right.then_some(Command::Run {
+            container,
+            span: Span::Frames(3),
+        });
+        assert_eq!(rt; command(&words), wanted, "at {name} {container}");
     }
     Ok(())
 }
