@@ -2,31 +2,13 @@
 #![tactic(auto)]
 
 ghost use Rattle.std.specs.Prelude.{◌≡◌};
-ghost use Rattle.xm_run.specs.Top.{IsQuiet};
+ghost use Rattle.xm_commands.specs.Top.{IsQuiet};
 
-mod complaint;
-mod delivery;
-mod ending;
-mod imaging;
-mod packing;
-mod parsing;
-mod reading;
-mod running;
-mod status;
-#[cfg(test)]
-mod tests;
-mod top;
-mod unmade;
-mod work;
-
-use crate::complaint::complain;
-use crate::ending::Ending;
-use crate::status::Status;
-use crate::top::xm_main;
 use std::io::ErrorKind;
 use std::process::ExitCode;
 use std::rt::Runtime;
 use std::{env, io};
+use xm_commands::{Status, misused, xm_main};
 use xm_machine::Board;
 use xm_outside::{FileStore, OutSink, Sink};
 use xm_words::Words;
@@ -57,11 +39,7 @@ fn run<R: Runtime + AllocGlobal, O: Sink, E: Sink>(rt: &R, out: &mut O, err: &mu
             &mut Board::new(),
         ),
         Err(error) if error.kind() == ErrorKind::OutOfMemory => Status::NoMemory,
-        Err(_) => {
-            // A fault of standard error changes no status.
-            let _ = complain(err, &Ending::Misused);
-            Status::Usage
-        }
+        Err(_) => misused(err),
     }
 }
 

@@ -1,0 +1,289 @@
+-- What stays of the outside, and what the files come to.
+use Rattle.std.proofs.Common.{◌≡◌, ◌≢◌, ℕ, zero, suc, ◌+◌, ◌<◌, ◌≤◌, cond, min, ⊎_elim, Bool, true, false, nat_lt, ◌==◌, ◌||◌, codes, subst, if◌then◌else◌, List, [], ◌∷◌, ◌++◌, length, take, drop, Option, Some, None, Result, Ok, Err, refl, sym, ap, ◌∙◌, arith}
+use Rattle.std.proofs.lemmas.Bool.{cases_lt}
+use Rattle.std.proofs.lemmas.Bool.Decides.{nat_tests}
+use Rattle.std.proofs.lemmas.List.{length-take, take_all}
+use Rattle.std.specs.Cmp.Lexicographic.{slice_cmp, nat_list_cmp_total}
+use Rattle.std.specs.FinMap.{get, insert, get-insert, slice_cmp-IsAntisymmetric, nat_cmp-IsAntisymmetric}
+use Rattle.std.specs.Ordering.{nat_cmp, is_eq}
+use Rattle.std.specs.declared.cmp.Ordering.{Ordering}
+use Rattle.std.specs.declared.cmp.Ordering.TheVariants.{Less, Equal, Greater}
+use Rattle.xm_base.specs.Options.{on}
+use Rattle.xm_base.specs.declared.limits.TheConstants.{FILE_BYTES, IMAGE_BYTES, TICKS}
+use Rattle.xm_outside.specs.Causes.{counted}
+use Rattle.xm_outside.specs.Files.{Files, OthersStay, stored}
+use Rattle.xm_words.specs.Words.{Command, Bare, Parse, BuildImage, ReadImage, Pack, ListContainer, CheckContainer, Run}
+use Rattle.xm_words.specs.declared.commands.Span.{Span}
+use Rattle.xm_container.specs.Reading.{unpacked}
+use Rattle.xm_container.specs.declared.fault.BoxFault.{BoxFault}
+use Rattle.xm_commands.specs.Answer.{read_all, read_before, saved}
+use Rattle.loaded_system.specs.Bare.{bare_system}
+use Rattle.loaded_system.specs.System.{System}
+use Rattle.xm_commands.specs.Ending.{length_text, ticks_text}
+use Rattle.xm_commands.specs.Imaging.{container_lines_of, container_verdict_of, image_lines_of, xef_of}
+use Rattle.xm_commands.specs.Packing.{container_of}
+use Rattle.xm_commands.specs.Parsing.{xmc_of}
+use Rattle.xm_commands.specs.Denial.{Denial}
+use Rattle.xm_commands.specs.Outcome.{Output, bare_outcome, content, first_long, made, packed_to, ran, ran_within, refused, run_by, run_outcome, told, inputs_of, outcome_of, output_of, unless_long, worked}
+use Rattle.xm_commands.specs.Top.{AreContents, FilesStay, HasCalls, counted_by, output_count}
+use Rattle.xm_commands.specs.Work.{Outside, ReadsFiles, called, called_for, wrote}
+
+-- Calls.
+
+-- the outside after so many calls of the store
+abbrev pub with_calls : ℕ → Outside → Outside
+with_calls calls before = record before { calls = calls }
+
+-- calls for files change nothing but the count of calls
+pub called_for-is : (files : List (List ℕ)) (before : Outside) → called_for files before ≡ with_calls (counted_by (length files) before.calls) before
+called_for-is [] before = refl
+called_for-is (file ∷ files) before = called_for-is files (called before)
+
+-- one call more is one call more at the end
+pub counted-counted_by : (k n : ℕ) → counted (counted_by k n) ≡ counted_by (suc k) n
+counted-counted_by zero n = refl
+counted-counted_by (suc k) n = counted-counted_by k (counted n)
+
+-- What a command's file changes.
+
+-- a file that is written leaves the report's sink as it was
+pub wrote-got : (o : Option Output) (x : Outside) → (wrote o x).got ≡ x.got
+wrote-got None x = refl
+wrote-got (Some output) x = refl
+
+-- and its count of faults
+pub wrote-faults : (o : Option Output) (x : Outside) → (wrote o x).faults ≡ x.faults
+wrote-faults None x = refl
+wrote-faults (Some output) x = refl
+
+-- and the count of failed reads
+pub wrote-read_faults : (o : Option Output) (x : Outside) → (wrote o x).read_faults ≡ x.read_faults
+wrote-read_faults None x = refl
+wrote-read_faults (Some output) x = refl
+
+-- and the count of failed writes
+pub wrote-write_faults : (o : Option Output) (x : Outside) → (wrote o x).write_faults ≡ x.write_faults
+wrote-write_faults None x = refl
+wrote-write_faults (Some output) x = refl
+
+-- the files that are told, once a file is written
+pub wrote-files : (o : Option Output) (x : Outside) (files : Files) → x.files ≡ Some files → (wrote o x).files ≡ Some (saved o files)
+wrote-files None x files told = told
+wrote-files (Some output) x files told = rw told refl
+
+-- a file that is written leaves the others
+stored-others : (files : Files) (file bytes other : List ℕ) → other ≢ file → get (insert files file bytes) other ≡ get files other
+stored-others files file bytes other differs = get-insert nat_list_cmp_total files file bytes other ∙ at (slice_cmp nat_cmp other file) refl
+  where
+    at : (r : Ordering) → slice_cmp nat_cmp other file ≡ r → cond (is_eq r) (Some bytes) (get files other) ≡ get files other
+    at Less is = refl
+    at Equal is = absurd (differs (slice_cmp-IsAntisymmetric nat_cmp-IsAntisymmetric other file is))
+    at Greater is = refl
+
+-- where nothing is written every file stays
+pub others_same : (told : Option Files) (file : List ℕ) → OthersStay told file told
+others_same None file = tt
+others_same (Some files) file = λ other differs. refl
+
+-- a file that is written leaves the others, where the store tells them
+others_stored : (told : Option Files) (file bytes : List ℕ) → OthersStay told file (stored told file bytes)
+others_stored None file bytes = tt
+others_stored (Some files) file bytes = λ other differs. stored-others files file bytes other differs
+
+-- where nothing is written the files stay, whatever may be written
+pub files_same : (out : Option (List ℕ)) (told : Option Files) → FilesStay out told told
+files_same None told = refl
+files_same (Some file) told = others_same told file
+
+-- what is made is written where the words say
+made-output : (input file : List ℕ) (made_of : Result (List ℕ) (List ℕ)) (output : Output) → (made input file made_of).output ≡ Some output → Some file ≡ Some output.file
+made-output input file (Ok bytes) output e = (let same : record { file = file; bytes = bytes } ≡ output = cc in ap (λ (o : Output). Some o.file) same)
+made-output input file (Err text) output e = absurd (cc)
+
+-- what is packed is written where the words say
+packed-output : (file : List ℕ) (packed : Result (List ℕ) Denial) (output : Output) → (packed_to file packed).output ≡ Some output → Some file ≡ Some output.file
+packed-output file (Ok bytes) output e = (let same : record { file = file; bytes = bytes } ≡ output = cc in ap (λ (o : Output). Some o.file) same)
+packed-output file (Err refusal) output e = absurd (cc)
+
+-- what is told writes no file
+told-output : (file : List ℕ) (text : Result (List ℕ) (List ℕ)) (output : Output) → (told file text).output ≡ Some output → ⊥
+told-output file (Ok text) output e = cc
+told-output file (Err text) output e = cc
+
+-- a run of a system writes no file
+ran-output : (file : List ℕ) (ticks : ℕ) (system : System) (output : Output) → (ran file ticks system).output ≡ Some output → ⊥
+unfolding ran
+ran-output file ticks system output e = cc
+
+-- a run of an image writes no file
+bare-output : (file : List ℕ) (ticks : ℕ) (image : List ℕ) (output : Output) → (bare_outcome file ticks image).output ≡ Some output → ⊥
+unfolding bare_outcome
+bare-output file ticks image output e = at ((length image == 0) || nat_lt IMAGE_BYTES (length image)) e
+  where
+    at : (t : Bool) → (if t then refused file (length_text (length image)) else ran file ticks (bare_system image)).output ≡ Some output → ⊥
+    at true e = cc
+    at false e = ran-output file ticks (bare_system image) output e
+
+-- a run that may be too long writes no file
+within-output : (file : List ℕ) (asked : ℕ) (system : System) (output : Output) → (ran_within file asked system).output ≡ Some output → ⊥
+unfolding ran_within
+within-output file asked system output e = at (nat_lt TICKS asked) e
+  where
+    at : (t : Bool) → (if t then refused file (ticks_text asked) else ran file asked system).output ≡ Some output → ⊥
+    at true e = cc
+    at false e = ran-output file asked system output e
+
+-- a run of a container writes no file
+run-output : (file : List ℕ) (span : Span) (bytes : List ℕ) (output : Output) → (run_outcome file span bytes).output ≡ Some output → ⊥
+unfolding run_outcome
+run-output file span bytes output e = at (unpacked bytes) e
+  where
+    at : (read : Result System BoxFault) → (run_by file span read).output ≡ Some output → ⊥
+    at (Ok system) e = within-output file _ system output e
+    at (Err fault) e = cc
+
+-- a file that is too long is refused
+pub outcome-long : (command : Command) (contents : List (List ℕ)) (file : List ℕ) → first_long (inputs_of command) contents ≡ Some file → outcome_of command contents ≡ refused file (codes "too-long")
+unfolding outcome_of
+outcome-long command contents file long = ap (λ (o : Option (List ℕ)). unless_long o (worked command contents)) long
+
+-- a command that writes a file writes the one that its words name
+pub output-named : (command : Command) (contents : List (List ℕ)) (output : Output) → (outcome_of command contents).output ≡ Some output → output_of command ≡ Some output.file
+unfolding outcome_of
+output-named command contents output is = at command (first_long (inputs_of command) contents) is
+  where
+    at : (command : Command) (long : Option (List ℕ)) → (unless_long long (worked command contents)).output ≡ Some output → output_of command ≡ Some output.file
+    at command (Some file) e = absurd (cc)
+    at (Bare image ticks) None e = absurd (bare-output image ticks (content 0 contents) output e)
+    at (Parse description out) None e = made-output description out (xmc_of (content 0 contents)) output e
+    at (BuildImage program out) None e = made-output program out (xef_of (content 0 contents)) output e
+    at (ReadImage image) None e = absurd (told-output image (image_lines_of (content 0 contents)) output e)
+    at (Pack configuration out images) None e = packed-output out (container_of configuration (content 0 contents) images (drop 1 contents)) output e
+    at (ListContainer container) None e = absurd (told-output container (container_lines_of (content 0 contents)) output e)
+    at (CheckContainer container) None e = absurd (told-output container (container_verdict_of (content 0 contents)) output e)
+    at (Run container span) None e = absurd (run-output container span (content 0 contents) output e)
+
+-- a file that is made or refused is not both
+made-denied : (input file : List ℕ) (made_of : Result (List ℕ) (List ℕ)) (denial : Denial) → (made input file made_of).denial ≡ Some denial → (made input file made_of).output ≡ None
+made-denied input file (Ok bytes) denial e = absurd (cc)
+made-denied input file (Err text) denial e = refl
+
+-- what is packed or refused is not both
+packed-denied : (file : List ℕ) (packed : Result (List ℕ) Denial) (denial : Denial) → (packed_to file packed).denial ≡ Some denial → (packed_to file packed).output ≡ None
+packed-denied file (Ok bytes) denial e = absurd (cc)
+packed-denied file (Err refusal) denial e = refl
+
+-- where there is no file, none is written
+pub no_output : (o : Option Output) → ((output : Output) → o ≡ Some output → ⊥) → o ≡ None
+no_output None never = refl
+no_output (Some output) never = absurd (never output refl)
+
+-- a command that is refused writes no file
+pub output-denied : (command : Command) (contents : List (List ℕ)) (denial : Denial) → (outcome_of command contents).denial ≡ Some denial → (outcome_of command contents).output ≡ None
+unfolding outcome_of
+output-denied command contents denial is = at command (first_long (inputs_of command) contents) is
+  where
+    at : (command : Command) (long : Option (List ℕ)) → (unless_long long (worked command contents)).denial ≡ Some denial → (unless_long long (worked command contents)).output ≡ None
+    at command (Some file) e = refl
+    at (Bare image ticks) None e = no_output _ (bare-output image ticks (content 0 contents))
+    at (Parse description out) None e = made-denied description out (xmc_of (content 0 contents)) denial e
+    at (BuildImage program out) None e = made-denied program out (xef_of (content 0 contents)) denial e
+    at (ReadImage image) None e = no_output _ (told-output image (image_lines_of (content 0 contents)))
+    at (Pack configuration out images) None e = packed-denied out (container_of configuration (content 0 contents) images (drop 1 contents)) denial e
+    at (ListContainer container) None e = no_output _ (told-output container (container_lines_of (content 0 contents)))
+    at (CheckContainer container) None e = no_output _ (told-output container (container_verdict_of (content 0 contents)))
+    at (Run container span) None e = no_output _ (run-output container span (content 0 contents))
+
+-- what a command writes leaves the other files
+pub wrote-stays : (out : Option (List ℕ)) (o : Option Output) (x : Outside) → ((output : Output) → o ≡ Some output → out ≡ Some output.file) → FilesStay out x.files (wrote o x).files
+wrote-stays out None x named = files_same out x.files
+wrote-stays out (Some output) x named =
+    subst (λ (f : Option (List ℕ)). FilesStay f x.files (stored x.files output.file output.bytes)) (sym (named output refl)) (others_stored x.files output.file output.bytes)
+
+-- what a command writes is one call at most
+pub wrote-calls : (command : Command) (o : Option Output) (x : Outside) (n : ℕ) → ((output : Output) → o ≡ Some output → output_of command ≡ Some output.file) → x.calls ≡ counted_by (length (inputs_of command)) n → HasCalls command n (wrote o x).calls
+wrote-calls command None x n named calls = record { count = length (inputs_of command); few = omega arith; calls = calls }
+wrote-calls command (Some output) x n named calls = record {
+  count = suc (length (inputs_of command));
+  few = (let one : output_count (output_of command) ≡ 1 = ap output_count (named output refl) in omega arith);
+  calls = ap counted calls ∙ counted-counted_by (length (inputs_of command)) n;
+}
+
+-- What is read.
+
+-- a front is too long exactly where its whole is
+front_long : (whole bytes : List ℕ) → take (FILE_BYTES + 1) whole ≡ bytes → nat_lt FILE_BYTES (length bytes) ≡ nat_lt FILE_BYTES (length whole)
+front_long whole bytes front = ⊎_elim long short (cases_lt FILE_BYTES (length whole))
+  where
+    min_left : FILE_BYTES < length whole → min (FILE_BYTES + 1) (length whole) ≡ FILE_BYTES + 1
+    min_left h = omega arith
+
+    long : FILE_BYTES < length whole → nat_lt FILE_BYTES (length bytes) ≡ nat_lt FILE_BYTES (length whole)
+    long h = (let count : length bytes ≡ FILE_BYTES + 1 = ap length (sym front) ∙ length-take (FILE_BYTES + 1) whole ∙ min_left h in grind (arith, nat_tests))
+
+    short : length whole ≤ FILE_BYTES → nat_lt FILE_BYTES (length bytes) ≡ nat_lt FILE_BYTES (length whole)
+    short h = ap (λ (b : List ℕ). nat_lt FILE_BYTES (length b)) (sym front ∙ take_all (FILE_BYTES + 1) whole (omega arith))
+
+-- a front that is not too long is the whole
+front_whole : (whole bytes : List ℕ) → take (FILE_BYTES + 1) whole ≡ bytes → nat_lt FILE_BYTES (length whole) ≡ false → bytes ≡ whole
+front_whole whole bytes front test = (let short : length whole ≤ FILE_BYTES = grind (arith, nat_tests) in sym front ∙ take_all (FILE_BYTES + 1) whole (omega arith))
+
+-- the contents of files whose fronts were read
+pub record AreWhole (files : Files) (names fronts : List (List ℕ)) : Type 0 where
+  pub contents : List (List ℕ)
+  pub read : read_all files names ≡ Ok contents
+  pub long : first_long names fronts ≡ first_long names contents
+  pub whole : first_long names contents ≡ None → fronts ≡ contents
+
+-- the fronts that were read are those of the files' contents
+pub are_whole : (files : Files) (names fronts : List (List ℕ)) → ReadsFiles (Some files) names fronts → AreWhole files names fronts
+are_whole files [] [] read = record { contents = []; read = refl; long = refl; whole = λ _. refl }
+are_whole files [] (bytes ∷ fronts) read = absurd read
+are_whole files (name ∷ names) [] read = absurd read
+are_whole files (name ∷ names) (bytes ∷ fronts) read = at (get files name) refl read.0 (are_whole files names fronts read.1)
+  where
+    none_long : (whole : List ℕ) (contents : List (List ℕ)) (t : Bool) → nat_lt FILE_BYTES (length whole) ≡ t → take (FILE_BYTES + 1) whole ≡ bytes → (first_long names contents ≡ None → fronts ≡ contents) → (if t then Some name else first_long names contents) ≡ None → bytes ∷ fronts ≡ whole ∷ contents
+    none_long whole contents true test front rest none = absurd (cc)
+    none_long whole contents false test front rest none =
+        let first : bytes ≡ whole = front_whole whole bytes front test in
+        let others : fronts ≡ contents = rest none in
+        cc
+
+    at : (o : Option (List ℕ)) → get files name ≡ o → on (take (FILE_BYTES + 1)) o ≡ Some bytes → AreWhole files names fronts → AreWhole files (name ∷ names) (bytes ∷ fronts)
+    at None is front rest = absurd (cc)
+    at (Some whole) is front rest =
+        let cut : take (FILE_BYTES + 1) whole ≡ bytes = cc in
+        record {
+          contents = whole ∷ rest.contents;
+          read = rw (is, rest.read) refl;
+          long = ap (λ (t : Bool). if t then Some name else first_long names fronts) (front_long whole bytes cut)
+              ∙ ap (λ (o : Option (List ℕ)). if nat_lt FILE_BYTES (length whole) then Some name else o) rest.long;
+          whole = none_long whole rest.contents (nat_lt FILE_BYTES (length whole)) refl cut rest.whole;
+        }
+
+-- the contents of a command's files, and what they come to
+pub record Told (told : Option Files) (command : Command) (fronts : List (List ℕ)) : Type 0 where
+  pub contents : List (List ℕ)
+  pub are : AreContents told command contents
+  pub outcome : outcome_of command fronts ≡ outcome_of command contents
+
+-- what was read of a command's files comes to what the files come to
+pub told_outcome : (told : Option Files) (command : Command) (fronts : List (List ℕ)) → ReadsFiles told (inputs_of command) fronts → Told told command fronts
+told_outcome None command fronts read = record { contents = fronts; are = tt; outcome = refl }
+told_outcome (Some files) command fronts read =
+    let is = are_whole files (inputs_of command) fronts read in
+    record { contents = is.contents; are = is.read; outcome = same is (first_long (inputs_of command) is.contents) refl }
+  where
+    same : (is : AreWhole files (inputs_of command) fronts) (long : Option (List ℕ)) → first_long (inputs_of command) is.contents ≡ long → outcome_of command fronts ≡ outcome_of command is.contents
+    same is (Some file) e = outcome-long command fronts file (is.long ∙ e) ∙ sym (outcome-long command is.contents file e)
+    same is None e = ap (outcome_of command) (is.whole e)
+
+-- the first files are there, and the next is not
+pub read_all-absent : (files : Files) (first rest fronts : List (List ℕ)) (file : List ℕ) → ReadsFiles (Some files) first fronts → get files file ≡ None → read_all files (first ++ file ∷ rest) ≡ Err file
+read_all-absent files [] rest fronts file read absent = rw absent refl
+read_all-absent files (name ∷ first) rest [] file read absent = absurd read
+read_all-absent files (name ∷ first) rest (bytes ∷ fronts) file read absent = at (get files name) refl read.0 (read_all-absent files first rest fronts file read.1 absent)
+  where
+    at : (o : Option (List ℕ)) → get files name ≡ o → on (take (FILE_BYTES + 1)) o ≡ Some bytes → read_all files (first ++ file ∷ rest) ≡ Err file → read_before name (get files name) (read_all files (first ++ file ∷ rest)) ≡ Err file
+    at None is front other = absurd (cc)
+    at (Some whole) is front other = rw (is, other) refl

@@ -1,0 +1,19 @@
+use Rattle.std.proofs.Common.{ℕ, List, ◌∷◌, Option, map, length}
+use denote.Text.{Utf8}
+use denote.Shadow.{shadow}
+use Rattle.xm_words.specs.Seen.{seen_files}
+use Rattle.xm_commands.specs.Packing.{names_of}
+use Rattle.xm_commands.specs.Told.{bytes_of}
+use Rattle.xm_commands.specs.Work.{outside}
+use Rattle.xm_commands.proofs.PackingLemmas.{HasRead}
+use Rattle.xm_commands.proofs.packing.read_files.Given as goal
+
+abbrev pub invariant-loop-bytes : goal.invariant-loop-bytes
+invariant-loop-bytes g l =
+    shadow (Utf8 l.file)
+    × ((got : Option (List ℕ)) (faults : ℕ) → HasRead (l.fn.configuration ∷ names_of (seen_files l.fn.images)) (l.file ∷ names_of (seen_files l.rest)) (map bytes_of l.contents.items)
+    (outside (g.S.Store.files l.fn.files) (g.S.Store.read_faults l.fn.files) (g.S.Store.write_faults l.fn.files) (g.S.Store.calls l.fn.files) got faults)
+    (outside (g.S.Store.files l.files) (g.S.Store.read_faults l.files) (g.S.Store.write_faults l.files) (g.S.Store.calls l.files) got faults))
+
+abbrev pub decreases-loop-bytes : goal.decreases-loop-bytes
+decreases-loop-bytes g l = length l.rest.words.now

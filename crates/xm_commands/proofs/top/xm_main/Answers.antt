@@ -1,0 +1,25 @@
+use Rattle.std.proofs.Common.{refl}
+use Rattle.xm_words.specs.Words.{command_of}
+use Rattle.xm_commands.specs.Ending.{complaint}
+use Rattle.xm_commands.specs.Told.{ending_of}
+use Rattle.xm_commands.proofs.TopLemmas.{done_is_finished, usage_exactly, no_uart_fault, has_causes, quiet, said, answers, barren, files_stay, writes_stay}
+use Rattle.xm_commands.proofs.top.xm_main.Goals as goal
+
+pub returns : goal.returns
+returns g c =
+    let ending = ending_of c.work-ending.result in
+    let command = command_of c.args.words.now in
+    let work = c.work-ending.ensures in
+    let line = said c.complain.result (complaint ending) _ _ _ _ c.complain.ensures.line c.complain.ensures.cause in
+    rw c.status.ensures (record {
+      answers = answers ending c.args.words.now _ _ _ _ _ _ work line;
+      explained = record { ending = ending; answered = refl; line = line; cause = work };
+      causes = has_causes ending command _ _ work;
+      usage = usage_exactly ending command _ _ work;
+      no_uart = no_uart_fault ending;
+      silent = λ done. c.complain.ensures.silent (done_is_finished ending done);
+      quiet = quiet ending command _ _ work;
+      files = files_stay ending command _ _ work;
+      barren = barren ending command _ _ work;
+      writes = writes_stay ending command _ _ work;
+    })

@@ -1,0 +1,59 @@
+-- What the program answers to words and files in a world without faults.
+use Rattle.std.specs.Prelude.{ℕ, List, [], ◌∷◌, Option, Some, None, Result, Ok, Err}
+use Rattle.std.specs.FinMap.{get, insert}
+use Rattle.xm_outside.specs.Files.{Files}
+use Rattle.xm_words.specs.Words.{Command, command_of}
+use Rattle.xm_commands.specs.Ending.{Ending, Finished, Misused, Unread, Denied, complaint, status_of}
+use Rattle.xm_commands.specs.Denial.{Denial}
+use Rattle.xm_commands.specs.Outcome.{Output, Outcome, inputs_of, outcome_of}
+use Rattle.xm_commands.specs.declared.status.Status.{Status}
+
+-- how a command ends that met no fault
+abbrev pub ending_by : Option Denial → Ending
+ending_by None = Finished
+ending_by (Some denial) = Denied denial.file denial.text
+
+-- the files after a command has written its own
+abbrev pub saved : Option Output → Files → Files
+saved None files = files
+saved (Some output) files = insert files output.file output.bytes
+
+-- an answer: the status, what goes to the report and to the error output, and the files as they stand afterwards
+pub record Answer : Type 0 where
+  pub status : Status
+  pub out : List ℕ
+  pub err : List ℕ
+  pub files : Files
+
+-- the answer of an ending, with what went to the report, and the files
+abbrev pub answer_of : Ending → List ℕ → Files → Answer
+answer_of ending out files = record { status = status_of ending; out = out; err = complaint ending; files = files }
+
+-- a file's content before those of others, or the first file that is not there
+abbrev pub read_before : List ℕ → Option (List ℕ) → Result (List (List ℕ)) (List ℕ) → Result (List (List ℕ)) (List ℕ)
+read_before file None rest = Err file
+read_before file (Some bytes) (Ok contents) = Ok (bytes ∷ contents)
+read_before file (Some bytes) (Err absent) = Err absent
+
+-- the contents of files, or the first of them that is not there
+abbrev pub read_all : Files → List (List ℕ) → Result (List (List ℕ)) (List ℕ)
+read_all files [] = Ok []
+read_all files (file ∷ others) = read_before file (get files file) (read_all files others)
+
+-- the answer of a command that comes to this
+abbrev pub answer_by : Outcome → Files → Answer
+answer_by outcome files = answer_of (ending_by outcome.denial) outcome.report (saved outcome.output files)
+
+-- the answer to a command, by what is read
+abbrev pub answer_to_read : Command → Result (List (List ℕ)) (List ℕ) → Files → Answer
+answer_to_read command (Ok contents) files = answer_by (outcome_of command contents) files
+answer_to_read command (Err absent) files = answer_of (Unread absent) [] files
+
+-- the answer to a command
+abbrev pub answer_to : Option Command → Files → Answer
+answer_to None files = answer_of Misused [] files
+answer_to (Some command) files = answer_to_read command (read_all files (inputs_of command)) files
+
+-- the answer to words, in a world of these files and without faults
+unfoldable pub answer : List (List ℕ) → Files → Answer
+answer words files = answer_to (command_of words) files

@@ -1,0 +1,140 @@
+-- What the contents of the files that a command reads come to.
+use Rattle.std.specs.Prelude.{ℕ, ◌*◌, ◌==◌, if◌then◌else◌, nat_lt, ◌||◌, List, [], ◌∷◌, ◌++◌, length, drop, codes, decimal, slice_index_or, Option, Some, None, Result, Ok, Err}
+use Rattle.xm_base.specs.declared.limits.TheConstants.{FILE_BYTES, IMAGE_BYTES, TICKS}
+use Rattle.xm_report.specs.Report.{texts}
+use Rattle.xm_conf.specs.Configuration.{Conf}
+use Rattle.cyclic_plans.specs.Slots.{frame_of}
+use Rattle.slot_runs.specs.Run.{Stop, report_of, stop_within}
+use Rattle.xm_machine.specs.State.{booted}
+use Rattle.loaded_system.specs.Bare.{bare_system}
+use Rattle.loaded_system.specs.System.{System}
+use Rattle.xm_container.specs.Reading.{unpacked}
+use Rattle.xm_container.specs.Texts.{box_fault_text}
+use Rattle.xm_container.specs.declared.fault.BoxFault.{BoxFault}
+use Rattle.xm_words.specs.Words.{Command, Bare, Parse, BuildImage, ReadImage, Pack, ListContainer, CheckContainer, Run}
+use Rattle.xm_words.specs.declared.commands.Span.{Span}
+use Rattle.xm_words.specs.declared.commands.Span.TheVariants.{Frames, Ticks}
+use Rattle.xm_commands.specs.Denial.{Denial}
+use Rattle.xm_commands.specs.Ending.{length_text, ticks_text, unbuilt_text}
+use Rattle.xm_commands.specs.Imaging.{container_lines_of, container_verdict_of, image_lines_of, xef_of}
+use Rattle.xm_commands.specs.Packing.{container_of, names_of}
+use Rattle.xm_commands.specs.Parsing.{xmc_of}
+
+-- a file that is written
+pub record Output : Type 0 where
+  pub file : List ℕ
+  pub bytes : List ℕ
+
+-- what a command comes to: its refusal, if there is one, the file that it writes, and what goes to the report
+pub record Outcome : Type 0 where
+  pub denial : Option Denial
+  pub output : Option Output
+  pub report : List ℕ
+
+-- a command that is refused, and does nothing
+abbrev pub refused : List ℕ → List ℕ → Outcome
+refused file text = record { denial = Some (record { file = file; text = text }); output = None; report = [] }
+
+-- the files that a command reads, in the order of its words
+abbrev pub inputs_of : Command → List (List ℕ)
+inputs_of (Bare image ticks) = image ∷ []
+inputs_of (Parse description output) = description ∷ []
+inputs_of (BuildImage program output) = program ∷ []
+inputs_of (ReadImage image) = image ∷ []
+inputs_of (Pack configuration output images) = configuration ∷ names_of images
+inputs_of (ListContainer container) = container ∷ []
+inputs_of (CheckContainer container) = container ∷ []
+inputs_of (Run container span) = container ∷ []
+
+-- the file that a command writes
+abbrev pub output_of : Command → Option (List ℕ)
+output_of (Bare image ticks) = None
+output_of (Parse description output) = Some output
+output_of (BuildImage program output) = Some output
+output_of (ReadImage image) = None
+output_of (Pack configuration output images) = Some output
+output_of (ListContainer container) = None
+output_of (CheckContainer container) = None
+output_of (Run container span) = None
+
+-- the refusal of a run that is stuck
+abbrev pub stuck_denial : List ℕ → Option Stop → Option Denial
+stuck_denial file None = None
+stuck_denial file (Some stop) = Some (record { file = file; text = unbuilt_text stop.place.part stop.place.pc })
+
+-- what a run of so many ticks of a system comes to that stands in a file
+unfoldable pub ran : List ℕ → ℕ → System → Outcome
+ran file ticks system = record { denial = stuck_denial file (stop_within (booted system) ticks); output = None; report = texts (report_of (booted system) ticks) }
+
+-- what a raw image comes to, run for so many ticks
+unfoldable pub bare_outcome : List ℕ → ℕ → List ℕ → Outcome
+bare_outcome file ticks image =
+    if (length image == 0) || nat_lt IMAGE_BYTES (length image) then refused file (length_text (length image))
+    else ran file ticks (bare_system image)
+
+-- how many ticks a run asks for, under a configuration: major frames are those of plan 0
+abbrev pub ticks_asked : Span → Conf → ℕ
+ticks_asked (Frames count) conf = count * frame_of conf 0
+ticks_asked (Ticks count) conf = count
+
+-- what a run of a system comes to: it is refused where it asks for more ticks than a run may have
+unfoldable pub ran_within : List ℕ → ℕ → System → Outcome
+ran_within file asked system = if nat_lt TICKS asked then refused file (ticks_text asked) else ran file asked system
+
+-- what a container comes to that is run for so long, or the refusal of its file
+abbrev pub run_by : List ℕ → Span → Result System BoxFault → Outcome
+run_by file span (Ok system) = ran_within file (ticks_asked span system.conf) system
+run_by file span (Err fault) = refused file (box_fault_text fault)
+
+-- what the container of a file comes to, run for so long
+unfoldable pub run_outcome : List ℕ → Span → List ℕ → Outcome
+run_outcome file span bytes = run_by file span (unpacked bytes)
+
+-- what is printed of a file that was made
+unfoldable pub made_text : ℕ → List ℕ
+made_text length = codes "ok length=" ++ decimal length ++ codes "\n"
+
+-- what a file comes to out of which another is made: that file, or a refusal
+abbrev pub made : List ℕ → List ℕ → Result (List ℕ) (List ℕ) → Outcome
+made input output (Ok bytes) = record { denial = None; output = Some (record { file = output; bytes = bytes }); report = made_text (length bytes) }
+made input output (Err text) = refused input text
+
+-- what files come to that are packed: their container, or the refusal of one of them
+abbrev pub packed_to : List ℕ → Result (List ℕ) Denial → Outcome
+packed_to output (Ok bytes) = record { denial = None; output = Some (record { file = output; bytes = bytes }); report = made_text (length bytes) }
+packed_to output (Err denial) = record { denial = Some denial; output = None; report = [] }
+
+-- what a file comes to that is told: its text, or a refusal
+abbrev pub told : List ℕ → Result (List ℕ) (List ℕ) → Outcome
+told file (Ok text) = record { denial = None; output = None; report = text }
+told file (Err text) = refused file text
+
+-- the content of the file of this number
+abbrev pub content : ℕ → List (List ℕ) → List ℕ
+content n contents = slice_index_or contents n []
+
+-- what the contents of the files come to, where none of them is too long
+abbrev pub worked : Command → List (List ℕ) → Outcome
+worked (Bare image ticks) contents = bare_outcome image ticks (content 0 contents)
+worked (Parse description output) contents = made description output (xmc_of (content 0 contents))
+worked (BuildImage program output) contents = made program output (xef_of (content 0 contents))
+worked (ReadImage image) contents = told image (image_lines_of (content 0 contents))
+worked (Pack configuration output images) contents = packed_to output (container_of configuration (content 0 contents) images (drop 1 contents))
+worked (ListContainer container) contents = told container (container_lines_of (content 0 contents))
+worked (CheckContainer container) contents = told container (container_verdict_of (content 0 contents))
+worked (Run container span) contents = run_outcome container span (content 0 contents)
+
+-- the first of the files that has more bytes than a file may have
+abbrev pub first_long : List (List ℕ) → List (List ℕ) → Option (List ℕ)
+first_long [] contents = None
+first_long (file ∷ files) [] = None
+first_long (file ∷ files) (bytes ∷ contents) = if nat_lt FILE_BYTES (length bytes) then Some file else first_long files contents
+
+-- a file that is too long is refused before any work is done
+abbrev pub unless_long : Option (List ℕ) → Outcome → Outcome
+unless_long None outcome = outcome
+unless_long (Some file) outcome = refused file (codes "too-long")
+
+-- what the contents of the files that a command reads come to
+unfoldable pub outcome_of : Command → List (List ℕ) → Outcome
+outcome_of command contents = unless_long (first_long (inputs_of command) contents) (worked command contents)

@@ -1,0 +1,152 @@
+-- What the top call promises, each promise by a name.
+use Rattle.std.specs.Prelude.{◌≡◌, ◌≢◌, ℕ, zero, suc, ◌+◌, ◌≤◌, ◌⊎◌, List, ◌∷◌, ◌++◌, length, Option, Some, None, IsSome, Ok}
+use Rattle.xm_outside.specs.Causes.{Rose, counted}
+use Rattle.xm_outside.specs.Files.{Files, IsAbsent, OthersStay}
+use Rattle.xm_outside.specs.Growth.{grown, GrewByPrefix}
+use Rattle.xm_words.specs.Words.{Command}
+use Rattle.xm_commands.specs.Answer.{answer, read_all}
+use Rattle.xm_commands.specs.Ending.{Ending, complaint, status_of}
+use Rattle.xm_commands.specs.Outcome.{inputs_of, outcome_of, output_of}
+use Rattle.xm_commands.specs.Work.{Outside, IsWorked}
+use Rattle.xm_commands.specs.declared.status.Status.{Status}
+use Rattle.xm_commands.specs.declared.status.Status.TheVariants.{Done, Refused, Usage, ReadFault, WriteFault, NoMemory}
+
+-- a line went out: all of it, or a front where the sink's own count of faults rose
+abbrev pub IsSaid : List ℕ → Option (List ℕ) → ℕ → Option (List ℕ) → ℕ → Type 0
+IsSaid line had before got now =
+    ((got ≡ grown had line) × (now ≡ before)) ⊎ (GrewByPrefix had line got × Rose before now)
+
+-- the call is explained by an ending: the status and the line on the error output are its own, and its cause holds
+pub record IsExplained (status : Status) (command : Option Command) (before after : Outside) (had : Option (List ℕ)) (error_faults : ℕ) (got : Option (List ℕ)) (error_faults_after : ℕ) : Type 0 where
+  pub ending : Ending
+  pub answered : status ≡ status_of ending
+  pub line : IsSaid (complaint ending) had error_faults got error_faults_after
+  pub cause : IsWorked ending command before after
+
+-- no count of the store or of the report's sink rose
+pub record HasNoFault (before after : Outside) : Type 0 where
+  pub reads : Rose before.read_faults after.read_faults → ⊥
+  pub writes : Rose before.write_faults after.write_faults → ⊥
+  pub report : Rose before.faults after.faults → ⊥
+
+-- in a world without faults the answer is that of the definition: where the store tells its files, no count
+-- rose and memory is there
+pub record Answers (status : Status) (words : List (List ℕ)) (before after : Outside) (had : Option (List ℕ)) (error_faults : ℕ) (got : Option (List ℕ)) (error_faults_after : ℕ) : Type 0 where
+  -- the status
+  pub answered : (files : Files) → before.files ≡ Some files → HasNoFault before after → status ≢ NoMemory → status ≡ (answer words files).status
+  -- the bytes in the report
+  pub report : (files : Files) → before.files ≡ Some files → HasNoFault before after → status ≢ NoMemory → after.got ≡ grown before.got (answer words files).out
+  -- the files
+  pub files : (files : Files) → before.files ≡ Some files → HasNoFault before after → status ≢ NoMemory → after.files ≡ Some (answer words files).files
+  -- the bytes on the error output, where its own count did not rise
+  pub error : (files : Files) → before.files ≡ Some files → HasNoFault before after → status ≢ NoMemory → (Rose error_faults error_faults_after → ⊥) → got ≡ grown had (answer words files).err
+
+-- one of the files is this one
+pub record IsAmong (file : List ℕ) (files : List (List ℕ)) : Type 0 where
+  pub first : List (List ℕ)
+  pub rest : List (List ℕ)
+  pub among : files ≡ first ++ file ∷ rest
+
+-- the store tells its files, and one of these is not among them
+pub record IsOneAbsent (told : Option Files) (files : List (List ℕ)) : Type 0 where
+  pub file : List ℕ
+  pub named : IsAmong file files
+  pub absent : IsAbsent told file
+
+-- the count of failed reads rose, or the store tells its files and one that the words name is not among them
+abbrev pub IsReadCause : Option Command → Outside → Outside → Type 0
+IsReadCause None before after = ⊥
+IsReadCause (Some command) before after = Rose before.read_faults after.read_faults ⊎ IsOneAbsent before.files (inputs_of command)
+
+-- these are the contents of the files that a command reads; where the store tells no files, nothing is said of them
+abbrev pub AreContents : Option Files → Command → List (List ℕ) → Type 0
+AreContents None command contents = Unit {0}
+AreContents (Some files) command contents = read_all files (inputs_of command) ≡ Ok contents
+
+-- the bytes that were read are refused; no file is written
+pub record IsRefusedIn (command : Command) (before after : Outside) : Type 0 where
+  pub contents : List (List ℕ)
+  pub are : AreContents before.files command contents
+  pub refused : IsSome (outcome_of command contents).denial
+  pub report : after.got ≡ grown before.got (outcome_of command contents).report
+  pub files : after.files ≡ before.files
+
+-- the bytes of the files that the words name are refused
+abbrev pub IsRefusal : Option Command → Outside → Outside → Type 0
+IsRefusal None before after = ⊥
+IsRefusal (Some command) before after = IsRefusedIn command before after
+
+-- the report's sink failed, and has got a front of the report
+pub record IsCut (command : Command) (before after : Outside) : Type 0 where
+  pub cause : Rose before.faults after.faults
+  pub contents : List (List ℕ)
+  pub are : AreContents before.files command contents
+  pub front : GrewByPrefix before.got (outcome_of command contents).report after.got
+
+-- the store failed to write the command's file, and the report has got nothing
+pub record IsLost (command : Command) (before after : Outside) : Type 0 where
+  pub cause : Rose before.write_faults after.write_faults
+  pub output : IsSome (output_of command)
+  pub report : after.got ≡ before.got
+
+-- the report or the command's file was not written
+abbrev pub IsWriteCause : Option Command → Outside → Outside → Type 0
+IsWriteCause None before after = ⊥
+IsWriteCause (Some command) before after = IsCut command before after ⊎ IsLost command before after
+
+-- no count of faults moved
+pub record IsFaultless (before after : Outside) : Type 0 where
+  pub reads : after.read_faults ≡ before.read_faults
+  pub writes : after.write_faults ≡ before.write_faults
+  pub report : after.faults ≡ before.faults
+
+-- a counter after so many calls
+abbrev pub counted_by : ℕ → ℕ → ℕ
+counted_by zero n = n
+counted_by (suc k) n = counted_by k (counted n)
+
+-- how many files are written
+abbrev pub output_count : Option (List ℕ) → ℕ
+output_count None = 0
+output_count (Some file) = 1
+
+-- how many times the words of a command name a file
+abbrev pub named_count : Command → ℕ
+named_count command = length (inputs_of command) + output_count (output_of command)
+
+-- there were so many calls of the store, at most one for each time that the words name a file
+pub record HasCalls (command : Command) (before after : ℕ) : Type 0 where
+  pub count : ℕ
+  pub few : count ≤ named_count command
+  pub calls : after ≡ counted_by count before
+
+-- words that spell no command make no call of the store
+abbrev pub CallsAsNamed : Option Command → Outside → Outside → Type 0
+CallsAsNamed None before after = after.calls ≡ before.calls
+CallsAsNamed (Some command) before after = HasCalls command before.calls after.calls
+
+-- each status has its cause, and leaves what it says
+pub record HasCauses (status : Status) (command : Option Command) (before after : Outside) : Type 0 where
+  pub read_fault : status ≡ ReadFault → IsReadCause command before after
+  pub refused : status ≡ Refused → IsRefusal command before after
+  pub write_fault : status ≡ WriteFault → IsWriteCause command before after
+  pub done : status ≡ Done → IsFaultless before after
+  pub calls : CallsAsNamed command before after
+
+-- one of the statuses after which the report has got nothing
+abbrev pub IsQuiet : Status → Type 0
+IsQuiet status = (status ≡ Usage) ⊎ (status ≡ ReadFault) ⊎ (status ≡ NoMemory)
+
+-- one of the statuses after which no file was written
+abbrev pub IsBarren : Status → Type 0
+IsBarren status = (status ≡ Refused) ⊎ IsQuiet status
+
+-- every file but the one that is written is as before
+abbrev pub FilesStay : Option (List ℕ) → Option Files → Option Files → Type 0
+FilesStay None before after = after ≡ before
+FilesStay (Some file) before after = OthersStay before file after
+
+-- every file but the one that the words name to be written is as before
+abbrev pub OtherFilesStay : Option Command → Option Files → Option Files → Type 0
+OtherFilesStay None before after = after ≡ before
+OtherFilesStay (Some command) before after = FilesStay (output_of command) before after

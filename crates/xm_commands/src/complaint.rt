@@ -1,0 +1,152 @@
+//! The line on the error output.
+
+ghost use Rattle.std.specs.Prelude.{◌≡◌, [], ◌++◌, codes};
+ghost use Rattle.xm_outside.specs.Causes.{HasCause};
+ghost use Rattle.xm_outside.specs.Growth.{Writes};
+ghost use Rattle.xm_commands.specs.Ending.{Finished, behind_file, complaint, length_text, ticks_text, unbuilt_text};
+ghost use Rattle.xm_commands.specs.Told.{ending_of, refusal_text};
+
+use crate::ending::{Ending, Refusal};
+use xm_outside::{Failed, Sink, write_all};
+use xm_report::Pen;
+
+/// Writes the line of a call that ends so; a finished call makes no call of the sink.
+#[tactic(auto, unfolding(crate::specs::Ending::complaint))]
+pub(crate) fn complain<E: Sink>(err: &mut E, ending: &Ending<'_>) -> Result<(), Failed>
+    ensures line { Writes result (E.got err.old) (complaint (ending_of ending.now)) (E.got err.new) }
+    ensures cause { HasCause result (E.faults err.old) (E.faults err.new) }
+    ensures silent { ending_of ending.now ≡ Finished → err.new ≡ err.old }
+{
+    match ending {
+        Ending::Finished => Ok(()),
+        Ending::Misused => write_all(err, b"xm_run: usage\n"),
+        Ending::Unread { file } => name_file(err, file, b": cannot read\n"),
+        Ending::Denied { file, why } => deny(err, file, why),
+        Ending::Unwritten => write_all(err, b"xm_run: report: cannot write\n"),
+        Ending::Unsaved { file } => name_file(err, file, b": cannot write\n"),
+        Ending::Starved => write_all(err, b"xm_run: no memory\n"),
+    }
+}
+
+// Writes the line of a file that is refused.
+fn deny<E: Sink>(err: &mut E, file: &str, why: &Refusal) -> Result<(), Failed>
+    ensures line { Writes result (E.got err.old) (codes "xm_run: " ++ file.now ++ behind_file (refusal_text why.now)) (E.got err.new) }
+    ensures cause { HasCause result (E.faults err.old) (E.faults err.new) }
+{
+    match why {
+        Refusal::TooLong => name_file(err, file, b": too-long\n"),
+        Refusal::Length { found } => {
+            let mut pen = Pen::new();
+            length_line(&mut pen, *found);
+            name_file(err, file, pen.bytes())
+        }
+        Refusal::Ticks { asked } => {
+            let mut pen = Pen::new();
+            ticks_line(&mut pen, *asked);
+            name_file(err, file, pen.bytes())
+        }
+        Refusal::NotBuilt { part, pc } => {
+            let mut pen = Pen::new();
+            unbuilt_line(&mut pen, *part, *pc);
+            name_file(err, file, pen.bytes())
+        }
+        Refusal::Told { text } => tell(err, file, text),
+    }
+}
+
+// Writes the line of a file of which a text says why it is refused.
+fn tell<E: Sink>(err: &mut E, file: &str, text: &str) -> Result<(), Failed>
+    ensures line { Writes result (E.got err.old) (codes "xm_run: " ++ file.now ++ behind_file text.now) (E.got err.new) }
+    ensures cause { HasCause result (E.faults err.old) (E.faults err.new) }
+{
+    tell_line(err, b"xm_run: ", file.as_bytes(), text.as_bytes())
+}
+
+// Writes the program's name, the file's and the text.
+#[tactic(auto, using(xm_outside::specs::Growth::writes_then))]
+fn tell_line<E: Sink>(err: &mut E, program: &[u8], file: &[u8], text: &[u8]) -> Result<(), Failed>
+    ensures line { Writes result (E.got err.old) (program.now ++ file.now ++ behind_file text.now) (E.got err.new) }
+    ensures cause { HasCause result (E.faults err.old) (E.faults err.new) }
+{
+    write_two(err, program, file)?;
+    tell_behind(err, text)
+}
+
+// Writes what stands behind the file's name.
+fn tell_behind<E: Sink>(err: &mut E, text: &[u8]) -> Result<(), Failed>
+    ensures line { Writes result (E.got err.old) (behind_file text.now) (E.got err.new) }
+    ensures cause { HasCause result (E.faults err.old) (E.faults err.new) }
+{
+    write_three(err, b": ", text, b"\n")
+}
+
+// Writes what is said of an image's length.
+#[tactic(auto, unfolding(crate::specs::Ending::length_text))]
+fn length_line(pen: &mut Pen, found: usize)
+    requires { pen.old ≡ [] }
+    ensures { pen.new ≡ behind_file (length_text found) }
+{
+    pen.text(b": image length=");
+    pen.number(found as u64);
+    pen.text(b"\n");
+}
+
+// Writes what is said of a run of too many ticks.
+#[tactic(auto, unfolding(crate::specs::Ending::ticks_text))]
+fn ticks_line(pen: &mut Pen, asked: u64)
+    requires { pen.old ≡ [] }
+    ensures { pen.new ≡ behind_file (ticks_text asked) }
+{
+    pen.text(b": ticks asked=");
+    pen.number(asked);
+    pen.text(b"\n");
+}
+
+// Writes what is said of an instruction that isn't built.
+#[tactic(auto, unfolding(crate::specs::Ending::unbuilt_text))]
+fn unbuilt_line(pen: &mut Pen, part: u8, pc: u32)
+    requires { pen.old ≡ [] }
+    ensures { pen.new ≡ behind_file (unbuilt_text part pc) }
+{
+    pen.text(b": not-built part=");
+    pen.number(u64::from(part));
+    pen.text(b" pc=");
+    pen.word(pc);
+    pen.text(b"\n");
+}
+
+// Writes a line that names a file.
+fn name_file<E: Sink>(err: &mut E, file: &str, rest: &[u8]) -> Result<(), Failed>
+    ensures line { Writes result (E.got err.old) (codes "xm_run: " ++ file.now ++ rest.now) (E.got err.new) }
+    ensures cause { HasCause result (E.faults err.old) (E.faults err.new) }
+{
+    write_three(err, b"xm_run: ", file.as_bytes(), rest)
+}
+
+// Writes three pieces, one after the other.
+#[tactic(auto, using(xm_outside::specs::Growth::writes_then))]
+fn write_three<E: Sink>(
+    err: &mut E,
+    first: &[u8],
+    second: &[u8],
+    third: &[u8],
+) -> Result<(), Failed>
+    ensures text { Writes result (E.got err.old) (first.now ++ second.now ++ third.now) (E.got err.new) }
+    ensures cause { HasCause result (E.faults err.old) (E.faults err.new) }
+{
+    write_two(err, first, second)?;
+    write_all(err, third)
+}
+
+// Writes two pieces, one after the other.
+#[tactic(auto, using(xm_outside::specs::Growth::writes_then))]
+fn write_two<E: Sink>(err: &mut E, first: &[u8], second: &[u8]) -> Result<(), Failed>
+    ensures text { Writes result (E.got err.old) (first.now ++ second.now) (E.got err.new) }
+    ensures cause { HasCause result (E.faults err.old) (E.faults err.new) }
+{
+    write_all(err, first)?;
+    write_all(err, second)
+}
+
+#[cfg(test)]
+mod tests;

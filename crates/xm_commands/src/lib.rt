@@ -1,0 +1,22 @@
+//! The commands: files are read, made and written, systems are run, and each call ends with a status.
+#![tactic(auto)]
+
+mod complaint;
+mod delivery;
+mod ending;
+mod imaging;
+mod packing;
+mod parsing;
+mod reading;
+mod running;
+mod status;
+mod top;
+mod unmade;
+mod unpacking;
+mod work;
+
+pub use status::Status;
+pub use top::{misused, xm_main};
+
+#[cfg(test)]
+mod tests;

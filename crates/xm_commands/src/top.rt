@@ -1,0 +1,67 @@
+//! The top call: from words and files to a report and a status.
+
+ghost use Rattle.std.specs.Prelude.{◌≡◌, ◌≢◌, ◌↔◌, None};
+ghost use Rattle.xm_commands.specs.Ending.{Misused, complaint};
+ghost use Rattle.xm_commands.specs.Top.{Answers, HasCauses, IsBarren, IsExplained, IsQuiet, IsSaid, OtherFilesStay};
+ghost use Rattle.xm_commands.specs.Work.{outside};
+ghost use Rattle.xm_words.specs.Words.{command_of};
+
+use crate::complaint::complain;
+use crate::ending::{Ending, status};
+use crate::status::Status;
+use crate::work::work;
+use std::alloc::Global;
+use xm_machine::Board;
+use xm_outside::{Sink, Store};
+use xm_words::Words;
+
+/// Does what the words say: the named files are read, what is made of them is written, the report goes to
+/// `out`, and each status but Done is told by one line on `err`.
+pub fn xm_main<S: Store, O: Sink, E: Sink>(
+    alloc: Global,
+    words: &Words,
+    files: &mut S,
+    out: &mut O,
+    err: &mut E,
+    board: &mut Board,
+) -> Status
+    // In a world without faults the status, the report and the line on `err` are those of the definition.
+    ensures answers { Answers result words.now
+        (outside (S.files files.old) (S.read_faults files.old) (S.write_faults files.old) (S.calls files.old) (O.got out.old) (O.faults out.old))
+        (outside (S.files files.new) (S.read_faults files.new) (S.write_faults files.new) (S.calls files.new) (O.got out.new) (O.faults out.new))
+        (E.got err.old) (E.faults err.old) (E.got err.new) (E.faults err.new) }
+
+    // Whatever happens, the status and the line on `err` have their cause.
+    ensures explained { IsExplained result (command_of words.now)
+        (outside (S.files files.old) (S.read_faults files.old) (S.write_faults files.old) (S.calls files.old) (O.got out.old) (O.faults out.old))
+        (outside (S.files files.new) (S.read_faults files.new) (S.write_faults files.new) (S.calls files.new) (O.got out.new) (O.faults out.new))
+        (E.got err.old) (E.faults err.old) (E.got err.new) (E.faults err.new) }
+    ensures causes { HasCauses result (command_of words.now)
+        (outside (S.files files.old) (S.read_faults files.old) (S.write_faults files.old) (S.calls files.old) (O.got out.old) (O.faults out.old))
+        (outside (S.files files.new) (S.read_faults files.new) (S.write_faults files.new) (S.calls files.new) (O.got out.new) (O.faults out.new)) }
+    ensures usage { (result ≡ Status.Usage) ↔ (command_of words.now ≡ None) }
+    ensures no_uart { result ≢ Status.UartFault }
+
+    // What stands afterwards.
+    ensures silent { result ≡ Status.Done → err.new ≡ err.old }
+    ensures quiet { IsQuiet result → O.got out.new ≡ O.got out.old }
+    ensures files { OtherFilesStay (command_of words.now) (S.files files.old) (S.files files.new) }
+    ensures barren { IsBarren result → S.files files.new ≡ S.files files.old }
+    ensures writes { result ≢ Status.WriteFault → S.write_faults files.new ≡ S.write_faults files.old }
+{
+    let ending = work(alloc, words, files, out, board);
+    // A fault of `err` changes no status.
+    let _ = complain(err, &ending);
+    status(&ending)
+}
+
+/// The answer to words that cannot be read: they are misused, and the line on `err` says so.
+pub fn misused<E: Sink>(err: &mut E) -> Status
+    ensures usage { result ≡ Status.Usage }
+    ensures line { IsSaid (complaint Misused) (E.got err.old) (E.faults err.old) (E.got err.new) (E.faults err.new) }
+{
+    let misuse = Ending::Misused;
+    // A fault of `err` changes no status.
+    let _ = complain(err, &misuse);
+    status(&misuse)
+}

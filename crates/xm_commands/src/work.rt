@@ -1,0 +1,71 @@
+//! What the words say is done.
+
+ghost use Rattle.std.specs.Prelude.{Some};
+ghost use Rattle.xm_commands.specs.Told.{ending_of, HasTicks};
+ghost use Rattle.xm_commands.specs.Work.{IsWorked, outside};
+ghost use Rattle.xm_words.specs.Seen.{seen};
+ghost use Rattle.xm_words.specs.Words.{command_of};
+
+use crate::ending::Ending;
+use crate::imaging::{build_image, check_container, list_container, read_image};
+use crate::packing::pack_files;
+use crate::parsing::parse;
+use crate::running::run_file;
+use crate::unpacking::run_container;
+use std::alloc::Global;
+use xm_machine::Board;
+use xm_outside::{Sink, Store};
+use xm_words::{Command, Words, command, grammar};
+
+/// Does what the words say. The answer is how that ended.
+pub(crate) fn work<'a, S: Store, O: Sink>(
+    alloc: Global,
+    words: &'a Words,
+    files: &mut S,
+    out: &mut O,
+    board: &mut Board,
+) -> Ending<'a>
+    ensures { IsWorked (ending_of result) (command_of words.now)
+        (outside (S.files files.old) (S.read_faults files.old) (S.write_faults files.old) (S.calls files.old) (O.got out.old) (O.faults out.old))
+        (outside (S.files files.new) (S.read_faults files.new) (S.write_faults files.new) (S.calls files.new) (O.got out.new) (O.faults out.new)) }
+{
+    grammar();
+    match command(words) {
+        None => Ending::Misused,
+        Some(command) => carry_out(alloc, command, files, out, board),
+    }
+}
+
+// Carries out a command.
+fn carry_out<'a, S: Store, O: Sink>(
+    alloc: Global,
+    command: Command<'a>,
+    files: &mut S,
+    out: &mut O,
+    board: &mut Board,
+) -> Ending<'a>
+    requires { HasTicks command }
+    ensures { IsWorked (ending_of result) (seen (Some command.entry))
+        (outside (S.files files.old) (S.read_faults files.old) (S.write_faults files.old) (S.calls files.old) (O.got out.old) (O.faults out.old))
+        (outside (S.files files.new) (S.read_faults files.new) (S.write_faults files.new) (S.calls files.new) (O.got out.new) (O.faults out.new)) }
+{
+    match command {
+        Command::Bare { image, ticks } => run_file(alloc, image, ticks, files, out, board),
+        Command::Parse {
+            description,
+            output,
+        } => parse(alloc, description, output, files, out),
+        Command::BuildImage { program, output } => build_image(alloc, program, output, files, out),
+        Command::ReadImage { image } => read_image(alloc, image, files, out),
+        Command::Pack {
+            configuration,
+            output,
+            images,
+        } => pack_files(alloc, configuration, output, images, files, out),
+        Command::ListContainer { container } => list_container(alloc, container, files, out),
+        Command::CheckContainer { container } => check_container(alloc, container, files, out),
+        Command::Run { container, span } => {
+            run_container(alloc, container, span, files, out, board)
+        }
+    }
+}

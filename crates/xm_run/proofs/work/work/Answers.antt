@@ -1,5 +1,0 @@
-use Rattle.xm_run.proofs.WorkLemmas.{has_ticks}
-use Rattle.xm_run.proofs.work.work.Goals as goal
-
-pub carry_out-requires : goal.carry_out-requires
-carry_out-requires g c = has_ticks c.in-Some.command c.args.words.now c.grammar.ensures.commands c.in-Some.ensures
