@@ -2,7 +2,7 @@
  * A guest that computes: sorting, hashing, division, recursion deeper than the register windows, calls by
  * pointer, structures by value. It prints a line for each part and a checksum of all lines as the last.
  *
- * Compiled natively with another console it prints the same, and checksum.txt is what that printed.
+ * Compiled natively with another console it prints the same, and checksum.txt, in the data of guest_suite, is what that printed.
  */
 #include "console.h"
 

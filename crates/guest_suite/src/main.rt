@@ -1,45 +1,86 @@
-//! Runs the compiled guest of its data folder, and prints the report.
+//! Runs the compiled guests of its data folder by the program's commands, and prints each call with its report.
 #![tactic(auto)]
 
-ghost use Rattle.std.specs.Prelude.{◌≡◌, false, IfSome};
+ghost use Rattle.std.specs.Prelude.{◌≡◌, OnOk};
 
-use anyhow::{Context, Result};
-use loaded_system::bare;
+use anyhow::{Context, Result, bail};
 use std::alloc::Global;
 use std::fs;
-use xm_machine::{Board, Machine};
-use xm_outside::OutSink;
+use xm_commands::{Status, xm_main};
+use xm_machine::Board;
+use xm_outside::{MemStore, OutSink, Sink};
+use xm_words::Words;
 
-// A raw image, compiled from C.
-const IMAGE: &str = "checksum.bin";
+// The files of the data folder that the calls read.
+const FILES: [&str; 9] = [
+    "hello.bin",
+    "recursion.bin",
+    "sorting.bin",
+    "wide.bin",
+    "checksum.bin",
+    "three.xml",
+    "primes.elf",
+    "chains.elf",
+    "hashes.elf",
+];
 
-// More ticks than it runs.
-const TICKS: u64 = 4_000_000;
+// The calls, in their order: each raw image alone, then the system of three from its description to its reports.
+const CALLS: [&str; 14] = [
+    "bare hello.bin 1000",
+    "bare recursion.bin 30000",
+    "bare sorting.bin 1000000",
+    "bare wide.bin 2000000",
+    "bare checksum.bin 4000000",
+    "xmcparser three.xml three.xmc",
+    "xmeformat build primes.elf primes.xef",
+    "xmeformat build chains.elf chains.xef",
+    "xmeformat build hashes.elf hashes.xef",
+    "xmpack build three.xmc three.xmp 0=primes.xef 1=chains.xef 2=hashes.xef",
+    "xmpack check three.xmp",
+    "xmpack list three.xmp",
+    "run three.xmp --ticks 2500",
+    "run three.xmp --frames 12",
+];
+
+const NO_MEMORY: &str = "there is no memory";
 
 fn main(rt: HostRuntime) -> Result<()> {
-    let image = fs::read(&rt, IMAGE)?;
-    let Some(mut machine) = booted(rt.alloc(), &image) else {
-        return None.context("no machine boots with this image");
-    };
+    let mut files = MemStore::new(rt.alloc(), Vec::new(rt.alloc()));
+    for name in FILES {
+        let bytes = fs::read(&rt, name)?;
+        files.put(name, &bytes).ok().context(NO_MEMORY)?;
+    }
     let mut out = OutSink::new(rt.stdout());
-    machine
-        .run(TICKS, &mut out, &mut Board::new())
-        .ok()
-        .context("the run did not reach its end")?;
+    let mut err = OutSink::new(rt.stderr());
+    for call in CALLS {
+        println!(rt; "$ xm_run {call}")?;
+        carry_out(rt.alloc(), call, &mut files, &mut out, &mut err)?;
+    }
     Ok(())
 }
 
-// A machine with this image, before its first tick.
-#[tactic(auto, unfolding(xm_machine::specs::State::booted))]
-fn booted(alloc: Global, image: &[u8]) -> Option<Machine>
-    ensures fresh { IfSome result (λ machine. machine.state.ticks ≡ 0) }
-    ensures running { IfSome result (λ machine. machine.state.halted ≡ false) }
+// Does what a call says, or tells that it was not done.
+fn carry_out<O: Sink, E: Sink>(
+    alloc: Global,
+    call: &str,
+    files: &mut MemStore,
+    out: &mut O,
+    err: &mut E,
+) -> Result<()>
+    ensures done { OnOk result (err.new ≡ err.old) }
 {
-    match bare(alloc, image) {
-        Ok(system) => match Machine::boot(alloc, system) {
-            Ok(machine) => Some(machine),
-            Err(_) => None,
-        },
-        Err(_) => None,
+    let words = words_of(alloc, call)?;
+    match xm_main(alloc, &words, files, out, err, &mut Board::new()) {
+        Status::Done => Ok(()),
+        status => bail!("{call}: ended with {status:?}"),
     }
+}
+
+// The words of a call, which stand apart by one blank each.
+fn words_of(alloc: Global, call: &str) -> Result<Words> {
+    let mut words = Words::new(alloc);
+    for word in call.split(' ') {
+        words.push(word).ok().context(NO_MEMORY)?;
+    }
+    Ok(words)
 }
