@@ -2,7 +2,7 @@
 """Says which text that the program can print on standard error has no row in docs/ERRORS.md, and which row
 no text of the code has. Ends with 1 where there is one of either, else with 0.
 
-The texts are those of crates/xm_run/src/complaint.rt and of each `Display` of a type named ..Fault in a crate.
+The texts are those of crates/xm_commands/src/complaint.rt and of each `Display` of a type named ..Fault in a crate.
 A row is a line of a table whose first column has the text as code, behind a paragraph that begins with
 `Texts of` and the type; values are one word each. The variant `Memory` is left out: want of memory is told by the program as `no memory`.
 """
@@ -40,7 +40,7 @@ def fault_texts():
 
 def complaint_texts():
     """The texts of the program's own lines: whole literals, or what a function puts together by a pen."""
-    source = (ROOT / "crates/xm_run/src" / COMPLAINTS).read_text(encoding="utf-8")
+    source = (ROOT / "crates/xm_commands/src" / COMPLAINTS).read_text(encoding="utf-8")
     for function in re.split(r"\nfn |\npub\(crate\) fn ", source)[1:]:
         pieces = re.findall(r'pen\.text\(b"([^"]*)"\)|(pen\.(?:number|word)\()', function)
         if pieces:
