@@ -224,7 +224,7 @@ fn each_rule_is_told_with_its_places(rt: HostRuntime) -> Result<(), Fail> {
 }
 
 // A text with another part in the place of one.
-fn changed(alloc: Global, text: &[u8], old: &str, new: &str) -> Result<Vec<u8>, Fail> {
+pub(crate) fn changed(alloc: Global, text: &[u8], old: &str, new: &str) -> Result<Vec<u8>, Fail> {
     let text = str::from_utf8(text).unwrap_or("");
     let (front, back) = text.split_once(old).unwrap_or((text, ""));
     let mut changed = Vec::from_slice(alloc, front.as_bytes())?;

@@ -1,7 +1,7 @@
 //! What `run` answers: the worked system with guests of a few words, and refusals with their texts.
 
 use crate::imaging::tests::CONTAINER;
-use crate::parsing::tests::DEMO;
+use crate::parsing::tests::{DEMO, changed};
 use crate::status::Status;
 use crate::top::xm_main;
 use std::alloc::Global;
@@ -155,10 +155,16 @@ fn answers(
     Ok(())
 }
 
-// A store with the worked description and the container of two guests, `duo.xmp`.
-fn packed(rt: &impl Abort, alloc: Global, first: &[u32], second: &[u32]) -> Result<MemStore, Fail> {
+// A store with a description and the container of two guests, `duo.xmp`.
+fn packed(
+    rt: &impl Abort,
+    alloc: Global,
+    description: &[u8],
+    first: &[u32],
+    second: &[u32],
+) -> Result<MemStore, Fail> {
     let mut files = MemStore::new(alloc, Vec::new(alloc));
-    files.put("demo.xml", DEMO.as_bytes())?;
+    files.put("demo.xml", description)?;
     files.put("a.elf", &program(alloc, 0x4010_0000, first)?)?;
     files.put("b.elf", &program(alloc, 0x4018_0000, second)?)?;
     let steps: [&[&str]; 4] = [
@@ -182,7 +188,7 @@ fn packed(rt: &impl Abort, alloc: Global, first: &[u32], second: &[u32]) -> Resu
 #[test]
 fn two_partitions_run_in_their_slots(rt: HostRuntime) -> Result<(), Fail> {
     let alloc = rt.alloc();
-    let mut files = packed(&rt, alloc, &LOOP, &LOOP)?;
+    let mut files = packed(&rt, alloc, DEMO.as_bytes(), &LOOP, &LOOP)?;
     assert_eq!(rt; files.get("duo.xmp"), Some(CONTAINER));
     for (option, number, report) in [
         (
@@ -253,12 +259,22 @@ END XM running plan=0 clock=0 ticks=0
     Ok(())
 }
 
-// Each row: an option, the last number that is accepted and the ticks asked, and the first that is refused and its ticks.
+// The worked description with a major frame and periods of 2 s.
+fn slow(alloc: Global) -> Result<Vec<u8>, Fail> {
+    let mut text = Vec::from_slice(alloc, DEMO.as_bytes())?;
+    for _ in 0..3 {
+        text = changed(alloc, &text, "2ms", "2s")?;
+    }
+    Ok(text)
+}
+
+// The last numbers that are accepted, where a frame has 2000000 ticks.
 #[test]
-fn a_run_has_at_most_4000000000_ticks(rt: HostRuntime) -> Result<(), Fail> {
+fn a_run_may_have_4000000000_ticks(rt: HostRuntime) -> Result<(), Fail> {
     let alloc = rt.alloc();
-    let mut files = packed(&rt, alloc, &HALT, &HALT_1)?;
-    for (option, number) in [("--frames", "2000000"), ("--ticks", "4000000000")] {
+    let description = slow(alloc)?;
+    let mut files = packed(&rt, alloc, &description, &HALT, &HALT_1)?;
+    for (option, number) in [("--frames", "2000"), ("--ticks", "4000000000")] {
         let texts = ["run", "duo.xmp", option, number];
         let report = "\
 SYSTEM parts=2 plans=1 ticks=4000000000
@@ -270,6 +286,16 @@ END XM running plan=0 clock=4000000000 ticks=4000000000
 ";
         answers(&rt, alloc, &texts, &mut files, Status::Done, report, "")?;
     }
+    let texts = ["run", "duo.xmp", "--frames", "2001"];
+    let line = "xm_run: duo.xmp: ticks asked=4002000000\n";
+    answers(&rt, alloc, &texts, &mut files, Status::Refused, "", line)
+}
+
+// Each row: an option, its number, the status, and the line on the error output. A frame has 2000 ticks.
+#[test]
+fn a_run_has_no_more_ticks(rt: HostRuntime) -> Result<(), Fail> {
+    let alloc = rt.alloc();
+    let mut files = packed(&rt, alloc, DEMO.as_bytes(), &HALT, &HALT_1)?;
     for (option, number, status, line) in [
         (
             "--frames",
@@ -372,7 +398,7 @@ END XM running plan=0 clock=11 ticks=11
         ),
     ];
     for (first, second, ticks, report, line) in cases {
-        let mut files = packed(&rt, alloc, first, second)?;
+        let mut files = packed(&rt, alloc, DEMO.as_bytes(), first, second)?;
         let texts = ["run", "duo.xmp", "--ticks", ticks];
         let status = if line.is_empty() {
             Status::Done
