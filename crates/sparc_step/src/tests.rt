@@ -4,6 +4,7 @@ ghost use Rattle.std.specs.Prelude.{◌≡◌, ◌%◌, [], ◌∷◌};
 ghost use Rattle.std.specs.FinMap.{empty};
 ghost use Rattle.std.specs.Int.{byte_len};
 ghost use Rattle.guest_bus.specs.Access.{width_of};
+ghost use Rattle.guest_bus.specs.Memory.{no_others};
 
 use crate::conditions::holds;
 use crate::execution::{execute, turn};
@@ -21,7 +22,7 @@ impl Bus for Nothing {
 
     ghost memory = { λ _. empty };
 
-    ghost others = { λ _. (0, []) };
+    ghost others = { λ _. no_others };
 
     #[tactic(auto, using(guest_bus::specs::WholeLemmas::no_memory), unfolding(guest_bus::specs::Access::fetched))]
     fn fetch(&mut self, address: u32) -> Result<u32, BusFault> {
