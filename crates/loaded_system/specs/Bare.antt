@@ -66,9 +66,3 @@ abbrev pub IsBare : Result System BareFault → List ℕ → Type 0
 IsBare (Ok system) image = IsImageLength (length image) × (system ≡ bare_system image)
 IsBare (Err (Length found)) image = (found ≡ length image) × ((found ≡ 0) ⊎ (IMAGE_BYTES < found))
 IsBare (Err Memory) image = IsImageLength (length image)
-
--- the system is that of a raw image
-pub record RunsImage (system : System) : Type 0 where
-  pub image : List ℕ
-  pub fits : IsImageLength (length image)
-  pub is : system ≡ bare_system image

@@ -2,7 +2,7 @@
 
 ghost use Rattle.std.specs.Prelude.{◌≡◌, IfOk, IsTrue, length};
 ghost use Rattle.xm_conf.specs.Name.{is_name};
-ghost use Rattle.loaded_system.specs.Bare.{IsBare, IsImageLength, RunsImage, bare_conf, bare_image, bare_part, bare_plan, bare_regions, bare_system};
+ghost use Rattle.loaded_system.specs.Bare.{IsBare, IsImageLength, bare_conf, bare_image, bare_part, bare_plan, bare_regions, bare_system};
 
 use crate::system::System;
 use std::alloc::Global;
@@ -38,7 +38,6 @@ const FRAME: u32 = 1000;
 /// the image is loaded and entered. Refused where the image has no bytes or more than `IMAGE_BYTES`.
 pub fn bare(alloc: Global, image: &[u8]) -> Result<System, BareFault>
     ensures value { IsBare result image.now }
-    ensures runs { IfOk result RunsImage }
 {
     let found = image.len();
     if found == 0 || IMAGE_BYTES < found {
