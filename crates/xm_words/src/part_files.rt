@@ -1,6 +1,6 @@
 //! Files for partitions, as words name them.
 
-ghost use Rattle.std.specs.Prelude.{◌≡◌, ◌<◌, ◌∷◌, [], IfSome, MatchOption, false, length, true};
+ghost use Rattle.std.specs.Prelude.{◌≡◌, ◌∷◌, [], MatchOption, false, true};
 ghost use Rattle.xm_words.specs.Seen.{seen_file, seen_files, seen_part_file};
 ghost use Rattle.xm_words.specs.Texts.{texts_of};
 ghost use Rattle.xm_words.specs.Words.{are_apart, are_named, are_part_files, has_part, is_file, part_file_by, part_file_of};
@@ -41,7 +41,6 @@ impl<'a> PartFiles<'a> {
     pub fn split_first(self) -> Option<(PartFile<'a>, PartFiles<'a>)>
         ensures value { MatchOption result (seen_files self.entry ≡ [])
             (λ (first, others). seen_files self.entry ≡ seen_file first ∷ seen_files others) }
-        ensures fewer { IfSome result (λ (first, others). length others.words.now < length self.entry.words.now) }
     {
         let (word, others) = self.words.split_first()?;
         let first = part_file(word)?;

@@ -16,4 +16,4 @@ invariant-loop-bytes g l =
     (outside (g.S.Store.files l.files) (g.S.Store.read_faults l.files) (g.S.Store.write_faults l.files) (g.S.Store.calls l.files) got faults))
 
 abbrev pub decreases-loop-bytes : goal.decreases-loop-bytes
-decreases-loop-bytes g l = length l.rest.words.now
+decreases-loop-bytes g l = length (seen_files l.rest)

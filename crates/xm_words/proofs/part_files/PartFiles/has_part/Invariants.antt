@@ -7,4 +7,4 @@ abbrev pub invariant-loop-first : goal.invariant-loop-first
 invariant-loop-first l = has_part l.part (seen_files l.rest) ≡ has_part l.part (seen_files l.fn.self)
 
 abbrev pub decreases-loop-first : goal.decreases-loop-first
-decreases-loop-first l = length l.rest.words.now
+decreases-loop-first l = length (seen_files l.rest)
