@@ -2,7 +2,7 @@
 use Rattle.std.proofs.Common.{◌≡◌, ℕ, zero, suc, ◌<◌, List, [], ◌∷◌, length, set, get_or, refl, sym, ap, ◌∙◌, arith}
 use Rattle.std.specs.Prelude.{remove}
 use Rattle.std.specs.FinMap.{empty}
-use Rattle.guest_bus.specs.Memory.{Area, Memory, Others}
+use Rattle.guest_bus.specs.Memory.{Others}
 use Rattle.guest_memory.specs.Memories.{AreMemories, Memories, areas_at, map_at, others_of, with_map}
 
 -- the rest of a list that is not empty
