@@ -1,5 +1,6 @@
 -- What holds of words and instructions.
 use Rattle.std.specs.Prelude.{ℕ, ◌≡◌, ◌≢◌, ◌↔◌}
+use Rattle.sparc_code.specs.Decoded.{decoded}
 use Rattle.sparc_code.specs.Ranges.{InRange}
 use Rattle.sparc_code.specs.Spells.{Spells}
 use Rattle.sparc_code.specs.declared.instruction.Instr.{Instr}
@@ -8,6 +9,10 @@ use Rattle.sparc_code.specs.declared.instruction.Instr.TheVariants.{Illegal}
 -- each word spells an instruction
 abbrev pub SpellsSome : Type 0
 SpellsSome = (word : ℕ) → (instruction : Instr) × Spells word instruction
+
+-- each word spells the instruction that is read from its selectors
+abbrev pub SpellsDecoded : Type 0
+SpellsDecoded = (word : ℕ) → Spells word (decoded word)
 
 -- no word spells two instructions
 abbrev pub Unique : Type 0

@@ -8,6 +8,9 @@ use Rattle.sparc_code.proofs.law.spelling.Goals as goal
 pub returns-clause-some : goal.returns-clause-some
 returns-clause-some c = λ word. (decoded word, spells-decoded word)
 
+pub returns-clause-decoded : goal.returns-clause-decoded
+returns-clause-decoded c = spells-decoded
+
 pub returns-clause-unique : goal.returns-clause-unique
 returns-clause-unique c = spells-unique
 
