@@ -6,8 +6,6 @@ mod encoding;
 pub mod fields;
 mod instruction;
 mod law;
-#[cfg(test)]
-mod tests;
 
 pub use decoding::decode;
 pub use encoding::encode;

@@ -9,8 +9,6 @@ mod operands;
 mod outcome;
 mod processor;
 mod registers;
-#[cfg(test)]
-mod tests;
 mod transfers;
 mod words;
 

@@ -1,49 +1,51 @@
-//! Runs vectors of one instruction each through the processor, and prints how many hold of each kind and each that does not.
+//! Tries words and vectors, of one call each, on the processor: prints how many hold of each kind, and each that does not.
 #![tactic(auto)]
 
+mod call;
+mod claim;
+mod contents;
 mod memory;
 mod state;
 mod tally;
-#[cfg(test)]
-mod tests;
 mod trial;
 mod vector;
+mod words;
 
-use anyhow::{Context, Result};
+use anyhow::Result;
+use claim::{Claim, judge};
 use memory::VectorMemory;
 use std::fs;
 use tally::Tallies;
-use trial::came_to;
-use vector::read_vector;
 
-// The file of the vectors, one a line; lines that begin with # say what they are.
-const VECTORS: &str = "instructions.txt";
+// The files, and what each says of its lines. A line that begins with # says what stands there.
+const FILES: [(&str, Claim); 7] = [
+    ("words.txt", Claim::Decodes),
+    ("least.txt", Claim::Encodes),
+    ("worked.txt", Claim::Holds),
+    ("windows.txt", Claim::Holds),
+    ("differing.txt", Claim::Differs),
+    ("no_vectors.txt", Claim::IsNone),
+    ("instructions.txt", Claim::Holds),
+];
 
 fn main(rt: HostRuntime) -> Result<()> {
-    let text = fs::read_to_string(&rt, VECTORS)?;
     let mut memory = VectorMemory::new(rt.alloc())?;
-    let mut tallies = Tallies::new(rt.alloc());
-    for line in text.lines() {
-        if !line.starts_with('#') {
-            try_line(&rt, line, &mut memory, &mut tallies)?;
-        }
-    }
-    tallies.print(&rt)
-}
-
-// Tries the vector of a line, counts it, and prints it where it does not hold.
-fn try_line<'a>(
-    rt: &impl Print,
-    line: &'a str,
-    memory: &mut VectorMemory,
-    tallies: &mut Tallies<'a>,
-) -> Result<()> {
-    let vector = read_vector(line).context("a line is no vector")?;
-    let other = came_to(memory, vector.before, vector.turn, vector.after);
-    tallies.count(vector.kind, other.is_none())?;
-    if let Some(other) = other {
-        println!(rt; "differs: {line}")?;
-        println!(rt; "came to: {other}")?;
+    for (file, claim) in FILES {
+        try_file(&rt, file, claim, &mut memory)?;
     }
     Ok(())
+}
+
+// Tries each line of a file, and prints what came of it.
+fn try_file(rt: &HostRuntime, file: &str, claim: Claim, memory: &mut VectorMemory) -> Result<()> {
+    let text = fs::read_to_string(rt, file)?;
+    let mut tallies = Tallies::new(rt.alloc());
+    println!(rt; "{file}:")?;
+    for line in text.lines() {
+        if !line.starts_with('#') {
+            let judged = judge(rt, claim, line, memory)?;
+            tallies.count(judged.kind, judged.holds)?;
+        }
+    }
+    tallies.print(rt, claim.verb())
 }

@@ -1,6 +1,6 @@
 //! The memory of a vector: one area of bytes.
 
-ghost use Rattle.std.specs.Prelude.{◌≡◌, ◌+◌, ◌<◌, ◌≤◌, ◌↔◌, IfOk, IfSome, IsSome, IsTrue, length, take, drop, []};
+ghost use Rattle.std.specs.Prelude.{◌≡◌, ◌+◌, ◌<◌, ◌≤◌, ◌↔◌, IfOk, IfSome, IsSome, IsTrue, length, take, drop};
 ghost use Rattle.std.specs.Int.{byte_len, from_be_bytes, to_be_bytes, w16, w32, w64};
 ghost use borrow.Rule.Slice.PartMut.{put_mid};
 ghost use Rattle.guest_bus.specs.Access.{Stores, after_store, fetched, loaded, store_fault, width_of};
@@ -8,40 +8,39 @@ ghost use Rattle.guest_bus.specs.Memory.{all_from, is_readable, memory_of, no_ot
 ghost use Rattle.guest_bus.specs.Whole.{IsMemoryOf};
 ghost use Rattle.sparc_vectors.specs.Area.{Places, vector_areas};
 
+use crate::contents::{Contents, DATA_AT, HEAD_BYTES};
 use sparc_step::{Bus, BusFault, Size};
 use std::alloc::{AllocError, Global};
 use std::marker::Model;
 
-/// Where the area lies: from the instruction to the last byte of the data.
+/// Where the area begins, with the instruction.
 pub(crate) const AREA_START: u32 = 0x4000_1000;
 
 /// How many bytes it has.
-pub(crate) const AREA_BYTES: u32 = 0x7_f020;
+pub(crate) const AREA_BYTES: u32 = 0x7_f0c0;
 
-// Where in it the data stand.
-const DATA_AT: usize = 0x7_f000;
-
-/// How many bytes the data have.
-pub(crate) const DATA_BYTES: usize = 32;
-
-/// A memory whose one area lies there and may be written.
+/// A memory whose one area lies there.
 #[derive(Drop)]
 pub(crate) struct VectorMemory {
     bytes: Vec<u8>,
+    /// Whether it may only be read.
+    read_only: bool,
     /// Whether something was stored since the last vector was put in.
     is_stored: bool,
 }
 
 impl Model for VectorMemory {
     ghost use Rattle.std.specs.Prelude.{◌≡◌, length};
-    ghost use Rattle.guest_bus.specs.Memory.{Memory, memory_code, memory_of};
+    ghost use Rattle.std.specs.Coded.{codes};
+    ghost use Rattle.guest_bus.specs.Memory.{memory_code, memory_of};
+    ghost use Rattle.sparc_vectors.specs.Area.{VectorArea};
     ghost use Rattle.sparc_vectors.specs.declared.memory.TheConstants.{AREA_BYTES, AREA_START};
 
-    ghost Value = { Memory };
+    ghost Value = { VectorArea };
 
-    ghost coded = { memory_code };
+    ghost coded = { Prim.hlevel (codes, memory_code) };
 
-    ghost view = { λ a. memory_of AREA_START a.bytes.items };
+    ghost view = { λ a. record { read_only = a.read_only; memory = memory_of AREA_START a.bytes.items } };
 
     ghost invariant = { λ a. length a.bytes.items ≡ AREA_BYTES };
 }
@@ -52,22 +51,21 @@ impl VectorMemory {
         let bytes = vec![in alloc; 0; AREA_BYTES as usize]?;
         Ok(VectorMemory {
             bytes,
+            read_only: false,
             is_stored: false,
         })
     }
 
-    /// Puts the instruction and the data of a vector in.
-    pub(crate) fn put(&mut self, instruction: u32, data: &[u8; DATA_BYTES]) {
-        put_value(&mut self.bytes, 0, Size::Four, u64::from(instruction));
-        put_data(&mut self.bytes, data);
+    /// Puts what a vector has before its call in.
+    pub(crate) fn put(&mut self, contents: &Contents) {
+        put_contents(&mut self.bytes, contents);
+        self.read_only = contents.read_only;
         self.is_stored = false;
     }
 
-    /// Whether the instruction and the data are these, and all else is zero as before.
-    pub(crate) fn has(&self, instruction: u32, data: &[u8; DATA_BYTES]) -> bool {
-        word(&self.bytes, 0) == instruction
-            && has_data(&self.bytes, data)
-            && (!self.is_stored || is_zero_elsewhere(&self.bytes))
+    /// Whether it holds this, and all else is zero as before.
+    pub(crate) fn has(&self, contents: &Contents) -> bool {
+        has_contents(&self.bytes, contents) && (!self.is_stored || is_zero_elsewhere(&self.bytes))
     }
 
     /// Makes it all zeros.
@@ -77,52 +75,68 @@ impl VectorMemory {
 }
 
 impl Bus for VectorMemory {
-    ghost areas = { λ _. vector_areas };
+    ghost areas = { λ m. vector_areas m.read_only };
 
-    ghost memory = { λ m. m };
+    ghost memory = { λ m. m.memory };
 
     ghost others = { λ _. no_others };
 
     fn fetch(&mut self, address: u32) -> Result<u32, BusFault> {
-        fetch_word(&self.bytes, address)
+        fetch_word(&self.bytes, self.read_only, address)
     }
 
     fn load(&mut self, address: u32, size: Size) -> Result<u64, BusFault> {
-        load_value(&self.bytes, address, size)
+        load_value(&self.bytes, self.read_only, address, size)
     }
 
     fn store(&mut self, address: u32, size: Size, value: u64) -> Result<(), BusFault> {
         self.is_stored = true;
-        store_value(&mut self.bytes, address, size, value)
+        store_value(&mut self.bytes, self.read_only, address, size, value)
     }
 }
 
-// Puts the data in.
-fn put_data(bytes: &mut [u8], data: &[u8; DATA_BYTES])
+// Puts contents in.
+fn put_contents(bytes: &mut [u8], contents: &Contents)
     requires { length bytes.old ≡ AREA_BYTES }
     ensures { length bytes.new ≡ AREA_BYTES }
 {
-    bytes[DATA_AT..DATA_AT + DATA_BYTES].copy_from_slice(data);
+    put_part(bytes, 0, &contents.head);
+    put_part(bytes, DATA_AT, &contents.data);
 }
 
-// Whether the data are these.
-fn has_data(bytes: &[u8], data: &[u8; DATA_BYTES]) -> bool
+// Puts bytes at a place.
+fn put_part(bytes: &mut [u8], at: usize, part: &[u8])
+    requires { at + length part.now ≤ length bytes.old }
+    ensures { length bytes.new ≡ length bytes.old }
+{
+    bytes[at..at + part.len()].copy_from_slice(part);
+}
+
+// Whether the contents are these.
+fn has_contents(bytes: &[u8], contents: &Contents) -> bool
     requires { length bytes.now ≡ AREA_BYTES }
 {
-    bytes[DATA_AT..] == data[..]
+    has_part(bytes, 0, &contents.head) && has_part(bytes, DATA_AT, &contents.data)
 }
 
-// Whether all between the instruction and the data is zero.
+// Whether these bytes stand at a place.
+fn has_part(bytes: &[u8], at: usize, part: &[u8]) -> bool
+    requires { at + length part.now ≤ length bytes.now }
+{
+    &bytes[at..at + part.len()] == part
+}
+
+// Whether all between the start and the data is zero.
 fn is_zero_elsewhere(bytes: &[u8]) -> bool
     requires { length bytes.now ≡ AREA_BYTES }
 {
-    bytes[4..DATA_AT].iter().all(|byte| *byte == 0)
+    bytes[HEAD_BYTES..DATA_AT].iter().all(|byte| *byte == 0)
 }
 
 // Where so many bytes from an address on begin in the area, where all of them lie in it.
-fn place(address: u32, count: u32) -> Option<usize>
+fn place(address: u32, count: u32, read_only: bool) -> Option<usize>
     requires { 0 < count }
-    ensures allowed { IsSome result ↔ IsTrue (all_from (is_readable vector_areas) address count) }
+    ensures allowed { IsSome result ↔ IsTrue (all_from (is_readable (vector_areas read_only)) address count) }
     ensures within { IfSome result (λ at. (address ≡ AREA_START + at) × (at + count ≤ AREA_BYTES)) }
 {
     let at = address.wrapping_sub(AREA_START);
@@ -134,54 +148,64 @@ fn place(address: u32, count: u32) -> Option<usize>
 }
 
 // Where an access begins in the area, or why it is refused.
-fn accessed(address: u32, size: Size) -> Result<usize, BusFault>
-    ensures { Places result address (byte_len (width_of size)) }
+fn accessed(address: u32, size: Size, read_only: bool) -> Result<usize, BusFault>
+    ensures { Places result address (byte_len (width_of size)) read_only }
 {
     let count = size.bytes();
     if address % count != 0 {
         return Err(BusFault::Unaligned);
     }
-    match place(address, count) {
+    match place(address, count, read_only) {
         Some(at) => Ok(at),
         None => Err(BusFault::Outside),
     }
 }
 
 // The word that a fetch answers.
-fn fetch_word(bytes: &[u8], address: u32) -> Result<u32, BusFault>
+fn fetch_word(bytes: &[u8], read_only: bool, address: u32) -> Result<u32, BusFault>
     requires { length bytes.now ≡ AREA_BYTES }
-    ensures value { result ≡ fetched vector_areas (memory_of AREA_START bytes.now) address }
-    ensures whole { IsMemoryOf vector_areas (memory_of AREA_START bytes.now) }
+    ensures value { result ≡ fetched (vector_areas read_only) (memory_of AREA_START bytes.now) address }
+    ensures whole { IsMemoryOf (vector_areas read_only) (memory_of AREA_START bytes.now) }
 {
-    match accessed(address, Size::Four) {
+    match accessed(address, Size::Four, read_only) {
         Ok(at) => Ok(word(bytes, at)),
         Err(fault) => Err(fault),
     }
 }
 
 // The value that a load answers.
-fn load_value(bytes: &[u8], address: u32, size: Size) -> Result<u64, BusFault>
+fn load_value(bytes: &[u8], read_only: bool, address: u32, size: Size) -> Result<u64, BusFault>
     requires { length bytes.now ≡ AREA_BYTES }
-    ensures value { result ≡ loaded vector_areas (memory_of AREA_START bytes.now) address size }
-    ensures whole { IsMemoryOf vector_areas (memory_of AREA_START bytes.now) }
+    ensures value { result ≡ loaded (vector_areas read_only) (memory_of AREA_START bytes.now) address size }
+    ensures whole { IsMemoryOf (vector_areas read_only) (memory_of AREA_START bytes.now) }
 {
-    match accessed(address, size) {
+    match accessed(address, size, read_only) {
         Ok(at) => Ok(value_at(bytes, at, size)),
         Err(fault) => Err(fault),
     }
 }
 
 // Stores a value where nothing refuses it.
-fn store_value(bytes: &mut [u8], address: u32, size: Size, value: u64) -> Result<(), BusFault>
+fn store_value(
+    bytes: &mut [u8],
+    read_only: bool,
+    address: u32,
+    size: Size,
+    value: u64,
+) -> Result<(), BusFault>
     requires { length bytes.old ≡ AREA_BYTES }
-    ensures fault { Stores result (store_fault vector_areas address size) }
-    ensures memory { memory_of AREA_START bytes.new ≡ after_store vector_areas (memory_of AREA_START bytes.old) address size value }
-    ensures whole { IsMemoryOf vector_areas (memory_of AREA_START bytes.new) }
+    ensures fault { Stores result (store_fault (vector_areas read_only) address size) }
+    ensures memory { memory_of AREA_START bytes.new ≡ after_store (vector_areas read_only) (memory_of AREA_START bytes.old) address size value }
+    ensures whole { IsMemoryOf (vector_areas read_only) (memory_of AREA_START bytes.new) }
 {
-    match accessed(address, size) {
+    match accessed(address, size, read_only) {
         Ok(at) => {
-            put_value(bytes, at, size, value);
-            Ok(())
+            if read_only {
+                Err(BusFault::Outside)
+            } else {
+                put_value(bytes, at, size, value);
+                Ok(())
+            }
         },
         Err(fault) => Err(fault),
     }

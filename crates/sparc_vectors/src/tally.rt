@@ -1,8 +1,8 @@
-//! How many vectors hold of each kind.
+//! How many lines of each kind are as they should be.
 
 use std::alloc::{AllocError, Global};
 
-/// How many vectors of a kind hold, of how many that were tried.
+/// How many lines of a kind hold, of how many that were tried.
 #[derive(Debug, Drop)]
 struct Tally<'a> {
     kind: &'a str,
@@ -23,7 +23,7 @@ impl<'a> Tallies<'a> {
         }
     }
 
-    /// Counts a vector of a kind.
+    /// Counts a line of a kind.
     pub(crate) fn count(&mut self, kind: &'a str, held: bool) -> Result<(), AllocError> {
         let held = u32::from(held);
         for tally in self.kinds.iter_mut() {
@@ -41,17 +41,17 @@ impl<'a> Tallies<'a> {
         Ok(())
     }
 
-    /// Prints a line for each kind, and one for all.
-    pub(crate) fn print(&self, rt: &impl Print) -> anyhow::Result<()> {
+    /// Prints a line for each kind, and one for all, with the word for what holds.
+    pub(crate) fn print(&self, rt: &impl Print, verb: &str) -> anyhow::Result<()> {
         let mut held = 0u32;
         let mut tried = 0u32;
         for tally in &self.kinds {
             let kind = tally.kind;
-            println!(rt; "{kind}: {} of {} hold", tally.held, tally.tried)?;
+            println!(rt; "{kind}: {} of {} {verb}", tally.held, tally.tried)?;
             held = held.saturating_add(tally.held);
             tried = tried.saturating_add(tally.tried);
         }
-        println!(rt; "all: {held} of {tried} hold")?;
+        println!(rt; "all: {held} of {tried} {verb}")?;
         Ok(())
     }
 }

@@ -1,53 +1,57 @@
-//! A vector: a state, what the instruction in it comes to, and the state after it.
+//! A vector: a state, what a call in it comes to, and the state after it.
 
+use crate::call::{Call, Came, read_call, read_came};
 use crate::state::State;
-use sparc_step::Turn;
 
-/// One instruction as another implementation executed it.
+/// A call, what it comes to, and the states before and after it.
 #[derive(Drop)]
 pub(crate) struct Vector<'a> {
-    /// The group that the instruction was drawn from.
+    /// The group that the vector belongs to.
     pub(crate) kind: &'a str,
+    pub(crate) call: Call,
     pub(crate) before: State,
-    pub(crate) turn: Turn,
+    pub(crate) came: Came,
     pub(crate) after: State,
 }
 
-/// Reads a line `KIND WORD SETTING .. -> OUTCOME SETTING ..`, or answers `None` where it is none.
+/// Reads a line `KIND CALL SETTING .. -> OUTCOME SETTING ..`, or answers `None` where it is none.
 pub(crate) fn read_vector(line: &str) -> Option<Vector<'_>> {
     let (kind, given) = line.split_once(' ')?;
-    let (given, came) = given.split_once(" -> ")?;
-    let (word, given) = given.split_once(' ')?;
-    let (outcome, came) = came.split_once(' ')?;
-    let word = hexadecimal(word)?;
-    let turn = turn_of(outcome)?;
+    let (given, outcome) = given.split_once(" -> ")?;
+    let (call, given) = name_and_settings(given);
+    let (came, changes) = name_and_settings(outcome);
+    let (call, word) = read_call(call)?;
+    let came = read_came(came)?;
     let mut before = State::new(word);
     let mut after = State::new(word);
-    if !before.set_all(given) || !after.set_all(given) || !after.set_all(came) {
+    if !before.set_all(given) || !after.set_all(given) || !after.set_all(changes) {
         return None;
     }
-    // The hypercall is observed as a trap that was not yet entered; the processor goes on behind it.
-    if turn == Turn::Call {
+    // A hypercall that is told as a trap is not yet entered; the processor goes on behind it.
+    if came == Came::Trap(0xf0) {
         after.advance();
+        return Some(Vector {
+            kind,
+            call,
+            before,
+            came: Came::Hypercall,
+            after,
+        });
     }
     Some(Vector {
         kind,
+        call,
         before,
-        turn,
+        came,
         after,
     })
 }
 
-// What an instruction came to.
-fn turn_of(outcome: &str) -> Option<Turn> {
-    if outcome == "went" {
-        return Some(Turn::Went);
-    }
-    let trap_type = u8::try_from(hexadecimal(outcome.strip_prefix("trap=")?)?).ok()?;
-    if trap_type == 0xf0 {
-        Some(Turn::Call)
-    } else {
-        Some(Turn::Trap(trap_type))
+// The first word, and what stands behind it.
+fn name_and_settings(text: &str) -> (&str, &str) {
+    match text.split_once(' ') {
+        Some(parts) => parts,
+        None => (text, ""),
     }
 }
 

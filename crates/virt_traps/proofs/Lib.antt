@@ -4,4 +4,3 @@ mod WindowLemmas
 mod SettledLemmas
 mod InterruptLemmas
 mod DeliveryLemmas
-mod TestLemmas

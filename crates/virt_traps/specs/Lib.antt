@@ -6,4 +6,3 @@ pub mod Moves
 pub mod Settled
 pub mod Virtual
 pub mod Delivery
-pub mod TestStack

@@ -5,8 +5,6 @@ mod delivery;
 mod interrupts;
 mod save_area;
 mod step;
-#[cfg(test)]
-mod tests;
 mod windows;
 
 pub use delivery::{IretFault, deliver, iret};

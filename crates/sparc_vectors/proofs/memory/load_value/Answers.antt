@@ -12,7 +12,7 @@ pub returns-in-Err-clause-value : goal.returns-in-Err-clause-value
 returns-in-Err-clause-value c = sym (loaded_refused _ _ _ _ c.args.size c.in-Err.ensures)
 
 pub returns-in-Ok-clause-whole : goal.returns-in-Ok-clause-whole
-returns-in-Ok-clause-whole c = whole c.args.bytes.now c.requires c.type_inv.bytes
+returns-in-Ok-clause-whole c = whole c.args.read_only c.args.bytes.now c.requires c.type_inv.bytes
 
 pub returns-in-Err-clause-whole : goal.returns-in-Err-clause-whole
-returns-in-Err-clause-whole c = whole c.args.bytes.now c.requires c.type_inv.bytes
+returns-in-Err-clause-whole c = whole c.args.read_only c.args.bytes.now c.requires c.type_inv.bytes
