@@ -1,16 +1,13 @@
 -- The machine behind ticks of one slot or gap: the same slot or gap, at a later moment.
-use Rattle.std.proofs.Common.{◌≡◌, ℕ, suc, ◌+◌, ◌-◌, ◌<◌, ◌≤◌, Bool, true, false, cond, List, [], ◌∷◌, Option, None, Some, refl, sym, ap, ◌∙◌, arith}
-use Rattle.std.specs.Prelude.{◌==◌, if◌then◌else◌}
-use Rattle.std.proofs.lemmas.Bool.Decides.{nat_tests}
-use Rattle.std.proofs.lemmas.Option.{same_Some}
-use Rattle.cyclic_plans.specs.PlanClock.{CyclicClock, IsInFrame, ended, ends_frame, frame_from, here, moment, next_plan, slot_at}
-use Rattle.cyclic_plans.specs.Slots.{covers, frame_of, here_in, slot_from, slots_of}
-use Rattle.xm_base.specs.Options.{on}
-use Rattle.xm_conf.specs.Configuration.{Conf}
+use Rattle.std.proofs.Common.{◌≡◌, ℕ, suc, ◌+◌, ◌-◌, ◌<◌, ◌≤◌, Bool, false, List, Option, None, Some, refl, sym, ap, ◌∙◌, arith}
+use Rattle.std.specs.Prelude.{◌==◌}
+use Rattle.cyclic_plans.specs.PlanClock.{IsInFrame, moment, slot_at}
+use Rattle.cyclic_plans.specs.Slots.{frame_of}
 use Rattle.xm_conf.specs.declared.plan.Slot.{Slot}
-use Rattle.machine_model.specs.Machine.{Machine, Turn, turn_here, turn_of}
+use Rattle.machine_model.specs.Machine.{Machine, turn_of}
 use Rattle.machine_model.specs.Partition.{PartitionState}
 use Rattle.slot_runs.specs.Laws.{IsStretch, past}
+use Rattle.slot_runs.proofs.TurnLemmas.{begins_not, begun_at, clock_stays, part_in, turn_is}
 
 -- the machine so many ticks later, of the same slot or gap: all but the partitions and the two counts of ticks is as it was
 pub record IsLater (g m : Machine) (k : ℕ) : Type 0 where
@@ -25,14 +22,6 @@ pub record IsLater (g m : Machine) (k : ℕ) : Type 0 where
 -- no tick later
 pub none_later : (g : Machine) → IsLater g g 0
 none_later g = record { system = refl; channels = refl; clock = refl; time = omega arith; ticks = omega arith; resets = refl; running = refl }
-
--- the frame does not end before the stretch
-clock_stays : (conf : Conf) (clock : CyclicClock) (time : ℕ) → clock.frame_start ≤ time → time + 1 < clock.frame_start + frame_of conf clock.plan → ended conf clock time ≡ clock
-unfolding ended
-clock_stays conf clock time begun within = ap (λ b. if b then frame_from (next_plan clock) (time + 1) else clock) (goes_on (ends_frame conf clock time) refl)
-  where
-    goes_on : (b : Bool) → ends_frame conf clock time ≡ b → b ≡ false
-    goes_on b is = grind (arith, nat_tests)
 
 -- one tick later than a later machine
 pub past_past : (g m : Machine) (k : ℕ) (parts : List PartitionState) → IsLater g m k → past 1 parts m ≡ past (suc k) parts g
@@ -54,28 +43,6 @@ past_later g k parts frame within = record {
   running = refl;
 }
 
--- a slot that runs has begun
-begun_slot : (now number : ℕ) (slots : List Slot) (found : ℕ × Slot) → slot_from now number slots ≡ Some found → found.1.start ≤ now
-begun_slot now number [] found is = absurd cc
-begun_slot now number (slot ∷ rest) found is = at (covers now slot) refl is (begun_slot now (number + 1) rest found)
-  where
-    at : (b : Bool) → covers now slot ≡ b → cond b (Some (number, slot)) (slot_from now (number + 1) rest) ≡ Some found
-        → (slot_from now (number + 1) rest ≡ Some found → found.1.start ≤ now) → found.1.start ≤ now
-    at true runs same later =
-        let begun : slot.start ≤ now = grind (arith, nat_tests) in
-        let its : (number, slot) ≡ found = same_Some (number, slot) found same in
-        rw (sym its) begun
-    at false ends same later = later same
-
--- the turn of a slot
-abbrev turn_by : ℕ → Option (ℕ × Slot) → Option Turn
-turn_by now found = turn_here (on (here_in now) found)
-
--- a turn is that of the slot that runs
-turn_is : (g : Machine) (found : Option (ℕ × Slot)) → slot_at g.system.conf g.clock g.time ≡ found → turn_of g ≡ turn_by (moment g.clock g.time) found
-unfolding turn_of here
-turn_is g found is = ap (turn_by (moment g.clock g.time)) is
-
 -- the slot or gap of a later machine
 slot_later : (g m : Machine) (k most : ℕ) → IsStretch g most → k < most → IsLater g m k → slot_at m.system.conf m.clock m.time ≡ slot_at g.system.conf g.clock g.time
 slot_later g m k most stretch below later = rw (later.system, later.clock, later.time) (stretch.alike k below)
@@ -87,23 +54,6 @@ gap_later g m k most stretch below later gap = at (slot_at g.system.conf g.clock
     at : (o : Option (ℕ × Slot)) → slot_at g.system.conf g.clock g.time ≡ o → turn_of m ≡ None
     at None is = turn_is m None (slot_later g m k most stretch below later ∙ is)
     at (Some found) is = absurd (let e = turn_is g (Some found) is in cc)
-
--- a slot has begun
-begun_at : (conf : Conf) (clock : CyclicClock) (time : ℕ) (found : ℕ × Slot) → slot_at conf clock time ≡ Some found → found.1.start ≤ moment clock time
-unfolding slot_at
-begun_at conf clock time found is = begun_slot (moment clock time) 0 (slots_of conf clock.plan) found is
-
--- a slot that has begun does not begin later
-begins_not : (start frame now k : ℕ) → start ≤ now - frame → frame ≤ now → (start == now + suc k - frame) ≡ false
-begins_not start frame now k begun within = at (start == now + suc k - frame) refl
-  where
-    at : (b : Bool) → (start == now + suc k - frame) ≡ b → b ≡ false
-    at b is = grind (arith, nat_tests)
-
--- the partition of a turn
-abbrev part_in : Option Turn → ℕ
-part_in None = 0
-part_in (Some turn) = turn.part
 
 -- a slot is its partition's later, too, and does not begin
 pub turn_later : (g m : Machine) (k most p : ℕ) (first : Bool) → IsStretch g most → suc k < most → g.clock.frame_start ≤ g.time → IsLater g m (suc k)

@@ -1,4 +1,11 @@
+pub mod BitLemmas
+pub mod TimerLemmas
+pub mod RestLemmas
 pub mod ListLemmas
+pub mod CalmLemmas
+pub mod TurnLemmas
+pub mod PassLemmas
+pub mod SpanLemmas
 pub mod QuietLemmas
 pub mod WorkLemmas
 pub mod LaterLemmas

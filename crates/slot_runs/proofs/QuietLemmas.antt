@@ -1,23 +1,22 @@
 -- One tick of the machine that reaches beyond no partition: what it leaves, and what it tells.
-use Rattle.std.proofs.Common.{◌≡◌, ◌≢◌, ℕ, ◌+◌, ◌-◌, Bool, true, false, List, [], ◌++◌, Option, None, Some, refl, sym, ap, ◌∙◌, arith}
-use Rattle.std.specs.Prelude.{◌==◌, if◌then◌else◌, is_some, slice_get, slice_set}
-use Rattle.std.proofs.lemmas.Bool.{eq-eqb, eqb-true}
+use Rattle.std.proofs.Common.{◌≡◌, ℕ, ◌+◌, ◌-◌, Bool, true, false, List, [], ◌++◌, Option, None, Some, refl, sym, ap, ◌∙◌, arith}
+use Rattle.std.specs.Prelude.{if◌then◌else◌, slice_get, slice_set}
+use Rattle.std.proofs.lemmas.Bool.{eq-eqb}
 use Rattle.std.proofs.lemmas.List.{append-nil}
 use Rattle.cyclic_plans.specs.PlanClock.{CyclicClock, ended, ends_frame, frame_from, next_plan}
 use Rattle.virt_clocks.specs.Clocks.{looked_at}
 use Rattle.xm_conf.specs.Configuration.{Conf}
-use Rattle.xm_ports.specs.Channels.{Content}
 use Rattle.xm_report.specs.Report.{ReportLine}
-use Rattle.machine_model.specs.Lines.{lines_of, lines_unless, local_lines, order_lines, plan_lines, step_lines}
+use Rattle.machine_model.specs.Lines.{lines_of, local_lines, order_lines, plan_lines, step_lines}
 use Rattle.machine_model.specs.Lists.{all_of, each}
 use Rattle.machine_model.specs.LocalTick.{LocalTick}
-use Rattle.machine_model.specs.Machine.{Happened, Machine, Turn, act_of, after, after_tick, channel_after, happened, happened_by, if_its_turn, is_turn_of, local, next_clock, part_after, rested_unless, step, step_unless, system_traffic, tick_of, turn_of, worked_in}
+use Rattle.machine_model.specs.Machine.{Machine, Turn, after, happened, if_its_turn, is_turn_of, local, next_clock, part_after, step, turn_of}
 use Rattle.machine_model.specs.Partition.{PartitionState, hardware_looked_at, is_halted, rested}
 use Rattle.machine_model.specs.Told as told
-use Rattle.machine_model.specs.Traffic.{Still}
 use Rattle.machine_model.specs.Whole.{NoEvent, event_lines}
 use Rattle.slot_runs.specs.Laws.{past}
 use Rattle.slot_runs.specs.Parts.{RunsOrHalted}
+use Rattle.slot_runs.proofs.CalmLemmas.{calm, calm_is, channels_same, clock_is, its, lines_as, no_order_lines, none_either, not_its, part_is, step_as}
 use Rattle.slot_runs.proofs.ListLemmas.{each_same, each_set, none_of}
 
 -- a partition that runs or has halted, takes no traps, and has no timer armed
@@ -47,41 +46,6 @@ rests time ps none = at (is_halted ps.state)
     at true = refl
     at false = looked_same time ps none
 
--- all that a tick did that reached beyond no partition
-abbrev calm : Option Turn → Option LocalTick → Happened
-calm turn tick = record { turn = turn; local = tick; act = told.Nothing; traffic = Still; event = NoEvent }
-
--- no traffic is no traffic under every name
-still_for : (conf : Conf) (turn : Option Turn) → system_traffic conf turn Still ≡ Still
-still_for conf None = refl
-still_for conf (Some turn) = refl
-
--- what a tick did whose local tick reaches beyond no partition
-calm_by : (conf : Conf) (turn : Option Turn) (tick : Option LocalTick) → act_of tick ≡ told.Nothing → happened_by conf turn tick ≡ calm turn tick
-unfolding happened_by
-calm_by conf turn tick nothing = rw (nothing, still_for conf turn) refl
-
--- what such a tick did
-calm_is : (g : Machine) (turn : Option Turn) (tick : Option LocalTick) → turn_of g ≡ turn → local g ≡ tick → act_of tick ≡ told.Nothing → happened g ≡ calm turn tick
-unfolding happened
-calm_is g turn tick its_turn its_local nothing = rw (its_turn, its_local) (calm_by g.system.conf turn tick nothing)
-
--- what it leaves of a partition
-part_is : (g : Machine) (turn : Option Turn) (tick : Option LocalTick) (k : ℕ) (ps : PartitionState) (mine : Option LocalTick) → if_its_turn (is_turn_of turn k) tick ≡ mine
-    → part_after g (calm turn tick) k ps ≡ rested_unless (is_some mine) g.time (worked_in mine ps)
-unfolding part_after tick_of after_tick
-part_is g turn tick k ps mine is = rw is refl
-
--- what it leaves of the channels
-channels_same : (time : ℕ) (turn : Option Turn) (tick : Option LocalTick) (channels : List Content) → each (channel_after time (calm turn tick)) channels ≡ channels
-unfolding channel_after
-channels_same time turn tick channels = each_same (channel_after time (calm turn tick)) channels (λ k content there. refl)
-
--- what it leaves of the plan clock
-clock_is : (g : Machine) (turn : Option Turn) (tick : Option LocalTick) → next_clock g (calm turn tick) ≡ ended g.system.conf g.clock g.time
-unfolding next_clock
-clock_is g turn tick = refl
-
 -- a machine after it
 after_calm : (g : Machine) (turn : Option Turn) (tick : Option LocalTick) (parts : List PartitionState) → g.halted ≡ false
     → each (part_after g (calm turn tick)) g.parts ≡ parts → after g (calm turn tick) ≡ past 1 parts g
@@ -103,11 +67,6 @@ plan_same conf clock time none = at (ends_frame conf clock time)
 no_plan_lines : (n a b : ℕ) → b ≡ a → plan_lines n a b ≡ []
 no_plan_lines n a b same = rw (eq-eqb a b (sym same)) refl
 
--- no order is given
-no_order_lines : (g : Machine) (turn : Option Turn) (tick : Option LocalTick) → all_of (order_lines g (calm turn tick)) g.parts ≡ []
-unfolding order_lines
-no_order_lines g turn tick = none_of (order_lines g (calm turn tick)) g.parts (λ k ps. refl)
-
 -- lines of which all but the first are none
 first_alone : {X : Type 0} (a b c d e : List X) → b ≡ [] → c ≡ [] → d ≡ [] → e ≡ [] → a ++ b ++ c ++ d ++ e ≡ a
 first_alone a b c d e no_b no_c no_d no_e =
@@ -121,16 +80,6 @@ lines_calm g turn tick none =
     (plan_lines g.ticks g.clock.plan (next_clock g (calm turn tick)).plan)
     (no_order_lines g turn tick) refl (none_of (λ p ps. event_lines g.ticks NoEvent p) g.parts (λ k ps. refl))
     (no_plan_lines g.ticks g.clock.plan (next_clock g (calm turn tick)).plan (ap (λ c. c.plan) (clock_is g turn tick) ∙ plan_same g.system.conf g.clock g.time none))
-
--- the step of a machine that has not halted
-step_as : (g : Machine) (h : Happened) → g.halted ≡ false → happened g ≡ h → step g ≡ after g h
-unfolding step
-step_as g h runs is = ap (λ b. step_unless b g) runs ∙ ap (after g) is
-
--- its lines are those of what happened
-lines_as : (g : Machine) (h : Happened) → g.halted ≡ false → happened g ≡ h → step_lines g ≡ lines_of g h
-unfolding step_lines
-lines_as g h runs is = ap (λ b. lines_unless b g) runs ∙ ap (lines_of g) is
 
 -- a tick that leaves these partitions, and tells this
 pub record Leaves (g : Machine) (parts : List PartitionState) (report : List ReportLine) : Type 0 where
@@ -150,28 +99,11 @@ other_part : (g : Machine) (turn : Option Turn) (tick : Option LocalTick) (k : �
     → part_after g (calm turn tick) k ps ≡ ps
 other_part g turn tick k ps plain is = part_is g turn tick k ps None is ∙ rests g.time ps plain.hardware
 
--- where there is no local tick, it is nobody's
-none_either : (b : Bool) → if_its_turn b None ≡ None
-none_either true = refl
-none_either false = refl
-
 -- a tick without a local tick
 pub still_tick : (g : Machine) → IsCalm g → local g ≡ None → Leaves g g.parts []
 still_tick g is idle =
     leaves_calm g (turn_of g) None g.parts is (calm_is g (turn_of g) None refl idle refl)
     (each_same (part_after g (calm (turn_of g) None)) g.parts (λ k ps there. other_part g (turn_of g) None k ps (is.parts k ps there) (none_either (is_turn_of (turn_of g) k))))
-
--- the local tick is not that of a partition whose turn it is not
-not_its : (turn : Turn) (tick : LocalTick) (k : ℕ) → k ≢ turn.part → if_its_turn (is_turn_of (Some turn) k) (Some tick) ≡ None
-not_its turn tick k other = ap (λ b. if_its_turn b (Some tick)) (not_same (turn.part == k) refl)
-  where
-    not_same : (b : Bool) → (turn.part == k) ≡ b → b ≡ false
-    not_same true is = absurd (other (sym (eqb-true turn.part k is)))
-    not_same false is = refl
-
--- and the local tick is that of the partition whose turn it is
-its : (turn : Turn) (tick : LocalTick) → if_its_turn (is_turn_of (Some turn) turn.part) (Some tick) ≡ Some tick
-its turn tick = ap (λ b. if_its_turn b (Some tick)) (eq-eqb turn.part turn.part refl)
 
 -- a tick with a local tick that reaches beyond no partition
 pub working_tick : (g : Machine) (turn : Turn) (tick : LocalTick) → IsCalm g → turn_of g ≡ Some turn → local g ≡ Some tick → tick.act ≡ told.Nothing

@@ -1,6 +1,9 @@
 pub mod Built
 pub mod Laws
+pub mod Meeting
 pub mod Parts
+pub mod Rest
 pub mod Run
 pub mod RunLemmas
+pub mod Spans
 pub mod Stepping

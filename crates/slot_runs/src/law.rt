@@ -1,6 +1,7 @@
 //! What ticks of one slot or gap leave of the whole machine.
 
 ghost use Rattle.slot_runs.specs.Laws.{ReadyTicks, StuckTicks, WaitingTicks};
+ghost use Rattle.slot_runs.specs.Rest.{DueTwice, LooksTwice, RestsOnce, RestsTwice};
 
 /// In its slot a partition that is ready executes instructions, and while they only go there is nothing to tell; the
 /// tick behind them is the machine's, too.
@@ -16,4 +17,16 @@ pub fn stuck_ticks()
 /// In a gap, and in the slot of a partition that is not ready, only the clocks go on.
 pub fn waiting_ticks()
     ensures law { WaitingTicks }
+{}
+
+/// A timer need not be looked at in each tick: a later look alone leaves the same timer, and tells whether it was due.
+pub fn late_looks()
+    ensures timer { LooksTwice }
+    ensures due { DueTwice }
+{}
+
+/// A partition need not rest in each tick: resting in the last of many is the same.
+pub fn late_rest()
+    ensures twice { RestsTwice }
+    ensures once { RestsOnce }
 {}

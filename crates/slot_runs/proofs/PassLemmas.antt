@@ -1,0 +1,43 @@
+-- Passes over lists that do the same to all elements, or to all but one.
+use Rattle.std.proofs.Common.{◌≡◌, ◌≢◌, ℕ, zero, suc, List, [], ◌∷◌, map, Some, refl, ap, arith}
+use Rattle.std.specs.Prelude.{slice_get, slice_set}
+use Rattle.xm_base.specs.Options.{on}
+use Rattle.machine_model.specs.Lists.{each}
+
+-- a pass that does the same to each element
+pub each_map : {X : Type 0} (f : ℕ → X → X) (r : X → X) (xs : List X) → ((k : ℕ) (x : X) → f k x ≡ r x) → each f xs ≡ map r xs
+each_map f r [] same = refl
+each_map f r (x ∷ xs) same = rw (same 0 x, each_map (λ k. f (suc k)) r xs (λ k y. same (suc k) y)) refl
+
+-- a pass that does the same to each element but one
+pub each_but : {X : Type 0} (f : ℕ → X → X) (r : X → X) (xs : List X) (p : ℕ) (new : X) → ((k : ℕ) (x : X) → k ≢ p → f k x ≡ r x) → ((x : X) → f p x ≡ new)
+    → each f xs ≡ slice_set (map r xs) p new
+each_but f r [] p new same one = refl
+each_but f r (x ∷ xs) zero new same one =
+    rw (one x, each_map (λ k. f (suc k)) r xs (λ k y. same (suc k) y (λ e. absurd (omega (arith, e))))) refl
+each_but f r (x ∷ xs) (suc p) new same one =
+    rw (same 0 x (λ e. absurd (omega (arith, e))), each_but (λ k. f (suc k)) r xs p new (λ k y other. same (suc k) y (λ e. other (omega (arith, e)))) one) refl
+
+-- two passes, where the second makes up for the first
+pub map_twice : {X : Type 0} (r1 r2 : X → X) (xs : List X) → ((x : X) → r2 (r1 x) ≡ r2 x) → map r2 (map r1 xs) ≡ map r2 xs
+map_twice r1 r2 [] again = refl
+map_twice r1 r2 (x ∷ xs) again = rw (again x, map_twice r1 r2 xs again) refl
+
+-- two such passes, each with a write at the same place
+pub map_set_twice : {X : Type 0} (r1 r2 : X → X) (xs : List X) (p : ℕ) (a b : X) → ((x : X) → r2 (r1 x) ≡ r2 x)
+    → slice_set (map r2 (slice_set (map r1 xs) p a)) p b ≡ slice_set (map r2 xs) p b
+map_set_twice r1 r2 [] p a b again = refl
+map_set_twice r1 r2 (x ∷ xs) zero a b again = ap (λ rest. b ∷ rest) (map_twice r1 r2 xs again)
+map_set_twice r1 r2 (x ∷ xs) (suc p) a b again = rw (again x, map_set_twice r1 r2 xs p a b again) refl
+
+-- an element behind a pass
+pub get_map : {X : Type 0} (r : X → X) (xs : List X) (p : ℕ) (x : X) → slice_get xs p ≡ Some x → slice_get (map r xs) p ≡ Some (r x)
+get_map r [] p x there = absurd cc
+get_map r (y ∷ ys) zero x there = ap (on r) there
+get_map r (y ∷ ys) (suc p) x there = get_map r ys p x there
+
+-- an element that is written behind a pass
+pub get_set_map : {X : Type 0} (r : X → X) (xs : List X) (p : ℕ) (x new : X) → slice_get xs p ≡ Some x → slice_get (slice_set (map r xs) p new) p ≡ Some new
+get_set_map r [] p x new there = absurd cc
+get_set_map r (y ∷ ys) zero x new there = refl
+get_set_map r (y ∷ ys) (suc p) x new there = get_set_map r ys p x new there

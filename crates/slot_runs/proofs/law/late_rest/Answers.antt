@@ -1,0 +1,5 @@
+use Rattle.slot_runs.proofs.RestLemmas.{rested_once, rested_twice}
+use Rattle.slot_runs.proofs.law.late_rest.Goals as goal
+
+pub returns : goal.returns
+returns c = record { twice = rested_twice; once = rested_once }

@@ -1,0 +1,34 @@
+-- A partition in many ticks of its slot: the interrupts that they bring.
+use Rattle.std.specs.Prelude.{◌≡◌, ℕ, zero, suc, ◌+◌, ◌⊎◌, Bool, false, None}
+use Rattle.virt_clocks.specs.Clocks.{is_due, looked_at}
+use Rattle.virt_traps.specs.Virtual.{VirtualTraps, due}
+use Rattle.xm_base.specs.declared.partition.State.TheVariants.{Ready}
+use Rattle.machine_model.specs.Partition.{PartitionState, execution_timer, hardware_timer, raised_if}
+use Rattle.slot_runs.specs.Parts.{began}
+
+-- a partition whose two timers are looked at, at these readings of their clocks
+unfoldable pub timers_looked_at : ℕ → ℕ → PartitionState → PartitionState
+timers_looked_at hardware execution ps = record ps {
+  traps = raised_if (is_due execution ps.clocks.execution_timer) execution_timer (raised_if (is_due hardware ps.clocks.hardware_timer) hardware_timer ps.traps);
+  clocks = record ps.clocks {
+    hardware_timer = looked_at hardware ps.clocks.hardware_timer;
+    execution_timer = looked_at execution ps.clocks.execution_timer;
+  };
+}
+
+-- a partition that runs in its slot from a time on, with the interrupts of its ticks up to this one
+abbrev pub with_interrupts_to : ℕ → ℕ → Bool → PartitionState → PartitionState
+with_interrupts_to time last first ps = timers_looked_at (time + last) (ps.clocks.execution + last) (began first ps)
+
+-- a partition that goes on is ready
+abbrev pub awake : PartitionState → PartitionState
+awake ps = record ps { state = Ready }
+
+-- no interrupt can be delivered: none is due, or no traps are taken
+abbrev pub Undelivered : VirtualTraps → Type 0
+Undelivered traps = (due traps ≡ None) ⊎ (traps.enabled ≡ false)
+
+-- whether a tick is the first of its slot, when so many are done
+abbrev pub first_after : ℕ → Bool → Bool
+first_after zero first = first
+first_after (suc done) first = false

@@ -1,0 +1,58 @@
+-- Ticks of one slot or gap of any machine: what holds before them, and what they leave. The first of them is tick 0.
+use Rattle.std.specs.Prelude.{◌≡◌, ℕ, suc, ◌+◌, ◌==◌, ◌<◌, ◌≤◌, Bool, true, false, List, [], ◌++◌, map}
+use Rattle.std.specs.List.{flat_map}
+use Rattle.cyclic_plans.specs.PlanClock.{ended, slot_at}
+use Rattle.cyclic_plans.specs.Slots.{frame_of}
+use Rattle.xm_report.specs.Report.{ReportLine}
+use Rattle.machine_model.specs.Lines.{lines, plan_lines, said}
+use Rattle.machine_model.specs.LocalTick.{said_in}
+use Rattle.machine_model.specs.Machine.{Machine, run}
+use Rattle.machine_model.specs.Partition.{PartitionState}
+use Rattle.machine_model.specs.Told.{Told, line_of}
+
+-- the machine has not halted, and its ticks up to this one are of one slot or gap, and of one frame
+pub record IsSpan (g : Machine) (last : ℕ) : Type 0 where
+  pub running : g.halted ≡ false
+  pub begun : g.clock.frame_start ≤ g.time
+  pub within : g.time + last < g.clock.frame_start + frame_of g.system.conf g.clock.plan
+  pub alike : (k : ℕ) → k ≤ last → slot_at g.system.conf g.clock (g.time + k) ≡ slot_at g.system.conf g.clock g.time
+
+-- the machine inside these ticks, when so many are done, with these partitions
+abbrev pub inside : ℕ → List PartitionState → Machine → Machine
+inside done parts g = record g { parts = parts; time = g.time + done; ticks = g.ticks + done }
+
+-- the machine after its ticks up to this one, with these partitions: the frame may end with it
+abbrev pub after_span : ℕ → List PartitionState → Machine → Machine
+after_span last parts g = record g {
+  parts = parts;
+  clock = ended g.system.conf g.clock (g.time + last);
+  time = g.time + last + 1;
+  ticks = g.ticks + last + 1;
+}
+
+-- the line of a plan that starts after this tick
+abbrev pub plan_line : ℕ → Machine → List ReportLine
+plan_line last g = plan_lines (g.ticks + last) g.clock.plan (ended g.system.conf g.clock (g.time + last)).plan
+
+-- so many ticks leave these partitions, and tell nothing
+pub record IsInside (g : Machine) (done : ℕ) (parts : List PartitionState) : Type 0 where
+  pub state : run g done ≡ inside done parts g
+  pub lines : lines g done ≡ []
+  pub said : (p : ℕ) → said g done p ≡ []
+
+-- the ticks up to this one leave these partitions, and tell at most that a plan starts
+pub record IsQuietSpan (g : Machine) (last : ℕ) (parts : List PartitionState) : Type 0 where
+  pub state : run g (suc last) ≡ after_span last parts g
+  pub lines : lines g (suc last) ≡ plan_line last g
+  pub said : (p : ℕ) → said g (suc last) p ≡ []
+
+-- the console bytes of a tale, where it is this partition's
+abbrev pub said_if : Bool → List Told → List ℕ
+said_if true tale = flat_map said_in tale
+said_if false tale = []
+
+-- the ticks up to this one leave these partitions, and only the last tells something, of partition p, and at most that a plan starts
+pub record IsToldSpan (g : Machine) (last p : ℕ) (parts : List PartitionState) (tale : List Told) : Type 0 where
+  pub state : run g (suc last) ≡ after_span last parts g
+  pub lines : lines g (suc last) ≡ map (line_of (g.ticks + last) p) tale ++ plan_line last g
+  pub said : (q : ℕ) → said g (suc last) q ≡ said_if (p == q) tale
