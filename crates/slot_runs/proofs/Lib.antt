@@ -6,6 +6,8 @@ pub mod CalmLemmas
 pub mod TurnLemmas
 pub mod PassLemmas
 pub mod SpanLemmas
+pub mod InsideLemmas
+pub mod RestingLemmas
 pub mod QuietLemmas
 pub mod WorkLemmas
 pub mod LaterLemmas

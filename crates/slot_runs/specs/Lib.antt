@@ -5,5 +5,6 @@ pub mod Parts
 pub mod Rest
 pub mod Run
 pub mod RunLemmas
+pub mod SpanLaws
 pub mod Spans
 pub mod Stepping

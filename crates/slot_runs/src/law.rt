@@ -2,6 +2,7 @@
 
 ghost use Rattle.slot_runs.specs.Laws.{ReadyTicks, StuckTicks, WaitingTicks};
 ghost use Rattle.slot_runs.specs.Rest.{DueTwice, LooksTwice, RestsOnce, RestsTwice};
+ghost use Rattle.slot_runs.specs.SpanLaws.{RestingTicks};
 
 /// In its slot a partition that is ready executes instructions, and while they only go there is nothing to tell; the
 /// tick behind them is the machine's, too.
@@ -29,4 +30,9 @@ pub fn late_looks()
 pub fn late_rest()
     ensures twice { RestsTwice }
     ensures once { RestsOnce }
+{}
+
+/// In a gap, and in the slot of a partition that is suspended or has halted, all partitions rest.
+pub fn resting_ticks()
+    ensures law { RestingTicks }
 {}
