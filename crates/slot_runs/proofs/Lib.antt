@@ -8,6 +8,10 @@ pub mod PassLemmas
 pub mod SpanLemmas
 pub mod InsideLemmas
 pub mod RestingLemmas
+pub mod MeetingLemmas
+pub mod DueLemmas
+pub mod AwakeLemmas
+pub mod GoingLemmas
 pub mod QuietLemmas
 pub mod WorkLemmas
 pub mod LaterLemmas

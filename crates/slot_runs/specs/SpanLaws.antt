@@ -1,8 +1,14 @@
 -- The laws on ticks of one slot or gap of any machine.
-use Rattle.std.specs.Prelude.{◌≡◌, ℕ, ◌+◌, ◌⊎◌, Bool, false, List, map, None}
+use Rattle.std.specs.Prelude.{◌≡◌, ℕ, suc, ◌+◌, ◌⊎◌, Bool, true, false, List, map, None, slice_set}
+use Rattle.guest_bus.specs.Memory.{Area}
+use Rattle.virt_traps.specs.Virtual.{due}
+use Rattle.machine_model.specs.LocalTick.{goes_on, with_interrupts}
 use Rattle.machine_model.specs.Machine.{Machine, turn_of}
-use Rattle.machine_model.specs.Partition.{PartitionState, rested, takes_turns}
-use Rattle.slot_runs.specs.Laws.{IsSlotOf}
+use Rattle.machine_model.specs.Partition.{PartitionState, areas_of, rested, takes_turns}
+use Rattle.machine_model.specs.View.{view_of}
+use Rattle.slot_runs.specs.Laws.{HasGone, IsSlotOf}
+use Rattle.slot_runs.specs.Meeting.{Undelivered, awake, with_interrupts_to}
+use Rattle.slot_runs.specs.Parts.{gone_on}
 use Rattle.slot_runs.specs.Spans.{IsQuietSpan, IsSpan}
 
 -- it is a gap, or the slot of a partition that takes no turns: it is suspended, or has halted
@@ -16,3 +22,31 @@ all_rested last g = map (rested (g.time + last)) g.parts
 -- in such ticks all partitions rest
 abbrev pub RestingTicks : Type 0
 RestingTicks = (g : Machine) (last : ℕ) → IsSpan g last → IsNobodys g → IsQuietSpan g last (all_rested last g)
+
+-- all partitions, rested in this tick, but this one
+abbrev pub others_rested : ℕ → ℕ → PartitionState → Machine → List PartitionState
+others_rested last p new g = slice_set (all_rested last g) p new
+
+-- it is the slot of a partition that goes on: it is ready, or it is idle and woken by the start of its slot or by an interrupt
+pub record GoesOn (g : Machine) (p : ℕ) (first : Bool) (ps : PartitionState) : Type 0 where
+  pub slot : IsSlotOf g p first ps
+  pub wakes : goes_on (with_interrupts g.time first ps).state first (due (with_interrupts g.time first ps).traps) ≡ true
+
+-- the partition with the interrupts of this tick, and awake
+abbrev pub met : Machine → Bool → PartitionState → PartitionState
+met g first ps = awake (with_interrupts g.time first ps)
+
+-- the partition with the interrupts of the ticks up to this one, and awake
+abbrev pub met_to : ℕ → Machine → Bool → PartitionState → PartitionState
+met_to last g first ps = awake (with_interrupts_to g.time last first ps)
+
+-- the areas of a partition's memory
+abbrev pub its_areas : Machine → ℕ → List Area
+its_areas g p = areas_of (view_of g.system p)
+
+-- instructions of the partition of the slot that only go, one a tick, and no interrupt can be delivered
+abbrev pub GoingTicks : Type 0
+GoingTicks =
+    (g : Machine) (p : ℕ) (first : Bool) (ps : PartitionState) (last : ℕ) →
+    IsSpan g last → GoesOn g p first ps → Undelivered (with_interrupts_to g.time last first ps).traps → HasGone (suc last) (view_of g.system p) (met g first ps) →
+    IsQuietSpan g last (others_rested last p (gone_on (suc last) (its_areas g p) (met_to last g first ps)) g)

@@ -2,7 +2,7 @@
 
 ghost use Rattle.slot_runs.specs.Laws.{ReadyTicks, StuckTicks, WaitingTicks};
 ghost use Rattle.slot_runs.specs.Rest.{DueTwice, LooksTwice, RestsOnce, RestsTwice};
-ghost use Rattle.slot_runs.specs.SpanLaws.{RestingTicks};
+ghost use Rattle.slot_runs.specs.SpanLaws.{GoingTicks, RestingTicks};
 
 /// In its slot a partition that is ready executes instructions, and while they only go there is nothing to tell; the
 /// tick behind them is the machine's, too.
@@ -35,4 +35,10 @@ pub fn late_rest()
 /// In a gap, and in the slot of a partition that is suspended or has halted, all partitions rest.
 pub fn resting_ticks()
     ensures law { RestingTicks }
+{}
+
+/// In its slot a partition that goes on executes instructions, and while they only go there is nothing to tell. Its timers may fall due
+/// meanwhile, where that cannot be delivered.
+pub fn going_ticks()
+    ensures law { GoingTicks }
 {}

@@ -3,4 +3,6 @@
 
 mod law;
 
-pub use law::{late_looks, late_rest, ready_ticks, resting_ticks, stuck_ticks, waiting_ticks};
+pub use law::{
+    going_ticks, late_looks, late_rest, ready_ticks, resting_ticks, stuck_ticks, waiting_ticks,
+};
