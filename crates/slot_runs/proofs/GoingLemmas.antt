@@ -11,29 +11,16 @@ use Rattle.machine_model.specs.View.{PartitionView, view_of}
 use Rattle.slot_runs.specs.Laws.{HasGone}
 use Rattle.slot_runs.specs.Meeting.{Undelivered, awake, first_after, timers_looked_at, with_interrupts_to}
 use Rattle.slot_runs.specs.Parts.{gone_on}
-use Rattle.slot_runs.specs.SpanLaws.{GoesOn, GoingTicks, all_rested, its_areas, met, met_to, others_rested}
+use Rattle.slot_runs.specs.SpanLaws.{GoesOn, GoingTicks, going_parts, its_areas, its_met, its_state, met, met_to, others_rested}
 use Rattle.slot_runs.specs.Spans.{IsInside, IsQuietSpan, IsSpan, inside}
 use Rattle.slot_runs.proofs.AwakeLemmas.{local_awake, undelivered_executes}
 use Rattle.slot_runs.proofs.DueLemmas.{undelivered_earlier}
 use Rattle.slot_runs.proofs.InsideLemmas.{turn_inside}
-use Rattle.slot_runs.proofs.MeetingLemmas.{in_slot, meets_in_slot, met_in_slot, wakes_in_slot}
+use Rattle.slot_runs.proofs.MeetingLemmas.{meets_in_slot, wakes_in_slot}
 use Rattle.slot_runs.proofs.PassLemmas.{get_set_map, map_set_twice}
 use Rattle.slot_runs.proofs.RestLemmas.{rested_twice}
 use Rattle.slot_runs.proofs.SpanLemmas.{IsQuietTick, inside_to, quiet_span, quiet_work, work_tick}
 use Rattle.slot_runs.proofs.StepLemmas.{gone_before, next_goes}
-
--- the partition of the slot, when so many ticks are done in which it went
-abbrev pub its_state : ℕ → Machine → ℕ → Bool → PartitionState → PartitionState
-its_state k g p first ps = in_slot k g.time (its_areas g p) first ps
-
--- that partition in the next tick, awake, when its interrupts have come
-abbrev pub its_met : ℕ → Machine → ℕ → Bool → PartitionState → PartitionState
-its_met k g p first ps = met_in_slot k g.time (its_areas g p) first ps
-
--- all partitions
-abbrev pub going_parts : ℕ → Machine → ℕ → Bool → PartitionState → List PartitionState
-going_parts zero g p first ps = g.parts
-going_parts (suc k) g p first ps = others_rested k p (its_state (suc k) g p first ps) g
 
 -- the machine
 abbrev pub going : ℕ → Machine → ℕ → Bool → PartitionState → Machine
@@ -97,7 +84,7 @@ local_goes k last g p first ps span within goes none gone =
     (copies (going k g p first ps) p) (g.time + k) (sight (going k g p first ps) p))
 
 -- one such tick
-going_tick : (k last : ℕ) (g : Machine) (p : ℕ) (first : Bool) (ps : PartitionState) → IsSpan g last → k ≤ last → GoesOn g p first ps
+pub going_tick : (k last : ℕ) (g : Machine) (p : ℕ) (first : Bool) (ps : PartitionState) → IsSpan g last → k ≤ last → GoesOn g p first ps
     → Undelivered (with_interrupts_to g.time k first ps).traps → HasGone (suc k) (view_of g.system p) (met g first ps)
     → IsQuietTick (going k g p first ps) (going_parts (suc k) g p first ps)
 going_tick k last g p first ps span within goes none gone =

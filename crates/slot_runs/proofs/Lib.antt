@@ -12,6 +12,7 @@ pub mod MeetingLemmas
 pub mod DueLemmas
 pub mod AwakeLemmas
 pub mod GoingLemmas
+pub mod NextLemmas
 pub mod QuietLemmas
 pub mod WorkLemmas
 pub mod LaterLemmas

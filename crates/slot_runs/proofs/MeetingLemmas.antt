@@ -11,7 +11,7 @@ use Rattle.virt_traps.specs.Virtual as virtual
 use Rattle.virt_traps.specs.Virtual.{VirtualTraps, due, first_due, raised}
 use Rattle.machine_model.specs.LocalTick.{goes_on, with_interrupts}
 use Rattle.machine_model.specs.Partition.{PartitionState, execution_looked_at, execution_timer, hardware_looked_at, hardware_timer, raised_if}
-use Rattle.slot_runs.specs.Meeting.{Undelivered, awake, first_after, timers_looked_at, with_interrupts_to}
+use Rattle.slot_runs.specs.Meeting.{awake, first_after, in_slot, met_in_slot, timers_looked_at, with_interrupts_to}
 use Rattle.slot_runs.specs.Parts.{began, gone_on}
 use Rattle.slot_runs.proofs.BitLemmas.{or_kept}
 use Rattle.slot_runs.proofs.RestLemmas.{due_interrupt, raised_if_turned}
@@ -70,15 +70,6 @@ looked_clock h e ps = refl
 -- the interrupts of a tick inside the slot
 looks_inside : (time : ℕ) (ps : PartitionState) → with_interrupts time false ps ≡ timers_looked_at time ps.clocks.execution ps
 looks_inside time ps = interrupts_are_looks time false ps
-
--- the partition of a slot, when so many ticks are done in which it went
-abbrev pub in_slot : ℕ → ℕ → List Area → Bool → PartitionState → PartitionState
-in_slot zero time areas first ps = ps
-in_slot (suc k) time areas first ps = gone_on (suc k) areas (awake (with_interrupts_to time k first ps))
-
--- the partition in the next tick, when its interrupts have come
-abbrev pub met_in_slot : ℕ → ℕ → List Area → Bool → PartitionState → PartitionState
-met_in_slot k time areas first ps = gone_on k areas (awake (with_interrupts_to time k first ps))
 
 -- the interrupts of the first tick
 meets_first : (time : ℕ) (first : Bool) (ps : PartitionState) → with_interrupts (time + 0) first ps ≡ with_interrupts_to time 0 first ps

@@ -146,7 +146,7 @@ same_plan : (n a b : ℕ) → b ≡ a → plan_lines n a b ≡ []
 same_plan n a b same = rw (eq-eqb a b (sym same)) refl
 
 -- the machine after one tick more
-state_more : (g : Machine) (k : ℕ) (parts new : List PartitionState) → IsInside g k parts → step (inside k parts g) ≡ ticked new (inside k parts g)
+pub state_more : (g : Machine) (k : ℕ) (parts new : List PartitionState) → IsInside g k parts → step (inside k parts g) ≡ ticked new (inside k parts g)
     → run g (suc k) ≡ after_span k new g
 state_more g k parts new is leaves = run_more g k ∙ ap step is.state ∙ leaves
 

@@ -1,10 +1,11 @@
 -- A partition in many ticks of its slot: the interrupts that they bring.
-use Rattle.std.specs.Prelude.{◌≡◌, ℕ, zero, suc, ◌+◌, ◌⊎◌, Bool, false, None}
+use Rattle.std.specs.Prelude.{◌≡◌, ℕ, zero, suc, ◌+◌, ◌⊎◌, Bool, false, List, None}
+use Rattle.guest_bus.specs.Memory.{Area}
 use Rattle.virt_clocks.specs.Clocks.{is_due, looked_at}
 use Rattle.virt_traps.specs.Virtual.{VirtualTraps, due}
 use Rattle.xm_base.specs.declared.partition.State.TheVariants.{Ready}
 use Rattle.machine_model.specs.Partition.{PartitionState, execution_timer, hardware_timer, raised_if}
-use Rattle.slot_runs.specs.Parts.{began}
+use Rattle.slot_runs.specs.Parts.{began, gone_on}
 
 -- a partition whose two timers are looked at, at these readings of their clocks
 unfoldable pub timers_looked_at : ℕ → ℕ → PartitionState → PartitionState
@@ -23,6 +24,15 @@ with_interrupts_to time last first ps = timers_looked_at (time + last) (ps.clock
 -- a partition that goes on is ready
 abbrev pub awake : PartitionState → PartitionState
 awake ps = record ps { state = Ready }
+
+-- the partition of a slot, when so many ticks are done in which it went
+abbrev pub in_slot : ℕ → ℕ → List Area → Bool → PartitionState → PartitionState
+in_slot zero time areas first ps = ps
+in_slot (suc k) time areas first ps = gone_on (suc k) areas (awake (with_interrupts_to time k first ps))
+
+-- the partition in the next tick, when its interrupts have come
+abbrev pub met_in_slot : ℕ → ℕ → List Area → Bool → PartitionState → PartitionState
+met_in_slot k time areas first ps = gone_on k areas (awake (with_interrupts_to time k first ps))
 
 -- no interrupt can be delivered: none is due, or no traps are taken
 abbrev pub Undelivered : VirtualTraps → Type 0

@@ -2,7 +2,7 @@
 
 ghost use Rattle.slot_runs.specs.Laws.{ReadyTicks, StuckTicks, WaitingTicks};
 ghost use Rattle.slot_runs.specs.Rest.{DueTwice, LooksTwice, RestsOnce, RestsTwice};
-ghost use Rattle.slot_runs.specs.SpanLaws.{GoingTicks, RestingTicks};
+ghost use Rattle.slot_runs.specs.SpanLaws.{GoingTicks, MetTick, NextTick, RestingTicks, ToldTick};
 
 /// In its slot a partition that is ready executes instructions, and while they only go there is nothing to tell; the
 /// tick behind them is the machine's, too.
@@ -41,4 +41,12 @@ pub fn resting_ticks()
 /// meanwhile, where that cannot be delivered.
 pub fn going_ticks()
     ensures law { GoingTicks }
+{}
+
+/// The tick after those in which a partition only went is one of the machine as they leave it: the delivery of an interrupt, a call, a
+/// trap, or one instruction more. What an observing call is shown is taken there, too.
+pub fn next_tick()
+    ensures met { MetTick }
+    ensures law { NextTick }
+    ensures told { ToldTick }
 {}
