@@ -44,13 +44,13 @@ sight_is g p first ps turn there =
     rw (turn, there) (rw (eq-eqb p p refl) refl)
 
 -- the local tick of a partition that takes its turn
-taken_is : (g : Machine) (p : ℕ) (first : Bool) (o : Option PartitionState) (ps : PartitionState) → o ≡ Some ps → takes_turns ps.state ≡ true
+pub taken_is : (g : Machine) (p : ℕ) (first : Bool) (o : Option PartitionState) (ps : PartitionState) → o ≡ Some ps → takes_turns ps.state ≡ true
     → taken_by g p first o ≡ Some (local_of g p first ps)
 taken_is g p first o ps there takes =
     ap (taken_by g p first) there ∙ ap (λ (b : Bool). if b then Some (local_of g p first ps) else None) takes
 
 -- it is its work as others see it
-local_work : (g : Machine) (p : ℕ) (first : Bool) (ps : PartitionState)
+pub local_work : (g : Machine) (p : ℕ) (first : Bool) (ps : PartitionState)
     → local_of g p first ps ≡ seen_outside (view_of g.system p) g.ticks (worked (view_of g.system p) (copies g p) g.time first (sight_of_state g p first ps) ps)
 unfolding local_of local_tick
 local_work g p first ps = refl

@@ -12,7 +12,7 @@ use Rattle.machine_model.specs.Partition.{PartitionState, execution_timer, hardw
 use Rattle.slot_runs.specs.Meeting.{Undelivered, timers_looked_at, with_interrupts_to}
 use Rattle.slot_runs.specs.Parts.{began}
 use Rattle.slot_runs.proofs.BitLemmas.{or_kept}
-use Rattle.slot_runs.proofs.MeetingLemmas.{timers_twice}
+use Rattle.slot_runs.proofs.MeetingLemmas.{looked_clock, looks_inside, timers_twice}
 
 -- a bit that is tested and set stays set
 test_kept : (p a i : ℕ) → (bit_at p i == 1) ≡ true → (bit_at (bit_or p a) i == 1) ≡ true
@@ -71,6 +71,28 @@ unfolding timers_looked_at
 undelivered_looked h e ps none =
     undelivered_before (is_due h ps.clocks.hardware_timer) hardware_timer ps.traps
     (undelivered_before (is_due e ps.clocks.execution_timer) execution_timer (raised_if (is_due h ps.clocks.hardware_timer) hardware_timer ps.traps) none)
+
+-- where none is due after a look at the timers, none is before
+none_looked_before : (h e : ℕ) (ps : PartitionState) → due (timers_looked_at h e ps).traps ≡ None → due ps.traps ≡ None
+unfolding timers_looked_at
+none_looked_before h e ps none =
+    none_before (is_due h ps.clocks.hardware_timer) hardware_timer ps.traps
+    (none_before (is_due e ps.clocks.execution_timer) execution_timer (raised_if (is_due h ps.clocks.hardware_timer) hardware_timer ps.traps) none)
+
+-- the interrupts of a tick in which the partition idles, and of a later one
+pub idles_later : (t1 t2 : ℕ) (ps : PartitionState) → t1 ≤ t2 → with_interrupts t2 false (with_interrupts t1 false ps) ≡ with_interrupts t2 false ps
+idles_later t1 t2 ps later =
+    looks_inside t2 (with_interrupts t1 false ps)
+    ∙ ap (λ (s : PartitionState). timers_looked_at t2 s.clocks.execution s) (looks_inside t1 ps)
+    ∙ ap (λ e. timers_looked_at t2 e (timers_looked_at t1 ps.clocks.execution ps)) (looked_clock t1 ps.clocks.execution ps)
+    ∙ timers_twice t1 t2 ps.clocks.execution ps.clocks.execution ps later (omega arith)
+    ∙ sym (looks_inside t2 ps)
+
+-- where none is due in a tick in which the partition idles, none is due in an earlier one
+pub none_due_earlier : (t1 t2 : ℕ) (ps : PartitionState) → t1 ≤ t2 → due (with_interrupts t2 false ps).traps ≡ None → due (with_interrupts t1 false ps).traps ≡ None
+none_due_earlier t1 t2 ps later none =
+    none_looked_before t2 (with_interrupts t1 false ps).clocks.execution (with_interrupts t1 false ps)
+    (ap (λ (s : PartitionState). due s.traps) (sym (looks_inside t2 (with_interrupts t1 false ps)) ∙ idles_later t1 t2 ps later) ∙ none)
 
 -- the interrupts of ticks, and of later ticks
 pub interrupts_later : (time j k : ℕ) (first : Bool) (ps : PartitionState) → j ≤ k

@@ -13,6 +13,7 @@ pub mod DueLemmas
 pub mod AwakeLemmas
 pub mod GoingLemmas
 pub mod NextLemmas
+pub mod IdleLemmas
 pub mod QuietLemmas
 pub mod WorkLemmas
 pub mod LaterLemmas

@@ -30,11 +30,11 @@ interrupts_twice h1 h2 e1 e2 hardware execution v h_later e_later =
     ∙ ap (raised_if (is_due e2 execution) execution_timer) (due_interrupt h1 h2 hardware_timer hardware v h_later)
 
 -- a partition with these traps and timers
-abbrev with_timers : VirtualTraps → Option Timer → Option Timer → PartitionState → PartitionState
+abbrev pub with_timers : VirtualTraps → Option Timer → Option Timer → PartitionState → PartitionState
 with_timers traps hardware execution ps =
     record ps { traps = traps; clocks = record ps.clocks { hardware_timer = hardware; execution_timer = execution } }
 
-same_timers : (a b : VirtualTraps) (c d e f : Option Timer) (ps : PartitionState) → a ≡ b → c ≡ d → e ≡ f → with_timers a c e ps ≡ with_timers b d f ps
+pub same_timers : (a b : VirtualTraps) (c d e f : Option Timer) (ps : PartitionState) → a ≡ b → c ≡ d → e ≡ f → with_timers a c e ps ≡ with_timers b d f ps
 same_timers a b c d e f ps same_traps same_hardware same_execution = rw (same_traps, same_hardware, same_execution) refl
 
 -- both timers looked at and later again
@@ -63,12 +63,12 @@ unfolding with_interrupts hardware_looked_at execution_looked_at timers_looked_a
 interrupts_are_looks time first ps = refl
 
 -- looks at the timers leave the execution clock
-looked_clock : (h e : ℕ) (ps : PartitionState) → (timers_looked_at h e ps).clocks.execution ≡ ps.clocks.execution
+pub looked_clock : (h e : ℕ) (ps : PartitionState) → (timers_looked_at h e ps).clocks.execution ≡ ps.clocks.execution
 unfolding timers_looked_at
 looked_clock h e ps = refl
 
 -- the interrupts of a tick inside the slot
-looks_inside : (time : ℕ) (ps : PartitionState) → with_interrupts time false ps ≡ timers_looked_at time ps.clocks.execution ps
+pub looks_inside : (time : ℕ) (ps : PartitionState) → with_interrupts time false ps ≡ timers_looked_at time ps.clocks.execution ps
 looks_inside time ps = interrupts_are_looks time false ps
 
 -- the interrupts of the first tick

@@ -14,7 +14,8 @@ use Rattle.machine_model.specs.Told.{Told, line_of}
 use Rattle.machine_model.specs.View.{System, view_of}
 use Rattle.slot_runs.specs.Meeting.{awake, first_after}
 use Rattle.slot_runs.specs.RunLemmas.{run_more}
-use Rattle.slot_runs.specs.SpanLaws.{GoesOn, HasGoneOn, IsNext, IsTickOf, MetTick, NextTick, ToldTick, going_parts, its_met, its_state, met, next_work, others_rested}
+use Rattle.slot_runs.specs.NextLaws.{HasGoneOn, IsNext, IsTickOf, MetTick, NextTick, ToldTick, next_work}
+use Rattle.slot_runs.specs.SpanLaws.{going_parts, its_met, met, others_rested}
 use Rattle.slot_runs.specs.Spans.{IsInside, IsSpan, IsToldSpan, inside, plan_line, said_if}
 use Rattle.slot_runs.proofs.AwakeLemmas.{local_awake}
 use Rattle.slot_runs.proofs.CalmLemmas.{lines_as, step_as}

@@ -1,6 +1,7 @@
 pub mod Built
 pub mod Laws
 pub mod Meeting
+pub mod NextLaws
 pub mod Parts
 pub mod Rest
 pub mod Run

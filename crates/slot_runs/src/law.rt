@@ -1,8 +1,9 @@
 //! What ticks of one slot or gap leave of the whole machine.
 
 ghost use Rattle.slot_runs.specs.Laws.{ReadyTicks, StuckTicks, WaitingTicks};
+ghost use Rattle.slot_runs.specs.NextLaws.{MetTick, NextTick, ToldTick};
 ghost use Rattle.slot_runs.specs.Rest.{DueTwice, LooksTwice, RestsOnce, RestsTwice};
-ghost use Rattle.slot_runs.specs.SpanLaws.{GoingTicks, MetTick, NextTick, RestingTicks, ToldTick};
+ghost use Rattle.slot_runs.specs.SpanLaws.{GoingTicks, IdleTicks, RestingTicks};
 
 /// In its slot a partition that is ready executes instructions, and while they only go there is nothing to tell; the
 /// tick behind them is the machine's, too.
@@ -49,4 +50,9 @@ pub fn next_tick()
     ensures met { MetTick }
     ensures law { NextTick }
     ensures told { ToldTick }
+{}
+
+/// In its slot an idle partition that nothing wakes looks at its timers, and does nothing else.
+pub fn idle_ticks()
+    ensures law { IdleTicks }
 {}
