@@ -14,6 +14,7 @@ pub mod AwakeLemmas
 pub mod GoingLemmas
 pub mod NextLemmas
 pub mod IdleLemmas
+pub mod UndisturbedLemmas
 pub mod QuietLemmas
 pub mod WorkLemmas
 pub mod LaterLemmas

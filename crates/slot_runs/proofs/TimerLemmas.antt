@@ -1,9 +1,9 @@
 -- Timers that are looked at at two moments.
 use Rattle.std.proofs.Common.{◌≡◌, ℕ, ◌+◌, ◌-◌, ◌*◌, ◌/◌, ◌<◌, ◌≤◌, Bool, true, false, Option, None, Some, refl, sym, ap, ◌∙◌, arith}
-use Rattle.std.specs.Prelude.{◌^◌, ◌==◌, ◌||◌, if◌then◌else◌, nat_le, nat_lt}
+use Rattle.std.specs.Prelude.{◌^◌, ◌==◌, ◌||◌, if◌then◌else◌, IfSome, min, nat_le, nat_lt}
 use Rattle.std.proofs.Math.Nat.{add-mul-div_right, div-eq_of_lt-le, div-mul-le_self, lt-div-mul-add}
 use Rattle.std.proofs.lemmas.Bool.Decides.{nat_tests}
-use Rattle.virt_clocks.specs.Clocks.{is_due, looked_at, rearmed}
+use Rattle.virt_clocks.specs.Clocks.{is_due, lesser, looked_at, rearmed, ticks_until}
 use Rattle.virt_clocks.specs.declared.timer.Timer.{Timer}
 
 -- what is reached at a moment is reached later, too
@@ -19,6 +19,13 @@ over_still a b most grows over = at (nat_lt b most) refl
   where
     at : (t : Bool) → nat_lt b most ≡ t → t ≡ false
     at t is = grind (arith, nat_tests)
+
+-- what is past a moment is not reached at it
+past_not_reached : (d t : ℕ) → t < d → nat_le d t ≡ false
+past_not_reached d t past = at (nat_le d t) refl
+  where
+    at : (b : Bool) → nat_le d t ≡ b → b ≡ false
+    at b is = grind (arith, nat_tests)
 
 -- a number that is not 0
 above_zero : (n : ℕ) → (n == 0) ≡ false → 0 < n
@@ -139,3 +146,49 @@ due_twice t1 t2 (Some timer) later = at (nat_le timer.deadline t1) refl
     at : (b : Bool) → nat_le timer.deadline t1 ≡ b → nat_le timer.deadline t2 ≡ (b || is_due t2 (if b then rearmed t1 timer else Some timer))
     at true due = due_still timer.deadline t1 t2 later due
     at false waits = refl
+
+-- a timer that was moved on is not due
+moved_not_due : (most t deadline interval : ℕ) → deadline ≤ t → is_due t (moved_below most t deadline interval) ≡ false
+moved_not_due most t deadline interval begun = once (interval == 0) refl
+  where
+    waits : 0 < interval → nat_le (first_past deadline interval t) t ≡ false
+    waits some =
+        let past : t < first_past deadline interval t = is_past deadline interval t some begun in
+        past_not_reached (first_past deadline interval t) t past
+
+    limit : (b : Bool) → 0 < interval
+        → is_due t (if b then Some (record { deadline = first_past deadline interval t; interval = interval }) else None) ≡ false
+    limit true some = waits some
+    limit false some = refl
+
+    once : (b : Bool) → (interval == 0) ≡ b → is_due t (if b then None else below_limit most interval (first_past deadline interval t)) ≡ false
+    once true none = refl
+    once false some = limit (nat_lt (first_past deadline interval t) most) (above_zero interval some)
+
+-- nor is one that was looked at
+pub looked_not_due : (t : ℕ) (x : Option Timer) → is_due t (looked_at t x) ≡ false
+looked_not_due t None = ap (is_due t) (looked_is t None)
+looked_not_due t (Some timer) = ap (is_due t) (looked_is t (Some timer)) ∙ at (nat_le timer.deadline t) refl
+  where
+    at : (b : Bool) → nat_le timer.deadline t ≡ b → is_due t (if b then moved_below (2 ^ 63) t timer.deadline timer.interval else Some timer) ≡ false
+    at true due = moved_not_due (2 ^ 63) t timer.deadline timer.interval (grind (arith, nat_tests))
+    at false waits = waits
+
+-- a timer that is not due stays as it is
+pub looked_same : (t : ℕ) (x : Option Timer) → is_due t x ≡ false → looked_at t x ≡ x
+unfolding looked_at
+looked_same t None waits = refl
+looked_same t (Some timer) waits = ap (λ (b : Bool). if b then rearmed t timer else Some timer) waits
+
+-- a timer with so many ticks left is not due before
+far_off : (now k : ℕ) (timer : Timer) → k < timer.deadline - now → is_due (now + k) (Some timer) ≡ false
+far_off now k timer far = past_not_reached timer.deadline (now + k) (omega (arith, far))
+
+-- no timer is due before so many ticks
+pub none_due : (now clock k : ℕ) (hardware execution : Option Timer) → IfSome (lesser (ticks_until now hardware) (ticks_until clock execution)) (λ ticks. k < ticks)
+    → (is_due (now + k) hardware ≡ false) × (is_due (clock + k) execution ≡ false)
+none_due now clock k None None far = (refl, refl)
+none_due now clock k None (Some execution) far = (refl, far_off clock k execution far)
+none_due now clock k (Some hardware) None far = (far_off now k hardware far, refl)
+none_due now clock k (Some hardware) (Some execution) far =
+    (far_off now k hardware (omega (arith, far)), far_off clock k execution (omega (arith, far)))

@@ -9,3 +9,4 @@ pub mod RunLemmas
 pub mod SpanLaws
 pub mod Spans
 pub mod Stepping
+pub mod Undisturbed

@@ -4,6 +4,7 @@ ghost use Rattle.slot_runs.specs.Laws.{ReadyTicks, StuckTicks, WaitingTicks};
 ghost use Rattle.slot_runs.specs.NextLaws.{MetTick, NextTick, ToldTick};
 ghost use Rattle.slot_runs.specs.Rest.{DueTwice, LooksTwice, RestsOnce, RestsTwice};
 ghost use Rattle.slot_runs.specs.SpanLaws.{GoingTicks, IdleTicks, RestingTicks};
+ghost use Rattle.slot_runs.specs.Undisturbed.{UndisturbedIdle, UndisturbedNext, UndisturbedTicks, UndisturbedTold};
 
 /// In its slot a partition that is ready executes instructions, and while they only go there is nothing to tell; the
 /// tick behind them is the machine's, too.
@@ -55,4 +56,12 @@ pub fn next_tick()
 /// In its slot an idle partition that nothing wakes looks at its timers, and does nothing else.
 pub fn idle_ticks()
     ensures law { IdleTicks }
+{}
+
+/// As long as no timer of the slot's partition falls due, the interrupts of the first tick are all that it meets.
+pub fn undisturbed_ticks()
+    ensures law { UndisturbedTicks }
+    ensures next { UndisturbedNext }
+    ensures told { UndisturbedTold }
+    ensures idle { UndisturbedIdle }
 {}
