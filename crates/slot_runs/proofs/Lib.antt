@@ -15,6 +15,7 @@ pub mod GoingLemmas
 pub mod NextLemmas
 pub mod IdleLemmas
 pub mod UndisturbedLemmas
+pub mod LateLemmas
 pub mod QuietLemmas
 pub mod WorkLemmas
 pub mod LaterLemmas

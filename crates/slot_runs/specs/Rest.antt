@@ -1,8 +1,15 @@
 -- The laws on timers that are looked at late, and on partitions that rest.
-use Rattle.std.specs.Prelude.{◌≡◌, ℕ, zero, suc, ◌+◌, ◌≤◌, ◌||◌, Option}
+use Rattle.std.specs.Prelude.{◌≡◌, ◌≢◌, ℕ, zero, suc, ◌+◌, ◌≤◌, ◌||◌, Bool, false, Option, Some}
 use Rattle.virt_clocks.specs.Clocks.{is_due, looked_at}
 use Rattle.virt_clocks.specs.declared.timer.Timer.{Timer}
-use Rattle.machine_model.specs.Partition.{PartitionState, rested}
+use Rattle.xm_base.specs.declared.partition.Order.{Order}
+use Rattle.xm_base.specs.declared.partition.Order.TheVariants as order
+use Rattle.machine_model.specs.LocalTick.{with_interrupts}
+use Rattle.machine_model.specs.Machine.{after_tick}
+use Rattle.machine_model.specs.Partition.{PartitionState, is_halted, rested}
+use Rattle.machine_model.specs.Traffic.{Traffic}
+use Rattle.machine_model.specs.View.{PartitionView}
+use Rattle.machine_model.specs.Whole.{WholeEvent}
 
 -- looking at a timer and later again is looking at it later
 abbrev pub LooksTwice : Type 0
@@ -24,3 +31,16 @@ rested_along time (suc count) ps = rested (time + count) (rested_along time coun
 -- resting in many ticks is resting in the last of them
 abbrev pub RestsOnce : Type 0
 RestsOnce = (time last : ℕ) (ps : PartitionState) → rested_along time (suc last) ps ≡ rested (time + last) ps
+
+-- what a tick leaves of a partition that has no local tick in it is the same, whether it rested before or not, unless it is ordered to halt
+abbrev pub RestsBefore : Type 0
+RestsBefore =
+    (view : PartitionView) (before time : ℕ) (traffic : Traffic) (an_order : Option Order) (event : WholeEvent) (ps : PartitionState) →
+    before ≤ time → an_order ≢ Some order.Halt →
+    after_tick view time false traffic an_order event (rested before ps) ≡ after_tick view time false traffic an_order event ps
+
+-- and so are the interrupts that a partition meets in a tick of its slot, where it has not halted
+abbrev pub MeetsAfterRest : Type 0
+MeetsAfterRest =
+    (before time : ℕ) (first : Bool) (ps : PartitionState) → before ≤ time → is_halted ps.state ≡ false →
+    with_interrupts time first (rested before ps) ≡ with_interrupts time first ps

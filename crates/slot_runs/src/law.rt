@@ -2,7 +2,7 @@
 
 ghost use Rattle.slot_runs.specs.Laws.{ReadyTicks, StuckTicks, WaitingTicks};
 ghost use Rattle.slot_runs.specs.NextLaws.{MetTick, NextTick, ToldTick};
-ghost use Rattle.slot_runs.specs.Rest.{DueTwice, LooksTwice, RestsOnce, RestsTwice};
+ghost use Rattle.slot_runs.specs.Rest.{DueTwice, LooksTwice, MeetsAfterRest, RestsBefore, RestsOnce, RestsTwice};
 ghost use Rattle.slot_runs.specs.SpanLaws.{GoingTicks, IdleTicks, RestingTicks};
 ghost use Rattle.slot_runs.specs.Undisturbed.{UndisturbedIdle, UndisturbedNext, UndisturbedTicks, UndisturbedTold};
 
@@ -28,10 +28,13 @@ pub fn late_looks()
     ensures due { DueTwice }
 {}
 
-/// A partition need not rest in each tick: resting in the last of many is the same.
+/// A partition need not rest in each tick: resting in the last of many is the same, and what reaches it from others, an order to halt
+/// apart, may come before it rests.
 pub fn late_rest()
     ensures twice { RestsTwice }
     ensures once { RestsOnce }
+    ensures before { RestsBefore }
+    ensures met { MeetsAfterRest }
 {}
 
 /// In a gap, and in the slot of a partition that is suspended or has halted, all partitions rest.
