@@ -16,6 +16,7 @@ pub mod NextLemmas
 pub mod IdleLemmas
 pub mod UndisturbedLemmas
 pub mod LateLemmas
+pub mod GoingOnLemmas
 pub mod QuietLemmas
 pub mod WorkLemmas
 pub mod LaterLemmas

@@ -135,7 +135,7 @@ clock_inside g k last span below =
     clock_stays g.system.conf g.clock (g.time + k) (omega (arith, begun)) (omega (arith, below, within))
 
 -- the machine after one of them but the last is inside them
-span_inside : (g : Machine) (k last : ℕ) (new : List PartitionState) → IsSpan g last → k < last → after_span k new g ≡ inside (suc k) new g
+pub span_inside : (g : Machine) (k last : ℕ) (new : List PartitionState) → IsSpan g last → k < last → after_span k new g ≡ inside (suc k) new g
 span_inside g k last new span below =
     let same_time : g.time + k + 1 ≡ g.time + suc k = omega arith in
     let same_ticks : g.ticks + k + 1 ≡ g.ticks + suc k = omega arith in

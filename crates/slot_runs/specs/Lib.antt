@@ -1,4 +1,5 @@
 pub mod Built
+pub mod GoingOn
 pub mod Laws
 pub mod Meeting
 pub mod NextLaws

@@ -1,5 +1,6 @@
 //! What ticks of one slot or gap leave of the whole machine.
 
+ghost use Rattle.slot_runs.specs.GoingOn.{GapGoesOn, LeftAreSpan, SilentConsoles, SlotGoesOn, SpanGoesOn};
 ghost use Rattle.slot_runs.specs.Laws.{ReadyTicks, StuckTicks, WaitingTicks};
 ghost use Rattle.slot_runs.specs.NextLaws.{MetTick, NextTick, ToldTick};
 ghost use Rattle.slot_runs.specs.Rest.{DueTwice, LooksTwice, MeetsAfterRest, RestsBefore, RestsOnce, RestsTwice};
@@ -67,4 +68,17 @@ pub fn undisturbed_ticks()
     ensures next { UndisturbedNext }
     ensures told { UndisturbedTold }
     ensures idle { UndisturbedIdle }
+{}
+
+/// The ticks that are left of a slot or gap are of it, too, after a part of them was done.
+pub fn slot_goes_on()
+    ensures left { LeftAreSpan }
+    ensures span { SpanGoesOn }
+    ensures slot { SlotGoesOn }
+    ensures gap { GapGoesOn }
+{}
+
+/// Ticks in which no partition writes to its console give no byte to any UART.
+pub fn silent_consoles()
+    ensures law { SilentConsoles }
 {}
