@@ -6,7 +6,7 @@ use Rattle.machine_model.specs.Lines.{console, has_console, said, step_console, 
 use Rattle.machine_model.specs.Lists.{all_of}
 use Rattle.machine_model.specs.Machine.{Machine, step, turn_of}
 use Rattle.machine_model.specs.Partition.{PartitionState, rested}
-use Rattle.slot_runs.specs.GoingOn.{AreLeft, GapGoesOn, LeftAreSpan, SilentConsoles, SlotGoesOn, SpanGoesOn}
+use Rattle.slot_runs.specs.GoingOn.{GapGoesOn, LeftAreSpan, SilentConsoles, SlotGoesOn, SpanGoesOn}
 use Rattle.slot_runs.specs.Laws.{IsSlotOf}
 use Rattle.slot_runs.specs.SpanLaws.{others_rested}
 use Rattle.slot_runs.specs.Spans.{IsSpan, after_span, inside}

@@ -1,23 +1,17 @@
 -- The laws on a slot or gap that goes on: ticks of it that are left are ticks of it, too.
 use Rattle.std.specs.Prelude.{◌≡◌, ℕ, ◌+◌, ◌<◌, ◌≤◌, Bool, false, List, [], None}
-use Rattle.cyclic_plans.specs.PlanClock.{IsInFrame, slot_at}
-use Rattle.cyclic_plans.specs.Slots.{frame_of}
+use Rattle.cyclic_plans.specs.PlanClock.{IsInFrame}
 use Rattle.machine_model.specs.Lines.{console, said}
 use Rattle.machine_model.specs.Machine.{Machine, turn_of}
 use Rattle.machine_model.specs.Partition.{PartitionState}
-use Rattle.slot_runs.specs.Laws.{IsSlotOf}
+use Rattle.slot_runs.specs.Laws.{IsSlotOf, IsStretch}
 use Rattle.slot_runs.specs.SpanLaws.{others_rested}
 use Rattle.slot_runs.specs.Spans.{IsSpan, after_span}
 
--- so many ticks that are left of a slot or gap, as a plan clock tells them
-pub record AreLeft (g : Machine) (count : ℕ) : Type 0 where
-  pub alike : (k : ℕ) → k < count → slot_at g.system.conf g.clock (g.time + k) ≡ slot_at g.system.conf g.clock g.time
-  pub within : g.time + count ≤ g.clock.frame_start + frame_of g.system.conf g.clock.plan
-
--- each of them ends a span
+-- each of so many ticks of one slot or gap ends a span
 abbrev pub LeftAreSpan : Type 0
 LeftAreSpan =
-    (g : Machine) (count last : ℕ) → g.halted ≡ false → IsInFrame g.system.conf g.clock g.time → AreLeft g count → last < count → IsSpan g last
+    (g : Machine) (count last : ℕ) → g.halted ≡ false → IsInFrame g.system.conf g.clock g.time → IsStretch g count → last < count → IsSpan g last
 
 -- the ticks after a part of a span
 abbrev pub SpanGoesOn : Type 0
