@@ -11,31 +11,31 @@ use Rattle.sparc_step.specs.Execution.{turned}
 use Rattle.sparc_step.specs.Flow.{branch_row, entered as window_entered, moved, sethi_row, taken, target, trap_turn, trap_type, window_below}
 use Rattle.sparc_step.specs.Operands.{sum_of}
 use Rattle.sparc_step.specs.Outcome.{with_result}
-use Rattle.sparc_step.specs.Registers.{advanced, branched, in_window, register_at, started as core_started, with_register}
+use Rattle.sparc_step.specs.Registers.{advanced, branched, in_window, register_at, started as core_started, with_icc, with_register}
 use Rattle.virt_clocks.specs.Clocks.{looked_at, no_clocks}
 use Rattle.virt_traps.specs.Delivery.{at_entry, brought_above, delivered, entered_below, freed_below, restored, returned, virtual_psr}
-use Rattle.virt_traps.specs.Moves.{spill_address, spilled}
-use Rattle.virt_traps.specs.SaveArea.{allows, is_usable}
+use Rattle.virt_traps.specs.Moves.{fill_address, filled, spill_address, spilled}
+use Rattle.virt_traps.specs.SaveArea.{allows, bytes_of, is_usable, registers_from, saved, with_registers, words_at}
 use Rattle.virt_traps.specs.Settled.{after_trap, made_again, settled}
 use Rattle.virt_traps.specs.Virtual.{cleared as interrupt_cleared, due, no_traps, raised}
 use Rattle.xm_conf.specs.View.{channel_of, has_end, is_port, sees}
 use Rattle.xm_ports.specs.Channels.{cleared as channel_cleared, put, shapes_of, taken as first_taken}
-use Rattle.xm_ports.specs.Ports.{no_ports}
+use Rattle.xm_ports.specs.Ports.{agrees, created_over, granted, is_called, no_ports, port_with}
 use Rattle.xm_traces.specs.Ring.{entry_at, noted, nothing_kept}
 use Rattle.machine_model.specs.Caller.{with_answer, with_written}
 use Rattle.machine_model.specs.Health.{answered_by, entered, event_handled, interrupt_delivered, self_ordered, trap_delivered}
 use Rattle.machine_model.specs.Hypercalls.{served}
 use Rattle.machine_model.specs.Lines.{end_lines, lines_of, order_lines, step_lines}
 use Rattle.machine_model.specs.LocalTick.{called, clocked, executed, local_tick, with_interrupts, worked}
-use Rattle.machine_model.specs.LogCalls.{hm_read, raise_event, trace_event}
+use Rattle.machine_model.specs.LogCalls.{hm_read, hm_status, raise_event, trace_event, trace_read, trace_status}
 use Rattle.machine_model.specs.Machine.{after, after_tick, channel_after, copies, happened, happened_by, local, local_of, next_clock, part_after, sight_of_state, step, tick_of, turn_of}
 use Rattle.machine_model.specs.Observed.{asked_by, asks}
 use Rattle.machine_model.specs.Partition.{areas_of, disarmed, execution_looked_at, hardware_looked_at, loaded, ordered, ordered_told, reset, rested}
-use Rattle.machine_model.specs.PartitionCalls.{get_partition_status, get_system_status, halt_partition, halt_system, idle_self, reset_partition, reset_system, resume_partition, shutdown_partition, suspend_partition}
-use Rattle.machine_model.specs.PortCalls.{made_port, receive_queuing_message, send_queuing_message, write_sampling_message}
-use Rattle.machine_model.specs.ProcessorCalls.{iret, read_input, write_console}
-use Rattle.machine_model.specs.Structures.{health_bytes, partition_status, system_status}
-use Rattle.machine_model.specs.TimeCalls.{get_time, set_timer, switch_sched_plan}
+use Rattle.machine_model.specs.PartitionCalls.{get_partition_status, get_self, get_system_status, halt_partition, halt_system, idle_self, reset_partition, reset_system, resume_partition, shutdown_partition, suspend_partition}
+use Rattle.machine_model.specs.PortCalls.{create_queuing_port, create_sampling_port, get_queuing_port_status, get_sampling_port_status, made_port, read_sampling_message, receive_queuing_message, send_queuing_message, write_sampling_message}
+use Rattle.machine_model.specs.ProcessorCalls.{clear_irqmask, flush_regwin, iret, read_input, set_irqmask, set_psr, set_tbr, write_console}
+use Rattle.machine_model.specs.Structures.{counts_bytes, health_bytes, partition_status, plan_status, queuing_status, sampling_status, system_status, trace_bytes}
+use Rattle.machine_model.specs.TimeCalls.{get_plan_status, get_time, set_timer, switch_sched_plan}
 use Rattle.machine_model.specs.Traffic.{after_message, copies_of}
 use Rattle.machine_model.specs.View.{name_of, named, part_of, port_channel, view_of}
 
@@ -51,7 +51,7 @@ decoding = tt
 
 -- the registers
 unfoldable pub keeping_registers : Unit {0}
-unfolding advanced branched core_started in_window register_at with_register with_result
+unfolding advanced branched core_started in_window register_at with_icc with_register with_result
 keeping_registers = tt
 
 -- an instruction
@@ -61,7 +61,7 @@ executing = tt
 
 -- virtual traps, spills and fills
 unfoldable pub trapping : Unit {0}
-unfolding after_trap allows at_entry brought_above delivered due entered_below freed_below interrupt_cleared is_usable made_again no_traps raised restored returned settled spill_address spilled virtual_psr
+unfolding after_trap allows at_entry brought_above bytes_of delivered due entered_below fill_address filled freed_below interrupt_cleared is_usable made_again no_traps raised registers_from restored returned saved settled spill_address spilled virtual_psr with_registers words_at
 trapping = tt
 
 -- a partition's clocks
@@ -71,7 +71,7 @@ keeping_time = tt
 
 -- channels and ports
 unfoldable pub keeping_channels : Unit {0}
-unfolding after_message channel_cleared channel_of copies_of first_taken has_end is_port name_of named no_ports part_of port_channel put sees shapes_of view_of
+unfolding after_message channel_cleared channel_of copies_of agrees created_over first_taken granted has_end is_called is_port name_of named no_ports part_of port_channel port_with put sees shapes_of view_of
 keeping_channels = tt
 
 -- health events and logs
@@ -81,7 +81,7 @@ monitoring = tt
 
 -- hypercalls
 unfoldable pub serving : Unit {0}
-unfolding get_partition_status get_system_status get_time halt_partition halt_system health_bytes hm_read idle_self iret made_port partition_status raise_event read_input receive_queuing_message reset_partition reset_system resume_partition send_queuing_message served set_timer shutdown_partition suspend_partition switch_sched_plan system_status trace_event with_answer with_written write_console write_sampling_message
+unfolding clear_irqmask counts_bytes create_queuing_port create_sampling_port flush_regwin get_partition_status get_plan_status get_queuing_port_status get_sampling_port_status get_self get_system_status get_time halt_partition halt_system health_bytes hm_read hm_status idle_self iret made_port partition_status plan_status queuing_status raise_event read_input read_sampling_message receive_queuing_message reset_partition reset_system resume_partition sampling_status send_queuing_message served set_irqmask set_psr set_tbr set_timer shutdown_partition suspend_partition switch_sched_plan system_status trace_bytes trace_event trace_read trace_status with_answer with_written write_console write_sampling_message
 serving = tt
 
 -- partitions and the whole machine

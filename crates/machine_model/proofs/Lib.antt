@@ -17,3 +17,8 @@ pub mod TrapRowLemmas
 pub mod OwnRowLemmas
 pub mod StartRowLemmas
 pub mod HeldLemmas
+pub mod PartitionCallRowLemmas
+pub mod TimeCallRowLemmas
+pub mod LogCallRowLemmas
+pub mod ProcessorCallRowLemmas
+pub mod PortCallRowLemmas

@@ -30,3 +30,9 @@ pub mod TrapRows
 pub mod OwnRows
 pub mod StartRows
 pub mod WordRows
+pub mod ServedRows
+pub mod PartitionCallRows
+pub mod TimeCallRows
+pub mod LogCallRows
+pub mod ProcessorCallRows
+pub mod PortCallRows

@@ -1,9 +1,11 @@
 //! The whole machine as mathematics, and its laws.
 #![tactic(auto)]
 
+mod calls;
 mod law;
 mod rows;
 
+pub use calls::{log_calls, partition_calls, port_calls, processor_calls, time_calls};
 pub use law::{
     all_ticks, boots_alone, has_own_tag, never_upon_itself, one_tick, own_lines, scripts_end,
     sees_nothing, two_runs,
