@@ -23,9 +23,9 @@ use Rattle.xm_ports.specs.Channels.{cleared as channel_cleared, put, shapes_of, 
 use Rattle.xm_ports.specs.Ports.{agrees, created_over, granted, is_called, no_ports, port_with}
 use Rattle.xm_traces.specs.Ring.{entry_at, noted, nothing_kept}
 use Rattle.machine_model.specs.Caller.{with_answer, with_written}
-use Rattle.machine_model.specs.Health.{answered_by, entered, event_handled, interrupt_delivered, self_ordered, trap_delivered}
+use Rattle.machine_model.specs.Health.{answered_by, entered, event_handled, interrupt_delivered, self_ordered, trap_delivered, undelivered}
 use Rattle.machine_model.specs.Hypercalls.{served}
-use Rattle.machine_model.specs.Lines.{end_lines, lines_of, order_lines, step_lines}
+use Rattle.machine_model.specs.Lines.{end_lines, lines_of, order_lines, step_console, step_lines, step_said}
 use Rattle.machine_model.specs.LocalTick.{called, clocked, executed, local_tick, with_interrupts, worked}
 use Rattle.machine_model.specs.LogCalls.{hm_read, hm_status, raise_event, trace_event, trace_read, trace_status}
 use Rattle.machine_model.specs.Machine.{after, after_tick, channel_after, copies, happened, happened_by, local, local_of, next_clock, part_after, sight_of_state, step, tick_of, turn_of}
@@ -76,7 +76,7 @@ keeping_channels = tt
 
 -- health events and logs
 unfoldable pub monitoring : Unit {0}
-unfolding action_in answered_by effect_of entered entry_at event_handled event_of_type interrupt_delivered is_logged noted nothing_kept self_ordered trap_delivered
+unfolding action_in answered_by effect_of entered entry_at event_handled event_of_type interrupt_delivered is_logged noted nothing_kept self_ordered trap_delivered undelivered
 monitoring = tt
 
 -- hypercalls
@@ -86,7 +86,7 @@ serving = tt
 
 -- partitions and the whole machine
 unfoldable pub running : Unit {0}
-unfolding after after_tick areas_of part_areas loaded_in asked_by asks called channel_after clocked copies disarmed end_lines executed execution_looked_at happened happened_by hardware_looked_at lines_of loaded local local_of local_tick next_clock order_lines ordered ordered_told part_after reset rested sight_of_state step step_lines tick_of turn_of with_interrupts worked
+unfolding after after_tick areas_of part_areas loaded_in asked_by asks called channel_after clocked copies disarmed end_lines executed execution_looked_at happened happened_by hardware_looked_at lines_of loaded local local_of local_tick next_clock order_lines ordered ordered_told part_after reset rested sight_of_state step step_console step_lines step_said tick_of turn_of with_interrupts worked
 running = tt
 
 -- all of them

@@ -22,3 +22,7 @@ pub mod TimeCallRowLemmas
 pub mod LogCallRowLemmas
 pub mod ProcessorCallRowLemmas
 pub mod PortCallRowLemmas
+pub mod EventRowLemmas
+pub mod ObservedRowLemmas
+pub mod WholeRowLemmas
+pub mod CoreFileRowLemmas

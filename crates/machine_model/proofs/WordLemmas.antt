@@ -170,7 +170,7 @@ local_same (Some word) g is = local_same_in (Ok word) g (turn_of g) is
 abbrev pub happened_with : Option ℕ → Machine → Happened
 happened_with w g = happened_by g.system.conf (turn_of g) (local_by w g)
 
-happened_same : (w : Option ℕ) (g : Machine) → Fetches w g → happened_with w g ≡ happened g
+pub happened_same : (w : Option ℕ) (g : Machine) → Fetches w g → happened_with w g ≡ happened g
 unfolding happened
 happened_same w g is = ap (happened_by g.system.conf (turn_of g)) (local_same w g is)
 

@@ -36,3 +36,7 @@ pub mod TimeCallRows
 pub mod LogCallRows
 pub mod ProcessorCallRows
 pub mod PortCallRows
+pub mod EventRows
+pub mod ObservedRows
+pub mod WholeRows
+pub mod CoreFileRows

@@ -1,10 +1,14 @@
-//! Rows worked by hand on each hypercall: its result, its effect, and each of its tests at its edge.
+//! Rows worked by hand on each hypercall: its result, its effect, and each of its tests at its edge; and on each health event.
 
+ghost use Rattle.machine_model.specs.CoreFileRows.{CoreFileRows};
+ghost use Rattle.machine_model.specs.EventRows.{ActionRows, DeliveryRows, RaisedRows, TrapsHaveEvents, UndoneRows};
 ghost use Rattle.machine_model.specs.LogCallRows.{LogCallRows};
+ghost use Rattle.machine_model.specs.ObservedRows.{AnswerRows, AskingRows, PlanStatusRows, RoomRows, SeesPlan};
 ghost use Rattle.machine_model.specs.PartitionCallRows.{PartitionCallRows};
 ghost use Rattle.machine_model.specs.PortCallRows.{PortCallRows};
 ghost use Rattle.machine_model.specs.ProcessorCallRows.{ProcessorCallRows};
 ghost use Rattle.machine_model.specs.TimeCallRows.{TimeCallRows};
+ghost use Rattle.machine_model.specs.WholeRows.{CounterRows, HearingRows, OrderRows, ResetsAllCold, WritesToItsConsole};
 
 /// Calls 1 to 11, on partitions and on the whole system.
 pub fn partition_calls()
@@ -29,4 +33,37 @@ pub fn log_calls()
 /// Calls 30 to 37, on interrupts, the console, input words and the virtual processor.
 pub fn processor_calls()
     ensures rows { ProcessorCallRows }
+{}
+
+/// Health events: what each action does, deliveries that fail, and calls that end in an event.
+pub fn health_events()
+    ensures events { TrapsHaveEvents }
+    ensures actions { ActionRows }
+    ensures raised { RaisedRows }
+    ensures deliveries { DeliveryRows }
+    ensures undone { UndoneRows }
+{}
+
+/// Observing calls: what each asks for, and what it is shown.
+pub fn observing_calls()
+    ensures asked { AskingRows }
+    ensures answered { AnswerRows }
+    ensures plan { PlanStatusRows }
+    ensures room { RoomRows }
+    ensures shown { SeesPlan }
+{}
+
+/// What reaches beyond a partition: messages, orders in each state, resets of the hypervisor, and
+/// console bytes by UART.
+pub fn reaching_others()
+    ensures heard { HearingRows }
+    ensures ordered { OrderRows }
+    ensures counted { CounterRows }
+    ensures reset { ResetsAllCold }
+    ensures consoles { WritesToItsConsole }
+{}
+
+/// The bytes of a core file.
+pub fn core_files()
+    ensures bytes { CoreFileRows }
 {}

@@ -5,7 +5,10 @@ mod calls;
 mod law;
 mod rows;
 
-pub use calls::{log_calls, partition_calls, port_calls, processor_calls, time_calls};
+pub use calls::{
+    core_files, health_events, log_calls, observing_calls, partition_calls, port_calls,
+    processor_calls, reaching_others, time_calls,
+};
 pub use law::{
     all_ticks, boots_alone, has_own_tag, never_upon_itself, one_tick, own_lines, scripts_end,
     sees_nothing, two_runs,
