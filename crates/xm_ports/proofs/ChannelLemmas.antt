@@ -1,7 +1,7 @@
 -- The channels as they are kept and the table that they come to.
 use Rattle.std.proofs.Common.{◌≡◌, ℕ, zero, suc, ◌+◌, List, [], ◌∷◌, ◌++◌, length, map, take, drop, get_or, set, Option, None, Some, refl, sym, ap, ◌∙◌, add-one}
 use Rattle.std.specs.Prelude.{◌↔◌, slice_get, option_map, IsSomeAnd, IsNone, IfNone, OnSome, Result, Ok, Err, OnOk, OnErr, IsErr}
-use Rattle.xm_ports.specs.Channels.{Shape, Content, Sampling, Queuing, changed, with_content, cleared, put, taken, messages_of, first_message, most_of, HasQueue, FitsChannel, IsFull, IsTable}
+use Rattle.xm_ports.specs.Channels.{Shape, Content, ChannelTable, Sampling, Queuing, changed, with_content, cleared, put, taken, messages_of, first_message, most_of, HasQueue, FitsChannel, IsFull, IsTable}
 use Rattle.xm_ports.specs.TableLemmas.{kept_send}
 use Rattle.xm_ports.specs.Stored.{channel_shape, channel_content, table_of}
 use Rattle.xm_ports.specs.declared.channel.Channel.{Channel}
@@ -89,17 +89,23 @@ pub full-there : (xs : List Channel) (n : ℕ) (old : Channel) → slice_get xs 
 full-there xs n old here P full = rw (shape_there xs n old here, content_there xs n old here) full
 
 -- the table after a send: a message more, or the same where the queue is full
-pub table-sent : (time : ℕ) (bytes : List ℕ) (xs : List Channel) (n : ℕ) (old new : Channel) (r : Result (Unit {0}) Full) → slice_get xs n ≡ Some old
-    → channel_shape new ≡ channel_shape old → OnOk r (channel_content new ≡ put time bytes (channel_content old)) → OnErr r (new ≡ old)
+pub table-sent : (bytes : List ℕ) (xs : List Channel) (n : ℕ) (old new : Channel) (r : Result (Unit {0}) Full) → slice_get xs n ≡ Some old
+    → channel_shape new ≡ channel_shape old → OnOk r ((time : ℕ) → channel_content new ≡ put time bytes (channel_content old)) → OnErr r (new ≡ old)
     → IsErr r ↔ IsFull n (table_of xs) → IsTable (table_of xs) → HasQueue n (table_of xs) → FitsChannel bytes n (table_of xs)
-    → IsTable (table_of (set xs n new)) × OnOk r (table_of (set xs n new) ≡ with_content (put time bytes) n (table_of xs)) × OnErr r (table_of (set xs n new) ≡ table_of xs)
-table-sent time bytes xs n old new (Ok done) here same sent stays full is has fits =
-    let e : table_of (set xs n new) ≡ with_content (put time bytes) n (table_of xs) = table-set (put time bytes) xs n old new here same sent in
+    → IsTable (table_of (set xs n new)) × OnOk r ((time : ℕ) → table_of (set xs n new) ≡ with_content (put time bytes) n (table_of xs)) × OnErr r (table_of (set xs n new) ≡ table_of xs)
+table-sent bytes xs n old new (Ok done) here same sent stays full is has fits =
+    let put_at : (time : ℕ) → table_of (set xs n new) ≡ with_content (put time bytes) n (table_of xs) = λ time. table-set (put time bytes) xs n old new here same (sent time) in
     let free : IsFull n (table_of xs) → ⊥ = λ yes. let err = full.1 yes in absurd cc in
-    (rw e (kept_send (table_of xs) n time bytes is has fits free), e, tt)
-table-sent time bytes xs n old new (Err fault) here same sent stays full is has fits =
+    (rw (put_at 0) (kept_send (table_of xs) n 0 bytes is has fits free), put_at, tt)
+table-sent bytes xs n old new (Err fault) here same sent stays full is has fits =
     let e : table_of (set xs n new) ≡ table_of xs = ap table_of (set_same xs n old new here stays) in
     (rw e is, tt, e)
+
+-- a send keeps the shapes
+pub shapes-sent : (c : ℕ) (bytes : List ℕ) (old new : ChannelTable) (r : Result (Unit {0}) Full)
+    → OnOk r ((time : ℕ) → new ≡ with_content (put time bytes) c old) → OnErr r (new ≡ old) → new.shapes ≡ old.shapes
+shapes-sent c bytes old new (Ok done) sent stays = ap (λ (table : ChannelTable). table.shapes) (sent 0)
+shapes-sent c bytes old new (Err fault) sent stays = ap (λ (table : ChannelTable). table.shapes) stays
 
 -- two facts on what is not there
 pub both_none : {X : Type 0} (P Q : Type 0) (r : Option X) → IfNone r P → IfNone r Q → IfNone r (P × Q)

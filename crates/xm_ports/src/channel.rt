@@ -1,6 +1,6 @@
 //! A channel of either kind.
 
-ghost use Rattle.std.specs.Prelude.{◌≡◌, ◌↔◌, ◌≤◌, ◌++◌, IfOk, IfSome, IsErr, IfNone, OnErr, OnOk, drop, length, option_map};
+ghost use Rattle.std.specs.Prelude.{◌≡◌, ◌↔◌, ℕ, ◌≤◌, ◌++◌, IfOk, IfSome, IsErr, IfNone, OnErr, OnOk, drop, length, option_map};
 ghost use Rattle.xm_ports.specs.Channels.{IsQueuing, IsSampling, cleared, empty, first_message, messages_of, most_of, put, sample_of, shape_of, taken};
 ghost use Rattle.xm_ports.specs.Stored.{channel_content, channel_shape};
 
@@ -66,7 +66,7 @@ impl Channel {
         requires bytes { length bytes.now ≤ (channel_shape self.old).length }
         ensures full { IsErr result ↔ (length (messages_of (channel_content self.old)) ≡ most_of (channel_shape self.old).kind) }
         ensures shape { channel_shape self.new ≡ channel_shape self.old }
-        ensures sent { OnOk result (channel_content self.new ≡ put 0 bytes.now (channel_content self.old)) }
+        ensures sent { OnOk result ((now : ℕ) → channel_content self.new ≡ put now bytes.now (channel_content self.old)) }
         ensures unchanged { OnErr result (self.new ≡ self.old) }
     {
         match self {

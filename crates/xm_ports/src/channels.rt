@@ -1,6 +1,6 @@
 //! All channels of a system.
 
-ghost use Rattle.std.specs.Prelude.{◌≡◌, ◌↔◌, ◌≤◌, All, ◌++◌, IfOk, IfSome, IfNone, IsErr, IsNone, OnErr, OnOk, OnSome, None, drop, length, map, option_map};
+ghost use Rattle.std.specs.Prelude.{◌≡◌, ◌↔◌, ℕ, ◌≤◌, All, ◌++◌, IfOk, IfSome, IfNone, IsErr, IsNone, OnErr, OnOk, OnSome, None, drop, length, map, option_map};
 ghost use Rattle.xm_conf.specs.Fits.{IsChan};
 ghost use Rattle.xm_ports.specs.Stored.{table_of};
 ghost use Rattle.xm_ports.specs.Channels.{FitsChannel, HasQueue, HasSampling, IsFull, IsTable, all_cleared, content_at, empty, first_message, messages_of, put, sample_of, shape_of, shapes_of, taken, with_content};
@@ -64,7 +64,7 @@ impl Channels {
         requires channel { HasQueue chan self.old }
         requires bytes { FitsChannel bytes.now chan self.old }
         ensures full { IsErr result ↔ IsFull chan self.old }
-        ensures sent { OnOk result (self.new ≡ with_content (put 0 bytes.now) chan self.old) }
+        ensures sent { OnOk result ((now : ℕ) → self.new ≡ with_content (put now bytes.now) chan self.old) }
         ensures unchanged { OnErr result (self.new ≡ self.old) }
     {
         self.channels[usize::from(chan)].send(bytes)

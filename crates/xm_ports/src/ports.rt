@@ -51,13 +51,12 @@ impl Ports {
         }
     }
 
-    /// Whether the port of a number is made.
+    /// Whether the port of a number is made. A partition has no port of a number above 31.
     pub fn is_made(&self, port: u8) -> bool
-        requires { port < 32 }
         ensures value { result ≡ is_made port self.now }
         ensures count { length_of self.now ≡ 32 }
     {
-        self.made[usize::from(port)]
+        self.made.get(usize::from(port)).copied().unwrap_or(false)
     }
 
     /// Makes a port of the partition `p`, and gives its number. The way is 0 for a source and 1 for a destination;
@@ -136,7 +135,6 @@ impl Ports {
 
     /// The port's number, where it is not made.
     fn unless_made(&self, port: u8) -> Result<u8, CreateFault>
-        requires { port < 32 }
         ensures answer { result ≡ unless_made (is_made port self.now) port }
         ensures made { IfOk result (λ made. made ≡ port) }
     {

@@ -158,7 +158,14 @@ fn a_port_is_made_once_where_it_fits(rt: HostRuntime) -> Result<(), Fail> {
     for (name, kind, way, length, most, answer) in ORDERS {
         assert!(rt; ports.create(&conf, 0, name, kind, way, length, most) == answer);
     }
-    for (port, made) in [(0, true), (1, true), (2, false), (31, false)] {
+    for (port, made) in [
+        (0, true),
+        (1, true),
+        (2, false),
+        (31, false),
+        (32, false),
+        (255, false),
+    ] {
         assert!(rt; ports.is_made(port) == made);
     }
     Ok(())
@@ -172,17 +179,83 @@ fn tried(rt: &impl Abort, alloc: Global) -> Result<Channels, Memory>
     Channels::new(alloc, &conf)
 }
 
-/// Sends a message to the queue.
-fn send(channels: &mut Channels, bytes: &[u8]) -> Result<(), Full>
-    requires tried { AreTried channels.old }
-    requires bytes { (1 ≤ length bytes.now) × (length bytes.now ≤ 8) }
-    ensures tried { AreTried channels.new }
-{
-    channels.send(QUEUE, bytes)
+/// A call on the channels, and what it gives.
+#[derive(Drop)]
+enum Call {
+    /// A message is sent to the queue.
+    Send(&'static [u8], Result<(), Full>),
+    /// The first message of the queue is taken: how many bytes it has, and what is in the buffer then.
+    Receive(Option<usize>, [u8; 8]),
+    /// How many messages wait, and the first of them.
+    Wait(usize, Option<&'static [u8]>),
+    /// A message is written to the sampling channel at a time.
+    Put(&'static [u8], u64),
+    /// The message that the sampling channel holds, with its time.
+    Hold(Option<(u64, &'static [u8])>),
+    /// All messages are dropped.
+    Clear,
 }
 
-/// Receives a message from the queue, which tells before whether one waits.
-fn receive(rt: &impl Abort, channels: &mut Channels, into: &mut [u8]) -> Option<usize>
+const CALLS: [Call; 32] = [
+    Call::Receive(None, [0; 8]),
+    Call::Wait(0, None),
+    Call::Send(b"ab", Ok(())),
+    Call::Send(b"c", Ok(())),
+    Call::Send(b"d", Err(Full)),
+    Call::Wait(2, Some(b"ab")),
+    Call::Receive(Some(2), *b"ab\0\0\0\0\0\0"),
+    Call::Send(b"d", Ok(())),
+    Call::Receive(Some(1), *b"cb\0\0\0\0\0\0"),
+    Call::Wait(1, Some(b"d")),
+    Call::Receive(Some(1), *b"db\0\0\0\0\0\0"),
+    Call::Receive(None, *b"db\0\0\0\0\0\0"),
+    Call::Wait(0, None),
+    Call::Hold(None),
+    Call::Put(b"first", 5),
+    Call::Hold(Some((5, b"first"))),
+    Call::Hold(Some((5, b"first"))),
+    Call::Put(b"longest!", 1005),
+    Call::Hold(Some((1005, b"longest!"))),
+    Call::Put(b"c", 1006),
+    Call::Hold(Some((1006, b"c"))),
+    Call::Put(b"last", 5),
+    Call::Send(b"ab", Ok(())),
+    Call::Send(b"c", Ok(())),
+    Call::Clear,
+    Call::Hold(None),
+    Call::Wait(0, None),
+    Call::Send(b"d", Ok(())),
+    Call::Send(b"e", Ok(())),
+    Call::Send(b"f", Err(Full)),
+    Call::Wait(2, Some(b"d")),
+    Call::Hold(None),
+];
+
+/// Whether a message is sent to the queue, with this answer.
+fn is_sent(channels: &mut Channels, bytes: &[u8], answer: Result<(), Full>) -> bool
+    requires tried { AreTried channels.old }
+    ensures tried { AreTried channels.new }
+{
+    if bytes.is_empty() || bytes.len() > 8 {
+        return false;
+    }
+    channels.send(QUEUE, bytes) == answer
+}
+
+/// Whether a message is written to the sampling channel.
+fn is_put(channels: &mut Channels, bytes: &[u8], now: u64) -> bool
+    requires tried { AreTried channels.old }
+    ensures tried { AreTried channels.new }
+{
+    if bytes.is_empty() || bytes.len() > 8 {
+        return false;
+    }
+    channels.put_sampling(LAST, bytes, now);
+    true
+}
+
+/// Receives a message from the queue.
+fn receive(channels: &mut Channels, into: &mut [u8]) -> Option<usize>
     requires tried { AreTried channels.old }
     requires room { length into.old ≡ 8 }
     ensures tried { AreTried channels.new }
@@ -190,89 +263,58 @@ fn receive(rt: &impl Abort, channels: &mut Channels, into: &mut [u8]) -> Option<
 {
     let waits = channels.first(QUEUE).is_some();
     let count = channels.receive(QUEUE, into);
-    assert!(rt; count.is_some() == waits);
-    count
-}
-
-/// Whether the message that waits longest is this one.
-fn is_first(channels: &Channels, bytes: &[u8]) -> bool
-    requires tried { AreTried channels.now }
-{
-    match channels.first(QUEUE) {
-        Some(first) => first == bytes,
-        None => false,
+    if count.is_some() == waits {
+        count
+    } else {
+        None
     }
 }
 
-#[test]
-fn messages_are_received_in_the_order_of_their_sends(rt: HostRuntime) -> Result<(), Fail> {
-    let mut channels = tried(&rt, rt.alloc())?;
-    let mut into = [0; 8];
-    assert!(rt; receive(&rt, &mut channels, &mut into) == None);
-    assert!(rt; send(&mut channels, b"ab") == Ok(()));
-    assert!(rt; send(&mut channels, b"c") == Ok(()));
-    assert!(rt; send(&mut channels, b"d") == Err(Full));
-    assert!(rt; channels.count(QUEUE) == 2);
-    assert!(rt; is_first(&channels, b"ab"));
-    assert!(rt; receive(&rt, &mut channels, &mut into) == Some(2));
-    assert!(rt; into == *b"ab\0\0\0\0\0\0");
-    assert!(rt; send(&mut channels, b"d") == Ok(()));
-    assert!(rt; receive(&rt, &mut channels, &mut into) == Some(1));
-    assert!(rt; into == *b"cb\0\0\0\0\0\0");
-    assert!(rt; is_first(&channels, b"d"));
-    assert!(rt; receive(&rt, &mut channels, &mut into) == Some(1));
-    assert!(rt; receive(&rt, &mut channels, &mut into) == None);
-    assert!(rt; into == *b"db\0\0\0\0\0\0");
-    assert!(rt; channels.count(QUEUE) == 0);
-    Ok(())
+/// Whether so many messages wait, of which this is the first.
+fn wait(channels: &Channels, count: usize, bytes: Option<&[u8]>) -> bool
+    requires tried { AreTried channels.now }
+{
+    channels.count(QUEUE) == count && channels.first(QUEUE) == bytes
 }
 
-/// Writes a message to the sampling channel.
-fn put(channels: &mut Channels, bytes: &[u8], now: u64)
+/// Whether the sampling channel holds this message.
+fn holds(channels: &Channels, held: Option<(u64, &[u8])>) -> bool
+    requires tried { AreTried channels.now }
+{
+    match (channels.get_sampling(LAST), held) {
+        (Some(sample), Some((time, bytes))) => sample.time == time && sample.bytes == bytes,
+        (None, None) => true,
+        _ => false,
+    }
+}
+
+/// Whether a call gives what it is to give.
+fn is_right(channels: &mut Channels, call: &Call, into: &mut [u8; 8]) -> bool
     requires tried { AreTried channels.old }
-    requires bytes { (1 ≤ length bytes.now) × (length bytes.now ≤ 8) }
     ensures tried { AreTried channels.new }
 {
-    channels.put_sampling(LAST, bytes, now);
-}
-
-/// Whether the sampling channel holds a message of this time.
-fn holds(channels: &Channels, time: u64, bytes: &[u8]) -> bool
-    requires tried { AreTried channels.now }
-{
-    match channels.get_sampling(LAST) {
-        Some(sample) => sample.time == time && sample.bytes == bytes,
-        None => false,
+    match call {
+        Call::Send(bytes, answer) => is_sent(channels, bytes, *answer),
+        Call::Receive(count, left) => receive(channels, into) == *count && *into == *left,
+        Call::Wait(count, first) => wait(channels, *count, *first),
+        Call::Put(bytes, now) => is_put(channels, bytes, *now),
+        Call::Hold(held) => holds(channels, *held),
+        Call::Clear => {
+            channels.clear();
+            true
+        }
     }
 }
 
 #[test]
-fn the_last_message_of_a_sampling_channel_stays(rt: HostRuntime) -> Result<(), Fail> {
+fn messages_wait_in_order_and_the_last_sample_stays(rt: HostRuntime) -> Result<(), Fail> {
     let mut channels = tried(&rt, rt.alloc())?;
-    assert!(rt; channels.get_sampling(LAST).is_none());
-    put(&mut channels, b"first", 5);
-    assert!(rt; holds(&channels, 5, b"first"));
-    assert!(rt; holds(&channels, 5, b"first"));
-    put(&mut channels, b"longest!", 1005);
-    assert!(rt; holds(&channels, 1005, b"longest!"));
-    put(&mut channels, b"c", 1006);
-    assert!(rt; holds(&channels, 1006, b"c"));
-    Ok(())
-}
-
-#[test]
-fn a_clear_drops_all_messages(rt: HostRuntime) -> Result<(), Fail> {
-    let mut channels = tried(&rt, rt.alloc())?;
-    put(&mut channels, b"last", 5);
-    assert!(rt; send(&mut channels, b"ab") == Ok(()));
-    assert!(rt; send(&mut channels, b"c") == Ok(()));
-    channels.clear();
-    assert!(rt; channels.get_sampling(LAST).is_none());
-    assert!(rt; channels.first(QUEUE).is_none());
-    assert!(rt; channels.count(QUEUE) == 0);
-    assert!(rt; send(&mut channels, b"d") == Ok(()));
-    assert!(rt; send(&mut channels, b"e") == Ok(()));
-    assert!(rt; send(&mut channels, b"f") == Err(Full));
-    assert!(rt; is_first(&channels, b"d"));
+    let mut into = [0; 8];
+    for number in 0..CALLS.len() {
+        assert!(rt;
+            is_right(&mut channels, &CALLS[number], &mut into),
+            "call {number}"
+        );
+    }
     Ok(())
 }

@@ -9,7 +9,7 @@ invariant_of-self c =
     let here = there (λ shape. IsQueuing shape.kind) c.self.inside.channels.items c.args.chan _ has (rw c.from.ensures at c.index_mut.ensures.value) in
     let full = full-there c.self.inside.channels.items c.args.chan _ here _ c.send.ensures.full in
     rw c.from.ensures
-    (table-sent 0 c.args.bytes.now c.self.inside.channels.items c.args.chan _ _ _ here c.send.ensures.shape c.send.ensures.sent c.send.ensures.unchanged full c.self.invariant has fits).0
+    (table-sent c.args.bytes.now c.self.inside.channels.items c.args.chan _ _ _ here c.send.ensures.shape c.send.ensures.sent c.send.ensures.unchanged full c.self.invariant has fits).0
 
 pub returns-clause-full : goal.returns-clause-full
 returns-clause-full c =
@@ -24,4 +24,4 @@ returns-clause-sent c =
     let here = there (λ shape. IsQueuing shape.kind) c.self.inside.channels.items c.args.chan _ has (rw c.from.ensures at c.index_mut.ensures.value) in
     let full = full-there c.self.inside.channels.items c.args.chan _ here _ c.send.ensures.full in
     rw (← c.self.view_is, c.from.ensures)
-    (table-sent 0 c.args.bytes.now c.self.inside.channels.items c.args.chan _ _ _ here c.send.ensures.shape c.send.ensures.sent c.send.ensures.unchanged full c.self.invariant has fits).1
+    (table-sent c.args.bytes.now c.self.inside.channels.items c.args.chan _ _ _ here c.send.ensures.shape c.send.ensures.sent c.send.ensures.unchanged full c.self.invariant has fits).1
