@@ -1,6 +1,6 @@
--- The law of the next deadline.
-use Rattle.std.specs.Prelude.{◌≡◌, ℕ, ◌+◌, ◌*◌, ◌<◌, ◌≤◌}
-use Rattle.virt_clocks.specs.Clocks.{next_deadline}
+-- The laws of a timer: its next deadline, and what a later look leaves.
+use Rattle.std.specs.Prelude.{◌≡◌, ℕ, ◌+◌, ◌*◌, ◌<◌, ◌≤◌, ◌||◌, Option}
+use Rattle.virt_clocks.specs.Clocks.{is_due, looked_at, next_deadline}
 use Rattle.virt_clocks.specs.declared.timer.Timer.{Timer}
 
 -- a deadline is past the clock and whole intervals after the timer's own, and no other such deadline is less
@@ -13,3 +13,13 @@ pub record IsNextDeadline (clock : ℕ) (timer : Timer) (deadline : ℕ) : Type 
 abbrev pub NextDeadlineIsLeast : Type 0
 NextDeadlineIsLeast =
     (clock : ℕ) (timer : Timer) → timer.deadline ≤ clock → 0 < timer.interval → IsNextDeadline clock timer (next_deadline clock timer)
+
+-- a timer that is looked at at one reading of its clock and at a later one is then as if it was looked at at the later one alone, ..
+abbrev pub LooksAgain : Type 0
+LooksAgain = (first later : ℕ) (timer : Option Timer) → first ≤ later → looked_at later (looked_at first timer) ≡ looked_at later timer
+
+-- .. at which it is due alone exactly where it is due at one of the two
+abbrev pub DueAtEither : Type 0
+DueAtEither =
+    (first later : ℕ) (timer : Option Timer) → first ≤ later
+    → is_due later timer ≡ (is_due first timer || is_due later (looked_at first timer))

@@ -83,10 +83,11 @@ impl Clocks {
         self.execution += 1;
     }
 
-    /// Counts ticks in which the partition ran.
+    /// Counts ticks in which the partition ran. More can be counted after them.
     pub fn pass_many(&mut self, ticks: u64)
-        requires { self.old.execution + ticks < 2 ^ 64 }
+        requires { self.old.execution + ticks < 2 ^ 63 }
         ensures value { self.new ≡ record self.old { execution = self.old.execution + ticks } }
+        ensures passes { self.new.execution < 2 ^ 63 }
     {
         self.execution += ticks;
     }

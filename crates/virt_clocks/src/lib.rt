@@ -8,5 +8,5 @@ mod tests;
 mod timer;
 
 pub use clocks::Clocks;
-pub use law::next_deadline_is_least;
+pub use law::{looked_at_again, next_deadline_is_least};
 pub use timer::{Clock, Negative, Timer};

@@ -1,6 +1,6 @@
 //! Timers at the edges of their deadlines.
 
-use crate::{Clock, Clocks, Negative, Timer, next_deadline_is_least};
+use crate::{Clock, Clocks, Negative, Timer, looked_at_again, next_deadline_is_least};
 use std::process::Abort;
 
 // The greatest number of a deadline or an interval.
@@ -25,6 +25,7 @@ fn timer(row: Option<(u64, u64)>) -> Option<Timer> {
     }
 }
 
+#[tactic(auto, unfolding(crate::specs::Clocks::no_clocks))]
 #[test]
 fn a_timer_is_set_unless_a_number_is_negative(rt: HostRuntime) {
     for (deadline, interval, set) in [
@@ -45,6 +46,7 @@ fn a_timer_is_set_unless_a_number_is_negative(rt: HostRuntime) {
     ] {
         for (clock, other) in [(Clock::Hw, Clock::Exec), (Clock::Exec, Clock::Hw)] {
             let mut clocks = Clocks::new();
+            clocks.pass_many(42);
             assert_eq!(rt; clocks.set_timer(clock, 5, 3), Ok(()));
             assert_eq!(rt; clocks.set_timer(other, 6, 2), Ok(()));
             let answer = clocks.set_timer(clock, deadline, interval);
@@ -59,83 +61,105 @@ fn a_timer_is_set_unless_a_number_is_negative(rt: HostRuntime) {
                 timer(Some((6, 2))),
                 "{deadline} {interval}"
             );
+            clocks.disarm();
+            assert_eq!(rt; (clocks.timer(clock), clocks.timer(other)), (None, None));
+            assert_eq!(rt; clocks.exec(), 42);
         }
+    }
+}
+
+// A clock, how many ticks the partition ran, a deadline and an interval on that clock, and what the hardware clock reads;
+// whether the timer is due then, and what it is after that.
+type Look = (Clock, u8, i64, i64, u64, bool, Option<(u64, u64)>);
+
+const LOOKS: [Look; 24] = [
+    (Clock::Hw, 0, 10, 4, 9, false, Some((10, 4))),
+    (Clock::Hw, 0, 10, 4, 10, true, Some((14, 4))),
+    (Clock::Hw, 0, 10, 4, 13, true, Some((14, 4))),
+    (Clock::Hw, 0, 10, 4, 25, true, Some((26, 4))),
+    (Clock::Hw, 0, 10, 4, 26, true, Some((30, 4))),
+    (Clock::Hw, 0, 10, 1, 10, true, Some((11, 1))),
+    (Clock::Hw, 0, 10, 1, 25, true, Some((26, 1))),
+    (Clock::Hw, 0, 10, 0, 9, false, Some((10, 0))),
+    (Clock::Hw, 0, 10, 0, 10, true, None),
+    (Clock::Hw, 0, 10, 0, 25, true, None),
+    (
+        Clock::Hw,
+        0,
+        1,
+        MOST - 1,
+        1,
+        true,
+        Some((0x7fff_ffff_ffff_ffff, 0x7fff_ffff_ffff_fffe)),
+    ),
+    (Clock::Hw, 0, 1, MOST, 1, true, None),
+    (Clock::Hw, 0, 2, MOST - 1, 2, true, None),
+    (
+        Clock::Hw,
+        0,
+        MOST - 1,
+        1,
+        0x7fff_ffff_ffff_fffe,
+        true,
+        Some((0x7fff_ffff_ffff_ffff, 1)),
+    ),
+    (
+        Clock::Hw,
+        0,
+        MOST,
+        1,
+        0x7fff_ffff_ffff_fffe,
+        false,
+        Some((0x7fff_ffff_ffff_ffff, 1)),
+    ),
+    (Clock::Hw, 0, MOST, 1, 0x7fff_ffff_ffff_ffff, true, None),
+    (Clock::Hw, 0, 10, 4, 0xffff_ffff_ffff_ffff, true, None),
+    (Clock::Hw, 0, MOST, MOST, 0xffff_ffff_ffff_ffff, true, None),
+    (Clock::Hw, 0, 0, 4, 25, false, None),
+    (Clock::Exec, 0, 10, 4, 30, false, Some((10, 4))),
+    (Clock::Exec, 9, 10, 4, 30, false, Some((10, 4))),
+    (Clock::Exec, 10, 10, 4, 30, true, Some((14, 4))),
+    (Clock::Exec, 25, 10, 4, 30, true, Some((26, 4))),
+    (Clock::Exec, 26, 10, 4, 30, true, Some((30, 4))),
+];
+
+// Whether the timer on a clock is due, and that on the other clock.
+fn are_due(clocks: &mut Clocks, clock: Clock, now: u64) -> (bool, bool) {
+    let (hardware, execution) = (clocks.hw_due(now), clocks.exec_due());
+    match clock {
+        Clock::Hw => (hardware, execution),
+        Clock::Exec => (execution, hardware),
     }
 }
 
 #[test]
 fn a_timer_that_is_due_is_moved_past_its_clock(rt: HostRuntime) {
     next_deadline_is_least();
-    for (deadline, interval, now, due, left) in [
-        (10, 4, 9, false, Some((10, 4))),
-        (10, 4, 10, true, Some((14, 4))),
-        (10, 4, 13, true, Some((14, 4))),
-        (10, 4, 25, true, Some((26, 4))),
-        (10, 4, 26, true, Some((30, 4))),
-        (10, 1, 10, true, Some((11, 1))),
-        (10, 1, 25, true, Some((26, 1))),
-        (10, 0, 9, false, Some((10, 0))),
-        (10, 0, 10, true, None),
-        (10, 0, 25, true, None),
-        (
-            1,
-            MOST - 1,
-            1,
-            true,
-            Some((0x7fff_ffff_ffff_ffff, 0x7fff_ffff_ffff_fffe)),
-        ),
-        (1, MOST, 1, true, None),
-        (2, MOST - 1, 2, true, None),
-        (
-            MOST - 1,
-            1,
-            0x7fff_ffff_ffff_fffe,
-            true,
-            Some((0x7fff_ffff_ffff_ffff, 1)),
-        ),
-        (
-            MOST,
-            1,
-            0x7fff_ffff_ffff_fffe,
-            false,
-            Some((0x7fff_ffff_ffff_ffff, 1)),
-        ),
-        (MOST, 1, 0x7fff_ffff_ffff_ffff, true, None),
-        (10, 4, 0xffff_ffff_ffff_ffff, true, None),
-        (MOST, MOST, 0xffff_ffff_ffff_ffff, true, None),
-        (0, 4, 25, false, None),
-    ] {
-        let mut clocks = set(&rt, 0, Clock::Hw, deadline, interval);
-        assert_eq!(rt; clocks.hw_due(now), due, "{deadline} {interval} {now}");
-        assert_eq!(rt;
-            clocks.timer(Clock::Hw),
-            timer(left),
-            "{deadline} {interval} {now}"
-        );
-        assert!(rt; !clocks.hw_due(now), "{deadline} {interval} {now}");
-        assert_eq!(rt;
-            clocks.timer(Clock::Hw),
-            timer(left),
-            "{deadline} {interval} {now}"
-        );
-    }
-}
-
-#[test]
-fn an_execution_timer_waits_for_the_ticks_that_ran(rt: HostRuntime) {
-    for (ticks, due, left) in [
-        (0, false, Some((10, 4))),
-        (9, false, Some((10, 4))),
-        (10, true, Some((14, 4))),
-        (25, true, Some((26, 4))),
-        (26, true, Some((30, 4))),
-    ] {
-        let mut clocks = set(&rt, ticks, Clock::Exec, 10, 4);
+    looked_at_again();
+    for (clock, ticks, deadline, interval, now, due, left) in LOOKS {
+        let mut clocks = set(&rt, ticks, clock, deadline, interval);
         assert_eq!(rt; clocks.exec(), u64::from(ticks));
-        assert!(rt; !clocks.hw_due(30), "{ticks}");
-        assert_eq!(rt; clocks.exec_due(), due, "{ticks}");
-        assert_eq!(rt; clocks.timer(Clock::Exec), timer(left), "{ticks}");
-        assert_eq!(rt; clocks.timer(Clock::Hw), None, "{ticks}");
+        let other = match clock {
+            Clock::Hw => Clock::Exec,
+            Clock::Exec => Clock::Hw,
+        };
+        for due in [due, false] {
+            assert_eq!(rt;
+                are_due(&mut clocks, clock, now),
+                (due, false),
+                "{deadline} {interval} {now} {ticks}"
+            );
+            assert_eq!(rt;
+                clocks.timer(clock),
+                timer(left),
+                "{deadline} {interval} {now} {ticks}"
+            );
+            assert_eq!(rt;
+                clocks.timer(other),
+                None,
+                "{deadline} {interval} {now} {ticks}"
+            );
+        }
     }
 }
 
@@ -166,20 +190,4 @@ fn the_next_timer_is_the_one_with_fewer_ticks_left(rt: HostRuntime) {
             "{hardware} {execution} {now}"
         );
     }
-}
-
-#[tactic(auto, unfolding(crate::specs::Clocks::no_clocks))]
-#[test]
-fn ticks_are_counted_at_once_and_timers_disarmed(rt: HostRuntime) {
-    let mut clocks = Clocks::new();
-    clocks.pass_many(42);
-    assert_eq!(rt; clocks.set_timer(Clock::Hw, 10, 4), Ok(()));
-    assert_eq!(rt; clocks.exec(), 42);
-    assert_eq!(rt; clocks.set_timer(Clock::Exec, 50, 0), Ok(()));
-    clocks.disarm();
-    assert_eq!(rt;
-        (clocks.timer(Clock::Hw), clocks.timer(Clock::Exec)),
-        (None, None)
-    );
-    assert_eq!(rt; clocks.exec(), 42);
 }
