@@ -14,6 +14,7 @@ pub use gone::Gone;
 pub use own_state::PartState;
 pub use serving::{Act, Note, Served, serve};
 pub use sys::Sys;
+pub use xm_base::Order;
 
 #[cfg(test)]
 mod tests;

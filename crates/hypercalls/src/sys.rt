@@ -169,7 +169,7 @@ impl Sys {
     /// Counts ticks in which a partition ran.
     pub fn count_ticks(&mut self, p: PartId, ticks: u64)
         requires partition { p < length self.old.parts }
-        requires few { (part_at p self.old).clocks.execution + ticks < 2 ^ 64 }
+        requires few { (part_at p self.old).clocks.execution + ticks < 2 ^ 63 }
         ensures value { self.new ≡ with_part p (record (part_at p self.old) { clocks = record (part_at p self.old).clocks { execution = (part_at p self.old).clocks.execution + ticks } }) self.old }
     {
         self.parts[usize::from(p)].clocks.pass_many(ticks);

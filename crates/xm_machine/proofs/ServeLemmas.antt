@@ -44,7 +44,7 @@ module _ (p pc npc : ℕ) (answer : code.Served) (sys mid : SysState) (below : p
       let answers = served_answers (caller_in sys p pc npc Unseen) is.built in
       answer_keeps answers.value (part_at p sys) (part_at p mid) (part_served ∙ answers.after)
 
-  pub clock_served : (part_at p sys).clocks.execution + 1 < 2 ^ 63 → (part_at p mid).clocks.execution + 1 < 2 ^ 64
+  pub clock_served : (part_at p sys).clocks.execution + 1 < 2 ^ 63 → (part_at p mid).clocks.execution + 1 < 2 ^ 63
   clock_served few = omega (arith, few, ap (λ c. c.execution) keeps.0)
 
   module _ (counted : SysState) (counts : counted ≡ with_part p (counted_on 1 (part_at p mid)) mid) where
