@@ -1,0 +1,60 @@
+//! The arguments of a process, and the command line that they hold.
+
+ghost use Rattle.std.specs.Prelude.{◌≡◌, ◌≢◌, ◌↔◌, None, IfOk};
+ghost use Rattle.xm_commands.specs.Top.{Answers, IsQuiet};
+ghost use Rattle.xm_commands.specs.Work.{outside};
+ghost use Rattle.xm_program.specs.Arguments.{after_name};
+ghost use Rattle.xm_words.specs.Texts.{texts_of};
+ghost use Rattle.xm_words.specs.Words.{command_of};
+
+use std::alloc::Global;
+use xm_base::Memory;
+use xm_commands::{Status, xm_main};
+use xm_machine::Board;
+use xm_outside::{Sink, Store};
+use xm_words::Words;
+
+/// The words of the command line: all arguments but the first, which is the program's name.
+pub fn words_after_name(alloc: Global, given: &[String]) -> Result<Words, Memory>
+    ensures words { IfOk result (λ words. words ≡ after_name given.now) }
+{
+    match given.split_first() {
+        Some((_name, rest)) => words_of(alloc, rest),
+        None => Ok(Words::new(alloc)),
+    }
+}
+
+// A word for each text, in their order.
+fn words_of(alloc: Global, texts: &[String]) -> Result<Words, Memory>
+    ensures words { IfOk result (λ words. words ≡ texts_of texts.now) }
+{
+    let mut words = Words::new(alloc);
+    for text in texts {
+        words.push(text.as_str())?;
+    }
+    Ok(words)
+}
+
+/// Does what the arguments after the program's name say. Out of memory for the words themselves is told by
+/// the status alone.
+pub fn carry_out<S: Store, O: Sink, E: Sink>(
+    alloc: Global,
+    given: &[String],
+    files: &mut S,
+    out: &mut O,
+    err: &mut E,
+) -> Status
+    ensures answers { Answers result (after_name given.now)
+        (outside (S.files files.old) (S.read_faults files.old) (S.write_faults files.old) (S.calls files.old) (O.got out.old) (O.faults out.old))
+        (outside (S.files files.new) (S.read_faults files.new) (S.write_faults files.new) (S.calls files.new) (O.got out.new) (O.faults out.new))
+        (E.got err.old) (E.faults err.old) (E.got err.new) (E.faults err.new) }
+    ensures usage { result ≢ Status.NoMemory → ((result ≡ Status.Usage) ↔ (command_of (after_name given.now) ≡ None)) }
+    ensures done { result ≡ Status.Done → O.faults out.new ≡ O.faults out.old }
+    ensures silent { result ≡ Status.Done → err.new ≡ err.old }
+    ensures quiet { IsQuiet result → O.got out.new ≡ O.got out.old }
+{
+    let Ok(words) = words_after_name(alloc, given) else {
+        return Status::NoMemory;
+    };
+    xm_main(alloc, &words, files, out, err, &mut Board::new())
+}
