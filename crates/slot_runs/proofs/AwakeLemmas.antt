@@ -1,13 +1,13 @@
 -- The local tick of a partition that goes on in its slot.
 use Rattle.std.proofs.Common.{◌≡◌, ℕ, inl, inr, Bool, true, false, List, Option, None, Some, refl, sym, ap, ◌∙◌}
-use Rattle.std.specs.Prelude.{◌==◌, if◌then◌else◌, slice_get}
+use Rattle.std.specs.Prelude.{if◌then◌else◌, slice_get}
 use Rattle.std.proofs.lemmas.Bool.{eq-eqb}
-use Rattle.virt_traps.specs.Virtual.{VirtualTraps, due}
+use Rattle.virt_traps.specs.Virtual.{due}
 use Rattle.xm_base.specs.declared.partition.State.{State}
 use Rattle.xm_base.specs.declared.partition.State.TheVariants.{Ready, Idle, Suspended, Halted}
 use Rattle.xm_ports.specs.Channels.{Content}
 use Rattle.machine_model.specs.LocalTick.{delivered_or_executed, executed, goes_on, local_tick, seen_outside, with_interrupts, worked, worked_if}
-use Rattle.machine_model.specs.Machine.{Machine, Turn, copies, local, local_in, local_of, sight, sight_in, sight_of_state, taken_by, turn_of}
+use Rattle.machine_model.specs.Machine.{Machine, copies, local, local_of, sight, sight_of_state, taken_by, turn_of}
 use Rattle.machine_model.specs.Partition.{PartitionState, execution_looked_at, hardware_looked_at, takes_turns}
 use Rattle.machine_model.specs.Told.{Sight}
 use Rattle.machine_model.specs.View.{PartitionView, view_of}

@@ -1,10 +1,9 @@
 -- Whether an interrupt can be delivered, and whether a timer falls due, in many ticks of a slot.
-use Rattle.std.proofs.Common.{◌≡◌, ℕ, zero, suc, ◌+◌, ◌-◌, ◌<◌, ◌≤◌, inl, inr, Bool, true, false, Option, None, Some, refl, sym, ap, subst, ◌∙◌, arith}
-use Rattle.std.specs.Prelude.{◌==◌, ◌&&◌, ◌^◌, if◌then◌else◌, IfSome, bit_or, nat_le, min}
+use Rattle.std.proofs.Common.{◌≡◌, ℕ, zero, suc, ◌+◌, ◌≤◌, inl, inr, Bool, true, false, None, Some, refl, sym, ap, subst, ◌∙◌, arith}
+use Rattle.std.specs.Prelude.{◌==◌, ◌&&◌, ◌^◌, if◌then◌else◌, bit_or}
 use Rattle.std.specs.Int.{bit_at}
 use Rattle.std.proofs.lemmas.Bool.Decides.{nat_tests}
-use Rattle.virt_clocks.specs.Clocks.{PartitionClocks, is_due, lesser, looked_at, next_due, ticks_until}
-use Rattle.virt_clocks.specs.declared.timer.Timer.{Timer}
+use Rattle.virt_clocks.specs.Clocks.{is_due}
 use Rattle.virt_traps.specs.Virtual as virtual
 use Rattle.virt_traps.specs.Virtual.{VirtualTraps, due, first_due, raised}
 use Rattle.machine_model.specs.LocalTick.{with_interrupts}

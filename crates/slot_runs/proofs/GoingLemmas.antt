@@ -1,25 +1,24 @@
 -- Ticks of the slot of a partition that goes on.
-use Rattle.std.proofs.Common.{◌≡◌, ℕ, zero, suc, ◌+◌, ◌<◌, ◌≤◌, Bool, true, false, List, [], map, None, Some, refl, sym, ap, subst, ◌∙◌, arith}
+use Rattle.std.proofs.Common.{◌≡◌, ℕ, zero, suc, ◌+◌, ◌≤◌, Bool, true, false, List, [], map, Some, refl, ap, subst, ◌∙◌, arith}
 use Rattle.std.specs.Prelude.{nat_lt, slice_get, slice_set}
 use Rattle.std.proofs.lemmas.Bool.Decides.{nat_tests}
 use Rattle.virt_traps.specs.Virtual.{due}
 use Rattle.machine_model.specs.LocalTick.{LocalTick, delivered_or_executed, seen_outside, with_interrupts}
-use Rattle.machine_model.specs.Machine.{Machine, Turn, copies, local, sight, turn_of}
+use Rattle.machine_model.specs.Machine.{Machine, Turn, copies, local, sight}
 use Rattle.machine_model.specs.Partition.{PartitionState, execution_looked_at, hardware_looked_at, rested}
 use Rattle.machine_model.specs.Told as told
 use Rattle.machine_model.specs.View.{PartitionView, view_of}
 use Rattle.slot_runs.specs.Laws.{HasGone}
-use Rattle.slot_runs.specs.Meeting.{Undelivered, awake, first_after, timers_looked_at, with_interrupts_to}
-use Rattle.slot_runs.specs.Parts.{gone_on}
+use Rattle.slot_runs.specs.Meeting.{Undelivered, first_after, timers_looked_at, with_interrupts_to}
 use Rattle.slot_runs.specs.SpanLaws.{GoesOn, GoingTicks, going_parts, its_areas, its_met, its_state, met, met_to, others_rested}
-use Rattle.slot_runs.specs.Spans.{IsInside, IsQuietSpan, IsSpan, inside}
+use Rattle.slot_runs.specs.Spans.{IsSpan, inside}
 use Rattle.slot_runs.proofs.AwakeLemmas.{local_awake, undelivered_executes}
 use Rattle.slot_runs.proofs.DueLemmas.{undelivered_earlier}
 use Rattle.slot_runs.proofs.InsideLemmas.{turn_inside}
 use Rattle.slot_runs.proofs.MeetingLemmas.{meets_in_slot, wakes_in_slot}
 use Rattle.slot_runs.proofs.PassLemmas.{get_set_map, map_set_twice}
 use Rattle.slot_runs.proofs.RestLemmas.{rested_twice}
-use Rattle.slot_runs.proofs.SpanLemmas.{IsQuietTick, inside_to, quiet_span, quiet_work, work_tick}
+use Rattle.slot_runs.proofs.SpanLemmas.{IsQuietTick, quiet_span, quiet_work, work_tick}
 use Rattle.slot_runs.proofs.StepLemmas.{gone_before, next_goes}
 
 -- the machine

@@ -1,15 +1,14 @@
 -- A slot or gap that goes on after a part of its ticks.
-use Rattle.std.proofs.Common.{◌≡◌, ℕ, zero, suc, ◌+◌, ◌<◌, ◌≤◌, Bool, true, false, List, [], ◌∷◌, ◌++◌, None, Some, refl, sym, ap, subst, ◌∙◌, arith}
-use Rattle.std.specs.Prelude.{if◌then◌else◌, slice_get}
-use Rattle.cyclic_plans.specs.PlanClock.{IsInFrame, slot_at}
+use Rattle.std.proofs.Common.{◌≡◌, ℕ, zero, suc, ◌+◌, ◌≤◌, Bool, true, false, List, [], ◌∷◌, ◌++◌, None, refl, sym, ap, subst, ◌∙◌, arith}
+use Rattle.std.specs.Prelude.{if◌then◌else◌}
+use Rattle.cyclic_plans.specs.PlanClock.{slot_at}
 use Rattle.machine_model.specs.Lines.{console, has_console, said, step_console, step_said}
-use Rattle.machine_model.specs.Lists.{all_of}
 use Rattle.machine_model.specs.Machine.{Machine, step, turn_of}
 use Rattle.machine_model.specs.Partition.{PartitionState, rested}
 use Rattle.slot_runs.specs.GoingOn.{GapGoesOn, LeftAreSpan, SilentConsoles, SlotGoesOn, SpanGoesOn}
 use Rattle.slot_runs.specs.Laws.{IsSlotOf}
 use Rattle.slot_runs.specs.SpanLaws.{others_rested}
-use Rattle.slot_runs.specs.Spans.{IsSpan, after_span, inside}
+use Rattle.slot_runs.specs.Spans.{IsSpan, inside}
 use Rattle.slot_runs.proofs.InsideLemmas.{gap_inside, turn_inside}
 use Rattle.slot_runs.proofs.ListLemmas.{none_of}
 use Rattle.slot_runs.proofs.PassLemmas.{get_set_map}

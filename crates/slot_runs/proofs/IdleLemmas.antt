@@ -6,14 +6,14 @@ use Rattle.xm_base.specs.declared.partition.State.TheVariants.{Idle}
 use Rattle.xm_ports.specs.Channels.{Content}
 use Rattle.machine_model.specs.Health.{quiet}
 use Rattle.machine_model.specs.LocalTick.{LocalTick, goes_on, seen_outside, with_interrupts, worked, worked_if}
-use Rattle.machine_model.specs.Machine.{Machine, Turn, copies, local, local_of, sight_of_state, turn_of}
+use Rattle.machine_model.specs.Machine.{Machine, copies, local, sight_of_state, turn_of}
 use Rattle.machine_model.specs.Partition.{PartitionState, rested, takes_turns}
 use Rattle.machine_model.specs.Told as told
 use Rattle.machine_model.specs.Told.{Sight}
 use Rattle.machine_model.specs.View.{PartitionView, view_of}
 use Rattle.slot_runs.specs.Laws.{IsSlotOf}
 use Rattle.slot_runs.specs.Meeting.{first_after}
-use Rattle.slot_runs.specs.SpanLaws.{IdleTicks, all_rested, others_rested}
+use Rattle.slot_runs.specs.SpanLaws.{IdleTicks, others_rested}
 use Rattle.slot_runs.specs.Spans.{IsSpan, inside}
 use Rattle.slot_runs.proofs.AwakeLemmas.{local_work, same_state, taken_is}
 use Rattle.slot_runs.proofs.DueLemmas.{idles_later, none_due_earlier}

@@ -2,7 +2,7 @@
 use Rattle.std.proofs.Common.{◌≡◌, ℕ, zero, suc, ◌+◌, ◌-◌, ◌≤◌, Bool, false, List, Option, None, Some, refl, sym, ap, ◌∙◌}
 use Rattle.std.specs.Prelude.{◌==◌}
 use Rattle.std.proofs.Math.Nat.{add-zero}
-use Rattle.cyclic_plans.specs.PlanClock.{here, moment, slot_at}
+use Rattle.cyclic_plans.specs.PlanClock.{here, slot_at}
 use Rattle.xm_conf.specs.declared.plan.Slot.{Slot}
 use Rattle.machine_model.specs.Machine.{Machine, turn_here, turn_of}
 use Rattle.machine_model.specs.Partition.{PartitionState}

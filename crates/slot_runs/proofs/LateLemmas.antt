@@ -1,5 +1,5 @@
 -- Partitions that rest late: what a tick leaves of them.
-use Rattle.std.proofs.Common.{◌≡◌, ◌≢◌, ℕ, ◌≤◌, ◌⊎◌, inl, inr, Bool, true, false, List, Option, None, Some, refl, sym, ap, ◌∙◌}
+use Rattle.std.proofs.Common.{◌≡◌, ◌≢◌, ℕ, ◌≤◌, ◌⊎◌, inl, inr, Bool, true, false, Option, None, Some, refl, sym, ap, ◌∙◌}
 use Rattle.std.specs.Prelude.{if◌then◌else◌}
 use Rattle.virt_clocks.specs.Clocks.{is_due, looked_at}
 use Rattle.virt_traps.specs.Virtual.{VirtualTraps, raised}
@@ -7,10 +7,10 @@ use Rattle.xm_base.specs.declared.partition.Mode.{Mode}
 use Rattle.xm_base.specs.declared.partition.Order.{Order}
 use Rattle.xm_base.specs.declared.partition.Order.TheVariants as order
 use Rattle.xm_base.specs.declared.partition.State.{State}
-use Rattle.xm_base.specs.declared.partition.State.TheVariants.{Ready, Idle, Suspended, Halted}
+use Rattle.xm_base.specs.declared.partition.State.TheVariants.{Ready, Suspended}
 use Rattle.machine_model.specs.LocalTick.{with_interrupts}
 use Rattle.machine_model.specs.Machine.{after_tick, obeyed}
-use Rattle.machine_model.specs.Partition.{PartitionState, applies, carried_out, execution_looked_at, hardware_looked_at, hardware_timer, is_halted, ordered, raised_if, reset, rested, shutdown, slot_start}
+use Rattle.machine_model.specs.Partition.{PartitionState, applies, carried_out, execution_looked_at, hardware_looked_at, hardware_timer, is_halted, ordered, reset, rested, shutdown, slot_start}
 use Rattle.machine_model.specs.Traffic.{Puts, Still, Takes, Traffic, after_message, heard_from, hearing, interrupted}
 use Rattle.machine_model.specs.View.{PartitionView}
 use Rattle.machine_model.specs.Whole.{AllHalted, AllReset, NoEvent, WholeEvent, after_event}

@@ -17,10 +17,6 @@ pub mod IdleLemmas
 pub mod UndisturbedLemmas
 pub mod LateLemmas
 pub mod GoingOnLemmas
-pub mod QuietLemmas
-pub mod WorkLemmas
-pub mod LaterLemmas
-pub mod TickLemmas
-pub mod WaitLemmas
 pub mod StepLemmas
-pub mod SlotLemmas
+pub mod BuiltLemmas
+pub mod PlainLemmas

@@ -1,19 +1,14 @@
 -- A partition whose timers are looked at many times in its slot.
-use Rattle.std.proofs.Common.{◌≡◌, ℕ, zero, suc, ◌+◌, ◌-◌, ◌<◌, ◌≤◌, inl, inr, Bool, true, false, List, Option, None, Some, refl, sym, ap, subst, ◌∙◌, arith}
-use Rattle.std.specs.Prelude.{◌==◌, ◌&&◌, ◌^◌, if◌then◌else◌, IfSome, nat_le, min}
-use Rattle.std.specs.Int.{bit_at}
+use Rattle.std.proofs.Common.{◌≡◌, ℕ, zero, suc, ◌+◌, ◌≤◌, Bool, true, false, List, Option, refl, sym, ap, ◌∙◌, arith}
 use Rattle.std.proofs.Math.Nat.{add-zero}
-use Rattle.std.proofs.lemmas.Bool.Decides.{nat_tests}
 use Rattle.guest_bus.specs.Memory.{Area}
-use Rattle.virt_clocks.specs.Clocks.{PartitionClocks, is_due, lesser, looked_at, next_due, ticks_until}
+use Rattle.virt_clocks.specs.Clocks.{is_due, looked_at}
 use Rattle.virt_clocks.specs.declared.timer.Timer.{Timer}
-use Rattle.virt_traps.specs.Virtual as virtual
-use Rattle.virt_traps.specs.Virtual.{VirtualTraps, due, first_due, raised}
+use Rattle.virt_traps.specs.Virtual.{VirtualTraps, due}
 use Rattle.machine_model.specs.LocalTick.{goes_on, with_interrupts}
 use Rattle.machine_model.specs.Partition.{PartitionState, execution_looked_at, execution_timer, hardware_looked_at, hardware_timer, raised_if}
 use Rattle.slot_runs.specs.Meeting.{awake, first_after, in_slot, met_in_slot, timers_looked_at, with_interrupts_to}
 use Rattle.slot_runs.specs.Parts.{began, gone_on}
-use Rattle.slot_runs.proofs.BitLemmas.{or_kept}
 use Rattle.slot_runs.proofs.RestLemmas.{due_interrupt, raised_if_turned}
 use Rattle.slot_runs.proofs.StepLemmas.{gone_none}
 use Rattle.slot_runs.proofs.TimerLemmas.{looked_twice}

@@ -1,22 +1,18 @@
 -- The tick after those in which a partition only went.
-use Rattle.std.proofs.Common.{◌≡◌, ℕ, suc, ◌+◌, ◌<◌, ◌≤◌, Bool, true, false, List, [], ◌++◌, map, Option, None, Some, refl, sym, ap, subst, ◌∙◌, arith}
-use Rattle.std.specs.Prelude.{◌==◌, slice_set}
-use Rattle.std.specs.List.{flat_map}
-use Rattle.virt_traps.specs.Virtual.{due}
-use Rattle.xm_ports.specs.Channels.{Content}
+use Rattle.std.proofs.Common.{◌≡◌, ℕ, suc, ◌+◌, Bool, true, false, List, ◌++◌, map, Some, refl, sym, ap, subst, ◌∙◌, arith}
+use Rattle.std.specs.Prelude.{◌==◌}
 use Rattle.machine_model.specs.Health.{Worked}
 use Rattle.machine_model.specs.Lines.{local_said, step_lines, step_said}
-use Rattle.machine_model.specs.LocalTick.{LocalTick, bounded, delivered_or_executed, said_in, seen_outside, with_interrupts}
-use Rattle.machine_model.specs.Machine.{Machine, Turn, after, copies, happened, if_its_turn, is_turn_of, local, run, sight, tick_of, turn_of}
-use Rattle.machine_model.specs.Partition.{PartitionState, rested}
-use Rattle.machine_model.specs.Told as told
-use Rattle.machine_model.specs.Told.{Told, line_of}
+use Rattle.machine_model.specs.LocalTick.{LocalTick, seen_outside}
+use Rattle.machine_model.specs.Machine.{Machine, happened, if_its_turn, local, run, turn_of}
+use Rattle.machine_model.specs.Partition.{PartitionState}
+use Rattle.machine_model.specs.Told.{line_of}
 use Rattle.machine_model.specs.View.{System, view_of}
-use Rattle.slot_runs.specs.Meeting.{awake, first_after}
+use Rattle.slot_runs.specs.Meeting.{first_after}
 use Rattle.slot_runs.specs.RunLemmas.{run_more}
-use Rattle.slot_runs.specs.NextLaws.{HasGoneOn, IsNext, IsTickOf, MetTick, NextTick, ToldTick, next_work}
+use Rattle.slot_runs.specs.NextLaws.{HasGoneOn, IsTickOf, MetTick, NextTick, ToldTick, next_work}
 use Rattle.slot_runs.specs.SpanLaws.{going_parts, its_met, met, others_rested}
-use Rattle.slot_runs.specs.Spans.{IsInside, IsSpan, IsToldSpan, inside, plan_line, said_if}
+use Rattle.slot_runs.specs.Spans.{IsInside, IsToldSpan, inside, plan_line, said_if}
 use Rattle.slot_runs.proofs.AwakeLemmas.{local_awake}
 use Rattle.slot_runs.proofs.CalmLemmas.{lines_as, step_as}
 use Rattle.slot_runs.proofs.GoingLemmas.{going, going_tick, gone_earlier, its_turn, local_going, rests_more}

@@ -18,6 +18,11 @@ each_but f r (x ∷ xs) zero new same one =
 each_but f r (x ∷ xs) (suc p) new same one =
     rw (same 0 x (λ e. absurd (omega (arith, e))), each_but (λ k. f (suc k)) r xs p new (λ k y other. same (suc k) y (λ e. other (omega (arith, e)))) one) refl
 
+-- a pass that leaves each element that is there
+pub map_same : {X : Type 0} (r : X → X) (xs : List X) → ((k : ℕ) (x : X) → slice_get xs k ≡ Some x → r x ≡ x) → map r xs ≡ xs
+map_same r [] same = refl
+map_same r (x ∷ xs) same = rw (same 0 x refl, map_same r xs (λ k y there. same (suc k) y there)) refl
+
 -- two passes, where the second makes up for the first
 pub map_twice : {X : Type 0} (r1 r2 : X → X) (xs : List X) → ((x : X) → r2 (r1 x) ≡ r2 x) → map r2 (map r1 xs) ≡ map r2 xs
 map_twice r1 r2 [] again = refl

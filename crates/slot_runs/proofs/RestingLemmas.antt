@@ -1,18 +1,15 @@
 -- Ticks of a gap, and of the slot of a partition that takes no turns.
 use Rattle.std.proofs.Common.{◌≡◌, ℕ, zero, suc, ◌+◌, ◌≤◌, inl, inr, Bool, true, false, List, map, Option, None, Some, refl, ap, subst, ◌∙◌, arith}
 use Rattle.std.specs.Prelude.{if◌then◌else◌, slice_get}
-use Rattle.xm_base.specs.declared.partition.State.{State}
-use Rattle.machine_model.specs.LocalTick.{LocalTick}
 use Rattle.machine_model.specs.Machine.{Machine, Turn, local, local_in, local_of, taken_by, turn_of}
 use Rattle.machine_model.specs.Partition.{PartitionState, is_halted, rested, takes_turns}
-use Rattle.slot_runs.specs.Laws.{IsSlotOf}
 use Rattle.slot_runs.specs.Meeting.{first_after}
 use Rattle.slot_runs.specs.SpanLaws.{IsNobodys, RestingTicks, all_rested}
-use Rattle.slot_runs.specs.Spans.{IsQuietSpan, IsSpan, inside}
+use Rattle.slot_runs.specs.Spans.{IsInside, IsSpan, inside}
 use Rattle.slot_runs.proofs.InsideLemmas.{gap_inside, turn_inside}
 use Rattle.slot_runs.proofs.PassLemmas.{get_map, map_twice}
 use Rattle.slot_runs.proofs.RestLemmas.{hardware_state, rested_halted, rested_runs, rested_twice}
-use Rattle.slot_runs.proofs.SpanLemmas.{IsQuietTick, quiet_rest, quiet_span, rest_tick}
+use Rattle.slot_runs.proofs.SpanLemmas.{IsQuietTick, inside_to, quiet_rest, quiet_span, rest_tick}
 
 -- rest leaves the state
 pub rested_state : (time : ℕ) (ps : PartitionState) → (rested time ps).state ≡ ps.state
@@ -23,7 +20,7 @@ rested_state time ps = at (is_halted ps.state) refl
     at false runs = ap (λ s. s.state) (rested_runs time ps runs) ∙ hardware_state time ps
 
 -- all partitions, when so many ticks are done in which all rest
-abbrev rested_inside : ℕ → Machine → List PartitionState
+abbrev pub rested_inside : ℕ → Machine → List PartitionState
 rested_inside zero g = g.parts
 rested_inside (suc k) g = all_rested k g
 
@@ -43,16 +40,16 @@ taken_not g p first o ps there stays =
     ap (taken_by g p first) there ∙ ap (λ (b : Bool). if b then Some (local_of g p first ps) else None) stays
 
 -- the partition of the slot, when so many ticks are done
-its_state : (k : ℕ) (g : Machine) (p : ℕ) (ps : PartitionState) → slice_get g.parts p ≡ Some ps
+pub rested_place : (k : ℕ) (g : Machine) (p : ℕ) (ps : PartitionState) → slice_get g.parts p ≡ Some ps
     → (now : PartitionState) × (slice_get (rested_inside k g) p ≡ Some now) × (now.state ≡ ps.state)
-its_state zero g p ps there = (ps, there, refl)
-its_state (suc k) g p ps there = (rested (g.time + k) ps, get_map (rested (g.time + k)) g.parts p ps there, rested_state (g.time + k) ps)
+rested_place zero g p ps there = (ps, there, refl)
+rested_place (suc k) g p ps there = (rested (g.time + k) ps, get_map (rested (g.time + k)) g.parts p ps there, rested_state (g.time + k) ps)
 
 -- no partition has a local tick
 none_inside : (k last : ℕ) (g : Machine) → IsSpan g last → k ≤ last → IsNobodys g → local (inside k (rested_inside k g) g) ≡ None
 none_inside k last g span within (inl gap) = local_by (inside k (rested_inside k g) g) None (gap_inside g k last (rested_inside k g) span within gap)
 none_inside k last g span within (inr (p, first, ps, slot, stays)) =
-    let now = its_state k g p ps slot.there in
+    let now = rested_place k g p ps slot.there in
     local_by (inside k (rested_inside k g) g) (Some (record { part = p; first = first_after k first })) (turn_inside g k last p first (rested_inside k g) span within slot.turn)
     ∙ taken_not (inside k (rested_inside k g) g) p (first_after k first) (slice_get (rested_inside k g) p) now.0 now.1 (ap takes_turns now.2 ∙ stays)
 
@@ -62,6 +59,11 @@ rests_inside k last g span within nobodys =
     subst (λ (parts : List PartitionState). IsQuietTick (inside k (rested_inside k g) g) parts) (rested_more k g)
     (quiet_rest (inside k (rested_inside k g) g) (map (rested (g.time + k)) (rested_inside k g)) (turn_of (inside k (rested_inside k g) g))
     (rest_tick (inside k (rested_inside k g) g) (turn_of (inside k (rested_inside k g) g)) span.running refl (none_inside k last g span within nobodys)))
+
+-- so many such ticks
+pub rested_to : (g : Machine) (done : ℕ) → IsSpan g done → IsNobodys g → IsInside g done (rested_inside done g)
+rested_to g done span nobodys =
+    inside_to g (λ k. rested_inside k g) done done span (omega arith) refl (λ k below. rests_inside k done g span (omega (arith, below)) nobodys)
 
 -- the law on ticks in which all partitions rest
 pub resting_ticks : RestingTicks

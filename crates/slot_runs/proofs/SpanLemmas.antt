@@ -142,7 +142,7 @@ span_inside g k last new span below =
     rw (clock_inside g k last span below, same_time, same_ticks) refl
 
 -- no line tells of a plan that goes on
-same_plan : (n a b : ℕ) → b ≡ a → plan_lines n a b ≡ []
+pub same_plan : (n a b : ℕ) → b ≡ a → plan_lines n a b ≡ []
 same_plan n a b same = rw (eq-eqb a b (sym same)) refl
 
 -- the machine after one tick more

@@ -1,6 +1,6 @@
 -- Timers that are looked at at two moments.
 use Rattle.std.proofs.Common.{◌≡◌, ℕ, ◌+◌, ◌-◌, ◌*◌, ◌/◌, ◌<◌, ◌≤◌, Bool, true, false, Option, None, Some, refl, sym, ap, ◌∙◌, arith}
-use Rattle.std.specs.Prelude.{◌^◌, ◌==◌, ◌||◌, if◌then◌else◌, IfSome, min, nat_le, nat_lt}
+use Rattle.std.specs.Prelude.{◌^◌, ◌==◌, ◌||◌, if◌then◌else◌, IfSome, nat_le, nat_lt}
 use Rattle.std.proofs.Math.Nat.{add-mul-div_right, div-eq_of_lt-le, div-mul-le_self, lt-div-mul-add}
 use Rattle.std.proofs.lemmas.Bool.Decides.{nat_tests}
 use Rattle.virt_clocks.specs.Clocks.{is_due, lesser, looked_at, rearmed, ticks_until}

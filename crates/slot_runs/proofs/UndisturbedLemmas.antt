@@ -1,7 +1,7 @@
 -- Ticks of one slot in which no timer of its partition falls due.
 use Rattle.std.proofs.Common.{◌≡◌, ℕ, zero, suc, ◌+◌, ◌<◌, ◌≤◌, Bool, true, false, List, Option, None, Some, refl, sym, ap, subst, ◌∙◌, arith}
 use Rattle.std.specs.Prelude.{IfSome}
-use Rattle.virt_clocks.specs.Clocks.{PartitionClocks, counted, is_due, lesser, looked_at, next_due, ticks_until}
+use Rattle.virt_clocks.specs.Clocks.{PartitionClocks, is_due, looked_at, next_due}
 use Rattle.virt_traps.specs.Virtual.{due}
 use Rattle.machine_model.specs.Health.{Worked}
 use Rattle.machine_model.specs.LocalTick.{with_interrupts}
@@ -12,7 +12,7 @@ use Rattle.slot_runs.specs.Laws.{HasGone}
 use Rattle.slot_runs.specs.Meeting.{Undelivered, awake, first_after, timers_looked_at, with_interrupts_to}
 use Rattle.slot_runs.specs.NextLaws.{HasGoneOn, IsNext, next_work}
 use Rattle.slot_runs.specs.Parts.{began, gone_on}
-use Rattle.slot_runs.specs.SpanLaws.{going_parts, its_areas, its_met, met, met_to, others_rested}
+use Rattle.slot_runs.specs.SpanLaws.{going_parts, its_areas, its_met, met, others_rested}
 use Rattle.slot_runs.specs.Spans.{IsQuietSpan}
 use Rattle.slot_runs.specs.Undisturbed.{IsUndisturbed, NoneFallsDue, UndisturbedIdle, UndisturbedNext, UndisturbedTicks, UndisturbedTold, gone_parts, next_instruction}
 use Rattle.slot_runs.proofs.AwakeLemmas.{undelivered_executes}
@@ -24,7 +24,7 @@ use Rattle.slot_runs.proofs.NextLemmas.{next_tick, told_tick}
 use Rattle.slot_runs.proofs.TimerLemmas.{looked_not_due, looked_same, none_due}
 
 -- a look at timers that are not due leaves the partition
-none_looked : (h e : ℕ) (ps : PartitionState) → is_due h ps.clocks.hardware_timer ≡ false → is_due e ps.clocks.execution_timer ≡ false → timers_looked_at h e ps ≡ ps
+pub none_looked : (h e : ℕ) (ps : PartitionState) → is_due h ps.clocks.hardware_timer ≡ false → is_due e ps.clocks.execution_timer ≡ false → timers_looked_at h e ps ≡ ps
 unfolding timers_looked_at
 none_looked h e ps no_hardware no_execution =
     same_timers (raised_if (is_due e ps.clocks.execution_timer) execution_timer (raised_if (is_due h ps.clocks.hardware_timer) hardware_timer ps.traps)) ps.traps

@@ -1,5 +1,5 @@
 -- The laws on ticks of one slot in which no timer of its partition falls due, of any machine.
-use Rattle.std.specs.Prelude.{◌≡◌, ℕ, zero, suc, ◌+◌, ◌<◌, Bool, true, false, List, IfSome, None}
+use Rattle.std.specs.Prelude.{◌≡◌, ℕ, zero, suc, ◌<◌, Bool, true, false, List, IfSome, None}
 use Rattle.virt_clocks.specs.Clocks.{PartitionClocks, next_due}
 use Rattle.virt_traps.specs.Virtual.{due}
 use Rattle.xm_base.specs.declared.partition.State.TheVariants.{Idle}

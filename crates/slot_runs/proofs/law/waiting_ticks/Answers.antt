@@ -1,4 +1,4 @@
-use Rattle.slot_runs.proofs.WaitLemmas.{waiting_ticks}
+use Rattle.slot_runs.proofs.PlainLemmas.{waiting_ticks}
 use Rattle.slot_runs.proofs.law.waiting_ticks.Goals as goal
 
 pub returns : goal.returns
