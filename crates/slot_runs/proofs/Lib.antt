@@ -16,6 +16,7 @@ pub mod NextLemmas
 pub mod IdleLemmas
 pub mod UndisturbedLemmas
 pub mod LateLemmas
+pub mod AlikeLemmas
 pub mod GoingOnLemmas
 pub mod StepLemmas
 pub mod BuiltLemmas

@@ -2,7 +2,7 @@
 use Rattle.std.proofs.Common.{◌≡◌, ◌≢◌, ℕ, zero, suc, List, [], ◌∷◌, map, Some, refl, ap, arith}
 use Rattle.std.specs.Prelude.{slice_get, slice_set}
 use Rattle.xm_base.specs.Options.{on}
-use Rattle.machine_model.specs.Lists.{each}
+use Rattle.machine_model.specs.Lists.{all_of, each}
 
 -- a pass that does the same to each element
 pub each_map : {X : Type 0} (f : ℕ → X → X) (r : X → X) (xs : List X) → ((k : ℕ) (x : X) → f k x ≡ r x) → each f xs ≡ map r xs
@@ -46,3 +46,25 @@ pub get_set_map : {X : Type 0} (r : X → X) (xs : List X) (p : ℕ) (x new : X)
 get_set_map r [] p x new there = absurd cc
 get_set_map r (y ∷ ys) zero x new there = refl
 get_set_map r (y ∷ ys) (suc p) x new there = get_set_map r ys p x new there
+
+-- an element behind a pass, where there is one
+pub get_on : {X : Type 0} (r : X → X) (xs : List X) (p : ℕ) → slice_get (map r xs) p ≡ on r (slice_get xs p)
+get_on r [] p = refl
+get_on r (x ∷ xs) zero = refl
+get_on r (x ∷ xs) (suc p) = get_on r xs p
+
+-- a pass behind another one, and a pass that does the same at once
+pub each_after_map : {X Y : Type 0} (f g : ℕ → X → Y) (r : X → X) (xs : List X) → ((k : ℕ) (x : X) → f k (r x) ≡ g k x) → each f (map r xs) ≡ each g xs
+each_after_map f g r [] same = refl
+each_after_map f g r (x ∷ xs) same = rw (same 0 x, each_after_map (λ k. f (suc k)) (λ k. g (suc k)) r xs (λ k y. same (suc k) y)) refl
+
+-- what elements add behind a pass
+pub all_after_map : {X Y : Type 0} (f g : ℕ → X → List Y) (r : X → X) (xs : List X) → ((k : ℕ) (x : X) → f k (r x) ≡ g k x) → all_of f (map r xs) ≡ all_of g xs
+all_after_map f g r [] same = refl
+all_after_map f g r (x ∷ xs) same = rw (same 0 x, all_after_map (λ k. f (suc k)) (λ k. g (suc k)) r xs (λ k y. same (suc k) y)) refl
+
+-- a pass that was done before a write
+pub map_set_again : {X : Type 0} (r : X → X) (xs : List X) (p : ℕ) (a : X) → ((x : X) → r (r x) ≡ r x) → map r (slice_set (map r xs) p a) ≡ map r (slice_set xs p a)
+map_set_again r [] p a again = refl
+map_set_again r (x ∷ xs) zero a again = ap (λ rest. r a ∷ rest) (map_twice r r xs again)
+map_set_again r (x ∷ xs) (suc p) a again = rw (again x, map_set_again r xs p a again) refl

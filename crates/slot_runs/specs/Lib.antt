@@ -1,5 +1,6 @@
 pub mod Built
 pub mod GoingOn
+pub mod Late
 pub mod Laws
 pub mod Meeting
 pub mod NextLaws

@@ -1,6 +1,7 @@
 //! What ticks of one slot or gap leave of the whole machine.
 
 ghost use Rattle.slot_runs.specs.GoingOn.{GapGoesOn, LeftAreSpan, SilentConsoles, SlotGoesOn, SpanGoesOn};
+ghost use Rattle.slot_runs.specs.Late.{OthersGoAlike, RestedGoAlike};
 ghost use Rattle.slot_runs.specs.Laws.{ReadyTicks, StuckTicks, WaitingTicks};
 ghost use Rattle.slot_runs.specs.NextLaws.{MetTick, NextTick, ToldTick};
 ghost use Rattle.slot_runs.specs.Rest.{DueTwice, LooksTwice, MeetsAfterRest, RestsBefore, RestsOnce, RestsTwice};
@@ -81,4 +82,10 @@ pub fn slot_goes_on()
 /// Ticks in which no partition writes to its console give no byte to any UART.
 pub fn silent_consoles()
     ensures law { SilentConsoles }
+{}
+
+/// A machine whose partitions rest late does the same in its next tick, and where nobody is ordered to halt it is the same after it.
+pub fn late_machine()
+    ensures all { RestedGoAlike }
+    ensures others { OthersGoAlike }
 {}
