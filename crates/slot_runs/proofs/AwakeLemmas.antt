@@ -11,7 +11,7 @@ use Rattle.machine_model.specs.Machine.{Machine, copies, local, local_of, sight,
 use Rattle.machine_model.specs.Partition.{PartitionState, execution_looked_at, hardware_looked_at, takes_turns}
 use Rattle.machine_model.specs.Told.{Sight}
 use Rattle.machine_model.specs.View.{PartitionView, view_of}
-use Rattle.slot_runs.specs.Meeting.{Undelivered, awake}
+use Rattle.slot_runs.specs.Meeting.{NoDelivery, awake}
 use Rattle.slot_runs.proofs.MeetingLemmas.{Wakes}
 use Rattle.slot_runs.proofs.RestingLemmas.{local_by}
 
@@ -71,7 +71,7 @@ local_awake g p first ps s turn there wakes is =
     ∙ ap (λ seen. delivered_or_executed (due s.traps) s.traps.enabled (view_of g.system p) (copies g p) g.time seen s) (sight_is g p first ps turn there)))
 
 -- where no interrupt can be delivered, an instruction is executed
-pub undelivered_executes : (view : PartitionView) (contents : List (Option Content)) (time : ℕ) (sight : Sight) (ps : PartitionState) → Undelivered ps.traps
+pub undelivered_executes : (view : PartitionView) (contents : List (Option Content)) (time : ℕ) (sight : Sight) (ps : PartitionState) → NoDelivery ps.traps
     → delivered_or_executed (due ps.traps) ps.traps.enabled view contents time sight ps ≡ executed view contents time sight ps
 undelivered_executes view contents time sight ps (inl none) = ap (λ o. delivered_or_executed o ps.traps.enabled view contents time sight ps) none
 undelivered_executes view contents time sight ps (inr disabled) =

@@ -8,7 +8,7 @@ use Rattle.virt_traps.specs.Virtual as virtual
 use Rattle.virt_traps.specs.Virtual.{VirtualTraps, due, first_due, raised}
 use Rattle.machine_model.specs.LocalTick.{with_interrupts}
 use Rattle.machine_model.specs.Partition.{PartitionState, execution_timer, hardware_timer, raised_if}
-use Rattle.slot_runs.specs.Meeting.{Undelivered, timers_looked_at, with_interrupts_to}
+use Rattle.slot_runs.specs.Meeting.{NoDelivery, timers_looked_at, with_interrupts_to}
 use Rattle.slot_runs.specs.Parts.{began}
 use Rattle.slot_runs.proofs.BitLemmas.{or_kept}
 use Rattle.slot_runs.proofs.MeetingLemmas.{looked_clock, looks_inside, timers_twice}
@@ -60,12 +60,12 @@ raised_enabled true n v = refl
 raised_enabled false n v = refl
 
 -- where none can be delivered when one is raised, or not, none can before
-undelivered_before : (b : Bool) (n : ℕ) (v : VirtualTraps) → Undelivered (raised_if b n v) → Undelivered v
+undelivered_before : (b : Bool) (n : ℕ) (v : VirtualTraps) → NoDelivery (raised_if b n v) → NoDelivery v
 undelivered_before b n v (inl none) = inl (none_before b n v none)
 undelivered_before b n v (inr disabled) = inr (sym (raised_enabled b n v) ∙ disabled)
 
 -- where none can be delivered after a look at the timers, none can before
-undelivered_looked : (h e : ℕ) (ps : PartitionState) → Undelivered (timers_looked_at h e ps).traps → Undelivered ps.traps
+undelivered_looked : (h e : ℕ) (ps : PartitionState) → NoDelivery (timers_looked_at h e ps).traps → NoDelivery ps.traps
 unfolding timers_looked_at
 undelivered_looked h e ps none =
     undelivered_before (is_due h ps.clocks.hardware_timer) hardware_timer ps.traps
@@ -100,8 +100,8 @@ interrupts_later time j k first ps within =
     timers_twice (time + j) (time + k) (ps.clocks.execution + j) (ps.clocks.execution + k) (began first ps) (omega (arith, within)) (omega (arith, within))
 
 -- where none can be delivered in a tick of the slot, none can in the ticks before
-pub undelivered_earlier : (time j k : ℕ) (first : Bool) (ps : PartitionState) → j ≤ k → Undelivered (with_interrupts_to time k first ps).traps
-    → Undelivered (with_interrupts_to time j first ps).traps
+pub undelivered_earlier : (time j k : ℕ) (first : Bool) (ps : PartitionState) → j ≤ k → NoDelivery (with_interrupts_to time k first ps).traps
+    → NoDelivery (with_interrupts_to time j first ps).traps
 undelivered_earlier time j k first ps within none =
     undelivered_looked (time + k) (ps.clocks.execution + k) (with_interrupts_to time j first ps)
-    (subst (λ (s : PartitionState). Undelivered s.traps) (sym (interrupts_later time j k first ps within)) none)
+    (subst (λ (s : PartitionState). NoDelivery s.traps) (sym (interrupts_later time j k first ps within)) none)

@@ -9,8 +9,8 @@ use Rattle.machine_model.specs.Partition.{PartitionState, execution_looked_at, h
 use Rattle.machine_model.specs.Told as told
 use Rattle.machine_model.specs.View.{PartitionView, view_of}
 use Rattle.slot_runs.specs.Laws.{HasGone}
-use Rattle.slot_runs.specs.Meeting.{Undelivered, first_after, timers_looked_at, with_interrupts_to}
-use Rattle.slot_runs.specs.SpanLaws.{GoesOn, GoingTicks, going_parts, its_areas, its_met, its_state, met, met_to, others_rested}
+use Rattle.slot_runs.specs.Meeting.{NoDelivery, first_after, timers_looked_at, with_interrupts_to}
+use Rattle.slot_runs.specs.SpanLaws.{IsAwake, GoingTicks, going_parts, its_areas, its_met, its_state, met, met_to, others_rested}
 use Rattle.slot_runs.specs.Spans.{IsSpan, inside}
 use Rattle.slot_runs.proofs.AwakeLemmas.{local_awake, undelivered_executes}
 use Rattle.slot_runs.proofs.DueLemmas.{undelivered_earlier}
@@ -44,7 +44,7 @@ abbrev pub its_turn : ℕ → ℕ → Bool → Turn
 its_turn k p first = record { part = p; first = first_after k first }
 
 -- the local tick of such a tick
-pub local_going : (k last : ℕ) (g : Machine) (p : ℕ) (first : Bool) (ps : PartitionState) → IsSpan g last → k ≤ last → GoesOn g p first ps
+pub local_going : (k last : ℕ) (g : Machine) (p : ℕ) (first : Bool) (ps : PartitionState) → IsSpan g last → k ≤ last → IsAwake g p first ps
     → local (going k g p first ps) ≡ Some (seen_outside (view_of g.system p) (g.ticks + k)
     (delivered_or_executed (due (its_met k g p first ps).traps) (its_met k g p first ps).traps.enabled (view_of g.system p)
     (copies (going k g p first ps) p) (g.time + k) (sight (going k g p first ps) p) (its_met k g p first ps)))
@@ -72,8 +72,8 @@ abbrev quiet_tick : PartitionState → LocalTick
 quiet_tick new = record { after = new; lines = []; said = []; act = told.Nothing }
 
 -- the local tick of an instruction that only goes
-local_goes : (k last : ℕ) (g : Machine) (p : ℕ) (first : Bool) (ps : PartitionState) → IsSpan g last → k ≤ last → GoesOn g p first ps
-    → Undelivered (with_interrupts_to g.time k first ps).traps → HasGone (suc k) (view_of g.system p) (met g first ps)
+local_goes : (k last : ℕ) (g : Machine) (p : ℕ) (first : Bool) (ps : PartitionState) → IsSpan g last → k ≤ last → IsAwake g p first ps
+    → NoDelivery (with_interrupts_to g.time k first ps).traps → HasGone (suc k) (view_of g.system p) (met g first ps)
     → local (going k g p first ps) ≡ Some (quiet_tick (its_state (suc k) g p first ps))
 local_goes k last g p first ps span within goes none gone =
     local_going k last g p first ps span within goes
@@ -83,8 +83,8 @@ local_goes k last g p first ps span within goes none gone =
     (copies (going k g p first ps) p) (g.time + k) (sight (going k g p first ps) p))
 
 -- one such tick
-pub going_tick : (k last : ℕ) (g : Machine) (p : ℕ) (first : Bool) (ps : PartitionState) → IsSpan g last → k ≤ last → GoesOn g p first ps
-    → Undelivered (with_interrupts_to g.time k first ps).traps → HasGone (suc k) (view_of g.system p) (met g first ps)
+pub going_tick : (k last : ℕ) (g : Machine) (p : ℕ) (first : Bool) (ps : PartitionState) → IsSpan g last → k ≤ last → IsAwake g p first ps
+    → NoDelivery (with_interrupts_to g.time k first ps).traps → HasGone (suc k) (view_of g.system p) (met g first ps)
     → IsQuietTick (going k g p first ps) (going_parts (suc k) g p first ps)
 going_tick k last g p first ps span within goes none gone =
     subst (λ (parts : List PartitionState). IsQuietTick (going k g p first ps) parts) (rests_more k g p first ps (its_state (suc k) g p first ps))

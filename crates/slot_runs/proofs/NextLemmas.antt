@@ -12,7 +12,7 @@ use Rattle.slot_runs.specs.Meeting.{first_after}
 use Rattle.slot_runs.specs.RunLemmas.{run_more}
 use Rattle.slot_runs.specs.NextLaws.{HasGoneOn, IsTickOf, MetTick, NextTick, ToldTick, next_work}
 use Rattle.slot_runs.specs.SpanLaws.{going_parts, its_met, met, others_rested}
-use Rattle.slot_runs.specs.Spans.{IsInside, IsToldSpan, inside, plan_line, said_if}
+use Rattle.slot_runs.specs.Spans.{IsUnderway, IsToldSpan, inside, plan_line, said_if}
 use Rattle.slot_runs.proofs.AwakeLemmas.{local_awake}
 use Rattle.slot_runs.proofs.CalmLemmas.{lines_as, step_as}
 use Rattle.slot_runs.proofs.GoingLemmas.{going, going_tick, gone_earlier, its_turn, local_going, rests_more}
@@ -36,7 +36,7 @@ met_tick g p first ps runs goes =
     tick_by g p first (next_work g p (met g first ps)) runs goes.slot.turn (local_awake g p first ps (met g first ps) goes.slot.turn goes.slot.there goes.wakes refl)
 
 -- the ticks before
-pub gone_inside : (g : Machine) (p : ℕ) (first : Bool) (ps : PartitionState) (done : ℕ) → HasGoneOn g p first ps done → IsInside g done (going_parts done g p first ps)
+pub gone_inside : (g : Machine) (p : ℕ) (first : Bool) (ps : PartitionState) (done : ℕ) → HasGoneOn g p first ps done → IsUnderway g done (going_parts done g p first ps)
 gone_inside g p first ps done is =
     inside_to g (λ k. going_parts k g p first ps) done done is.span (omega arith) refl
     (λ k below. going_tick k done g p first ps is.span (omega (arith, below)) is.goes (is.undelivered k below)
@@ -53,7 +53,7 @@ tick_inside g p first ps done is =
 -- the law on the tick after those in which a partition only went
 pub next_tick : NextTick
 next_tick g p first ps done is =
-    let before : IsInside g done (going_parts done g p first ps) = gone_inside g p first ps done is in
+    let before : IsUnderway g done (going_parts done g p first ps) = gone_inside g p first ps done is in
     let tick : IsTickOf (run g done) p (first_after done first) (next_work (run g done) p (its_met done g p first ps)) =
     subst (λ (m : Machine). IsTickOf m p (first_after done first) (next_work m p (its_met done g p first ps))) (sym before.state) (tick_inside g p first ps done is) in
     record {
@@ -75,7 +75,7 @@ work_said true g p n work = refl
 work_said false g p n work = refl
 
 -- a machine after ticks that tell nothing, and one whose work does not reach beyond its partition
-told_to : (g : Machine) (done p : ℕ) (first : Bool) (parts new : List PartitionState) (work : Worked) → IsInside g done parts
+told_to : (g : Machine) (done p : ℕ) (first : Bool) (parts new : List PartitionState) (work : Worked) → IsUnderway g done parts
     → IsTicked (inside done parts g) new (Some (record { part = p; first = first })) (Some (seen_outside (view_of g.system p) (g.ticks + done) work))
     → IsToldSpan g done p new work.told
 told_to g done p first parts new work before is = record {
@@ -87,7 +87,7 @@ told_to g done p first parts new work before is = record {
 -- the law on the tick after them whose work does not reach beyond the partition
 pub told_tick : ToldTick
 told_tick g p first ps done work is works nothing =
-    let before : IsInside g done (going_parts done g p first ps) = gone_inside g p first ps done is in
+    let before : IsUnderway g done (going_parts done g p first ps) = gone_inside g p first ps done is in
     let tick : LocalTick = seen_outside (view_of g.system p) (g.ticks + done) work in
     let its_work : next_work (going done g p first ps) p (its_met done g p first ps) ≡ work =
     ap (λ m. next_work m p (its_met done g p first ps)) (sym before.state) ∙ works in

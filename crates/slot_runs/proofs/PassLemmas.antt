@@ -35,30 +35,30 @@ map_set_twice r1 r2 [] p a b again = refl
 map_set_twice r1 r2 (x ∷ xs) zero a b again = ap (λ rest. b ∷ rest) (map_twice r1 r2 xs again)
 map_set_twice r1 r2 (x ∷ xs) (suc p) a b again = rw (again x, map_set_twice r1 r2 xs p a b again) refl
 
--- an element behind a pass
+-- an element after a pass
 pub get_map : {X : Type 0} (r : X → X) (xs : List X) (p : ℕ) (x : X) → slice_get xs p ≡ Some x → slice_get (map r xs) p ≡ Some (r x)
 get_map r [] p x there = absurd cc
 get_map r (y ∷ ys) zero x there = ap (on r) there
 get_map r (y ∷ ys) (suc p) x there = get_map r ys p x there
 
--- an element that is written behind a pass
+-- an element that is written after a pass
 pub get_set_map : {X : Type 0} (r : X → X) (xs : List X) (p : ℕ) (x new : X) → slice_get xs p ≡ Some x → slice_get (slice_set (map r xs) p new) p ≡ Some new
 get_set_map r [] p x new there = absurd cc
 get_set_map r (y ∷ ys) zero x new there = refl
 get_set_map r (y ∷ ys) (suc p) x new there = get_set_map r ys p x new there
 
--- an element behind a pass, where there is one
+-- an element after a pass, where there is one
 pub get_on : {X : Type 0} (r : X → X) (xs : List X) (p : ℕ) → slice_get (map r xs) p ≡ on r (slice_get xs p)
 get_on r [] p = refl
 get_on r (x ∷ xs) zero = refl
 get_on r (x ∷ xs) (suc p) = get_on r xs p
 
--- a pass behind another one, and a pass that does the same at once
+-- a pass after another one, and one pass that does the same
 pub each_after_map : {X Y : Type 0} (f g : ℕ → X → Y) (r : X → X) (xs : List X) → ((k : ℕ) (x : X) → f k (r x) ≡ g k x) → each f (map r xs) ≡ each g xs
 each_after_map f g r [] same = refl
 each_after_map f g r (x ∷ xs) same = rw (same 0 x, each_after_map (λ k. f (suc k)) (λ k. g (suc k)) r xs (λ k y. same (suc k) y)) refl
 
--- what elements add behind a pass
+-- what elements add after a pass
 pub all_after_map : {X Y : Type 0} (f g : ℕ → X → List Y) (r : X → X) (xs : List X) → ((k : ℕ) (x : X) → f k (r x) ≡ g k x) → all_of f (map r xs) ≡ all_of g xs
 all_after_map f g r [] same = refl
 all_after_map f g r (x ∷ xs) same = rw (same 0 x, all_after_map (λ k. f (suc k)) (λ k. g (suc k)) r xs (λ k y. same (suc k) y)) refl

@@ -23,8 +23,8 @@ use Rattle.slot_runs.specs.Meeting.{awake, first_after, timers_looked_at, with_i
 use Rattle.slot_runs.specs.NextLaws.{HasGoneOn, next_work}
 use Rattle.slot_runs.specs.Parts.{IsMachine, IsPart, RunsOrHalted, began, gone_on}
 use Rattle.slot_runs.specs.RunLemmas.{lines_more}
-use Rattle.slot_runs.specs.SpanLaws.{GoesOn, IsNobodys, all_rested, going_parts, its_areas, its_met, its_state, met, met_to, others_rested}
-use Rattle.slot_runs.specs.Spans.{IsInside, IsQuietSpan, IsSpan, IsToldSpan, after_span, inside, plan_line}
+use Rattle.slot_runs.specs.SpanLaws.{IsAwake, IsNobodys, all_rested, going_parts, its_areas, its_met, its_state, met, met_to, others_rested}
+use Rattle.slot_runs.specs.Spans.{IsUnderway, IsQuietSpan, IsSpan, IsToldSpan, after_span, inside, plan_line}
 use Rattle.slot_runs.proofs.AwakeLemmas.{undelivered_executes}
 use Rattle.slot_runs.proofs.BuiltLemmas.{gap_built, halted_built, ready_unbuilt}
 use Rattle.slot_runs.proofs.GoingLemmas.{gone_earlier, its_place}
@@ -115,7 +115,7 @@ waits_built g k machine span (inr (p, first, ps, slot, other)) =
 pub waiting_ticks : WaitingTicks
 waiting_ticks g p most quiet machine stretch below idle =
     let span : IsSpan g quiet = plain_span g most quiet machine stretch below in
-    let before : IsInside g quiet (rested_inside quiet g) = rested_to g quiet span (nobodys g machine idle) in
+    let before : IsUnderway g quiet (rested_inside quiet g) = rested_to g quiet span (nobodys g machine idle) in
     let all : IsQuietSpan g quiet (all_rested quiet g) = resting_ticks g quiet span (nobodys g machine idle) in
     record {
       built = λ k within.
@@ -169,7 +169,7 @@ met_to_began : (g : Machine) (p : ℕ) (first : Bool) (ps : PartitionState) (k :
 met_to_began g p first ps k is = ap awake (interrupts_stay g p first ps k is) ∙ awake_already (began first ps) is.ready
 
 -- it goes on
-ready_goes : (g : Machine) (p : ℕ) (first : Bool) (ps : PartitionState) → IsReady g p first ps → GoesOn g p first ps
+ready_goes : (g : Machine) (p : ℕ) (first : Bool) (ps : PartitionState) → IsReady g p first ps → IsAwake g p first ps
 ready_goes g p first ps is = record {
   slot = is.slot;
   wakes = ap (λ (s : PartitionState). goes_on s.state first (due s.traps)) (interrupts_are g p first ps is)
@@ -251,7 +251,7 @@ pub ready_ticks : ReadyTicks
 ready_ticks g p first ps most quiet new tale machine stretch below slot ready gone built executes =
     let is : IsReady g p first ps = record { machine = machine; slot = slot; ready = ready } in
     let went : HasGoneOn g p first ps quiet = ready_gone g p first ps quiet is (plain_span g most quiet machine stretch below) gone in
-    let before : IsInside g quiet (going_parts quiet g p first ps) = gone_inside g p first ps quiet went in
+    let before : IsUnderway g quiet (going_parts quiet g p first ps) = gone_inside g p first ps quiet went in
     let all : IsToldSpan g quiet p (others_rested quiet p new g) tale =
     told_tick g p first ps quiet (record { after = new; told = tale; act = told.Nothing }) went (last_work g p first ps new quiet tale is went executes) refl in
     record {
@@ -267,7 +267,7 @@ pub stuck_ticks : StuckTicks
 stuck_ticks g p first ps most quiet machine stretch below slot ready gone stuck =
     let is : IsReady g p first ps = record { machine = machine; slot = slot; ready = ready } in
     let went : HasGoneOn g p first ps quiet = ready_gone g p first ps quiet is (plain_span g most quiet machine stretch below) gone in
-    let before : IsInside g quiet (going_parts quiet g p first ps) = gone_inside g p first ps quiet went in
+    let before : IsUnderway g quiet (going_parts quiet g p first ps) = gone_inside g p first ps quiet went in
     record {
       built = λ k less. goes_built g p first ps most quiet k is stretch below less gone;
       place = built_at g p first ps quiet true is went stuck;

@@ -5,7 +5,7 @@ use Rattle.machine_model.specs.Machine.{Machine, Turn, local, local_in, local_of
 use Rattle.machine_model.specs.Partition.{PartitionState, is_halted, rested, takes_turns}
 use Rattle.slot_runs.specs.Meeting.{first_after}
 use Rattle.slot_runs.specs.SpanLaws.{IsNobodys, RestingTicks, all_rested}
-use Rattle.slot_runs.specs.Spans.{IsInside, IsSpan, inside}
+use Rattle.slot_runs.specs.Spans.{IsUnderway, IsSpan, inside}
 use Rattle.slot_runs.proofs.InsideLemmas.{gap_inside, turn_inside}
 use Rattle.slot_runs.proofs.PassLemmas.{get_map, map_twice}
 use Rattle.slot_runs.proofs.RestLemmas.{hardware_state, rested_halted, rested_runs, rested_twice}
@@ -61,7 +61,7 @@ rests_inside k last g span within nobodys =
     (rest_tick (inside k (rested_inside k g) g) (turn_of (inside k (rested_inside k g) g)) span.running refl (none_inside k last g span within nobodys)))
 
 -- so many such ticks
-pub rested_to : (g : Machine) (done : ℕ) → IsSpan g done → IsNobodys g → IsInside g done (rested_inside done g)
+pub rested_to : (g : Machine) (done : ℕ) → IsSpan g done → IsNobodys g → IsUnderway g done (rested_inside done g)
 rested_to g done span nobodys =
     inside_to g (λ k. rested_inside k g) done done span (omega arith) refl (λ k below. rests_inside k done g span (omega (arith, below)) nobodys)
 

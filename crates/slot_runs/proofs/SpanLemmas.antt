@@ -14,7 +14,7 @@ use Rattle.machine_model.specs.Partition.{PartitionState, rested}
 use Rattle.machine_model.specs.Told as told
 use Rattle.machine_model.specs.Whole.{NoEvent, event_lines}
 use Rattle.slot_runs.specs.RunLemmas.{lines_more, run_more}
-use Rattle.slot_runs.specs.Spans.{IsInside, IsQuietSpan, IsSpan, after_span, inside}
+use Rattle.slot_runs.specs.Spans.{IsUnderway, IsQuietSpan, IsSpan, after_span, inside}
 use Rattle.slot_runs.proofs.CalmLemmas.{calm, calm_is, channels_same, clock_is, its, lines_as, no_order_lines, none_either, not_its, part_is, step_as}
 use Rattle.slot_runs.proofs.ListLemmas.{none_of}
 use Rattle.slot_runs.proofs.PassLemmas.{each_but, each_map}
@@ -43,7 +43,7 @@ after_calm g turn tick parts runs leaves = rw (leaves, channels_same g.time turn
 -- lines of which all but the first and the last are none
 first_and_last : {X : Type 0} (a b c d e : List X) → b ≡ [] → c ≡ [] → d ≡ [] → a ++ b ++ c ++ d ++ e ≡ a ++ e
 first_and_last a b c d e no_b no_c no_d =
-    rw (no_b, no_c, no_d) (ap (λ front. front ++ e) (append-nil (a ++ [] ++ []) ∙ append-nil (a ++ []) ∙ append-nil a))
+    rw (no_b, no_c, no_d) (ap (λ lines. lines ++ e) (append-nil (a ++ [] ++ []) ∙ append-nil (a ++ []) ∙ append-nil a))
 
 -- the lines of such a tick
 lines_calm : (g : Machine) (turn : Option Turn) (tick : Option LocalTick) → lines_of g (calm turn tick) ≡ local_lines tick ++ tick_plan_line g
@@ -124,7 +124,7 @@ said_more g (suc k) p =
     ∙ sym (append_assoc (step_said g p) (said (step g) k p) (step_said (run (step g) k) p))
 
 -- inside the ticks, before the first of them
-pub inside_none : (g : Machine) → IsInside g 0 g.parts
+pub inside_none : (g : Machine) → IsUnderway g 0 g.parts
 inside_none g = record { state = let no_time = add-zero g.time in let no_ticks = add-zero g.ticks in rw (no_time, no_ticks) refl; lines = refl; said = λ p. refl }
 
 -- before the last of them the clock goes on
@@ -146,21 +146,21 @@ pub same_plan : (n a b : ℕ) → b ≡ a → plan_lines n a b ≡ []
 same_plan n a b same = rw (eq-eqb a b (sym same)) refl
 
 -- the machine after one tick more
-pub state_more : (g : Machine) (k : ℕ) (parts new : List PartitionState) → IsInside g k parts → step (inside k parts g) ≡ ticked new (inside k parts g)
+pub state_more : (g : Machine) (k : ℕ) (parts new : List PartitionState) → IsUnderway g k parts → step (inside k parts g) ≡ ticked new (inside k parts g)
     → run g (suc k) ≡ after_span k new g
 state_more g k parts new is leaves = run_more g k ∙ ap step is.state ∙ leaves
 
 -- the lines so far, and of one tick more
-pub lines_one_more : (g : Machine) (k : ℕ) (parts : List PartitionState) → IsInside g k parts → lines g (suc k) ≡ step_lines (inside k parts g)
+pub lines_one_more : (g : Machine) (k : ℕ) (parts : List PartitionState) → IsUnderway g k parts → lines g (suc k) ≡ step_lines (inside k parts g)
 lines_one_more g k parts is = lines_more g k ∙ ap (λ l. l ++ step_lines (run g k)) is.lines ∙ ap step_lines is.state
 
 -- the console bytes so far, and of one tick more
-pub said_one_more : (g : Machine) (k p : ℕ) (parts : List PartitionState) → IsInside g k parts → said g (suc k) p ≡ step_said (inside k parts g) p
+pub said_one_more : (g : Machine) (k p : ℕ) (parts : List PartitionState) → IsUnderway g k parts → said g (suc k) p ≡ step_said (inside k parts g) p
 said_one_more g k p parts is = said_more g k p ∙ ap (λ l. l ++ step_said (run g k) p) (is.said p) ∙ ap (λ m. step_said m p) is.state
 
 -- one quiet tick more, but the last
-inside_more : (g : Machine) (k last : ℕ) (parts new : List PartitionState) → IsSpan g last → k < last → IsInside g k parts → IsQuietTick (inside k parts g) new
-    → IsInside g (suc k) new
+inside_more : (g : Machine) (k last : ℕ) (parts new : List PartitionState) → IsSpan g last → k < last → IsUnderway g k parts → IsQuietTick (inside k parts g) new
+    → IsUnderway g (suc k) new
 inside_more g k last parts new span below is tick = record {
   state = state_more g k parts new is tick.state ∙ span_inside g k last new span below;
   lines = lines_one_more g k parts is ∙ tick.lines
@@ -170,14 +170,14 @@ inside_more g k last parts new span below is tick = record {
 
 -- quiet ticks, one after the other
 pub inside_to : (g : Machine) (parts : ℕ → List PartitionState) (last k : ℕ) → IsSpan g last → k ≤ last → parts 0 ≡ g.parts
-    → ((j : ℕ) → j < k → IsQuietTick (inside j (parts j) g) (parts (suc j))) → IsInside g k (parts k)
+    → ((j : ℕ) → j < k → IsQuietTick (inside j (parts j) g) (parts (suc j))) → IsUnderway g k (parts k)
 inside_to g parts last zero span within first ticks = rw first (inside_none g)
 inside_to g parts last (suc k) span within first ticks =
     inside_more g k last (parts k) (parts (suc k)) span (omega (arith, within))
     (inside_to g parts last k span (omega (arith, within)) first (λ j below. ticks j (omega (arith, below)))) (ticks k (omega arith))
 
 -- the last of them
-pub quiet_to : (g : Machine) (last : ℕ) (parts new : List PartitionState) → IsInside g last parts → IsQuietTick (inside last parts g) new → IsQuietSpan g last new
+pub quiet_to : (g : Machine) (last : ℕ) (parts new : List PartitionState) → IsUnderway g last parts → IsQuietTick (inside last parts g) new → IsQuietSpan g last new
 quiet_to g last parts new is tick = record {
   state = state_more g last parts new is tick.state;
   lines = lines_one_more g last parts is ∙ tick.lines;

@@ -9,8 +9,8 @@ use Rattle.machine_model.specs.Machine.{Machine, copies, run, sight}
 use Rattle.machine_model.specs.Partition.{PartitionState, execution_looked_at, execution_timer, hardware_looked_at, hardware_timer, raised_if}
 use Rattle.machine_model.specs.View.{view_of}
 use Rattle.slot_runs.specs.Laws.{HasGone}
-use Rattle.slot_runs.specs.Meeting.{Undelivered, awake, first_after, timers_looked_at, with_interrupts_to}
-use Rattle.slot_runs.specs.NextLaws.{HasGoneOn, IsNext, next_work}
+use Rattle.slot_runs.specs.Meeting.{NoDelivery, awake, first_after, timers_looked_at, with_interrupts_to}
+use Rattle.slot_runs.specs.NextLaws.{HasGoneOn, IsNextTick, next_work}
 use Rattle.slot_runs.specs.Parts.{began, gone_on}
 use Rattle.slot_runs.specs.SpanLaws.{going_parts, its_areas, its_met, met, others_rested}
 use Rattle.slot_runs.specs.Spans.{IsQuietSpan}
@@ -71,9 +71,9 @@ met_at time k last first ps within far =
 
 -- so no interrupt can be delivered in any of them
 still_undelivered : (g : Machine) (p : ℕ) (first : Bool) (ps : PartitionState) (k last : ℕ) → k ≤ last → IsUndisturbed g p first ps last
-    → Undelivered (with_interrupts_to g.time k first ps).traps
+    → NoDelivery (with_interrupts_to g.time k first ps).traps
 still_undelivered g p first ps k last within is =
-    subst (λ (s : PartitionState). Undelivered s.traps) (sym (met_at g.time k last first ps within is.timers)) is.undelivered
+    subst (λ (s : PartitionState). NoDelivery s.traps) (sym (met_at g.time k last first ps within is.timers)) is.undelivered
 
 -- the law on ticks in which instructions only go
 pub undisturbed_ticks : UndisturbedTicks
@@ -114,8 +114,8 @@ work_undisturbed m g p first ps done is =
 -- the law on the tick after them
 pub undisturbed_next : UndisturbedNext
 undisturbed_next g p first ps done is gone =
-    subst (λ (work : Worked). IsNext g done (gone_parts done g p first ps) p (first_after done first) work) (work_undisturbed (run g done) g p first ps done is)
-    (subst (λ (parts : List PartitionState). IsNext g done parts p (first_after done first) (next_work (run g done) p (its_met done g p first ps)))
+    subst (λ (work : Worked). IsNextTick g done (gone_parts done g p first ps) p (first_after done first) work) (work_undisturbed (run g done) g p first ps done is)
+    (subst (λ (parts : List PartitionState). IsNextTick g done parts p (first_after done first) (next_work (run g done) p (its_met done g p first ps)))
     (parts_undisturbed done done g p first ps (omega arith) is)
     (next_tick g p first ps done (gone_undisturbed g p first ps done is gone)))
 

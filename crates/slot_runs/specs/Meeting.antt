@@ -35,8 +35,8 @@ abbrev pub met_in_slot : ℕ → ℕ → List Area → Bool → PartitionState �
 met_in_slot k time areas first ps = gone_on k areas (awake (with_interrupts_to time k first ps))
 
 -- no interrupt can be delivered: none is due, or no traps are taken
-abbrev pub Undelivered : VirtualTraps → Type 0
-Undelivered traps = (due traps ≡ None) ⊎ (traps.enabled ≡ false)
+abbrev pub NoDelivery : VirtualTraps → Type 0
+NoDelivery traps = (due traps ≡ None) ⊎ (traps.enabled ≡ false)
 
 -- whether a tick is the first of its slot, when so many are done
 abbrev pub first_after : ℕ → Bool → Bool

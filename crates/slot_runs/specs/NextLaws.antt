@@ -9,9 +9,9 @@ use Rattle.machine_model.specs.Partition.{PartitionState}
 use Rattle.machine_model.specs.Told as told
 use Rattle.machine_model.specs.View.{view_of}
 use Rattle.slot_runs.specs.Laws.{HasGone}
-use Rattle.slot_runs.specs.Meeting.{Undelivered, first_after, with_interrupts_to}
-use Rattle.slot_runs.specs.SpanLaws.{GoesOn, going_parts, its_met, met, others_rested}
-use Rattle.slot_runs.specs.Spans.{IsInside, IsSpan, IsToldSpan}
+use Rattle.slot_runs.specs.Meeting.{NoDelivery, first_after, with_interrupts_to}
+use Rattle.slot_runs.specs.SpanLaws.{IsAwake, going_parts, its_met, met, others_rested}
+use Rattle.slot_runs.specs.Spans.{IsUnderway, IsSpan, IsToldSpan}
 
 -- the next tick of the machine is in this slot, and its partition's local tick has this work
 pub record IsTickOf (g : Machine) (p : ℕ) (first : Bool) (work : Worked) : Type 0 where
@@ -27,11 +27,11 @@ next_work g p s = delivered_or_executed (due s.traps) s.traps.enabled (view_of g
 
 -- the tick of a partition that goes on
 abbrev pub MetTick : Type 0
-MetTick = (g : Machine) (p : ℕ) (first : Bool) (ps : PartitionState) → g.halted ≡ false → GoesOn g p first ps → IsTickOf g p first (next_work g p (met g first ps))
+MetTick = (g : Machine) (p : ℕ) (first : Bool) (ps : PartitionState) → g.halted ≡ false → IsAwake g p first ps → IsTickOf g p first (next_work g p (met g first ps))
 
 -- so many ticks leave these partitions and tell nothing, and the next tick is in the slot of this partition, with this work
-pub record IsNext (g : Machine) (done : ℕ) (parts : List PartitionState) (p : ℕ) (first : Bool) (work : Worked) : Type 0 where
-  pub before : IsInside g done parts
+pub record IsNextTick (g : Machine) (done : ℕ) (parts : List PartitionState) (p : ℕ) (first : Bool) (work : Worked) : Type 0 where
+  pub before : IsUnderway g done parts
   pub tick : IsTickOf (run g done) p first work
   pub state : run g (suc done) ≡ after (run g done) (happened (run g done))
   pub lines : lines g (suc done) ≡ lines_of (run g done) (happened (run g done))
@@ -40,15 +40,15 @@ pub record IsNext (g : Machine) (done : ℕ) (parts : List PartitionState) (p : 
 -- what holds of so many ticks in which the partition of the slot only went
 pub record HasGoneOn (g : Machine) (p : ℕ) (first : Bool) (ps : PartitionState) (done : ℕ) : Type 0 where
   pub span : IsSpan g done
-  pub goes : GoesOn g p first ps
-  pub undelivered : (k : ℕ) → k < done → Undelivered (with_interrupts_to g.time k first ps).traps
+  pub goes : IsAwake g p first ps
+  pub undelivered : (k : ℕ) → k < done → NoDelivery (with_interrupts_to g.time k first ps).traps
   pub gone : HasGone done (view_of g.system p) (met g first ps)
 
 -- the tick after those in which a partition only went
 abbrev pub NextTick : Type 0
 NextTick =
     (g : Machine) (p : ℕ) (first : Bool) (ps : PartitionState) (done : ℕ) → HasGoneOn g p first ps done →
-    IsNext g done (going_parts done g p first ps) p (first_after done first) (next_work (run g done) p (its_met done g p first ps))
+    IsNextTick g done (going_parts done g p first ps) p (first_after done first) (next_work (run g done) p (its_met done g p first ps))
 
 -- where the work of that tick does not reach beyond the partition, the whole machine is known, too
 abbrev pub ToldTick : Type 0

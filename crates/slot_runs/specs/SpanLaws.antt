@@ -8,7 +8,7 @@ use Rattle.machine_model.specs.Machine.{Machine, turn_of}
 use Rattle.machine_model.specs.Partition.{PartitionState, areas_of, rested, takes_turns}
 use Rattle.machine_model.specs.View.{view_of}
 use Rattle.slot_runs.specs.Laws.{HasGone, IsSlotOf}
-use Rattle.slot_runs.specs.Meeting.{Undelivered, awake, in_slot, met_in_slot, with_interrupts_to}
+use Rattle.slot_runs.specs.Meeting.{NoDelivery, awake, in_slot, met_in_slot, with_interrupts_to}
 use Rattle.slot_runs.specs.Parts.{gone_on}
 use Rattle.slot_runs.specs.Spans.{IsQuietSpan, IsSpan}
 
@@ -29,7 +29,7 @@ abbrev pub others_rested : ℕ → ℕ → PartitionState → Machine → List P
 others_rested last p new g = slice_set (all_rested last g) p new
 
 -- it is the slot of a partition that goes on: it is ready, or it is idle and woken by the start of its slot or by an interrupt
-pub record GoesOn (g : Machine) (p : ℕ) (first : Bool) (ps : PartitionState) : Type 0 where
+pub record IsAwake (g : Machine) (p : ℕ) (first : Bool) (ps : PartitionState) : Type 0 where
   pub slot : IsSlotOf g p first ps
   pub wakes : goes_on (with_interrupts g.time first ps).state first (due (with_interrupts g.time first ps).traps) ≡ true
 
@@ -49,7 +49,7 @@ its_areas g p = areas_of (view_of g.system p)
 abbrev pub GoingTicks : Type 0
 GoingTicks =
     (g : Machine) (p : ℕ) (first : Bool) (ps : PartitionState) (last : ℕ) →
-    IsSpan g last → GoesOn g p first ps → Undelivered (with_interrupts_to g.time last first ps).traps → HasGone (suc last) (view_of g.system p) (met g first ps) →
+    IsSpan g last → IsAwake g p first ps → NoDelivery (with_interrupts_to g.time last first ps).traps → HasGone (suc last) (view_of g.system p) (met g first ps) →
     IsQuietSpan g last (others_rested last p (gone_on (suc last) (its_areas g p) (met_to last g first ps)) g)
 
 -- the partition of the slot, when so many ticks are done in which it went

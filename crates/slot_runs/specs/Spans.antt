@@ -35,7 +35,7 @@ abbrev pub plan_line : ℕ → Machine → List ReportLine
 plan_line last g = plan_lines (g.ticks + last) g.clock.plan (ended g.system.conf g.clock (g.time + last)).plan
 
 -- so many ticks leave these partitions, and tell nothing
-pub record IsInside (g : Machine) (done : ℕ) (parts : List PartitionState) : Type 0 where
+pub record IsUnderway (g : Machine) (done : ℕ) (parts : List PartitionState) : Type 0 where
   pub state : run g done ≡ inside done parts g
   pub lines : lines g done ≡ []
   pub said : (p : ℕ) → said g done p ≡ []

@@ -10,10 +10,10 @@ use Rattle.machine_model.specs.Partition.{PartitionState}
 use Rattle.machine_model.specs.Told as told
 use Rattle.machine_model.specs.View.{view_of}
 use Rattle.slot_runs.specs.Laws.{HasGone, IsSlotOf}
-use Rattle.slot_runs.specs.Meeting.{Undelivered, first_after}
-use Rattle.slot_runs.specs.NextLaws.{IsNext}
+use Rattle.slot_runs.specs.Meeting.{NoDelivery, first_after}
+use Rattle.slot_runs.specs.NextLaws.{IsNextTick}
 use Rattle.slot_runs.specs.Parts.{gone_on}
-use Rattle.slot_runs.specs.SpanLaws.{GoesOn, its_areas, met, others_rested}
+use Rattle.slot_runs.specs.SpanLaws.{IsAwake, its_areas, met, others_rested}
 use Rattle.slot_runs.specs.Spans.{IsQuietSpan, IsSpan, IsToldSpan}
 
 -- no timer of these clocks falls due up to this tick, where the partition runs, or does not
@@ -23,8 +23,8 @@ NoneFallsDue time last running clocks = IfSome (next_due time running clocks) (�
 -- a partition goes on in its slot, with its first interrupts none can be delivered, and then none of its timers falls due up to this tick
 pub record IsUndisturbed (g : Machine) (p : ℕ) (first : Bool) (ps : PartitionState) (last : ℕ) : Type 0 where
   pub span : IsSpan g last
-  pub goes : GoesOn g p first ps
-  pub undelivered : Undelivered (with_interrupts g.time first ps).traps
+  pub goes : IsAwake g p first ps
+  pub undelivered : NoDelivery (with_interrupts g.time first ps).traps
   pub timers : NoneFallsDue g.time last true (with_interrupts g.time first ps).clocks
 
 -- all partitions, when so many ticks are done in which this one went undisturbed
@@ -48,7 +48,7 @@ abbrev pub UndisturbedNext : Type 0
 UndisturbedNext =
     (g : Machine) (p : ℕ) (first : Bool) (ps : PartitionState) (done : ℕ) →
     IsUndisturbed g p first ps done → HasGone done (view_of g.system p) (met g first ps) →
-    IsNext g done (gone_parts done g p first ps) p (first_after done first)
+    IsNextTick g done (gone_parts done g p first ps) p (first_after done first)
     (next_instruction (run g done) p (gone_on done (its_areas g p) (met g first ps)))
 
 -- where its work does not reach beyond the partition, the whole machine is known, too
