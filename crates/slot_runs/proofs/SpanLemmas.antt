@@ -3,7 +3,7 @@ use Rattle.std.proofs.Common.{◌≡◌, ℕ, zero, suc, ◌+◌, ◌<◌, ◌�
 use Rattle.std.specs.Prelude.{slice_set}
 use Rattle.std.proofs.Math.Nat.{add-zero}
 use Rattle.std.proofs.lemmas.Bool.{eq-eqb}
-use Rattle.std.proofs.lemmas.List.{append_assoc, append-nil}
+use Rattle.std.proofs.lemmas.List.{append-nil}
 use Rattle.cyclic_plans.specs.PlanClock.{ended}
 use Rattle.xm_report.specs.Report.{ReportLine}
 use Rattle.machine_model.specs.Lines.{lines, lines_of, local_lines, local_said, order_lines, plan_lines, said, said_unless, step_lines, step_said}
@@ -13,7 +13,7 @@ use Rattle.machine_model.specs.Machine.{Happened, Machine, Turn, after, happened
 use Rattle.machine_model.specs.Partition.{PartitionState, rested}
 use Rattle.machine_model.specs.Told as told
 use Rattle.machine_model.specs.Whole.{NoEvent, event_lines}
-use Rattle.slot_runs.specs.RunLemmas.{lines_more, run_more}
+use Rattle.slot_runs.specs.RunLemmas.{lines_more, run_more, said_more}
 use Rattle.slot_runs.specs.Spans.{IsUnderway, IsQuietSpan, IsSpan, after_span, inside}
 use Rattle.slot_runs.proofs.CalmLemmas.{calm, calm_is, channels_same, clock_is, its, lines_as, no_order_lines, none_either, not_its, part_is, step_as}
 use Rattle.slot_runs.proofs.ListLemmas.{none_of}
@@ -115,13 +115,6 @@ quiet_work g parts turn tick no_lines no_bytes is = record {
   lines = is.lines ∙ ap (λ l. l ++ tick_plan_line g) no_lines;
   said = λ p. is.said p ∙ none_said tick (is_turn_of (Some turn) p) no_bytes;
 }
-
--- the console bytes of a run, and of one tick more
-pub said_more : (g : Machine) (k p : ℕ) → said g (suc k) p ≡ said g k p ++ step_said (run g k) p
-said_more g zero p = append-nil (step_said g p)
-said_more g (suc k) p =
-    ap (λ rest. step_said g p ++ rest) (said_more (step g) k p)
-    ∙ sym (append_assoc (step_said g p) (said (step g) k p) (step_said (run (step g) k) p))
 
 -- inside the ticks, before the first of them
 pub inside_none : (g : Machine) → IsUnderway g 0 g.parts
