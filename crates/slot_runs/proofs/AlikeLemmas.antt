@@ -1,5 +1,5 @@
 -- Machines whose partitions have rested, and have not: they go on alike.
-use Rattle.std.proofs.Common.{◌≡◌, ◌≢◌, ℕ, zero, suc, ◌≤◌, Bool, true, false, List, [], ◌∷◌, ◌++◌, map, Option, None, Some, refl, sym, ap, ◌∙◌, arith}
+use Rattle.std.proofs.Common.{◌≡◌, ◌≢◌, ◌⊎◌, ℕ, zero, suc, ◌≤◌, inl, inr, Bool, true, false, List, [], ◌∷◌, ◌++◌, map, Option, None, Some, refl, sym, ap, ◌∙◌, arith}
 use Rattle.std.specs.Prelude.{if◌then◌else◌, is_some, slice_get, slice_set}
 use Rattle.virt_traps.specs.Virtual.{due}
 use Rattle.xm_base.specs.Options.{on}
@@ -22,10 +22,10 @@ use Rattle.machine_model.specs.Told.{Sight, Unseen, Words, line_of}
 use Rattle.machine_model.specs.Traffic.{renamed}
 use Rattle.machine_model.specs.View.{PartitionView, name_of, view_of}
 use Rattle.machine_model.specs.Whole.{event_lines, ticks_after, time_after, whole_lines, whole_resets_after}
-use Rattle.slot_runs.specs.Late.{GoAlike, OthersGoAlike, RestedGoAlike, with_parts}
+use Rattle.slot_runs.specs.Late.{GoAlike, HaltsRested, OthersGoAlike, RestedGoAlike, with_parts}
 use Rattle.slot_runs.proofs.CalmLemmas.{lines_as, step_as}
 use Rattle.slot_runs.proofs.LateLemmas.{meets_after_rest, rests_before}
-use Rattle.slot_runs.proofs.PassLemmas.{all_after_map, each_after_map, get_on, map_set_again}
+use Rattle.slot_runs.proofs.PassLemmas.{all_after_map, each_after_map, get_on, got_set, map_set_again}
 use Rattle.slot_runs.proofs.RestLemmas.{rested_halted, rested_runs, rested_twice}
 use Rattle.slot_runs.proofs.RestingLemmas.{local_by, rested_state}
 use Rattle.slot_runs.proofs.SpanLemmas.{said_as}
@@ -167,7 +167,16 @@ happened_alike before g later =
     ap (λ turn. happened_by g.system.conf turn (local (rested_at before g))) (turn_alike before g)
     ∙ ap (happened_by g.system.conf (turn_of g)) (tick_alike before g later)
 
--- what it leaves of a partition
+-- an order is one to halt, or it is not
+halts_or_not : (given : Option Order) → (given ≡ Some order.Halt) ⊎ (given ≢ Some order.Halt)
+halts_or_not None = inr (λ e. absurd cc)
+halts_or_not (Some order.Halt) = inl refl
+halts_or_not (Some order.Suspend) = inr (λ e. absurd cc)
+halts_or_not (Some order.Resume) = inr (λ e. absurd cc)
+halts_or_not (Some order.Shutdown) = inr (λ e. absurd cc)
+halts_or_not (Some (order.Reset mode status)) = inr (λ e. absurd cc)
+
+-- what it leaves of a partition that is not ordered to halt
 part_alike : (before : ℕ) (g : Machine) (h : Happened) (k : ℕ) (ps : PartitionState) → before ≤ g.time → order_upon h.act k ≢ Some order.Halt
     → part_after (rested_at before g) h k (rested before ps) ≡ part_after g h k ps
 unfolding part_after
@@ -179,10 +188,25 @@ part_alike before g h k ps later other = at (tick_of h k)
     at None = rests_before (view_of g.system k) before g.time (renamed (name_of g.system.conf k) h.traffic) (order_upon h.act k) h.event ps later other
     at (Some tick) = refl
 
+-- it does not see the other partitions
+after_same : (before : ℕ) (g : Machine) (h : Happened) (k : ℕ) (ps : PartitionState) → part_after (rested_at before g) h k ps ≡ part_after g h k ps
+unfolding part_after
+after_same before g h k ps = refl
+
+-- what it leaves of a partition, unless it is ordered to halt and has not rested
+any_alike : (before : ℕ) (g : Machine) (h : Happened) (k : ℕ) (ps : PartitionState) → before ≤ g.time → (order_upon h.act k ≡ Some order.Halt → rested before ps ≡ ps)
+    → part_after (rested_at before g) h k (rested before ps) ≡ part_after g h k ps
+any_alike before g h k ps later has_rested = at (halts_or_not (order_upon h.act k))
+  where
+    at : (order_upon h.act k ≡ Some order.Halt) ⊎ (order_upon h.act k ≢ Some order.Halt) → part_after (rested_at before g) h k (rested before ps) ≡ part_after g h k ps
+    at (inl halts) = ap (part_after (rested_at before g) h k) (has_rested halts) ∙ after_same before g h k ps
+    at (inr other) = part_alike before g h k ps later other
+
 -- what it leaves of the machine
-after_alike : (before : ℕ) (g : Machine) (h : Happened) → before ≤ g.time → ((p : ℕ) → order_upon h.act p ≢ Some order.Halt) → after (rested_at before g) h ≡ after g h
+after_alike : (before : ℕ) (g : Machine) (h : Happened) → before ≤ g.time
+    → ((p : ℕ) (ps : PartitionState) → slice_get g.parts p ≡ Some ps → order_upon h.act p ≡ Some order.Halt → rested before ps ≡ ps) → after (rested_at before g) h ≡ after g h
 unfolding after next_clock
-after_alike before g h later nobody =
+after_alike before g h later has_rested =
     ap (λ (parts : List PartitionState). record {
       system = g.system;
       parts = parts;
@@ -193,7 +217,7 @@ after_alike before g h later nobody =
       resets = whole_resets_after h.event g.resets;
       halted = is_halt h.event;
     })
-    (each_after_map (part_after (rested_at before g) h) (part_after g h) (rested before) g.parts (λ k ps. part_alike before g h k ps later (nobody k)))
+    (each_after_map (part_after (rested_at before g) h) (part_after g h) (rested before) g.parts (λ k ps there. any_alike before g h k ps later (has_rested k ps there)))
 
 -- what an order tells of a partition that rested
 told_alike : (before : ℕ) (given : Option Order) (ps : PartitionState) → obeyed_told given (rested before ps) ≡ obeyed_told given ps
@@ -230,26 +254,36 @@ rested_go_alike g before later runs =
       happened = same;
       lines = lines_as (rested_at before g) (happened g) runs same ∙ lines_alike before g (happened g) ∙ sym (lines_as g (happened g) runs refl);
       said = λ p. said_as (rested_at before g) (happened g) p runs same ∙ sym (said_as g (happened g) p runs refl);
-      state = λ nobody. step_as (rested_at before g) (happened g) runs same ∙ after_alike before g (happened g) later nobody ∙ sym (step_as g (happened g) runs refl);
+      state = λ has_rested. step_as (rested_at before g) (happened g) runs same ∙ after_alike before g (happened g) later has_rested ∙ sym (step_as g (happened g) runs refl);
     }
 
 -- two machines that go on as a third one
-alike_through : (a b c d : Machine) → c ≡ d → GoAlike c a → GoAlike d b → GoAlike a b
-alike_through a b c d same first second =
+alike_through : (before : ℕ) (a b c d : Machine) → c ≡ d → GoAlike before c a → GoAlike before d b
+    → (happened a ≡ happened b → HaltsRested before b → HaltsRested before a) → GoAlike before a b
+alike_through before a b c d same first second keeps =
     let happens : happened a ≡ happened b = sym first.happened ∙ ap happened same ∙ second.happened in
     record {
       happened = happens;
       lines = sym first.lines ∙ ap step_lines same ∙ second.lines;
       said = λ p. sym (first.said p) ∙ ap (λ m. step_said m p) same ∙ second.said p;
-      state = λ nobody.
-          sym (first.state (λ p is. nobody p (ap (λ (h : Happened). order_upon h.act p) (sym happens) ∙ is))) ∙ ap step same ∙ second.state nobody;
+      state = λ has_rested. sym (first.state (keeps happens has_rested)) ∙ ap step same ∙ second.state has_rested;
     }
+
+-- one that is ordered to halt has rested in both
+halts_rested : (before p : ℕ) (ps : PartitionState) (g : Machine)
+    → happened (with_parts (slice_set (map (rested before) g.parts) p ps) g) ≡ happened (with_parts (slice_set g.parts p ps) g)
+    → HaltsRested before (with_parts (slice_set g.parts p ps) g) → HaltsRested before (with_parts (slice_set (map (rested before) g.parts) p ps) g)
+halts_rested before p ps g happens has_rested q y there halts = at (got_set (rested before) g.parts p q ps y there)
+  where
+    at : (slice_get (slice_set g.parts p ps) q ≡ Some y) ⊎ ((x : PartitionState) × (y ≡ rested before x)) → rested before y ≡ y
+    at (inl same) = has_rested q y same (ap (λ (h : Happened). order_upon h.act q) (sym happens) ∙ halts)
+    at (inr (x, is)) = ap (rested before) is ∙ rested_twice before before x (omega arith) ∙ sym is
 
 -- and whether all but one have
 pub others_go_alike : OthersGoAlike
 others_go_alike g before p ps later runs =
     let set : List PartitionState = slice_set (map (rested before) g.parts) p ps in
     let unset : List PartitionState = slice_set g.parts p ps in
-    alike_through (with_parts set g) (with_parts unset g) (rested_at before (with_parts set g)) (rested_at before (with_parts unset g))
+    alike_through before (with_parts set g) (with_parts unset g) (rested_at before (with_parts set g)) (rested_at before (with_parts unset g))
     (ap (λ parts. with_parts parts g) (map_set_again (rested before) g.parts p ps (λ x. rested_twice before before x (omega arith))))
-    (rested_go_alike (with_parts set g) before later runs) (rested_go_alike (with_parts unset g) before later runs)
+    (rested_go_alike (with_parts set g) before later runs) (rested_go_alike (with_parts unset g) before later runs) (halts_rested before p ps g)

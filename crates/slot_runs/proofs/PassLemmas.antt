@@ -1,5 +1,6 @@
 -- Passes over lists that do the same to all elements, or to all but one.
-use Rattle.std.proofs.Common.{◌≡◌, ◌≢◌, ℕ, zero, suc, List, [], ◌∷◌, map, Some, refl, ap, arith}
+use Rattle.std.proofs.Common.{◌≡◌, ◌≢◌, ◌⊎◌, ℕ, zero, suc, inl, inr, List, [], ◌∷◌, map, Some, refl, sym, ap, arith}
+use Rattle.std.proofs.lemmas.Option.{same_Some}
 use Rattle.std.specs.Prelude.{slice_get, slice_set}
 use Rattle.xm_base.specs.Options.{on}
 use Rattle.machine_model.specs.Lists.{all_of, each}
@@ -54,9 +55,10 @@ get_on r (x ∷ xs) zero = refl
 get_on r (x ∷ xs) (suc p) = get_on r xs p
 
 -- a pass after another one, and one pass that does the same
-pub each_after_map : {X Y : Type 0} (f g : ℕ → X → Y) (r : X → X) (xs : List X) → ((k : ℕ) (x : X) → f k (r x) ≡ g k x) → each f (map r xs) ≡ each g xs
+pub each_after_map : {X Y : Type 0} (f g : ℕ → X → Y) (r : X → X) (xs : List X) → ((k : ℕ) (x : X) → slice_get xs k ≡ Some x → f k (r x) ≡ g k x)
+    → each f (map r xs) ≡ each g xs
 each_after_map f g r [] same = refl
-each_after_map f g r (x ∷ xs) same = rw (same 0 x, each_after_map (λ k. f (suc k)) (λ k. g (suc k)) r xs (λ k y. same (suc k) y)) refl
+each_after_map f g r (x ∷ xs) same = rw (same 0 x refl, each_after_map (λ k. f (suc k)) (λ k. g (suc k)) r xs (λ k y there. same (suc k) y there)) refl
 
 -- what elements add after a pass
 pub all_after_map : {X Y : Type 0} (f g : ℕ → X → List Y) (r : X → X) (xs : List X) → ((k : ℕ) (x : X) → f k (r x) ≡ g k x) → all_of f (map r xs) ≡ all_of g xs
@@ -68,3 +70,18 @@ pub map_set_again : {X : Type 0} (r : X → X) (xs : List X) (p : ℕ) (a : X) �
 map_set_again r [] p a again = refl
 map_set_again r (x ∷ xs) zero a again = ap (λ rest. r a ∷ rest) (map_twice r r xs again)
 map_set_again r (x ∷ xs) (suc p) a again = rw (again x, map_set_again r xs p a again) refl
+
+-- an element that is found after a pass is what the pass made of one
+pub got_mapped : {X : Type 0} (r : X → X) (xs : List X) (q : ℕ) (y : X) → slice_get (map r xs) q ≡ Some y → (x : X) × (y ≡ r x)
+got_mapped r [] q y there = absurd cc
+got_mapped r (x ∷ xs) zero y there = (x, sym (same_Some (r x) y there))
+got_mapped r (x ∷ xs) (suc q) y there = got_mapped r xs q y there
+
+-- one that is found after a pass and a write is found without the pass, too, or is what the pass made of one
+pub got_set : {X : Type 0} (r : X → X) (xs : List X) (p q : ℕ) (a y : X) → slice_get (slice_set (map r xs) p a) q ≡ Some y
+    → (slice_get (slice_set xs p a) q ≡ Some y) ⊎ ((x : X) × (y ≡ r x))
+got_set r [] p q a y there = absurd cc
+got_set r (x ∷ xs) zero zero a y there = inl there
+got_set r (x ∷ xs) zero (suc q) a y there = inr (got_mapped r xs q y there)
+got_set r (x ∷ xs) (suc p) zero a y there = inr (x, sym (same_Some (r x) y there))
+got_set r (x ∷ xs) (suc p) (suc q) a y there = got_set r xs p q a y there

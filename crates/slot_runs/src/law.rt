@@ -84,7 +84,8 @@ pub fn silent_consoles()
     ensures law { SilentConsoles }
 {}
 
-/// A machine whose partitions rest late does the same in its next tick, and where nobody is ordered to halt it is the same after it.
+/// A machine whose partitions rest late does the same in its next tick, and is the same after it, unless a partition is ordered to halt
+/// that has not rested.
 pub fn late_machine()
     ensures all { RestedGoAlike }
     ensures others { OthersGoAlike }
