@@ -26,3 +26,6 @@ pub mod EventRowLemmas
 pub mod ObservedRowLemmas
 pub mod WholeRowLemmas
 pub mod CoreFileRowLemmas
+pub mod ScriptLemmas
+pub mod BoundLemmas
+pub mod ObservingLemmas

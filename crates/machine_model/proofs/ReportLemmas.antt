@@ -22,7 +22,7 @@ unfolding part
 state_at g p a None is = absurd cc
 state_at g p a (Some ps) is = ap (λ b. Some b.state) (same_Some (part g p ps) a is)
 
-state_there : (g : Machine) (p : ℕ) (a : Alone) → part_at g p ≡ Some a → slice_get g.parts p ≡ Some a.state
+pub state_there : (g : Machine) (p : ℕ) (a : Alone) → part_at g p ≡ Some a → slice_get g.parts p ≡ Some a.state
 unfolding part_at
 state_there g p a is = state_at g p a (slice_get g.parts p) is
 

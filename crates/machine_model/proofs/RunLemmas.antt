@@ -22,7 +22,7 @@ after_system : (g : Machine) → (after g (happened g)).system ≡ g.system
 unfolding after
 after_system g = refl
 
-step_system : (g : Machine) → (step g).system ≡ g.system
+pub step_system : (g : Machine) → (step g).system ≡ g.system
 step_system g = at g.halted refl
   where
     at : (b : Bool) → g.halted ≡ b → (step g).system ≡ g.system

@@ -78,7 +78,7 @@ start_there system p below = get_table (booted_part system) (length system.conf.
 pub boots_alone : BootsAlone
 boots_alone system p below = part_there (start system) p (booted_part system p) (start_there system p below) ∙ ap Some (start_same system p)
 
-start_system : (system : System) → (start system).system ≡ system
+pub start_system : (system : System) → (start system).system ≡ system
 unfolding start
 start_system system = refl
 

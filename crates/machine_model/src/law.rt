@@ -1,16 +1,22 @@
 //! The laws of the machine: a partition depends on nothing but its own things and its cues.
 
 ghost use Rattle.machine_model.specs.Laws.{
+  ActsWithinBounds,
   AllTicks,
   BootsAlone,
+  EarlierScripts,
   HasOwnTag,
   LastCue,
   NeverUponItself,
   NoScript,
+  ObservesAsTested,
   OneTick,
   OwnLines,
+  SameCoreFile,
   SeesNothing,
+  ShowsItsSize,
   TwoRuns,
+  TwoRunsEarlier,
 };
 
 /// One tick of a machine that has not halted is, for each partition, one tick of that partition
@@ -59,4 +65,29 @@ pub fn never_upon_itself()
 /// Each line that a partition's part of a tick gives has that partition's tag.
 pub fn has_own_tag()
     ensures law { HasOwnTag }
+{}
+
+/// An observing call asks for what it tests: its place and its size are those of its tests, what it
+/// is shown is written there, and has that size.
+pub fn observes_as_tested()
+    ensures tested { ObservesAsTested }
+    ensures sized { ShowsItsSize }
+{}
+
+/// What a partition's part of a tick does beyond the partition is what its work comes to: no act is
+/// left out for being upon a channel or a partition that it may not reach.
+pub fn acts_within_bounds()
+    ensures law { ActsWithinBounds }
+{}
+
+/// The core file of a partition after a run is that of the partition alone under its script.
+pub fn same_core_file()
+    ensures law { SameCoreFile }
+{}
+
+/// Scripts that are equal for so many ticks are equal for fewer, and two runs in which a partition
+/// meets the same script are the same for it after each of their ticks.
+pub fn earlier_ticks()
+    ensures scripts { EarlierScripts }
+    ensures runs { TwoRunsEarlier }
 {}

@@ -1,0 +1,5 @@
+use Rattle.machine_model.proofs.BoundLemmas.{acts_within_bounds}
+use Rattle.machine_model.proofs.law.acts_within_bounds.Goals as goal
+
+pub returns : goal.returns
+returns c = record { law = acts_within_bounds }
