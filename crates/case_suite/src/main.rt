@@ -1,0 +1,75 @@
+//! Does the cases of its data folder by the program's commands, and prints how many hold of each group and each that does
+//! not.
+#![tactic(auto)]
+
+mod book;
+mod making;
+mod recipe;
+mod tally;
+mod trial;
+mod verdict;
+mod wanted;
+
+use anyhow::{Context, Result};
+use book::{Book, Group};
+use making::{Shelf, read_data};
+use std::alloc::Global;
+use std::fs::Files;
+use tally::Tally;
+use trial::tried;
+
+// The files of cases, in the order in which they are done.
+const BOOKS: [&str; 1] = ["raw_images.toml"];
+
+fn main(rt: HostRuntime) -> Result<()> {
+    let mut all = Tally::new();
+    for name in BOOKS {
+        all.add(do_book(&rt, rt.alloc(), name).context(name)?);
+    }
+    println!(rt; "all: {all}")?;
+    Ok(())
+}
+
+// Does the cases of a file, and counts them.
+fn do_book(rt: &(impl Files + Print), alloc: Global, name: &str) -> Result<Tally> {
+    let text = read_data(rt, alloc, name)?;
+    let book: Book = toml::from_slice(alloc, &text)?;
+    let mut shelf = Shelf::new(alloc);
+    for making in &book.file {
+        if let Err(error) = shelf.put(rt, alloc, making) {
+            println!(rt; "{name}: a file cannot be made: {error}")?;
+        }
+    }
+    let mut all = Tally::new();
+    for group in &book.group {
+        let tally = do_group(rt, alloc, &shelf, group)?;
+        println!(rt; "{}: {tally}", group.name)?;
+        all.add(tally);
+    }
+    Ok(all)
+}
+
+// Does the cases of a group, and prints those that do not hold.
+fn do_group(
+    rt: &(impl Files + Print),
+    alloc: Global,
+    shelf: &Shelf<'_>,
+    group: &Group,
+) -> Result<Tally> {
+    let mut tally = Tally::new();
+    for case in &group.case {
+        match tried(rt, alloc, shelf, group, case) {
+            Ok(verdict) => {
+                tally.count(verdict.lines().is_empty());
+                for line in verdict.lines() {
+                    println!(rt; "{}, {}: {line}", group.name, case.shows)?;
+                }
+            }
+            Err(error) => {
+                tally.count(false);
+                println!(rt; "{}, {}: cannot be done: {error:#}", group.name, case.shows)?;
+            }
+        }
+    }
+    Ok(tally)
+}

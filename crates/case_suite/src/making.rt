@@ -1,0 +1,160 @@
+//! The bytes of files, as their recipes say.
+
+use crate::book::{Insert, Making, Program};
+use crate::recipe::{Recipe, Source};
+use anyhow::{Context, Result, bail};
+use std::alloc::Global;
+use std::fs::{File, Files};
+use std::io::Read;
+
+// The first words of a program file for SPARC, 32 bits and big endian, up to its entry.
+const PROGRAM_FRONT: [u32; 6] = [0x7f45_4c46, 0x0102_0100, 0, 0, 0x0002_0002, 1];
+
+// Behind the entry: the program headers begin at 52, and there is one of 32 bytes.
+const PROGRAM_TABLE: [u32; 6] = [52, 0, 0, 0x0034_0020, 0x0001_0000, 0];
+
+/// Files that were made, by their names.
+#[derive(Drop)]
+pub(crate) struct Shelf<'a> {
+    files: Vec<(&'a str, Vec<u8>)>,
+}
+
+impl<'a> Shelf<'a> {
+    pub(crate) fn new(alloc: Global) -> Shelf<'a> {
+        Shelf {
+            files: Vec::new(alloc),
+        }
+    }
+
+    /// Makes a file, and keeps it.
+    pub(crate) fn put(&mut self, rt: &impl Files, alloc: Global, making: &'a Making) -> Result<()> {
+        let recipe = Recipe::new(making);
+        let name = recipe.name.context("a file has no name")?;
+        let bytes = made(rt, alloc, recipe, self).context(name)?;
+        self.files.push((name, bytes))?;
+        Ok(())
+    }
+
+    /// The bytes of a file.
+    pub(crate) fn get(&self, name: &str) -> Result<&[u8]> {
+        for (known, bytes) in &self.files {
+            if *known == name {
+                return Ok(bytes);
+            }
+        }
+        bail!("there is no file {name}")
+    }
+}
+
+/// The bytes that a recipe makes, over the files that were made before.
+pub(crate) fn made(
+    rt: &impl Files,
+    alloc: Global,
+    recipe: Recipe<'_>,
+    shelf: &Shelf<'_>,
+) -> Result<Vec<u8>> {
+    let mut bytes = raw(rt, alloc, recipe, shelf)?;
+    if let Some(length) = recipe.length {
+        bytes.resize(length, recipe.fill.unwrap_or(0))?;
+    }
+    for (place, value) in recipe.bytes {
+        let byte = bytes.get_mut(*place).context("no byte is at that place")?;
+        *byte = *value;
+    }
+    for (old, new) in recipe.replace {
+        bytes = replaced(alloc, &bytes, old, new)?;
+    }
+    if let Some(insert) = recipe.insert {
+        bytes = inserted(alloc, &bytes, insert)?;
+    }
+    if let Some(digits) = recipe.append_hex {
+        bytes.extend_from_slice(&of_hex(alloc, digits)?)?;
+    }
+    Ok(bytes)
+}
+
+// The bytes of a recipe's source.
+fn raw(rt: &impl Files, alloc: Global, recipe: Recipe<'_>, shelf: &Shelf<'_>) -> Result<Vec<u8>> {
+    match recipe.source.context("not exactly one source")? {
+        Source::Hex(digits) => of_hex(alloc, digits),
+        Source::Text(text) => Ok(Vec::from_slice(alloc, text.as_bytes())?),
+        Source::Data(name) => read_data(rt, alloc, name),
+        Source::Of(name) => Ok(Vec::from_slice(alloc, shelf.get(name)?)?),
+        Source::Program(program) => program_file(alloc, program),
+    }
+}
+
+/// The bytes of a file of the data folder.
+pub(crate) fn read_data(rt: &impl Files, alloc: Global, name: &str) -> Result<Vec<u8>> {
+    let mut bytes = Vec::new(alloc);
+    File::open(rt, name)?.read_to_end(&mut bytes)?;
+    Ok(bytes)
+}
+
+// The bytes that hexadecimal digits spell, white space aside.
+fn of_hex(alloc: Global, digits: &str) -> Result<Vec<u8>> {
+    let mut close = Vec::new(alloc);
+    for digit in digits.as_bytes() {
+        if !digit.is_ascii_whitespace() {
+            close.push(*digit)?;
+        }
+    }
+    Ok(hex::decode(alloc, close)?)
+}
+
+// A program file of one header, which loads words from behind the headers and enters them.
+fn program_file(alloc: Global, program: &Program) -> Result<Vec<u8>> {
+    let start = u32::from_str_radix(&program.start, 16)?;
+    let words = of_hex(alloc, &program.words)?;
+    let size = u32::try_from(words.len())?;
+    let header = [1, 84, start, start, size, size, 7, 4];
+    let mut bytes = Vec::new(alloc);
+    for part in [&PROGRAM_FRONT[..], &[start], &PROGRAM_TABLE, &header] {
+        for word in part {
+            bytes.extend_from_slice(&word.to_be_bytes())?;
+        }
+    }
+    bytes.extend_from_slice(&words)?;
+    Ok(bytes)
+}
+
+// A text with another part in the place of the first occurrence of one.
+fn replaced(alloc: Global, bytes: &[u8], old: &str, new: &str) -> Result<Vec<u8>> {
+    let text = str::from_utf8(bytes)?;
+    let Some((before, after)) = text.split_once(old) else {
+        bail!("no {old} is to be replaced");
+    };
+    let mut bytes = Vec::from_slice(alloc, before.as_bytes())?;
+    bytes.extend_from_slice(new.as_bytes())?;
+    bytes.extend_from_slice(after.as_bytes())?;
+    Ok(bytes)
+}
+
+// A text with a part for each number before the first occurrence of another one.
+fn inserted(alloc: Global, bytes: &[u8], insert: &Insert) -> Result<Vec<u8>> {
+    let text = str::from_utf8(bytes)?;
+    let Some((before, after)) = text.split_once(&insert.before) else {
+        bail!("no {} is to be found", insert.before);
+    };
+    let mut bytes = Vec::from_slice(alloc, before.as_bytes())?;
+    for number in insert.from..insert.to {
+        put_numbered(alloc, &mut bytes, &insert.text, number)?;
+    }
+    bytes.extend_from_slice(insert.before.as_bytes())?;
+    bytes.extend_from_slice(after.as_bytes())?;
+    Ok(bytes)
+}
+
+// Puts a part, with a number for each `#`, and its two last digits for each `@`.
+fn put_numbered(alloc: Global, bytes: &mut Vec<u8>, part: &str, number: u32) -> Result<()> {
+    let decimal = format!(in alloc; "{number}")?;
+    let two = format!(in alloc; "{:02}", number % 100)?;
+    for byte in part.as_bytes() {
+        match byte {
+            b'#' => bytes.extend_from_slice(decimal.as_bytes())?,
+            b'@' => bytes.extend_from_slice(two.as_bytes())?,
+            _ => bytes.push(*byte)?,
+        }
+    }
+    Ok(())
+}

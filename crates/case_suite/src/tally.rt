@@ -1,0 +1,34 @@
+//! How many cases hold.
+
+use std::fmt;
+
+/// How many cases hold, of how many that were tried.
+#[derive(Clone, Copy, Debug)]
+pub(crate) struct Tally {
+    held: u32,
+    tried: u32,
+}
+
+impl Tally {
+    pub(crate) fn new() -> Tally {
+        Tally { held: 0, tried: 0 }
+    }
+
+    /// Counts a case.
+    pub(crate) fn count(&mut self, held: bool) {
+        self.held = self.held.saturating_add(u32::from(held));
+        self.tried = self.tried.saturating_add(1);
+    }
+
+    /// Counts the cases of another tally.
+    pub(crate) fn add(&mut self, other: Tally) {
+        self.held = self.held.saturating_add(other.held);
+        self.tried = self.tried.saturating_add(other.tried);
+    }
+}
+
+impl fmt::Display for Tally {
+    fn fmt<W: fmt::Write>(&self, f: &mut fmt::Formatter<W>) -> fmt::Result {
+        write!(f, "{} of {} hold", self.held, self.tried)
+    }
+}

@@ -1,0 +1,102 @@
+//! How a case differs from what it says.
+
+use crate::book::Case;
+use anyhow::Result;
+use std::alloc::Global;
+use xm_commands::Status;
+
+/// A line for each thing that differs.
+#[derive(Drop)]
+pub(crate) struct Verdict {
+    alloc: Global,
+    lines: Vec<String>,
+}
+
+impl Verdict {
+    pub(crate) fn new(alloc: Global) -> Verdict {
+        Verdict {
+            alloc,
+            lines: Vec::new(alloc),
+        }
+    }
+
+    /// The lines; there is none where the case holds.
+    pub(crate) fn lines(&self) -> &[String] {
+        &self.lines
+    }
+
+    /// Compares the status.
+    pub(crate) fn status(&mut self, wanted: Status, got: Status) -> Result<()> {
+        if wanted != got {
+            let line = format!(in self.alloc; "status: wanted {wanted:?}, got {got:?}")?;
+            self.lines.push(line)?;
+        }
+        Ok(())
+    }
+
+    /// Compares the report, or how it begins.
+    pub(crate) fn report(&mut self, case: &Case, got: &[u8]) -> Result<()> {
+        match &case.out_begins {
+            Some(front) if got.starts_with(front.as_bytes()) => Ok(()),
+            Some(front) => self.text("report", front.as_bytes(), got),
+            None => self.text("report", case.out.as_deref().unwrap_or("").as_bytes(), got),
+        }
+    }
+
+    /// Compares a text.
+    pub(crate) fn text(&mut self, what: &str, wanted: &[u8], got: &[u8]) -> Result<()> {
+        if wanted != got {
+            let wanted = shown(self.alloc, wanted)?;
+            let got = shown(self.alloc, got)?;
+            let line = format!(in self.alloc; "{what}: wanted {wanted}, got {got}")?;
+            self.lines.push(line)?;
+        }
+        Ok(())
+    }
+
+    /// Compares the bytes of a file, which is to be there.
+    pub(crate) fn file(&mut self, name: &str, wanted: &[u8], got: Option<&[u8]>) -> Result<()> {
+        let Some(got) = got else {
+            return self.presence(name, true, false);
+        };
+        if wanted != got {
+            let place = first_other(wanted, got);
+            let line = format!(in self.alloc;
+                "file {name}: wanted {} bytes, got {}, other from {place}",
+                wanted.len(),
+                got.len()
+            )?;
+            self.lines.push(line)?;
+        }
+        Ok(())
+    }
+
+    /// Compares whether a file is there.
+    pub(crate) fn presence(&mut self, name: &str, wanted: bool, got: bool) -> Result<()> {
+        if wanted != got {
+            let line = format!(in self.alloc; "file {name} is there: wanted {wanted}, got {got}")?;
+            self.lines.push(line)?;
+        }
+        Ok(())
+    }
+}
+
+// The place of the first byte that differs.
+fn first_other(wanted: &[u8], got: &[u8]) -> usize {
+    let mut place = 0;
+    for (one, other) in wanted.iter().zip(got) {
+        if one != other {
+            return place;
+        }
+        place += 1;
+    }
+    place
+}
+
+// Bytes as a text, or in hexadecimal digits where they are none.
+fn shown(alloc: Global, bytes: &[u8]) -> Result<String> {
+    match str::from_utf8(bytes) {
+        Ok(text) => Ok(format!(in alloc; "{text:?}")?),
+        Err(_) => Ok(hex::encode(alloc, bytes)?),
+    }
+}
