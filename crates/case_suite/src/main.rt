@@ -19,7 +19,15 @@ use tally::Tally;
 use trial::tried;
 
 // The files of cases, in the order in which they are done.
-const BOOKS: [&str; 1] = ["raw_images.toml"];
+const BOOKS: [&str; 7] = [
+    "raw_images.toml",
+    "descriptions.toml",
+    "rules.toml",
+    "programs.toml",
+    "containers.toml",
+    "runs.toml",
+    "outside.toml",
+];
 
 fn main(rt: HostRuntime) -> Result<()> {
     let mut all = Tally::new();

@@ -39,8 +39,9 @@ pub(crate) fn tried(
         None => None,
     };
     let mut given = Vec::new(alloc);
-    for name in case.file.as_ref().unwrap_or(&group.file) {
-        given.push((name.as_str(), shelf.get(name)?))?;
+    for file in case.file.as_ref().unwrap_or(&group.file) {
+        let (name, known) = file.split_once('=').unwrap_or((file, file));
+        given.push((name, shelf.get(known)?))?;
     }
     if let Some((name, bytes)) = &own {
         given.retain(|file: &Given<'_>| file.0 != *name);
