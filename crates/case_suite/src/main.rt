@@ -18,6 +18,9 @@ use std::fs::Files;
 use tally::Tally;
 use trial::tried;
 
+// The files that the cases of all others may use.
+const WORKED: &str = "worked.toml";
+
 // The files of cases, in the order in which they are done.
 const BOOKS: [&str; 7] = [
     "raw_images.toml",
@@ -30,30 +33,50 @@ const BOOKS: [&str; 7] = [
 ];
 
 fn main(rt: HostRuntime) -> Result<()> {
+    let mut shelf = Shelf::new(rt.alloc());
+    let worked = read_book(&rt, rt.alloc(), WORKED)?;
+    fill(&rt, rt.alloc(), &worked, &mut shelf)?;
     let mut all = Tally::new();
     for name in BOOKS {
-        all.add(do_book(&rt, rt.alloc(), name).context(name)?);
+        let book = read_book(&rt, rt.alloc(), name)?;
+        all.add(do_book(&rt, rt.alloc(), &book, &mut shelf)?);
     }
     println!(rt; "all: {all}")?;
     Ok(())
 }
 
-// Does the cases of a file, and counts them.
-fn do_book(rt: &(impl Files + Print), alloc: Global, name: &str) -> Result<Tally> {
-    let text = read_data(rt, alloc, name)?;
-    let book: Book = toml::from_slice(alloc, &text)?;
-    let mut shelf = Shelf::new(alloc);
+// Reads a file of the data folder.
+fn read_book(rt: &impl Files, alloc: Global, name: &str) -> Result<Book> {
+    let text = read_data(rt, alloc, name).context(name)?;
+    toml::from_slice(alloc, &text).context(name)
+}
+
+// Makes the files of a book; one that cannot be made is printed, and the cases that name it cannot be done.
+fn fill(rt: &(impl Files + Print), alloc: Global, book: &Book, shelf: &mut Shelf) -> Result<()> {
     for making in &book.file {
         if let Err(error) = shelf.put(rt, alloc, making) {
-            println!(rt; "{name}: a file cannot be made: {error}")?;
+            println!(rt; "a file cannot be made: {error:#}")?;
         }
     }
+    Ok(())
+}
+
+// Does the cases of a book, and counts them.
+fn do_book(
+    rt: &(impl Files + Print),
+    alloc: Global,
+    book: &Book,
+    shelf: &mut Shelf,
+) -> Result<Tally> {
+    let shared = shelf.count();
+    fill(rt, alloc, book, shelf)?;
     let mut all = Tally::new();
     for group in &book.group {
-        let tally = do_group(rt, alloc, &shelf, group)?;
+        let tally = do_group(rt, alloc, shelf, group)?;
         println!(rt; "{}: {tally}", group.name)?;
         all.add(tally);
     }
+    shelf.keep(shared);
     Ok(all)
 }
 
@@ -61,7 +84,7 @@ fn do_book(rt: &(impl Files + Print), alloc: Global, name: &str) -> Result<Tally
 fn do_group(
     rt: &(impl Files + Print),
     alloc: Global,
-    shelf: &Shelf<'_>,
+    shelf: &Shelf,
     group: &Group,
 ) -> Result<Tally> {
     let mut tally = Tally::new();

@@ -13,36 +13,46 @@ const PROGRAM_FRONT: [u32; 6] = [0x7f45_4c46, 0x0102_0100, 0, 0, 0x0002_0002, 1]
 // Behind the entry: the program headers begin at 52, and there is one of 32 bytes.
 const PROGRAM_TABLE: [u32; 6] = [52, 0, 0, 0x0034_0020, 0x0001_0000, 0];
 
-/// Files that were made, by their names.
+/// Files that were made, by their names: those that every book may use, then those of one book.
 #[derive(Drop)]
-pub(crate) struct Shelf<'a> {
-    files: Vec<(&'a str, Vec<u8>)>,
+pub(crate) struct Shelf {
+    files: Vec<(String, Vec<u8>)>,
 }
 
-impl<'a> Shelf<'a> {
-    pub(crate) fn new(alloc: Global) -> Shelf<'a> {
+impl Shelf {
+    pub(crate) fn new(alloc: Global) -> Shelf {
         Shelf {
             files: Vec::new(alloc),
         }
     }
 
     /// Makes a file, and keeps it.
-    pub(crate) fn put(&mut self, rt: &impl Files, alloc: Global, making: &'a Making) -> Result<()> {
+    pub(crate) fn put(&mut self, rt: &impl Files, alloc: Global, making: &Making) -> Result<()> {
         let recipe = Recipe::new(making);
         let name = recipe.name.context("a file has no name")?;
         let bytes = made(rt, alloc, recipe, self).context(name)?;
-        self.files.push((name, bytes))?;
+        self.files.push((String::from_str(alloc, name)?, bytes))?;
         Ok(())
     }
 
     /// The bytes of a file.
     pub(crate) fn get(&self, name: &str) -> Result<&[u8]> {
         for (known, bytes) in &self.files {
-            if *known == name {
+            if known.as_str() == name {
                 return Ok(bytes);
             }
         }
         bail!("there is no file {name}")
+    }
+
+    /// How many files there are.
+    pub(crate) fn count(&self) -> usize {
+        self.files.len()
+    }
+
+    /// Keeps the first files alone.
+    pub(crate) fn keep(&mut self, count: usize) {
+        self.files.truncate(count);
     }
 }
 
@@ -51,7 +61,7 @@ pub(crate) fn made(
     rt: &impl Files,
     alloc: Global,
     recipe: Recipe<'_>,
-    shelf: &Shelf<'_>,
+    shelf: &Shelf,
 ) -> Result<Vec<u8>> {
     let mut bytes = raw(rt, alloc, recipe, shelf)?;
     if let Some(length) = recipe.length {
@@ -74,7 +84,7 @@ pub(crate) fn made(
 }
 
 // The bytes of a recipe's source.
-fn raw(rt: &impl Files, alloc: Global, recipe: Recipe<'_>, shelf: &Shelf<'_>) -> Result<Vec<u8>> {
+fn raw(rt: &impl Files, alloc: Global, recipe: Recipe<'_>, shelf: &Shelf) -> Result<Vec<u8>> {
     match recipe.source.context("not exactly one source")? {
         Source::Hex(digits) => of_hex(alloc, digits),
         Source::Text(text) => Ok(Vec::from_slice(alloc, text.as_bytes())?),

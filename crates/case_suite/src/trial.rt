@@ -27,7 +27,7 @@ type Given<'a> = (&'a str, &'a [u8]);
 pub(crate) fn tried(
     rt: &impl Files,
     alloc: Global,
-    shelf: &Shelf<'_>,
+    shelf: &Shelf,
     group: &Group,
     case: &Case,
 ) -> Result<Verdict> {
@@ -53,7 +53,7 @@ pub(crate) fn tried(
 // Does the calls of a case over the files that are given, and compares.
 fn compared(
     alloc: Global,
-    shelf: &Shelf<'_>,
+    shelf: &Shelf,
     group: &Group,
     case: &Case,
     given: &[Given<'_>],
@@ -179,7 +179,7 @@ fn list_words(alloc: Global, list: &[String]) -> Result<Words> {
 
 // Compares the files that are in the store after the calls.
 fn compare_files(
-    shelf: &Shelf<'_>,
+    shelf: &Shelf,
     group: &Group,
     case: &Case,
     given: &[Given<'_>],
@@ -207,7 +207,7 @@ fn compare_files(
 }
 
 // The bytes of a file that is given, or of the shelf.
-fn bytes_of<'a>(shelf: &'a Shelf<'_>, given: &'a [Given<'_>], name: &str) -> Result<&'a [u8]> {
+fn bytes_of<'a>(shelf: &'a Shelf, given: &'a [Given<'_>], name: &str) -> Result<&'a [u8]> {
     for (known, bytes) in given {
         if *known == name {
             return Ok(bytes);
