@@ -147,6 +147,3 @@ fn write_two<E: Sink>(err: &mut E, first: &[u8], second: &[u8]) -> Result<(), Fa
     write_all(err, first)?;
     write_all(err, second)
 }
-
-#[cfg(test)]
-mod tests;

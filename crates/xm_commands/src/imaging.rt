@@ -279,8 +279,3 @@ pub(crate) fn no_container(alloc: Global, fault: BoxFault) -> Unmade
         },
     }
 }
-
-#[cfg(test)]
-mod linked;
-#[cfg(test)]
-pub(crate) mod tests;

@@ -17,6 +17,3 @@ mod work;
 
 pub use status::Status;
 pub use top::{misused, xm_main};
-
-#[cfg(test)]
-mod tests;

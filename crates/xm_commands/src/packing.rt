@@ -242,6 +242,3 @@ fn no_packing(alloc: Global, fault: PackFault) -> Unmade
         },
     }
 }
-
-#[cfg(test)]
-mod tests;

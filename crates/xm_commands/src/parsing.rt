@@ -114,6 +114,3 @@ fn unfit(alloc: Global, fault: CheckFault) -> Unmade
         },
     }
 }
-
-#[cfg(test)]
-pub(crate) mod tests;

@@ -107,6 +107,3 @@ fn first_frame(conf: &Conf) -> u32
 {
     conf.raw().plans[0].frame
 }
-
-#[cfg(test)]
-mod tests;
