@@ -1,5 +1,7 @@
 //! How many cases hold.
 
+ghost use Rattle.std.specs.Prelude.{◌≡◌, false};
+
 use std::fmt;
 
 /// How many cases hold, of how many that were tried.
@@ -15,8 +17,12 @@ impl Tally {
     }
 
     /// Counts a case.
-    pub(crate) fn count(&mut self, held: bool) {
-        self.held = self.held.saturating_add(u32::from(held));
+    pub(crate) fn count(&mut self, held: bool)
+        ensures differs { held ≡ false → self.new.held ≡ self.old.held }
+    {
+        if held {
+            self.held = self.held.saturating_add(1);
+        }
         self.tried = self.tried.saturating_add(1);
     }
 

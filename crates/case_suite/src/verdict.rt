@@ -83,14 +83,12 @@ impl Verdict {
 
 // The place of the first byte that differs.
 fn first_other(wanted: &[u8], got: &[u8]) -> usize {
-    let mut place = 0;
-    for (one, other) in wanted.iter().zip(got) {
+    for (place, (one, other)) in wanted.iter().zip(got).enumerate() {
         if one != other {
             return place;
         }
-        place += 1;
     }
-    place
+    wanted.len().min(got.len())
 }
 
 // Bytes as a text, or in hexadecimal digits where they are none.
