@@ -163,7 +163,7 @@ impl Open {
     {
         match child_named(word, self.word) {
             None => false,
-            Some(child) => !is_among(word, self.children.as_slice()) || child.often.is_many(),
+            Some(child) => child.often.is_many() || !is_among(word, self.children.as_slice()),
         }
     }
 
