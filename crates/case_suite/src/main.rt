@@ -22,7 +22,7 @@ use trial::tried;
 const WORKED: &str = "worked.toml";
 
 // The files of cases, in the order in which they are done.
-const BOOKS: [&str; 7] = [
+const BOOKS: [&str; 10] = [
     "raw_images.toml",
     "descriptions.toml",
     "rules.toml",
@@ -30,6 +30,9 @@ const BOOKS: [&str; 7] = [
     "containers.toml",
     "runs.toml",
     "outside.toml",
+    "words.toml",
+    "texts.toml",
+    "configurations.toml",
 ];
 
 fn main(rt: HostRuntime) -> Result<()> {

@@ -23,6 +23,3 @@ pub use part::{Area, HmTable, Need, Part};
 pub use plan::{Plan, Slot};
 pub use port::{Kind, Port, Way};
 pub use raw::{RawConf, Region};
-
-#[cfg(test)]
-mod tests;

@@ -13,6 +13,3 @@ pub use law::grammar;
 pub use part_files::{PartFile, PartFiles};
 pub use reading::command;
 pub use words::Words;
-
-#[cfg(test)]
-mod tests;

@@ -57,6 +57,3 @@ pub(crate) fn gather(alloc: Global, draft: &Draft) -> Result<Gathered, Memory>
         answers: monitors(alloc, entries)?,
     })
 }
-
-#[cfg(test)]
-mod tests;

@@ -100,6 +100,3 @@ pub(crate) fn judge(gathered: Gathered) -> Result<Conf, Broken>
     let Gathered { raw, ids, answers } = gathered;
     judged(raw, &ids, &answers)
 }
-
-#[cfg(test)]
-mod tests;

@@ -21,8 +21,3 @@ pub use fault::ReadFault;
 pub use law::{drafted, nested, spelled, taken};
 pub use reading::read_xmcf;
 pub use word::Word;
-
-#[cfg(test)]
-mod edits;
-#[cfg(test)]
-mod tests;
