@@ -1,15 +1,15 @@
--- What has its fields' ranges and meets the rules can be spelled.
+-- What has its fields' ranges and meets the rules can be spelled, and what can be spelled has its fields' ranges.
 use Rattle.std.proofs.Common.{ℕ, ◌<◌, ◌≤◌, List, length, get_or, Option, Some, None, subst, arith}
 use Rattle.std.specs.Prelude.{IfSome}
 use Rattle.std.proofs.lemmas.List.{length-map, get_or-map}
-use Rattle.xm_conf.specs.Configuration.{Plan, Part, Conf}
+use Rattle.xm_conf.specs.Configuration.{Plan, Part, Chan, Conf}
 use Rattle.xm_conf.specs.Description.{described, monitor_of}
 use Rattle.xm_conf.specs.Fits.{Fits, HasSome, HasFewDests, HasAnswers, IsKind, IsNeed}
 use Rattle.xm_conf.specs.declared.part.Need.{Need}
 use Rattle.xm_conf.specs.declared.channel.ChanKind.{ChanKind}
 use Rattle.xm_conf.specs.declared.channel.ChanKind.TheVariants as chan_kind
 use Rattle.xm_conf.specs.declared.channel.End.{End}
-use Rattle.bin_config.specs.Spelled.{IsSpelledPlan, IsSpelledNeed, IsSpelledPart, IsSpelled, HasPlanRanges, HasNeedRanges, HasRanges}
+use Rattle.bin_config.specs.Spelled.{IsSpelledPlan, IsSpelledNeed, IsSpelledPart, IsSpelledChan, IsSpelled, HasPlanRanges, HasNeedRanges, HasPartRanges, HasChanRanges, HasRanges}
 
 -- a plan with few slots
 plan_spelled : (plan : Plan) → HasPlanRanges plan → HasSome plan.slots 64 → IsSpelledPlan plan
@@ -85,3 +85,35 @@ spelled_if_fits conf h fits = record {
           areas = record { few = omega (arith, (fits.counts.areas n d below).few); each = is.areas };
           ports = record { few = omega (arith, fits.counts.ports n d below); each = is.ports };
         }
+
+-- a requirement that can be spelled
+need_ranges : (need : Option Need) → IfSome need IsSpelledNeed → IfSome need HasNeedRanges
+need_ranges None is = tt
+need_ranges (Some need) is = record { duration = is.duration; period = is.period }
+
+-- a partition that can be spelled
+part_ranges : (part : Part) → IsSpelledPart part → HasPartRanges part
+part_ranges part is = record {
+  name = is.name;
+  need = need_ranges part.need is.need;
+  trace_mask = is.trace_mask;
+  actions = is.hm.actions;
+  areas = is.areas.each;
+  ports = is.ports.each;
+}
+
+-- a channel that can be spelled
+chan_ranges : (chan : Chan) → IsSpelledChan chan → HasChanRanges chan
+chan_ranges chan is = record { kind = is.kind; length = is.length; source = is.source; dests = is.dests.each }
+
+-- what can be spelled has its fields' ranges
+pub ranges_if_spelled : (conf : Conf) → IsSpelled conf → HasRanges conf
+ranges_if_spelled conf is = record {
+  name = is.name;
+  regions = is.regions.each;
+  hv_size = is.hv_size;
+  uarts = is.uarts.each;
+  plans = λ n d below. let plan = is.plans.each n d below in record { frame = plan.frame; slots = plan.slots.each };
+  parts = λ n d below. part_ranges (get_or conf.parts n d) (is.parts.each n d below);
+  chans = λ n d below. chan_ranges (get_or conf.chans n d) (is.chans.each n d below);
+}

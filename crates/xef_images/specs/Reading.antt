@@ -122,7 +122,7 @@ table_at place = do
   rows ← rows_at count.0 0 count.1
   segments_at rows.0 rows.1
 
--- the entry, behind the 10 bytes of name, version and length
+-- the entry, behind the 10 bytes of name, version and length. A file so short that its head and its digest overlap never has the digest of its other bytes, so what is said here of fewer than 10 bytes is reported for no file
 unfoldable pub entry_at : Place → Result (ℕ × Place) XefFault
 entry_at place = number_at w32 (past 10 place)
 

@@ -1,5 +1,5 @@
 -- Faults of a configuration and of an image, inside their container.
-use Rattle.std.proofs.Common.{◌≡◌, ℕ, Result, Ok, Err, refl, ap}
+use Rattle.std.proofs.Common.{ℕ, Result, ap}
 use Rattle.xm_conf.specs.Configuration.{Conf}
 use Rattle.bin_config.specs.Gives.{Fails as XmcFails}
 use Rattle.bin_config.specs.declared.fault.XmcFault.{XmcFault}

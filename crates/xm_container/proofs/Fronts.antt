@@ -8,7 +8,7 @@ use Rattle.xm_base.specs.Cursor.{Place}
 use Rattle.xef_images.specs.Image.{Image}
 use Rattle.xef_images.specs.Steps.{◌>>=◌}
 use Rattle.xef_images.specs.StepLemmas.{stepped, ok_is}
-use Rattle.xm_container.specs.Entries.{Entries, RiseFrom, AreEntries}
+use Rattle.xm_container.specs.Entries.{Entries, RiseFrom}
 use Rattle.xm_container.specs.Gives.{Fails}
 use Rattle.xm_container.specs.Reading.{unless, number_at, id_at, image_at, entry_at, entries_at, with_entry}
 use Rattle.xm_container.specs.declared.image.Image.{Image as Given}

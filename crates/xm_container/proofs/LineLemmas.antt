@@ -1,33 +1,25 @@
 -- What the lines of a container are made of.
-use Rattle.std.proofs.Common.{◌≡◌, ℕ, suc, ◌+◌, ◌-◌, ◌<◌, ◌≤◌, List, [], ◌∷◌, ◌++◌, length, get_or, take, drop, Some, Ok, Err, refl, sym, ap, ◌∙◌, append_assoc, add-one, arith}
-use Rattle.std.specs.Prelude.{nat_lt, slice_get}
-use Rattle.std.specs.Str.{bytes_eq}
+use Rattle.std.proofs.Common.{◌≡◌, ℕ, suc, ◌+◌, ◌-◌, ◌≤◌, List, ◌∷◌, ◌++◌, length, drop, Some, Ok, sym, ap, ◌∙◌, append_assoc, arith}
+use Rattle.std.specs.Prelude.{slice_get}
 use Rattle.std.proofs.Math.Seq.{drop-cons}
-use Rattle.std.proofs.lemmas.Bool.{ltb-false}
 use Rattle.std.proofs.lemmas.List.{append-nil, drop_all}
 use Rattle.std.proofs.lemmas.Option.{get_or_from_slice_get, slice_get_within}
 use Rattle.xef_images.specs.Image.{Image}
 use Rattle.md5.specs.Md5.{md5}
 use Rattle.xef_images.specs.Spelling.{before_text, xef_text}
 use Rattle.xef_images.specs.XefLemmas.{digest_at_end}
-use Rattle.xef_images.specs.StepLemmas.{stepped, led_on}
-use Rattle.xef_images.specs.Steps.{◌>>=◌}
+use Rattle.xef_images.specs.StepLemmas.{stepped}
 use Rattle.loaded_system.specs.System.{System}
-use Rattle.xm_container.specs.Reading.{unless, told, before, before_of, signed, stored, found, fields_of, assigned, unpacked}
+use Rattle.xm_container.specs.HeadLemmas.{signed_takes}
+use Rattle.xm_container.specs.Reading.{signed, system_in, unpacked}
 use Rattle.xm_container.specs.Texts.{file_line, image_line, image_lines}
-use Rattle.xm_container.specs.declared.fault.BoxFault.TheVariants as fault
 
 -- a container has the bytes of its digest
 pub unpacked_long : (bytes : List ℕ) (system : System) → unpacked bytes ≡ Ok system → 16 ≤ length bytes
-unfolding unpacked signed before before_of
+unfolding unpacked
 unpacked_long bytes system e =
-    let s = stepped (signed bytes) (λ front. fields_of front >>= λ fields. assigned fields.0 fields.1) system e in
-    let b = stepped (before bytes) (λ count. unless (bytes_eq (stored count bytes) (found count bytes)) (fault.Digest (stored count bytes) (found count bytes)) (take count bytes)) s.value s.is in
-    let t = stepped (told bytes) (λ length_told. before_of (length bytes) length_told) b.value b.is in
-    let not_short = led_on (nat_lt (length bytes) t.value) (fault.Short (length bytes)) _ b.value t.led in
-    let not_long = led_on (nat_lt t.value (length bytes)) (fault.Trailing t.value) _ b.value not_short.1 in
-    let enough = led_on (nat_lt (length bytes) 16) (fault.Short (length bytes)) _ b.value not_long.1 in
-    ltb-false (length bytes) 16 enough.0
+    let s = stepped (signed bytes) system_in system e in
+    omega (arith, (signed_takes bytes s.value s.is).count)
 
 -- an image, and those behind it
 image_first : (images : List Image) (id : ℕ) (image : Image) → slice_get images id ≡ Some image → drop id images ≡ image ∷ drop (id + 1) images

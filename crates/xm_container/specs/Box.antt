@@ -1,11 +1,12 @@
 -- The one spelling of a system: its container, byte by byte.
-use Rattle.std.specs.Prelude.{ℕ, ◌+◌, List, [], ◌∷◌, ◌++◌, length, codes}
+use Rattle.std.specs.Prelude.{◌≡◌, ℕ, ◌+◌, ◌<◌, ◌^◌, List, [], ◌∷◌, ◌++◌, length, codes}
 use Rattle.std.specs.Int.{w16, w32, to_be_bytes}
 use Rattle.md5.specs.Md5.{md5}
+use Rattle.bin_config.specs.Spelled.{HasRanges}
 use Rattle.bin_config.specs.Xmc.{xmc}
 use Rattle.xef_images.specs.Image.{Image}
 use Rattle.xef_images.specs.Spelling.{xef_text}
-use Rattle.loaded_system.specs.System.{System}
+use Rattle.loaded_system.specs.System.{System, IsSystem}
 
 -- bytes behind their length
 unfoldable pub sized_text : List ℕ → List ℕ
@@ -39,3 +40,10 @@ sealed_text fields = front_text fields ++ md5 (front_text fields)
 -- the container of a system
 unfoldable pub box_text : System → List ℕ
 box_text system = sealed_text (fields_text system)
+
+-- the bytes are the container of a system, which can be loaded and whose configuration has its numbers in the ranges of their fields; a word can say how many they are
+pub record IsSpelled (bytes : List ℕ) (system : System) : Type 0 where
+  pub loads : IsSystem system
+  pub ranges : HasRanges system.conf
+  pub short : length bytes < 2 ^ 32
+  pub text : bytes ≡ box_text system

@@ -1,14 +1,13 @@
 -- A container tells its length, and a system is unpacked from its container.
-use Rattle.std.proofs.Common.{◌≡◌, ℕ, zero, suc, ◌+◌, ◌-◌, ◌*◌, ◌%◌, ◌^◌, ◌<◌, ◌≤◌, Bool, true, false, not, List, [], ◌∷◌, ◌++◌, length, get_or, take, drop, Option, None, Some, Result, Ok, refl, sym, ap, subst, ◌∙◌, append_assoc, arith}
+use Rattle.std.proofs.Common.{◌≡◌, ℕ, zero, suc, ◌+◌, ◌-◌, ◌%◌, ◌^◌, ◌<◌, ◌≤◌, Bool, true, false, not, List, [], ◌∷◌, ◌++◌, length, drop, None, Result, Ok, refl, sym, ap, ◌∙◌, append_assoc, arith}
 use Rattle.std.specs.Prelude.{nat_le, nat_lt, ◌==◌, ◌&&◌, ◌||◌, All}
-use Rattle.std.specs.Int.{w8, w16, w32, to_be_bytes}
+use Rattle.std.specs.Int.{w8, w32, to_be_bytes}
 use Rattle.std.proofs.lemmas.List.{append-nil, nil_from_length, length-append, drop_at}
 use Rattle.std.proofs.lemmas.List.Elements.{All-head, All-tail}
 use Rattle.std.proofs.lemmas.Bool.Decides.{Decides-eqb, nat_tests}
 use Rattle.md5.specs.Md5.{md5}
 use Rattle.md5.proofs.StandardFacts.{length-md5}
 use Rattle.xm_base.specs.Cursor.{Place, ahead, left, past, start}
-use Rattle.xm_conf.specs.Configuration.{Conf, Part}
 use Rattle.xm_conf.specs.Description.{described}
 use Rattle.xm_conf.specs.Laws.{IsBrokenUnlessFits}
 use Rattle.bin_config.specs.RangeLemmas.{spelled_if_fits}
@@ -20,20 +19,17 @@ use Rattle.xef_images.specs.Image.{Image, IsImage}
 use Rattle.xef_images.specs.ImageLemmas.{Decides-nat_le}
 use Rattle.xef_images.specs.Reading.{xef}
 use Rattle.xef_images.specs.Spelling.{xef_text}
-use Rattle.xef_images.specs.Steps.{◌>>=◌}
 use Rattle.xef_images.specs.XefLemmas.{length-xef_text, xef_again}
 use Rattle.loaded_system.specs.Inside.{first_outside}
 use Rattle.loaded_system.specs.InsideLemmas.{none_if_inside}
-use Rattle.loaded_system.specs.System.{System, IsSystem, AreInside}
+use Rattle.loaded_system.specs.System.{System, IsSystem}
 use Rattle.xm_container.specs.Box.{sized_text, entry_text, entries_text, fields_text, front_text, sealed_text, box_text}
-use Rattle.xm_container.specs.Entries.{Entries}
 use Rattle.xm_container.specs.FieldLemmas.{Reads, bytes_again, number_again, listed_again}
 use Rattle.xm_container.specs.HeadLemmas.{IsSigned, lead_text, told_again, signed_again}
 use Rattle.xm_container.specs.Laws.{NoneGoesOn, PackedIsUnpacked}
 use Rattle.xm_container.specs.NumberLemmas.{numbers}
 use Rattle.xm_container.specs.Numbers.{least_where, has_id, extra, missing}
-use Rattle.xm_container.specs.Reading.{bytes_at, number_at, as_config, as_image, told, signed, length_at, conf_at, id_at, image_at, entry_at, entries_at, table_at, fields_of, assigned, unpacked}
-use Rattle.xm_container.specs.declared.image.Image.{Image as Given}
+use Rattle.xm_container.specs.Reading.{bytes_at, number_at, told, length_at, conf_at, id_at, image_at, entry_at, entries_at, table_at, fields_of, assigned, system_in, unpacked}
 
 -- what stands before the digest has 16 bytes less than the container
 length-front : (fields : List ℕ) → length (front_text fields) ≡ 10 + length fields
@@ -41,7 +37,7 @@ unfolding front_text
 length-front fields = length-append (lead_text (26 + length fields)) fields
 
 -- the length of a container
-length-sealed : (fields : List ℕ) → length (sealed_text fields) ≡ 26 + length fields
+pub length-sealed : (fields : List ℕ) → length (sealed_text fields) ≡ 26 + length fields
 unfolding sealed_text
 length-sealed fields = omega (arith, length-append (front_text fields) (md5 (front_text fields)), length-md5 (front_text fields), length-front fields)
 
@@ -185,7 +181,7 @@ sealed_signed fields below = record {
 
 -- a system is unpacked from its container
 pub packed_unpacked : IsBrokenUnlessFits → PackedIsUnpacked
-unfolding unpacked box_text
+unfolding unpacked system_in box_text
 packed_unpacked law system is ranges below =
     let fields = fields_text system in
     let small : 26 + length (fields_text system) < 2 ^ 32 = omega (arith, below, length-sealed (fields_text system)) in

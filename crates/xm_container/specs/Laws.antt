@@ -3,7 +3,7 @@ use Rattle.std.specs.Prelude.{◌≡◌, ℕ, ◌<◌, ◌^◌, List, [], ◌++�
 use Rattle.xm_base.specs.Bytes.{AreBytes}
 use Rattle.bin_config.specs.Spelled.{HasRanges}
 use Rattle.loaded_system.specs.System.{System, IsSystem}
-use Rattle.xm_container.specs.Box.{box_text}
+use Rattle.xm_container.specs.Box.{box_text, IsSpelled}
 use Rattle.xm_container.specs.Reading.{unpacked}
 
 -- no container is a proper front of another: what stands behind one that is a front is nothing
@@ -16,4 +16,4 @@ PackedIsUnpacked = (system : System) → IsSystem system → HasRanges system.co
 
 -- the system that is unpacked is the one whose container the bytes are
 abbrev pub UnpackedIsPacked : Type 0
-UnpackedIsPacked = (bytes : List ℕ) (system : System) → AreBytes bytes → unpacked bytes ≡ Ok system → bytes ≡ box_text system
+UnpackedIsPacked = (bytes : List ℕ) (system : System) → AreBytes bytes → unpacked bytes ≡ Ok system → IsSpelled bytes system

@@ -1,5 +1,5 @@
 -- Which partitions have images, by their numbers.
-use Rattle.std.specs.Prelude.{ℕ, zero, suc, ◌+◌, ◌-◌, ◌==◌, Bool, not, if◌then◌else◌, List, [], ◌∷◌, Option, Some, None}
+use Rattle.std.specs.Prelude.{ℕ, zero, suc, ◌+◌, ◌-◌, ◌==◌, Bool, not, if◌then◌else◌, List, Option, Some, None}
 use Rattle.std.specs.List.{list_any}
 
 -- the smallest number that passes a test, of so many from one on

@@ -1,5 +1,5 @@
 -- What a configuration and images come to: a container, or why there is none.
-use Rattle.std.specs.Prelude.{◌≡◌, ℕ, zero, suc, ◌+◌, ◌==◌, Bool, nat_le, if◌then◌else◌, List, [], ◌∷◌, ◌++◌, length, map, Option, Some, None, Result, Ok, Err, Vec}
+use Rattle.std.specs.Prelude.{◌≡◌, ℕ, zero, suc, ◌+◌, ◌==◌, nat_le, if◌then◌else◌, List, [], ◌∷◌, ◌++◌, length, map, Option, Some, None, Result, Ok, Err, Vec}
 use Rattle.std.specs.Option.{option_to_list}
 use Rattle.xm_base.specs.declared.limits.TheConstants.{FILE_BYTES}
 use Rattle.xm_conf.specs.Configuration.{Conf}

@@ -1,12 +1,12 @@
 -- Images in the order of their numbers, one after the other, as a loop takes them.
-use Rattle.std.proofs.Common.{◌≡◌, ℕ, zero, suc, ◌+◌, ◌-◌, ◌<◌, ◌≤◌, Bool, true, false, cond, List, [], ◌∷◌, ◌++◌, length, map, get_or, drop, Option, None, Some, refl, sym, ap, subst, ◌∙◌, append_assoc, add-one, arith}
-use Rattle.std.specs.Prelude.{◌==◌, ◌||◌}
+use Rattle.std.proofs.Common.{◌≡◌, ℕ, zero, suc, ◌+◌, ◌-◌, ◌<◌, ◌≤◌, Bool, true, false, cond, List, [], ◌∷◌, ◌++◌, length, get_or, drop, Option, None, Some, refl, sym, ap, subst, ◌∙◌, append_assoc, add-one, arith}
+use Rattle.std.specs.Prelude.{◌==◌, All}
 use Rattle.std.specs.Option.{option_to_list}
-use Rattle.std.specs.List.{list_any}
 use Rattle.std.proofs.Math.Seq.{drop-cons}
 use Rattle.std.proofs.lemmas.List.{append-nil, drop_all}
+use Rattle.std.proofs.lemmas.List.Elements.{All-cons, All-nil}
 use Rattle.xm_conf.specs.Configuration.{Conf, Part}
-use Rattle.xef_images.specs.Image.{Image}
+use Rattle.xef_images.specs.Image.{Image, IsImage}
 use Rattle.loaded_system.specs.Inside.{outside_in, outside_or, first_outside_from}
 use Rattle.loaded_system.specs.declared.system.Outside.{Outside}
 use Rattle.bin_config.specs.Xmc.{xmc}
@@ -96,6 +96,16 @@ pub entries_done : (images : List Given) (parts id : ℕ) (front whole : List �
     → front ++ entries_text id (in_order images id (parts - id)) ≡ whole → front ≡ whole
 entries_done images parts id front whole past so_far =
     sym (append-nil front) ∙ ap (λ list. front ++ entries_text id list) (sym (order_done images parts id past)) ∙ so_far
+
+-- where the images from a partition on load, so do all
+pub loads_on : (images : List Given) (parts id : ℕ) (image : Image) (whole : List Image) → id < parts → image_of images id ≡ Some image → IsImage image
+    → (All IsImage (in_order images id (parts - id)) → All IsImage whole) → All IsImage (in_order images (id + 1) (parts - (id + 1))) → All IsImage whole
+loads_on images parts id image whole below some loads so_far rest =
+    so_far (subst (λ (list : List Image). All IsImage list) (sym (order_on images parts id image below some)) (All-cons IsImage image (in_order images (id + 1) (parts - (id + 1))) loads rest))
+
+-- behind the last partition nothing is left to load
+pub loads_done : (images : List Given) (parts id : ℕ) (whole : List Image) → parts ≤ id → (All IsImage (in_order images id (parts - id)) → All IsImage whole) → All IsImage whole
+loads_done images parts id whole past so_far = so_far (subst (λ (list : List Image). All IsImage list) (sym (order_done images parts id past)) (All-nil IsImage))
 
 -- so many images as there are partitions
 order_counted : (images : List Given) (parts count id : ℕ) → missing parts (ids_of images) ≡ None → id + count ≡ parts → length (in_order images id count) ≡ count

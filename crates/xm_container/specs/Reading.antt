@@ -1,5 +1,5 @@
 -- The reading of a container: the system that the bytes spell, or the first fault from left to right.
-use Rattle.std.specs.Prelude.{◌≡◌, ℕ, zero, suc, ◌+◌, ◌-◌, ◌==◌, Bool, nat_le, nat_lt, if◌then◌else◌, List, [], ◌∷◌, length, take, drop, codes, Option, Some, None, Result, Ok, Err}
+use Rattle.std.specs.Prelude.{◌≡◌, ◌≢◌, ◌↔◌, ℕ, zero, suc, ◌+◌, ◌-◌, ◌==◌, Bool, nat_le, nat_lt, if◌then◌else◌, List, [], ◌∷◌, length, take, drop, codes, Option, Some, None, Result, Ok, Err}
 use Rattle.std.specs.Int.{Width, w8, w16, w32, byte_len, from_be_bytes}
 use Rattle.std.specs.Str.{bytes_eq}
 use Rattle.md5.specs.Md5.{md5}
@@ -15,7 +15,6 @@ use Rattle.xef_images.specs.declared.fault.XefFault.{XefFault}
 use Rattle.xef_images.specs.declared.fault.XefFault.TheVariants as xef_fault
 use Rattle.loaded_system.specs.Inside.{first_outside}
 use Rattle.loaded_system.specs.System.{System}
-use Rattle.loaded_system.specs.declared.system.Outside.{Outside}
 use Rattle.xm_container.specs.Entries.{Entries}
 use Rattle.xm_container.specs.Numbers.{extra, missing}
 use Rattle.xm_container.specs.declared.image.Image.{Image as Given}
@@ -111,7 +110,7 @@ abbrev pub as_image : ℕ → Result Image XefFault → Result Image BoxFault
 as_image id (Ok image) = Ok image
 as_image id (Err told_fault) = Err (image_fault id told_fault)
 
--- the length of the configuration, behind the 10 bytes of name, version and length
+-- the length of the configuration, behind the 10 bytes of name, version and length. A file so short that its head and its digest overlap never has the digest of its other bytes, so what is said here of fewer than 10 bytes is reported for no file
 unfoldable pub length_at : Place → Result (ℕ × Place) BoxFault
 length_at place = number_at w32 (past 10 place)
 
@@ -180,9 +179,24 @@ assigned conf entries =
     (unless_some (λ outside. fault.Outside outside.id outside.address) (first_outside conf.parts entries.images)
     (Ok (record { conf = conf; images = entries.images }))))
 
+-- the system of the bytes before the digest
+unfoldable pub system_in : List ℕ → Result System BoxFault
+system_in bytes = do
+  fields ← fields_of bytes
+  assigned fields.0 fields.1
+
 -- the system of a container, or its first fault
 unfoldable pub unpacked : List ℕ → Result System BoxFault
-unpacked bytes = do
-  front ← signed bytes
-  fields ← fields_of front
-  assigned fields.0 fields.1
+unpacked bytes = signed bytes >>= system_in
+
+-- the digest that is stored at the end of a container is not the one that is found; the head and the length are right
+pub record IsForged (bytes stored_digest found_digest : List ℕ) : Type 0 where
+  pub count : ℕ
+  pub before : before bytes ≡ Ok count
+  pub stored : stored_digest ≡ stored count bytes
+  pub found : found_digest ≡ found count bytes
+  pub differ : stored_digest ≢ found_digest
+
+-- the two digests are reported exactly where they differ
+abbrev pub TellsDigests : {X : Type 0} → List ℕ → Result X BoxFault → Type 0
+TellsDigests {X} bytes result = (s f : List ℕ) → (result ≡ Err (fault.Digest s f)) ↔ IsForged bytes s f

@@ -1,5 +1,5 @@
 -- The system that is unpacked is the one whose container the bytes are.
-use Rattle.std.proofs.Common.{◌≡◌, ℕ, zero, suc, ◌+◌, ◌-◌, ◌^◌, ◌<◌, ◌≤◌, true, List, [], ◌∷◌, ◌++◌, length, get_or, take, drop, Option, None, Some, Result, Ok, Err, refl, sym, ap, subst, ◌∙◌, arith}
+use Rattle.std.proofs.Common.{◌≡◌, ℕ, zero, suc, ◌+◌, ◌^◌, ◌<◌, ◌≤◌, List, [], ◌∷◌, ◌++◌, length, take, drop, Option, None, Some, Result, Ok, Err, refl, sym, ap, subst, ◌∙◌, arith}
 use Rattle.std.specs.Prelude.{nat_le, ◌==◌, All}
 use Rattle.std.specs.Int.{w8, w32, to_be_bytes}
 use Rattle.std.proofs.lemmas.Bool.Decides.{Decides-eqb}
@@ -12,7 +12,9 @@ use Rattle.xm_conf.specs.Configuration.{Conf}
 use Rattle.xm_conf.specs.Description.{described}
 use Rattle.xm_conf.specs.Fits.{Fits}
 use Rattle.xm_conf.specs.Laws.{IsBrokenUnlessFits}
+use Rattle.bin_config.specs.RangeLemmas.{ranges_if_spelled}
 use Rattle.bin_config.specs.Reading.{read_of}
+use Rattle.bin_config.specs.Spelled.{HasRanges}
 use Rattle.bin_config.specs.Xmc.{xmc}
 use Rattle.bin_config.specs.XmcLemmas.{read_spelled}
 use Rattle.bin_config.specs.declared.fault.XmcFault.{XmcFault}
@@ -26,7 +28,8 @@ use Rattle.xef_images.specs.Steps.{◌>>=◌}
 use Rattle.xef_images.specs.XefLemmas.{xef_takes}
 use Rattle.xef_images.specs.declared.fault.XefFault.{XefFault}
 use Rattle.loaded_system.specs.Inside.{first_outside}
-use Rattle.loaded_system.specs.System.{System}
+use Rattle.loaded_system.specs.InsideLemmas.{inside_if_none}
+use Rattle.loaded_system.specs.System.{System, IsSystem}
 use Rattle.xm_container.specs.Box.{sized_text, entry_text, entries_text, fields_text, front_text, sealed_text, box_text}
 use Rattle.xm_container.specs.BoxLemmas.{byte_of}
 use Rattle.xm_container.specs.Entries.{Entries, RiseFrom}
@@ -35,7 +38,7 @@ use Rattle.xm_container.specs.HeadLemmas.{lead_text, signed_takes, told_takes}
 use Rattle.xm_container.specs.Laws.{UnpackedIsPacked}
 use Rattle.xm_container.specs.NumberLemmas.{numbers, all_below, all_counted, all_numbers}
 use Rattle.xm_container.specs.Numbers.{extra, missing}
-use Rattle.xm_container.specs.Reading.{unless, bytes_at, number_at, listed_at, as_config, as_image, signed, length_at, conf_at, id_at, image_at, entry_at, with_entry, entries_at, table_at, fields_of, unless_some, assigned, unpacked}
+use Rattle.xm_container.specs.Reading.{unless, bytes_at, number_at, listed_at, as_config, as_image, signed, length_at, conf_at, id_at, image_at, entry_at, with_entry, entries_at, table_at, fields_of, unless_some, assigned, system_in, unpacked}
 use Rattle.xm_container.specs.declared.image.Image.{Image as Given}
 use Rattle.xm_container.specs.declared.fault.BoxFault.{BoxFault}
 use Rattle.xm_container.specs.declared.fault.BoxFault.TheVariants as fault
@@ -68,7 +71,7 @@ image_read id (Err told) image e = absurd cc
 
 -- a configuration that is read stands there
 conf_takes : IsBrokenUnlessFits → (place : Place) (conf : Conf) (after : Place) → AreBytes (ahead (past 10 place)) → conf_at place ≡ Ok (conf, after)
-    → Takes (past 10 place) (sized_text (xmc conf)) after × Fits (described conf)
+    → Takes (past 10 place) (sized_text (xmc conf)) after × Fits (described conf) × HasRanges conf
 unfolding conf_at length_at
 conf_takes law place conf after each e =
     let a = stepped (number_at w32 (past 10 place)) (λ count. bytes_at count.0 count.1 >>= λ bytes. as_config (read_of bytes.0) >>= λ conf. Ok (conf, bytes.1)) (conf, after) e in
@@ -77,13 +80,14 @@ conf_takes law place conf after each e =
     let t = sized_takes (past 10 place) a.value b.value each a.is b.is in
     let is = read_spelled law b.value.0 c.value t.1 (config_read (read_of b.value.0) c.value c.is) in
     let made : Conf × Place = (c.value, b.value.1) in
-    let P : Conf × Place → Type 0 = λ x. Takes (past 10 place) (sized_text (xmc x.0)) x.1 × Fits (described x.0) in
+    let P : Conf × Place → Type 0 = λ x. Takes (past 10 place) (sized_text (xmc x.0)) x.1 × Fits (described x.0) × HasRanges x.0 in
     subst P {x = made} (ok_is made (conf, after) c.led)
-    (subst (λ (text : List ℕ). Takes (past 10 place) (sized_text text) b.value.1) is.text t.0, is.fits)
+    (subst (λ (text : List ℕ). Takes (past 10 place) (sized_text text) b.value.1) is.text t.0, is.fits, ranges_if_spelled c.value is.spelled)
 
 -- an image that is read
 record IsTaken (floor : ℕ) (place : Place) (entry : Given) (after : Place) : Type 0 where
   stands : Takes place (entry_text entry.id entry.xef) after
+  loads : IsImage entry.xef
   byte : entry.id < 256
   above : floor ≤ entry.id
 
@@ -104,12 +108,12 @@ entry_takes floor place entry after each e =
     let line : Takes place (a.value.0 ∷ sized_text (xef_text f.value)) d.value.1
     = subst (λ (b : List ℕ). Takes place (b ++ sized_text (xef_text f.value)) d.value.1) (byte_of a.value.0 l.1) whole in
     let image : Image × Place = (f.value, d.value.1) in
-    let P : Image × Place → Type 0 = λ x. Takes place (a.value.0 ∷ sized_text (xef_text x.0)) x.1 in
-    let at_image = subst P {x = image} (ok_is image b.value f.led) line in
+    let P : Image × Place → Type 0 = λ x. Takes place (a.value.0 ∷ sized_text (xef_text x.0)) x.1 × IsImage x.0 in
+    let at_image = subst P {x = image} (ok_is image b.value f.led) (line, is.loads) in
     let made : Given × Place = (record { id = a.value.0; xef = b.value.0 }, b.value.1) in
     let Q : Given × Place → Type 0 = λ x. IsTaken floor place x.0 x.1 in
     subst Q {x = made} (ok_is made (entry, after) b.led)
-    (record { stands = at_image; byte = l.1; above = (Decides-nat_le floor a.value.0).0 l.2 })
+    (record { stands = at_image.0; loads = at_image.1; byte = l.1; above = (Decides-nat_le floor a.value.0).0 l.2 })
 
 -- images behind their numbers
 abbrev given_text : List ℕ → List Image → List ℕ
@@ -122,6 +126,7 @@ record AreTaken (count floor : ℕ) (place : Place) (entries : Entries) (after :
   stands : Takes place (given_text entries.ids entries.images) after
   ids : length entries.ids ≡ count
   images : length entries.images ≡ count
+  load : All IsImage entries.images
   rise : RiseFrom floor entries.ids
   bytes : AreBytes entries.ids
 
@@ -143,7 +148,7 @@ entries_take zero floor place entries after each e =
     let none : Entries × Place = (record { ids = []; images = [] }, place) in
     let P : Entries × Place → Type 0 = λ x. AreTaken 0 floor place x.0 x.1 in
     subst P {x = none} (ok_is none (entries, after) e)
-    (record { stands = record { parts = refl; rest = each }; ids = refl; images = refl; rise = tt; bytes = bytes_nil })
+    (record { stands = record { parts = refl; rest = each }; ids = refl; images = refl; load = All-nil IsImage; rise = tt; bytes = bytes_nil })
 entries_take (suc count) floor place entries after each e =
     let a = stepped (entry_at floor place) (λ entry. entries_at count (entry.0.id + 1) entry.1 >>= λ later. Ok (with_entry entry.0 later.0, later.1)) (entries, after) e in
     let b = stepped (entries_at count (a.value.0.id + 1) a.value.1) (λ later. Ok (with_entry a.value.0 later.0, later.1)) (entries, after) a.led in
@@ -156,6 +161,7 @@ entries_take (suc count) floor place entries after each e =
       stands = takes_both place (entry_text a.value.0.id a.value.0.xef) a.value.1 (given_text b.value.0.ids b.value.0.images) b.value.1 first.stands rest.stands;
       ids = ap suc rest.ids;
       images = ap suc rest.images;
+      load = All-cons IsImage a.value.0.xef b.value.0.images first.loads rest.load;
       rise = (first.above, rest.rise);
       bytes = bytes_cons a.value.0.id b.value.0.ids first.byte rest.bytes;
     })
@@ -169,7 +175,9 @@ record AreFields (front : List ℕ) (conf : Conf) (entries : Entries) : Type 0 w
   parts : drop 10 front ≡ given_fields conf entries
   long : 10 ≤ length front
   fits : Fits (described conf)
+  ranges : HasRanges conf
   images : length entries.images ≡ length entries.ids
+  load : All IsImage entries.images
   rise : RiseFrom 0 entries.ids
   bytes : AreBytes entries.ids
 
@@ -199,7 +207,9 @@ fields_take law front conf entries each e =
       parts = parts;
       long = omega (arith, some, ap length first.0.parts, length-append (sized_text (xmc a.value.0)) (ahead a.value.1), length-drop 10 front);
       fits = first.1;
+      ranges = first.2;
       images = t.images ∙ sym t.ids;
+      load = t.load;
       rise = t.rise;
       bytes = t.bytes;
     })
@@ -219,8 +229,14 @@ given_numbers : (images : List Image) (id : ℕ) → given_text (numbers id (len
 given_numbers [] id = refl
 given_numbers (image ∷ images) id = ap (λ rest. entry_text id image ++ rest) (given_numbers images (id + 1))
 
+-- fields that are those of a system, which can be loaded
+record AreOf (front : List ℕ) (system : System) : Type 0 where
+  stands : drop 10 front ≡ fields_text system
+  loads : IsSystem system
+  ranges : HasRanges system.conf
+
 -- fields whose images make a system are that system's
-fields_are : (front : List ℕ) (conf : Conf) (entries : Entries) (system : System) → AreFields front conf entries → assigned conf entries ≡ Ok system → drop 10 front ≡ fields_text system
+fields_are : (front : List ℕ) (conf : Conf) (entries : Entries) (system : System) → AreFields front conf entries → assigned conf entries ≡ Ok system → AreOf front system
 unfolding assigned fields_text described
 fields_are front conf entries system is e =
     let made : System = record { conf = conf; images = entries.images } in
@@ -232,31 +248,38 @@ fields_are front conf entries system is e =
     let counted : entries.ids ≡ numbers 0 (length entries.ids) = all_numbers (length conf.parts) entries.ids is.rise below m.none in
     let own : entries.ids ≡ numbers 0 (length entries.images) = counted ∙ ap (numbers 0) (sym is.images) in
     let texts : given_text entries.ids entries.images ≡ entries_text 0 entries.images = ap (λ ids. given_text ids entries.images) own ∙ given_numbers entries.images 0 in
-    is.parts
-    ∙ ap (λ text. sized_text (xmc conf) ++ length entries.ids ∷ text) texts
-    ∙ ap (λ n. sized_text (xmc conf) ++ n ∷ entries_text 0 entries.images) (sym is.images)
-    ∙ ap (λ s. sized_text (xmc s.conf) ++ length s.images ∷ entries_text 0 s.images) (ok_is made system o.led)
+    subst (λ (s : System). AreOf front s) {x = made} (ok_is made system o.led)
+    (record {
+      stands =
+          is.parts
+          ∙ ap (λ text. sized_text (xmc conf) ++ length entries.ids ∷ text) texts
+          ∙ ap (λ n. sized_text (xmc conf) ++ n ∷ entries_text 0 entries.images) (sym is.images);
+      loads = record {
+        fits = is.fits;
+        images = is.load;
+        counted = is.images ∙ all_counted (length conf.parts) entries.ids is.rise below m.none;
+        inside = inside_if_none conf.parts entries.images o.none;
+      };
+      ranges = is.ranges;
+    })
 
 -- the system that is unpacked is the one whose container the bytes are
 pub unpacked_packed : IsBrokenUnlessFits → UnpackedIsPacked
-unfolding unpacked box_text sealed_text front_text
+unfolding unpacked system_in box_text sealed_text front_text
 unpacked_packed law bytes system each e =
-    let s = stepped (signed bytes) (λ front. fields_of front >>= λ fields. assigned fields.0 fields.1) system e in
+    let s = stepped (signed bytes) system_in system e in
     let f = stepped (fields_of s.value) (λ fields. assigned fields.0 fields.1) system s.led in
     let front = s.value in
     let is = signed_takes bytes s.value s.is in
     let front_each : AreBytes s.value = bytes_front s.value (md5 s.value) (subst (λ (x : List ℕ). AreBytes x) is.parts each) in
     let read = fields_take law s.value f.value.0 f.value.1 front_each f.is in
-    let fields = fields_text system in
-    let stands : drop 10 s.value ≡ fields_text system = fields_are s.value f.value.0 f.value.1 system read f.led in
-    let size = length bytes in
-    let lead = lead_text (length bytes) in
+    let own = fields_are s.value f.value.0 f.value.1 system read f.led in
     let head = told_takes bytes (length bytes) each is.told in
     let first : take 10 bytes ≡ lead_text (length bytes) = ap (take 10) head.0 ∙ take_at (lead_text (length bytes)) (drop 10 bytes) 10 refl in
     let same : take 10 bytes ≡ take 10 s.value = ap (take 10) is.parts ∙ take-append-le 10 s.value (md5 s.value) read.long in
     let parts : s.value ≡ lead_text (length bytes) ++ fields_text system
-    = sym (take-append-drop 10 s.value) ∙ ap (λ x. x ++ drop 10 s.value) (sym same ∙ first) ∙ ap (λ x. lead_text (length bytes) ++ x) stands in
+    = sym (take-append-drop 10 s.value) ∙ ap (λ x. x ++ drop 10 s.value) (sym same ∙ first) ∙ ap (λ x. lead_text (length bytes) ++ x) own.stands in
     let ten : length (lead_text (length bytes)) ≡ 10 = refl in
     let sized : length bytes ≡ 26 + length (fields_text system) = omega (arith, is.count, ap length parts, length-append (lead_text (length bytes)) (fields_text system), ten) in
     let whole : s.value ≡ lead_text (26 + length (fields_text system)) ++ fields_text system = parts ∙ ap (λ n. lead_text n ++ fields_text system) sized in
-    is.parts ∙ ap (λ x. x ++ md5 x) whole
+    record { loads = own.loads; ranges = own.ranges; short = head.1; text = is.parts ∙ ap (λ x. x ++ md5 x) whole }

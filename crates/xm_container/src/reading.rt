@@ -1,18 +1,20 @@
 //! The reading of a container.
 
-ghost use Rattle.std.specs.Prelude.{◌≡◌, ◌+◌, ◌≤◌, IfOk, length};
+ghost use Rattle.std.specs.Prelude.{◌≡◌, ◌+◌, ◌≤◌, IfOk, Ok, length};
 ghost use Rattle.std.specs.Int.{w8, w16, w32};
 ghost use Rattle.bin_config.specs.Reading.{read_of};
 ghost use Rattle.xef_images.specs.Reading.{xef};
 ghost use Rattle.xm_base.specs.Cursor.{left};
-ghost use Rattle.xm_container.specs.Box.{box_text};
+ghost use Rattle.loaded_system.specs.System.{System as Meaning};
+ghost use Rattle.xm_container.specs.Box.{IsSpelled};
 ghost use Rattle.xm_container.specs.Entries.{AreEntries};
 ghost use Rattle.xm_container.specs.Gives.{Gives, GivesAt, IsRead, IsReadAt};
-ghost use Rattle.xm_container.specs.Reading.{as_config, as_image, assigned, before, before_of, conf_at, config_fault, entries_at, entry_at, fields_of, id_at, image_at, image_fault, length_at, magic_at, number_at, signed, table_at, told, unpacked, version_at};
+ghost use Rattle.xm_container.specs.Reading.{as_config, as_image, assigned, before, before_of, conf_at, config_fault, entries_at, entry_at, fields_of, id_at, image_at, image_fault, length_at, magic_at, number_at, signed, system_in, table_at, told, unpacked, version_at, TellsDigests};
 
 use crate::entries::Entries;
 use crate::fault::BoxFault;
 use crate::image::Image;
+use crate::law::{packed_is_unpacked, unpacked_is_packed};
 use crate::numbers::{extra, missing};
 use bin_config::{XmcFault, read_xmc};
 use loaded_system::System;
@@ -20,7 +22,7 @@ use md5::{DIGEST_LEN, Digest, Md5};
 use std::alloc::Global;
 use xef_images::{Xef, XefFault, read_xef};
 use xm_base::Cursor;
-use xm_conf::{Conf, broken_unless_fits};
+use xm_conf::Conf;
 
 /// The bytes of name, version and length.
 const LEAD: usize = 10;
@@ -304,26 +306,37 @@ fn count_of(conf: &Conf) -> usize
     conf.raw().parts.len()
 }
 
+/// The system of the bytes before the digest.
+#[tactic(auto, unfolding(crate::specs::Reading::system_in))]
+fn system(alloc: Global, bytes: &[u8]) -> Result<System, BoxFault>
+    ensures { Gives (λ system. system) result (system_in bytes.now) }
+{
+    let (conf, entries) = fields(alloc, bytes)?;
+    assigned(conf, entries)
+}
+
 /// The system of a container.
 #[tactic(auto, unfolding(crate::specs::Reading::unpacked))]
 fn whole(alloc: Global, bytes: &[u8]) -> Result<System, BoxFault>
-    ensures { Gives (λ system. system) result (unpacked bytes.now) }
+    ensures exact { Gives (λ system. system) result (unpacked bytes.now) }
+    ensures digest { TellsDigests bytes.now result }
 {
     let front = signed(bytes)?;
-    let (conf, entries) = fields(alloc, front)?;
-    assigned(conf, entries)
+    system(alloc, front)
 }
 
 /// Reads a container: the system that it spells, or its first fault.
 pub fn unpack(alloc: Global, bytes: &[u8]) -> Result<System, BoxFault>
     // What is unpacked is the system whose container the bytes are.
-    ensures found { IfOk result (λ system. bytes.now ≡ box_text system) }
+    ensures found { IfOk result (IsSpelled bytes.now) }
+    // The system whose container the bytes are is unpacked, unless out of memory.
+    ensures only { (system : Meaning) → IsSpelled bytes.now system → Gives (λ found. found) result (Ok system) }
     // A fault is the first one.
-    ensures exact { Gives (λ system. system) result (unpacked bytes.now) }
+    ensures exact { Gives (λ found. found) result (unpacked bytes.now) }
+    // Two digests are reported exactly where they differ.
+    ensures digest { TellsDigests bytes.now result }
 {
-    broken_unless_fits();
-    match whole(alloc, bytes) {
-        Ok(system) => Ok(system),
-        Err(fault) => Err(fault),
-    }
+    packed_is_unpacked();
+    unpacked_is_packed();
+    whole(alloc, bytes)
 }

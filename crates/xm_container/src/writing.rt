@@ -1,13 +1,19 @@
 //! The writing of a container.
 
-ghost use Rattle.std.specs.Prelude.{◌≡◌, ◌≤◌, ◌+◌, ◌++◌, ◌<◌, IfOk, OnOk, None, Some, length, map, option_copied};
+ghost use Rattle.std.specs.Prelude.{◌≡◌, ◌≤◌, ◌+◌, ◌++◌, ◌<◌, All, IfOk, IsNone, OnOk, None, Ok, Some, length, map, option_copied};
+ghost use Rattle.bin_config.specs.Spelled.{HasRanges};
+ghost use Rattle.xef_images.specs.Image.{IsImage};
 ghost use Rattle.loaded_system.specs.Inside.{first_outside as first_outside_of};
 ghost use Rattle.xm_container.specs.Box.{entries_text, entry_text, fields_text, front_text};
 ghost use Rattle.xm_container.specs.Numbers.{missing as missing_of};
 ghost use Rattle.xm_container.specs.Pack.{Packs, ids_of, image_of, in_order, packed, sealed, system_of};
+ghost use Rattle.xm_container.specs.Reading.{unpacked};
+ghost use Rattle.xm_conf.specs.Description.{described};
+ghost use Rattle.xm_conf.specs.Fits.{Fits};
 
 use crate::fault::PackFault;
 use crate::image::Image;
+use crate::law::packed_is_unpacked;
 use crate::numbers::{extra, missing};
 use crate::put::{put_half, put_sized, put_word};
 use bin_config::write_xmc;
@@ -60,7 +66,8 @@ fn image_at(images: &[Image], id: usize, parts: usize) -> &Xef
 fn first_outside(parts: &[Part], images: &[Image]) -> Option<Outside>
     requires few { length parts.now ≤ 16 }
     requires complete { missing_of (length parts.now) (ids_of images.now) ≡ None }
-    ensures { result ≡ first_outside_of parts.now (in_order images.now 0 (length parts.now)) }
+    ensures value { result ≡ first_outside_of parts.now (in_order images.now 0 (length parts.now)) }
+    ensures images { IsNone result → All IsImage (in_order images.now 0 (length parts.now)) }
 {
     for id in 0..parts.len() {
         let xef = image_at(images, id, parts.len());
@@ -106,7 +113,8 @@ fn fields(alloc: Global, conf: &Conf, parts: usize, images: &[Image]) -> Result<
     requires parts { parts ≡ length conf.now.parts }
     requires few { parts ≤ 16 }
     requires complete { missing_of parts (ids_of images.now) ≡ None }
-    ensures { IfOk result (λ fields. fields.items ≡ fields_text (system_of conf.now images.now)) }
+    ensures value { IfOk result (λ fields. fields.items ≡ fields_text (system_of conf.now images.now)) }
+    ensures ranges { OnOk result (HasRanges conf.now) }
 {
     let xmc = write_xmc(alloc, conf)?;
     let mut fields = Vec::new(alloc);
@@ -154,7 +162,10 @@ fn sealed(alloc: Global, fields: &[u8]) -> Result<Vec<u8>, PackFault>
 #[tactic(auto, unfolding(crate::specs::Pack::packed))]
 pub fn pack(alloc: Global, conf: &Conf, images: &[Image]) -> Result<Vec<u8>, PackFault>
     ensures exact { Packs result (packed conf.now images.now) }
+    // What is written is read as that configuration with those images.
+    ensures read { IfOk result (λ bytes. unpacked bytes.items ≡ Ok (system_of conf.now images.now)) }
 {
+    packed_is_unpacked();
     let parts = parts(conf);
     let ids = ids_of(alloc, images)?;
     if let Some(id) = extra(parts.len(), &ids) {
@@ -178,6 +189,7 @@ pub fn pack(alloc: Global, conf: &Conf, images: &[Image]) -> Result<Vec<u8>, Pac
 fn parts(conf: &Conf) -> &[Part]
     ensures value { result.now ≡ conf.now.parts }
     ensures few { length result.now ≤ 16 }
+    ensures fits { Fits (described conf.now) }
 {
     &conf.raw().parts
 }

@@ -1,4 +1,3 @@
-use Rattle.std.proofs.Common.{rules}
 use Rattle.xm_container.proofs.LineLemmas.{lines_on}
 use Rattle.xm_container.proofs.lines.put_images.Goals as goal
 

@@ -1,4 +1,4 @@
-use Rattle.std.proofs.Common.{not, sym, ◌∙◌, rules}
+use Rattle.std.proofs.Common.{not, rules}
 use Rattle.xm_container.specs.Numbers.{has_id, missing}
 use Rattle.xm_container.specs.NumberLemmas.{least_on, least_here, least_done}
 use Rattle.xm_container.proofs.numbers.missing.Goals as goal

@@ -1,7 +1,9 @@
 use Rattle.std.proofs.Common.{arith}
-use Rattle.xm_container.specs.SpelledLemmas.{unpacked_packed}
+use Rattle.xm_container.proofs.UnpackLemmas.{found_spelled, only_spelled}
 use Rattle.xm_container.proofs.reading.unpack.Goals as goal
 
-pub returns-in-Ok-clause-found : goal.returns-in-Ok-clause-found
-returns-in-Ok-clause-found c =
-    unpacked_packed c.broken_unless_fits.ensures.law c.args.bytes.now c.in-Ok.system (λ i. omega (arith, c.type_inv.bytes i)) c.in-Ok.ensures
+pub returns-clause-found : goal.returns-clause-found
+returns-clause-found c = found_spelled c.unpacked_is_packed.ensures.law c.args.bytes.now c.whole.result (λ i. omega (arith, c.type_inv.bytes i)) c.whole.ensures.exact
+
+pub returns-clause-only : goal.returns-clause-only
+returns-clause-only c = λ system spelled. only_spelled c.packed_is_unpacked.ensures.law c.args.bytes.now system c.whole.result spelled c.whole.ensures.exact

@@ -1,4 +1,3 @@
-use Rattle.std.proofs.Common.{rules}
 use Rattle.xm_container.specs.PackLemmas.{entries_on, entries_done}
 use Rattle.xm_container.proofs.writing.put_entries.Goals as goal
 
