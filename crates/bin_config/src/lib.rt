@@ -15,6 +15,3 @@ pub use law::{
 };
 pub use reading::read_xmc;
 pub use writing::write_xmc;
-
-#[cfg(test)]
-mod tests;

@@ -8,8 +8,3 @@ mod system;
 pub use inside::outside_of;
 pub use raw_image::{BareFault, bare};
 pub use system::{Outside, System};
-
-#[cfg(test)]
-mod bare_tests;
-#[cfg(test)]
-mod tests;

@@ -21,8 +21,3 @@ pub use reading::read_xef;
 pub use segment::Segment;
 pub use writing::build_xef;
 pub use xef::Xef;
-
-#[cfg(test)]
-mod elf_tests;
-#[cfg(test)]
-mod tests;

@@ -19,6 +19,3 @@ pub use lines::list_lines;
 pub use loaded_system::{BareFault, System, bare};
 pub use reading::unpack;
 pub use writing::pack;
-
-#[cfg(test)]
-mod tests;
