@@ -58,129 +58,140 @@ fn quiet(rt: &impl Abort, conf: &Conf, clock: &mut PlanClock, ticks: Range<u64>)
     }
 }
 
-// The plan, the start of its frame and what is asked.
-fn state(clock: &PlanClock) -> (u8, u64, Option<u8>) {
-    (clock.plan(), clock.frame_start(), clock.asked())
+// A call on the plan clock, and what it gives.
+#[derive(Drop)]
+enum Call {
+    // A plan is asked for.
+    Ask(u8),
+    // The ticks from one on up to another end, none of which enters a plan.
+    Pass(u64, u64),
+    // A tick ends, and enters a plan.
+    End(u64, Option<u8>),
+    // A tick ends by the switch to the maintenance plan.
+    Maintain(u64),
+    // The plan, the start of its frame and what is asked.
+    Stand(u8, u64, Option<u8>),
+    // What runs in a tick, and how many ticks are left of it.
+    See(u64, Option<(u8, u8, bool)>, u64),
 }
 
-#[test]
-fn a_slot_runs_from_its_start_to_its_end(rt: HostRuntime) -> Result<(), Fail> {
-    let conf = configured(&rt, rt.alloc(), &[FULL])?;
-    let clock = PlanClock::start();
-    for (now, slot, left) in [
-        (0, (0, 0, true), 1000),
-        (1, (0, 0, false), 999),
-        (999, (0, 0, false), 1),
-        (1000, (1, 1, true), 1000),
-        (1001, (1, 1, false), 999),
-        (1999, (1, 1, false), 1),
-    ] {
-        assert_eq!(rt;
-            seen(&rt, &conf, &clock, now),
-            (here(Some(slot)), left),
-            "{now}"
-        );
+// A slot runs from its start to its end.
+const SLOTS: [Call; 6] = [
+    Call::See(0, Some((0, 0, true)), 1000),
+    Call::See(1, Some((0, 0, false)), 999),
+    Call::See(999, Some((0, 0, false)), 1),
+    Call::See(1000, Some((1, 1, true)), 1000),
+    Call::See(1001, Some((1, 1, false)), 999),
+    Call::See(1999, Some((1, 1, false)), 1),
+];
+
+// Nothing runs between slots.
+const BETWEEN: [Call; 11] = [
+    Call::See(0, None, 100),
+    Call::See(99, None, 1),
+    Call::See(100, Some((0, 1, true)), 400),
+    Call::See(101, Some((0, 1, false)), 399),
+    Call::See(499, Some((0, 1, false)), 1),
+    Call::See(500, None, 100),
+    Call::See(599, None, 1),
+    Call::See(600, Some((1, 0, true)), 900),
+    Call::See(1499, Some((1, 0, false)), 1),
+    Call::See(1500, None, 500),
+    Call::See(1999, None, 1),
+];
+
+// The plan that was asked for last starts with the next frame.
+const ASKED: [Call; 12] = [
+    Call::Stand(0, 0, None),
+    Call::Pass(0, 10),
+    Call::Ask(1),
+    Call::Pass(10, 20),
+    Call::Stand(0, 0, Some(1)),
+    Call::Ask(2),
+    Call::Pass(20, 1999),
+    Call::Stand(0, 0, Some(2)),
+    Call::End(1999, Some(2)),
+    Call::Stand(2, 2000, None),
+    Call::See(2000, Some((0, 0, true)), 1000),
+    Call::See(3999, Some((1, 1, false)), 1),
+];
+
+// A plan that is asked for in the last tick starts at once.
+const ASKED_LAST: [Call; 8] = [
+    Call::Pass(0, 1999),
+    Call::Ask(1),
+    Call::End(1999, Some(1)),
+    Call::Stand(1, 2000, None),
+    Call::See(2000, None, 100),
+    Call::See(2100, Some((0, 1, true)), 400),
+    Call::Pass(2000, 4000),
+    Call::Stand(1, 4000, None),
+];
+
+// To ask for the plan that runs enters none.
+const ASKED_AGAIN: [Call; 7] = [
+    Call::Ask(0),
+    Call::End(0, None),
+    Call::Stand(0, 1, None),
+    Call::Ask(1),
+    Call::End(1, Some(1)),
+    Call::Stand(1, 2, None),
+    Call::See(2, None, 2),
+];
+
+// Maintenance starts plan 1 with the next tick, and forgets what was asked.
+const MAINTENANCE: [Call; 11] = [
+    Call::Ask(2),
+    Call::Pass(0, 700),
+    Call::Maintain(700),
+    Call::Stand(1, 701, None),
+    Call::See(701, None, 100),
+    Call::Pass(701, 900),
+    Call::Maintain(900),
+    Call::Stand(1, 901, None),
+    Call::See(1001, Some((0, 1, true)), 400),
+    Call::Pass(901, 2901),
+    Call::Stand(1, 2901, None),
+];
+
+// The plans of a configuration, and calls on its plan clock from the first tick on.
+const RUNS: [(&[PlanRow<'static>], &[Call]); 6] = [
+    (&[FULL], &SLOTS),
+    (&[GAPS], &BETWEEN),
+    (&[FULL, GAPS, FULL], &ASKED),
+    (&[FULL, GAPS, FULL], &ASKED_LAST),
+    (&[(1, &[(0, 1, 0)]), (3, &[(2, 1, 1)])], &ASKED_AGAIN),
+    (&[FULL, GAPS, FULL], &MAINTENANCE),
+];
+
+// Does a call, and compares what it gives.
+fn try_call(rt: &impl Abort, conf: &Conf, clock: &mut PlanClock, call: &Call) {
+    match call {
+        Call::Ask(plan) => clock.ask(*plan),
+        Call::Pass(first, end) => quiet(rt, conf, clock, *first..*end),
+        Call::End(now, plan) => assert_eq!(rt; ended(rt, conf, clock, *now), *plan, "{now}"),
+        Call::Maintain(now) => {
+            assert!(rt; *now < u64::MAX, "{now}");
+            clock.to_maintenance(*now);
+        }
+        Call::Stand(plan, begun, asked) => {
+            let state = (clock.plan(), clock.frame_start(), clock.asked());
+            assert_eq!(rt; state, (*plan, *begun, *asked));
+        }
+        Call::See(now, slot, left) => {
+            assert_eq!(rt; seen(rt, conf, clock, *now), (here(*slot), *left), "{now}");
+        }
     }
-    Ok(())
 }
 
 #[test]
-fn nothing_runs_between_slots(rt: HostRuntime) -> Result<(), Fail> {
-    let conf = configured(&rt, rt.alloc(), &[GAPS])?;
-    let clock = PlanClock::start();
-    for (now, slot, left) in [
-        (0, None, 100),
-        (99, None, 1),
-        (100, Some((0, 1, true)), 400),
-        (101, Some((0, 1, false)), 399),
-        (499, Some((0, 1, false)), 1),
-        (500, None, 100),
-        (599, None, 1),
-        (600, Some((1, 0, true)), 900),
-        (1499, Some((1, 0, false)), 1),
-        (1500, None, 500),
-        (1999, None, 1),
-    ] {
-        assert_eq!(rt; seen(&rt, &conf, &clock, now), (here(slot), left), "{now}");
+fn plans_run_at_the_edges_of_their_slots_and_frames(rt: HostRuntime) -> Result<(), Fail> {
+    for (plans, calls) in RUNS {
+        let conf = configured(&rt, rt.alloc(), plans)?;
+        let mut clock = PlanClock::start();
+        for call in calls {
+            try_call(&rt, &conf, &mut clock, call);
+        }
     }
-    Ok(())
-}
-
-#[test]
-fn the_plan_asked_last_starts_with_the_next_frame(rt: HostRuntime) -> Result<(), Fail> {
-    let conf = configured(&rt, rt.alloc(), &[FULL, GAPS, FULL])?;
-    let mut clock = PlanClock::start();
-    assert_eq!(rt; state(&clock), (0, 0, None));
-    quiet(&rt, &conf, &mut clock, 0..10);
-    clock.ask(1);
-    quiet(&rt, &conf, &mut clock, 10..20);
-    assert_eq!(rt; state(&clock), (0, 0, Some(1)));
-    clock.ask(2);
-    quiet(&rt, &conf, &mut clock, 20..1999);
-    assert_eq!(rt; state(&clock), (0, 0, Some(2)));
-    assert_eq!(rt; ended(&rt, &conf, &mut clock, 1999), Some(2));
-    assert_eq!(rt; state(&clock), (2, 2000, None));
-    assert_eq!(rt;
-        seen(&rt, &conf, &clock, 2000),
-        (here(Some((0, 0, true))), 1000)
-    );
-    assert_eq!(rt;
-        seen(&rt, &conf, &clock, 3999),
-        (here(Some((1, 1, false))), 1)
-    );
-    Ok(())
-}
-
-#[test]
-fn a_plan_asked_in_the_last_tick_starts_at_once(rt: HostRuntime) -> Result<(), Fail> {
-    let conf = configured(&rt, rt.alloc(), &[FULL, GAPS, FULL])?;
-    let mut clock = PlanClock::start();
-    quiet(&rt, &conf, &mut clock, 0..1999);
-    clock.ask(1);
-    assert_eq!(rt; ended(&rt, &conf, &mut clock, 1999), Some(1));
-    assert_eq!(rt; state(&clock), (1, 2000, None));
-    assert_eq!(rt; seen(&rt, &conf, &clock, 2000), (None, 100));
-    assert_eq!(rt;
-        seen(&rt, &conf, &clock, 2100),
-        (here(Some((0, 1, true))), 400)
-    );
-    quiet(&rt, &conf, &mut clock, 2000..3999);
-    assert_eq!(rt; ended(&rt, &conf, &mut clock, 3999), None);
-    assert_eq!(rt; state(&clock), (1, 4000, None));
-    Ok(())
-}
-
-#[test]
-fn asking_for_the_plan_that_runs_enters_none(rt: HostRuntime) -> Result<(), Fail> {
-    let conf = configured(&rt, rt.alloc(), &[(1, &[(0, 1, 0)]), (3, &[(2, 1, 1)])])?;
-    let mut clock = PlanClock::start();
-    clock.ask(0);
-    assert_eq!(rt; ended(&rt, &conf, &mut clock, 0), None);
-    assert_eq!(rt; state(&clock), (0, 1, None));
-    clock.ask(1);
-    assert_eq!(rt; ended(&rt, &conf, &mut clock, 1), Some(1));
-    assert_eq!(rt; state(&clock), (1, 2, None));
-    assert_eq!(rt; seen(&rt, &conf, &clock, 2), (None, 2));
-    Ok(())
-}
-
-#[test]
-fn maintenance_starts_plan_1_with_the_next_tick(rt: HostRuntime) -> Result<(), Fail> {
-    let conf = configured(&rt, rt.alloc(), &[FULL, GAPS, FULL])?;
-    let mut clock = PlanClock::start();
-    clock.ask(2);
-    quiet(&rt, &conf, &mut clock, 0..700);
-    clock.to_maintenance(700);
-    assert_eq!(rt; state(&clock), (1, 701, None));
-    assert_eq!(rt; seen(&rt, &conf, &clock, 701), (None, 100));
-    quiet(&rt, &conf, &mut clock, 701..900);
-    clock.to_maintenance(900);
-    assert_eq!(rt; state(&clock), (1, 901, None));
-    assert_eq!(rt;
-        seen(&rt, &conf, &clock, 1001),
-        (here(Some((0, 1, true))), 400)
-    );
-    quiet(&rt, &conf, &mut clock, 901..2901);
-    assert_eq!(rt; state(&clock), (1, 2901, None));
     Ok(())
 }

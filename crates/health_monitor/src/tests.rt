@@ -23,20 +23,7 @@ const OWN_EVENTS: [(u8, Event); 11] = [
 ];
 
 #[test]
-fn every_trap_type_has_its_event(rt: HostRuntime) {
-    for tt in 0..=u8::MAX {
-        let mut event = Event::UnexpectedTrap;
-        for (own, own_event) in OWN_EVENTS {
-            if own == tt {
-                event = own_event;
-            }
-        }
-        assert_eq!(rt; event_of(tt), event, "trap type {tt}");
-    }
-}
-
-#[test]
-fn an_action_comes_to_its_effect(rt: HostRuntime) {
+fn every_action_comes_to_its_effect(rt: HostRuntime) {
     for (action, pass, own, whole) in [
         (Action::Ignore, true, Own::Nothing, Whole::Nothing),
         (Action::Shutdown, true, Own::Shutdown, Whole::Nothing),
@@ -83,10 +70,6 @@ fn an_action_comes_to_its_effect(rt: HostRuntime) {
         assert_eq!(rt; effect(action, true), comes_to);
         assert_eq!(rt; effect(action, false), comes_to);
     }
-}
-
-#[test]
-fn a_trap_is_delivered_only_where_traps_are_enabled(rt: HostRuntime) {
     for (enabled, action, own) in [
         (true, Action::Propagate, Own::Propagate),
         (false, Action::Halt, Own::Halt),
@@ -102,7 +85,16 @@ fn a_trap_is_delivered_only_where_traps_are_enabled(rt: HostRuntime) {
 }
 
 #[test]
-fn the_table_is_read_at_the_number_of_the_event(rt: HostRuntime) {
+fn every_event_has_its_trap_types_and_its_place_in_the_table(rt: HostRuntime) {
+    for tt in 0..=u8::MAX {
+        let mut event = Event::UnexpectedTrap;
+        for (own, own_event) in OWN_EVENTS {
+            if own == tt {
+                event = own_event;
+            }
+        }
+        assert_eq!(rt; event_of(tt), event, "trap type {tt}");
+    }
     let table = HmTable {
         actions: [
             Action::Ignore,
@@ -145,10 +137,6 @@ fn the_table_is_read_at_the_number_of_the_event(rt: HostRuntime) {
         assert_eq!(rt; action_of(&table, event), action);
         assert_eq!(rt; is_logged(&table, event), logged);
     }
-}
-
-#[test]
-fn all_or_nothing_is_logged(rt: HostRuntime) {
     for (logged, each) in [(0, false), (0x0fff, true), (0xf000, false)] {
         let table = HmTable {
             actions: [Action::Halt; 12],

@@ -16,50 +16,45 @@ fn ring_after(rt: &impl Abort, alloc: Global, notes: u32) -> Result<Ring<u32>, M
     Ok(ring)
 }
 
-#[test]
-fn the_counts_are_of_the_last_64(rt: HostRuntime) -> Result<(), Memory> {
-    for (notes, first) in [
-        (0, 0),
-        (1, 0),
-        (63, 0),
-        (64, 0),
-        (65, 1),
-        (70, 6),
-        (128, 64),
-        (200, 136),
-    ] {
-        let ring = ring_after(&rt, rt.alloc(), notes)?;
-        assert_eq!(rt; ring.counts(), Counts { first, next: notes });
-    }
-    Ok(())
-}
+// How many entries were noted, the number of the oldest that is kept, and numbers that are read: whether each is kept.
+type Row = (u32, u32, &'static [(u32, bool)]);
+
+const ROWS: [Row; 8] = [
+    (0, 0, &[(0, false)]),
+    (1, 0, &[(0, true), (1, false)]),
+    (63, 0, &[]),
+    (64, 0, &[(0, true), (63, true), (64, false)]),
+    (65, 1, &[(0, false), (1, true)]),
+    (
+        70,
+        6,
+        &[
+            (0, false),
+            (5, false),
+            (6, true),
+            (37, true),
+            (69, true),
+            (70, false),
+            (u32::MAX, false),
+        ],
+    ),
+    (128, 64, &[]),
+    (
+        200,
+        136,
+        &[(135, false), (136, true), (199, true), (200, false)],
+    ),
+];
 
 #[test]
-fn an_entry_is_read_by_its_number(rt: HostRuntime) -> Result<(), Memory> {
-    for (notes, number, kept) in [
-        (0, 0, false),
-        (1, 0, true),
-        (1, 1, false),
-        (64, 0, true),
-        (64, 63, true),
-        (64, 64, false),
-        (65, 0, false),
-        (65, 1, true),
-        (70, 0, false),
-        (70, 5, false),
-        (70, 6, true),
-        (70, 37, true),
-        (70, 69, true),
-        (70, 70, false),
-        (70, u32::MAX, false),
-        (200, 135, false),
-        (200, 136, true),
-        (200, 199, true),
-        (200, 200, false),
-    ] {
+fn the_last_64_are_kept_and_read_by_their_numbers(rt: HostRuntime) -> Result<(), Memory> {
+    for (notes, first, numbers) in ROWS {
         let ring = ring_after(&rt, rt.alloc(), notes)?;
-        let entry = if kept { Some(!number) } else { None };
-        assert_eq!(rt; ring.read(number), entry, "{number} of {notes}");
+        assert_eq!(rt; ring.counts(), Counts { first, next: notes });
+        for (number, kept) in numbers {
+            let entry = if *kept { Some(!*number) } else { None };
+            assert_eq!(rt; ring.read(*number), entry, "{number} of {notes}");
+        }
     }
     Ok(())
 }
