@@ -103,136 +103,46 @@ fn conf(alloc: Global) -> Result<Option<Conf>, AllocError>
 }
 
 /// The memories of the two partitions.
-fn ram(rt: &impl Abort, alloc: Global) -> Result<Ram, Memory>
+fn fresh(rt: &impl Abort, alloc: Global) -> Result<Ram, Memory>
     ensures { IfOk result (λ ram. length ram.areas ≡ 2) }
 {
     let conf = conf(alloc)?.expect(rt, "a configuration");
     Ram::new(alloc, &conf)
 }
 
-/// What the selected partition sees at the edges of its areas.
-#[test]
-fn accesses_are_refused_at_the_edges_of_areas(rt: HostRuntime) -> Result<(), Fail> {
-    let mut ram = ram(&rt, rt.alloc())?;
-    for (address, size, load, store) in [
-        (0x4010_0000, Size::Eight, Ok(0), Ok(())),
-        (0x4010_1ffc, Size::Four, Ok(0), Ok(())),
-        (0x4010_1fff, Size::One, Ok(0), Ok(())),
-        (
-            0x4010_1fff,
-            Size::Four,
-            Err(BusFault::Unaligned),
-            Err(BusFault::Unaligned),
-        ),
-        (0x4010_2000, Size::Two, Ok(0), Err(BusFault::Outside)),
-        (0x4010_2fff, Size::One, Ok(0), Err(BusFault::Outside)),
-        // The first byte of the second partition.
-        (
-            0x4010_3000,
-            Size::One,
-            Err(BusFault::Outside),
-            Err(BusFault::Outside),
-        ),
-        (
-            0x400f_fff8,
-            Size::Eight,
-            Err(BusFault::Outside),
-            Err(BusFault::Outside),
-        ),
-        (
-            0xffff_fff8,
-            Size::Eight,
-            Err(BusFault::Outside),
-            Err(BusFault::Outside),
-        ),
-    ] {
-        assert_eq!(rt; ram.load(address, size), load, "load at {address}");
-        assert_eq!(rt; ram.store(address, size, 0), store, "store at {address}");
-    }
-    assert_eq!(rt; ram.fetch(0x4010_2ffc), Ok(0));
-    assert_eq!(rt; ram.fetch(0x4010_3000), Err(BusFault::Outside));
-    assert_eq!(rt; ram.fetch(0x4010_0002), Err(BusFault::Unaligned));
-    Ok(())
-}
-
-/// Ranges of the first partition: an address, and what reading and writing four bytes there answers.
-const RANGES: [(u32, Result<(), u32>, Result<(), u32>); 8] = [
-    (0x4010_0000, Ok(()), Ok(())),
-    // From one area into the next.
-    (0x4010_0ffe, Ok(()), Ok(())),
-    // The last that may be written, and the first that may not.
-    (0x4010_1ffc, Ok(()), Ok(())),
-    (0x4010_1ffd, Ok(()), Err(0x4010_2000)),
-    // The last that may be read, and the first that may not.
-    (0x4010_2ffc, Ok(()), Err(0x4010_2ffc)),
-    (0x4010_2ffd, Err(0x4010_3000), Err(0x4010_2ffd)),
+/// The edges of the first partition's areas: an address, a size, and what a load and a store there answer.
+const EDGES: [(u32, Size, Result<u64, BusFault>, Result<(), BusFault>); 9] = [
+    (0x4010_0000, Size::Eight, Ok(0), Ok(())),
+    (0x4010_1ffc, Size::Four, Ok(0), Ok(())),
+    (0x4010_1fff, Size::One, Ok(0), Ok(())),
+    (
+        0x4010_1fff,
+        Size::Four,
+        Err(BusFault::Unaligned),
+        Err(BusFault::Unaligned),
+    ),
+    (0x4010_2000, Size::Two, Ok(0), Err(BusFault::Outside)),
+    (0x4010_2fff, Size::One, Ok(0), Err(BusFault::Outside)),
     // The first byte of the second partition.
-    (0x4010_3000, Err(0x4010_3000), Err(0x4010_3000)),
-    (0xffff_ffff, Err(0xffff_ffff), Err(0xffff_ffff)),
+    (
+        0x4010_3000,
+        Size::One,
+        Err(BusFault::Outside),
+        Err(BusFault::Outside),
+    ),
+    (
+        0x400f_fff8,
+        Size::Eight,
+        Err(BusFault::Outside),
+        Err(BusFault::Outside),
+    ),
+    (
+        0xffff_fff8,
+        Size::Eight,
+        Err(BusFault::Outside),
+        Err(BusFault::Outside),
+    ),
 ];
-
-#[test]
-fn a_copy_is_refused_at_its_first_byte_that_is_not_allowed(rt: HostRuntime) -> Result<(), Fail> {
-    for (address, read, write) in RANGES {
-        let mut ram = ram(&rt, rt.alloc())?;
-        let mut into = [9; 4];
-        let copied = ram.copy_in(0, address, &mut into);
-        assert_eq!(rt;
-            copied,
-            read.map_err(|address| Outside { address }),
-            "read at {address}"
-        );
-        assert_eq!(rt;
-            ram.may_read(0, address, 4),
-            read.is_ok(),
-            "read at {address}"
-        );
-        assert_eq!(rt;
-            ram.may_write(0, address, 4),
-            write.is_ok(),
-            "write at {address}"
-        );
-        let copied = ram.copy_out(0, address, &[1, 2, 3, 4]);
-        assert_eq!(rt;
-            copied,
-            write.map_err(|address| Outside { address }),
-            "write at {address}"
-        );
-    }
-    Ok(())
-}
-
-#[test]
-fn a_range_past_the_last_address_is_refused_at_address_0(rt: HostRuntime) -> Result<(), Fail> {
-    for (address, count, answer) in [
-        (0xffff_f000, 4, Ok(())),
-        (0xffff_fffc, 4, Ok(())),
-        (0xffff_fffd, 4, Err(0)),
-        (0xffff_ffff, 4, Err(0)),
-        // Before the last page.
-        (0xffff_effe, 4, Err(0xffff_effe)),
-    ] {
-        let mut ram = ram(&rt, rt.alloc())?;
-        let mut into = [9; 4];
-        let answer = answer.map_err(|address| Outside { address });
-        assert_eq!(rt;
-            ram.copy_in(1, address, &mut into),
-            answer,
-            "read at {address}"
-        );
-        assert_eq!(rt;
-            ram.may_write(1, address, count),
-            answer.is_ok(),
-            "write at {address}"
-        );
-        assert_eq!(rt;
-            ram.copy_out(1, address, &[1, 2, 3, 4]),
-            answer,
-            "write at {address}"
-        );
-    }
-    Ok(())
-}
 
 /// A value whose eight bytes differ, and what is there when it was stored in a size: the value that a load of this
 /// size gives, and all eight bytes from the address on.
@@ -244,9 +154,17 @@ const STORED: [(Size, u64, u64); 4] = [
 ];
 
 #[test]
-fn a_store_writes_the_low_bytes_the_highest_first(rt: HostRuntime) -> Result<(), Fail> {
+fn a_processor_loads_and_stores_within_areas(rt: HostRuntime) -> Result<(), Fail> {
+    let mut ram = fresh(&rt, rt.alloc())?;
+    for (address, size, load, store) in EDGES {
+        assert_eq!(rt; ram.load(address, size), load, "load at {address}");
+        assert_eq!(rt; ram.store(address, size, 0), store, "store at {address}");
+    }
+    assert_eq!(rt; ram.fetch(0x4010_2ffc), Ok(0));
+    assert_eq!(rt; ram.fetch(0x4010_3000), Err(BusFault::Outside));
+    assert_eq!(rt; ram.fetch(0x4010_0002), Err(BusFault::Unaligned));
     for (size, value, eight) in STORED {
-        let mut ram = ram(&rt, rt.alloc())?;
+        let mut ram = fresh(&rt, rt.alloc())?;
         let bytes = size.bytes();
         assert_eq!(rt; ram.store(0x4010_0ff8, size, 0x1122_3344_5566_7788), Ok(()));
         assert_eq!(rt; ram.load(0x4010_0ff8, size), Ok(value), "{bytes} bytes");
@@ -275,26 +193,57 @@ fn a_store_writes_the_low_bytes_the_highest_first(rt: HostRuntime) -> Result<(),
     Ok(())
 }
 
+/// Ranges: a partition, an address, and what reading and writing four bytes there answers.
+const RANGES: [(PartId, u32, Result<(), u32>, Result<(), u32>); 13] = [
+    (0, 0x4010_0000, Ok(()), Ok(())),
+    // From one area into the next.
+    (0, 0x4010_0ffe, Ok(()), Ok(())),
+    // The last that may be written, and the first that may not.
+    (0, 0x4010_1ffc, Ok(()), Ok(())),
+    (0, 0x4010_1ffd, Ok(()), Err(0x4010_2000)),
+    // The last that may be read, and the first that may not.
+    (0, 0x4010_2ffc, Ok(()), Err(0x4010_2ffc)),
+    (0, 0x4010_2ffd, Err(0x4010_3000), Err(0x4010_2ffd)),
+    // The first byte of the second partition.
+    (0, 0x4010_3000, Err(0x4010_3000), Err(0x4010_3000)),
+    (0, 0xffff_ffff, Err(0xffff_ffff), Err(0xffff_ffff)),
+    // Up to the last address and past it.
+    (1, 0xffff_f000, Ok(()), Ok(())),
+    (1, 0xffff_fffc, Ok(()), Ok(())),
+    (1, 0xffff_fffd, Err(0), Err(0)),
+    (1, 0xffff_ffff, Err(0), Err(0)),
+    // Before the last page.
+    (1, 0xffff_effe, Err(0xffff_effe), Err(0xffff_effe)),
+];
+
 #[test]
-fn a_partition_has_bytes_in_its_areas_alone(rt: HostRuntime) -> Result<(), Fail> {
-    let ram = ram(&rt, rt.alloc())?;
-    for (p, address, byte) in [
-        (0, 0x400f_ffff, None),
-        (0, 0x4010_0000, Some(0)),
-        (0, 0x4010_1000, Some(0)),
-        // The area that may only be read.
-        (0, 0x4010_2fff, Some(0)),
-        (0, 0x4010_3000, None),
-        (0, 0xffff_ffff, None),
-        (1, 0x4010_2fff, None),
-        (1, 0x4010_3000, Some(0)),
-        (1, 0x4010_3fff, Some(0)),
-        (1, 0x4010_4000, None),
-        (1, 0xffff_efff, None),
-        (1, 0xffff_ffff, Some(0)),
-    ] {
+fn a_copy_is_refused_at_its_first_byte_that_is_not_allowed(rt: HostRuntime) -> Result<(), Fail> {
+    for (p, address, read, write) in RANGES {
         let p: PartId = p & 1;
-        assert_eq!(rt; ram.byte(p, address), byte, "partition {p} at {address}");
+        let mut ram = fresh(&rt, rt.alloc())?;
+        let mut into = [9; 4];
+        let copied = ram.copy_in(p, address, &mut into);
+        assert_eq!(rt;
+            copied,
+            read.map_err(|address| Outside { address }),
+            "read at {address}"
+        );
+        assert_eq!(rt;
+            ram.may_read(p, address, 4),
+            read.is_ok(),
+            "read at {address}"
+        );
+        assert_eq!(rt;
+            ram.may_write(p, address, 4),
+            write.is_ok(),
+            "write at {address}"
+        );
+        let copied = ram.copy_out(p, address, &[1, 2, 3, 4]);
+        assert_eq!(rt;
+            copied,
+            write.map_err(|address| Outside { address }),
+            "write at {address}"
+        );
     }
     Ok(())
 }
@@ -310,13 +259,34 @@ fn put(ram: &mut Ram, p: PartId, address: u32, from: &[u8]) -> bool
     }
 }
 
+/// Stores a word of ones for the selected partition. Where that is allowed, it gives a byte of the first partition.
+fn first_after_store(ram: &mut Ram, address: u32, seen: u32) -> Option<u8> {
+    match ram.store(address, Size::Four, 0xffff_ffff) {
+        Ok(()) => ram.byte(0, seen),
+        Err(_) => None,
+    }
+}
+
+/// The partition that is selected, and what a processor loads at the start of the first partition and of the second.
+const SEEN: [(PartId, Result<u64, BusFault>, Result<u64, BusFault>); 2] = [
+    (0, Ok(0x0102_0304), Err(BusFault::Outside)),
+    (1, Err(BusFault::Outside), Ok(0x0506_0708)),
+];
+
+/// The partition that is selected, an address at which a word of ones is stored, and the first byte of the first partition behind a store that is allowed.
+const CHANGED: [(PartId, u32, Option<u8>); 5] = [
+    (0, 0x4010_0000, Some(0xff)),
+    (1, 0x4010_3000, Some(1)),
+    (1, 0xffff_fffc, Some(1)),
+    // An address of the other partition.
+    (0, 0x4010_3000, None),
+    (1, 0x4010_0000, None),
+];
+
 #[test]
-fn a_processor_sees_the_selected_partition_alone(rt: HostRuntime) -> Result<(), Fail> {
-    for (p, first, second) in [
-        (0, Ok(0x0102_0304), Err(BusFault::Outside)),
-        (1, Err(BusFault::Outside), Ok(0x0506_0708)),
-    ] {
-        let mut ram = ram(&rt, rt.alloc())?;
+fn a_processor_sees_and_changes_the_selected_partition_alone(rt: HostRuntime) -> Result<(), Fail> {
+    for (p, first, second) in SEEN {
+        let mut ram = fresh(&rt, rt.alloc())?;
         assert!(rt; put(&mut ram, 0, 0x4010_0000, &[1, 2, 3, 4]));
         assert!(rt; put(&mut ram, 1, 0x4010_3000, &[5, 6, 7, 8]));
         ram.select(p & 1);
@@ -329,28 +299,8 @@ fn a_processor_sees_the_selected_partition_alone(rt: HostRuntime) -> Result<(), 
         assert_eq!(rt; ram.load(0x4010_0000, Size::Four), first, "partition {p}");
         assert_eq!(rt; ram.load(0x4010_3000, Size::Four), second, "partition {p}");
     }
-    Ok(())
-}
-
-/// Stores a word of ones for the selected partition. Where that is allowed, it gives a byte of the first partition.
-fn first_after_store(ram: &mut Ram, address: u32, seen: u32) -> Option<u8> {
-    match ram.store(address, Size::Four, 0xffff_ffff) {
-        Ok(()) => ram.byte(0, seen),
-        Err(_) => None,
-    }
-}
-
-#[test]
-fn a_store_changes_the_selected_partition_alone(rt: HostRuntime) -> Result<(), Fail> {
-    for (p, address, byte) in [
-        (0, 0x4010_0000, Some(0xff)),
-        (1, 0x4010_3000, Some(1)),
-        (1, 0xffff_fffc, Some(1)),
-        // An address of the other partition.
-        (0, 0x4010_3000, None),
-        (1, 0x4010_0000, None),
-    ] {
-        let mut ram = ram(&rt, rt.alloc())?;
+    for (p, address, byte) in CHANGED {
+        let mut ram = fresh(&rt, rt.alloc())?;
         assert!(rt; put(&mut ram, 0, 0x4010_0000, &[1, 2, 3, 4]));
         ram.select(p & 1);
         let first = first_after_store(&mut ram, address, 0x4010_0000);
@@ -395,29 +345,55 @@ fn reload(ram: &mut Ram, system: &System, p: PartId)
     ram.reload(p, system.image(p));
 }
 
+/// A partition, an address, and the byte there, where it has one.
+const HELD: [(PartId, u32, Option<u8>); 12] = [
+    (0, 0x400f_ffff, None),
+    (0, 0x4010_0000, Some(0)),
+    (0, 0x4010_1000, Some(0)),
+    // The area that may only be read.
+    (0, 0x4010_2fff, Some(0)),
+    (0, 0x4010_3000, None),
+    (0, 0xffff_ffff, None),
+    (1, 0x4010_2fff, None),
+    (1, 0x4010_3000, Some(0)),
+    (1, 0x4010_3fff, Some(0)),
+    (1, 0x4010_4000, None),
+    (1, 0xffff_efff, None),
+    (1, 0xffff_ffff, Some(0)),
+];
+
+/// A partition, an address, and the byte there behind a reload of the first one.
+const RELOADED: [(PartId, u32, u8); 9] = [
+    (0, 0x4010_0000, 1),
+    (0, 0x4010_0004, 5),
+    // Behind the bytes of a segment, and behind the segment.
+    (0, 0x4010_0005, 0),
+    (0, 0x4010_0008, 0),
+    // The next area, which has no segment.
+    (0, 0x4010_1fff, 0),
+    // The area that may only be read.
+    (0, 0x4010_2ff8, 6),
+    (0, 0x4010_2ff9, 0),
+    // The other partition.
+    (1, 0x4010_3000, 9),
+    (1, 0x4010_300f, 9),
+];
+
 #[test]
-fn a_reload_leaves_the_image_and_zeros(rt: HostRuntime) -> Result<(), Fail> {
+fn a_partition_has_bytes_in_its_areas_and_a_reload_leaves_its_image_and_zeros(
+    rt: HostRuntime,
+) -> Result<(), Fail> {
     let system = system(&rt, rt.alloc())?;
     let mut ram = Ram::new(rt.alloc(), system.conf())?;
+    for (p, address, byte) in HELD {
+        let p: PartId = p & 1;
+        assert_eq!(rt; ram.byte(p, address), byte, "partition {p} at {address}");
+    }
     assert!(rt; put(&mut ram, 0, 0x4010_0000, &[9; 16]));
     assert!(rt; put(&mut ram, 0, 0x4010_1ffc, &[9; 4]));
     assert!(rt; put(&mut ram, 1, 0x4010_3000, &[9; 16]));
     reload(&mut ram, &system, 0);
-    for (p, address, byte) in [
-        (0, 0x4010_0000, 1),
-        (0, 0x4010_0004, 5),
-        // Behind the bytes of a segment, and behind the segment.
-        (0, 0x4010_0005, 0),
-        (0, 0x4010_0008, 0),
-        // The next area, which has no segment.
-        (0, 0x4010_1fff, 0),
-        // The area that may only be read.
-        (0, 0x4010_2ff8, 6),
-        (0, 0x4010_2ff9, 0),
-        // The other partition.
-        (1, 0x4010_3000, 9),
-        (1, 0x4010_300f, 9),
-    ] {
+    for (p, address, byte) in RELOADED {
         let p: PartId = p & 1;
         assert_eq!(rt;
             ram.byte(p, address),
