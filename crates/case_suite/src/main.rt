@@ -22,7 +22,7 @@ use trial::tried;
 const WORKED: &str = "worked.toml";
 
 // The files of cases, in the order in which they are done.
-const BOOKS: [&str; 10] = [
+const BOOKS: [&str; 14] = [
     "raw_images.toml",
     "descriptions.toml",
     "rules.toml",
@@ -32,6 +32,7 @@ const BOOKS: [&str; 10] = [
     "images.toml",
     "container_files.toml",
     "runs.toml",
+    "machines.toml",
     "outside.toml",
     "words.toml",
     "texts.toml",

@@ -13,6 +13,3 @@ pub use machine::Machine;
 pub use machine_model::two_runs;
 pub use run::{Ran, RunFault};
 pub use xm_report::{Line, Move, WriteFault, put_line};
-
-#[cfg(test)]
-mod tests;
