@@ -4,10 +4,12 @@
 ghost use Rattle.std.specs.Prelude.{◌≡◌, OnOk};
 
 use anyhow::{Context, Result, bail};
+use loaded_system::bare;
 use std::alloc::Global;
 use std::fs;
+use xm_base::TICKS;
 use xm_commands::{Status, xm_main};
-use xm_machine::Board;
+use xm_machine::{Board, Machine};
 use xm_outside::{MemStore, OutSink, Sink};
 use xm_words::Words;
 
@@ -56,7 +58,30 @@ fn main(rt: HostRuntime) -> Result<()> {
         println!(rt; "$ xm_run {call}")?;
         carry_out(rt.alloc(), call, &mut files, &mut out, &mut err)?;
     }
+    println!(rt; "hello.bin, tick by tick")?;
+    let image = fs::read(&rt, "hello.bin")?;
+    let machine = ticked(rt.alloc(), &image, 24, &mut out)?;
+    println!(rt;
+        "parts={} ticks={} halted={}",
+        machine.sys().count(),
+        machine.done(),
+        machine.halted()
+    )?;
     Ok(())
+}
+
+// The machine of a raw image after so many ticks, whose lines go out.
+fn ticked<O: Sink>(alloc: Global, image: &[u8], ticks: u64, out: &mut O) -> Result<Machine> {
+    let system = bare(alloc, image).ok().context("no system")?;
+    let mut machine = Machine::boot(alloc, system).ok().context(NO_MEMORY)?;
+    for _ in 0..ticks {
+        if machine.done() == TICKS {
+            break;
+        }
+        let told = machine.tick(out, &mut Board::new());
+        told.ok().context("a tick was not done")?;
+    }
+    Ok(machine)
 }
 
 // Does what a call says, or tells that it was not done.
