@@ -2,7 +2,8 @@
 //! not.
 #![tactic(auto)]
 
-mod book;
+mod case;
+mod entry;
 mod making;
 mod recipe;
 mod tally;
@@ -11,11 +12,14 @@ mod verdict;
 mod wanted;
 
 use anyhow::{Context, Result};
-use book::{Book, Group};
+use case::Case;
+use entry::{Entry, entry_of};
 use making::{Shelf, read_data};
+use recipe::Recipe;
 use std::alloc::Global;
 use std::fs::Files;
 use tally::Tally;
+use toml::{Table, Value};
 use trial::tried;
 
 // The files that the cases of all others may use.
@@ -39,29 +43,41 @@ const BOOKS: [&str; 14] = [
     "configurations.toml",
 ];
 
+// The keys of a group.
+const GROUP_KEYS: [&str; 11] = [
+    "name", "call", "words", "before", "file", "make", "status", "of_file", "output", "fails",
+    "case",
+];
+
 fn main(rt: HostRuntime) -> Result<()> {
     let mut shelf = Shelf::new(rt.alloc());
-    let worked = read_book(&rt, rt.alloc(), WORKED)?;
-    fill(&rt, rt.alloc(), &worked, &mut shelf)?;
+    let worked = read_table(&rt, rt.alloc(), WORKED)?;
+    fill(&rt, rt.alloc(), Entry::new(&worked), &mut shelf)?;
     let mut all = Tally::new();
     for name in BOOKS {
-        let book = read_book(&rt, rt.alloc(), name)?;
-        all.add(do_book(&rt, rt.alloc(), &book, &mut shelf)?);
+        let book = read_table(&rt, rt.alloc(), name)?;
+        all.add(do_book(&rt, rt.alloc(), Entry::new(&book), &mut shelf).context(name)?);
     }
     println!(rt; "all: {all}")?;
     Ok(())
 }
 
 // Reads a file of the data folder.
-fn read_book(rt: &impl Files, alloc: Global, name: &str) -> Result<Book> {
+fn read_table(rt: &impl Files, alloc: Global, name: &str) -> Result<Table> {
     let text = read_data(rt, alloc, name).context(name)?;
-    toml::from_slice(alloc, &text).context(name)
+    toml::table_from_slice(alloc, &text).context(name)
 }
 
 // Makes the files of a book; one that cannot be made is printed, and the cases that name it cannot be done.
-fn fill(rt: &(impl Files + Print), alloc: Global, book: &Book, shelf: &mut Shelf) -> Result<()> {
-    for making in &book.file {
-        if let Err(error) = shelf.put(rt, alloc, making) {
+fn fill(
+    rt: &(impl Files + Print),
+    alloc: Global,
+    book: Entry<'_>,
+    shelf: &mut Shelf,
+) -> Result<()> {
+    for file in book.list("file")?.unwrap_or(&[]) {
+        let recipe = Recipe::new(entry_of(file)?, None)?;
+        if let Err(error) = shelf.put(rt, alloc, recipe) {
             println!(rt; "a file cannot be made: {error:#}")?;
         }
     }
@@ -72,42 +88,58 @@ fn fill(rt: &(impl Files + Print), alloc: Global, book: &Book, shelf: &mut Shelf
 fn do_book(
     rt: &(impl Files + Print),
     alloc: Global,
-    book: &Book,
+    book: Entry<'_>,
     shelf: &mut Shelf,
 ) -> Result<Tally> {
+    book.has_only(&["file", "group"])?;
     let shared = shelf.count();
     fill(rt, alloc, book, shelf)?;
     let mut all = Tally::new();
-    for group in &book.group {
-        let tally = do_group(rt, alloc, shelf, group)?;
-        println!(rt; "{}: {tally}", group.name)?;
-        all.add(tally);
+    for group in book.list("group")?.unwrap_or(&[]) {
+        all.add(do_group(rt, alloc, shelf, entry_of(group)?)?);
     }
     shelf.keep(shared);
     Ok(all)
 }
 
-// Does the cases of a group, and prints those that do not hold.
+// Does the cases of a group, and prints how many hold.
 fn do_group(
     rt: &(impl Files + Print),
     alloc: Global,
     shelf: &Shelf,
-    group: &Group,
+    group: Entry<'_>,
 ) -> Result<Tally> {
+    group.has_only(&GROUP_KEYS)?;
+    let name = group.text("name")?.context("a group has no name")?;
     let mut tally = Tally::new();
-    for case in &group.case {
-        match tried(rt, alloc, shelf, group, case) {
-            Ok(verdict) => {
-                tally.count(verdict.lines().is_empty());
-                for line in verdict.lines() {
-                    println!(rt; "{}, {}: {line}", group.name, case.shows)?;
-                }
+    for case in group.list("case")?.unwrap_or(&[]) {
+        tally.count(holds(rt, alloc, shelf, name, group, case)?);
+    }
+    println!(rt; "{name}: {tally}")?;
+    Ok(tally)
+}
+
+// Does a case, answers whether it holds, and prints how it differs.
+fn holds(
+    rt: &(impl Files + Print),
+    alloc: Global,
+    shelf: &Shelf,
+    name: &str,
+    group: Entry<'_>,
+    case: &Value,
+) -> Result<bool> {
+    let case = Case::new(entry_of(case)?, group).context(name)?;
+    let shows = case.shows().context(name)?;
+    match tried(rt, alloc, shelf, case) {
+        Ok(verdict) => {
+            for line in verdict.lines() {
+                println!(rt; "{name}, {shows}: {line}")?;
             }
-            Err(error) => {
-                tally.count(false);
-                println!(rt; "{}, {}: cannot be done: {error:#}", group.name, case.shows)?;
-            }
+            Ok(verdict.lines().is_empty())
+        }
+        Err(error) => {
+            println!(rt; "{name}, {shows}: cannot be done: {error:#}")?;
+            Ok(false)
         }
     }
-    Ok(tally)
 }

@@ -1,6 +1,6 @@
 //! The bytes of files, as their recipes say.
 
-use crate::book::{Insert, Making, Program};
+use crate::entry::{Entry, number_of, pair_of, text_of};
 use crate::recipe::{Recipe, Source};
 use anyhow::{Context, Result, bail};
 use std::alloc::Global;
@@ -27,9 +27,8 @@ impl Shelf {
     }
 
     /// Makes a file, and keeps it.
-    pub(crate) fn put(&mut self, rt: &impl Files, alloc: Global, making: &Making) -> Result<()> {
-        let recipe = Recipe::new(making);
-        let name = recipe.name.context("a file has no name")?;
+    pub(crate) fn put(&mut self, rt: &impl Files, alloc: Global, recipe: Recipe<'_>) -> Result<()> {
+        let name = recipe.name()?;
         let bytes = made(rt, alloc, recipe, self).context(name)?;
         self.files.push((String::from_str(alloc, name)?, bytes))?;
         Ok(())
@@ -64,20 +63,13 @@ pub(crate) fn made(
     shelf: &Shelf,
 ) -> Result<Vec<u8>> {
     let mut bytes = raw(rt, alloc, recipe, shelf)?;
-    if let Some(length) = recipe.length {
-        bytes.resize(length, recipe.fill.unwrap_or(0))?;
-    }
-    for (place, value) in recipe.bytes {
-        let byte = bytes.get_mut(*place).context("no byte is at that place")?;
-        *byte = *value;
-    }
-    for (old, new) in recipe.replace {
-        bytes = replaced(alloc, &bytes, old, new)?;
-    }
-    if let Some(insert) = recipe.insert {
+    resize(&mut bytes, recipe)?;
+    set_bytes(&mut bytes, recipe)?;
+    let mut bytes = replaced_all(alloc, bytes, recipe)?;
+    if let Some(insert) = recipe.entry("insert")? {
         bytes = inserted(alloc, &bytes, insert)?;
     }
-    if let Some(digits) = recipe.append_hex {
+    if let Some(digits) = recipe.text("append_hex")? {
         bytes.extend_from_slice(&of_hex(alloc, digits)?)?;
     }
     Ok(bytes)
@@ -85,13 +77,43 @@ pub(crate) fn made(
 
 // The bytes of a recipe's source.
 fn raw(rt: &impl Files, alloc: Global, recipe: Recipe<'_>, shelf: &Shelf) -> Result<Vec<u8>> {
-    match recipe.source.context("not exactly one source")? {
+    match recipe.source()? {
         Source::Hex(digits) => of_hex(alloc, digits),
         Source::Text(text) => Ok(Vec::from_slice(alloc, text.as_bytes())?),
         Source::Data(name) => read_data(rt, alloc, name),
         Source::Of(name) => Ok(Vec::from_slice(alloc, shelf.get(name)?)?),
         Source::Program(program) => program_file(alloc, program),
     }
+}
+
+// Cuts the bytes, or fills them up.
+fn resize(bytes: &mut Vec<u8>, recipe: Recipe<'_>) -> Result<()> {
+    if let Some(length) = recipe.number("length")? {
+        let fill = u8::try_from(recipe.number("fill")?.unwrap_or(0))?;
+        bytes.resize(usize::try_from(length)?, fill)?;
+    }
+    Ok(())
+}
+
+// Puts other bytes at their places.
+fn set_bytes(bytes: &mut [u8], recipe: Recipe<'_>) -> Result<()> {
+    for change in recipe.list("bytes")? {
+        let (place, value) = pair_of(change)?;
+        let place = usize::try_from(number_of(place)?)?;
+        let byte = bytes.get_mut(place).context("no byte is at that place")?;
+        *byte = u8::try_from(number_of(value)?)?;
+    }
+    Ok(())
+}
+
+// Puts other texts in the place of some.
+fn replaced_all(alloc: Global, bytes: Vec<u8>, recipe: Recipe<'_>) -> Result<Vec<u8>> {
+    let mut bytes = bytes;
+    for change in recipe.list("replace")? {
+        let (old, new) = pair_of(change)?;
+        bytes = replaced(alloc, &bytes, text_of(old)?, text_of(new)?)?;
+    }
+    Ok(bytes)
 }
 
 /// The bytes of a file of the data folder.
@@ -113,9 +135,11 @@ fn of_hex(alloc: Global, digits: &str) -> Result<Vec<u8>> {
 }
 
 // A program file of one header, which loads words from behind the headers and enters them.
-fn program_file(alloc: Global, program: &Program) -> Result<Vec<u8>> {
-    let start = u32::from_str_radix(&program.start, 16)?;
-    let words = of_hex(alloc, &program.words)?;
+fn program_file(alloc: Global, program: Entry<'_>) -> Result<Vec<u8>> {
+    program.has_only(&["start", "words"])?;
+    let start = program.text("start")?.context("no start")?;
+    let start = u32::from_str_radix(start, 16)?;
+    let words = of_hex(alloc, program.text("words")?.context("no words")?)?;
     let size = u32::try_from(words.len())?;
     let header = [1, 84, start, start, size, size, 7, 4];
     let mut bytes = Vec::new(alloc);
@@ -141,22 +165,25 @@ fn replaced(alloc: Global, bytes: &[u8], old: &str, new: &str) -> Result<Vec<u8>
 }
 
 // A text with a part for each number before the first occurrence of another one.
-fn inserted(alloc: Global, bytes: &[u8], insert: &Insert) -> Result<Vec<u8>> {
-    let text = str::from_utf8(bytes)?;
-    let Some((before, after)) = text.split_once(&insert.before) else {
-        bail!("no {} is to be found", insert.before);
+fn inserted(alloc: Global, bytes: &[u8], insert: Entry<'_>) -> Result<Vec<u8>> {
+    insert.has_only(&["before", "text", "from", "to"])?;
+    let mark = insert.text("before")?.context("no before")?;
+    let part = insert.text("text")?.context("no text")?;
+    let Some((before, after)) = str::from_utf8(bytes)?.split_once(mark) else {
+        bail!("no {mark} is to be found");
     };
     let mut bytes = Vec::from_slice(alloc, before.as_bytes())?;
-    for number in insert.from..insert.to {
-        put_numbered(alloc, &mut bytes, &insert.text, number)?;
+    let from = insert.number("from")?.context("no from")?;
+    for number in from..insert.number("to")?.context("no to")? {
+        put_numbered(alloc, &mut bytes, part, number)?;
     }
-    bytes.extend_from_slice(insert.before.as_bytes())?;
+    bytes.extend_from_slice(mark.as_bytes())?;
     bytes.extend_from_slice(after.as_bytes())?;
     Ok(bytes)
 }
 
 // Puts a part, with a number for each `#`, and its two last digits for each `@`.
-fn put_numbered(alloc: Global, bytes: &mut Vec<u8>, part: &str, number: u32) -> Result<()> {
+fn put_numbered(alloc: Global, bytes: &mut Vec<u8>, part: &str, number: u64) -> Result<()> {
     let decimal = format!(in alloc; "{number}")?;
     let two = format!(in alloc; "{:02}", number % 100)?;
     for byte in part.as_bytes() {

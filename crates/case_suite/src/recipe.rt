@@ -1,6 +1,24 @@
-//! What a file is made of: its own making, completed by its group's.
+//! What a file is made of: what a table says, completed by another one.
 
-use crate::book::{Insert, Making, Program};
+use crate::entry::Entry;
+use anyhow::{Context, Result, bail};
+use toml::Value;
+
+// The keys of a recipe.
+const KEYS: [&str; 12] = [
+    "name",
+    "hex",
+    "text",
+    "data",
+    "of",
+    "program",
+    "length",
+    "fill",
+    "bytes",
+    "replace",
+    "insert",
+    "append_hex",
+];
 
 /// A source of bytes.
 #[derive(Clone, Copy)]
@@ -9,83 +27,81 @@ pub(crate) enum Source<'a> {
     Text(&'a str),
     Data(&'a str),
     Of(&'a str),
-    Program(&'a Program),
+    Program(Entry<'a>),
 }
 
 /// A file's name, its source and its changes.
 #[derive(Clone, Copy)]
 pub(crate) struct Recipe<'a> {
-    pub(crate) name: Option<&'a str>,
-    pub(crate) source: Option<Source<'a>>,
-    pub(crate) length: Option<usize>,
-    pub(crate) fill: Option<u8>,
-    pub(crate) bytes: &'a [(usize, u8)],
-    pub(crate) replace: &'a [(String, String)],
-    pub(crate) insert: Option<&'a Insert>,
-    pub(crate) append_hex: Option<&'a str>,
+    own: Entry<'a>,
+    base: Option<Entry<'a>>,
 }
 
 impl<'a> Recipe<'a> {
-    /// What a making says.
-    pub(crate) fn new(making: &'a Making) -> Recipe<'a> {
-        Recipe {
-            name: making.name.as_deref(),
-            source: named_source(making),
-            length: making.length,
-            fill: making.fill,
-            bytes: &making.bytes,
-            replace: &making.replace,
-            insert: making.insert.as_ref(),
-            append_hex: making.append_hex.as_deref(),
+    /// What a table says, and where it says nothing, what the base says.
+    pub(crate) fn new(own: Entry<'a>, base: Option<Entry<'a>>) -> Result<Recipe<'a>> {
+        own.has_only(&KEYS)?;
+        if let Some(base) = base {
+            base.has_only(&KEYS)?;
+        }
+        Ok(Recipe { own, base })
+    }
+
+    pub(crate) fn name(self) -> Result<&'a str> {
+        self.text("name")?.context("a file has no name")
+    }
+
+    /// The one source of its bytes.
+    pub(crate) fn source(self) -> Result<Source<'a>> {
+        match source_in(self.own)? {
+            Some(source) => Ok(source),
+            None => match self.base {
+                Some(base) => source_in(base)?.context("no source"),
+                None => bail!("no source"),
+            },
         }
     }
 
-    /// With what another recipe says where this one says nothing.
-    pub(crate) fn completed(self, base: Recipe<'a>) -> Recipe<'a> {
-        Recipe {
-            name: self.name.or(base.name),
-            source: self.source.or(base.source),
-            length: self.length.or(base.length),
-            fill: self.fill.or(base.fill),
-            bytes: if self.bytes.is_empty() {
-                base.bytes
-            } else {
-                self.bytes
-            },
-            replace: if self.replace.is_empty() {
-                base.replace
-            } else {
-                self.replace
-            },
-            insert: self.insert.or(base.insert),
-            append_hex: self.append_hex.or(base.append_hex),
+    pub(crate) fn text(self, key: &str) -> Result<Option<&'a str>> {
+        self.with(key).text(key)
+    }
+
+    pub(crate) fn number(self, key: &str) -> Result<Option<u64>> {
+        self.with(key).number(key)
+    }
+
+    pub(crate) fn list(self, key: &str) -> Result<&'a [Value]> {
+        Ok(self.with(key).list(key)?.unwrap_or(&[]))
+    }
+
+    pub(crate) fn entry(self, key: &str) -> Result<Option<Entry<'a>>> {
+        self.with(key).entry(key)
+    }
+
+    // The table that is asked for a key.
+    fn with(self, key: &str) -> Entry<'a> {
+        match self.base {
+            Some(base) if !self.own.has(key) => base,
+            _ => self.own,
         }
     }
 }
 
-/// What the makings of a case and of its group come to together, where there is one.
-pub(crate) fn joined<'a>(own: Option<&'a Making>, base: Option<&'a Making>) -> Option<Recipe<'a>> {
-    match (own, base) {
-        (Some(own), Some(base)) => Some(Recipe::new(own).completed(Recipe::new(base))),
-        (Some(making), None) | (None, Some(making)) => Some(Recipe::new(making)),
-        (None, None) => None,
-    }
-}
-
-// The one source that a making names.
-fn named_source(making: &Making) -> Option<Source<'_>> {
-    match (
-        &making.hex,
-        &making.text,
-        &making.data,
-        &making.of,
-        &making.program,
-    ) {
-        (Some(hex), None, None, None, None) => Some(Source::Hex(hex)),
-        (None, Some(text), None, None, None) => Some(Source::Text(text)),
-        (None, None, Some(name), None, None) => Some(Source::Data(name)),
-        (None, None, None, Some(name), None) => Some(Source::Of(name)),
-        (None, None, None, None, Some(program)) => Some(Source::Program(program)),
-        _ => None,
+// The one source that a table names, where it names any.
+fn source_in(entry: Entry<'_>) -> Result<Option<Source<'_>>> {
+    let texts = (
+        entry.text("hex")?,
+        entry.text("text")?,
+        entry.text("data")?,
+        entry.text("of")?,
+    );
+    match (texts, entry.entry("program")?) {
+        ((Some(hex), None, None, None), None) => Ok(Some(Source::Hex(hex))),
+        ((None, Some(text), None, None), None) => Ok(Some(Source::Text(text))),
+        ((None, None, Some(name), None), None) => Ok(Some(Source::Data(name))),
+        ((None, None, None, Some(name)), None) => Ok(Some(Source::Of(name))),
+        ((None, None, None, None), Some(program)) => Ok(Some(Source::Program(program))),
+        ((None, None, None, None), None) => Ok(None),
+        _ => bail!("more than one source"),
     }
 }

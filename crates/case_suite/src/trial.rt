@@ -2,14 +2,15 @@
 
 ghost use Rattle.std.specs.Prelude.{◌≡◌, OnOk};
 
-use crate::book::{Case, Fails, Group};
+use crate::case::Case;
+use crate::entry::{Entry, number_of, text_of};
 use crate::making::{Shelf, made};
-use crate::recipe::joined;
 use crate::verdict::Verdict;
 use crate::wanted;
 use anyhow::{Context, Result, bail};
 use std::alloc::Global;
 use std::fs::Files;
+use toml::{Table, Value};
 use xm_commands::{Status, xm_main};
 use xm_machine::Board;
 use xm_outside::{MemSink, MemStore, Sink};
@@ -18,7 +19,7 @@ use xm_words::Words;
 const NO_MEMORY: &str = "there is no memory";
 
 // How many bytes a sink takes a call where a case says nothing.
-const STEP: usize = 1000;
+const STEP: u64 = 1000;
 
 /// A file that is in the store before the calls.
 type Given<'a> = (&'a str, &'a [u8]);
@@ -28,40 +29,44 @@ pub(crate) fn tried(
     rt: &impl Files,
     alloc: Global,
     shelf: &Shelf,
-    group: &Group,
-    case: &Case,
+    case: Case<'_>,
 ) -> Result<Verdict> {
-    let own = match joined(case.make.as_ref(), group.make.as_ref()) {
-        Some(recipe) => {
-            let name = recipe.name.context("the file of a case has no name")?;
-            Some((name, made(rt, alloc, recipe, shelf)?))
-        }
-        None => None,
+    let Some(recipe) = case.recipe()? else {
+        return compared(alloc, shelf, case, &given(alloc, shelf, case, None)?);
     };
+    let bytes = made(rt, alloc, recipe, shelf)?;
+    let own = Some((recipe.name()?, bytes.as_slice()));
+    compared(alloc, shelf, case, &given(alloc, shelf, case, own)?)
+}
+
+// The files of a case, and its own one, which takes the place of one with its name.
+fn given<'a>(
+    alloc: Global,
+    shelf: &'a Shelf,
+    case: Case<'a>,
+    own: Option<Given<'a>>,
+) -> Result<Vec<Given<'a>>> {
     let mut given = Vec::new(alloc);
-    for file in case.file.as_ref().unwrap_or(&group.file) {
+    for file in case.list("file")? {
+        let file = text_of(file)?;
         let (name, known) = file.split_once('=').unwrap_or((file, file));
-        given.push((name, shelf.get(known)?))?;
+        if own.is_none_or(|own| own.0 != name) {
+            given.push((name, shelf.get(known)?))?;
+        }
     }
-    if let Some((name, bytes)) = &own {
-        given.retain(|file: &Given<'_>| file.0 != *name);
-        given.push((*name, bytes.as_slice()))?;
+    if let Some(own) = own {
+        given.push(own)?;
     }
-    compared(alloc, shelf, group, case, &given)
+    Ok(given)
 }
 
 // Does the calls of a case over the files that are given, and compares.
-fn compared(
-    alloc: Global,
-    shelf: &Shelf,
-    group: &Group,
-    case: &Case,
-    given: &[Given<'_>],
-) -> Result<Verdict> {
-    let fails = case.fails.as_ref().or(group.fails.as_ref());
+fn compared(alloc: Global, shelf: &Shelf, case: Case<'_>, given: &[Given<'_>]) -> Result<Verdict> {
+    let fails = case.entry("fails")?;
     let mut files = store(alloc, fails, given)?;
-    let words = prepare(alloc, group, case, &mut files)?;
-    let (mut out, mut err) = sinks(alloc, fails)?;
+    let words = prepare(alloc, case, &mut files)?;
+    let mut out = sink(alloc, fails, "out", "out_step")?;
+    let mut err = sink(alloc, fails, "err", "err_step")?;
     let status = xm_main(
         alloc,
         &words,
@@ -71,76 +76,87 @@ fn compared(
         &mut Board::new(),
     );
     let mut verdict = Verdict::new(alloc);
-    verdict.status(wanted::status(group, case), status)?;
-    verdict.report(case, out.got())?;
+    verdict.status(wanted::status(case)?, status)?;
+    verdict.report(case.own, out.got())?;
     verdict.text(
         "error output",
-        wanted::line(alloc, group, case)?.as_bytes(),
+        wanted::line(alloc, case)?.as_bytes(),
         err.got(),
     )?;
-    compare_files(shelf, group, case, given, &files, &mut verdict)?;
+    compare_files(shelf, case, given, &files, &mut verdict)?;
     Ok(verdict)
 }
 
 // A store with the files that are given.
-fn store(alloc: Global, fails: Option<&Fails>, given: &[Given<'_>]) -> Result<MemStore> {
-    let calls: &[u64] = match fails {
-        Some(fails) => &fails.files,
-        None => &[],
-    };
-    let mut files = MemStore::new(alloc, Vec::from_slice(alloc, calls)?);
+fn store(alloc: Global, fails: Option<Entry<'_>>, given: &[Given<'_>]) -> Result<MemStore> {
+    let mut files = MemStore::new(alloc, failing(alloc, fails, "files")?);
     for (name, bytes) in given {
         files.put(name, bytes).ok().context(NO_MEMORY)?;
     }
     Ok(files)
 }
 
-// The sinks of the report and of the error output.
-fn sinks(alloc: Global, fails: Option<&Fails>) -> Result<(MemSink, MemSink)> {
-    let Some(fails) = fails else {
-        let out = MemSink::new(alloc, Vec::new(alloc), STEP);
-        return Ok((out, MemSink::new(alloc, Vec::new(alloc), STEP)));
+// A sink that takes some bytes a call, and fails at some of its calls.
+fn sink(alloc: Global, fails: Option<Entry<'_>>, key: &str, step: &str) -> Result<MemSink> {
+    let step = match fails {
+        Some(fails) => fails.number(step)?.unwrap_or(STEP),
+        None => STEP,
     };
-    let step = fails.out_step.unwrap_or(STEP);
-    let out = MemSink::new(alloc, Vec::from_slice(alloc, &fails.out)?, step);
-    let step = fails.err_step.unwrap_or(STEP);
-    let err = MemSink::new(alloc, Vec::from_slice(alloc, &fails.err)?, step);
-    Ok((out, err))
+    Ok(MemSink::new(alloc, failing(alloc, fails, key)?, usize::try_from(step)?))
+}
+
+// The numbers of the calls that fail.
+fn failing(alloc: Global, fails: Option<Entry<'_>>, key: &str) -> Result<Vec<u64>> {
+    let mut calls = Vec::new(alloc);
+    let Some(fails) = fails else {
+        return Ok(calls);
+    };
+    fails.has_only(&["files", "out", "err", "out_step", "err_step"])?;
+    for call in fails.list(key)?.unwrap_or(&[]) {
+        calls.push(number_of(call)?)?;
+    }
+    Ok(calls)
 }
 
 // Does all calls before the last one, and answers the words of that.
-fn prepare(alloc: Global, group: &Group, case: &Case, files: &mut MemStore) -> Result<Words> {
-    for call in &group.before {
-        carry_out(alloc, call, files)?;
+fn prepare(alloc: Global, case: Case<'_>, files: &mut MemStore) -> Result<Words> {
+    for call in case.group.list("before")?.unwrap_or(&[]) {
+        carry_out(alloc, text_of(call)?, files)?;
     }
-    let Some((last, earlier)) = case.calls.split_last() else {
-        return last_words(alloc, group, case);
+    let Some((last, earlier)) = case.own.list("calls")?.unwrap_or(&[]).split_last() else {
+        return last_words(alloc, case);
     };
     for call in earlier {
-        carry_out(alloc, call, files)?;
+        carry_out(alloc, text_of(call)?, files)?;
     }
-    call_words(alloc, last)
+    call_words(alloc, text_of(last)?)
 }
 
 // The words of a case that has one call.
-fn last_words(alloc: Global, group: &Group, case: &Case) -> Result<Words> {
-    if let Some(words) = &case.words {
-        return list_words(alloc, words);
+fn last_words(alloc: Global, case: Case<'_>) -> Result<Words> {
+    match words_in(alloc, case.own)? {
+        Some(words) => Ok(words),
+        None => words_in(alloc, case.group)?.context("there is no call"),
     }
-    if let Some(call) = &case.call {
-        return call_words(alloc, call);
+}
+
+// The words that a table names, as a list or as a call.
+fn words_in(alloc: Global, entry: Entry<'_>) -> Result<Option<Words>> {
+    if let Some(words) = entry.list("words")? {
+        return Ok(Some(list_words(alloc, words)?));
     }
-    if let Some(words) = &group.words {
-        return list_words(alloc, words);
+    match entry.text("call")? {
+        Some(call) => Ok(Some(call_words(alloc, call)?)),
+        None => Ok(None),
     }
-    call_words(alloc, group.call.as_ref().context("there is no call")?)
 }
 
 // Does what a call says, or tells that it was not done.
 fn carry_out(alloc: Global, call: &str, files: &mut MemStore) -> Result<()> {
     let words = call_words(alloc, call)?;
-    let (mut out, mut err) = sinks(alloc, None)?;
-    done(alloc, &words, files, &mut out, &mut err).with_context(|| call)
+    let mut out = sink(alloc, None, "out", "out_step")?;
+    let mut err = sink(alloc, None, "err", "err_step")?;
+    done(alloc, &words, files, &mut out, &mut err).context(call)
 }
 
 // Does what the words say, or tells that it was not done.
@@ -169,10 +185,10 @@ fn call_words(alloc: Global, call: &str) -> Result<Words> {
 }
 
 // The words of a list.
-fn list_words(alloc: Global, list: &[String]) -> Result<Words> {
+fn list_words(alloc: Global, list: &[Value]) -> Result<Words> {
     let mut words = Words::new(alloc);
     for word in list {
-        words.push(word).ok().context(NO_MEMORY)?;
+        words.push(text_of(word)?).ok().context(NO_MEMORY)?;
     }
     Ok(words)
 }
@@ -180,26 +196,63 @@ fn list_words(alloc: Global, list: &[String]) -> Result<Words> {
 // Compares the files that are in the store after the calls.
 fn compare_files(
     shelf: &Shelf,
-    group: &Group,
-    case: &Case,
+    case: Case<'_>,
     given: &[Given<'_>],
     files: &MemStore,
     verdict: &mut Verdict,
 ) -> Result<()> {
+    let same = case.own.entry("same")?;
     for (name, bytes) in given {
-        if !case.same.contains_key(*name) {
+        if !names(same, name) {
             verdict.file(name, bytes, files.get(name))?;
         }
     }
-    for (name, known) in &case.same {
-        verdict.file(name, bytes_of(shelf, given, known)?, files.get(name))?;
+    if let Some(same) = same {
+        compare_same(shelf, same.table(), given, files, verdict)?;
     }
-    for name in &case.absent {
+    for name in case.own.list("absent")?.unwrap_or(&[]) {
+        let name = text_of(name)?;
         verdict.presence(name, false, files.get(name).is_some())?;
     }
-    match &group.output {
-        Some(name) if !case.same.contains_key(name) => {
-            let wanted = wanted::status(group, case) == Status::Done;
+    compare_output(case, same, files, verdict)
+}
+
+// Whether a table that is there has a key.
+fn names(entry: Option<Entry<'_>>, key: &str) -> bool {
+    match entry {
+        Some(entry) => entry.has(key),
+        None => false,
+    }
+}
+
+// Compares the files whose bytes are told by name.
+fn compare_same(
+    shelf: &Shelf,
+    same: &Table,
+    given: &[Given<'_>],
+    files: &MemStore,
+    verdict: &mut Verdict,
+) -> Result<()> {
+    for (name, known) in same {
+        verdict.file(
+            name,
+            bytes_of(shelf, given, text_of(known)?)?,
+            files.get(name),
+        )?;
+    }
+    Ok(())
+}
+
+// Compares whether the file is there that the group's command lines write.
+fn compare_output(
+    case: Case<'_>,
+    same: Option<Entry<'_>>,
+    files: &MemStore,
+    verdict: &mut Verdict,
+) -> Result<()> {
+    match case.group.text("output")? {
+        Some(name) if !names(same, name) => {
+            let wanted = wanted::status(case)? == Status::Done;
             verdict.presence(name, wanted, files.get(name).is_some())
         }
         _ => Ok(()),

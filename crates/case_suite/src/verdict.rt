@@ -1,6 +1,6 @@
 //! How a case differs from what it says.
 
-use crate::book::Case;
+use crate::entry::Entry;
 use anyhow::Result;
 use std::alloc::Global;
 use xm_commands::Status;
@@ -35,11 +35,11 @@ impl Verdict {
     }
 
     /// Compares the report, or how it begins.
-    pub(crate) fn report(&mut self, case: &Case, got: &[u8]) -> Result<()> {
-        match &case.out_begins {
-            Some(front) if got.starts_with(front.as_bytes()) => Ok(()),
-            Some(front) => self.text("report", front.as_bytes(), got),
-            None => self.text("report", case.out.as_deref().unwrap_or("").as_bytes(), got),
+    pub(crate) fn report(&mut self, case: Entry<'_>, got: &[u8]) -> Result<()> {
+        match case.text("out_begins")? {
+            Some(prefix) if got.starts_with(prefix.as_bytes()) => Ok(()),
+            Some(prefix) => self.text("report", prefix.as_bytes(), got),
+            None => self.text("report", case.text("out")?.unwrap_or("").as_bytes(), got),
         }
     }
 
