@@ -1,7 +1,5 @@
 //! What the memory of a vector holds.
 
-ghost use Rattle.std.specs.Prelude.{◌+◌, ◌≤◌, length};
-
 use crate::memory::AREA_START;
 
 /// How many bytes are told of the start of the area.
