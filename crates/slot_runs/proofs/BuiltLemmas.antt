@@ -7,8 +7,8 @@ use Rattle.machine_model.specs.Machine.{Machine, turn_of}
 use Rattle.machine_model.specs.Partition.{PartitionState}
 use Rattle.machine_model.specs.View.{PartitionView, System, view_of}
 use Rattle.slot_runs.specs.Built.{is_unbuilt, unbuilt, unbuilt_by, unbuilt_in_slot}
-use Rattle.slot_runs.specs.Laws.{IsSlotOf}
-use Rattle.slot_runs.specs.Parts.{began}
+use Rattle.slot_runs.specs.Spans.{IsSlotOf}
+use Rattle.slot_runs.specs.Meeting.{began}
 
 -- a partition's view has its number
 view_id : (system : System) (p : ℕ) → (view_of system p).id ≡ p

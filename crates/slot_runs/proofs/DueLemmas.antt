@@ -8,8 +8,7 @@ use Rattle.virt_traps.specs.Virtual as virtual
 use Rattle.virt_traps.specs.Virtual.{VirtualTraps, due, first_due, raised}
 use Rattle.machine_model.specs.LocalTick.{with_interrupts}
 use Rattle.machine_model.specs.Partition.{PartitionState, execution_timer, hardware_timer, raised_if}
-use Rattle.slot_runs.specs.Meeting.{NoDelivery, timers_looked_at, with_interrupts_to}
-use Rattle.slot_runs.specs.Parts.{began}
+use Rattle.slot_runs.specs.Meeting.{NoDelivery, began, timers_looked_at, with_interrupts_to}
 use Rattle.slot_runs.proofs.BitLemmas.{or_kept}
 use Rattle.slot_runs.proofs.MeetingLemmas.{looked_clock, looks_inside, timers_twice}
 

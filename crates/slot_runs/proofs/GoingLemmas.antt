@@ -8,8 +8,7 @@ use Rattle.machine_model.specs.Machine.{Machine, Turn, copies, local, sight}
 use Rattle.machine_model.specs.Partition.{PartitionState, execution_looked_at, hardware_looked_at, rested}
 use Rattle.machine_model.specs.Told as told
 use Rattle.machine_model.specs.View.{PartitionView, view_of}
-use Rattle.slot_runs.specs.Laws.{HasGone}
-use Rattle.slot_runs.specs.Meeting.{NoDelivery, first_after, timers_looked_at, with_interrupts_to}
+use Rattle.slot_runs.specs.Meeting.{HasGone, NoDelivery, first_after, timers_looked_at, with_interrupts_to}
 use Rattle.slot_runs.specs.SpanLaws.{IsAwake, GoingTicks, going_parts, its_areas, its_met, its_state, met, met_to, others_rested}
 use Rattle.slot_runs.specs.Spans.{IsSpan, inside}
 use Rattle.slot_runs.proofs.AwakeLemmas.{local_awake, undelivered_executes}

@@ -6,9 +6,8 @@ use Rattle.machine_model.specs.Lines.{console, has_console, said, step_console, 
 use Rattle.machine_model.specs.Machine.{Machine, step, turn_of}
 use Rattle.machine_model.specs.Partition.{PartitionState, rested}
 use Rattle.slot_runs.specs.GoingOn.{GapGoesOn, LeftAreSpan, SilentConsoles, SlotGoesOn, SpanGoesOn}
-use Rattle.slot_runs.specs.Laws.{IsSlotOf}
 use Rattle.slot_runs.specs.SpanLaws.{others_rested}
-use Rattle.slot_runs.specs.Spans.{IsSpan, inside}
+use Rattle.slot_runs.specs.Spans.{IsSlotOf, IsSpan, inside}
 use Rattle.slot_runs.proofs.InsideLemmas.{gap_inside, turn_inside}
 use Rattle.slot_runs.proofs.ListLemmas.{none_of}
 use Rattle.slot_runs.proofs.PassLemmas.{get_set_map}

@@ -11,10 +11,9 @@ use Rattle.machine_model.specs.Partition.{PartitionState, rested, takes_turns}
 use Rattle.machine_model.specs.Told as told
 use Rattle.machine_model.specs.Told.{Sight}
 use Rattle.machine_model.specs.View.{PartitionView, view_of}
-use Rattle.slot_runs.specs.Laws.{IsSlotOf}
 use Rattle.slot_runs.specs.Meeting.{first_after}
 use Rattle.slot_runs.specs.SpanLaws.{IdleTicks, others_rested}
-use Rattle.slot_runs.specs.Spans.{IsSpan, inside}
+use Rattle.slot_runs.specs.Spans.{IsSlotOf, IsSpan, inside}
 use Rattle.slot_runs.proofs.AwakeLemmas.{local_work, same_state, taken_is}
 use Rattle.slot_runs.proofs.DueLemmas.{idles_later, none_due_earlier}
 use Rattle.slot_runs.proofs.InsideLemmas.{turn_inside}

@@ -14,9 +14,9 @@ use Rattle.machine_model.specs.Partition.{PartitionState, applies, carried_out, 
 use Rattle.machine_model.specs.Traffic.{Puts, Still, Takes, Traffic, after_message, heard_from, hearing, interrupted}
 use Rattle.machine_model.specs.View.{PartitionView}
 use Rattle.machine_model.specs.Whole.{AllHalted, AllReset, NoEvent, WholeEvent, after_event}
-use Rattle.slot_runs.specs.Parts.{began}
 use Rattle.slot_runs.specs.Rest.{MeetsAfterRest, RestsBefore}
 use Rattle.slot_runs.proofs.RestLemmas.{hardware_state, hardware_twice, raised_if_turned, rested_halted, rested_runs}
+use Rattle.slot_runs.specs.Meeting.{began}
 
 -- one state is the other, or the other when its hardware timer was looked at before
 abbrev IsLooked : ℕ → PartitionState → PartitionState → Type 0

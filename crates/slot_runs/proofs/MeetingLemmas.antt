@@ -7,8 +7,7 @@ use Rattle.virt_clocks.specs.declared.timer.Timer.{Timer}
 use Rattle.virt_traps.specs.Virtual.{VirtualTraps, due}
 use Rattle.machine_model.specs.LocalTick.{goes_on, with_interrupts}
 use Rattle.machine_model.specs.Partition.{PartitionState, execution_looked_at, execution_timer, hardware_looked_at, hardware_timer, raised_if}
-use Rattle.slot_runs.specs.Meeting.{awake, first_after, in_slot, met_in_slot, timers_looked_at, with_interrupts_to}
-use Rattle.slot_runs.specs.Parts.{began, gone_on}
+use Rattle.slot_runs.specs.Meeting.{awake, began, first_after, gone_on, in_slot, met_in_slot, timers_looked_at, with_interrupts_to}
 use Rattle.slot_runs.proofs.RestLemmas.{due_interrupt, raised_if_turned}
 use Rattle.slot_runs.proofs.StepLemmas.{gone_none}
 use Rattle.slot_runs.proofs.TimerLemmas.{looked_twice}

@@ -18,13 +18,13 @@ use Rattle.machine_model.specs.Told as told
 use Rattle.machine_model.specs.Told.{Told, line_of}
 use Rattle.machine_model.specs.View.{view_of}
 use Rattle.slot_runs.specs.Built.{is_unbuilt, unbuilt}
-use Rattle.slot_runs.specs.Laws.{Executes, HasGone, IsIdle, IsSlotOf, IsStretch, ReadyTicks, StuckTicks, WaitingTicks, past}
-use Rattle.slot_runs.specs.Meeting.{awake, first_after, timers_looked_at, with_interrupts_to}
+use Rattle.slot_runs.specs.Laws.{Executes, IsIdle, ReadyTicks, StuckTicks, WaitingTicks, past}
+use Rattle.slot_runs.specs.Meeting.{HasGone, awake, began, first_after, gone_on, timers_looked_at, with_interrupts_to}
 use Rattle.slot_runs.specs.NextLaws.{HasGoneOn, next_work}
-use Rattle.slot_runs.specs.Parts.{IsMachine, IsPart, RunsOrHalted, began, gone_on}
+use Rattle.slot_runs.specs.Parts.{IsMachine, IsPart, RunsOrHalted}
 use Rattle.slot_runs.specs.RunLemmas.{lines_more}
 use Rattle.slot_runs.specs.SpanLaws.{IsAwake, IsNobodys, all_rested, going_parts, its_areas, its_met, its_state, met, met_to, others_rested}
-use Rattle.slot_runs.specs.Spans.{IsUnderway, IsQuietSpan, IsSpan, IsToldSpan, after_span, inside, plan_line}
+use Rattle.slot_runs.specs.Spans.{IsQuietSpan, IsSlotOf, IsSpan, IsStretch, IsToldSpan, IsUnderway, after_span, inside, plan_line}
 use Rattle.slot_runs.proofs.AwakeLemmas.{undelivered_executes}
 use Rattle.slot_runs.proofs.BuiltLemmas.{gap_built, halted_built, ready_unbuilt}
 use Rattle.slot_runs.proofs.GoingLemmas.{gone_earlier, its_place}

@@ -14,9 +14,9 @@ use Rattle.machine_model.specs.Partition.{PartitionState, areas_of}
 use Rattle.machine_model.specs.Told.{Sight}
 use Rattle.machine_model.specs.View.{PartitionView}
 use Rattle.slot_runs.specs.Built.{is_unbuilt, is_unbuilt_turn}
-use Rattle.slot_runs.specs.Laws.{Executes, HasGone}
-use Rattle.slot_runs.specs.Parts.{gone_on}
+use Rattle.slot_runs.specs.Laws.{Executes}
 use Rattle.slot_runs.specs.Stepping.{stepped, then_settled}
+use Rattle.slot_runs.specs.Meeting.{HasGone, gone_on}
 
 -- where a step more only went, all before it only went
 went_before : (t : Turned) (areas : List Area) → (then_settled t.turn areas t).turn ≡ Went → t.turn ≡ Went

@@ -8,10 +8,8 @@ use Rattle.machine_model.specs.LocalTick.{with_interrupts}
 use Rattle.machine_model.specs.Machine.{Machine, copies, run, sight}
 use Rattle.machine_model.specs.Partition.{PartitionState, execution_looked_at, execution_timer, hardware_looked_at, hardware_timer, raised_if}
 use Rattle.machine_model.specs.View.{view_of}
-use Rattle.slot_runs.specs.Laws.{HasGone}
-use Rattle.slot_runs.specs.Meeting.{NoDelivery, awake, first_after, timers_looked_at, with_interrupts_to}
+use Rattle.slot_runs.specs.Meeting.{HasGone, NoDelivery, awake, began, first_after, gone_on, timers_looked_at, with_interrupts_to}
 use Rattle.slot_runs.specs.NextLaws.{HasGoneOn, IsNextTick, next_work}
-use Rattle.slot_runs.specs.Parts.{began, gone_on}
 use Rattle.slot_runs.specs.SpanLaws.{going_parts, its_areas, its_met, met, others_rested}
 use Rattle.slot_runs.specs.Spans.{IsQuietSpan}
 use Rattle.slot_runs.specs.Undisturbed.{IsUndisturbed, NoneFallsDue, UndisturbedIdle, UndisturbedNext, UndisturbedTicks, UndisturbedTold, gone_parts, next_instruction}

@@ -4,9 +4,8 @@ use Rattle.cyclic_plans.specs.PlanClock.{IsInFrame}
 use Rattle.machine_model.specs.Lines.{console, said}
 use Rattle.machine_model.specs.Machine.{Machine, turn_of}
 use Rattle.machine_model.specs.Partition.{PartitionState}
-use Rattle.slot_runs.specs.Laws.{IsSlotOf, IsStretch}
 use Rattle.slot_runs.specs.SpanLaws.{others_rested}
-use Rattle.slot_runs.specs.Spans.{IsSpan, after_span}
+use Rattle.slot_runs.specs.Spans.{IsSlotOf, IsSpan, IsStretch, after_span}
 
 -- each of so many ticks of one slot or gap ends a span
 abbrev pub LeftAreSpan : Type 0

@@ -1,8 +1,6 @@
--- The laws on ticks of one slot or gap.
-use Rattle.std.specs.Prelude.{◌≡◌, ◌≢◌, ℕ, ◌+◌, ◌-◌, ◌<◌, ◌≤◌, ◌⊎◌, Bool, true, false, List, [], map, Option, Some, None, slice_get, slice_set}
-use Rattle.cyclic_plans.specs.PlanClock.{ended, slot_at}
-use Rattle.cyclic_plans.specs.Slots.{frame_of}
-use Rattle.sparc_step.specs.declared.outcome.Turn.TheVariants.{Went}
+-- The laws on ticks of one slot or gap, as far as ticks are built.
+use Rattle.std.specs.Prelude.{◌≡◌, ◌≢◌, ℕ, ◌+◌, ◌-◌, ◌<◌, ◌≤◌, ◌⊎◌, Bool, true, false, List, [], map, Option, Some, None, slice_set}
+use Rattle.cyclic_plans.specs.PlanClock.{ended}
 use Rattle.xm_base.specs.declared.partition.State.TheVariants.{Ready}
 use Rattle.xm_ports.specs.Channels.{Content}
 use Rattle.machine_model.specs.Lines.{lines, step_lines}
@@ -13,18 +11,10 @@ use Rattle.machine_model.specs.Told as told
 use Rattle.machine_model.specs.Told.{Sight, Told, line_of}
 use Rattle.machine_model.specs.View.{PartitionView, view_of}
 use Rattle.slot_runs.specs.Built.{is_unbuilt, unbuilt}
-use Rattle.slot_runs.specs.Parts.{IsMachine, began, gone_on}
-use Rattle.slot_runs.specs.Stepping.{stepped}
-
--- so many ticks are of one slot or gap, and of one frame
-pub record IsStretch (g : Machine) (most : ℕ) : Type 0 where
-  pub alike : (k : ℕ) → k < most → slot_at g.system.conf g.clock (g.time + k) ≡ slot_at g.system.conf g.clock g.time
-  pub within : g.time + most ≤ g.clock.frame_start + frame_of g.system.conf g.clock.plan
-
--- it is the slot of a partition, in this state
-pub record IsSlotOf (g : Machine) (p : ℕ) (first : Bool) (ps : PartitionState) : Type 0 where
-  pub turn : turn_of g ≡ Some (record { part = p; first = first })
-  pub there : slice_get g.parts p ≡ Some ps
+use Rattle.slot_runs.specs.Parts.{IsMachine}
+use Rattle.slot_runs.specs.Meeting.{began, gone_on}
+pub use Rattle.slot_runs.specs.Meeting.{HasGone}
+pub use Rattle.slot_runs.specs.Spans.{IsSlotOf, IsStretch}
 
 -- the machine with these partitions, and its clocks past so many ticks
 abbrev pub past : ℕ → List PartitionState → Machine → Machine
@@ -48,10 +38,6 @@ pub record IsStuckAt (g : Machine) (p quiet pc : ℕ) : Type 0 where
   pub place : unbuilt (run g quiet) ≡ Some (record { part = p; pc = pc })
   pub silent : lines g quiet ≡ []
   pub ticks : (run g quiet).ticks ≡ g.ticks + quiet
-
--- so many instructions of a partition only went
-abbrev pub HasGone : ℕ → PartitionView → PartitionState → Type 0
-HasGone count view ps = (stepped count (areas_of view) ps.core ps.memory).turn ≡ Went
 
 -- the work of a tick in which a partition executes an instruction: it leaves this, tells this, and does not reach beyond the partition
 abbrev pub Executes : PartitionView → PartitionState → PartitionState → List Told → Type 0

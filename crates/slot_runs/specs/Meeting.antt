@@ -1,11 +1,29 @@
--- A partition in many ticks of its slot: the interrupts that they bring.
+-- A partition in many ticks of its slot: its instructions, and the interrupts that the ticks bring.
 use Rattle.std.specs.Prelude.{◌≡◌, ℕ, zero, suc, ◌+◌, ◌⊎◌, Bool, false, List, None}
 use Rattle.guest_bus.specs.Memory.{Area}
+use Rattle.sparc_step.specs.declared.outcome.Turn.TheVariants.{Went}
 use Rattle.virt_clocks.specs.Clocks.{is_due, looked_at}
 use Rattle.virt_traps.specs.Virtual.{VirtualTraps, due}
 use Rattle.xm_base.specs.declared.partition.State.TheVariants.{Ready}
-use Rattle.machine_model.specs.Partition.{PartitionState, execution_timer, hardware_timer, raised_if}
-use Rattle.slot_runs.specs.Parts.{began, gone_on}
+use Rattle.machine_model.specs.Partition.{PartitionState, areas_of, execution_timer, hardware_timer, raised_if, slot_start}
+use Rattle.machine_model.specs.View.{PartitionView}
+use Rattle.slot_runs.specs.Stepping.{stepped}
+
+-- a partition at the beginning of ticks of its slot: the start of the slot is an interrupt
+abbrev pub began : Bool → PartitionState → PartitionState
+began first ps = record ps { traps = raised_if first slot_start ps.traps }
+
+-- a partition after so many instructions, each of which took a tick
+abbrev pub gone_on : ℕ → List Area → PartitionState → PartitionState
+gone_on count areas ps = record ps {
+  core = (stepped count areas ps.core ps.memory).core;
+  memory = (stepped count areas ps.core ps.memory).memory;
+  clocks = record ps.clocks { execution = ps.clocks.execution + count };
+}
+
+-- so many instructions of a partition only went
+abbrev pub HasGone : ℕ → PartitionView → PartitionState → Type 0
+HasGone count view ps = (stepped count (areas_of view) ps.core ps.memory).turn ≡ Went
 
 -- a partition whose two timers are looked at, at these readings of their clocks
 unfoldable pub timers_looked_at : ℕ → ℕ → PartitionState → PartitionState

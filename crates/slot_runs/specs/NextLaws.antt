@@ -8,8 +8,7 @@ use Rattle.machine_model.specs.Machine.{Machine, after, copies, happened, local,
 use Rattle.machine_model.specs.Partition.{PartitionState}
 use Rattle.machine_model.specs.Told as told
 use Rattle.machine_model.specs.View.{view_of}
-use Rattle.slot_runs.specs.Laws.{HasGone}
-use Rattle.slot_runs.specs.Meeting.{NoDelivery, first_after, with_interrupts_to}
+use Rattle.slot_runs.specs.Meeting.{HasGone, NoDelivery, first_after, with_interrupts_to}
 use Rattle.slot_runs.specs.SpanLaws.{IsAwake, going_parts, its_met, met, others_rested}
 use Rattle.slot_runs.specs.Spans.{IsUnderway, IsSpan, IsToldSpan}
 

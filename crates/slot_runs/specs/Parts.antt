@@ -1,13 +1,12 @@
 -- The machine and its partitions, as long as all that they do is built.
-use Rattle.std.specs.Prelude.{◌≡◌, ℕ, ◌+◌, ◌≤◌, ◌⊎◌, Bool, false, List, length, All, None}
+use Rattle.std.specs.Prelude.{◌≡◌, ℕ, ◌≤◌, ◌⊎◌, false, length, All, None}
 use Rattle.cyclic_plans.specs.PlanClock.{IsInFrame}
-use Rattle.guest_bus.specs.Memory.{Area}
 use Rattle.xm_base.specs.declared.limits.TheConstants.{TICKS}
 use Rattle.xm_base.specs.declared.partition.State.{State}
 use Rattle.xm_base.specs.declared.partition.State.TheVariants.{Ready, Halted}
 use Rattle.machine_model.specs.Machine.{Machine}
-use Rattle.machine_model.specs.Partition.{PartitionState, raised_if, slot_start}
-use Rattle.slot_runs.specs.Stepping.{stepped}
+use Rattle.machine_model.specs.Partition.{PartitionState}
+pub use Rattle.slot_runs.specs.Meeting.{began, gone_on}
 
 -- a partition runs or has halted; what would make it wait otherwise is not built
 abbrev pub RunsOrHalted : State → Type 0
@@ -30,15 +29,3 @@ pub record IsMachine (g : Machine) : Type 0 where
   pub time : g.time ≤ g.ticks
   pub ticks : g.ticks ≤ TICKS
   pub running : g.halted ≡ false
-
--- a partition at the beginning of ticks of its slot: the start of the slot is an interrupt
-abbrev pub began : Bool → PartitionState → PartitionState
-began first ps = record ps { traps = raised_if first slot_start ps.traps }
-
--- a partition behind so many instructions, each of which took a tick
-abbrev pub gone_on : ℕ → List Area → PartitionState → PartitionState
-gone_on count areas ps = record ps {
-  core = (stepped count areas ps.core ps.memory).core;
-  memory = (stepped count areas ps.core ps.memory).memory;
-  clocks = record ps.clocks { execution = ps.clocks.execution + count };
-}

@@ -7,10 +7,8 @@ use Rattle.machine_model.specs.LocalTick.{goes_on, with_interrupts}
 use Rattle.machine_model.specs.Machine.{Machine, turn_of}
 use Rattle.machine_model.specs.Partition.{PartitionState, areas_of, rested, takes_turns}
 use Rattle.machine_model.specs.View.{view_of}
-use Rattle.slot_runs.specs.Laws.{HasGone, IsSlotOf}
-use Rattle.slot_runs.specs.Meeting.{NoDelivery, awake, in_slot, met_in_slot, with_interrupts_to}
-use Rattle.slot_runs.specs.Parts.{gone_on}
-use Rattle.slot_runs.specs.Spans.{IsQuietSpan, IsSpan}
+use Rattle.slot_runs.specs.Meeting.{HasGone, NoDelivery, awake, gone_on, in_slot, met_in_slot, with_interrupts_to}
+use Rattle.slot_runs.specs.Spans.{IsQuietSpan, IsSlotOf, IsSpan}
 
 -- it is a gap, or the slot of a partition that takes no turns: it is suspended, or has halted
 abbrev pub IsNobodys : Machine → Type 0

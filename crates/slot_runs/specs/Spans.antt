@@ -1,14 +1,24 @@
 -- Ticks of one slot or gap of any machine: what holds before them, and what they leave. The first of them is tick 0.
-use Rattle.std.specs.Prelude.{◌≡◌, ℕ, suc, ◌+◌, ◌==◌, ◌<◌, ◌≤◌, Bool, true, false, List, [], ◌++◌, map}
+use Rattle.std.specs.Prelude.{◌≡◌, ℕ, suc, ◌+◌, ◌==◌, ◌<◌, ◌≤◌, Bool, true, false, List, [], ◌++◌, map, Some, slice_get}
 use Rattle.std.specs.List.{flat_map}
 use Rattle.cyclic_plans.specs.PlanClock.{ended, slot_at}
 use Rattle.cyclic_plans.specs.Slots.{frame_of}
 use Rattle.xm_report.specs.Report.{ReportLine}
 use Rattle.machine_model.specs.Lines.{lines, plan_lines, said}
 use Rattle.machine_model.specs.LocalTick.{said_in}
-use Rattle.machine_model.specs.Machine.{Machine, run}
+use Rattle.machine_model.specs.Machine.{Machine, run, turn_of}
 use Rattle.machine_model.specs.Partition.{PartitionState}
 use Rattle.machine_model.specs.Told.{Told, line_of}
+
+-- so many ticks are of one slot or gap, and of one frame
+pub record IsStretch (g : Machine) (most : ℕ) : Type 0 where
+  pub alike : (k : ℕ) → k < most → slot_at g.system.conf g.clock (g.time + k) ≡ slot_at g.system.conf g.clock g.time
+  pub within : g.time + most ≤ g.clock.frame_start + frame_of g.system.conf g.clock.plan
+
+-- it is the slot of a partition, in this state
+pub record IsSlotOf (g : Machine) (p : ℕ) (first : Bool) (ps : PartitionState) : Type 0 where
+  pub turn : turn_of g ≡ Some (record { part = p; first = first })
+  pub there : slice_get g.parts p ≡ Some ps
 
 -- the machine has not halted, and its ticks up to this one are of one slot or gap, and of one frame
 pub record IsSpan (g : Machine) (last : ℕ) : Type 0 where

@@ -9,12 +9,10 @@ use Rattle.machine_model.specs.Machine.{Machine, copies, run, sight}
 use Rattle.machine_model.specs.Partition.{PartitionState}
 use Rattle.machine_model.specs.Told as told
 use Rattle.machine_model.specs.View.{view_of}
-use Rattle.slot_runs.specs.Laws.{HasGone, IsSlotOf}
-use Rattle.slot_runs.specs.Meeting.{NoDelivery, first_after}
+use Rattle.slot_runs.specs.Meeting.{HasGone, NoDelivery, first_after, gone_on}
 use Rattle.slot_runs.specs.NextLaws.{IsNextTick}
-use Rattle.slot_runs.specs.Parts.{gone_on}
 use Rattle.slot_runs.specs.SpanLaws.{IsAwake, its_areas, met, others_rested}
-use Rattle.slot_runs.specs.Spans.{IsQuietSpan, IsSpan, IsToldSpan}
+use Rattle.slot_runs.specs.Spans.{IsQuietSpan, IsSlotOf, IsSpan, IsToldSpan}
 
 -- no timer of these clocks falls due up to this tick, where the partition runs, or does not
 abbrev pub NoneFallsDue : ℕ → ℕ → Bool → PartitionClocks → Type 0
