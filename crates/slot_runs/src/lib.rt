@@ -1,4 +1,4 @@
-//! Runs of the machine slot by slot, as mathematics: which ticks are built so far, and what so many of them leave.
+//! Runs of the machine slot by slot, as mathematics: what ticks of one slot leave of any machine, and which ticks are built so far.
 #![tactic(auto)]
 
 mod law;
