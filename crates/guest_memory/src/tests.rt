@@ -273,7 +273,7 @@ const SEEN: [(PartId, Result<u64, BusFault>, Result<u64, BusFault>); 2] = [
     (1, Err(BusFault::Outside), Ok(0x0506_0708)),
 ];
 
-/// The partition that is selected, an address at which a word of ones is stored, and the first byte of the first partition behind a store that is allowed.
+/// The partition that is selected, an address at which a word of ones is stored, and the first byte of the first partition after a store that is allowed.
 const CHANGED: [(PartId, u32, Option<u8>); 5] = [
     (0, 0x4010_0000, Some(0xff)),
     (1, 0x4010_3000, Some(1)),
@@ -362,7 +362,7 @@ const HELD: [(PartId, u32, Option<u8>); 12] = [
     (1, 0xffff_ffff, Some(0)),
 ];
 
-/// A partition, an address, and the byte there behind a reload of the first one.
+/// A partition, an address, and the byte there after a reload of the first one.
 const RELOADED: [(PartId, u32, u8); 9] = [
     (0, 0x4010_0000, 1),
     (0, 0x4010_0004, 5),

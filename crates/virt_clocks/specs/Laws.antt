@@ -14,11 +14,11 @@ abbrev pub NextDeadlineIsLeast : Type 0
 NextDeadlineIsLeast =
     (clock : ℕ) (timer : Timer) → timer.deadline ≤ clock → 0 < timer.interval → IsNextDeadline clock timer (next_deadline clock timer)
 
--- a timer that is looked at at one reading of its clock and at a later one is then as if it was looked at at the later one alone, ..
+-- a look at a timer and a later one leave what the later one leaves by itself
 abbrev pub LooksAgain : Type 0
 LooksAgain = (first later : ℕ) (timer : Option Timer) → first ≤ later → looked_at later (looked_at first timer) ≡ looked_at later timer
 
--- .. at which it is due alone exactly where it is due at one of the two
+-- the later look by itself finds the timer due exactly where one of the two looks does
 abbrev pub DueAtEither : Type 0
 DueAtEither =
     (first later : ℕ) (timer : Option Timer) → first ≤ later
