@@ -29,3 +29,5 @@ pub mod CoreFileRowLemmas
 pub mod ScriptLemmas
 pub mod BoundLemmas
 pub mod ObservingLemmas
+pub mod FactLemmas
+pub mod TickFactLemmas

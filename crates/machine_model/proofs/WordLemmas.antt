@@ -11,7 +11,7 @@ use Rattle.virt_traps.specs.Virtual.{due}
 use Rattle.xm_base.specs.declared.partition.State.TheVariants.{Ready}
 use Rattle.xm_ports.specs.Channels.{Content}
 use Rattle.xm_report.specs.Report.{ReportLine}
-use Rattle.machine_model.specs.Health.{Worked, interrupt_delivered, quiet}
+use Rattle.machine_model.specs.Health.{Worked, interrupt_delivered}
 use Rattle.machine_model.specs.Lines.{end_lines, lines, lines_of, lines_unless, step_lines}
 use Rattle.machine_model.specs.LocalTick.{LocalTick, by_turn, clocked, delivered_or_executed, executed, goes_on, local_tick, seen_outside, turned_state, with_interrupts, worked, worked_if}
 use Rattle.machine_model.specs.Machine.{Happened, Machine, Turn, after, copies, happened, happened_by, local, local_in, local_of, run, sight_for, sight_of_state, step, step_unless, taken_by, turn_of}
@@ -46,7 +46,7 @@ delivered_or_executed_by t (Some n) true view contents time sight ps = interrupt
 delivered_or_executed_by t (Some n) false view contents time sight ps = executed_by t view contents time sight ps
 
 abbrev pub worked_if_by : Turned → Bool → PartitionView → List (Option Content) → ℕ → Sight → PartitionState → Worked
-worked_if_by t false view contents time sight ps = quiet ps
+worked_if_by t false view contents time sight ps = worked_if false view contents time sight ps
 worked_if_by t true view contents time sight ps =
     delivered_or_executed_by t (due ps.traps) ps.traps.enabled view contents time sight (record ps { state = Ready })
 

@@ -21,6 +21,7 @@ pub mod Cue
 pub mod Alone
 pub mod CoreFile
 pub mod Laws
+pub mod Facts
 pub mod Rows
 pub mod SlotRows
 pub mod HealthRows

@@ -1,5 +1,6 @@
 //! The laws of the machine: a partition depends on nothing but its own things and its cues.
 
+ghost use Rattle.machine_model.specs.Facts.{BootsWithFacts, KeepsFacts, RunsWithFacts};
 ghost use Rattle.machine_model.specs.Laws.{
   ActsWithinBounds,
   AllTicks,
@@ -90,4 +91,13 @@ pub fn same_core_file()
 pub fn earlier_ticks()
     ensures scripts { EarlierScripts }
     ensures runs { TwoRunsEarlier }
+{}
+
+/// The entries of a partition's logs are bounded by the ticks, its input words are among those that
+/// it was given, and its made ports are ends of channels: when it boots, after each tick, and so
+/// after every run.
+pub fn keeps_facts()
+    ensures boots { BootsWithFacts }
+    ensures ticks { KeepsFacts }
+    ensures runs { RunsWithFacts }
 {}

@@ -1,0 +1,47 @@
+-- What holds of each partition at all times, whatever its programs do.
+use Rattle.std.specs.Prelude.{◌≡◌, ℕ, ◌+◌, ◌*◌, ◌≤◌, ◌++◌, true, Bool, List, IsSome, Some, None, slice_get, slice_index_or}
+use Rattle.xm_ports.specs.Ports.{is_made}
+use Rattle.machine_model.specs.Machine.{Machine, run, start, step}
+use Rattle.machine_model.specs.Partition.{PartitionState}
+use Rattle.machine_model.specs.Structures.{flag}
+use Rattle.machine_model.specs.View.{PartitionView, System, view_of}
+
+-- words are the last of a list
+pub record AreLast (rest all : List ℕ) : Type 0 where
+  pub used : List ℕ
+  pub is : used ++ rest ≡ all
+
+-- a number is that of a port that there is, and that is an end of a channel
+pub record IsEnd (view : PartitionView) (r : ℕ) : Type 0 where
+  pub port : IsSome (slice_get view.part.ports r)
+  pub channel : IsSome (slice_index_or view.channels r None)
+
+-- each port that is made is such a port
+abbrev pub AreEnds : PartitionView → List Bool → Type 0
+AreEnds view made = (r : ℕ) → is_made r made ≡ true → IsEnd view r
+
+-- after so many ticks that have begun: at most one trace entry came with each, and at most two health entries; the input words that are left are the last
+-- of those that the partition was given; and the made ports are ends of channels
+pub record AreFacts (view : PartitionView) (ticks : ℕ) (ps : PartitionState) : Type 0 where
+  pub traces : ps.traces.next ≤ ticks
+  pub health : ps.health.next ≤ 2 * ticks
+  pub inputs : AreLast ps.inputs view.inputs
+  pub made : AreEnds view ps.made
+
+-- the ticks that have begun: those that were counted, and the one in which the hypervisor has halted
+abbrev pub begun : Machine → ℕ
+begun g = g.ticks + flag g.halted
+
+-- the facts hold of each partition of the machine
+abbrev pub HasFacts : Machine → Type 0
+HasFacts g = (p : ℕ) (ps : PartitionState) → slice_get g.parts p ≡ Some ps → AreFacts (view_of g.system p) (begun g) ps
+
+-- a machine boots with them, and keeps them in each tick, so that they hold after every run
+abbrev pub BootsWithFacts : Type 0
+BootsWithFacts = (system : System) → HasFacts (start system)
+
+abbrev pub KeepsFacts : Type 0
+KeepsFacts = (g : Machine) → HasFacts g → HasFacts (step g)
+
+abbrev pub RunsWithFacts : Type 0
+RunsWithFacts = (system : System) (count : ℕ) → HasFacts (run (start system) count)
