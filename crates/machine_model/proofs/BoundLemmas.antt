@@ -1,6 +1,6 @@
 -- What a partition's work does beyond it is upon channels of its own and upon others.
-use Rattle.std.proofs.Common.{◌≡◌, ℕ, zero, suc, ◌<◌, ◌+◌, Bool, true, false, List, [], ◌∷◌, length, Option, None, Some, Result, Ok, Err, refl, ap, ◌∙◌, arith}
-use Rattle.std.specs.Prelude.{slice_get, slice_index_or, if◌then◌else◌, ◌==◌}
+use Rattle.std.proofs.Common.{◌≡◌, ℕ, zero, suc, ◌<◌, ◌+◌, Bool, true, false, List, [], ◌∷◌, length, Option, None, Some, Result, Ok, Err, refl, sym, ap, ◌∙◌, arith, subst}
+use Rattle.std.specs.Prelude.{slice_get, slice_index_or, if◌then◌else◌, ◌==◌, nat_lt}
 use Rattle.std.proofs.lemmas.Option.{same_Some}
 use Rattle.health_monitor.specs.Monitor.{action_in, effect_of, event_of_type}
 use Rattle.health_monitor.specs.declared.effects.Whole.{Whole}
@@ -17,6 +17,8 @@ use Rattle.virt_traps.specs.declared.windows.StackFault.{StackFault}
 use Rattle.xm_base.specs.declared.partition.State.TheVariants.{Ready}
 use Rattle.xm_conf.specs.Configuration.{Chan, Conf}
 use Rattle.xm_conf.specs.View.{channel_of}
+use Rattle.xm_conf.specs.declared.health.Action.{Action}
+use Rattle.xm_conf.specs.declared.health.Action.TheVariants as action
 use Rattle.xm_conf.specs.declared.health.Event.{Event}
 use Rattle.xm_conf.specs.declared.port.Kind.{Kind}
 use Rattle.xm_conf.specs.declared.port.Kind.TheVariants as kind
@@ -43,7 +45,7 @@ use Rattle.machine_model.specs.View.{PartitionView, PortChannel, System, name_fr
 use Rattle.machine_model.proofs.NameLemmas.{name_is, number_of as same_number}
 
 -- a name in a list of channels is that of the channel there
-abbrev IsName : List (Option PortChannel) → ℕ → Type 0
+abbrev pub IsName : List (Option PortChannel) → ℕ → Type 0
 IsName channels name = has_name (slice_index_or channels name None) name ≡ true
 
 abbrev HasName : List (Option PortChannel) → Option PortChannel → Type 0
@@ -109,14 +111,19 @@ are_names system p r =
     let channels : List (Option PortChannel) = table (port_channel system.conf p) (length (part_of system.conf p).ports) in
     table_has (HasName channels) (port_channel system.conf p) (length (part_of system.conf p).ports) r tt (each_named system.conf p)
 
--- an act upon a channel names it so
-abbrev IsWithin : PartitionView → Act → Type 0
+-- a partition's table has the action that starts the maintenance plan
+pub record HasMaintenance (view : PartitionView) : Type 0 where
+  pub event : Event
+  pub is : action_in view.part.hm event ≡ action.SwitchToMaintenance
+
+-- an act upon a channel names it so, a plan that is asked for is one that the partition sees, and maintenance is started by its table
+abbrev pub IsWithin : PartitionView → Act → Type 0
 IsWithin view told.Nothing = Unit {0}
 IsWithin view (told.Put channel bytes) = IsName view.channels channel
 IsWithin view (told.Take channel) = IsName view.channels channel
 IsWithin view (told.Upon id order) = Unit {0}
-IsWithin view (told.Ask plan) = Unit {0}
-IsWithin view told.Maintenance = Unit {0}
+IsWithin view (told.Ask plan) = nat_lt plan view.sees.plans ≡ true
+IsWithin view told.Maintenance = HasMaintenance view
 IsWithin view (told.ResetAll mode) = Unit {0}
 IsWithin view told.HaltAll = Unit {0}
 
@@ -471,6 +478,96 @@ work_bounded view contents time first sight ps names =
     let ready = with_interrupts time first ps in
     going_bounded (goes_on ready.state first (due ready.traps)) view contents time sight ready names
 
+-- and so it is within
+act_within : (view : PartitionView) (act : Act) (ps : PartitionState) → IsWithin view act → IsWithin view (by_act act view ps).act
+unfolding self_ordered
+act_within view told.Nothing ps within = tt
+act_within view (told.Put channel bytes) ps within = within
+act_within view (told.Take channel) ps within = within
+act_within view (told.Upon id order) ps within = at (id == view.id) refl
+  where
+    at : (b : Bool) → (id == view.id) ≡ b → IsWithin view (if b then self_ordered view order ps else record (quiet ps) { act = told.Upon id order }).act
+    at true same = tt
+    at false other = tt
+act_within view (told.Ask plan) ps within = within
+act_within view told.Maintenance ps within = within
+act_within view (told.ResetAll mode) ps within = tt
+act_within view told.HaltAll ps within = tt
+
+effect_within : (view : PartitionView) (event : Event) (an_action : Action) (enabled : Bool) → action_in view.part.hm event ≡ an_action → IsWithin view (done_to_all (effect_of an_action enabled).whole)
+unfolding effect_of
+effect_within view event action.Ignore enabled is = tt
+effect_within view event action.Shutdown enabled is = tt
+effect_within view event action.PartitionColdReset enabled is = tt
+effect_within view event action.PartitionWarmReset enabled is = tt
+effect_within view event action.Suspend enabled is = tt
+effect_within view event action.Halt enabled is = tt
+effect_within view event action.Propagate true is = tt
+effect_within view event action.Propagate false is = tt
+effect_within view event action.HypervisorColdReset enabled is = tt
+effect_within view event action.HypervisorWarmReset enabled is = tt
+effect_within view event action.HypervisorHalt enabled is = tt
+effect_within view event action.SwitchToMaintenance enabled is = record { event = event; is = is }
+
+event_within : (view : PartitionView) (time : ℕ) (event : Event) (word : ℕ) (type : Option ℕ) (ps : PartitionState) → IsWithin view (event_handled view time event word type ps).act
+unfolding answered_by event_handled
+event_within view time event word type ps = effect_within view event (action_in view.part.hm event) ps.traps.enabled refl
+
+upshot_within : (upshot : Upshot) (view : PartitionView) (time : ℕ) (ps : PartitionState) → ComesWithin view upshot → IsWithin view (by_upshot upshot view time ps).act
+upshot_within (Acts act) view time ps within = act_within view act ps within
+upshot_within (Meets event word) view time ps within = event_within view time event word None ps
+
+called_within : (caller : Caller) → AreNames caller.view.channels → IsWithin caller.view (called caller).act
+unfolding called
+called_within caller names = upshot_within (served caller).upshot caller.view caller.time (clocked (served caller).after) (served_stays caller names).within
+
+turn_within : (turn : Turn) (view : PartitionView) (contents : List (Option Content)) (time : ℕ) (sight : Sight) (before ps : PartitionState) → AreNames view.channels
+    → IsWithin view (by_turn turn view contents time sight before ps).act
+turn_within Went view contents time sight before ps names = tt
+turn_within (Trap type) view contents time sight before ps names = event_within view time (event_of_type type) before.core.pc (Some type) (clocked ps)
+turn_within Call view contents time sight before ps names =
+    called_within (record { view = view; state = ps; contents = contents; time = time; sight = sight; pc = before.core.pc; npc = before.core.npc }) names
+
+interrupt_within : (view : PartitionView) (answer : Result (Unit {0}) StackFault) (time n : ℕ) (d : Delivered) (ps : PartitionState) → IsWithin view (by_interrupt answer view time n d ps).act
+unfolding undelivered
+interrupt_within view (Ok made) time n d ps = tt
+interrupt_within view (Err fault) time n d ps = tt
+
+executed_within : (view : PartitionView) (contents : List (Option Content)) (time : ℕ) (sight : Sight) (ps : PartitionState) → AreNames view.channels
+    → IsWithin view (executed view contents time sight ps).act
+unfolding executed
+executed_within view contents time sight ps names =
+    let t = settled (areas_of view) ps.core ps.memory in
+    turn_within t.turn view contents time sight ps (turned_state t ps) names
+
+delivered_within : (o : Option ℕ) (enabled : Bool) (view : PartitionView) (contents : List (Option Content)) (time : ℕ) (sight : Sight) (ps : PartitionState) → AreNames view.channels
+    → IsWithin view (delivered_or_executed o enabled view contents time sight ps).act
+unfolding interrupt_delivered
+delivered_within None enabled view contents time sight ps names = executed_within view contents time sight ps names
+delivered_within (Some n) true view contents time sight ps names =
+    let d = delivered (areas_of view) (clocked ps).traps (clocked ps).core (clocked ps).memory (0xE0 + n) in
+    interrupt_within view d.answer time n d (clocked ps)
+delivered_within (Some n) false view contents time sight ps names = executed_within view contents time sight ps names
+
+going_within : (b : Bool) (view : PartitionView) (contents : List (Option Content)) (time : ℕ) (sight : Sight) (ps : PartitionState) → AreNames view.channels
+    → IsWithin view (worked_if b view contents time sight ps).act
+going_within false view contents time sight ps names = tt
+going_within true view contents time sight ps names =
+    delivered_within (due ps.traps) ps.traps.enabled view contents time sight (record ps { state = Ready }) names
+
+work_within : (view : PartitionView) (contents : List (Option Content)) (time : ℕ) (first : Bool) (sight : Sight) (ps : PartitionState) → AreNames view.channels
+    → IsWithin view (worked view contents time first sight ps).act
+unfolding worked
+work_within view contents time first sight ps names =
+    let ready = with_interrupts time first ps in
+    going_within (goes_on ready.state first (due ready.traps)) view contents time sight ready names
+
 pub acts_within_bounds : ActsWithinBounds
 unfolding local_tick
 acts_within_bounds system p ps contents n time first seen = work_bounded (view_of system p) contents time first seen ps (are_names system p)
+
+-- the act of a local tick of a system's partition is within what the partition has
+pub local_within : (system : System) (p : ℕ) (ps : PartitionState) (contents : List (Option Content)) (n time : ℕ) (first : Bool) (seen : Sight)
+    → IsWithin (view_of system p) (local_tick (view_of system p) ps contents n time first seen).act
+local_within system p ps contents n time first seen =
+    subst (IsWithin (view_of system p)) (sym (acts_within_bounds system p ps contents n time first seen)) (work_within (view_of system p) contents time first seen ps (are_names system p))

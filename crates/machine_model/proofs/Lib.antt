@@ -31,3 +31,4 @@ pub mod BoundLemmas
 pub mod ObservingLemmas
 pub mod FactLemmas
 pub mod TickFactLemmas
+pub mod ClockFactLemmas

@@ -1,5 +1,8 @@
 -- What holds of each partition at all times, whatever its programs do.
 use Rattle.std.specs.Prelude.{◌≡◌, ℕ, ◌+◌, ◌*◌, ◌≤◌, ◌++◌, true, Bool, List, IsSome, Some, None, slice_get, slice_index_or}
+use Rattle.cyclic_plans.specs.PlanClock.{AsksPlan, IsInFrame}
+use Rattle.xm_conf.specs.Description.{described}
+use Rattle.xm_conf.specs.Fits.{Fits}
 use Rattle.xm_ports.specs.Ports.{is_made}
 use Rattle.machine_model.specs.Machine.{Machine, run, start, step}
 use Rattle.machine_model.specs.Partition.{PartitionState}
@@ -45,3 +48,18 @@ KeepsFacts = (g : Machine) → HasFacts g → HasFacts (step g)
 
 abbrev pub RunsWithFacts : Type 0
 RunsWithFacts = (system : System) (count : ℕ) → HasFacts (run (start system) count)
+
+-- the plan clock runs a plan that there is, in its frame, and a plan that is asked for is there
+pub record IsClocked (g : Machine) : Type 0 where
+  pub in_frame : IsInFrame g.system.conf g.clock g.time
+  pub asked : AsksPlan g.system.conf g.clock
+
+-- under a configuration that meets the rules a machine boots so, and keeps it in each tick, so that it holds after every run
+abbrev pub BootsClocked : Type 0
+BootsClocked = (system : System) → Fits (described system.conf) → IsClocked (start system)
+
+abbrev pub KeepsClocked : Type 0
+KeepsClocked = (g : Machine) → Fits (described g.system.conf) → IsClocked g → IsClocked (step g)
+
+abbrev pub RunsClocked : Type 0
+RunsClocked = (system : System) (count : ℕ) → Fits (described system.conf) → IsClocked (run (start system) count)

@@ -1,6 +1,6 @@
 //! The laws of the machine: a partition depends on nothing but its own things and its cues.
 
-ghost use Rattle.machine_model.specs.Facts.{BootsWithFacts, KeepsFacts, RunsWithFacts};
+ghost use Rattle.machine_model.specs.Facts.{BootsClocked, BootsWithFacts, KeepsClocked, KeepsFacts, RunsClocked, RunsWithFacts};
 ghost use Rattle.machine_model.specs.Laws.{
   ActsWithinBounds,
   AllTicks,
@@ -100,4 +100,13 @@ pub fn keeps_facts()
     ensures boots { BootsWithFacts }
     ensures ticks { KeepsFacts }
     ensures runs { RunsWithFacts }
+{}
+
+/// Under a configuration that meets the rules the plan clock is inside its frame, and its plan and
+/// the one that is asked for are there: when the machine boots, after each tick, and so after every
+/// run.
+pub fn keeps_plans()
+    ensures boots { BootsClocked }
+    ensures ticks { KeepsClocked }
+    ensures runs { RunsClocked }
 {}
