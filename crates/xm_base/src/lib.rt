@@ -10,6 +10,3 @@ pub use cursor::{Cursor, Short};
 pub use limits::{CONSOLE_BYTES, FILE_BYTES, IMAGE_BYTES, TICKS};
 pub use partition::{Mode, Order, PartId, State};
 pub use want::Memory;
-
-#[cfg(test)]
-mod tests;

@@ -1,4 +1,4 @@
-//! The worked reports, each kind of line, the escapes of a console's text, and sinks that take few bytes or fail.
+//! Lines that no command prints yet, each kind of byte in a console's text, and sinks that fail.
 
 use crate::line::{Line, Move};
 use crate::output::{WriteFault, put_line};
@@ -8,190 +8,154 @@ use xm_conf::{Action, Event};
 use xm_outside::{MemSink, SureSink};
 
 #[test]
-fn a_partition_says_hi_and_halts(rt: HostRuntime) -> Result<(), Fail> {
-    let mut out = MemSink::new(rt.alloc(), Vec::new(rt.alloc()), 3);
-    put_line(
-        &mut out,
-        &Line::System {
-            parts: 1,
-            plans: 1,
-            ticks: 100,
-        },
-    )?;
-    put_line(
-        &mut out,
-        &Line::Console {
-            n: 4,
-            p: 0,
-            bytes: b"hi",
-        },
-    )?;
-    put_line(
-        &mut out,
-        &Line::Moved {
-            n: 7,
-            p: 0,
-            to: Move::Halt,
-        },
-    )?;
-    put_line(
-        &mut out,
-        &Line::EndPart {
-            p: 0,
-            state: State::Halted,
-            resets: 0,
-            exec: 8,
-            pc: 0x4000_0020,
-        },
-    )?;
-    put_line(
-        &mut out,
-        &Line::EndWhole {
-            halted: false,
-            plan: 0,
-            clock: 100,
-            ticks: 100,
-        },
-    )?;
-    let report =
-        b"SYSTEM parts=1 plans=1 ticks=100\n[4] P0 CON hi\n[7] P0 HALT\nEND P0 halted resets=0 exec=8 pc=40000020\nEND XM running plan=0 clock=100 ticks=100\n";
-    assert_eq!(rt; out.got(), report.as_slice());
-    Ok(())
-}
-
-#[test]
-fn no_tick_is_asked(rt: HostRuntime) -> Result<(), Fail> {
-    let mut out = MemSink::new(rt.alloc(), Vec::new(rt.alloc()), 1000);
-    put_line(
-        &mut out,
-        &Line::System {
-            parts: 1,
-            plans: 1,
-            ticks: 0,
-        },
-    )?;
-    put_line(
-        &mut out,
-        &Line::EndPart {
-            p: 0,
-            state: State::Ready,
-            resets: 0,
-            exec: 0,
-            pc: 0x4000_0000,
-        },
-    )?;
-    put_line(
-        &mut out,
-        &Line::EndWhole {
-            halted: false,
-            plan: 0,
-            clock: 0,
-            ticks: 0,
-        },
-    )?;
-    let report =
-        b"SYSTEM parts=1 plans=1 ticks=0\nEND P0 ready resets=0 exec=0 pc=40000000\nEND XM running plan=0 clock=0 ticks=0\n";
-    assert_eq!(rt; out.got(), report.as_slice());
-    Ok(())
-}
-
-#[test]
-fn the_whole_system_halts(rt: HostRuntime) -> Result<(), Fail> {
-    let mut out = MemSink::new(rt.alloc(), Vec::new(rt.alloc()), 64);
-    put_line(
-        &mut out,
-        &Line::EndPart {
-            p: 0,
-            state: State::Idle,
-            resets: 1,
-            exec: 2,
-            pc: 0x4010_0004,
-        },
-    )?;
-    put_line(
-        &mut out,
-        &Line::EndPart {
-            p: 15,
-            state: State::Suspended,
-            resets: 4_294_967_295,
-            exec: 18_446_744_073_709_551_615,
-            pc: 0x00c0_ffe8,
-        },
-    )?;
-    put_line(
-        &mut out,
-        &Line::EndWhole {
-            halted: true,
-            plan: 7,
-            clock: 3,
-            ticks: 4,
-        },
-    )?;
-    let report =
-        b"END P0 idle resets=1 exec=2 pc=40100004\nEND P15 suspended resets=4294967295 exec=18446744073709551615 pc=00c0ffe8\nEND XM halted plan=7 clock=3 ticks=4\n";
-    assert_eq!(rt; out.got(), report.as_slice());
-    Ok(())
-}
-
-#[test]
-fn each_kind_of_line_has_its_text(rt: HostRuntime) -> Result<(), Fail> {
-    for (line, text) in [
+fn health_lines_have_the_full_names(rt: HostRuntime) -> Result<(), Fail> {
+    for (n, p, event, word, action, text) in [
         (
-            Line::System {
-                parts: 2,
-                plans: 1,
-                ticks: 6000,
-            },
-            "SYSTEM parts=2 plans=1 ticks=6000\n",
-        ),
-        (
-            Line::Console {
-                n: 4,
-                p: 0,
-                bytes: b"a\\b\n\t~\xff",
-            },
-            "[4] P0 CON a\\\\b\\n\\x09~\\xff\n",
-        ),
-        (
-            Line::Health {
-                n: 6,
-                p: 0,
-                event: Event::MemProtection,
-                word: 0x4000_0018,
-                action: Action::Halt,
-            },
+            6,
+            0,
+            Event::MemProtection,
+            0x4000_0018,
+            Action::Halt,
             "[6] P0 HM XM_HM_EV_MEM_PROTECTION 40000018 XM_HM_AC_HALT\n",
         ),
         (
-            Line::Health {
-                n: 1000,
-                p: 1,
-                event: Event::SparcIllegalInstruction,
-                word: 0x4018_0000,
-                action: Action::Halt,
-            },
+            1000,
+            1,
+            Event::SparcIllegalInstruction,
+            0x4018_0000,
+            Action::Halt,
             "[1000] P1 HM XM_HM_EV_SPARC_ILLEGAL_INSTRUCTION 40180000 XM_HM_AC_HALT\n",
         ),
         (
-            Line::Health {
-                n: 2,
-                p: 0,
-                event: Event::PartitionError,
-                word: 42,
-                action: Action::HypervisorWarmReset,
-            },
+            2,
+            0,
+            Event::PartitionError,
+            42,
+            Action::HypervisorWarmReset,
             "[2] P0 HM XM_HM_EV_PARTITION_ERROR 0000002a XM_HM_AC_HYPERVISOR_WARM_RESET\n",
         ),
         (
-            Line::Health {
-                n: 0,
-                p: 0,
-                event: Event::SparcIllegalInstruction,
-                word: 0x4010_0000,
-                action: Action::HypervisorHalt,
-            },
+            0,
+            0,
+            Event::SparcIllegalInstruction,
+            0x4010_0000,
+            Action::HypervisorHalt,
             "[0] P0 HM XM_HM_EV_SPARC_ILLEGAL_INSTRUCTION 40100000 XM_HM_AC_HYPERVISOR_HALT\n",
         ),
+        (
+            7,
+            2,
+            Event::PartitionError,
+            0x4010_abcd,
+            Action::Ignore,
+            "[7] P2 HM XM_HM_EV_PARTITION_ERROR 4010abcd XM_HM_AC_IGNORE\n",
+        ),
+        (
+            7,
+            2,
+            Event::MemProtection,
+            0x4010_abcd,
+            Action::Shutdown,
+            "[7] P2 HM XM_HM_EV_MEM_PROTECTION 4010abcd XM_HM_AC_SHUTDOWN\n",
+        ),
+        (
+            7,
+            2,
+            Event::UnexpectedTrap,
+            0x4010_abcd,
+            Action::PartitionColdReset,
+            "[7] P2 HM XM_HM_EV_UNEXPECTED_TRAP 4010abcd XM_HM_AC_PARTITION_COLD_RESET\n",
+        ),
+        (
+            7,
+            2,
+            Event::SparcIllegalInstruction,
+            0x4010_abcd,
+            Action::PartitionWarmReset,
+            "[7] P2 HM XM_HM_EV_SPARC_ILLEGAL_INSTRUCTION 4010abcd XM_HM_AC_PARTITION_WARM_RESET\n",
+        ),
+        (
+            7,
+            2,
+            Event::SparcPrivilegedInstruction,
+            0x4010_abcd,
+            Action::Suspend,
+            "[7] P2 HM XM_HM_EV_SPARC_PRIVILEGED_INSTRUCTION 4010abcd XM_HM_AC_SUSPEND\n",
+        ),
+        (
+            7,
+            2,
+            Event::SparcFpDisabled,
+            0x4010_abcd,
+            Action::Halt,
+            "[7] P2 HM XM_HM_EV_SPARC_FP_DISABLED 4010abcd XM_HM_AC_HALT\n",
+        ),
+        (
+            7,
+            2,
+            Event::SparcCpDisabled,
+            0x4010_abcd,
+            Action::Propagate,
+            "[7] P2 HM XM_HM_EV_SPARC_CP_DISABLED 4010abcd XM_HM_AC_PROPAGATE\n",
+        ),
+        (
+            7,
+            2,
+            Event::SparcAddressNotAligned,
+            0x4010_abcd,
+            Action::HypervisorColdReset,
+            "[7] P2 HM XM_HM_EV_SPARC_ADDRESS_NOT_ALIGNED 4010abcd XM_HM_AC_HYPERVISOR_COLD_RESET\n",
+        ),
+        (
+            7,
+            2,
+            Event::SparcTagOverflow,
+            0x4010_abcd,
+            Action::HypervisorWarmReset,
+            "[7] P2 HM XM_HM_EV_SPARC_TAG_OVERFLOW 4010abcd XM_HM_AC_HYPERVISOR_WARM_RESET\n",
+        ),
+        (
+            7,
+            2,
+            Event::SparcDivideException,
+            0x4010_abcd,
+            Action::HypervisorHalt,
+            "[7] P2 HM XM_HM_EV_SPARC_DIVIDE_EXCEPTION 4010abcd XM_HM_AC_HYPERVISOR_HALT\n",
+        ),
+        (
+            7,
+            2,
+            Event::SparcInstrAccess,
+            0x4010_abcd,
+            Action::SwitchToMaintenance,
+            "[7] P2 HM XM_HM_EV_SPARC_INSTR_ACCESS 4010abcd XM_HM_AC_SWITCH_TO_MAINTENANCE\n",
+        ),
+        (
+            7,
+            2,
+            Event::SparcDataAccess,
+            0x4010_abcd,
+            Action::Halt,
+            "[7] P2 HM XM_HM_EV_SPARC_DATA_ACCESS 4010abcd XM_HM_AC_HALT\n",
+        ),
+    ] {
+        let mut out = MemSink::new(rt.alloc(), Vec::new(rt.alloc()), 30);
+        let line = Line::Health {
+            n,
+            p,
+            event,
+            word,
+            action,
+        };
+        put_line(&mut out, &line)?;
+        assert_eq!(rt; out.got(), text.as_bytes(), "at {text}");
+    }
+    Ok(())
+}
+
+#[test]
+fn each_other_line_has_its_text(rt: HostRuntime) -> Result<(), Fail> {
+    for (line, text) in [
         (
             Line::Trace {
                 n: 12,
@@ -209,14 +173,6 @@ fn each_kind_of_line_has_its_text(rt: HostRuntime) -> Result<(), Fail> {
                 load: [0; 8],
             },
             "[0] P255 TRACE 00000000 0000000000000000\n",
-        ),
-        (
-            Line::Moved {
-                n: 7,
-                p: 0,
-                to: Move::Halt,
-            },
-            "[7] P0 HALT\n",
         ),
         (
             Line::Moved {
@@ -274,16 +230,6 @@ fn each_kind_of_line_has_its_text(rt: HostRuntime) -> Result<(), Fail> {
         (Line::PlanIs { n: 1999, plan: 2 }, "[1999] XM PLAN 2\n"),
         (Line::PlanIs { n: 1999, plan: 1 }, "[1999] XM PLAN 1\n"),
         (
-            Line::EndPart {
-                p: 0,
-                state: State::Ready,
-                resets: 1,
-                exec: 1,
-                pc: 0x4010_0004,
-            },
-            "END P0 ready resets=1 exec=1 pc=40100004\n",
-        ),
-        (
             Line::EndWhole {
                 halted: true,
                 plan: 0,
@@ -292,87 +238,37 @@ fn each_kind_of_line_has_its_text(rt: HostRuntime) -> Result<(), Fail> {
             },
             "END XM halted plan=0 clock=0 ticks=0\n",
         ),
+        (
+            Line::EndPart {
+                p: 0,
+                state: State::Idle,
+                resets: 1,
+                exec: 2,
+                pc: 0x4010_0004,
+            },
+            "END P0 idle resets=1 exec=2 pc=40100004\n",
+        ),
+        (
+            Line::EndPart {
+                p: 15,
+                state: State::Suspended,
+                resets: 4_294_967_295,
+                exec: 18_446_744_073_709_551_615,
+                pc: 0x00c0_ffe8,
+            },
+            "END P15 suspended resets=4294967295 exec=18446744073709551615 pc=00c0ffe8\n",
+        ),
+        (
+            Line::EndWhole {
+                halted: true,
+                plan: 7,
+                clock: 3,
+                ticks: 4,
+            },
+            "END XM halted plan=7 clock=3 ticks=4\n",
+        ),
     ] {
         let mut out = MemSink::new(rt.alloc(), Vec::new(rt.alloc()), 2);
-        put_line(&mut out, &line)?;
-        assert_eq!(rt; out.got(), text.as_bytes(), "at {text}");
-    }
-    Ok(())
-}
-
-#[test]
-fn events_and_actions_have_their_full_names(rt: HostRuntime) -> Result<(), Fail> {
-    let (n, p, word) = (7, 2, 0x4010_abcd);
-    for (event, action, text) in [
-        (
-            Event::PartitionError,
-            Action::Ignore,
-            "[7] P2 HM XM_HM_EV_PARTITION_ERROR 4010abcd XM_HM_AC_IGNORE\n",
-        ),
-        (
-            Event::MemProtection,
-            Action::Shutdown,
-            "[7] P2 HM XM_HM_EV_MEM_PROTECTION 4010abcd XM_HM_AC_SHUTDOWN\n",
-        ),
-        (
-            Event::UnexpectedTrap,
-            Action::PartitionColdReset,
-            "[7] P2 HM XM_HM_EV_UNEXPECTED_TRAP 4010abcd XM_HM_AC_PARTITION_COLD_RESET\n",
-        ),
-        (
-            Event::SparcIllegalInstruction,
-            Action::PartitionWarmReset,
-            "[7] P2 HM XM_HM_EV_SPARC_ILLEGAL_INSTRUCTION 4010abcd XM_HM_AC_PARTITION_WARM_RESET\n",
-        ),
-        (
-            Event::SparcPrivilegedInstruction,
-            Action::Suspend,
-            "[7] P2 HM XM_HM_EV_SPARC_PRIVILEGED_INSTRUCTION 4010abcd XM_HM_AC_SUSPEND\n",
-        ),
-        (
-            Event::SparcFpDisabled,
-            Action::Halt,
-            "[7] P2 HM XM_HM_EV_SPARC_FP_DISABLED 4010abcd XM_HM_AC_HALT\n",
-        ),
-        (
-            Event::SparcCpDisabled,
-            Action::Propagate,
-            "[7] P2 HM XM_HM_EV_SPARC_CP_DISABLED 4010abcd XM_HM_AC_PROPAGATE\n",
-        ),
-        (
-            Event::SparcAddressNotAligned,
-            Action::HypervisorColdReset,
-            "[7] P2 HM XM_HM_EV_SPARC_ADDRESS_NOT_ALIGNED 4010abcd XM_HM_AC_HYPERVISOR_COLD_RESET\n",
-        ),
-        (
-            Event::SparcTagOverflow,
-            Action::HypervisorWarmReset,
-            "[7] P2 HM XM_HM_EV_SPARC_TAG_OVERFLOW 4010abcd XM_HM_AC_HYPERVISOR_WARM_RESET\n",
-        ),
-        (
-            Event::SparcDivideException,
-            Action::HypervisorHalt,
-            "[7] P2 HM XM_HM_EV_SPARC_DIVIDE_EXCEPTION 4010abcd XM_HM_AC_HYPERVISOR_HALT\n",
-        ),
-        (
-            Event::SparcInstrAccess,
-            Action::SwitchToMaintenance,
-            "[7] P2 HM XM_HM_EV_SPARC_INSTR_ACCESS 4010abcd XM_HM_AC_SWITCH_TO_MAINTENANCE\n",
-        ),
-        (
-            Event::SparcDataAccess,
-            Action::Halt,
-            "[7] P2 HM XM_HM_EV_SPARC_DATA_ACCESS 4010abcd XM_HM_AC_HALT\n",
-        ),
-    ] {
-        let mut out = MemSink::new(rt.alloc(), Vec::new(rt.alloc()), 30);
-        let line = Line::Health {
-            n,
-            p,
-            event,
-            word,
-            action,
-        };
         put_line(&mut out, &line)?;
         assert_eq!(rt; out.got(), text.as_bytes(), "at {text}");
     }
@@ -411,22 +307,7 @@ fn what_is_not_printed_is_escaped(rt: HostRuntime) -> Result<(), Fail> {
 }
 
 #[test]
-fn the_longest_line_goes_out_whole(rt: HostRuntime) -> Result<(), Fail> {
-    let mut out = MemSink::new(rt.alloc(), Vec::new(rt.alloc()), 4096);
-    put_line(
-        &mut out,
-        &Line::Console {
-            n: 18_446_744_073_709_551_615,
-            p: 255,
-            bytes: &[0; 1024],
-        },
-    )?;
-    assert_eq!(rt; out.got().len(), 4129);
-    Ok(())
-}
-
-#[test]
-fn a_sink_that_fails_has_a_front_of_the_line(rt: HostRuntime) -> Result<(), Fail> {
+fn a_sink_that_fails_has_a_prefix_of_the_line(rt: HostRuntime) -> Result<(), Fail> {
     let system = Line::System {
         parts: 2,
         plans: 1,
