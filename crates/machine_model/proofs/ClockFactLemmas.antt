@@ -16,6 +16,7 @@ use Rattle.xm_conf.specs.View.{counts_seen, is_system, sees}
 use Rattle.xm_conf.specs.declared.health.Action.{Action}
 use Rattle.xm_conf.specs.declared.health.Action.TheVariants as action
 use Rattle.xm_conf.specs.declared.health.Event.{Event}
+use Rattle.xm_ports.specs.Channels.{Content}
 use Rattle.machine_model.specs.Facts.{BootsClocked, IsClocked, KeepsClocked, RunsClocked}
 use Rattle.machine_model.specs.Machine.{Machine, Turn, act_of, after, clock_after, copies, happened, happened_by, local, local_in, local_of, next_clock, run, sight_of_state, start, step, taken_by, turn_of}
 use Rattle.machine_model.specs.Partition.{PartitionState, takes_turns}
@@ -23,7 +24,7 @@ use Rattle.machine_model.specs.Told as told
 use Rattle.machine_model.specs.Told.{Act}
 use Rattle.machine_model.specs.View.{System, no_part, part_of, view_of}
 use Rattle.machine_model.specs.Whole.{event_of, time_after}
-use Rattle.machine_model.proofs.BoundLemmas.{IsWithin, local_within}
+use Rattle.machine_model.proofs.WithinLemmas.{IsWithin, local_within}
 use Rattle.machine_model.proofs.RunLemmas.{step_system}
 use Rattle.machine_model.proofs.StepLemmas.{step_halted, step_runs}
 
@@ -75,17 +76,17 @@ unfolding described
 plans_some conf fits = fits.counts.plans.some
 
 -- an act that is within what a partition has fits the plans
-fits_plans : (system : System) (p : ℕ) (act : Act) → Fits (described system.conf) → IsWithin (view_of system p) act → FitsPlans system.conf act
+fits_plans : (system : System) (p : ℕ) (contents : List (Option Content)) (act : Act) → Fits (described system.conf) → IsWithin (view_of system p) contents act → FitsPlans system.conf act
 unfolding sees view_of
-fits_plans system p told.Nothing fits within = tt
-fits_plans system p (told.Put channel bytes) fits within = tt
-fits_plans system p (told.Take channel) fits within = tt
-fits_plans system p (told.Upon id order) fits within = tt
-fits_plans system p (told.Ask plan) fits within =
+fits_plans system p contents told.Nothing fits within = tt
+fits_plans system p contents (told.Put channel bytes) fits within = tt
+fits_plans system p contents (told.Take channel) fits within = tt
+fits_plans system p contents (told.Upon id order) fits within = tt
+fits_plans system p contents (told.Ask plan) fits within =
     seen_there (length system.conf.parts) (length system.conf.plans) (is_system (slice_get system.conf.parts p)) plan within
-fits_plans system p told.Maintenance fits within = maintenance_there system.conf p fits within.event within.is
-fits_plans system p (told.ResetAll mode) fits within = tt
-fits_plans system p told.HaltAll fits within = tt
+fits_plans system p contents told.Maintenance fits within = maintenance_there system.conf p fits within.event within.is
+fits_plans system p contents (told.ResetAll mode) fits within = tt
+fits_plans system p contents told.HaltAll fits within = tt
 
 -- the act of a tick fits them
 taken_fits : (g : Machine) (p : ℕ) (first : Bool) (o : Option PartitionState) → Fits (described g.system.conf) → FitsPlans g.system.conf (act_of (taken_by g p first o))
@@ -95,7 +96,7 @@ taken_fits g p first (Some ps) fits = at (takes_turns ps.state)
   where
     at : (b : Bool) → FitsPlans g.system.conf (act_of (if b then Some (local_of g p first ps) else None))
     at true =
-        fits_plans g.system p (local_of g p first ps).act fits (local_within g.system p ps (copies g p) g.ticks g.time first (sight_of_state g p first ps))
+        fits_plans g.system p (copies g p) (local_of g p first ps).act fits (local_within g.system p ps (copies g p) g.ticks g.time first (sight_of_state g p first ps))
     at false = tt
 
 turn_fits : (g : Machine) (o : Option Turn) → Fits (described g.system.conf) → FitsPlans g.system.conf (act_of (local_in g o))

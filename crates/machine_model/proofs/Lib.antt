@@ -27,8 +27,9 @@ pub mod ObservedRowLemmas
 pub mod WholeRowLemmas
 pub mod CoreFileRowLemmas
 pub mod ScriptLemmas
-pub mod BoundLemmas
+pub mod WithinLemmas
 pub mod ObservingLemmas
-pub mod FactLemmas
-pub mod TickFactLemmas
+pub mod WorkCallLemmas
+pub mod WorkTickLemmas
 pub mod ClockFactLemmas
+pub mod ShapeFactLemmas

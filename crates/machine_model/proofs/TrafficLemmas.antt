@@ -17,7 +17,7 @@ use Rattle.machine_model.proofs.ListLemmas.{each_table, get_each, map_table, sam
 use Rattle.machine_model.proofs.NameLemmas.{has_name_named, name_is, named_is}
 
 -- two channels that a partition calls the same are one
-same_channel : (conf : Conf) (p q c d : ℕ) → name_of conf p c ≡ Some q → name_of conf p d ≡ Some q → c ≡ d
+pub same_channel : (conf : Conf) (p q c d : ℕ) → name_of conf p c ≡ Some q → name_of conf p d ≡ Some q → c ≡ d
 same_channel conf p q c d one other = same_Some c d (sym (name_is conf p c q one) ∙ name_is conf p d q other)
 
 -- a choice that is made by whether two numbers are equal
@@ -102,7 +102,7 @@ there_and_back : (conf : Conf) (p : ℕ) → (q : ℕ) → has_name (port_channe
 there_and_back conf p q has = has_name_named conf p q has
 
 -- what a partition's act does to a channel is on a channel that it has
-view_has : (system : System) (p q : ℕ) → has_name (slice_index_or (view_of system p).channels q None) q ≡ true → has_name (port_channel system.conf p q) q ≡ true
+pub view_has : (system : System) (p q : ℕ) → has_name (slice_index_or (view_of system p).channels q None) q ≡ true → has_name (port_channel system.conf p q) q ≡ true
 unfolding view_of
 view_has system p q has =
     table_or_none (λ channel. has_name channel q ≡ true) (port_channel system.conf p) (length (part_of system.conf p).ports) q has (λ none. absurd cc)

@@ -1,8 +1,10 @@
 -- What holds of each partition at all times, whatever its programs do.
-use Rattle.std.specs.Prelude.{◌≡◌, ℕ, ◌+◌, ◌*◌, ◌≤◌, ◌++◌, true, Bool, List, IsSome, Some, None, slice_get, slice_index_or}
+use Rattle.std.specs.Prelude.{◌≡◌, ℕ, ◌+◌, ◌*◌, ◌≤◌, ◌++◌, true, Bool, List, length, IsSome, Some, None, slice_get, slice_index_or}
 use Rattle.cyclic_plans.specs.PlanClock.{AsksPlan, IsInFrame}
 use Rattle.xm_conf.specs.Description.{described}
 use Rattle.xm_conf.specs.Fits.{Fits}
+use Rattle.xm_conf.specs.Configuration.{Chan}
+use Rattle.xm_ports.specs.Channels.{Content, Suits, shape_of}
 use Rattle.xm_ports.specs.Ports.{is_made}
 use Rattle.machine_model.specs.Machine.{Machine, run, start, step}
 use Rattle.machine_model.specs.Partition.{PartitionState}
@@ -63,3 +65,18 @@ KeepsClocked = (g : Machine) → Fits (described g.system.conf) → IsClocked g 
 
 abbrev pub RunsClocked : Type 0
 RunsClocked = (system : System) (count : ℕ) → Fits (described system.conf) → IsClocked (run (start system) count)
+
+-- each channel holds what its shape allows: a content of its kind, messages of at least one byte and no more than its length, and in a queue no more than its most
+pub record HasShapes (g : Machine) : Type 0 where
+  pub counted : length g.channels ≡ length g.system.conf.chans
+  pub suited : (c : ℕ) (chan : Chan) (content : Content) → slice_get g.system.conf.chans c ≡ Some chan → slice_get g.channels c ≡ Some content → Suits (shape_of chan) content
+
+-- a machine boots so, and under a configuration that meets the rules keeps it in each tick, so that it holds after every run
+abbrev pub BootsWithShapes : Type 0
+BootsWithShapes = (system : System) → HasShapes (start system)
+
+abbrev pub KeepsShapes : Type 0
+KeepsShapes = (g : Machine) → Fits (described g.system.conf) → HasShapes g → HasShapes (step g)
+
+abbrev pub RunsWithShapes : Type 0
+RunsWithShapes = (system : System) (count : ℕ) → Fits (described system.conf) → HasShapes (run (start system) count)

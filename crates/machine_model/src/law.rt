@@ -1,6 +1,6 @@
 //! The laws of the machine: a partition depends on nothing but its own things and its cues.
 
-ghost use Rattle.machine_model.specs.Facts.{BootsClocked, BootsWithFacts, KeepsClocked, KeepsFacts, RunsClocked, RunsWithFacts};
+ghost use Rattle.machine_model.specs.Facts.{BootsClocked, BootsWithFacts, BootsWithShapes, KeepsClocked, KeepsFacts, KeepsShapes, RunsClocked, RunsWithFacts, RunsWithShapes};
 ghost use Rattle.machine_model.specs.Laws.{
   ActsWithinBounds,
   AllTicks,
@@ -109,4 +109,12 @@ pub fn keeps_plans()
     ensures boots { BootsClocked }
     ensures ticks { KeepsClocked }
     ensures runs { RunsClocked }
+{}
+
+/// Under a configuration that meets the rules each channel holds what its shape allows: when the
+/// machine boots, after each tick, and so after every run.
+pub fn keeps_shapes()
+    ensures boots { BootsWithShapes }
+    ensures ticks { KeepsShapes }
+    ensures runs { RunsWithShapes }
 {}

@@ -1,4 +1,4 @@
-use Rattle.machine_model.proofs.BoundLemmas.{acts_within_bounds}
+use Rattle.machine_model.proofs.WithinLemmas.{acts_within_bounds}
 use Rattle.machine_model.proofs.law.acts_within_bounds.Goals as goal
 
 pub returns : goal.returns

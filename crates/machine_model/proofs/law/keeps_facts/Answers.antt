@@ -1,4 +1,4 @@
-use Rattle.machine_model.proofs.TickFactLemmas.{boots_with_facts, keeps_facts, runs_with_facts}
+use Rattle.machine_model.proofs.WorkTickLemmas.{boots_with_facts, keeps_facts, runs_with_facts}
 use Rattle.machine_model.proofs.law.keeps_facts.Goals as goal
 
 pub returns : goal.returns

@@ -41,7 +41,7 @@ use Rattle.machine_model.specs.Told.{Act, Sight}
 use Rattle.machine_model.specs.Traffic.{Puts, Still, Takes, Traffic, after_message, heard_from, hearing, interrupted}
 use Rattle.machine_model.specs.View.{PartitionView, System, view_of}
 use Rattle.machine_model.specs.Whole.{AllHalted, AllReset, NoEvent, WholeEvent, after_event, ticks_after}
-use Rattle.machine_model.proofs.FactLemmas.{Goes, same_goes, served_goes}
+use Rattle.machine_model.proofs.WorkCallLemmas.{Goes, same_goes, served_goes}
 use Rattle.machine_model.proofs.ListLemmas.{get_each}
 use Rattle.machine_model.proofs.ReportLemmas.{state_there}
 use Rattle.machine_model.proofs.RunLemmas.{step_system}

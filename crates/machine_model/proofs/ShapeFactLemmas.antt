@@ -1,0 +1,364 @@
+-- Each channel holds what its shape allows.
+use Rattle.std.proofs.Common.{◌≡◌, ℕ, zero, suc, ◌<◌, ◌≤◌, ◌+◌, Bool, true, false, cond, List, [], ◌∷◌, ◌++◌, length, Option, None, Some, refl, sym, ap, ◌∙◌, arith, subst}
+use Rattle.std.specs.Prelude.{slice_get, slice_index_or, ◌==◌, ◌&&◌, ◌||◌, if◌then◌else◌, map, IfSome, All, drop}
+use Rattle.std.specs.List.{list_any, position_from}
+use Rattle.std.proofs.lemmas.Bool.{eqb-true}
+use Rattle.std.proofs.lemmas.List.Elements.{All-append, All-cons, All-head, All-nil, All-tail}
+use Rattle.std.proofs.lemmas.Option.{same_Some}
+use Rattle.xm_base.specs.Options.{on}
+use Rattle.xm_conf.specs.Configuration.{Chan, Conf, Part}
+use Rattle.xm_conf.specs.Description.{described}
+use Rattle.xm_conf.specs.Fits.{Fits, IsOfKind, SuitsPorts}
+use Rattle.xm_conf.specs.Fits.{IsEnd as IsEndOf}
+use Rattle.xm_conf.specs.Rules.{port_at, port_of}
+use Rattle.xm_conf.specs.View.{channel_of, has_end, is_port}
+use Rattle.xm_conf.specs.declared.channel.ChanKind.{ChanKind}
+use Rattle.xm_conf.specs.declared.channel.ChanKind.TheVariants as chan_kind
+use Rattle.xm_conf.specs.declared.channel.End.{End}
+use Rattle.xm_conf.specs.declared.port.Kind.{Kind}
+use Rattle.xm_conf.specs.declared.port.Port.{Port}
+use Rattle.xm_conf.specs.declared.port.Way.TheVariants as way
+use Rattle.xm_ports.specs.Channels.{Content, IsMessage, IsQueue, Queuing, Sampling, Shape, Suits, SuitsKind, cleared, empty, empty_of, messages_of, put, shape_of, shapes_of, taken}
+use Rattle.machine_model.specs.Facts.{BootsWithShapes, HasShapes, KeepsShapes, RunsWithShapes}
+use Rattle.machine_model.specs.Lists.{each, table}
+use Rattle.machine_model.specs.Machine.{Machine, Turn, act_of, after, channel_after, copies, happened, happened_by, local, local_in, local_of, run, sight_of_state, start, step, system_traffic, taken_by, turn_of}
+use Rattle.machine_model.specs.Partition.{PartitionState, takes_turns}
+use Rattle.machine_model.specs.Told as told
+use Rattle.machine_model.specs.Told.{Act}
+use Rattle.machine_model.specs.Traffic.{Puts, Still, Takes, Traffic, after_traffic, content_if, copies_of, puts_at, renamed, takes_at, traffic_of}
+use Rattle.machine_model.specs.View.{PortChannel, System, name_of, named, no_part, part_of, port_channel, view_of, with_its_name, with_name}
+use Rattle.machine_model.specs.Whole.{AllHalted, AllReset, NoEvent, WholeEvent, content_after}
+use Rattle.machine_model.proofs.WithinLemmas.{HasRoom, IsPutting, IsWithin, local_within}
+use Rattle.machine_model.proofs.ListLemmas.{get_each, get_map}
+use Rattle.machine_model.proofs.NameLemmas.{has_name_named}
+use Rattle.machine_model.proofs.RunLemmas.{step_system}
+use Rattle.machine_model.proofs.StepLemmas.{step_halted, step_runs}
+use Rattle.machine_model.proofs.TrafficLemmas.{same_channel, view_has}
+
+-- a content without messages suits its shape
+empty_suits : (of : ChanKind) (room : ℕ) → SuitsKind of room (empty_of of)
+empty_suits (chan_kind.Sampling refresh) room = tt
+empty_suits (chan_kind.Queuing most) room = record { few = omega arith; each = All-nil (IsMessage room) }
+
+cleared_suits : (of : ChanKind) (room : ℕ) (content : Content) → SuitsKind of room content → SuitsKind of room (cleared content)
+unfolding cleared
+cleared_suits (chan_kind.Sampling refresh) room (Sampling sample) suits = tt
+cleared_suits (chan_kind.Sampling refresh) room (Queuing messages) suits = absurd suits
+cleared_suits (chan_kind.Queuing most) room (Sampling sample) suits = absurd suits
+cleared_suits (chan_kind.Queuing most) room (Queuing messages) suits = record { few = omega arith; each = All-nil (IsMessage room) }
+
+-- the first message is taken
+shorter : (most room : ℕ) (messages : List (List ℕ)) → IsQueue room most messages → IsQueue room most (drop 1 messages)
+shorter most room [] queue = queue
+shorter most room (message ∷ messages) queue =
+    let few : suc (length messages) ≤ most = queue.few in
+    record { few = omega (arith, few); each = All-tail (IsMessage room) message messages queue.each }
+
+taken_suits : (of : ChanKind) (room : ℕ) (content : Content) → SuitsKind of room content → SuitsKind of room (taken content)
+unfolding taken
+taken_suits (chan_kind.Sampling refresh) room (Sampling sample) suits = suits
+taken_suits (chan_kind.Sampling refresh) room (Queuing messages) suits = absurd suits
+taken_suits (chan_kind.Queuing most) room (Sampling sample) suits = absurd suits
+taken_suits (chan_kind.Queuing most) room (Queuing messages) suits = shorter most room messages suits
+
+-- whether a channel of a kind takes one more message
+TakesMore : ChanKind → Content → Type 0
+TakesMore (chan_kind.Sampling refresh) content = Unit {0}
+TakesMore (chan_kind.Queuing most) content = length (messages_of content) < most
+
+-- a message is put
+one_longer : (messages : List (List ℕ)) (bytes : List ℕ) → length (messages ++ bytes ∷ []) ≡ length messages + 1
+one_longer [] bytes = refl
+one_longer (message ∷ messages) bytes = let more = one_longer messages bytes in omega (arith, more)
+
+put_suits : (of : ChanKind) (room time : ℕ) (bytes : List ℕ) (content : Content) → IsMessage room bytes → TakesMore of content → SuitsKind of room content → SuitsKind of room (put time bytes content)
+unfolding TakesMore put
+put_suits (chan_kind.Sampling refresh) room time bytes (Sampling sample) message more suits = message
+put_suits (chan_kind.Sampling refresh) room time bytes (Queuing messages) message more suits = absurd suits
+put_suits (chan_kind.Queuing most) room time bytes (Sampling sample) message more suits = absurd suits
+put_suits (chan_kind.Queuing most) room time bytes (Queuing messages) message more suits =
+    let longer = one_longer messages bytes in
+    let below : length messages < most = more in
+    record {
+      few = omega (arith, longer, below);
+      each = All-append (IsMessage room) messages (bytes ∷ []) suits.each (All-cons (IsMessage room) bytes [] message (All-nil (IsMessage room)));
+    }
+
+-- room by the kind of a port is room by the kind of its channel
+takes_more : (of : ChanKind) (one : Kind) (content : Content) → IsOfKind of one → HasRoom one of content → TakesMore of content
+unfolding TakesMore
+takes_more (chan_kind.Sampling refresh) one content is room = tt
+takes_more (chan_kind.Queuing most) one content is room = subst (λ (k : Kind). HasRoom k (chan_kind.Queuing most) content) is room
+
+-- what is found by a search
+record IsFound {X : Type 0} (test : X → Bool) (k : ℕ) (xs : List X) (e : ℕ) : Type 0 where
+  place : ℕ
+  element : X
+  at : e ≡ k + place
+  there : slice_get xs place ≡ Some element
+  passes : test element ≡ true
+
+found_from : {X : Type 0} (test : X → Bool) (k : ℕ) (xs : List X) (e : ℕ) → position_from test k xs ≡ Some e → IsFound test k xs e
+found_from test k [] e is = absurd cc
+found_from test k (x ∷ xs) e is = by (test x) refl is (found_from test (k + 1) xs e)
+  where
+    by : (b : Bool) → test x ≡ b → cond b (Some k) (position_from test (k + 1) xs) ≡ Some e → (position_from test (k + 1) xs ≡ Some e → IsFound test (k + 1) xs e) → IsFound test k (x ∷ xs) e
+    by true passes said further = record { place = 0; element = x; at = (let same : k ≡ e = same_Some k e said in omega (arith, same)); there = refl; passes = passes }
+    by false fails said further =
+        let found = further said in
+        let at : e ≡ k + 1 + found.place = found.at in
+        record { place = suc found.place; element = found.element; at = omega (arith, at); there = found.there; passes = found.passes }
+
+-- the port at an end
+end_is : (p r : ℕ) (end : End) → is_port p r end ≡ true → end ≡ record { part = p; port = r }
+unfolding is_port
+end_is p r end is = by (end.part == p) (end.port == r) refl refl is
+  where
+    by : (a b : Bool) → (end.part == p) ≡ a → (end.port == r) ≡ b → (a && b) ≡ true → end ≡ record { part = p; port = r }
+    by true true part port said = ap (λ n. record { part = n; port = end.port }) (eqb-true end.part p part) ∙ ap (λ n. record { part = p; port = n }) (eqb-true end.port r port)
+    by true false part port said = absurd cc
+    by false b part port said = absurd cc
+
+any_end : (P : End → Type 0) (p r : ℕ) (ends : List End) → list_any (is_port p r) ends ≡ true → All P ends → P (record { part = p; port = r })
+any_end P p r [] is all = absurd cc
+any_end P p r (end ∷ ends) is all = by (is_port p r end) refl is (any_end P p r ends)
+  where
+    by : (b : Bool) → is_port p r end ≡ b → (b || list_any (is_port p r) ends) ≡ true → (list_any (is_port p r) ends ≡ true → All P ends → P (record { part = p; port = r })) → P (record { part = p; port = r })
+    by true its said further = subst P (end_is p r end its) (All-head P end ends all)
+    by false its said further = further said (All-tail P end ends all)
+
+-- a port that is an end of a channel is of its kind
+end_kind : (parts : List Part) (chan : Chan) (p r : ℕ) (port : Port) → SuitsPorts parts chan → has_end p r chan ≡ true → port_at parts (record { part = p; port = r }) ≡ Some port
+    → IsOfKind chan.kind port.kind
+unfolding has_end
+end_kind parts chan p r port suits is there = by (is_port p r chan.source) refl is
+  where
+    by : (b : Bool) → is_port p r chan.source ≡ b → (b || list_any (is_port p r) chan.dests) ≡ true → IsOfKind chan.kind port.kind
+    by true source said =
+        let at = subst (λ (end : End). IfSome (port_at parts end) (IsEndOf chan.kind way.Source)) (end_is p r chan.source source) suits.source in
+        (subst (λ (o : Option Port). IfSome o (IsEndOf chan.kind way.Source)) there at).kind_is
+    by false source said =
+        let at = any_end (λ end. IfSome (port_at parts end) (IsEndOf chan.kind way.Destination)) p r chan.dests said suits.dests in
+        (subst (λ (o : Option Port). IfSome o (IsEndOf chan.kind way.Destination)) there at).kind_is
+
+part_port : (parts : List Part) (p r : ℕ) (port : Port) → slice_get (slice_index_or parts p no_part).ports r ≡ Some port → port_of r (slice_get parts p) ≡ Some port
+part_port [] p r port is = absurd cc
+part_port (part ∷ parts) zero r port is = is
+part_port (part ∷ parts) (suc p) r port is = part_port parts p r port is
+
+-- a table of options, read where something is
+table_some : {Y : Type 0} (f : ℕ → Option Y) (n r : ℕ) (y : Y) → slice_index_or (table f n) r None ≡ Some y → f r ≡ Some y
+table_some f zero r y is = absurd cc
+table_some f (suc n) zero y is = is
+table_some f (suc n) (suc r) y is = table_some (λ k. f (suc k)) n r y is
+
+-- the channel of a partition's port
+record IsItsChannel (conf : Conf) (p r : ℕ) (channel : PortChannel) : Type 0 where
+  number : ℕ
+  chan : Chan
+  found : channel_of conf p r ≡ Some number
+  there : slice_get conf.chans number ≡ Some chan
+  named_so : name_of conf p number ≡ Some channel.name
+  shape_is : shape_of chan ≡ channel.shape
+
+its_channel_is : (conf : Conf) (p r : ℕ) (channel : PortChannel) → port_channel conf p r ≡ Some channel → IsItsChannel conf p r channel
+unfolding port_channel
+its_channel_is conf p r channel is = by (channel_of conf p r) refl is
+  where
+    with_both : (c : ℕ) → channel_of conf p r ≡ Some c → (chan : Option Chan) (name : Option ℕ) → slice_get conf.chans c ≡ chan → name_of conf p c ≡ name
+        → with_name chan name ≡ Some channel → IsItsChannel conf p r channel
+    with_both c found None name there named_so said = absurd cc
+    with_both c found (Some chan) None there named_so said = absurd cc
+    with_both c found (Some chan) (Some q) there named_so said =
+        let same : record { shape = shape_of chan; name = q } ≡ channel = same_Some _ channel said in
+        record {
+          number = c;
+          chan = chan;
+          found = found;
+          there = there;
+          named_so = named_so ∙ ap (λ x. Some x.name) same;
+          shape_is = ap (λ x. x.shape) same;
+        }
+
+    by : (o : Option ℕ) → channel_of conf p r ≡ o → with_its_name conf p o ≡ Some channel → IsItsChannel conf p r channel
+    by None found said = absurd cc
+    by (Some c) found said = with_both c found (slice_get conf.chans c) (name_of conf p c) refl refl said
+
+view_channel : (system : System) (p r : ℕ) (channel : PortChannel) → slice_index_or (view_of system p).channels r None ≡ Some channel → port_channel system.conf p r ≡ Some channel
+unfolding view_of
+view_channel system p r channel is = table_some (port_channel system.conf p) (length (part_of system.conf p).ports) r channel is
+
+copy_there : (g : Machine) (p q : ℕ) (content : Content) → slice_index_or (copies g p) q None ≡ Some content → content_if g.channels (named g.system.conf p q) ≡ Some content
+unfolding copies copies_of
+copy_there g p q content is = table_some (λ k. content_if g.channels (named g.system.conf p k)) (length (part_of g.system.conf p).ports) q content is
+
+-- what traffic on the system's channels fits
+FitsChannels : Conf → List Content → Traffic → Type 0
+FitsChannels conf channels Still = Unit {0}
+FitsChannels conf channels (Puts c bytes) =
+    (chan : Chan) (content : Content) → slice_get conf.chans c ≡ Some chan → slice_get channels c ≡ Some content → IsMessage chan.length bytes × TakesMore chan.kind content
+FitsChannels conf channels (Takes c) = Unit {0}
+
+-- what holds of each element of a list holds of one that is there
+all_at : {X : Type 0} (P : X → Type 0) (xs : List X) (k : ℕ) (x : X) → slice_get xs k ≡ Some x → All P xs → P x
+all_at P [] k x is all = absurd cc
+all_at P (one ∷ xs) zero x is all = subst P (same_Some one x is) (All-head P one xs all)
+all_at P (one ∷ xs) (suc k) x is all = all_at P xs k x is (All-tail P one xs all)
+
+view_port : (system : System) (p r : ℕ) (port : Port) → slice_get (view_of system p).part.ports r ≡ Some port → slice_get (part_of system.conf p).ports r ≡ Some port
+unfolding view_of
+view_port system p r port is = is
+
+-- a port of the partition is of the kind of its channel
+port_kind : (conf : Conf) (p r : ℕ) (port : Port) (channel : PortChannel) → Fits (described conf) → slice_get (part_of conf p).ports r ≡ Some port
+    → (its : IsItsChannel conf p r channel) → IsOfKind its.chan.kind port.kind
+unfolding channel_of described part_of port_at
+port_kind conf p r port channel fits there its =
+    let found = found_from (has_end p r) 0 conf.chans its.number its.found in
+    let place : its.number ≡ 0 + found.place = found.at in
+    let same_place : found.place ≡ its.number = omega (arith, place) in
+    let same : found.element ≡ its.chan = same_Some found.element its.chan (sym found.there ∙ ap (slice_get conf.chans) same_place ∙ its.there) in
+    let is_end : has_end p r its.chan ≡ true = sym (ap (has_end p r) same) ∙ found.passes in
+    end_kind conf.parts its.chan p r port (all_at (SuitsPorts conf.parts) conf.chans its.number its.chan its.there fits.ends_suit) is_end (part_port conf.parts p r port there)
+
+-- a put by a partition fits the channel of the system that it names
+put_fits : (g : Machine) (p q : ℕ) (bytes : List ℕ) (c : ℕ) → Fits (described g.system.conf) → IsPutting (view_of g.system p) (copies g p) q bytes → named g.system.conf p q ≡ Some c
+    → name_of g.system.conf p c ≡ Some q → FitsChannels g.system.conf g.channels (Puts c bytes)
+unfolding FitsChannels
+put_fits g p q bytes c fits putting named_so name_is chan content chan_there content_there =
+    let its = its_channel_is g.system.conf p putting.number putting.channel (view_channel g.system p putting.number putting.channel putting.channel_there) in
+    let same : its.number ≡ c = same_channel g.system.conf p q its.number c (its.named_so ∙ ap Some putting.name_is) name_is in
+    let same_chan : its.chan ≡ chan = same_Some its.chan chan (sym its.there ∙ ap (slice_get g.system.conf.chans) same ∙ chan_there) in
+    let its_shape : putting.channel.shape ≡ shape_of chan = sym its.shape_is ∙ ap shape_of same_chan in
+    let same_content : putting.content ≡ content = same_Some putting.content content
+    (sym (copy_there g p q putting.content putting.held) ∙ ap (content_if g.channels) named_so ∙ content_there) in
+    let of_kind : IsOfKind chan.kind putting.port.kind = subst (λ (x : Chan). IsOfKind x.kind putting.port.kind) same_chan
+    (port_kind g.system.conf p putting.number putting.port putting.channel fits (view_port g.system p putting.number putting.port putting.port_there) its) in
+    let room : HasRoom putting.port.kind chan.kind content = subst (λ (x : Content). HasRoom putting.port.kind chan.kind x) same_content
+    (subst (λ (shape : Shape). HasRoom putting.port.kind shape.kind putting.content) its_shape putting.room) in
+    (subst (λ (shape : Shape). IsMessage shape.length bytes) its_shape putting.message, takes_more chan.kind putting.port.kind content of_kind room)
+
+-- the traffic of an act under the system's numbers
+act_fits : (g : Machine) (p : ℕ) (act : Act) → Fits (described g.system.conf) → IsWithin (view_of g.system p) (copies g p) act
+    → FitsChannels g.system.conf g.channels (renamed (named g.system.conf p) (traffic_of act))
+unfolding FitsChannels
+act_fits g p told.Nothing fits within = tt
+act_fits g p (told.Put q bytes) fits within =
+    let its = has_name_named g.system.conf p q (view_has g.system p q within.named) in
+    subst (λ (o : Option ℕ). FitsChannels g.system.conf g.channels (puts_at o bytes)) (sym its.1) (put_fits g p q bytes its.0 fits within its.1 its.2)
+act_fits g p (told.Take q) fits within = by (named g.system.conf p q)
+  where
+    by : (o : Option ℕ) → FitsChannels g.system.conf g.channels (takes_at o)
+    by None = tt
+    by (Some c) = tt
+act_fits g p (told.Upon id order) fits within = tt
+act_fits g p (told.Ask plan) fits within = tt
+act_fits g p told.Maintenance fits within = tt
+act_fits g p (told.ResetAll mode) fits within = tt
+act_fits g p told.HaltAll fits within = tt
+
+-- the traffic of a tick
+taken_traffic : (g : Machine) (p : ℕ) (first : Bool) (o : Option PartitionState) → Fits (described g.system.conf)
+    → FitsChannels g.system.conf g.channels (renamed (named g.system.conf p) (traffic_of (act_of (taken_by g p first o))))
+unfolding FitsChannels local_of
+taken_traffic g p first None fits = tt
+taken_traffic g p first (Some ps) fits = at (takes_turns ps.state)
+  where
+    at : (b : Bool) → FitsChannels g.system.conf g.channels (renamed (named g.system.conf p) (traffic_of (act_of (if b then Some (local_of g p first ps) else None))))
+    at true = act_fits g p (local_of g p first ps).act fits (local_within g.system p ps (copies g p) g.ticks g.time first (sight_of_state g p first ps))
+    at false = tt
+
+turn_traffic : (g : Machine) (o : Option Turn) → Fits (described g.system.conf) → FitsChannels g.system.conf g.channels (system_traffic g.system.conf o (traffic_of (act_of (local_in g o))))
+unfolding FitsChannels
+turn_traffic g None fits = tt
+turn_traffic g (Some turn) fits = taken_traffic g turn.part turn.first (slice_get g.parts turn.part) fits
+
+tick_traffic : (g : Machine) → Fits (described g.system.conf) → FitsChannels g.system.conf g.channels (happened g).traffic
+unfolding happened happened_by local
+tick_traffic g fits = turn_traffic g (turn_of g) fits
+
+-- what traffic leaves of a channel
+traffic_suits : (conf : Conf) (channels : List Content) (time : ℕ) (traffic : Traffic) (c : ℕ) (chan : Chan) (content : Content) → FitsChannels conf channels traffic
+    → slice_get conf.chans c ≡ Some chan → slice_get channels c ≡ Some content → SuitsKind chan.kind chan.length content → SuitsKind chan.kind chan.length (after_traffic time traffic c content)
+unfolding FitsChannels
+traffic_suits conf channels time Still c chan content fits chan_there there suits = suits
+traffic_suits conf channels time (Puts d bytes) c chan content fits chan_there there suits = at (d == c) refl
+  where
+    at : (b : Bool) → (d == c) ≡ b → SuitsKind chan.kind chan.length (if b then put time bytes content else content)
+    at true same =
+        let its : d ≡ c = eqb-true d c same in
+        let fit = fits chan content (ap (slice_get conf.chans) its ∙ chan_there) (ap (slice_get channels) its ∙ there) in
+        put_suits chan.kind chan.length time bytes content fit.0 fit.1 suits
+    at false other = suits
+traffic_suits conf channels time (Takes d) c chan content fits chan_there there suits = at (d == c)
+  where
+    at : (b : Bool) → SuitsKind chan.kind chan.length (if b then taken content else content)
+    at true = taken_suits chan.kind chan.length content suits
+    at false = suits
+
+event_suits : (e : WholeEvent) (of : ChanKind) (room : ℕ) (content : Content) → SuitsKind of room content → SuitsKind of room (content_after e content)
+event_suits NoEvent of room content suits = suits
+event_suits (AllReset mode) of room content suits = cleared_suits of room content suits
+event_suits AllHalted of room content suits = suits
+
+-- as many channels as before
+each_counted : {X Y : Type 0} (f : ℕ → X → Y) (xs : List X) → length (each f xs) ≡ length xs
+each_counted f [] = refl
+each_counted f (x ∷ xs) = ap suc (each_counted (λ k. f (suc k)) xs)
+
+map_counted : {X Y : Type 0} (f : X → Y) (xs : List X) → length (map f xs) ≡ length xs
+map_counted f [] = refl
+map_counted f (x ∷ xs) = ap suc (map_counted f xs)
+
+after_shapes : (g : Machine) → Fits (described g.system.conf) → HasShapes g → HasShapes (after g (happened g))
+unfolding after channel_after
+after_shapes g fits shapes = record {
+  counted = each_counted (channel_after g.time (happened g)) g.channels ∙ shapes.counted;
+  suited = λ c chan content chan_there there. by c chan content (slice_get g.channels c) refl chan_there there;
+}
+  where
+    by : (c : ℕ) (chan : Chan) (content : Content) (o : Option Content) → slice_get g.channels c ≡ o → slice_get g.system.conf.chans c ≡ Some chan
+        → slice_get (each (channel_after g.time (happened g)) g.channels) c ≡ Some content → Suits (shape_of chan) content
+    by c chan content None is chan_there there =
+        absurd (let none = sym (get_each (channel_after g.time (happened g)) g.channels c ∙ ap (on (channel_after g.time (happened g) c)) is) ∙ there in cc)
+    by c chan content (Some before) is chan_there there =
+        let same : channel_after g.time (happened g) c before ≡ content =
+        same_Some _ content (sym (get_each (channel_after g.time (happened g)) g.channels c ∙ ap (on (channel_after g.time (happened g) c)) is) ∙ there) in
+        subst (Suits (shape_of chan)) same (record {
+          held = event_suits (happened g).event chan.kind chan.length (after_traffic g.time (happened g).traffic c before)
+              (traffic_suits g.system.conf g.channels g.time (happened g).traffic c chan before (tick_traffic g fits) chan_there is (shapes.suited c chan before chan_there is).held);
+        })
+
+pub keeps_shapes : KeepsShapes
+keeps_shapes g fits shapes = at g.halted refl
+  where
+    at : (b : Bool) → g.halted ≡ b → HasShapes (step g)
+    at true halts = subst HasShapes (sym (step_halted g halts)) shapes
+    at false runs = subst HasShapes (sym (step_runs g runs)) (after_shapes g fits shapes)
+
+start_contents : (chans : List Chan) (c : ℕ) (chan : Chan) (content : Content) → slice_get chans c ≡ Some chan → slice_get (map empty (map shape_of chans)) c ≡ Some content
+    → Suits (shape_of chan) content
+start_contents chans c chan content chan_there there =
+    let found : slice_get (map empty (map shape_of chans)) c ≡ Some (empty (shape_of chan)) =
+    get_map empty (map shape_of chans) c ∙ ap (on empty) (get_map shape_of chans c ∙ ap (on shape_of) chan_there) in
+    let same : empty (shape_of chan) ≡ content = same_Some (empty (shape_of chan)) content (sym found ∙ there) in
+    subst (Suits (shape_of chan)) same (record { held = empty_suits chan.kind chan.length })
+
+pub boots_with_shapes : BootsWithShapes
+unfolding shapes_of start
+boots_with_shapes system = record {
+  counted = map_counted empty (map shape_of system.conf.chans) ∙ map_counted shape_of system.conf.chans;
+  suited = start_contents system.conf.chans;
+}
+
+run_shapes : (count : ℕ) (g : Machine) → Fits (described g.system.conf) → HasShapes g → HasShapes (run g count)
+run_shapes zero g fits shapes = shapes
+run_shapes (suc count) g fits shapes =
+    run_shapes count (step g) (subst (λ (system : System). Fits (described system.conf)) (sym (step_system g)) fits) (keeps_shapes g fits shapes)
+
+start_fits : (system : System) → Fits (described system.conf) → Fits (described (start system).system.conf)
+unfolding start
+start_fits system fits = fits
+
+pub runs_with_shapes : RunsWithShapes
+runs_with_shapes system count fits = run_shapes count (start system) (start_fits system fits) (boots_with_shapes system)
