@@ -19,7 +19,7 @@ use Rattle.xm_conf.specs.declared.port.Kind.{Kind}
 use Rattle.xm_conf.specs.declared.port.Port.{Port}
 use Rattle.xm_conf.specs.declared.port.Way.TheVariants as way
 use Rattle.xm_ports.specs.Channels.{Content, IsMessage, IsQueue, Queuing, Sampling, Shape, Suits, SuitsKind, cleared, empty, empty_of, messages_of, put, shape_of, shapes_of, taken}
-use Rattle.machine_model.specs.Facts.{BootsWithShapes, HasShapes, KeepsShapes, RunsWithShapes}
+use Rattle.machine_model.specs.Facts.{BootsWithShapes, HasShapes, KeepsShapes, PortsHaveKinds, RunsWithShapes}
 use Rattle.machine_model.specs.Lists.{each, table}
 use Rattle.machine_model.specs.Machine.{Machine, Turn, act_of, after, channel_after, copies, happened, happened_by, local, local_in, local_of, run, sight_of_state, start, step, system_traffic, taken_by, turn_of}
 use Rattle.machine_model.specs.Partition.{PartitionState, takes_turns}
@@ -362,3 +362,8 @@ start_fits system fits = fits
 
 pub runs_with_shapes : RunsWithShapes
 runs_with_shapes system count fits = run_shapes count (start system) (start_fits system fits) (boots_with_shapes system)
+
+pub ports_have_kinds : PortsHaveKinds
+ports_have_kinds system p r port channel fits port_there channel_there =
+    let its = its_channel_is system.conf p r channel (view_channel system p r channel channel_there) in
+    subst (λ (shape : Shape). IsOfKind shape.kind port.kind) its.shape_is (port_kind system.conf p r port channel fits (view_port system p r port port_there) its)

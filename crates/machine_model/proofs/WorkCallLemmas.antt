@@ -1,6 +1,8 @@
 -- What each call leaves of the facts.
-use Rattle.std.proofs.Common.{◌≡◌, ℕ, zero, suc, ◌≤◌, ◌+◌, Bool, true, false, List, [], ◌∷◌, Option, None, Some, Result, Ok, Err, refl, sym, ap, arith, subst}
-use Rattle.std.specs.Prelude.{slice_get, slice_index_or, if◌then◌else◌, ◌==◌, ◌&&◌, IsSome, bit_and}
+use Rattle.std.proofs.Common.{length, ◌++◌, ◌≡◌, ℕ, zero, suc, ◌≤◌, ◌+◌, Bool, true, false, List, [], ◌∷◌, Option, None, Some, Result, Ok, Err, refl, sym, ap, arith, subst}
+use Rattle.std.specs.Prelude.{◌-◌, drop, slice_get, slice_index_or, if◌then◌else◌, ◌==◌, ◌&&◌, IsSome, bit_and}
+use Rattle.std.proofs.lemmas.List.Elements.{All-append, All-cons, All-drop, All-nil}
+use Rattle.guest_bus.specs.MemoryLemmas.{length-bytes_at}
 use Rattle.health_monitor.specs.declared.entry.HealthEntry.{HealthEntry}
 use Rattle.virt_traps.specs.Delivery.{Returned, returned}
 use Rattle.virt_traps.specs.Moves.{made}
@@ -14,12 +16,12 @@ use Rattle.xm_conf.specs.declared.port.Port.{Port}
 use Rattle.xm_ports.specs.Channels.{HeldSample, Shape, first_message, sample_of}
 use Rattle.xm_ports.specs.Ports.{agrees_end, created_over, granted, is_made, is_way_of, port_with, unless_differs, unless_made, unless_missing, with_port}
 use Rattle.xm_ports.specs.declared.ports.CreateFault.{CreateFault}
-use Rattle.xm_traces.specs.Ring.{Kept, noted}
+use Rattle.xm_traces.specs.Ring.{Kept, RING_ENTRIES, noted}
 use Rattle.xm_traces.specs.declared.entry.TraceEntry.{TraceEntry}
 use Rattle.machine_model.specs.Caller.{Caller, Served, Test, a_of, answering, b_of, c_of, d_of, invalid_parameter, no_action, not_available, number_of, refused_if, room, tested, text, with_answer, with_written}
-use Rattle.machine_model.specs.Facts.{AreEnds, AreLast, IsEnd}
+use Rattle.machine_model.specs.Facts.{AreEnds, AreLast, HaveEight, IsEnd}
 use Rattle.machine_model.specs.Hypercalls.{served}
-use Rattle.machine_model.specs.LogCalls.{hm_read, hm_status, raise_event, trace_event, trace_read, trace_status, tracing}
+use Rattle.machine_model.specs.LogCalls.{hm_read, hm_status, raise_event, trace_entry, trace_event, trace_read, trace_status, tracing}
 use Rattle.machine_model.specs.Partition.{PartitionState, areas_of}
 use Rattle.machine_model.specs.PartitionCalls.{get_partition_status, get_self, get_system_status, halt_partition, halt_system, idle_self, reset_partition, reset_system, resume_partition, shutdown_partition, suspend_partition}
 use Rattle.machine_model.specs.PortCalls.{MadePort, by_created, create_queuing_port, create_sampling_port, creating, first_read, get_queuing_port_status, get_sampling_port_status, held_read, is_full, made_port, name_given, on_port, putting, read_sampling_message, receive_queuing_message, send_queuing_message, shape_at, size_fits, source_only, write_sampling_message}
@@ -42,6 +44,7 @@ four ps = record { traces = ps.traces; health = ps.health; inputs = ps.inputs; m
 pub record Goes (view : PartitionView) (traces health : ℕ) (before after : PartitionState) : Type 0 where
   pub traced : after.traces.next ≤ before.traces.next + traces
   pub met : after.health.next ≤ before.health.next + health
+  pub loaded : HaveEight before.traces.entries → HaveEight after.traces.entries
   pub read : AreLast after.inputs before.inputs
   pub made : AreEnds view before.made → AreEnds view after.made
 
@@ -53,6 +56,7 @@ same_goes view traces health before after same =
     record {
       traced = omega (arith, traced);
       met = omega (arith, met);
+      loaded = λ eight. subst HaveEight (sym (ap (λ f. f.traces.entries) same)) eight;
       read = record { used = []; is = ap (λ f. f.inputs) same };
       made = λ ends. subst (AreEnds view) (sym (ap (λ f. f.made) same)) ends;
     }
@@ -108,14 +112,29 @@ input_leaves : (inputs : List ℕ) (caller : Caller) → caller.state.inputs ≡
 unfolding with_answer with_written
 input_leaves [] caller is = keeps caller (input_read [] caller) refl
 input_leaves (next ∷ rest) caller is = tested_leaves (room caller (a_of caller) 4 ∷ []) caller _ (record {
-  goes = record { traced = omega arith; met = omega arith; read = record { used = next ∷ []; is = sym is }; made = λ ends. ends };
+  goes = record { traced = omega arith; met = omega arith; loaded = λ eight. eight; read = record { used = next ∷ []; is = sym is }; made = λ ends. ends };
 })
+
+-- entries of eight bytes with one more, of which the last are kept
+one_more : (entries : List TraceEntry) (entry : TraceEntry) → length entry.load ≡ 8 → HaveEight entries → HaveEight (entries ++ entry ∷ [])
+one_more entries entry eight all =
+    All-append (λ (e : TraceEntry). length e.load ≡ 8) entries (entry ∷ []) all
+    (All-cons (λ (e : TraceEntry). length e.load ≡ 8) entry [] eight (All-nil (λ (e : TraceEntry). length e.load ≡ 8)))
+
+last_eight : (entries : List TraceEntry) → HaveEight entries → HaveEight (drop (length entries - RING_ENTRIES) entries)
+last_eight entries all = All-drop (λ (e : TraceEntry). length e.load ≡ 8) (length entries - RING_ENTRIES) entries all
 
 -- a trace is entered
 trace_leaves : (caller : Caller) → Leaves caller (tracing caller)
 unfolding noted with_answer
 trace_leaves caller = record {
-  goes = record { traced = omega arith; met = omega arith; read = record { used = []; is = refl }; made = λ ends. ends };
+  goes = record {
+    traced = omega arith;
+    met = omega arith;
+    loaded = λ eight. last_eight (caller.state.traces.entries ++ trace_entry caller ∷ []) (one_more caller.state.traces.entries (trace_entry caller) (length-bytes_at caller.state.memory (b_of caller) 8) eight);
+    read = record { used = []; is = refl };
+    made = λ ends. ends;
+  };
 }
 
 -- what is made with one more port
@@ -174,6 +193,7 @@ creating_leaves the_kind way size most (Some name) caller =
       goes = record {
         traced = omega arith;
         met = omega arith;
+        loaded = λ eight. eight;
         read = record { used = []; is = refl };
         made = λ ends. made_or (IsEnd caller.view) caller.state.made r (is_created caller.view name the_kind way size most caller.state.made r is) ends;
       };

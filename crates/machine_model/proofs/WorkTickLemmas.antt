@@ -1,6 +1,7 @@
 -- The facts are kept by each tick.
 use Rattle.std.proofs.Common.{◌≡◌, ℕ, zero, suc, ◌≤◌, ◌+◌, ◌*◌, Bool, true, false, List, [], ◌∷◌, ◌++◌, length, Option, None, Some, Result, Ok, Err, refl, sym, ap, ◌∙◌, arith, subst}
-use Rattle.std.specs.Prelude.{slice_get, slice_index_or, replicate, if◌then◌else◌, ◌==◌, is_some}
+use Rattle.std.specs.Prelude.{IfSome, nat_lt, ◌-◌, slice_get, slice_index_or, replicate, if◌then◌else◌, ◌==◌, is_some}
+use Rattle.std.proofs.lemmas.List.Elements.{All-head, All-nil, All-tail}
 use Rattle.std.proofs.lemmas.Option.{same_Some}
 use Rattle.health_monitor.specs.Monitor.{action_in, effect_of, event_of_type, is_logged}
 use Rattle.health_monitor.specs.declared.effects.Effect.{Effect}
@@ -23,14 +24,15 @@ use Rattle.xm_conf.specs.declared.health.Event.{Event}
 use Rattle.xm_conf.specs.declared.health.Event.TheVariants as event
 use Rattle.xm_ports.specs.Channels.{Content}
 use Rattle.xm_ports.specs.Ports.{is_made, no_ports}
-use Rattle.xm_traces.specs.Ring.{noted, nothing_kept}
+use Rattle.xm_traces.specs.Ring.{Kept, entry_at, first_kept, noted, nothing_kept}
+use Rattle.xm_traces.specs.declared.entry.TraceEntry.{TraceEntry}
 use Rattle.machine_model.specs.Alone.{Alone, alone_after, alone_local, alone_local_in, alone_step, alone_traffic}
 use Rattle.machine_model.specs.Caller.{Acts, Caller, Meets, Upshot}
 use Rattle.machine_model.specs.Cue.{Away, Cue, Mine, Slot, cue}
-use Rattle.machine_model.specs.Facts.{AreEnds, AreFacts, AreLast, BootsWithFacts, HasFacts, KeepsFacts, RunsWithFacts, begun}
+use Rattle.machine_model.specs.Facts.{AreEnds, AreFacts, AreLast, BootsWithFacts, HasFacts, HaveEight, KeepsFacts, RunsWithFacts, ShowsItsSizeInRuns, begun}
 use Rattle.machine_model.specs.Health.{answered_by, behind, by_delivery, by_interrupt, done_to_itself, entered, entered_if, event_handled, interrupt_delivered, is_passed_over, passed_over_if, propagated, quiet, self_ordered, trap_delivered, undelivered}
 use Rattle.machine_model.specs.Hypercalls.{served}
-use Rattle.machine_model.specs.Laws.{part}
+use Rattle.machine_model.specs.Laws.{HasLoads, part}
 use Rattle.machine_model.specs.Lists.{table}
 use Rattle.machine_model.specs.LocalTick.{LocalTick, by_act, by_turn, by_upshot, called, clocked, delivered_or_executed, executed, goes_on, local_tick, turned_state, with_interrupts, worked, worked_if}
 use Rattle.machine_model.specs.Machine.{Machine, after, after_tick, booted_part, happened, is_halt, obeyed, part_after, rested_unless, run, start, step, worked_in}
@@ -43,6 +45,7 @@ use Rattle.machine_model.specs.View.{PartitionView, System, view_of}
 use Rattle.machine_model.specs.Whole.{AllHalted, AllReset, NoEvent, WholeEvent, after_event, ticks_after}
 use Rattle.machine_model.proofs.WorkCallLemmas.{Goes, same_goes, served_goes}
 use Rattle.machine_model.proofs.ListLemmas.{get_each}
+use Rattle.machine_model.proofs.ObservingLemmas.{shows_its_size}
 use Rattle.machine_model.proofs.ReportLemmas.{state_there}
 use Rattle.machine_model.proofs.RunLemmas.{step_system}
 use Rattle.machine_model.proofs.StepLemmas.{step_halted, step_runs, tick_state}
@@ -68,6 +71,7 @@ goes_then view t h u k m n before between after traces health one other =
     record {
       traced = omega (arith, traces, a, b);
       met = omega (arith, health, c, d);
+      loaded = λ eight. other.loaded (one.loaded eight);
       read = last_of after.inputs between.inputs before.inputs other.read one.read;
       made = λ ends. other.made (one.made ends);
     }
@@ -85,7 +89,7 @@ no_ends view r is = absurd (let none : is_made r (replicate 32 false) ≡ false 
 -- a reset
 reset_goes : (view : PartitionView) (mode : Mode) (status : ℕ) (ps : PartitionState) → Goes view 0 0 ps (reset view mode status ps)
 unfolding reset
-reset_goes view mode status ps = record { traced = omega arith; met = omega arith; read = record { used = []; is = refl }; made = λ ends. no_ends view }
+reset_goes view mode status ps = record { traced = omega arith; met = omega arith; loaded = λ eight. eight; read = record { used = []; is = refl }; made = λ ends. no_ends view }
 
 -- an order
 carried_goes : (view : PartitionView) (an_order : Order) (ps : PartitionState) → Goes view 0 0 ps (carried_out view an_order ps)
@@ -107,7 +111,7 @@ ordered_goes view an_order ps = at (applies an_order ps.state)
 -- an entry in the health log
 entered_goes : (view : PartitionView) (time : ℕ) (an_event : Event) (word : ℕ) (an_action : Action) (ps : PartitionState) → Goes view 0 1 ps (entered time an_event word an_action ps)
 unfolding entered noted
-entered_goes view time an_event word an_action ps = record { traced = omega arith; met = omega arith; read = record { used = []; is = refl }; made = λ ends. ends }
+entered_goes view time an_event word an_action ps = record { traced = omega arith; met = omega arith; loaded = λ eight. eight; read = record { used = []; is = refl }; made = λ ends. ends }
 
 entered_if_goes : (b : Bool) (view : PartitionView) (time : ℕ) (an_event : Event) (word : ℕ) (an_action : Action) (ps : PartitionState) → Goes view 0 1 ps (entered_if b time an_event word an_action ps)
 entered_if_goes true view time an_event word an_action ps = entered_goes view time an_event word an_action ps
@@ -139,7 +143,7 @@ trap_goes view time (Some type) ps =
 more_goes : (view : PartitionView) (h : ℕ) (before after : PartitionState) → Goes view 0 0 before after → Goes view 0 h before after
 more_goes view h before after goes =
     let met : after.health.next ≤ before.health.next + 0 = goes.met in
-    record { traced = goes.traced; met = omega (arith, met); read = goes.read; made = goes.made }
+    record { traced = goes.traced; met = omega (arith, met); loaded = goes.loaded; read = goes.read; made = goes.made }
 
 own_goes : (view : PartitionView) (time : ℕ) (type : Option ℕ) (own_effect : Own) (ps : PartitionState) → Goes view 0 1 ps (done_to_itself view time type own_effect ps).after
 unfolding self_ordered
@@ -312,6 +316,7 @@ facts_after view n ps qs facts goes =
     record {
       traces = omega (arith, a, b);
       health = omega (arith, c, d);
+      loads = goes.loaded facts.loads;
       inputs = last_of qs.inputs ps.inputs view.inputs goes.read facts.inputs;
       made = goes.made facts.made;
     }
@@ -368,7 +373,7 @@ table_is f (suc n) (suc p) y is = table_is (λ k. f (suc k)) n p y is
 
 booted_facts : (view : PartitionView) → AreFacts view 0 (booted view)
 unfolding booted nothing_kept
-booted_facts view = record { traces = omega arith; health = omega arith; inputs = record { used = []; is = refl }; made = no_ends view }
+booted_facts view = record { traces = omega arith; health = omega arith; loads = All-nil (λ (e : TraceEntry). length e.load ≡ 8); inputs = record { used = []; is = refl }; made = no_ends view }
 
 pub boots_with_facts : BootsWithFacts
 unfolding start
@@ -380,3 +385,27 @@ run_facts (suc count) g facts = run_facts count (step g) (keeps_facts g facts)
 
 pub runs_with_facts : RunsWithFacts
 runs_with_facts system count = run_facts count (start system) (boots_with_facts system)
+
+-- an entry that is kept is one of the entries
+kept_eight : (entries : List TraceEntry) (k : ℕ) → HaveEight entries → IfSome (slice_get entries k) (λ entry. length entry.load ≡ 8)
+kept_eight [] k all = tt
+kept_eight (entry ∷ entries) zero all = All-head (λ (e : TraceEntry). length e.load ≡ 8) entry entries all
+kept_eight (entry ∷ entries) (suc k) all = kept_eight entries k (All-tail (λ (e : TraceEntry). length e.load ≡ 8) entry entries all)
+
+entry_eight : (kept : Kept TraceEntry) (number : ℕ) → HaveEight kept.entries → IfSome (entry_at number kept) (λ entry. length entry.load ≡ 8)
+unfolding entry_at
+entry_eight kept number all = by (nat_lt number (first_kept kept)) (nat_lt number kept.next)
+  where
+    by : (a b : Bool) → IfSome (if a then None else if b then slice_get kept.entries (number - first_kept kept) else None) (λ entry. length entry.load ≡ 8)
+    by true b = tt
+    by false true = kept_eight kept.entries (number - first_kept kept) all
+    by false false = tt
+
+have_loads : (g : Machine) (id : ℕ) (o : Option PartitionState) → slice_get g.parts id ≡ o → HasFacts g → IfSome o HasLoads
+have_loads g id None is facts = tt
+have_loads g id (Some ps) is facts = λ number. entry_eight ps.traces number (facts id ps is).loads
+
+pub shows_its_size_in_runs : ShowsItsSizeInRuns
+shows_its_size_in_runs system count view core call is =
+    let g : Machine = run (start system) count in
+    shows_its_size g view core call (λ id. have_loads g id (slice_get g.parts id) refl (runs_with_facts system count)) is

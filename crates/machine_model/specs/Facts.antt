@@ -1,15 +1,20 @@
 -- What holds of each partition at all times, whatever its programs do.
-use Rattle.std.specs.Prelude.{◌≡◌, ℕ, ◌+◌, ◌*◌, ◌≤◌, ◌++◌, true, Bool, List, length, IsSome, Some, None, slice_get, slice_index_or}
+use Rattle.std.specs.Prelude.{◌≡◌, ℕ, ◌+◌, ◌*◌, ◌≤◌, ◌++◌, true, Bool, List, length, All, IsSome, Some, None, slice_get, slice_index_or}
 use Rattle.cyclic_plans.specs.PlanClock.{AsksPlan, IsInFrame}
+use Rattle.sparc_step.specs.Registers.{Registers}
 use Rattle.xm_conf.specs.Description.{described}
-use Rattle.xm_conf.specs.Fits.{Fits}
+use Rattle.xm_conf.specs.Fits.{Fits, IsOfKind}
 use Rattle.xm_conf.specs.Configuration.{Chan}
+use Rattle.xm_conf.specs.declared.port.Port.{Port}
 use Rattle.xm_ports.specs.Channels.{Content, Suits, shape_of}
 use Rattle.xm_ports.specs.Ports.{is_made}
-use Rattle.machine_model.specs.Machine.{Machine, run, start, step}
+use Rattle.xm_traces.specs.declared.entry.TraceEntry.{TraceEntry}
+use Rattle.machine_model.specs.Laws.{HasLength}
+use Rattle.machine_model.specs.Machine.{Machine, answer_to, run, start, step}
+use Rattle.machine_model.specs.Observed.{Observation, observed_by}
 use Rattle.machine_model.specs.Partition.{PartitionState}
 use Rattle.machine_model.specs.Structures.{flag}
-use Rattle.machine_model.specs.View.{PartitionView, System, view_of}
+use Rattle.machine_model.specs.View.{PartitionView, PortChannel, System, view_of}
 
 -- words are the last of a list
 pub record AreLast (rest all : List ℕ) : Type 0 where
@@ -25,11 +30,16 @@ pub record IsEnd (view : PartitionView) (r : ℕ) : Type 0 where
 abbrev pub AreEnds : PartitionView → List Bool → Type 0
 AreEnds view made = (r : ℕ) → is_made r made ≡ true → IsEnd view r
 
--- after so many ticks that have begun: at most one trace entry came with each, and at most two health entries; the input words that are left are the last
--- of those that the partition was given; and the made ports are ends of channels
+-- each of these trace entries has eight bytes
+abbrev pub HaveEight : List TraceEntry → Type 0
+HaveEight entries = All (λ entry. length entry.load ≡ 8) entries
+
+-- after so many ticks that have begun: at most one trace entry came with each, and at most two health entries; the trace entries that are kept have
+-- eight bytes; the input words that are left are the last of those that the partition was given; and the made ports are ends of channels
 pub record AreFacts (view : PartitionView) (ticks : ℕ) (ps : PartitionState) : Type 0 where
   pub traces : ps.traces.next ≤ ticks
   pub health : ps.health.next ≤ 2 * ticks
+  pub loads : HaveEight ps.traces.entries
   pub inputs : AreLast ps.inputs view.inputs
   pub made : AreEnds view ps.made
 
@@ -50,6 +60,11 @@ KeepsFacts = (g : Machine) → HasFacts g → HasFacts (step g)
 
 abbrev pub RunsWithFacts : Type 0
 RunsWithFacts = (system : System) (count : ℕ) → HasFacts (run (start system) count)
+
+-- so after every run what an observing call is shown has the size that it asks for
+abbrev pub ShowsItsSizeInRuns : Type 0
+ShowsItsSizeInRuns = (system : System) (count : ℕ) (view : PartitionView) (core : Registers) (call : Observation) →
+    observed_by view core ≡ Some call → HasLength call.size (answer_to (run (start system) count) call.question)
 
 -- the plan clock runs a plan that there is, in its frame, and a plan that is asked for is there
 pub record IsClocked (g : Machine) : Type 0 where
@@ -80,3 +95,8 @@ KeepsShapes = (g : Machine) → Fits (described g.system.conf) → HasShapes g �
 
 abbrev pub RunsWithShapes : Type 0
 RunsWithShapes = (system : System) (count : ℕ) → Fits (described system.conf) → HasShapes (run (start system) count)
+
+-- a port that is an end of a channel is of the channel's kind; so is each port that is made, since it is an end
+abbrev pub PortsHaveKinds : Type 0
+PortsHaveKinds = (system : System) (p r : ℕ) (port : Port) (channel : PortChannel) → Fits (described system.conf)
+    → slice_get (view_of system p).part.ports r ≡ Some port → slice_index_or (view_of system p).channels r None ≡ Some channel → IsOfKind channel.shape.kind port.kind

@@ -1,6 +1,6 @@
 //! The laws of the machine: a partition depends on nothing but its own things and its cues.
 
-ghost use Rattle.machine_model.specs.Facts.{BootsClocked, BootsWithFacts, BootsWithShapes, KeepsClocked, KeepsFacts, KeepsShapes, RunsClocked, RunsWithFacts, RunsWithShapes};
+ghost use Rattle.machine_model.specs.Facts.{BootsClocked, BootsWithFacts, BootsWithShapes, KeepsClocked, KeepsFacts, KeepsShapes, PortsHaveKinds, RunsClocked, RunsWithFacts, RunsWithShapes, ShowsItsSizeInRuns};
 ghost use Rattle.machine_model.specs.Laws.{
   ActsWithinBounds,
   AllTicks,
@@ -73,6 +73,7 @@ pub fn has_own_tag()
 pub fn observes_as_tested()
     ensures tested { ObservesAsTested }
     ensures sized { ShowsItsSize }
+    ensures runs { ShowsItsSizeInRuns }
 {}
 
 /// What a partition's part of a tick does beyond the partition is what its work comes to: no act is
@@ -93,7 +94,8 @@ pub fn earlier_ticks()
     ensures runs { TwoRunsEarlier }
 {}
 
-/// The entries of a partition's logs are bounded by the ticks, its input words are among those that
+/// The entries of a partition's logs are bounded by the ticks, its trace entries have eight bytes, its
+/// input words are among those that
 /// it was given, and its made ports are ends of channels: when it boots, after each tick, and so
 /// after every run.
 pub fn keeps_facts()
@@ -112,9 +114,10 @@ pub fn keeps_plans()
 {}
 
 /// Under a configuration that meets the rules each channel holds what its shape allows: when the
-/// machine boots, after each tick, and so after every run.
+/// machine boots, after each tick, and so after every run; and a port is of the kind of its channel.
 pub fn keeps_shapes()
     ensures boots { BootsWithShapes }
     ensures ticks { KeepsShapes }
     ensures runs { RunsWithShapes }
+    ensures kinds { PortsHaveKinds }
 {}
