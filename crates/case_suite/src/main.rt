@@ -1,5 +1,5 @@
-//! Does the cases of its data folder by the program's commands, and prints how many hold of each group and each that does
-//! not.
+//! Does the cases of its data folder by the program's commands, and prints how many of each group come out as wanted, and
+//! each that does not.
 #![tactic(auto)]
 
 mod case;
@@ -21,12 +21,14 @@ use std::fs::Files;
 use tally::Tally;
 use toml::{Table, Value};
 use trial::tried;
+use verdict::Verdict;
 
 // The files that the cases of all others may use.
 const WORKED: &str = "worked.toml";
 
 // The files of cases, in the order in which they are done.
-const BOOKS: [&str; 14] = [
+const BOOKS: [&str; 15] = [
+    "differing.toml",
     "raw_images.toml",
     "descriptions.toml",
     "rules.toml",
@@ -44,9 +46,9 @@ const BOOKS: [&str; 14] = [
 ];
 
 // The keys of a group.
-const GROUP_KEYS: [&str; 11] = [
+const GROUP_KEYS: [&str; 12] = [
     "name", "call", "words", "before", "file", "make", "status", "of_file", "output", "fails",
-    "case",
+    "differs", "case",
 ];
 
 fn main(rt: HostRuntime) -> Result<()> {
@@ -58,7 +60,7 @@ fn main(rt: HostRuntime) -> Result<()> {
         let book = read_table(&rt, rt.alloc(), name)?;
         all.add(do_book(&rt, rt.alloc(), Entry::new(&book), &mut shelf).context(name)?);
     }
-    println!(rt; "all: {all}")?;
+    println!(rt; "all: {all} as wanted")?;
     Ok(())
 }
 
@@ -102,7 +104,7 @@ fn do_book(
     Ok(all)
 }
 
-// Does the cases of a group, and prints how many hold.
+// Does the cases of a group, and prints how many hold, or differ where they are to differ.
 fn do_group(
     rt: &(impl Files + Print),
     alloc: Global,
@@ -113,14 +115,19 @@ fn do_group(
     let name = group.text("name")?.context("a group has no name")?;
     let mut tally = Tally::new();
     for case in group.list("case")?.unwrap_or(&[]) {
-        tally.count(holds(rt, alloc, shelf, name, group, case)?);
+        tally.count(is_as_wanted(rt, alloc, shelf, name, group, case)?);
     }
-    println!(rt; "{name}: {tally}")?;
+    let verb = if group.has("differs") {
+        "differ"
+    } else {
+        "hold"
+    };
+    println!(rt; "{name}: {tally} {verb}")?;
     Ok(tally)
 }
 
-// Does a case, answers whether it holds, and prints how it differs.
-fn holds(
+// Does a case, and answers whether it holds, or differs where it is to differ; else it is printed.
+fn is_as_wanted(
     rt: &(impl Files + Print),
     alloc: Global,
     shelf: &Shelf,
@@ -132,14 +139,26 @@ fn holds(
     let shows = case.shows().context(name)?;
     match tried(rt, alloc, shelf, case) {
         Ok(verdict) => {
-            for line in verdict.lines() {
-                println!(rt; "{name}, {shows}: {line}")?;
+            let wanted = verdict.lines().is_empty() != group.has("differs");
+            if !wanted {
+                print_verdict(rt, name, shows, &verdict)?;
             }
-            Ok(verdict.lines().is_empty())
+            Ok(wanted)
         }
         Err(error) => {
             println!(rt; "{name}, {shows}: cannot be done: {error:#}")?;
             Ok(false)
         }
     }
+}
+
+// Prints how a case differs, or that it holds.
+fn print_verdict(rt: &impl Print, name: &str, shows: &str, verdict: &Verdict) -> Result<()> {
+    if verdict.lines().is_empty() {
+        println!(rt; "{name}, {shows}: holds")?;
+    }
+    for line in verdict.lines() {
+        println!(rt; "{name}, {shows}: {line}")?;
+    }
+    Ok(())
 }

@@ -1,10 +1,10 @@
-//! How many cases hold.
+//! How many cases come out as wanted.
 
 ghost use Rattle.std.specs.Prelude.{◌≡◌, false};
 
 use std::fmt;
 
-/// How many cases hold, of how many that were tried.
+/// How many cases come out as wanted, of how many that were tried.
 #[derive(Clone, Copy, Debug)]
 pub(crate) struct Tally {
     held: u32,
@@ -35,6 +35,6 @@ impl Tally {
 
 impl fmt::Display for Tally {
     fn fmt<W: fmt::Write>(&self, f: &mut fmt::Formatter<W>) -> fmt::Result {
-        write!(f, "{} of {} hold", self.held, self.tried)
+        write!(f, "{} of {}", self.held, self.tried)
     }
 }

@@ -25,18 +25,19 @@ const STEP: u64 = 1000;
 type Given<'a> = (&'a str, &'a [u8]);
 
 /// Does a case, and answers how it differs from what it says.
-pub(crate) fn tried(
+pub(crate) fn tried<'a>(
     rt: &impl Files,
     alloc: Global,
-    shelf: &Shelf,
-    case: Case<'_>,
+    shelf: &'a Shelf,
+    case: Case<'a>,
 ) -> Result<Verdict> {
-    let Some(recipe) = case.recipe()? else {
-        return compared(alloc, shelf, case, &given(alloc, shelf, case, None)?);
-    };
-    let bytes = made(rt, alloc, recipe, shelf)?;
-    let own = Some((recipe.name()?, bytes.as_slice()));
-    compared(alloc, shelf, case, &given(alloc, shelf, case, own)?)
+    match case.recipe()? {
+        Some(recipe) => {
+            let bytes = made(rt, alloc, recipe, shelf)?;
+            compared(alloc, shelf, case, Some((recipe.name()?, &bytes)))
+        }
+        None => compared(alloc, shelf, case, None),
+    }
 }
 
 // The files of a case, and its own one, which takes the place of one with its name.
@@ -60,8 +61,14 @@ fn given<'a>(
     Ok(given)
 }
 
-// Does the calls of a case over the files that are given, and compares.
-fn compared(alloc: Global, shelf: &Shelf, case: Case<'_>, given: &[Given<'_>]) -> Result<Verdict> {
+// Does the calls of a case over its files, of which one may be its own, and compares.
+fn compared<'a>(
+    alloc: Global,
+    shelf: &'a Shelf,
+    case: Case<'a>,
+    own: Option<Given<'a>>,
+) -> Result<Verdict> {
+    let given = &given(alloc, shelf, case, own)?;
     let fails = case.entry("fails")?;
     let mut files = store(alloc, fails, given)?;
     let words = prepare(alloc, case, &mut files)?;
