@@ -6,8 +6,9 @@ usage: examples/guests/expect.py [FOLDER]
 Two things are compared, and neither comes from xm_run:
 - the console lines of each partition, put together, with the text that the native compiler's program printed:
   FOLDER/NAME.txt, or crates/guest_suite/data/NAME.txt;
-- each report of `bare` and `run`, its tick numbers too, with that of the interpreter in this file. It knows the
-  instructions that compiled code has, by the SPARC V8 manual, and has as many register windows as are asked for.
+- each report of `bare` and `run`, its tick numbers too, and the lines of the guest that is run tick by tick, with
+  those of the interpreter in this file. It knows the instructions that compiled code has, by the SPARC V8 manual, and
+  has as many register windows as are asked for.
 
 The lines of the other calls are not compared here.
 """
@@ -21,6 +22,8 @@ ROOT = Path(__file__).resolve().parent.parent.parent
 SUITE = ROOT / "crates/guest_suite"
 DATA = SUITE / "data"
 BARE_BASE, BARE_SIZE = 0x40000000, 0x100000
+# What stands before the lines of the guest that is run tick by tick, and for how many ticks.
+TICKED, TICKS = "hello.bin, tick by tick\n", 24
 WORD = 0xFFFFFFFF
 SIGN = 0x80000000
 LOADS = {0: ">I", 1: ">B", 2: ">H", 9: ">b", 10: ">h"}
@@ -280,6 +283,12 @@ def system(description, programs):
     return guests, slots, ticks_of(plan.get("majorFrame"))
 
 
+def bare_system(image):
+    """The guest, slots and frame of a raw image."""
+    guest = Guest(BARE_BASE, BARE_SIZE, [(BARE_BASE, (DATA / image).read_bytes())], BARE_BASE, 0)
+    return [guest], [(0, 1000, guest)], 1000
+
+
 class Session:
     """The calls of the suite, in their order."""
 
@@ -296,10 +305,8 @@ class Session:
     def call(self, words, lines):
         command = words[:2] if words[0] in ("xmeformat", "xmpack") else words[:1]
         if command == ["bare"]:
-            image = (DATA / words[1]).read_bytes()
-            guest = Guest(BARE_BASE, BARE_SIZE, [(BARE_BASE, image)], BARE_BASE, 0)
             names = [words[1].removesuffix(".bin")]
-            self.compare(words, lines, names, ([guest], [(0, 1000, guest)], 1000), int(words[2]))
+            self.compare(words, lines, names, bare_system(words[1]), int(words[2]))
         elif command == ["run"]:
             description, programs = self.made[words[1]]
             parts = system(description, programs)
@@ -315,13 +322,20 @@ class Session:
             self.made[words[3]] = (self.made[words[2]], programs)
 
     def compare(self, words, lines, names, parts, ticks):
-        wanted = report(*parts, ticks)
+        self.compare_lines(" ".join(words), lines, report(*parts, ticks))
+        for number, name in enumerate(names):
+            self.compare_text(words, lines, number, name)
+
+    def compare_lines(self, what, lines, wanted):
         for number in range(max(len(wanted), len(lines))):
             found, line = (some[number] if number < len(some) else "nothing" for some in (lines, wanted))
             if found != line:
-                self.differs(f"{' '.join(words)}: {found}\n  the interpreter: {line}")
-        for number, name in enumerate(names):
-            self.compare_text(words, lines, number, name)
+                self.differs(f"{what}: {found}\n  the interpreter: {line}")
+
+    def compare_ticked(self, lines):
+        """The lines of single ticks, without those of the report's beginning and end, and what the machine is then."""
+        wanted = report(*bare_system(TICKED.split(",")[0]), TICKS)[1:-2]
+        self.compare_lines(TICKED.strip(), lines, [*wanted, f"parts=1 ticks={TICKS} halted=false"])
 
     def compare_text(self, words, lines, number, name):
         """The console lines of a partition; of one that did not halt, they are the front of its text."""
@@ -336,10 +350,11 @@ class Session:
 
 def main():
     session = Session(Path(sys.argv[1]) if len(sys.argv) > 1 else DATA)
-    calls = (SUITE / "stdout").read_text(encoding="utf-8").split("$ xm_run ")
-    for call in calls[1:]:
+    calls, _, ticked = (SUITE / "stdout").read_text(encoding="utf-8").partition(TICKED)
+    for call in calls.split("$ xm_run ")[1:]:
         head, *lines = call.splitlines()
         session.call(head.split(" "), lines)
+    session.compare_ticked(ticked.splitlines())
     print(f"{session.compared} console lines compared with the native texts, {session.faults} differences")
     return 1 if session.faults or not session.compared else 0
 
