@@ -1,6 +1,6 @@
 -- The rows on observing calls: each is computed.
 use Rattle.std.proofs.Common.{[], ◌∷◌, Some, refl}
-use Rattle.machine_model.specs.ObservedRows.{AnswerRows, AskingRows, PlanStatusRows, RoomRows, SeesPlan}
+use Rattle.machine_model.specs.ObservedRows.{AnswerRows, AskingRows, PlanStatusRows, RoomRows, SeesPlan, SilentRows}
 use Rattle.machine_model.proofs.Computing.{computing}
 use Rattle.machine_model.proofs.WordLemmas.{leaves_words}
 
@@ -49,6 +49,10 @@ room_rows = record {
   not_kept = λ one other. refl;
   nothing = λ one other. refl;
 }
+
+pub silent_rows : SilentRows
+unfolding computing
+silent_rows = record { delivered = λ memory. refl; idle = λ memory. refl; suspended = λ memory. refl; halted = λ memory. refl }
 
 pub sees_plan : SeesPlan
 unfolding computing

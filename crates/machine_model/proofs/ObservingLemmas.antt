@@ -18,7 +18,7 @@ use Rattle.machine_model.specs.Partition.{PartitionState}
 use Rattle.machine_model.specs.PartitionCalls.{get_partition_status, get_system_status}
 use Rattle.machine_model.specs.Structures.{counts_bytes, health_bytes, partition_status, plan_status, system_status, trace_bytes}
 use Rattle.machine_model.specs.TimeCalls.{get_plan_status, is_no_plan, switch_sched_plan}
-use Rattle.machine_model.specs.Told.{Act, Ask, Nothing, Words}
+use Rattle.machine_model.specs.Told.{Act, Asked, Nothing, Plans, Words}
 use Rattle.machine_model.specs.View.{PartitionView}
 
 -- another partition that there is
@@ -102,7 +102,7 @@ of_plan caller call asking number is = at (is_no_plan caller) refl is
     at true none said = absurd cc
     at false plan said =
         subst (TestsRoom caller) (same_Some (record { question = CurrentPlan; address = b_of caller; size = 4 }) call said)
-        (record { act = Ask (a_of caller); is = ap (λ n. call_numbered n caller) number ∙ rw (asking.system, plan) refl })
+        (record { act = Plans (Asked (a_of caller)); is = ap (λ n. call_numbered n caller) number ∙ rw (asking.system, plan) refl })
 
 of_plan_status : (caller : Caller) (call : Observation) → Asking caller call → number_of caller ≡ 15 → about_system PlanStatus (a_of caller) 20 ≡ Some call → TestsRoom caller call
 unfolding served get_plan_status

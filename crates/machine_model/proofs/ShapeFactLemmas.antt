@@ -24,8 +24,8 @@ use Rattle.machine_model.specs.Lists.{each, table}
 use Rattle.machine_model.specs.Machine.{Machine, Turn, act_of, after, channel_after, copies, happened, happened_by, local, local_in, local_of, run, sight_of_state, start, step, system_traffic, taken_by, turn_of}
 use Rattle.machine_model.specs.Partition.{PartitionState, takes_turns}
 use Rattle.machine_model.specs.Told as told
-use Rattle.machine_model.specs.Told.{Act}
-use Rattle.machine_model.specs.Traffic.{Puts, Still, Takes, Traffic, after_traffic, content_if, copies_of, puts_at, renamed, takes_at, traffic_of}
+use Rattle.machine_model.specs.Told.{Act, OwnPuts, OwnStill, OwnTakes}
+use Rattle.machine_model.specs.Traffic.{Puts, Still, Takes, Traffic, after_traffic, content_if, copies_of, puts_at, takes_at, told_as, traffic_of}
 use Rattle.machine_model.specs.View.{PortChannel, System, name_of, named, no_part, part_of, port_channel, view_of, with_its_name, with_name}
 use Rattle.machine_model.specs.Whole.{AllHalted, AllReset, NoEvent, WholeEvent, content_after}
 use Rattle.machine_model.proofs.WithinLemmas.{HasRoom, IsPutting, IsWithin, local_within}
@@ -240,31 +240,30 @@ put_fits g p q bytes c fits putting named_so name_is chan content chan_there con
 
 -- the traffic of an act under the system's numbers
 act_fits : (g : Machine) (p : ℕ) (act : Act) → Fits (described g.system.conf) → IsWithin (view_of g.system p) (copies g p) act
-    → FitsChannels g.system.conf g.channels (renamed (named g.system.conf p) (traffic_of act))
+    → FitsChannels g.system.conf g.channels (told_as (named g.system.conf p) (traffic_of act))
 unfolding FitsChannels
 act_fits g p told.Nothing fits within = tt
-act_fits g p (told.Put q bytes) fits within =
+act_fits g p (told.Trades OwnStill) fits within = tt
+act_fits g p (told.Trades (OwnPuts q bytes)) fits within =
     let its = has_name_named g.system.conf p q (view_has g.system p q within.named) in
     subst (λ (o : Option ℕ). FitsChannels g.system.conf g.channels (puts_at o bytes)) (sym its.1) (put_fits g p q bytes its.0 fits within its.1 its.2)
-act_fits g p (told.Take q) fits within = by (named g.system.conf p q)
+act_fits g p (told.Trades (OwnTakes q)) fits within = by (named g.system.conf p q)
   where
     by : (o : Option ℕ) → FitsChannels g.system.conf g.channels (takes_at o)
     by None = tt
     by (Some c) = tt
 act_fits g p (told.Upon id order) fits within = tt
-act_fits g p (told.Ask plan) fits within = tt
-act_fits g p told.Maintenance fits within = tt
-act_fits g p (told.ResetAll mode) fits within = tt
-act_fits g p told.HaltAll fits within = tt
+act_fits g p (told.Plans change) fits within = tt
+act_fits g p (told.UponAll event) fits within = tt
 
 -- the traffic of a tick
 taken_traffic : (g : Machine) (p : ℕ) (first : Bool) (o : Option PartitionState) → Fits (described g.system.conf)
-    → FitsChannels g.system.conf g.channels (renamed (named g.system.conf p) (traffic_of (act_of (taken_by g p first o))))
+    → FitsChannels g.system.conf g.channels (told_as (named g.system.conf p) (traffic_of (act_of (taken_by g p first o))))
 unfolding FitsChannels local_of
 taken_traffic g p first None fits = tt
 taken_traffic g p first (Some ps) fits = at (takes_turns ps.state)
   where
-    at : (b : Bool) → FitsChannels g.system.conf g.channels (renamed (named g.system.conf p) (traffic_of (act_of (if b then Some (local_of g p first ps) else None))))
+    at : (b : Bool) → FitsChannels g.system.conf g.channels (told_as (named g.system.conf p) (traffic_of (act_of (if b then Some (local_of g p first ps) else None))))
     at true = act_fits g p (local_of g p first ps).act fits (local_within g.system p ps (copies g p) g.ticks g.time first (sight_of_state g p first ps))
     at false = tt
 

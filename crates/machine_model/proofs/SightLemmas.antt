@@ -77,17 +77,14 @@ if_its_no_order false act id order not_upon is = absurd cc
 
 never : (view : PartitionView) (act : Act) (order : Order) → ¬ (bounded view act ≡ Upon view.id order)
 never view told.Nothing order is = absurd cc
-never view (told.Put channel bytes) order is = if_its_no_order _ (told.Put channel bytes) view.id order (λ e. absurd cc) is
-never view (told.Take channel) order is = if_its_no_order _ (told.Take channel) view.id order (λ e. absurd cc) is
+never view (told.Trades traffic) order is = if_its_no_order _ (told.Trades traffic) view.id order (λ e. absurd cc) is
 never view (told.Upon id given) order is = at (id == view.id) refl is
   where
     at : (b : Bool) → (id == view.id) ≡ b → ¬ ((if b then told.Nothing else Upon id given) ≡ Upon view.id order)
     at true same is = absurd cc
     at false other is = absurd (let e : id ≡ view.id = cc in let t : (id == view.id) ≡ true = rw e (grind (arith)) in cc)
-never view (told.Ask plan) order is = absurd cc
-never view told.Maintenance order is = absurd cc
-never view (told.ResetAll mode) order is = absurd cc
-never view told.HaltAll order is = absurd cc
+never view (told.Plans change) order is = absurd cc
+never view (told.UponAll event) order is = absurd cc
 
 pub never_upon_itself : NeverUponItself
 unfolding local_tick

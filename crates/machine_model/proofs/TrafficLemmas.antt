@@ -9,8 +9,8 @@ use Rattle.xm_ports.specs.Channels.{Content, put, taken}
 use Rattle.machine_model.specs.Lists.{each}
 use Rattle.machine_model.specs.LocalTick.{bounded, has_name}
 use Rattle.machine_model.specs.Told as told
-use Rattle.machine_model.specs.Told.{Act}
-use Rattle.machine_model.specs.Traffic.{Puts, Still, Takes, Traffic, after_traffic, content_if, copies_after, copies_of, puts_at, renamed, takes_at, traffic_of}
+use Rattle.machine_model.specs.Told.{Act, OwnPuts, OwnStill, OwnTakes}
+use Rattle.machine_model.specs.Traffic.{Puts, Still, Takes, Traffic, after_own, after_traffic, content_if, copies_after, copies_of, heard_as, own_puts_at, own_takes_at, told_as, traffic_of}
 use Rattle.machine_model.specs.View.{System, name_of, named, part_of, port_channel, view_of}
 use Rattle.machine_model.specs.Whole.{WholeEvent, content_after}
 use Rattle.machine_model.proofs.ListLemmas.{each_table, get_each, map_table, same_tables, table_or_none}
@@ -29,7 +29,7 @@ same_choice false false x y there back = refl
 
 -- a put under the system's number does to channel c what it does under the name to what the name means
 put_same : (conf : Conf) (p q c : ℕ) → name_of conf p c ≡ Some q → (time d : ℕ) (bytes : List ℕ) (name : Option ℕ) → name_of conf p d ≡ name → (content : Content)
-    → after_traffic time (puts_at name bytes) q content ≡ after_traffic time (Puts d bytes) c content
+    → after_own time (own_puts_at name bytes) q content ≡ after_traffic time (Puts d bytes) c content
 put_same conf p q c named_c time d bytes None is content = at (d == c) refl
   where
     at : (b : Bool) → (d == c) ≡ b → content ≡ (if b then put time bytes content else content)
@@ -43,7 +43,7 @@ put_same conf p q c named_c time d bytes (Some name) is content =
     let f : name ≡ q = same_Some name q e in rw f (grind (arith)))
 
 take_same : (conf : Conf) (p q c : ℕ) → name_of conf p c ≡ Some q → (time d : ℕ) (name : Option ℕ) → name_of conf p d ≡ name → (content : Content)
-    → after_traffic time (takes_at name) q content ≡ after_traffic time (Takes d) c content
+    → after_own time (own_takes_at name) q content ≡ after_traffic time (Takes d) c content
 take_same conf p q c named_c time d None is content = at (d == c) refl
   where
     at : (b : Bool) → (d == c) ≡ b → content ≡ (if b then taken content else content)
@@ -58,7 +58,7 @@ take_same conf p q c named_c time d (Some name) is content =
 
 -- traffic does to a channel what it does to a copy of it under its name
 traffic_same : (conf : Conf) (p q c time : ℕ) (traffic : Traffic) (content : Content) → name_of conf p c ≡ Some q
-    → after_traffic time (renamed (name_of conf p) traffic) q content ≡ after_traffic time traffic c content
+    → after_own time (heard_as (name_of conf p) traffic) q content ≡ after_traffic time traffic c content
 traffic_same conf p q c time Still content is = refl
 traffic_same conf p q c time (Puts d bytes) content is = put_same conf p q c is time d bytes (name_of conf p d) refl content
 traffic_same conf p q c time (Takes d) content is = take_same conf p q c is time d (name_of conf p d) refl content
@@ -74,28 +74,28 @@ copied_by f g channels c (Some content) is same = get_each f channels c ∙ ap (
 
 copy_same : (conf : Conf) (p q time : ℕ) (event : WholeEvent) (traffic : Traffic) (channels : List Content) (o : Option ℕ) → named conf p q ≡ o
     → content_if (each (channel_after_of time event traffic) channels) o
-    ≡ on (content_after event) (on (after_traffic time (renamed (name_of conf p) traffic) q) (content_if channels o))
+    ≡ on (content_after event) (on (after_own time (heard_as (name_of conf p) traffic) q) (content_if channels o))
 copy_same conf p q time event traffic channels None is = refl
 copy_same conf p q time event traffic channels (Some c) is =
-    copied_by (channel_after_of time event traffic) (λ content. content_after event (after_traffic time (renamed (name_of conf p) traffic) q content)) channels c (slice_get channels c) refl
+    copied_by (channel_after_of time event traffic) (λ content. content_after event (after_own time (heard_as (name_of conf p) traffic) q content)) channels c (slice_get channels c) refl
     (λ content. ap (content_after event) (sym (traffic_same conf p q c time traffic content (named_is conf p q c is))))
     ∙ twice (slice_get channels c)
   where
-    twice : (o : Option Content) → on (λ content. content_after event (after_traffic time (renamed (name_of conf p) traffic) q content)) o
-        ≡ on (content_after event) (on (after_traffic time (renamed (name_of conf p) traffic) q) o)
+    twice : (o : Option Content) → on (λ content. content_after event (after_own time (heard_as (name_of conf p) traffic) q content)) o
+        ≡ on (content_after event) (on (after_own time (heard_as (name_of conf p) traffic) q) o)
     twice None = refl
     twice (Some content) = refl
 
 -- the copies that a partition has of the channels after a tick are what the tick leaves of its copies
 pub copies_same : (conf : Conf) (p ports time : ℕ) (event : WholeEvent) (traffic : Traffic) (channels : List Content)
     → copies_of conf p ports (each (channel_after_of time event traffic) channels)
-    ≡ map (on (content_after event)) (copies_after time (renamed (name_of conf p) traffic) (copies_of conf p ports channels))
+    ≡ map (on (content_after event)) (copies_after time (heard_as (name_of conf p) traffic) (copies_of conf p ports channels))
 unfolding copies_of copies_after
 copies_same conf p ports time event traffic channels =
-    same_tables _ (λ q. on (content_after event) (on (after_traffic time (renamed (name_of conf p) traffic) q) (content_if channels (named conf p q)))) ports
+    same_tables _ (λ q. on (content_after event) (on (after_own time (heard_as (name_of conf p) traffic) q) (content_if channels (named conf p q)))) ports
     (λ q. copy_same conf p q time event traffic channels (named conf p q) refl)
-    ∙ sym (map_table (on (content_after event)) (λ q. on (after_traffic time (renamed (name_of conf p) traffic) q) (content_if channels (named conf p q))) ports)
-    ∙ ap (map (on (content_after event))) (sym (each_table (λ q copy. on (after_traffic time (renamed (name_of conf p) traffic) q) copy) (λ q. content_if channels (named conf p q)) ports))
+    ∙ sym (map_table (on (content_after event)) (λ q. on (after_own time (heard_as (name_of conf p) traffic) q) (content_if channels (named conf p q))) ports)
+    ∙ ap (map (on (content_after event))) (sym (each_table (λ q copy. on (after_own time (heard_as (name_of conf p) traffic) q) copy) (λ q. content_if channels (named conf p q)) ports))
 
 -- traffic on a channel that a partition has, told under the system's number and back
 there_and_back : (conf : Conf) (p : ℕ) → (q : ℕ) → has_name (port_channel conf p q) q ≡ true → (c : ℕ) × (named conf p q ≡ Some c) × (name_of conf p c ≡ Some q)
@@ -109,30 +109,29 @@ view_has system p q has =
 
 -- a partition's own traffic is the same under its own names once it was told under the system's numbers
 pub own_traffic : (system : System) (p : ℕ) (act : Act)
-    → renamed (name_of system.conf p) (renamed (named system.conf p) (traffic_of (bounded (view_of system p) act))) ≡ traffic_of (bounded (view_of system p) act)
+    → heard_as (name_of system.conf p) (told_as (named system.conf p) (traffic_of (bounded (view_of system p) act))) ≡ traffic_of (bounded (view_of system p) act)
 own_traffic system p told.Nothing = refl
-own_traffic system p (told.Put q bytes) = at (has_name (slice_index_or (view_of system p).channels q None) q) refl
+own_traffic system p (told.Trades OwnStill) = refl
+own_traffic system p (told.Trades (OwnPuts q bytes)) = at (has_name (slice_index_or (view_of system p).channels q None) q) refl
   where
     at : (b : Bool) → has_name (slice_index_or (view_of system p).channels q None) q ≡ b
-        → renamed (name_of system.conf p) (renamed (named system.conf p) (traffic_of (if b then told.Put q bytes else told.Nothing))) ≡ traffic_of (if b then told.Put q bytes else told.Nothing)
+        → heard_as (name_of system.conf p) (told_as (named system.conf p) (traffic_of (if b then told.Trades (OwnPuts q bytes) else told.Nothing))) ≡ traffic_of (if b then told.Trades (OwnPuts q bytes) else told.Nothing)
     at true has =
         let found = has_name_named system.conf p q (view_has system p q has) in
         rw (found.1, found.2) refl
     at false not_its = refl
-own_traffic system p (told.Take q) = at (has_name (slice_index_or (view_of system p).channels q None) q) refl
+own_traffic system p (told.Trades (OwnTakes q)) = at (has_name (slice_index_or (view_of system p).channels q None) q) refl
   where
     at : (b : Bool) → has_name (slice_index_or (view_of system p).channels q None) q ≡ b
-        → renamed (name_of system.conf p) (renamed (named system.conf p) (traffic_of (if b then told.Take q else told.Nothing))) ≡ traffic_of (if b then told.Take q else told.Nothing)
+        → heard_as (name_of system.conf p) (told_as (named system.conf p) (traffic_of (if b then told.Trades (OwnTakes q) else told.Nothing))) ≡ traffic_of (if b then told.Trades (OwnTakes q) else told.Nothing)
     at true has =
         let found = has_name_named system.conf p q (view_has system p q has) in
         rw (found.1, found.2) refl
     at false not_its = refl
 own_traffic system p (told.Upon id order) = at (id == (view_of system p).id)
   where
-    at : (b : Bool) → renamed (name_of system.conf p) (renamed (named system.conf p) (traffic_of (if b then told.Nothing else told.Upon id order))) ≡ traffic_of (if b then told.Nothing else told.Upon id order)
+    at : (b : Bool) → heard_as (name_of system.conf p) (told_as (named system.conf p) (traffic_of (if b then told.Nothing else told.Upon id order))) ≡ traffic_of (if b then told.Nothing else told.Upon id order)
     at true = refl
     at false = refl
-own_traffic system p (told.Ask plan) = refl
-own_traffic system p told.Maintenance = refl
-own_traffic system p (told.ResetAll mode) = refl
-own_traffic system p told.HaltAll = refl
+own_traffic system p (told.Plans change) = refl
+own_traffic system p (told.UponAll event) = refl

@@ -1,4 +1,4 @@
--- What a partition's work does beyond it is upon channels of its own and upon others.
+-- What a partition's work does beyond it is on channels of its own and on others.
 use Rattle.std.proofs.Common.{◌≡◌, ℕ, zero, suc, ◌<◌, ◌+◌, Bool, true, false, List, [], ◌∷◌, length, Option, None, Some, Result, Ok, Err, refl, sym, ap, ◌∙◌, arith, subst}
 use Rattle.std.specs.Prelude.{slice_get, slice_index_or, if◌then◌else◌, ◌==◌, ◌||◌, ◌≤◌, nat_lt}
 use Rattle.std.proofs.lemmas.Bool.Decides.{nat_tests}
@@ -43,7 +43,7 @@ use Rattle.machine_model.specs.ProcessorCalls.{by_flush, by_return, clear_irqmas
 use Rattle.machine_model.specs.Structures.{queuing_status, sampling_status}
 use Rattle.machine_model.specs.TimeCalls.{get_plan_status, get_time, set_timer, switch_sched_plan}
 use Rattle.machine_model.specs.Told as told
-use Rattle.machine_model.specs.Told.{Act, Sight}
+use Rattle.machine_model.specs.Told.{Act, Asked, Maintenance, OwnPuts, OwnStill, OwnTakes, Sight}
 use Rattle.machine_model.specs.View.{PartitionView, PortChannel, System, name_from, name_of, part_of, port_channel, view_of, with_its_name, with_name}
 use Rattle.machine_model.proofs.NameLemmas.{name_is, number_of as same_number}
 
@@ -59,7 +59,7 @@ HasName channels (Some channel) = IsName channels channel.name
 abbrev AreNames : List (Option PortChannel) → Type 0
 AreNames channels = (r : ℕ) → HasName channels (slice_index_or channels r None)
 
--- a table of options, read with none behind its end
+-- a table of options, read with none after its end
 table_at : {Y : Type 0} (f : ℕ → Option Y) (n r : ℕ) → r < n → slice_index_or (table f n) r None ≡ f r
 table_at f zero r below = absurd (omega (arith, below))
 table_at f (suc n) zero below = refl
@@ -149,22 +149,22 @@ same_room kind.Queuing kind.Queuing of content is has_room = has_room
 not_full : (port : MadePort) → is_full port ≡ false → HasRoom kind.Queuing port.shape.kind port.content
 not_full port free = grind (arith, nat_tests)
 
--- an act upon a channel names it so, a plan that is asked for is one that the partition sees, and maintenance is started by its table
+-- an act on a channel names it so, a plan that is asked for is one that the partition sees, and maintenance is started by its table
 abbrev pub IsWithin : PartitionView → List (Option Content) → Act → Type 0
 IsWithin view contents told.Nothing = Unit {0}
-IsWithin view contents (told.Put channel bytes) = IsPutting view contents channel bytes
-IsWithin view contents (told.Take channel) = IsName view.channels channel
+IsWithin view contents (told.Trades OwnStill) = Unit {0}
+IsWithin view contents (told.Trades (OwnPuts name bytes)) = IsPutting view contents name bytes
+IsWithin view contents (told.Trades (OwnTakes name)) = IsName view.channels name
 IsWithin view contents (told.Upon id order) = Unit {0}
-IsWithin view contents (told.Ask plan) = nat_lt plan view.sees.plans ≡ true
-IsWithin view contents told.Maintenance = HasMaintenance view
-IsWithin view contents (told.ResetAll mode) = Unit {0}
-IsWithin view contents told.HaltAll = Unit {0}
+IsWithin view contents (told.Plans (Asked plan)) = nat_lt plan view.sees.plans ≡ true
+IsWithin view contents (told.Plans Maintenance) = HasMaintenance view
+IsWithin view contents (told.UponAll event) = Unit {0}
 
 abbrev ComesWithin : PartitionView → List (Option Content) → Upshot → Type 0
 ComesWithin view contents (Acts act) = IsWithin view contents act
 ComesWithin view contents (Meets event word) = Unit {0}
 
--- a call that is refused acts upon nothing
+-- a call that is refused acts on nothing
 tested_within : (view : PartitionView) (contents : List (Option Content)) (tests : List Test) (caller : Caller) (comes : Served) → ComesWithin view contents comes.upshot → ComesWithin view contents (tested tests caller comes).upshot
 tested_within view contents [] caller comes within = within
 tested_within view contents (Some code ∷ tests) caller comes within = tt
@@ -301,7 +301,7 @@ flush_within : (view : PartitionView) (contents : List (Option Content)) (answer
 flush_within view contents (Ok all) ps caller = tt
 flush_within view contents (Err fault) ps caller = tt
 
--- what a call comes to acts upon the caller's own channels
+-- what a call comes to acts on the caller's own channels
 record Stays (view : PartitionView) (contents : List (Option Content)) (comes : Served) : Type 0 where
   within : ComesWithin view contents comes.upshot
 
@@ -507,17 +507,16 @@ IsBounded view act = bounded view act ≡ act
 act_bounded : (view : PartitionView) (contents : List (Option Content)) (act : Act) (ps : PartitionState) → IsWithin view contents act → IsBounded view (by_act act view ps).act
 unfolding self_ordered
 act_bounded view contents told.Nothing ps within = refl
-act_bounded view contents (told.Put channel bytes) ps within = ap (λ b. if b then told.Put channel bytes else told.Nothing) within.named
-act_bounded view contents (told.Take channel) ps within = ap (λ b. if b then told.Take channel else told.Nothing) within
+act_bounded view contents (told.Trades OwnStill) ps within = refl
+act_bounded view contents (told.Trades (OwnPuts name bytes)) ps within = ap (λ b. if b then told.Trades (OwnPuts name bytes) else told.Nothing) within.named
+act_bounded view contents (told.Trades (OwnTakes name)) ps within = ap (λ b. if b then told.Trades (OwnTakes name) else told.Nothing) within
 act_bounded view contents (told.Upon id order) ps within = at (id == view.id) refl
   where
     at : (b : Bool) → (id == view.id) ≡ b → IsBounded view (if b then self_ordered view order ps else record (quiet ps) { act = told.Upon id order }).act
     at true same = refl
     at false other = ap (λ b. if b then told.Nothing else told.Upon id order) other
-act_bounded view contents (told.Ask plan) ps within = refl
-act_bounded view contents told.Maintenance ps within = refl
-act_bounded view contents (told.ResetAll mode) ps within = refl
-act_bounded view contents told.HaltAll ps within = refl
+act_bounded view contents (told.Plans change) ps within = refl
+act_bounded view contents (told.UponAll event) ps within = refl
 
 whole_bounded : (view : PartitionView) (w : Whole) → IsBounded view (done_to_all w)
 whole_bounded view whole.Nothing = refl
@@ -582,17 +581,14 @@ work_bounded view contents time first sight ps names =
 act_within : (view : PartitionView) (contents : List (Option Content)) (act : Act) (ps : PartitionState) → IsWithin view contents act → IsWithin view contents (by_act act view ps).act
 unfolding self_ordered
 act_within view contents told.Nothing ps within = tt
-act_within view contents (told.Put channel bytes) ps within = within
-act_within view contents (told.Take channel) ps within = within
+act_within view contents (told.Trades traffic) ps within = within
 act_within view contents (told.Upon id order) ps within = at (id == view.id) refl
   where
     at : (b : Bool) → (id == view.id) ≡ b → IsWithin view contents (if b then self_ordered view order ps else record (quiet ps) { act = told.Upon id order }).act
     at true same = tt
     at false other = tt
-act_within view contents (told.Ask plan) ps within = within
-act_within view contents told.Maintenance ps within = within
-act_within view contents (told.ResetAll mode) ps within = tt
-act_within view contents told.HaltAll ps within = tt
+act_within view contents (told.Plans change) ps within = within
+act_within view contents (told.UponAll event) ps within = tt
 
 effect_within : (view : PartitionView) (contents : List (Option Content)) (event : Event) (an_action : Action) (enabled : Bool) → action_in view.part.hm event ≡ an_action → IsWithin view contents (done_to_all (effect_of an_action enabled).whole)
 unfolding effect_of

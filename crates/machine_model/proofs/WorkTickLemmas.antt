@@ -39,8 +39,8 @@ use Rattle.machine_model.specs.Machine.{Machine, after, after_tick, booted_part,
 use Rattle.machine_model.specs.Partition.{PartitionState, applies, areas_of, booted, carried_out, disarmed, execution_looked_at, hardware_looked_at, is_halted, ordered, reset, rested, takes_turns}
 use Rattle.machine_model.specs.Structures.{flag}
 use Rattle.machine_model.specs.Told as told
-use Rattle.machine_model.specs.Told.{Act, Sight}
-use Rattle.machine_model.specs.Traffic.{Puts, Still, Takes, Traffic, after_message, heard_from, hearing, interrupted}
+use Rattle.machine_model.specs.Told.{Act, OwnPuts, OwnStill, OwnTakes, OwnTraffic, Sight}
+use Rattle.machine_model.specs.Traffic.{after_message, heard_from, hearing, interrupted}
 use Rattle.machine_model.specs.View.{PartitionView, System, view_of}
 use Rattle.machine_model.specs.Whole.{AllHalted, AllReset, NoEvent, WholeEvent, after_event, ticks_after}
 use Rattle.machine_model.proofs.WorkCallLemmas.{Goes, same_goes, served_goes}
@@ -174,17 +174,14 @@ event_goes view time an_event word type ps =
 act_goes : (act : Act) (view : PartitionView) (ps : PartitionState) → Goes view 0 0 ps (by_act act view ps).after
 unfolding self_ordered
 act_goes told.Nothing view ps = same_goes view 0 0 ps ps refl
-act_goes (told.Put channel bytes) view ps = same_goes view 0 0 ps ps refl
-act_goes (told.Take channel) view ps = same_goes view 0 0 ps ps refl
+act_goes (told.Trades traffic) view ps = same_goes view 0 0 ps ps refl
 act_goes (told.Upon id an_order) view ps = at (id == view.id)
   where
     at : (b : Bool) → Goes view 0 0 ps (if b then self_ordered view an_order ps else record (quiet ps) { act = told.Upon id an_order }).after
     at true = ordered_goes view an_order ps
     at false = same_goes view 0 0 ps ps refl
-act_goes (told.Ask plan) view ps = same_goes view 0 0 ps ps refl
-act_goes told.Maintenance view ps = same_goes view 0 0 ps ps refl
-act_goes (told.ResetAll mode) view ps = same_goes view 0 0 ps ps refl
-act_goes told.HaltAll view ps = same_goes view 0 0 ps ps refl
+act_goes (told.Plans change) view ps = same_goes view 0 0 ps ps refl
+act_goes (told.UponAll event) view ps = same_goes view 0 0 ps ps refl
 
 upshot_goes : (upshot : Upshot) (view : PartitionView) (time : ℕ) (ps : PartitionState) → Goes view 0 2 ps (by_upshot upshot view time ps).after
 upshot_goes (Acts act) view time ps = more_goes view 2 ps (by_act act view ps).after (act_goes act view ps)
@@ -255,11 +252,11 @@ heard_goes view (Some n) ps = at (is_halted ps.state) refl
     at true is = rw is (same_goes view 0 0 ps ps refl)
     at false is = rw is (same_goes view 0 0 ps _ refl)
 
-hearing_goes : (view : PartitionView) (traffic : Traffic) (ps : PartitionState) → Goes view 0 0 ps (hearing view traffic ps)
+hearing_goes : (view : PartitionView) (traffic : OwnTraffic) (ps : PartitionState) → Goes view 0 0 ps (hearing view traffic ps)
 unfolding after_message
-hearing_goes view Still ps = same_goes view 0 0 ps ps refl
-hearing_goes view (Puts q bytes) ps = heard_goes view (heard_from q view.part.ports ps.made view.channels) ps
-hearing_goes view (Takes q) ps = same_goes view 0 0 ps ps refl
+hearing_goes view OwnStill ps = same_goes view 0 0 ps ps refl
+hearing_goes view (OwnPuts q bytes) ps = heard_goes view (heard_from q view.part.ports ps.made view.channels) ps
+hearing_goes view (OwnTakes q) ps = same_goes view 0 0 ps ps refl
 
 obeyed_goes : (view : PartitionView) (o : Option Order) (ps : PartitionState) → Goes view 0 0 ps (obeyed view o ps)
 obeyed_goes view None ps = same_goes view 0 0 ps ps refl
@@ -279,7 +276,7 @@ rested_goes view false time ps = at (is_halted ps.state)
     at true = same_goes view 0 0 ps ps refl
     at false = same_goes view 0 0 ps (hardware_looked_at time ps) refl
 
-after_tick_goes : (view : PartitionView) (time : ℕ) (worked : Bool) (traffic : Traffic) (o : Option Order) (e : WholeEvent) (ps : PartitionState)
+after_tick_goes : (view : PartitionView) (time : ℕ) (worked : Bool) (traffic : OwnTraffic) (o : Option Order) (e : WholeEvent) (ps : PartitionState)
     → Goes view 0 0 ps (after_tick view time worked traffic o e ps)
 unfolding after_tick
 after_tick_goes view time worked traffic o e ps =

@@ -9,8 +9,8 @@ use Rattle.machine_model.specs.Lists.{each}
 use Rattle.machine_model.specs.LocalTick.{LocalTick, local_tick}
 use Rattle.machine_model.specs.Machine.{after_tick, obeyed_told, worked_in}
 use Rattle.machine_model.specs.Partition.{PartitionState, booted, takes_turns}
-use Rattle.machine_model.specs.Told.{Sight, line_of}
-use Rattle.machine_model.specs.Traffic.{Traffic, copies_after, traffic_of}
+use Rattle.machine_model.specs.Told.{OwnTraffic, Sight, line_of}
+use Rattle.machine_model.specs.Traffic.{copies_after, traffic_of}
 use Rattle.machine_model.specs.View.{PartitionView, PortChannel}
 use Rattle.machine_model.specs.Whole.{content_after, event_lines, ticks_after, time_after}
 
@@ -40,7 +40,7 @@ unfoldable pub alone_local : PartitionView → Alone → Cue → Option LocalTic
 alone_local view a cue = alone_local_in cue.mine view a cue.seen
 
 -- the traffic of a tick: its own where it did its own work, else that of others
-abbrev pub alone_traffic : Option LocalTick → Traffic → Traffic
+abbrev pub alone_traffic : Option LocalTick → OwnTraffic → OwnTraffic
 alone_traffic None others = others
 alone_traffic (Some tick) others = traffic_of tick.act
 

@@ -2,8 +2,8 @@
 use Rattle.std.specs.Prelude.{ℕ, zero, suc, ◌==◌, Bool, true, false, if◌then◌else◌, List, [], ◌∷◌, Option, Some, None, is_some}
 use Rattle.xm_base.specs.declared.partition.Order.{Order}
 use Rattle.machine_model.specs.Machine.{Happened, Machine, Turn, happened, order_upon, sight, step, tick_of}
-use Rattle.machine_model.specs.Told.{Sight}
-use Rattle.machine_model.specs.Traffic.{Still, Traffic, renamed}
+use Rattle.machine_model.specs.Told.{OwnStill, OwnTraffic, Sight}
+use Rattle.machine_model.specs.Traffic.{heard_as}
 use Rattle.machine_model.specs.View.{name_of}
 use Rattle.machine_model.specs.Whole.{WholeEvent}
 
@@ -17,7 +17,7 @@ pub data Slot : Type 0 where
 -- There is nothing here of another partition's memory, registers, lines, image or state, nor of the plan
 pub record Cue : Type 0 where
   pub mine : Slot
-  pub traffic : Traffic
+  pub traffic : OwnTraffic
   pub order : Option Order
   pub whole : WholeEvent
   pub seen : Sight
@@ -27,15 +27,15 @@ slot_of None p = Away
 slot_of (Some turn) p = if turn.part == p then Mine turn.first else Away
 
 -- traffic by others
-abbrev pub unless_own : Bool → Traffic → Traffic
-unless_own true traffic = Still
+abbrev pub unless_own : Bool → OwnTraffic → OwnTraffic
+unless_own true traffic = OwnStill
 unless_own false traffic = traffic
 
 -- what partition p is told in this tick
 unfoldable pub cue_in : Machine → Happened → ℕ → Cue
 cue_in g h p = record {
   mine = slot_of h.turn p;
-  traffic = unless_own (is_some (tick_of h p)) (renamed (name_of g.system.conf p) h.traffic);
+  traffic = unless_own (is_some (tick_of h p)) (heard_as (name_of g.system.conf p) h.traffic);
   order = order_upon h.act p;
   whole = h.event;
   seen = sight g p;

@@ -1,4 +1,4 @@
--- Rows on health events: what each action does, what is entered and told, deliveries that fail, and calls that end in an event.
+-- Rows on health events: what each action does, what is entered and reported, deliveries that fail, and calls that end in an event.
 use Rattle.std.specs.Prelude.{◌≡◌, ℕ, ◌-◌, ◌^◌, Bool, true, false, List, [], ◌∷◌, map, replicate, Some, None}
 use Rattle.guest_bus.specs.Memory.{Memory}
 use Rattle.health_monitor.specs.Monitor.{event_of_type}
@@ -23,7 +23,7 @@ use Rattle.machine_model.specs.ProcessorCallRows.{below_top, in_trap, top_spille
 use Rattle.machine_model.specs.Rows.{at, with_outs}
 use Rattle.machine_model.specs.ServedRows.{calling_part, made_by, view_for, with_call, with_result}
 use Rattle.machine_model.specs.TimeCallRows.{timer}
-use Rattle.machine_model.specs.Told.{Act, HaltAll, Health, Maintenance, Moved, Nothing, ResetAll, Told}
+use Rattle.machine_model.specs.Told.{Act, AllHalted, AllReset, Health, Maintenance, Moved, Nothing, Plans, Told, UponAll}
 use Rattle.machine_model.specs.View.{PartitionView}
 
 -- the events of trap types, those of section 7 of the SPARC V8 manual and two that have none of their own
@@ -70,7 +70,7 @@ entry seq an_event an_action word = record { time = 9; seq = seq; event = an_eve
 abbrev pub with_entry : HealthEntry → PartitionState → PartitionState
 with_entry one ps = record ps { health = kept_of 6 (health_3 ∷ health_4 ∷ one ∷ []) }
 
--- the partition behind the instruction
+-- the partition after the instruction
 abbrev pub passed : PartitionState → PartitionState
 passed ps = record ps { core = record ps.core { pc = 0x1020; npc = 0x1024 } }
 
@@ -78,9 +78,9 @@ passed ps = record ps { core = record ps.core { pc = 0x1020; npc = 0x1024 } }
 abbrev pub halted : PartitionState → PartitionState
 halted ps = record ps { state = Halted; clocks = record no_clocks { execution = 7 } }
 
--- the partition as it begins anew, after so many resets
-abbrev pub anew : ℕ → PartitionState → PartitionState
-anew resets ps = record ps {
+-- the partition as it begins again, after so many resets
+abbrev pub restarted : ℕ → PartitionState → PartitionState
+restarted resets ps = record ps {
   core = started 0x1000;
   traps = no_traps;
   clocks = no_clocks;
@@ -95,7 +95,7 @@ Meets an_action logged ps after told act =
     event_handled (view_with an_action logged) 9 event.SparcIllegalInstruction 0x1010 (Some 2) ps ≡ record { after = after; told = told; act = act }
 
 -- an action changes the partition so, tells this further, and has this act. Where the flag of the event is set, which is bit 3, the event is entered
--- and told first, with this action; where it alone is not set it is neither
+-- and reported first, with this action; where it alone is not set it is neither
 abbrev pub Does : Action → ℕ → Bool → Action → (PartitionState → PartitionState) → List Told → Act → Type 0
 Does an_action resets enabled shown change told act = (memory : Memory) →
     Meets an_action 8 (struck resets 7 enabled memory) (change (with_entry (entry 5 event.SparcIllegalInstruction shown 0x1010) (struck resets 7 enabled memory)))
@@ -114,19 +114,19 @@ pub record ActionRows : Type 0 where
   pub ignore : Does action.Ignore 3 true action.Ignore passed [] Nothing
   pub shutdown : Does action.Shutdown 3 true action.Shutdown (λ ps. record (passed ps) { traps = record ps.traps { pending = 37 } }) [] Nothing
   pub cold_reset : Does action.PartitionColdReset 3 true action.PartitionColdReset
-      (λ ps. record (anew 0 ps) { memory = loaded (view_with action.PartitionColdReset 0) }) (Moved move.Cold ∷ []) Nothing
-  pub warm_reset : Does action.PartitionWarmReset 3 true action.PartitionWarmReset (anew 4) (Moved move.Warm ∷ []) Nothing
-  pub last_reset : Does action.PartitionWarmReset (2 ^ 32 - 1) true action.PartitionWarmReset (anew 0) (Moved move.Warm ∷ []) Nothing
+      (λ ps. record (restarted 0 ps) { memory = loaded (view_with action.PartitionColdReset 0) }) (Moved move.Cold ∷ []) Nothing
+  pub warm_reset : Does action.PartitionWarmReset 3 true action.PartitionWarmReset (restarted 4) (Moved move.Warm ∷ []) Nothing
+  pub last_reset : Does action.PartitionWarmReset (2 ^ 32 - 1) true action.PartitionWarmReset (restarted 0) (Moved move.Warm ∷ []) Nothing
   pub suspend : Does action.Suspend 3 true action.Suspend (λ ps. record (passed ps) { state = Suspended }) (Moved move.Suspend ∷ []) Nothing
   pub halt : Does action.Halt 3 true action.Halt halted (Moved move.Halt ∷ []) Nothing
   pub propagate : Does action.Propagate 3 true action.Propagate in_table [] Nothing
   pub propagate_disabled : Does action.Propagate 3 false action.Halt halted (Moved move.Halt ∷ []) Nothing
-  pub hypervisor_cold_reset : Does action.HypervisorColdReset 3 true action.HypervisorColdReset (λ ps. ps) [] (ResetAll mode.Cold)
-  pub hypervisor_warm_reset : Does action.HypervisorWarmReset 3 true action.HypervisorWarmReset (λ ps. ps) [] (ResetAll mode.Warm)
-  pub hypervisor_halt : Does action.HypervisorHalt 3 true action.HypervisorHalt (λ ps. ps) [] HaltAll
-  pub maintenance : Does action.SwitchToMaintenance 3 true action.SwitchToMaintenance passed [] Maintenance
+  pub hypervisor_cold_reset : Does action.HypervisorColdReset 3 true action.HypervisorColdReset (λ ps. ps) [] (UponAll (AllReset mode.Cold))
+  pub hypervisor_warm_reset : Does action.HypervisorWarmReset 3 true action.HypervisorWarmReset (λ ps. ps) [] (UponAll (AllReset mode.Warm))
+  pub hypervisor_halt : Does action.HypervisorHalt 3 true action.HypervisorHalt (λ ps. ps) [] (UponAll AllHalted)
+  pub maintenance : Does action.SwitchToMaintenance 3 true action.SwitchToMaintenance passed [] (Plans Maintenance)
 
--- a raised event: its word is that of the call, and the partition is behind the call already
+-- a raised event: its word is that of the call, and the partition is past the call already
 abbrev pub Raises : Action → (PartitionState → PartitionState) → List Told → Act → Type 0
 Raises an_action change told act = (memory : Memory) →
     event_handled (view_with an_action 1) 9 event.PartitionError 42 None (struck 3 7 true memory)
@@ -140,13 +140,13 @@ pub record RaisedRows : Type 0 where
   pub ignore : Raises action.Ignore (λ ps. ps) [] Nothing
   pub suspend : Raises action.Suspend (λ ps. record ps { state = Suspended }) (Moved move.Suspend ∷ []) Nothing
   pub halt : Raises action.Halt halted (Moved move.Halt ∷ []) Nothing
-  pub maintenance : Raises action.SwitchToMaintenance (λ ps. ps) [] Maintenance
+  pub maintenance : Raises action.SwitchToMaintenance (λ ps. ps) [] (Plans Maintenance)
 
--- a partition that has halted with these entries behind its earlier ones
+-- a partition that has halted with these entries after its earlier ones
 abbrev pub halted_with : List HealthEntry → ℕ → PartitionState → PartitionState
 halted_with entries next ps = record (halted ps) { health = kept_of next (health_3 ∷ health_4 ∷ entries) }
 
--- a delivery that fails, in window 1 with no stack to spill to: whatever the log flags, MEM_PROTECTION with HALT is entered and told, its word being
+-- a delivery that fails, in window 1 with no stack to spill to: whatever the log flags, MEM_PROTECTION with HALT is entered and reported, its word being
 -- the program counter; an interrupt stays pending
 abbrev pub trap_fails : Memory → PartitionState
 trap_fails memory = struck 3 1 true memory

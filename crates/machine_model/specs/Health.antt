@@ -18,7 +18,7 @@ use Rattle.health_monitor.specs.declared.effects.Own.TheVariants as own
 use Rattle.health_monitor.specs.declared.effects.Whole.{Whole}
 use Rattle.health_monitor.specs.declared.effects.Whole.TheVariants as whole
 use Rattle.machine_model.specs.Partition.{PartitionState, areas_of, ordered, ordered_told, shutdown}
-use Rattle.machine_model.specs.Told.{Act, HaltAll, Health, Maintenance, Nothing, ResetAll, Told}
+use Rattle.machine_model.specs.Told.{Act, AllHalted, AllReset, Health, Maintenance, Nothing, Plans, Told, UponAll}
 use Rattle.machine_model.specs.View.{PartitionView}
 
 -- what a partition's part of a tick came to
@@ -101,9 +101,9 @@ done_to_itself view time type own.Propagate ps = propagated view time type ps
 -- what an action does to the whole system
 abbrev pub done_to_all : Whole → Act
 done_to_all whole.Nothing = Nothing
-done_to_all (whole.Reset mode) = ResetAll mode
-done_to_all whole.Halt = HaltAll
-done_to_all whole.Maintenance = Maintenance
+done_to_all (whole.Reset mode) = UponAll (AllReset mode)
+done_to_all whole.Halt = UponAll AllHalted
+done_to_all whole.Maintenance = Plans Maintenance
 
 -- whether the program counter is moved past the instruction: after a raised event it has moved already
 abbrev pub is_passed_over : Event → Effect → Bool

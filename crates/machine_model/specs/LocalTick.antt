@@ -16,7 +16,7 @@ use Rattle.machine_model.specs.Health.{Worked, event_handled, interrupt_delivere
 use Rattle.machine_model.specs.Hypercalls.{served}
 use Rattle.machine_model.specs.Partition.{PartitionState, areas_of, execution_looked_at, hardware_looked_at, raised_if, slot_start}
 use Rattle.machine_model.specs.Told as told
-use Rattle.machine_model.specs.Told.{Act, Ask, HaltAll, Maintenance, Nothing, Put, ResetAll, Sight, Take, Told, Upon, line_of}
+use Rattle.machine_model.specs.Told.{Act, Nothing, OwnPuts, OwnStill, OwnTakes, OwnTraffic, Plans, Sight, Told, Trades, Upon, UponAll, line_of}
 use Rattle.machine_model.specs.View.{PartitionView, PortChannel}
 
 -- the interrupts that a tick brings: the start of a slot, then the hardware timer, then the execution timer
@@ -42,14 +42,11 @@ with_clock w = record w { after = clocked w.after }
 -- an act upon oneself is carried out at once; another one reaches beyond the partition
 abbrev pub by_act : Act → PartitionView → PartitionState → Worked
 by_act Nothing view ps = quiet ps
-by_act (Put channel bytes) view ps = record (quiet ps) { act = Put channel bytes }
-by_act (Take channel) view ps = record (quiet ps) { act = Take channel }
+by_act (Trades traffic) view ps = record (quiet ps) { act = Trades traffic }
 by_act (Upon id an_order) view ps =
     if id == view.id then self_ordered view an_order ps else record (quiet ps) { act = Upon id an_order }
-by_act (Ask plan) view ps = record (quiet ps) { act = Ask plan }
-by_act Maintenance view ps = record (quiet ps) { act = Maintenance }
-by_act (ResetAll mode) view ps = record (quiet ps) { act = ResetAll mode }
-by_act HaltAll view ps = record (quiet ps) { act = HaltAll }
+by_act (Plans change) view ps = record (quiet ps) { act = Plans change }
+by_act (UponAll event) view ps = record (quiet ps) { act = UponAll event }
 
 -- what a hypercall comes to, once the execution clock has counted the tick
 abbrev pub by_upshot : Upshot → PartitionView → ℕ → PartitionState → Worked
@@ -125,20 +122,24 @@ abbrev pub has_name : Option PortChannel → ℕ → Bool
 has_name None name = false
 has_name (Some channel) name = channel.name == name
 
--- an act on a channel that the partition has under this name
-abbrev pub if_its : PartitionView → ℕ → Act → Act
-if_its view name act = if has_name (slice_index_or view.channels name None) name then act else Nothing
+-- the channel that traffic is on, where there is any
+abbrev pub name_in : OwnTraffic → Option ℕ
+name_in OwnStill = None
+name_in (OwnPuts name bytes) = Some name
+name_in (OwnTakes name) = Some name
+
+-- whether traffic is on a channel that the partition has under this name
+abbrev pub is_its : PartitionView → Option ℕ → Bool
+is_its view None = true
+is_its view (Some name) = has_name (slice_index_or view.channels name None) name
 
 -- only channels of the partition are acted on, and only other partitions get orders
 abbrev pub bounded : PartitionView → Act → Act
 bounded view Nothing = Nothing
-bounded view (Put channel bytes) = if_its view channel (Put channel bytes)
-bounded view (Take channel) = if_its view channel (Take channel)
+bounded view (Trades traffic) = if is_its view (name_in traffic) then Trades traffic else Nothing
 bounded view (Upon id an_order) = if id == view.id then Nothing else Upon id an_order
-bounded view (Ask plan) = Ask plan
-bounded view Maintenance = Maintenance
-bounded view (ResetAll mode) = ResetAll mode
-bounded view HaltAll = HaltAll
+bounded view (Plans change) = Plans change
+bounded view (UponAll event) = UponAll event
 
 -- the work as the rest of the system sees it: its lines have the partition's tag
 abbrev pub seen_outside : PartitionView → ℕ → Worked → LocalTick

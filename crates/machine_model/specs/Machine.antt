@@ -13,8 +13,8 @@ use Rattle.machine_model.specs.Observed.{CurrentPlan, HealthCounts, HealthEntryO
 use Rattle.machine_model.specs.Partition.{PartitionState, areas_of, booted, ordered, ordered_told, rested, takes_turns}
 use Rattle.machine_model.specs.Structures.{counts_bytes, health_bytes, partition_status, plan_status, system_status, trace_bytes, word}
 use Rattle.machine_model.specs.Told as told
-use Rattle.machine_model.specs.Told.{Act, NotKept, Sight, Told, Unseen, Words, line_of}
-use Rattle.machine_model.specs.Traffic.{Still, Traffic, after_traffic, copies_of, hearing, renamed, traffic_of}
+use Rattle.machine_model.specs.Told.{Act, Asked, Directed, Maintenance, NotKept, OwnTraffic, PlanChange, Sight, Told, Unseen, Words, line_of, reach_of}
+use Rattle.machine_model.specs.Traffic.{Still, Traffic, after_traffic, copies_of, heard_as, hearing, told_as, traffic_of}
 use Rattle.machine_model.specs.View.{PartitionView, System, name_of, named, part_of, view_of}
 use Rattle.machine_model.specs.Whole.{AllHalted, AllReset, NoEvent, WholeEvent, after_event, content_after, event_of, ticks_after, time_after, whole_resets_after}
 
@@ -142,20 +142,17 @@ act_of None = told.Nothing
 act_of (Some tick) = tick.act
 
 -- traffic under the channels' numbers in the system, of the partition whose turn it is
-abbrev pub system_traffic : Conf → Option Turn → Traffic → Traffic
+abbrev pub system_traffic : Conf → Option Turn → OwnTraffic → Traffic
 system_traffic conf None traffic = Still
-system_traffic conf (Some turn) traffic = renamed (named conf turn.part) traffic
+system_traffic conf (Some turn) traffic = told_as (named conf turn.part) traffic
 
 -- an order upon partition p
+abbrev pub order_for : Option Directed → ℕ → Option Order
+order_for None p = None
+order_for (Some directed) p = if directed.id == p then Some directed.order else None
+
 abbrev pub order_upon : Act → ℕ → Option Order
-order_upon told.Nothing p = None
-order_upon (told.Put channel bytes) p = None
-order_upon (told.Take channel) p = None
-order_upon (told.Upon id order) p = if id == p then Some order else None
-order_upon (told.Ask plan) p = None
-order_upon told.Maintenance p = None
-order_upon (told.ResetAll mode) p = None
-order_upon told.HaltAll p = None
+order_upon act p = order_for (reach_of act).directed p
 
 -- all that a tick did
 pub record Happened : Type 0 where
@@ -206,46 +203,29 @@ rested_unless true time ps = ps
 rested_unless false time ps = rested time ps
 
 -- what a tick leaves of a partition behind its own work: it hears of a message, obeys an order, meets a hypervisor event, and rests where it did no work
-unfoldable pub after_tick : PartitionView → ℕ → Bool → Traffic → Option Order → WholeEvent → PartitionState → PartitionState
+unfoldable pub after_tick : PartitionView → ℕ → Bool → OwnTraffic → Option Order → WholeEvent → PartitionState → PartitionState
 after_tick view time worked traffic order event ps =
     rested_unless worked time (after_event view event (obeyed view order (hearing view traffic ps)))
 
 -- what a tick leaves of partition p
 unfoldable pub part_after : Machine → Happened → ℕ → PartitionState → PartitionState
 part_after g h p ps =
-    after_tick (view_of g.system p) g.time (is_some (tick_of h p)) (renamed (name_of g.system.conf p) h.traffic) (order_upon h.act p) h.event
+    after_tick (view_of g.system p) g.time (is_some (tick_of h p)) (heard_as (name_of g.system.conf p) h.traffic) (order_upon h.act p) h.event
     (worked_in (tick_of h p) ps)
 
 -- what a tick leaves of channel c
 unfoldable pub channel_after : ℕ → Happened → ℕ → Content → Content
 channel_after time h c content = content_after h.event (after_traffic time h.traffic c content)
 
--- the plan clock where a plan was asked for
-abbrev pub asking : Act → CyclicClock → CyclicClock
-asking told.Nothing clock = clock
-asking (told.Put channel bytes) clock = clock
-asking (told.Take channel) clock = clock
-asking (told.Upon id order) clock = clock
-asking (told.Ask plan) clock = record clock { asked = Some plan }
-asking told.Maintenance clock = clock
-asking (told.ResetAll mode) clock = clock
-asking told.HaltAll clock = clock
-
--- whether the maintenance plan comes next
-abbrev pub is_maintenance : Act → Bool
-is_maintenance told.Nothing = false
-is_maintenance (told.Put channel bytes) = false
-is_maintenance (told.Take channel) = false
-is_maintenance (told.Upon id order) = false
-is_maintenance (told.Ask plan) = false
-is_maintenance told.Maintenance = true
-is_maintenance (told.ResetAll mode) = false
-is_maintenance told.HaltAll = false
+-- the plan clock of the next tick, by what was done to the plan
+abbrev pub planned : Option PlanChange → Conf → CyclicClock → ℕ → CyclicClock
+planned None conf clock time = ended conf clock time
+planned (Some (Asked plan)) conf clock time = ended conf (record clock { asked = Some plan }) time
+planned (Some Maintenance) conf clock time = in_maintenance time
 
 -- the plan clock of the next tick: a reset starts plan 0, and a halt stops the clock
 abbrev pub clock_after : WholeEvent → Conf → Act → CyclicClock → ℕ → CyclicClock
-clock_after NoEvent conf act clock time =
-    if is_maintenance act then in_maintenance time else ended conf (asking act clock) time
+clock_after NoEvent conf act clock time = planned (reach_of act).plan conf clock time
 clock_after (AllReset mode) conf act clock time = started
 clock_after AllHalted conf act clock time = clock
 

@@ -2,11 +2,14 @@
 use Rattle.std.specs.Prelude.{◌≡◌, ℕ, Bool, true, false, List, [], ◌∷◌, replicate, ◌++◌, Option, Some, None}
 use Rattle.cyclic_plans.specs.PlanClock.{CyclicClock}
 use Rattle.guest_bus.specs.Memory.{Memory, with_bytes}
+use Rattle.xm_base.specs.declared.partition.State.{State}
+use Rattle.xm_base.specs.declared.partition.State.TheVariants.{Ready, Idle, Suspended, Halted}
 use Rattle.machine_model.specs.CallRows.{Calls, answered, beside, caller, watched, watched_status}
 use Rattle.machine_model.specs.LogCallRows.{bytes_of_health_3, bytes_of_health_4, bytes_of_trace_3, health_3, health_4, trace_3, trace_4}
 use Rattle.machine_model.specs.Machine.{Machine, answer_to, sight_for}
-use Rattle.machine_model.specs.Observed.{CurrentPlan, HealthCounts, HealthEntryOf, PartitionStatus, PlanStatus, Question, SystemStatus, TraceCounts, TraceEntryOf, observed_by}
+use Rattle.machine_model.specs.Observed.{CurrentPlan, HealthCounts, HealthEntryOf, PartitionStatus, PlanStatus, Question, SystemStatus, TraceCounts, TraceEntryOf, asks, observed_by}
 use Rattle.machine_model.specs.OwnRows.{by_itself}
+use Rattle.machine_model.specs.Partition.{PartitionState}
 use Rattle.machine_model.specs.Rows.{Leaves, at, calling}
 use Rattle.machine_model.specs.ServedRows.{view_for, with_call}
 use Rattle.machine_model.specs.Structures.{plan_status}
@@ -22,7 +25,7 @@ AsksFor outs question address size memory =
 abbrev pub AsksNothing : Bool → List ℕ → Memory → Type 0
 AsksNothing is_system outs memory = observed_by (view_for is_system) (with_call outs memory).core ≡ None
 
--- a call upon another partition that there is asks for something of it, and nothing without the flag, of itself, or of one that is not there
+-- a call on another partition that there is asks for something of it, and nothing without the flag, of itself, or of one that is not there
 abbrev pub AsksOfOther : ℕ → Memory → Type 0
 AsksOfOther number memory =
     AsksNothing false (number ∷ 3 ∷ 7 ∷ 9 ∷ []) memory
@@ -95,6 +98,20 @@ pub record RoomRows : Type 0 where
   pub read_only : Sees SystemStatus 0x2000 8 Unseen
   pub not_kept : Sees (TraceEntryOf 1 2) 0x2000 24 NotKept
   pub nothing : (one other : Memory) → sight_for (observed_machine one other) (view_for true) None ≡ Unseen
+
+-- a partition in a state, with interrupt 0 pending and unmasked or masked, that takes traps or not
+abbrev pub observer : State → ℕ → Bool → Memory → PartitionState
+observer state mask enabled memory = record (with_call (11 ∷ 0x1000 ∷ []) memory) {
+  state = state;
+  traps = record { enabled = enabled; base = 0x40001000; pending = 1; mask = mask };
+}
+
+-- nothing is asked where an interrupt is delivered instead of the call, where an idle partition is not woken, and where a partition takes no turn
+pub record SilentRows : Type 0 where
+  pub delivered : (memory : Memory) → asks (view_for true) (observer Ready 0xffff_fffe true memory) 9 false ≡ None
+  pub idle : (memory : Memory) → asks (view_for true) (observer Idle 0xffff_ffff true memory) 9 false ≡ None
+  pub suspended : (memory : Memory) → asks (view_for true) (observer Suspended 0xffff_fffe false memory) 9 true ≡ None
+  pub halted : (memory : Memory) → asks (view_for true) (observer Halted 0xffff_fffe false memory) 9 true ≡ None
 
 -- call 15 in a tick: the status of plan 0 with plan 7 asked for, in slot 0
 abbrev pub SeesPlan : Type 0

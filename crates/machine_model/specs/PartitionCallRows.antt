@@ -8,13 +8,13 @@ use Rattle.xm_base.specs.declared.partition.Order.TheVariants as order
 use Rattle.xm_base.specs.declared.partition.State.TheVariants.{Idle}
 use Rattle.machine_model.specs.Partition.{PartitionState}
 use Rattle.machine_model.specs.ServedRows.{Answers, DoesAct, Leads, Writes, call, made_by, minus, shown_call, view_for, with_call}
-use Rattle.machine_model.specs.Told.{HaltAll, ResetAll, Upon, Words}
+use Rattle.machine_model.specs.Told.{AllHalted, AllReset, Upon, UponAll, Words}
 
 -- call 1: the caller's number
 abbrev pub GetsItself : Type 0
 GetsItself = (memory : Memory) → Answers (call false (1 ∷ []) memory) 2 × Answers (call true (1 ∷ []) memory) 2
 
--- an order by the call of this number: without the system flag only upon oneself, and with it upon each partition that there is
+-- an order by the call of this number: without the system flag only on oneself, and with it on each partition that there is
 abbrev pub Orders : ℕ → Order → Type 0
 Orders number an_order = (memory : Memory) →
     DoesAct (call false (number ∷ 2 ∷ []) memory) (Upon 2 an_order)
@@ -63,13 +63,13 @@ SeesStatus = (memory : Memory) →
 
 -- call 9: a system partition halts the hypervisor
 abbrev pub HaltsSystem : Type 0
-HaltsSystem = (memory : Memory) → DoesAct (call true (9 ∷ []) memory) HaltAll × Answers (call false (9 ∷ []) memory) (minus 4)
+HaltsSystem = (memory : Memory) → DoesAct (call true (9 ∷ []) memory) (UponAll AllHalted) × Answers (call false (9 ∷ []) memory) (minus 4)
 
 -- call 10: a system partition resets the hypervisor; the caller is tested first, and then the way
 abbrev pub ResetsSystem : Type 0
 ResetsSystem = (memory : Memory) →
-    DoesAct (call true (10 ∷ 0 ∷ []) memory) (ResetAll Cold)
-    × DoesAct (call true (10 ∷ 1 ∷ []) memory) (ResetAll Warm)
+    DoesAct (call true (10 ∷ 0 ∷ []) memory) (UponAll (AllReset Cold))
+    × DoesAct (call true (10 ∷ 1 ∷ []) memory) (UponAll (AllReset Warm))
     × Answers (call true (10 ∷ 2 ∷ []) memory) (minus 6)
     × Answers (call false (10 ∷ 2 ∷ []) memory) (minus 4)
 

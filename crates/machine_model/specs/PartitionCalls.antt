@@ -5,7 +5,7 @@ use Rattle.xm_base.specs.declared.partition.Order.TheVariants as order
 use Rattle.xm_base.specs.declared.partition.State.TheVariants.{Idle}
 use Rattle.machine_model.specs.Caller.{Caller, Served, a_of, acting, answering, b_of, c_of, invalid_mode, is_neither, mode_numbered, refused_if, room, shown, system_only, target, tested, with_written}
 use Rattle.machine_model.specs.Structures.{partition_status}
-use Rattle.machine_model.specs.Told.{HaltAll, ResetAll, Upon}
+use Rattle.machine_model.specs.Told.{AllHalted, AllReset, Upon, UponAll}
 
 -- call 1, XM_get_self: the caller's number
 unfoldable pub get_self : Caller → Served
@@ -53,13 +53,13 @@ get_partition_status caller =
 
 -- call 9, XM_halt_system
 unfoldable pub halt_system : Caller → Served
-halt_system caller = tested (system_only caller ∷ []) caller (acting HaltAll 0 caller.state)
+halt_system caller = tested (system_only caller ∷ []) caller (acting (UponAll AllHalted) 0 caller.state)
 
 -- call 10, XM_reset_system(a): cold or warm by a
 unfoldable pub reset_system : Caller → Served
 reset_system caller =
     tested (system_only caller ∷ refused_if (is_neither (a_of caller)) invalid_mode ∷ []) caller
-    (acting (ResetAll (mode_numbered (a_of caller))) 0 caller.state)
+    (acting (UponAll (AllReset (mode_numbered (a_of caller)))) 0 caller.state)
 
 -- call 11, XM_get_system_status(a)
 unfoldable pub get_system_status : Caller → Served

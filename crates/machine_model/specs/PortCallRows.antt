@@ -14,7 +14,7 @@ use Rattle.machine_model.specs.Caller.{Caller, Served}
 use Rattle.machine_model.specs.Hypercalls.{served}
 use Rattle.machine_model.specs.Partition.{PartitionState}
 use Rattle.machine_model.specs.ServedRows.{Answers, Comes, Leads, Writes, calling_part, made_by, minus, served_so, view_for, with_call, written}
-use Rattle.machine_model.specs.Told.{Nothing, Put, Take}
+use Rattle.machine_model.specs.Told.{Nothing, OwnPuts, OwnTakes, Trades}
 use Rattle.machine_model.specs.View.{PartitionView, PortChannel}
 
 -- a port of a name of one letter
@@ -64,7 +64,7 @@ quiet_call outs memory = port_call 0 (held None [] []) outs memory
 
 -- calls 17 and 21 put so many bytes at an address into the channel of this name
 abbrev pub Puts : Caller → ℕ → ℕ → ℕ → Type 0
-Puts caller name address size = Comes caller (served_so 0 (Put name (bytes_at caller.state.memory address size)) caller.state)
+Puts caller name address size = Comes caller (served_so 0 (Trades (OwnPuts name (bytes_at caller.state.memory address size))) caller.state)
 
 -- a call on a port that is not made, that is none, or that is of the other kind
 abbrev pub RefusesOthers : ℕ → ℕ → Memory → Type 0
@@ -162,7 +162,7 @@ waited_call outs memory = port_call 0 (held None [] two_messages) outs memory
 abbrev pub ReceivesMessage : Type 0
 ReceivesMessage = (memory : Memory) →
     Comes (waited_call (22 ∷ 3 ∷ 0x103d ∷ 3 ∷ []) memory)
-    (served_so 3 (Take 3) (written 0x103d (5 ∷ 6 ∷ 7 ∷ []) (with_made all_made (22 ∷ 3 ∷ 0x103d ∷ 3 ∷ []) memory)))
+    (served_so 3 (Trades (OwnTakes 3)) (written 0x103d (5 ∷ 6 ∷ 7 ∷ []) (with_made all_made (22 ∷ 3 ∷ 0x103d ∷ 3 ∷ []) memory)))
     × Answers (waited_call (22 ∷ 3 ∷ 0x1000 ∷ 2 ∷ []) memory) (minus 3)
     × Answers (waited_call (22 ∷ 3 ∷ 0x103e ∷ 3 ∷ []) memory) (minus 3)
     × Answers (waited_call (22 ∷ 3 ∷ 0x2000 ∷ 3 ∷ []) memory) (minus 3)
@@ -179,7 +179,7 @@ SeesQueuing = (memory : Memory) →
     × Answers (quiet_call (23 ∷ 3 ∷ 0x2000 ∷ []) memory) (minus 3)
     × RefusesOthers 23 1 memory
 
--- a call upon a port whose name is in memory comes to this
+-- a call on a port whose name is in memory comes to this
 pub record Makes (caller : Caller) (comes : Served) : Type 0 where
   pub made : served caller ≡ comes
 

@@ -15,7 +15,7 @@ use Rattle.xm_base.specs.Options.{on}
 use Rattle.machine_model.specs.Lists.{and_then}
 use Rattle.machine_model.specs.Partition.{areas_of}
 use Rattle.machine_model.specs.Structures.{queuing_status, sampling_status, validity, word}
-use Rattle.machine_model.specs.Told.{Put, Take}
+use Rattle.machine_model.specs.Told.{OwnPuts, OwnTakes, Trades}
 use Rattle.machine_model.specs.View.{PartitionView, PortChannel}
 
 -- a name in memory: the bytes before the first zero byte, of which there is one within so many; each up to it may be read
@@ -107,7 +107,7 @@ size_fits port size = refused_if (size == 0 || nat_lt port.shape.length size) in
 
 -- a message of c bytes at b is put into the port's channel
 abbrev pub putting : Caller → MadePort → Served
-putting caller port = acting (Put port.name (bytes_of caller (b_of caller) (c_of caller))) 0 caller.state
+putting caller port = acting (Trades (OwnPuts port.name (bytes_of caller (b_of caller) (c_of caller)))) 0 caller.state
 
 -- call 17, XM_write_sampling_message(a, b, c): c bytes at b
 unfoldable pub write_sampling_message : Caller → Served
@@ -149,7 +149,7 @@ send_queuing_message caller = on_port (made_port kind.Queuing caller) caller (λ
 abbrev pub message_read : Caller → MadePort → List ℕ → Served
 message_read caller port message =
     tested (refused_if (nat_lt (c_of caller) (length message)) invalid_parameter ∷ room caller (b_of caller) (length message) ∷ []) caller
-    (acting (Take port.name) (length message) (with_written (b_of caller) message caller.state))
+    (acting (Trades (OwnTakes port.name)) (length message) (with_written (b_of caller) message caller.state))
 
 -- the first message that the queue holds, where it holds one
 abbrev pub first_read : Option (List ℕ) → Caller → MadePort → Served

@@ -59,7 +59,7 @@ ReadsInput = (memory : Memory) →
     × Answers (made_by (view_for false) (with_inputs (7 ∷ []) (33 ∷ 0x2000 ∷ []) memory)) (minus 3)
     × Answers (made_by (view_for false) (with_inputs [] (33 ∷ 0x2000 ∷ []) memory)) (minus 7)
 
--- the registers of a trap in a window: the PSR and the program counters that it saved, behind a call with a number in %o0
+-- the registers of a trap in a window: the PSR and the program counters that it saved, and the number of the call in %o0
 abbrev pub in_trap : ℕ → List ℕ → Registers
 in_trap window locals = with_outs 16 locals (with_outs 8 (34 ∷ []) (in_window (started 0x1020) window))
 

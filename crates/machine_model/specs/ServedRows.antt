@@ -43,7 +43,7 @@ view_for is_system = record {
 abbrev pub made_by : PartitionView → PartitionState → Caller
 made_by view ps = record { view = view; state = ps; contents = []; time = 9; sight = Unseen; pc = 0x1004; npc = 0x1020 }
 
--- a partition with these values in its outs, behind that instruction
+-- a partition with these values in its outs, after that instruction
 abbrev pub with_call : List ℕ → Memory → PartitionState
 with_call outs memory = calling 0x1020 outs memory
 

@@ -6,7 +6,7 @@ use Rattle.virt_clocks.specs.declared.timer.Timer.{Timer}
 use Rattle.machine_model.specs.Partition.{PartitionState}
 use Rattle.machine_model.specs.PartitionCallRows.{worn}
 use Rattle.machine_model.specs.ServedRows.{Answers, Comes, Leads, Writes, call, made_by, minus, served_so, shown_call, view_for, with_call, written}
-use Rattle.machine_model.specs.Told.{Ask, Words}
+use Rattle.machine_model.specs.Told.{Asked, Plans, Words}
 
 -- call 12: the hardware clock or the execution clock, in eight bytes that have to be writable
 abbrev pub ShowsClock : Type 0
@@ -52,7 +52,7 @@ SetsTimer = (memory : Memory) →
 abbrev pub AsksForPlan : Type 0
 AsksForPlan = (memory : Memory) →
     Comes (shown_call (Words (0 ∷ 0 ∷ 0 ∷ 1 ∷ [])) (14 ∷ 2 ∷ 0x103c ∷ []) memory)
-    (served_so 0 (Ask 2) (written 0x103c (0 ∷ 0 ∷ 0 ∷ 1 ∷ []) (with_call (14 ∷ 2 ∷ 0x103c ∷ []) memory)))
+    (served_so 0 (Plans (Asked 2)) (written 0x103c (0 ∷ 0 ∷ 0 ∷ 1 ∷ []) (with_call (14 ∷ 2 ∷ 0x103c ∷ []) memory)))
     × Answers (call true (14 ∷ 0 ∷ 0x103c ∷ []) memory) (minus 3)
     × Answers (call true (14 ∷ 3 ∷ 0x103c ∷ []) memory) (minus 3)
     × Answers (call true (14 ∷ 1 ∷ 0x103d ∷ []) memory) (minus 3)

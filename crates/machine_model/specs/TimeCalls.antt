@@ -6,7 +6,7 @@ use Rattle.virt_clocks.specs.declared.timer.Clock.TheVariants.{Hw, Exec}
 use Rattle.machine_model.specs.Caller.{Caller, Served, a_of, acting, answering, b_of, c_of, d_of, e_of, invalid_parameter, is_neither, refused_if, room, shown, system_only, tested, with_written}
 use Rattle.machine_model.specs.Partition.{PartitionState}
 use Rattle.machine_model.specs.Structures.{double}
-use Rattle.machine_model.specs.Told.{Ask}
+use Rattle.machine_model.specs.Told.{Asked, Plans}
 
 -- the clock with a number: 0 is the hardware clock, 1 the execution clock
 abbrev pub clock_numbered : ℕ → Clock
@@ -52,7 +52,7 @@ is_no_plan caller = a_of caller == 0 || not (nat_lt (a_of caller) caller.view.se
 unfoldable pub switch_sched_plan : Caller → Served
 switch_sched_plan caller =
     tested (system_only caller ∷ refused_if (is_no_plan caller) invalid_parameter ∷ room caller (b_of caller) 4 ∷ []) caller
-    (acting (Ask (a_of caller)) 0 (with_written (b_of caller) (shown caller.sight) caller.state))
+    (acting (Plans (Asked (a_of caller))) 0 (with_written (b_of caller) (shown caller.sight) caller.state))
 
 -- call 15, XM_get_plan_status(a)
 unfoldable pub get_plan_status : Caller → Served

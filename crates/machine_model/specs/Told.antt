@@ -1,5 +1,5 @@
 -- What a partition's tick tells, and the act by which it reaches beyond its partition.
-use Rattle.std.specs.Prelude.{ℕ, List}
+use Rattle.std.specs.Prelude.{ℕ, List, Option, Some, None}
 use Rattle.xm_base.specs.declared.partition.Mode.{Mode}
 use Rattle.xm_base.specs.declared.partition.Order.{Order}
 use Rattle.xm_conf.specs.declared.health.Action.{Action}
@@ -21,17 +21,54 @@ line_of n p (Health event word action) = HealthLine n p event word action
 line_of n p (Trace bits load) = TraceLine n p bits load
 line_of n p (Moved to) = MovedLine n p to
 
--- how a tick reaches beyond its partition: a message put or taken, an order upon a partition, a plan that is asked for,
--- or something that is done to the whole system
+-- traffic of a partition on channels that go by its own names: none, a message that is put, or the first one that is taken
+pub data OwnTraffic : Type 0 where
+  OwnStill : OwnTraffic
+  OwnPuts : (name : ℕ) (bytes : List ℕ) → OwnTraffic
+  OwnTakes : (name : ℕ) → OwnTraffic
+
+-- what is done to the plan: one is asked for, or the maintenance plan comes next
+pub data PlanChange : Type 0 where
+  Asked : (plan : ℕ) → PlanChange
+  Maintenance : PlanChange
+
+-- a hypervisor event: none, a reset of all, or a halt of all
+pub data WholeEvent : Type 0 where
+  NoEvent : WholeEvent
+  AllReset : (mode : Mode) → WholeEvent
+  AllHalted : WholeEvent
+
+-- how a tick reaches beyond its partition: not at all, by traffic on its channels, by an order on a partition, by the plan, or by an event
+-- of all partitions
 pub data Act : Type 0 where
   Nothing : Act
-  Put : (channel : ℕ) (bytes : List ℕ) → Act
-  Take : (channel : ℕ) → Act
+  Trades : (traffic : OwnTraffic) → Act
   Upon : (id : ℕ) (order : Order) → Act
-  Ask : (plan : ℕ) → Act
-  Maintenance : Act
-  ResetAll : (mode : Mode) → Act
-  HaltAll : Act
+  Plans : (change : PlanChange) → Act
+  UponAll : (event : WholeEvent) → Act
+
+-- an order, and the partition that it is for
+pub record Directed : Type 0 where
+  pub id : ℕ
+  pub order : Order
+
+-- all that an act may reach
+pub record Reach : Type 0 where
+  pub traffic : OwnTraffic
+  pub directed : Option Directed
+  pub plan : Option PlanChange
+  pub event : WholeEvent
+
+abbrev pub no_reach : Reach
+no_reach = record { traffic = OwnStill; directed = None; plan = None; event = NoEvent }
+
+-- what each kind of act reaches
+abbrev pub reach_of : Act → Reach
+reach_of Nothing = no_reach
+reach_of (Trades traffic) = record no_reach { traffic = traffic }
+reach_of (Upon id order) = record no_reach { directed = Some (record { id = id; order = order }) }
+reach_of (Plans change) = record no_reach { plan = Some change }
+reach_of (UponAll event) = record no_reach { event = event }
 
 -- what an observing call is shown of the system: nothing, that an entry is not kept, or bytes
 pub data Sight : Type 0 where

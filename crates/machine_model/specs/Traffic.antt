@@ -11,29 +11,20 @@ use Rattle.virt_traps.specs.Virtual.{raised}
 use Rattle.xm_base.specs.Options.{on}
 use Rattle.machine_model.specs.Lists.{each, table}
 use Rattle.machine_model.specs.Partition.{PartitionState, is_halted, queuing_port, sampling_port}
-use Rattle.machine_model.specs.Told as told
-use Rattle.machine_model.specs.Told.{Act}
+use Rattle.machine_model.specs.Told.{Act, OwnPuts, OwnStill, OwnTakes, OwnTraffic, reach_of}
 use Rattle.machine_model.specs.View.{PartitionView, PortChannel, named}
 
--- a message that is put into a channel, or the first one that is taken from it. Channels go by their numbers in the system,
--- and for one partition by its own names
+-- traffic on channels that go by their numbers in the system: none, a message that is put, or the first one that is taken
 pub data Traffic : Type 0 where
   Still : Traffic
   Puts : (channel : ℕ) (bytes : List ℕ) → Traffic
   Takes : (channel : ℕ) → Traffic
 
 -- the traffic of an act
-abbrev pub traffic_of : Act → Traffic
-traffic_of told.Nothing = Still
-traffic_of (told.Put channel bytes) = Puts channel bytes
-traffic_of (told.Take channel) = Takes channel
-traffic_of (told.Upon id order) = Still
-traffic_of (told.Ask plan) = Still
-traffic_of told.Maintenance = Still
-traffic_of (told.ResetAll mode) = Still
-traffic_of told.HaltAll = Still
+abbrev pub traffic_of : Act → OwnTraffic
+traffic_of act = (reach_of act).traffic
 
--- traffic on a channel that is called otherwise; none where it has no such name
+-- a partition's traffic under the system's numbers; none where a name has no channel
 abbrev pub puts_at : Option ℕ → List ℕ → Traffic
 puts_at None bytes = Still
 puts_at (Some channel) bytes = Puts channel bytes
@@ -42,16 +33,36 @@ abbrev pub takes_at : Option ℕ → Traffic
 takes_at None = Still
 takes_at (Some channel) = Takes channel
 
-abbrev pub renamed : (ℕ → Option ℕ) → Traffic → Traffic
-renamed name Still = Still
-renamed name (Puts channel bytes) = puts_at (name channel) bytes
-renamed name (Takes channel) = takes_at (name channel)
+abbrev pub told_as : (ℕ → Option ℕ) → OwnTraffic → Traffic
+told_as named OwnStill = Still
+told_as named (OwnPuts name bytes) = puts_at (named name) bytes
+told_as named (OwnTakes name) = takes_at (named name)
+
+-- traffic of the system under a partition's names; none where the partition has no name for the channel
+abbrev pub own_puts_at : Option ℕ → List ℕ → OwnTraffic
+own_puts_at None bytes = OwnStill
+own_puts_at (Some name) bytes = OwnPuts name bytes
+
+abbrev pub own_takes_at : Option ℕ → OwnTraffic
+own_takes_at None = OwnStill
+own_takes_at (Some name) = OwnTakes name
+
+abbrev pub heard_as : (ℕ → Option ℕ) → Traffic → OwnTraffic
+heard_as name_of Still = OwnStill
+heard_as name_of (Puts channel bytes) = own_puts_at (name_of channel) bytes
+heard_as name_of (Takes channel) = own_takes_at (name_of channel)
 
 -- what traffic leaves of channel c
 abbrev pub after_traffic : ℕ → Traffic → ℕ → Content → Content
 after_traffic time Still c content = content
 after_traffic time (Puts channel bytes) c content = if channel == c then put time bytes content else content
 after_traffic time (Takes channel) c content = if channel == c then taken content else content
+
+-- what it leaves of a partition's copy of the channel that the partition calls q
+abbrev pub after_own : ℕ → OwnTraffic → ℕ → Content → Content
+after_own time OwnStill q content = content
+after_own time (OwnPuts name bytes) q content = if name == q then put time bytes content else content
+after_own time (OwnTakes name) q content = if name == q then taken content else content
 
 -- what a partition has of the channels: a copy of each under its own name
 abbrev pub content_if : List Content → Option ℕ → Option Content
@@ -62,8 +73,8 @@ unfoldable pub copies_of : Conf → ℕ → ℕ → List Content → List (Optio
 copies_of conf p ports contents = table (λ q. content_if contents (named conf p q)) ports
 
 -- what traffic leaves of a partition's copies
-unfoldable pub copies_after : ℕ → Traffic → List (Option Content) → List (Option Content)
-copies_after time traffic copies = each (λ q copy. on (after_traffic time traffic q) copy) copies
+unfoldable pub copies_after : ℕ → OwnTraffic → List (Option Content) → List (Option Content)
+copies_after time traffic copies = each (λ q copy. on (after_own time traffic q) copy) copies
 
 -- the interrupt that a message brings
 abbrev pub interrupt_of : ChanKind → ℕ
@@ -101,7 +112,7 @@ interrupted (Some n) ps = if is_halted ps.state then ps else record ps { traps =
 unfoldable pub after_message : PartitionView → ℕ → PartitionState → PartitionState
 after_message view q ps = interrupted (heard_from q view.part.ports ps.made view.channels) ps
 
-abbrev pub hearing : PartitionView → Traffic → PartitionState → PartitionState
-hearing view Still ps = ps
-hearing view (Puts q bytes) ps = after_message view q ps
-hearing view (Takes q) ps = ps
+abbrev pub hearing : PartitionView → OwnTraffic → PartitionState → PartitionState
+hearing view OwnStill ps = ps
+hearing view (OwnPuts q bytes) ps = after_message view q ps
+hearing view (OwnTakes q) ps = ps

@@ -1,30 +1,16 @@
 -- Hypervisor events: what is done to the whole system, as one partition meets it.
 use Rattle.std.specs.Prelude.{ℕ, ◌+◌, List, [], ◌∷◌}
-use Rattle.xm_base.specs.declared.partition.Mode.{Mode}
 use Rattle.xm_ports.specs.Channels.{Content, cleared}
 use Rattle.xm_report.specs.Report.{ReportLine, MovedLine, WholeLine}
 use Rattle.xm_report.specs.declared.line.Move.TheVariants as move
 use Rattle.machine_model.specs.Partition.{PartitionState, reset, reset_move, resets_after}
-use Rattle.machine_model.specs.Told as told
-use Rattle.machine_model.specs.Told.{Act}
+use Rattle.machine_model.specs.Told.{Act, reach_of}
+pub use Rattle.machine_model.specs.Told.{AllHalted, AllReset, NoEvent, WholeEvent}
 use Rattle.machine_model.specs.View.{PartitionView}
-
--- a hypervisor event: none, a reset of all, or a halt of all
-pub data WholeEvent : Type 0 where
-  NoEvent : WholeEvent
-  AllReset : (mode : Mode) → WholeEvent
-  AllHalted : WholeEvent
 
 -- the hypervisor event of an act
 abbrev pub event_of : Act → WholeEvent
-event_of told.Nothing = NoEvent
-event_of (told.Put channel bytes) = NoEvent
-event_of (told.Take channel) = NoEvent
-event_of (told.Upon id order) = NoEvent
-event_of (told.Ask plan) = NoEvent
-event_of told.Maintenance = NoEvent
-event_of (told.ResetAll mode) = AllReset mode
-event_of told.HaltAll = AllHalted
+event_of act = (reach_of act).event
 
 -- what a hypervisor event leaves of a partition
 abbrev pub after_event : PartitionView → WholeEvent → PartitionState → PartitionState

@@ -21,8 +21,8 @@ use Rattle.machine_model.specs.Partition.{PartitionState, loaded, ordered, order
 use Rattle.machine_model.specs.PortCallRows.{all_made, view_of_ports, with_made}
 use Rattle.machine_model.specs.Rows.{Leaves, Prints, at, calling, conf_of, machine, of_part, plain, whole_frame}
 use Rattle.machine_model.specs.ServedRows.{view_for, with_call}
-use Rattle.machine_model.specs.Told.{Moved, Told}
-use Rattle.machine_model.specs.Traffic.{Puts, Takes, hearing}
+use Rattle.machine_model.specs.Told.{Moved, OwnPuts, OwnTakes, Told}
+use Rattle.machine_model.specs.Traffic.{hearing}
 use Rattle.machine_model.specs.View.{view_of}
 use Rattle.machine_model.specs.Whole.{AllReset, whole_resets_after}
 
@@ -33,7 +33,7 @@ in_state state made memory = record (with_made made [] memory) { state = state }
 -- a message for the channel that it calls q makes these interrupts pending
 abbrev pub Hears : ℕ → State → List Bool → ℕ → Memory → Type 0
 Hears q state made pending memory =
-    hearing (view_of_ports 0) (Puts q (5 ∷ [])) (in_state state made memory) ≡ record (in_state state made memory) { traps = record no_traps { pending = pending } }
+    hearing (view_of_ports 0) (OwnPuts q (5 ∷ [])) (in_state state made memory) ≡ record (in_state state made memory) { traps = record no_traps { pending = pending } }
 
 -- interrupt 3 of a sampling channel and 4 of a queue come at a destination that is made; a partition that has halted hears of none, and
 -- a message that is taken brings none
@@ -44,7 +44,7 @@ pub record HearingRows : Type 0 where
   pub second_port : (memory : Memory) → Hears 1 Ready (with_port 5 no_ports) 8 memory
   pub not_made : (memory : Memory) → Hears 1 Ready (with_port 3 no_ports) 0 memory × Hears 3 Ready no_ports 0 memory
   pub source : (memory : Memory) → Hears 0 Ready all_made 0 memory × Hears 2 Ready all_made 0 memory
-  pub taken : (memory : Memory) → hearing (view_of_ports 0) (Takes 3) (in_state Ready all_made memory) ≡ in_state Ready all_made memory
+  pub taken : (memory : Memory) → hearing (view_of_ports 0) (OwnTakes 3) (in_state Ready all_made memory) ≡ in_state Ready all_made memory
 
 -- the four states
 abbrev pub states : List State
@@ -89,7 +89,7 @@ with_halted one other = record (ends_of_queue action.HypervisorColdReset one oth
   resets = 7;
 }
 
--- HYPERVISOR_COLD_RESET: each partition begins anew with the memory of its image, also one that has halted; no reset is counted, and the queue is empty
+-- HYPERVISOR_COLD_RESET: each partition begins again with the memory of its image, also one that has halted; no reset is counted, and the queue is empty
 abbrev pub ResetsAllCold : Type 0
 ResetsAllCold = (one other : Memory) → IsIllegal action.HypervisorColdReset one
     → Prints (with_halted one other) 1

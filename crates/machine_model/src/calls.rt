@@ -3,7 +3,7 @@
 ghost use Rattle.machine_model.specs.CoreFileRows.{CoreFileRows};
 ghost use Rattle.machine_model.specs.EventRows.{ActionRows, DeliveryRows, RaisedRows, TrapsHaveEvents, UndoneRows};
 ghost use Rattle.machine_model.specs.LogCallRows.{LogCallRows};
-ghost use Rattle.machine_model.specs.ObservedRows.{AnswerRows, AskingRows, PlanStatusRows, RoomRows, SeesPlan};
+ghost use Rattle.machine_model.specs.ObservedRows.{AnswerRows, AskingRows, PlanStatusRows, RoomRows, SeesPlan, SilentRows};
 ghost use Rattle.machine_model.specs.PartitionCallRows.{PartitionCallRows};
 ghost use Rattle.machine_model.specs.PortCallRows.{PortCallRows};
 ghost use Rattle.machine_model.specs.ProcessorCallRows.{ProcessorCallRows};
@@ -51,6 +51,7 @@ pub fn observing_calls()
     ensures plan { PlanStatusRows }
     ensures room { RoomRows }
     ensures shown { SeesPlan }
+    ensures silent { SilentRows }
 {}
 
 /// What reaches beyond a partition: messages, orders in each state, resets of the hypervisor, and

@@ -77,7 +77,7 @@ pub fn observes_as_tested()
 {}
 
 /// What a partition's part of a tick does beyond the partition is what its work comes to: no act is
-/// left out for being upon a channel or a partition that it may not reach.
+/// left out for being on a channel or a partition that it may not reach.
 pub fn acts_within_bounds()
     ensures law { ActsWithinBounds }
 {}

@@ -20,7 +20,7 @@ abbrev pub calm : Option Turn → Option LocalTick → Happened
 calm turn tick = record { turn = turn; local = tick; act = told.Nothing; traffic = Still; event = NoEvent }
 
 -- no traffic is no traffic under every name
-still_for : (conf : Conf) (turn : Option Turn) → system_traffic conf turn Still ≡ Still
+still_for : (conf : Conf) (turn : Option Turn) → system_traffic conf turn told.OwnStill ≡ Still
 still_for conf None = refl
 still_for conf (Some turn) = refl
 

@@ -11,7 +11,8 @@ use Rattle.xm_base.specs.declared.partition.State.TheVariants.{Ready, Suspended}
 use Rattle.machine_model.specs.LocalTick.{with_interrupts}
 use Rattle.machine_model.specs.Machine.{after_tick, obeyed}
 use Rattle.machine_model.specs.Partition.{PartitionState, applies, carried_out, execution_looked_at, hardware_looked_at, hardware_timer, is_halted, ordered, reset, rested, shutdown, slot_start}
-use Rattle.machine_model.specs.Traffic.{Puts, Still, Takes, Traffic, after_message, heard_from, hearing, interrupted}
+use Rattle.machine_model.specs.Told.{OwnPuts, OwnStill, OwnTakes, OwnTraffic}
+use Rattle.machine_model.specs.Traffic.{after_message, heard_from, hearing, interrupted}
 use Rattle.machine_model.specs.View.{PartitionView}
 use Rattle.machine_model.specs.Whole.{AllHalted, AllReset, NoEvent, WholeEvent, after_event}
 use Rattle.slot_runs.specs.Rest.{MeetsAfterRest, RestsBefore}
@@ -76,12 +77,12 @@ unfolding after_message
 message_state view q ps = interrupted_state (heard_from q view.part.ports ps.made view.channels) ps
 
 -- traffic
-looked_hearing : (view : PartitionView) (before : ℕ) (traffic : Traffic) (a b : PartitionState) → IsLooked before a b
+looked_hearing : (view : PartitionView) (before : ℕ) (traffic : OwnTraffic) (a b : PartitionState) → IsLooked before a b
     → IsLooked before (hearing view traffic a) (hearing view traffic b)
-looked_hearing view before Still a b is = is
-looked_hearing view before (Takes q) a b is = is
-looked_hearing view before (Puts q bytes) a b (inl same) = inl (ap (after_message view q) same)
-looked_hearing view before (Puts q bytes) a b (inr (looked, runs)) =
+looked_hearing view before OwnStill a b is = is
+looked_hearing view before (OwnTakes q) a b is = is
+looked_hearing view before (OwnPuts q bytes) a b (inl same) = inl (ap (after_message view q) same)
+looked_hearing view before (OwnPuts q bytes) a b (inr (looked, runs)) =
     inr (ap (after_message view q) looked ∙ message_looked view before q b runs, ap is_halted (message_state view q b) ∙ runs)
 
 -- a state that is given before or after a look

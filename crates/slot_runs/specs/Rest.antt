@@ -7,7 +7,7 @@ use Rattle.xm_base.specs.declared.partition.Order.TheVariants as order
 use Rattle.machine_model.specs.LocalTick.{with_interrupts}
 use Rattle.machine_model.specs.Machine.{after_tick}
 use Rattle.machine_model.specs.Partition.{PartitionState, is_halted, rested}
-use Rattle.machine_model.specs.Traffic.{Traffic}
+use Rattle.machine_model.specs.Told.{OwnTraffic}
 use Rattle.machine_model.specs.View.{PartitionView}
 use Rattle.machine_model.specs.Whole.{WholeEvent}
 
@@ -35,7 +35,7 @@ RestsOnce = (time last : ℕ) (ps : PartitionState) → rested_along time (suc l
 -- what a tick leaves of a partition that has no local tick in it is the same, whether it rested before or not, unless it is ordered to halt
 abbrev pub RestsBefore : Type 0
 RestsBefore =
-    (view : PartitionView) (before time : ℕ) (traffic : Traffic) (an_order : Option Order) (event : WholeEvent) (ps : PartitionState) →
+    (view : PartitionView) (before time : ℕ) (traffic : OwnTraffic) (an_order : Option Order) (event : WholeEvent) (ps : PartitionState) →
     before ≤ time → an_order ≢ Some order.Halt →
     after_tick view time false traffic an_order event (rested before ps) ≡ after_tick view time false traffic an_order event ps
 
