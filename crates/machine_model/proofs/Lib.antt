@@ -33,3 +33,4 @@ pub mod WorkCallLemmas
 pub mod WorkTickLemmas
 pub mod ClockFactLemmas
 pub mod ShapeFactLemmas
+pub mod MachineFactLemmas

@@ -1,5 +1,5 @@
 -- Passes over lists, tables, and the lines of each element, read at one place.
-use Rattle.std.proofs.Common.{◌≡◌, ℕ, zero, suc, ◌<◌, Bool, true, false, cond, List, [], ◌∷◌, ◌++◌, map, Option, None, Some, refl, ap, arith}
+use Rattle.std.proofs.Common.{◌≡◌, ℕ, zero, suc, ◌<◌, Bool, true, false, cond, List, [], ◌∷◌, ◌++◌, length, map, Option, None, Some, refl, ap, arith}
 use Rattle.std.specs.Prelude.{slice_get, slice_index_or}
 use Rattle.std.specs.List.{filter}
 use Rattle.xm_base.specs.Options.{on}
@@ -43,6 +43,15 @@ pub table_or_none : {Y : Type 0} (P : Option Y → Type 0) (f : ℕ → Option Y
 table_or_none P f zero p at none = none at
 table_or_none P f (suc n) zero at none = at
 table_or_none P f (suc n) (suc p) at none = table_or_none P (λ k. f (suc k)) n p at none
+
+-- a pass and a table have as many elements
+pub each_counted : {X Y : Type 0} (f : ℕ → X → Y) (xs : List X) → length (each f xs) ≡ length xs
+each_counted f [] = refl
+each_counted f (x ∷ xs) = ap suc (each_counted (λ k. f (suc k)) xs)
+
+pub table_counted : {Y : Type 0} (f : ℕ → Y) (n : ℕ) → length (table f n) ≡ n
+table_counted f zero = refl
+table_counted f (suc n) = ap suc (table_counted (λ k. f (suc k)) n)
 
 -- a filter of two lists
 pub filter_append : {X : Type 0} (test : X → Bool) (xs ys : List X) → filter test (xs ++ ys) ≡ filter test xs ++ filter test ys

@@ -3,6 +3,7 @@ use Rattle.std.proofs.Common.{◌≡◌, ℕ, zero, suc, ◌<◌, ◌≤◌, ◌
 use Rattle.std.specs.Prelude.{slice_get, slice_index_or, ◌==◌, ◌&&◌, ◌||◌, if◌then◌else◌, map, IfSome, All, drop}
 use Rattle.std.specs.List.{list_any, position_from}
 use Rattle.std.proofs.lemmas.Bool.{eqb-true}
+use Rattle.std.proofs.lemmas.List.{length-map}
 use Rattle.std.proofs.lemmas.List.Elements.{All-append, All-cons, All-head, All-nil, All-tail}
 use Rattle.std.proofs.lemmas.Option.{same_Some}
 use Rattle.xm_base.specs.Options.{on}
@@ -29,7 +30,7 @@ use Rattle.machine_model.specs.Traffic.{Puts, Still, Takes, Traffic, after_traff
 use Rattle.machine_model.specs.View.{PortChannel, System, name_of, named, no_part, part_of, port_channel, view_of, with_its_name, with_name}
 use Rattle.machine_model.specs.Whole.{AllHalted, AllReset, NoEvent, WholeEvent, content_after}
 use Rattle.machine_model.proofs.WithinLemmas.{HasRoom, IsPutting, IsWithin, local_within}
-use Rattle.machine_model.proofs.ListLemmas.{get_each, get_map}
+use Rattle.machine_model.proofs.ListLemmas.{each_counted, get_each, get_map}
 use Rattle.machine_model.proofs.NameLemmas.{has_name_named}
 use Rattle.machine_model.proofs.RunLemmas.{step_system}
 use Rattle.machine_model.proofs.StepLemmas.{step_halted, step_runs}
@@ -300,15 +301,6 @@ event_suits NoEvent of room content suits = suits
 event_suits (AllReset mode) of room content suits = cleared_suits of room content suits
 event_suits AllHalted of room content suits = suits
 
--- as many channels as before
-each_counted : {X Y : Type 0} (f : ℕ → X → Y) (xs : List X) → length (each f xs) ≡ length xs
-each_counted f [] = refl
-each_counted f (x ∷ xs) = ap suc (each_counted (λ k. f (suc k)) xs)
-
-map_counted : {X Y : Type 0} (f : X → Y) (xs : List X) → length (map f xs) ≡ length xs
-map_counted f [] = refl
-map_counted f (x ∷ xs) = ap suc (map_counted f xs)
-
 after_shapes : (g : Machine) → Fits (described g.system.conf) → HasShapes g → HasShapes (after g (happened g))
 unfolding after channel_after
 after_shapes g fits shapes = record {
@@ -346,7 +338,7 @@ start_contents chans c chan content chan_there there =
 pub boots_with_shapes : BootsWithShapes
 unfolding shapes_of start
 boots_with_shapes system = record {
-  counted = map_counted empty (map shape_of system.conf.chans) ∙ map_counted shape_of system.conf.chans;
+  counted = length-map (map shape_of system.conf.chans) empty ∙ length-map system.conf.chans shape_of;
   suited = start_contents system.conf.chans;
 }
 

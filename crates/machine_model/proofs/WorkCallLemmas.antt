@@ -1,9 +1,13 @@
 -- What each call leaves of the facts.
 use Rattle.std.proofs.Common.{length, ◌++◌, ◌≡◌, ℕ, zero, suc, ◌≤◌, ◌+◌, Bool, true, false, List, [], ◌∷◌, Option, None, Some, Result, Ok, Err, refl, sym, ap, arith, subst}
-use Rattle.std.specs.Prelude.{◌-◌, drop, slice_get, slice_index_or, if◌then◌else◌, ◌==◌, ◌&&◌, IsSome, bit_and}
+use Rattle.std.specs.Prelude.{◌-◌, drop, slice_get, slice_index_or, if◌then◌else◌, ◌==◌, ◌&&◌, ◌||◌, IsSome, bit_and}
 use Rattle.std.proofs.lemmas.List.Elements.{All-append, All-cons, All-drop, All-nil}
 use Rattle.guest_bus.specs.MemoryLemmas.{length-bytes_at}
 use Rattle.health_monitor.specs.declared.entry.HealthEntry.{HealthEntry}
+use Rattle.virt_clocks.specs.Clocks.{armed, with_timer}
+use Rattle.virt_clocks.specs.declared.timer.Clock.{Clock}
+use Rattle.virt_clocks.specs.declared.timer.Clock.TheVariants.{Exec, Hw}
+use Rattle.virt_clocks.specs.declared.timer.Timer.{Timer}
 use Rattle.virt_traps.specs.Delivery.{Returned, returned}
 use Rattle.virt_traps.specs.Moves.{made}
 use Rattle.virt_traps.specs.declared.delivery.IretFault.{IretFault}
@@ -18,7 +22,7 @@ use Rattle.xm_ports.specs.Ports.{agrees_end, created_over, granted, is_made, is_
 use Rattle.xm_ports.specs.declared.ports.CreateFault.{CreateFault}
 use Rattle.xm_traces.specs.Ring.{Kept, RING_ENTRIES, noted}
 use Rattle.xm_traces.specs.declared.entry.TraceEntry.{TraceEntry}
-use Rattle.machine_model.specs.Caller.{Caller, Served, Test, a_of, answering, b_of, c_of, d_of, invalid_parameter, no_action, not_available, number_of, refused_if, room, tested, text, with_answer, with_written}
+use Rattle.machine_model.specs.Caller.{Caller, Served, Test, a_of, answering, b_of, c_of, d_of, e_of, invalid_parameter, is_neither, no_action, not_available, number_of, refused_if, room, tested, text, with_answer, with_written}
 use Rattle.machine_model.specs.Facts.{AreEnds, AreLast, HaveEight, IsEnd}
 use Rattle.machine_model.specs.Hypercalls.{served}
 use Rattle.machine_model.specs.LogCalls.{hm_read, hm_status, raise_event, trace_entry, trace_event, trace_read, trace_status, tracing}
@@ -27,35 +31,39 @@ use Rattle.machine_model.specs.PartitionCalls.{get_partition_status, get_self, g
 use Rattle.machine_model.specs.PortCalls.{MadePort, by_created, create_queuing_port, create_sampling_port, creating, first_read, get_queuing_port_status, get_sampling_port_status, held_read, is_full, made_port, name_given, on_port, putting, read_sampling_message, receive_queuing_message, send_queuing_message, shape_at, size_fits, source_only, write_sampling_message}
 use Rattle.machine_model.specs.ProcessorCalls.{by_flush, by_return, clear_irqmask, flush_regwin, flushed, input_read, iret, read_input, set_irqmask, set_psr, set_tbr, write_console}
 use Rattle.machine_model.specs.Structures.{queuing_status, sampling_status}
-use Rattle.machine_model.specs.TimeCalls.{get_plan_status, get_time, set_timer, switch_sched_plan}
+use Rattle.machine_model.specs.TimeCalls.{clock_numbered, get_plan_status, get_time, is_negative, joined, set_timer, switch_sched_plan, with_timer_set}
 use Rattle.machine_model.specs.View.{PartitionView, PortChannel}
 
 -- the parts of a partition's state of which the facts speak
-pub record Four : Type 0 where
+pub record FactParts : Type 0 where
   pub traces : Kept TraceEntry
   pub health : Kept HealthEntry
+  pub execution : ℕ
   pub inputs : List ℕ
   pub made : List Bool
 
-abbrev pub four : PartitionState → Four
-four ps = record { traces = ps.traces; health = ps.health; inputs = ps.inputs; made = ps.made }
+abbrev pub fact_parts : PartitionState → FactParts
+fact_parts ps = record { traces = ps.traces; health = ps.health; execution = ps.clocks.execution; inputs = ps.inputs; made = ps.made }
 
--- a partition goes on so: so many entries come at most, input words are used, and what is made is an end
-pub record Goes (view : PartitionView) (traces health : ℕ) (before after : PartitionState) : Type 0 where
+-- a partition goes on so: so many entries come at most, the execution clock counts at most so many ticks, input words are used, and what is made is an end
+pub record Goes (view : PartitionView) (traces health ticks : ℕ) (before after : PartitionState) : Type 0 where
   pub traced : after.traces.next ≤ before.traces.next + traces
   pub met : after.health.next ≤ before.health.next + health
+  pub ran : after.clocks.execution ≤ before.clocks.execution + ticks
   pub loaded : HaveEight before.traces.entries → HaveEight after.traces.entries
   pub read : AreLast after.inputs before.inputs
   pub made : AreEnds view before.made → AreEnds view after.made
 
 -- nothing of it changed
-pub same_goes : (view : PartitionView) (traces health : ℕ) (before after : PartitionState) → four after ≡ four before → Goes view traces health before after
-same_goes view traces health before after same =
+pub same_goes : (view : PartitionView) (traces health ticks : ℕ) (before after : PartitionState) → fact_parts after ≡ fact_parts before → Goes view traces health ticks before after
+same_goes view traces health ticks before after same =
     let traced : after.traces.next ≡ before.traces.next = ap (λ f. f.traces.next) same in
     let met : after.health.next ≡ before.health.next = ap (λ f. f.health.next) same in
+    let ran : after.clocks.execution ≡ before.clocks.execution = ap (λ f. f.execution) same in
     record {
       traced = omega (arith, traced);
       met = omega (arith, met);
+      ran = omega (arith, ran);
       loaded = λ eight. subst HaveEight (sym (ap (λ f. f.traces.entries) same)) eight;
       read = record { used = []; is = ap (λ f. f.inputs) same };
       made = λ ends. subst (AreEnds view) (sym (ap (λ f. f.made) same)) ends;
@@ -63,13 +71,13 @@ same_goes view traces health before after same =
 
 -- a call leaves it so
 record Leaves (caller : Caller) (comes : Served) : Type 0 where
-  goes : Goes caller.view 1 0 caller.state comes.after
+  goes : Goes caller.view 1 0 0 caller.state comes.after
 
-keeps : (caller : Caller) (comes : Served) → four comes.after ≡ four caller.state → Leaves caller comes
-keeps caller comes same = record { goes = same_goes caller.view 1 0 caller.state comes.after same }
+keeps : (caller : Caller) (comes : Served) → fact_parts comes.after ≡ fact_parts caller.state → Leaves caller comes
+keeps caller comes same = record { goes = same_goes caller.view 1 0 0 caller.state comes.after same }
 
 -- a call that is refused keeps all
-tested_keeps : (tests : List Test) (caller : Caller) (comes : Served) → four comes.after ≡ four caller.state → four (tested tests caller comes).after ≡ four caller.state
+tested_keeps : (tests : List Test) (caller : Caller) (comes : Served) → fact_parts comes.after ≡ fact_parts caller.state → fact_parts (tested tests caller comes).after ≡ fact_parts caller.state
 unfolding with_answer
 tested_keeps [] caller comes same = same
 tested_keeps (Some code ∷ tests) caller comes same = refl
@@ -81,28 +89,28 @@ tested_leaves [] caller comes leaves = leaves
 tested_leaves (Some code ∷ tests) caller comes leaves = keeps caller (answering code caller.state) refl
 tested_leaves (None ∷ tests) caller comes leaves = tested_leaves tests caller comes leaves
 
-on_port_keeps : (o : Option MadePort) (caller : Caller) (call : MadePort → Served) → ((port : MadePort) → four (call port).after ≡ four caller.state) → four (on_port o caller call).after ≡ four caller.state
+on_port_keeps : (o : Option MadePort) (caller : Caller) (call : MadePort → Served) → ((port : MadePort) → fact_parts (call port).after ≡ fact_parts caller.state) → fact_parts (on_port o caller call).after ≡ fact_parts caller.state
 unfolding with_answer
 on_port_keeps None caller call same = refl
 on_port_keeps (Some port) caller call same = same port
 
-held_keeps : (o : Option HeldSample) (caller : Caller) (port : MadePort) → four (held_read o caller port).after ≡ four caller.state
+held_keeps : (o : Option HeldSample) (caller : Caller) (port : MadePort) → fact_parts (held_read o caller port).after ≡ fact_parts caller.state
 unfolding with_answer with_written
 held_keeps None caller port = refl
 held_keeps (Some sample) caller port = grind (arith)
 
-first_keeps : (o : Option (List ℕ)) (caller : Caller) (port : MadePort) → four (first_read o caller port).after ≡ four caller.state
+first_keeps : (o : Option (List ℕ)) (caller : Caller) (port : MadePort) → fact_parts (first_read o caller port).after ≡ fact_parts caller.state
 unfolding with_answer with_written
 first_keeps None caller port = refl
 first_keeps (Some message) caller port = grind (arith)
 
-return_keeps : (answer : Result (Unit {0}) IretFault) (r : Returned) (caller : Caller) → four (by_return answer r caller).after ≡ four caller.state
+return_keeps : (answer : Result (Unit {0}) IretFault) (r : Returned) (caller : Caller) → fact_parts (by_return answer r caller).after ≡ fact_parts caller.state
 unfolding with_answer
 return_keeps (Ok left) r caller = refl
 return_keeps (Err Unaligned) r caller = refl
 return_keeps (Err Stack) r caller = refl
 
-flush_keeps : (answer : Result (Unit {0}) StackFault) (ps : PartitionState) (caller : Caller) → four ps ≡ four caller.state → four (by_flush answer ps caller).after ≡ four caller.state
+flush_keeps : (answer : Result (Unit {0}) StackFault) (ps : PartitionState) (caller : Caller) → fact_parts ps ≡ fact_parts caller.state → fact_parts (by_flush answer ps caller).after ≡ fact_parts caller.state
 unfolding with_answer
 flush_keeps (Ok all) ps caller same = same
 flush_keeps (Err fault) ps caller same = same
@@ -112,7 +120,7 @@ input_leaves : (inputs : List ℕ) (caller : Caller) → caller.state.inputs ≡
 unfolding with_answer with_written
 input_leaves [] caller is = keeps caller (input_read [] caller) refl
 input_leaves (next ∷ rest) caller is = tested_leaves (room caller (a_of caller) 4 ∷ []) caller _ (record {
-  goes = record { traced = omega arith; met = omega arith; loaded = λ eight. eight; read = record { used = next ∷ []; is = sym is }; made = λ ends. ends };
+  goes = record { traced = omega arith; met = omega arith; ran = omega arith; loaded = λ eight. eight; read = record { used = next ∷ []; is = sym is }; made = λ ends. ends };
 })
 
 -- entries of eight bytes with one more, of which the last are kept
@@ -131,6 +139,7 @@ trace_leaves caller = record {
   goes = record {
     traced = omega arith;
     met = omega arith;
+    ran = omega arith;
     loaded = λ eight. last_eight (caller.state.traces.entries ++ trace_entry caller ∷ []) (one_more caller.state.traces.entries (trace_entry caller) (length-bytes_at caller.state.memory (b_of caller) 8) eight);
     read = record { used = []; is = refl };
     made = λ ends. ends;
@@ -193,6 +202,7 @@ creating_leaves the_kind way size most (Some name) caller =
       goes = record {
         traced = omega arith;
         met = omega arith;
+        ran = omega arith;
         loaded = λ eight. eight;
         read = record { used = []; is = refl };
         made = λ ends. made_or (IsEnd caller.view) caller.state.made r (is_created caller.view name the_kind way size most caller.state.made r is) ends;
@@ -247,9 +257,17 @@ get_time_leaves : (caller : Caller) → Leaves caller (get_time caller)
 unfolding get_time with_answer with_written
 get_time_leaves caller = keeps caller (get_time caller) (grind (arith))
 
+-- a timer that is set leaves the execution clock
+timer_keeps : (clock : Clock) (timer : Option Timer) (ps : PartitionState) → fact_parts (record ps { clocks = with_timer clock timer ps.clocks }) ≡ fact_parts ps
+timer_keeps Hw timer ps = refl
+timer_keeps Exec timer ps = refl
+
 set_timer_leaves : (caller : Caller) → Leaves caller (set_timer caller)
 unfolding set_timer with_answer with_written
-set_timer_leaves caller = keeps caller (set_timer caller) (grind (arith))
+set_timer_leaves caller = keeps caller (set_timer caller)
+    (tested_keeps (refused_if (is_neither (a_of caller)) invalid_parameter ∷ refused_if (is_negative (b_of caller) || is_negative (d_of caller)) invalid_parameter ∷ []) caller
+    (answering 0 (with_timer_set caller))
+    (timer_keeps (clock_numbered (a_of caller)) (armed (joined (b_of caller) (c_of caller)) (joined (d_of caller) (e_of caller))) caller.state))
 
 switch_sched_plan_leaves : (caller : Caller) → Leaves caller (switch_sched_plan caller)
 unfolding switch_sched_plan with_answer with_written
@@ -395,5 +413,5 @@ served_leaves caller =
     (keeps caller _ refl)))))))))))))))))))))))))))))))))))))
 
 -- a call goes on so
-pub served_goes : (caller : Caller) → Goes caller.view 1 0 caller.state (served caller).after
+pub served_goes : (caller : Caller) → Goes caller.view 1 0 0 caller.state (served caller).after
 served_goes caller = (served_leaves caller).goes

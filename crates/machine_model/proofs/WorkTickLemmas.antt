@@ -1,14 +1,16 @@
 -- The facts are kept by each tick.
-use Rattle.std.proofs.Common.{◌≡◌, ℕ, zero, suc, ◌≤◌, ◌+◌, ◌*◌, Bool, true, false, List, [], ◌∷◌, ◌++◌, length, Option, None, Some, Result, Ok, Err, refl, sym, ap, ◌∙◌, arith, subst}
+use Rattle.std.proofs.Common.{◌≡◌, ℕ, zero, suc, ◌≤◌, ◌+◌, ◌⊎◌, inl, inr, Bool, true, false, List, [], ◌∷◌, ◌++◌, length, Option, None, Some, Result, Ok, Err, refl, sym, ap, ◌∙◌, arith, subst}
 use Rattle.std.specs.Prelude.{IfSome, nat_lt, ◌-◌, slice_get, slice_index_or, replicate, if◌then◌else◌, ◌==◌, is_some}
+use Rattle.std.proofs.lemmas.Bool.{eqb-true}
 use Rattle.std.proofs.lemmas.List.Elements.{All-head, All-nil, All-tail}
 use Rattle.std.proofs.lemmas.Option.{same_Some}
 use Rattle.health_monitor.specs.Monitor.{action_in, effect_of, event_of_type, is_logged}
 use Rattle.health_monitor.specs.declared.effects.Effect.{Effect}
 use Rattle.health_monitor.specs.declared.effects.Own.{Own}
 use Rattle.health_monitor.specs.declared.effects.Own.TheVariants as own
-use Rattle.sparc_step.specs.declared.outcome.Turn.{Turn}
+use Rattle.sparc_step.specs.declared.outcome.Turn.{Turn as Outcome}
 use Rattle.sparc_step.specs.declared.outcome.Turn.TheVariants.{Went, Trap, Call}
+use Rattle.virt_clocks.specs.Clocks.{no_clocks}
 use Rattle.virt_traps.specs.Delivery.{Delivered, delivered}
 use Rattle.virt_traps.specs.Settled.{settled}
 use Rattle.virt_traps.specs.Virtual.{due}
@@ -17,7 +19,8 @@ use Rattle.xm_base.specs.Options.{on}
 use Rattle.xm_base.specs.declared.partition.Mode.{Mode}
 use Rattle.xm_base.specs.declared.partition.Order.{Order}
 use Rattle.xm_base.specs.declared.partition.Order.TheVariants as order
-use Rattle.xm_base.specs.declared.partition.State.TheVariants.{Ready}
+use Rattle.xm_base.specs.declared.partition.State.{State}
+use Rattle.xm_base.specs.declared.partition.State.TheVariants.{Halted, Idle, Ready, Suspended}
 use Rattle.xm_conf.specs.declared.health.Action.{Action}
 use Rattle.xm_conf.specs.declared.health.Action.TheVariants as action
 use Rattle.xm_conf.specs.declared.health.Event.{Event}
@@ -26,29 +29,26 @@ use Rattle.xm_ports.specs.Channels.{Content}
 use Rattle.xm_ports.specs.Ports.{is_made, no_ports}
 use Rattle.xm_traces.specs.Ring.{Kept, entry_at, first_kept, noted, nothing_kept}
 use Rattle.xm_traces.specs.declared.entry.TraceEntry.{TraceEntry}
-use Rattle.machine_model.specs.Alone.{Alone, alone_after, alone_local, alone_local_in, alone_step, alone_traffic}
 use Rattle.machine_model.specs.Caller.{Acts, Caller, Meets, Upshot}
-use Rattle.machine_model.specs.Cue.{Away, Cue, Mine, Slot, cue}
 use Rattle.machine_model.specs.Facts.{AreEnds, AreFacts, AreLast, BootsWithFacts, HasFacts, HaveEight, KeepsFacts, RunsWithFacts, ShowsItsSizeInRuns, begun}
-use Rattle.machine_model.specs.Health.{answered_by, behind, by_delivery, by_interrupt, done_to_itself, entered, entered_if, event_handled, interrupt_delivered, is_passed_over, passed_over_if, propagated, quiet, self_ordered, trap_delivered, undelivered}
+use Rattle.machine_model.specs.Health.{Worked, answered_by, behind, by_delivery, by_interrupt, done_to_all, done_to_itself, entered, entered_if, event_handled, interrupt_delivered, is_passed_over, passed_over_if, propagated, quiet, self_ordered, trap_delivered, undelivered}
 use Rattle.machine_model.specs.Hypercalls.{served}
-use Rattle.machine_model.specs.Laws.{HasLoads, part}
+use Rattle.machine_model.specs.Laws.{HasLoads}
 use Rattle.machine_model.specs.Lists.{table}
-use Rattle.machine_model.specs.LocalTick.{LocalTick, by_act, by_turn, by_upshot, called, clocked, delivered_or_executed, executed, goes_on, local_tick, turned_state, with_interrupts, worked, worked_if}
-use Rattle.machine_model.specs.Machine.{Machine, after, after_tick, booted_part, happened, is_halt, obeyed, part_after, rested_unless, run, start, step, worked_in}
+use Rattle.machine_model.specs.LocalTick.{LocalTick, bounded, by_act, by_turn, by_upshot, called, clocked, delivered_or_executed, executed, goes_on, local_tick, turned_state, with_interrupts, worked, worked_if}
+use Rattle.machine_model.specs.Machine.{Machine, Turn, act_of, after, after_tick, booted_part, copies, happened, happened_by, if_its_turn, is_halt, is_turn_of, local, local_in, local_of, obeyed, order_upon, part_after, rested_unless, run, sight_of_state, start, step, system_traffic, taken_by, tick_of, turn_of, worked_in}
 use Rattle.machine_model.specs.Partition.{PartitionState, applies, areas_of, booted, carried_out, disarmed, execution_looked_at, hardware_looked_at, is_halted, ordered, reset, rested, takes_turns}
 use Rattle.machine_model.specs.Structures.{flag}
 use Rattle.machine_model.specs.Told as told
 use Rattle.machine_model.specs.Told.{Act, OwnPuts, OwnStill, OwnTakes, OwnTraffic, Sight}
-use Rattle.machine_model.specs.Traffic.{after_message, heard_from, hearing, interrupted}
-use Rattle.machine_model.specs.View.{PartitionView, System, view_of}
-use Rattle.machine_model.specs.Whole.{AllHalted, AllReset, NoEvent, WholeEvent, after_event, ticks_after}
+use Rattle.machine_model.specs.Traffic.{after_message, heard_as, heard_from, hearing, interrupted, traffic_of}
+use Rattle.machine_model.specs.View.{PartitionView, System, name_of, view_of}
+use Rattle.machine_model.specs.Whole.{AllHalted, AllReset, NoEvent, WholeEvent, after_event, event_of, ticks_after}
 use Rattle.machine_model.proofs.WorkCallLemmas.{Goes, same_goes, served_goes}
 use Rattle.machine_model.proofs.ListLemmas.{get_each}
 use Rattle.machine_model.proofs.ObservingLemmas.{shows_its_size}
-use Rattle.machine_model.proofs.ReportLemmas.{state_there}
 use Rattle.machine_model.proofs.RunLemmas.{step_system}
-use Rattle.machine_model.proofs.StepLemmas.{step_halted, step_runs, tick_state}
+use Rattle.machine_model.proofs.StepLemmas.{step_halted, step_runs}
 
 -- the last words of the last words
 append_assoc : (xs ys zs : List ℕ) → xs ++ (ys ++ zs) ≡ (xs ++ ys) ++ zs
@@ -62,19 +62,26 @@ last_of rest some all one other = record {
 }
 
 -- one step and then another
-goes_then : (view : PartitionView) (t h u k m n : ℕ) (before between after : PartitionState) → t + u ≤ m → h + k ≤ n → Goes view t h before between → Goes view u k between after → Goes view m n before after
-goes_then view t h u k m n before between after traces health one other =
+goes_then : {view : PartitionView} {t h i u k j : ℕ} {before between after : PartitionState} → Goes view t h i before between → Goes view u k j between after → Goes view (t + u) (h + k) (i + j) before after
+goes_then {view} {t} {h} {i} {u} {k} {j} {before} {between} {after} one other =
     let a : between.traces.next ≤ before.traces.next + t = one.traced in
     let b : after.traces.next ≤ between.traces.next + u = other.traced in
     let c : between.health.next ≤ before.health.next + h = one.met in
     let d : after.health.next ≤ between.health.next + k = other.met in
+    let e : between.clocks.execution ≤ before.clocks.execution + i = one.ran in
+    let f : after.clocks.execution ≤ between.clocks.execution + j = other.ran in
     record {
-      traced = omega (arith, traces, a, b);
-      met = omega (arith, health, c, d);
+      traced = omega (arith, a, b);
+      met = omega (arith, c, d);
+      ran = omega (arith, e, f);
       loaded = λ eight. other.loaded (one.loaded eight);
       read = last_of after.inputs between.inputs before.inputs other.read one.read;
       made = λ ends. other.made (one.made ends);
     }
+
+-- more may have come
+more_goes : {view : PartitionView} {t h i : ℕ} {before after : PartitionState} (u k j : ℕ) → Goes view t h i before after → Goes view (t + u) (h + k) (i + j) before after
+more_goes {view} {t} {h} {i} {before} {after} u k j goes = goes_then goes (same_goes view u k j after after refl)
 
 -- no port is made
 none_made : (n k : ℕ) → slice_index_or (replicate n false) k false ≡ false
@@ -87,241 +94,391 @@ unfolding no_ports
 no_ends view r is = absurd (let none : is_made r (replicate 32 false) ≡ false = none_made 32 r in let e : false ≡ true = sym none ∙ is in cc)
 
 -- a reset
-reset_goes : (view : PartitionView) (mode : Mode) (status : ℕ) (ps : PartitionState) → Goes view 0 0 ps (reset view mode status ps)
-unfolding reset
-reset_goes view mode status ps = record { traced = omega arith; met = omega arith; loaded = λ eight. eight; read = record { used = []; is = refl }; made = λ ends. no_ends view }
+reset_goes : (view : PartitionView) (mode : Mode) (status : ℕ) (ps : PartitionState) → Goes view 0 0 0 ps (reset view mode status ps)
+unfolding no_clocks reset
+reset_goes view mode status ps = record {
+  traced = omega arith;
+  met = omega arith;
+  ran = omega arith;
+  loaded = λ eight. eight;
+  read = record { used = []; is = refl };
+  made = λ ends. no_ends view;
+}
 
 -- an order
-carried_goes : (view : PartitionView) (an_order : Order) (ps : PartitionState) → Goes view 0 0 ps (carried_out view an_order ps)
+carried_goes : (view : PartitionView) (an_order : Order) (ps : PartitionState) → Goes view 0 0 0 ps (carried_out view an_order ps)
 unfolding disarmed
-carried_goes view order.Halt ps = same_goes view 0 0 ps (carried_out view order.Halt ps) refl
-carried_goes view order.Suspend ps = same_goes view 0 0 ps (carried_out view order.Suspend ps) refl
-carried_goes view order.Resume ps = same_goes view 0 0 ps (carried_out view order.Resume ps) refl
-carried_goes view order.Shutdown ps = same_goes view 0 0 ps (carried_out view order.Shutdown ps) refl
+carried_goes view order.Halt ps = same_goes view 0 0 0 ps (carried_out view order.Halt ps) refl
+carried_goes view order.Suspend ps = same_goes view 0 0 0 ps (carried_out view order.Suspend ps) refl
+carried_goes view order.Resume ps = same_goes view 0 0 0 ps (carried_out view order.Resume ps) refl
+carried_goes view order.Shutdown ps = same_goes view 0 0 0 ps (carried_out view order.Shutdown ps) refl
 carried_goes view (order.Reset mode status) ps = reset_goes view mode status ps
 
-ordered_goes : (view : PartitionView) (an_order : Order) (ps : PartitionState) → Goes view 0 0 ps (ordered view an_order ps)
+ordered_goes : (view : PartitionView) (an_order : Order) (ps : PartitionState) → Goes view 0 0 0 ps (ordered view an_order ps)
 unfolding ordered
 ordered_goes view an_order ps = at (applies an_order ps.state)
   where
-    at : (b : Bool) → Goes view 0 0 ps (if b then carried_out view an_order ps else ps)
+    at : (b : Bool) → Goes view 0 0 0 ps (if b then carried_out view an_order ps else ps)
     at true = carried_goes view an_order ps
-    at false = same_goes view 0 0 ps ps refl
+    at false = same_goes view 0 0 0 ps ps refl
+
+-- an order to halt is obeyed
+halts : (view : PartitionView) (ps : PartitionState) → is_halted (ordered view order.Halt ps).state ≡ true
+unfolding ordered
+halts view ps = at ps.state refl
+  where
+    at : (state : State) → ps.state ≡ state → is_halted (if applies order.Halt state then carried_out view order.Halt ps else ps).state ≡ true
+    at Ready is = refl
+    at Idle is = refl
+    at Suspended is = refl
+    at Halted is = ap is_halted is
 
 -- an entry in the health log
-entered_goes : (view : PartitionView) (time : ℕ) (an_event : Event) (word : ℕ) (an_action : Action) (ps : PartitionState) → Goes view 0 1 ps (entered time an_event word an_action ps)
+entered_goes : (view : PartitionView) (time : ℕ) (an_event : Event) (word : ℕ) (an_action : Action) (ps : PartitionState) → Goes view 0 1 0 ps (entered time an_event word an_action ps)
 unfolding entered noted
-entered_goes view time an_event word an_action ps = record { traced = omega arith; met = omega arith; loaded = λ eight. eight; read = record { used = []; is = refl }; made = λ ends. ends }
+entered_goes view time an_event word an_action ps =
+    record { traced = omega arith; met = omega arith; ran = omega arith; loaded = λ eight. eight; read = record { used = []; is = refl }; made = λ ends. ends }
 
-entered_if_goes : (b : Bool) (view : PartitionView) (time : ℕ) (an_event : Event) (word : ℕ) (an_action : Action) (ps : PartitionState) → Goes view 0 1 ps (entered_if b time an_event word an_action ps)
+entered_if_goes : (b : Bool) (view : PartitionView) (time : ℕ) (an_event : Event) (word : ℕ) (an_action : Action) (ps : PartitionState) → Goes view 0 1 0 ps (entered_if b time an_event word an_action ps)
 entered_if_goes true view time an_event word an_action ps = entered_goes view time an_event word an_action ps
-entered_if_goes false view time an_event word an_action ps = same_goes view 0 1 ps ps refl
+entered_if_goes false view time an_event word an_action ps = same_goes view 0 1 0 ps ps refl
 
-undelivered_goes : (view : PartitionView) (time : ℕ) (ps : PartitionState) → Goes view 0 1 ps (undelivered view time ps).after
+-- a delivery that failed is entered, and the partition has halted
+record Fails (view : PartitionView) (before after : PartitionState) : Type 0 where
+  goes : Goes view 0 1 0 before after
+  halted : is_halted after.state ≡ true
+
+undelivered_fails : (view : PartitionView) (time : ℕ) (ps : PartitionState) → Fails view ps (undelivered view time ps).after
 unfolding undelivered
-undelivered_goes view time ps =
-    goes_then view 0 1 0 0 0 1 ps _ _ (omega arith) (omega arith) (entered_goes view time event.MemProtection ps.core.pc action.Halt ps)
-    (ordered_goes view order.Halt (entered time event.MemProtection ps.core.pc action.Halt ps))
+undelivered_fails view time ps = record {
+  goes = goes_then (entered_goes view time event.MemProtection ps.core.pc action.Halt ps) (ordered_goes view order.Halt (entered time event.MemProtection ps.core.pc action.Halt ps));
+  halted = halts view (entered time event.MemProtection ps.core.pc action.Halt ps);
+}
 
--- a delivery
-delivery_goes : (answer : Result (Unit {0}) StackFault) (view : PartitionView) (time : ℕ) (d : Delivered) (ps : PartitionState) → Goes view 0 1 ps (by_delivery answer view time d ps).after
-delivery_goes (Ok made) view time d ps = same_goes view 0 1 ps (behind d ps) refl
-delivery_goes (Err fault) view time d ps = undelivered_goes view time ps
+-- a delivery, or none, makes no entry unless it fails
+abbrev Tries : PartitionView → PartitionState → PartitionState → Type 0
+Tries view before after = Goes view 0 0 0 before after ⊎ Fails view before after
 
-interrupt_goes : (answer : Result (Unit {0}) StackFault) (view : PartitionView) (time n : ℕ) (d : Delivered) (ps : PartitionState) → Goes view 0 1 ps (by_interrupt answer view time n d ps).after
-interrupt_goes (Ok made) view time n d ps = same_goes view 0 1 ps (by_interrupt (Ok made) view time n d ps).after refl
-interrupt_goes (Err fault) view time n d ps = undelivered_goes view time ps
+delivery_tries : (answer : Result (Unit {0}) StackFault) (view : PartitionView) (time : ℕ) (d : Delivered) (ps : PartitionState) → Tries view ps (by_delivery answer view time d ps).after
+delivery_tries (Ok made) view time d ps = inl (same_goes view 0 0 0 ps (behind d ps) refl)
+delivery_tries (Err fault) view time d ps = inr (undelivered_fails view time ps)
 
-trap_goes : (view : PartitionView) (time : ℕ) (type : Option ℕ) (ps : PartitionState) → Goes view 0 1 ps (propagated view time type ps).after
+interrupt_goes : (answer : Result (Unit {0}) StackFault) (view : PartitionView) (time n : ℕ) (d : Delivered) (ps : PartitionState) → Goes view 0 1 0 ps (by_interrupt answer view time n d ps).after
+interrupt_goes (Ok made) view time n d ps = same_goes view 0 1 0 ps (by_interrupt (Ok made) view time n d ps).after refl
+interrupt_goes (Err fault) view time n d ps = (undelivered_fails view time ps).goes
+
+trap_tries : (view : PartitionView) (time : ℕ) (type : Option ℕ) (ps : PartitionState) → Tries view ps (propagated view time type ps).after
 unfolding trap_delivered
-trap_goes view time None ps = same_goes view 0 1 ps ps refl
-trap_goes view time (Some type) ps =
+trap_tries view time None ps = inl (same_goes view 0 0 0 ps ps refl)
+trap_tries view time (Some type) ps =
     let d = delivered (areas_of view) ps.traps ps.core ps.memory type in
-    delivery_goes d.answer view time d ps
+    delivery_tries d.answer view time d ps
 
--- what an action does to the partition itself
-more_goes : (view : PartitionView) (h : ℕ) (before after : PartitionState) → Goes view 0 0 before after → Goes view 0 h before after
-more_goes view h before after goes =
-    let met : after.health.next ≤ before.health.next + 0 = goes.met in
-    record { traced = goes.traced; met = omega (arith, met); loaded = goes.loaded; read = goes.read; made = goes.made }
-
-own_goes : (view : PartitionView) (time : ℕ) (type : Option ℕ) (own_effect : Own) (ps : PartitionState) → Goes view 0 1 ps (done_to_itself view time type own_effect ps).after
+-- what an action does to the partition itself makes no entry, unless the trap goes on to it and the delivery fails
+own_tries : (view : PartitionView) (time : ℕ) (type : Option ℕ) (own_effect : Own) (ps : PartitionState)
+    → Goes view 0 0 0 ps (done_to_itself view time type own_effect ps).after ⊎ (Fails view ps (done_to_itself view time type own_effect ps).after × (own_effect ≡ own.Propagate))
 unfolding self_ordered
-own_goes view time type own.Nothing ps = same_goes view 0 1 ps ps refl
-own_goes view time type own.Shutdown ps = same_goes view 0 1 ps (done_to_itself view time type own.Shutdown ps).after refl
-own_goes view time type (own.Reset mode) ps = more_goes view 1 ps (ordered view (order.Reset mode 0) ps) (ordered_goes view (order.Reset mode 0) ps)
-own_goes view time type own.Suspend ps = more_goes view 1 ps (ordered view order.Suspend ps) (ordered_goes view order.Suspend ps)
-own_goes view time type own.Halt ps = more_goes view 1 ps (ordered view order.Halt ps) (ordered_goes view order.Halt ps)
-own_goes view time type own.Propagate ps = trap_goes view time type ps
+own_tries view time type own.Nothing ps = inl (same_goes view 0 0 0 ps ps refl)
+own_tries view time type own.Shutdown ps = inl (same_goes view 0 0 0 ps (done_to_itself view time type own.Shutdown ps).after refl)
+own_tries view time type (own.Reset mode) ps = inl (ordered_goes view (order.Reset mode 0) ps)
+own_tries view time type own.Suspend ps = inl (ordered_goes view order.Suspend ps)
+own_tries view time type own.Halt ps = inl (ordered_goes view order.Halt ps)
+own_tries view time type own.Propagate ps = by (trap_tries view time type ps)
+  where
+    by : Tries view ps (propagated view time type ps).after → Goes view 0 0 0 ps (propagated view time type ps).after ⊎ (Fails view ps (propagated view time type ps).after × (own.Propagate ≡ own.Propagate))
+    by (inl goes) = inl goes
+    by (inr fails) = inr (fails, refl)
 
-passed_goes : (b : Bool) (view : PartitionView) (ps : PartitionState) → Goes view 0 0 ps (passed_over_if b ps)
-passed_goes true view ps = same_goes view 0 0 ps (passed_over_if true ps) refl
-passed_goes false view ps = same_goes view 0 0 ps ps refl
+passed_goes : (b : Bool) (view : PartitionView) (ps : PartitionState) → Goes view 0 0 0 ps (passed_over_if b ps)
+passed_goes true view ps = same_goes view 0 0 0 ps (passed_over_if true ps) refl
+passed_goes false view ps = same_goes view 0 0 0 ps ps refl
 
--- an event: at most two entries
-event_goes : (view : PartitionView) (time : ℕ) (an_event : Event) (word : ℕ) (type : Option ℕ) (ps : PartitionState) → Goes view 0 2 ps (event_handled view time an_event word type ps).after
+-- a trap that goes on to the partition does nothing to the whole system
+propagates_alone : (an_action : Action) (enabled : Bool) → (effect_of an_action enabled).own ≡ own.Propagate → done_to_all (effect_of an_action enabled).whole ≡ told.Nothing
+unfolding effect_of
+propagates_alone action.Ignore enabled is = refl
+propagates_alone action.Shutdown enabled is = refl
+propagates_alone action.PartitionColdReset enabled is = refl
+propagates_alone action.PartitionWarmReset enabled is = refl
+propagates_alone action.Suspend enabled is = refl
+propagates_alone action.Halt enabled is = refl
+propagates_alone action.Propagate true is = refl
+propagates_alone action.Propagate false is = refl
+propagates_alone action.HypervisorColdReset enabled is = absurd cc
+propagates_alone action.HypervisorWarmReset enabled is = absurd cc
+propagates_alone action.HypervisorHalt enabled is = absurd cc
+propagates_alone action.SwitchToMaintenance enabled is = absurd cc
+
+-- a part of a tick after which the partition has halted, and that reaches nothing else
+record Halts (after : PartitionState) (act : Act) : Type 0 where
+  halted : is_halted after.state ≡ true
+  alone : act ≡ told.Nothing
+
+-- a part of a tick goes on so, with at most one health entry, or with two after which the partition has halted
+record Works (view : PartitionView) (traces ticks : ℕ) (before after : PartitionState) (act : Act) : Type 0 where
+  goes : Goes view traces 2 ticks before after
+  entries : (after.health.next ≤ before.health.next + 1) ⊎ Halts after act
+
+abbrev IsWork : PartitionView → ℕ → ℕ → PartitionState → Worked → Type 0
+IsWork view traces ticks before w = Works view traces ticks before w.after w.act
+
+works_once : {view : PartitionView} {t i : ℕ} {before after : PartitionState} {act : Act} → Goes view t 1 i before after → Works view t i before after act
+works_once {view} {t} {i} {before} {after} {act} goes =
+    let met : after.health.next ≤ before.health.next + 1 = goes.met in
+    record {
+      goes = record { traced = goes.traced; met = omega (arith, met); ran = goes.ran; loaded = goes.loaded; read = goes.read; made = goes.made };
+      entries = inl met;
+    }
+
+-- one step without an entry and then this
+works_then : {view : PartitionView} {t i u j : ℕ} {before between after : PartitionState} {act : Act} → Goes view t 0 i before between → Works view u j between after act
+    → Works view (t + u) (i + j) before after act
+works_then {view} {t} {i} {u} {j} {before} {between} {after} {act} one other = record { goes = goes_then one other.goes; entries = by other.entries }
+  where
+    by : (after.health.next ≤ between.health.next + 1) ⊎ Halts after act → (after.health.next ≤ before.health.next + 1) ⊎ Halts after act
+    by (inl few) =
+        let none : between.health.next ≤ before.health.next + 0 = one.met in
+        inl (omega (arith, few, none))
+    by (inr halts) = inr halts
+
+-- an event
+event_works : (view : PartitionView) (time : ℕ) (an_event : Event) (word : ℕ) (type : Option ℕ) (ps : PartitionState) → IsWork view 0 0 ps (event_handled view time an_event word type ps)
 unfolding answered_by event_handled
-event_goes view time an_event word type ps =
+event_works view time an_event word type ps =
     let effect : Effect = effect_of (action_in view.part.hm an_event) ps.traps.enabled in
     let noted_state : PartitionState = entered_if (is_logged view.part.hm an_event) time an_event word effect.action ps in
     let passed : PartitionState = passed_over_if (is_passed_over an_event effect) noted_state in
-    goes_then view 0 1 0 1 0 2 ps noted_state (done_to_itself view time type effect.own passed).after (omega arith) (omega arith)
-    (entered_if_goes (is_logged view.part.hm an_event) view time an_event word effect.action ps)
-    (goes_then view 0 0 0 1 0 1 noted_state passed (done_to_itself view time type effect.own passed).after (omega arith) (omega arith)
-    (passed_goes (is_passed_over an_event effect) view noted_state) (own_goes view time type effect.own passed))
+    by effect passed (goes_then (entered_if_goes (is_logged view.part.hm an_event) view time an_event word effect.action ps) (passed_goes (is_passed_over an_event effect) view noted_state))
+    (propagates_alone (action_in view.part.hm an_event) ps.traps.enabled) (own_tries view time type effect.own passed)
+  where
+    by : (effect : Effect) (passed : PartitionState) → Goes view 0 1 0 ps passed → (effect.own ≡ own.Propagate → done_to_all effect.whole ≡ told.Nothing)
+        → Goes view 0 0 0 passed (done_to_itself view time type effect.own passed).after ⊎ (Fails view passed (done_to_itself view time type effect.own passed).after × (effect.own ≡ own.Propagate))
+        → Works view 0 0 ps (done_to_itself view time type effect.own passed).after (done_to_all effect.whole)
+    by effect passed before alone (inl goes) = works_once (goes_then before goes)
+    by effect passed before alone (inr fails) = record { goes = goes_then before fails.0.goes; entries = inr (record { halted = fails.0.halted; alone = alone fails.1 }) }
 
 -- what a call comes to
-act_goes : (act : Act) (view : PartitionView) (ps : PartitionState) → Goes view 0 0 ps (by_act act view ps).after
+act_goes : (act : Act) (view : PartitionView) (ps : PartitionState) → Goes view 0 0 0 ps (by_act act view ps).after
 unfolding self_ordered
-act_goes told.Nothing view ps = same_goes view 0 0 ps ps refl
-act_goes (told.Trades traffic) view ps = same_goes view 0 0 ps ps refl
+act_goes told.Nothing view ps = same_goes view 0 0 0 ps ps refl
+act_goes (told.Trades traffic) view ps = same_goes view 0 0 0 ps ps refl
 act_goes (told.Upon id an_order) view ps = at (id == view.id)
   where
-    at : (b : Bool) → Goes view 0 0 ps (if b then self_ordered view an_order ps else record (quiet ps) { act = told.Upon id an_order }).after
+    at : (b : Bool) → Goes view 0 0 0 ps (if b then self_ordered view an_order ps else record (quiet ps) { act = told.Upon id an_order }).after
     at true = ordered_goes view an_order ps
-    at false = same_goes view 0 0 ps ps refl
-act_goes (told.Plans change) view ps = same_goes view 0 0 ps ps refl
-act_goes (told.UponAll event) view ps = same_goes view 0 0 ps ps refl
+    at false = same_goes view 0 0 0 ps ps refl
+act_goes (told.Plans change) view ps = same_goes view 0 0 0 ps ps refl
+act_goes (told.UponAll event) view ps = same_goes view 0 0 0 ps ps refl
 
-upshot_goes : (upshot : Upshot) (view : PartitionView) (time : ℕ) (ps : PartitionState) → Goes view 0 2 ps (by_upshot upshot view time ps).after
-upshot_goes (Acts act) view time ps = more_goes view 2 ps (by_act act view ps).after (act_goes act view ps)
-upshot_goes (Meets event word) view time ps = event_goes view time event word None ps
+upshot_works : (upshot : Upshot) (view : PartitionView) (time : ℕ) (ps : PartitionState) → IsWork view 0 0 ps (by_upshot upshot view time ps)
+upshot_works (Acts act) view time ps = works_once (more_goes 0 1 0 (act_goes act view ps))
+upshot_works (Meets event word) view time ps = event_works view time event word None ps
 
-clocked_goes : (view : PartitionView) (ps : PartitionState) → Goes view 0 0 ps (clocked ps)
+clocked_goes : (view : PartitionView) (ps : PartitionState) → Goes view 0 0 1 ps (clocked ps)
 unfolding clocked
-clocked_goes view ps = same_goes view 0 0 ps (clocked ps) refl
+clocked_goes view ps =
+    record { traced = omega arith; met = omega arith; ran = omega arith; loaded = λ eight. eight; read = record { used = []; is = refl }; made = λ ends. ends }
 
-called_goes : (caller : Caller) → Goes caller.view 1 2 caller.state (called caller).after
+called_works : (caller : Caller) → IsWork caller.view 1 1 caller.state (called caller)
 unfolding called
-called_goes caller =
-    goes_then caller.view 1 0 0 2 1 2 caller.state (served caller).after _ (omega arith) (omega arith) (served_goes caller)
-    (goes_then caller.view 0 0 0 2 0 2 (served caller).after (clocked (served caller).after) _ (omega arith) (omega arith) (clocked_goes caller.view (served caller).after)
-    (upshot_goes (served caller).upshot caller.view caller.time (clocked (served caller).after)))
+called_works caller =
+    works_then (goes_then (served_goes caller) (clocked_goes caller.view (served caller).after))
+    (upshot_works (served caller).upshot caller.view caller.time (clocked (served caller).after))
 
 -- an instruction
-turn_goes : (turn : Turn) (view : PartitionView) (contents : List (Option Content)) (time : ℕ) (sight : Sight) (before ps : PartitionState) → Goes view 1 2 ps (by_turn turn view contents time sight before ps).after
-unfolding clocked
-turn_goes Went view contents time sight before ps = same_goes view 1 2 ps (clocked ps) refl
-turn_goes (Trap type) view contents time sight before ps =
-    goes_then view 0 0 0 2 1 2 ps (clocked ps) _ (omega arith) (omega arith) (clocked_goes view ps) (event_goes view time (event_of_type type) before.core.pc (Some type) (clocked ps))
-turn_goes Call view contents time sight before ps =
-    called_goes (record { view = view; state = ps; contents = contents; time = time; sight = sight; pc = before.core.pc; npc = before.core.npc })
+turn_works : (outcome : Outcome) (view : PartitionView) (contents : List (Option Content)) (time : ℕ) (sight : Sight) (before ps : PartitionState) → IsWork view 1 1 ps (by_turn outcome view contents time sight before ps)
+turn_works Went view contents time sight before ps = works_once (more_goes 1 1 0 (clocked_goes view ps))
+turn_works (Trap type) view contents time sight before ps =
+    works_then (more_goes 1 0 0 (clocked_goes view ps)) (event_works view time (event_of_type type) before.core.pc (Some type) (clocked ps))
+turn_works Call view contents time sight before ps =
+    called_works (record { view = view; state = ps; contents = contents; time = time; sight = sight; pc = before.core.pc; npc = before.core.npc })
 
-executed_goes : (view : PartitionView) (contents : List (Option Content)) (time : ℕ) (sight : Sight) (ps : PartitionState) → Goes view 1 2 ps (executed view contents time sight ps).after
+executed_works : (view : PartitionView) (contents : List (Option Content)) (time : ℕ) (sight : Sight) (ps : PartitionState) → IsWork view 1 1 ps (executed view contents time sight ps)
 unfolding executed
-executed_goes view contents time sight ps =
+executed_works view contents time sight ps =
     let t = settled (areas_of view) ps.core ps.memory in
-    goes_then view 0 0 1 2 1 2 ps (turned_state t ps) _ (omega arith) (omega arith) (same_goes view 0 0 ps (turned_state t ps) refl) (turn_goes t.turn view contents time sight ps (turned_state t ps))
+    works_then (same_goes view 0 0 0 ps (turned_state t ps) refl) (turn_works t.turn view contents time sight ps (turned_state t ps))
 
-delivered_goes : (o : Option ℕ) (enabled : Bool) (view : PartitionView) (contents : List (Option Content)) (time : ℕ) (sight : Sight) (ps : PartitionState)
-    → Goes view 1 2 ps (delivered_or_executed o enabled view contents time sight ps).after
+delivered_works : (o : Option ℕ) (enabled : Bool) (view : PartitionView) (contents : List (Option Content)) (time : ℕ) (sight : Sight) (ps : PartitionState)
+    → IsWork view 1 1 ps (delivered_or_executed o enabled view contents time sight ps)
 unfolding interrupt_delivered
-delivered_goes None enabled view contents time sight ps = executed_goes view contents time sight ps
-delivered_goes (Some n) true view contents time sight ps =
+delivered_works None enabled view contents time sight ps = executed_works view contents time sight ps
+delivered_works (Some n) true view contents time sight ps =
     let d = delivered (areas_of view) (clocked ps).traps (clocked ps).core (clocked ps).memory (0xE0 + n) in
-    goes_then view 0 0 0 1 1 2 ps (clocked ps) _ (omega arith) (omega arith) (clocked_goes view ps) (interrupt_goes d.answer view time n d (clocked ps))
-delivered_goes (Some n) false view contents time sight ps = executed_goes view contents time sight ps
+    works_once (more_goes 1 0 0 (goes_then (clocked_goes view ps) (interrupt_goes d.answer view time n d (clocked ps))))
+delivered_works (Some n) false view contents time sight ps = executed_works view contents time sight ps
 
-going_goes : (b : Bool) (view : PartitionView) (contents : List (Option Content)) (time : ℕ) (sight : Sight) (ps : PartitionState) → Goes view 1 2 ps (worked_if b view contents time sight ps).after
-going_goes false view contents time sight ps = same_goes view 1 2 ps ps refl
-going_goes true view contents time sight ps =
-    goes_then view 0 0 1 2 1 2 ps (record ps { state = Ready }) _ (omega arith) (omega arith) (same_goes view 0 0 ps (record ps { state = Ready }) refl)
-    (delivered_goes (due ps.traps) ps.traps.enabled view contents time sight (record ps { state = Ready }))
+going_works : (b : Bool) (view : PartitionView) (contents : List (Option Content)) (time : ℕ) (sight : Sight) (ps : PartitionState) → IsWork view 1 1 ps (worked_if b view contents time sight ps)
+going_works false view contents time sight ps = works_once (same_goes view 1 1 1 ps ps refl)
+going_works true view contents time sight ps =
+    works_then (same_goes view 0 0 0 ps (record ps { state = Ready }) refl) (delivered_works (due ps.traps) ps.traps.enabled view contents time sight (record ps { state = Ready }))
 
-ready_goes : (view : PartitionView) (time : ℕ) (first : Bool) (ps : PartitionState) → Goes view 0 0 ps (with_interrupts time first ps)
+ready_goes : (view : PartitionView) (time : ℕ) (first : Bool) (ps : PartitionState) → Goes view 0 0 0 ps (with_interrupts time first ps)
 unfolding execution_looked_at hardware_looked_at with_interrupts
-ready_goes view time first ps = same_goes view 0 0 ps (with_interrupts time first ps) refl
+ready_goes view time first ps = same_goes view 0 0 0 ps (with_interrupts time first ps) refl
 
-work_goes : (view : PartitionView) (contents : List (Option Content)) (time : ℕ) (first : Bool) (sight : Sight) (ps : PartitionState) → Goes view 1 2 ps (worked view contents time first sight ps).after
+work_works : (view : PartitionView) (contents : List (Option Content)) (time : ℕ) (first : Bool) (sight : Sight) (ps : PartitionState) → IsWork view 1 1 ps (worked view contents time first sight ps)
 unfolding worked
-work_goes view contents time first sight ps =
+work_works view contents time first sight ps =
     let ready = with_interrupts time first ps in
-    goes_then view 0 0 1 2 1 2 ps ready _ (omega arith) (omega arith) (ready_goes view time first ps)
-    (going_goes (goes_on ready.state first (due ready.traps)) view contents time sight ready)
-
-local_goes : (view : PartitionView) (ps : PartitionState) (contents : List (Option Content)) (n time : ℕ) (first : Bool) (sight : Sight) → Goes view 1 2 ps (local_tick view ps contents n time first sight).after
-unfolding local_tick
-local_goes view ps contents n time first sight = work_goes view contents time first sight ps
+    works_then (ready_goes view time first ps) (going_works (goes_on ready.state first (due ready.traps)) view contents time sight ready)
 
 -- what follows in a tick
-heard_goes : (view : PartitionView) (o : Option ℕ) (ps : PartitionState) → Goes view 0 0 ps (interrupted o ps)
-heard_goes view None ps = same_goes view 0 0 ps ps refl
+heard_goes : (view : PartitionView) (o : Option ℕ) (ps : PartitionState) → Goes view 0 0 0 ps (interrupted o ps)
+heard_goes view None ps = same_goes view 0 0 0 ps ps refl
 heard_goes view (Some n) ps = at (is_halted ps.state) refl
   where
-    at : (b : Bool) → is_halted ps.state ≡ b → Goes view 0 0 ps (interrupted (Some n) ps)
-    at true is = rw is (same_goes view 0 0 ps ps refl)
-    at false is = rw is (same_goes view 0 0 ps _ refl)
+    at : (b : Bool) → is_halted ps.state ≡ b → Goes view 0 0 0 ps (interrupted (Some n) ps)
+    at true is = rw is (same_goes view 0 0 0 ps ps refl)
+    at false is = rw is (same_goes view 0 0 0 ps _ refl)
 
-hearing_goes : (view : PartitionView) (traffic : OwnTraffic) (ps : PartitionState) → Goes view 0 0 ps (hearing view traffic ps)
+hearing_goes : (view : PartitionView) (traffic : OwnTraffic) (ps : PartitionState) → Goes view 0 0 0 ps (hearing view traffic ps)
 unfolding after_message
-hearing_goes view OwnStill ps = same_goes view 0 0 ps ps refl
+hearing_goes view OwnStill ps = same_goes view 0 0 0 ps ps refl
 hearing_goes view (OwnPuts q bytes) ps = heard_goes view (heard_from q view.part.ports ps.made view.channels) ps
-hearing_goes view (OwnTakes q) ps = same_goes view 0 0 ps ps refl
+hearing_goes view (OwnTakes q) ps = same_goes view 0 0 0 ps ps refl
 
-obeyed_goes : (view : PartitionView) (o : Option Order) (ps : PartitionState) → Goes view 0 0 ps (obeyed view o ps)
-obeyed_goes view None ps = same_goes view 0 0 ps ps refl
+obeyed_goes : (view : PartitionView) (o : Option Order) (ps : PartitionState) → Goes view 0 0 0 ps (obeyed view o ps)
+obeyed_goes view None ps = same_goes view 0 0 0 ps ps refl
 obeyed_goes view (Some an_order) ps = ordered_goes view an_order ps
 
-whole_goes : (view : PartitionView) (e : WholeEvent) (ps : PartitionState) → Goes view 0 0 ps (after_event view e ps)
-whole_goes view NoEvent ps = same_goes view 0 0 ps ps refl
+whole_goes : (view : PartitionView) (e : WholeEvent) (ps : PartitionState) → Goes view 0 0 0 ps (after_event view e ps)
+whole_goes view NoEvent ps = same_goes view 0 0 0 ps ps refl
 whole_goes view (AllReset mode) ps = reset_goes view mode 0 ps
-whole_goes view AllHalted ps = same_goes view 0 0 ps ps refl
+whole_goes view AllHalted ps = same_goes view 0 0 0 ps ps refl
 
-rested_goes : (view : PartitionView) (worked : Bool) (time : ℕ) (ps : PartitionState) → Goes view 0 0 ps (rested_unless worked time ps)
+rested_goes : (view : PartitionView) (worked : Bool) (time : ℕ) (ps : PartitionState) → Goes view 0 0 0 ps (rested_unless worked time ps)
 unfolding hardware_looked_at rested
-rested_goes view true time ps = same_goes view 0 0 ps ps refl
+rested_goes view true time ps = same_goes view 0 0 0 ps ps refl
 rested_goes view false time ps = at (is_halted ps.state)
   where
-    at : (b : Bool) → Goes view 0 0 ps (if b then ps else hardware_looked_at time ps)
-    at true = same_goes view 0 0 ps ps refl
-    at false = same_goes view 0 0 ps (hardware_looked_at time ps) refl
+    at : (b : Bool) → Goes view 0 0 0 ps (if b then ps else hardware_looked_at time ps)
+    at true = same_goes view 0 0 0 ps ps refl
+    at false = same_goes view 0 0 0 ps (hardware_looked_at time ps) refl
 
 after_tick_goes : (view : PartitionView) (time : ℕ) (worked : Bool) (traffic : OwnTraffic) (o : Option Order) (e : WholeEvent) (ps : PartitionState)
-    → Goes view 0 0 ps (after_tick view time worked traffic o e ps)
+    → Goes view 0 0 0 ps (after_tick view time worked traffic o e ps)
 unfolding after_tick
 after_tick_goes view time worked traffic o e ps =
     let heard : PartitionState = hearing view traffic ps in
     let told : PartitionState = obeyed view o heard in
     let met : PartitionState = after_event view e told in
-    goes_then view 0 0 0 0 0 0 ps heard (rested_unless worked time met) (omega arith) (omega arith) (hearing_goes view traffic ps)
-    (goes_then view 0 0 0 0 0 0 heard told (rested_unless worked time met) (omega arith) (omega arith) (obeyed_goes view o heard)
-    (goes_then view 0 0 0 0 0 0 told met (rested_unless worked time met) (omega arith) (omega arith) (whole_goes view e told) (rested_goes view worked time met)))
+    goes_then (hearing_goes view traffic ps) (goes_then (obeyed_goes view o heard) (goes_then (whole_goes view e told) (rested_goes view worked time met)))
 
--- one tick of one partition alone
-own_work_goes : (slot : Slot) (view : PartitionView) (a : Alone) (seen : Sight) → Goes view 1 2 a.state (worked_in (alone_local_in slot view a seen) a.state)
-own_work_goes Away view a seen = same_goes view 1 2 a.state a.state refl
-own_work_goes (Mine first) view a seen = at (takes_turns a.state.state)
+-- a partition's own part of a tick, as the rest of the system sees it
+bounded_works : {view : PartitionView} {t i : ℕ} {before after : PartitionState} {act : Act} → Works view t i before after act → Works view t i before after (bounded view act)
+bounded_works {view} {t} {i} {before} {after} {act} works = record { goes = works.goes; entries = by works.entries }
   where
-    at : (b : Bool) → Goes view 1 2 a.state (worked_in (if b then Some (local_tick view a.state a.copies a.ticks a.time first seen) else None) a.state)
-    at true = local_goes view a.state a.copies a.ticks a.time first seen
-    at false = same_goes view 1 2 a.state a.state refl
+    by : (after.health.next ≤ before.health.next + 1) ⊎ Halts after act → (after.health.next ≤ before.health.next + 1) ⊎ Halts after (bounded view act)
+    by (inl few) = inl few
+    by (inr halts) = inr (record { halted = halts.halted; alone = ap (bounded view) halts.alone })
 
-alone_goes : (view : PartitionView) (a : Alone) (cue : Cue) → Goes view 1 2 a.state (alone_step view a cue).state
-unfolding alone_after alone_local alone_step
-alone_goes view a cue =
-    let tick : Option LocalTick = alone_local_in cue.mine view a cue.seen in
-    goes_then view 1 2 0 0 1 2 a.state (worked_in tick a.state) _ (omega arith) (omega arith) (own_work_goes cue.mine view a cue.seen)
-    (after_tick_goes view a.time (is_some tick) (alone_traffic tick cue.traffic) cue.order cue.whole (worked_in tick a.state))
+local_works : (g : Machine) (p : ℕ) (first : Bool) (ps : PartitionState) → Works (view_of g.system p) 1 1 ps (local_of g p first ps).after (local_of g p first ps).act
+unfolding local_of local_tick
+local_works g p first ps = bounded_works (work_works (view_of g.system p) (copies g p) g.time first (sight_of_state g p first ps) ps)
+
+-- a tick of the machine moves a partition on so: one health entry more at most, where a partition that has halted counts one less
+record Ticks (view : PartitionView) (before after : PartitionState) : Type 0 where
+  goes : Goes view 1 2 1 before after
+  met : after.health.next + flag (is_halted before.state) ≤ before.health.next + 1 + flag (is_halted after.state)
+
+flag_most : (b : Bool) → flag b ≤ 1
+flag_most true = omega arith
+flag_most false = omega arith
+
+-- a partition that does no work
+rest_ticks : (view : PartitionView) (time : ℕ) (traffic : OwnTraffic) (o : Option Order) (e : WholeEvent) (ps : PartitionState) → Ticks view ps (after_tick view time false traffic o e ps)
+rest_ticks view time traffic o e ps =
+    let goes = after_tick_goes view time false traffic o e ps in
+    let none : (after_tick view time false traffic o e ps).health.next ≤ ps.health.next + 0 = goes.met in
+    let most = flag_most (is_halted ps.state) in
+    record { goes = more_goes 1 2 1 goes; met = omega (arith, none, most) }
+
+-- a partition that works: nothing follows its work where two entries were made
+work_ticks : (view : PartitionView) (time : ℕ) (traffic : OwnTraffic) (o : Option Order) (e : WholeEvent) (before after : PartitionState) (act : Act) → is_halted before.state ≡ false
+    → Works view 1 1 before after act → (act ≡ told.Nothing → after_tick view time true traffic o e after ≡ after) → Ticks view before (after_tick view time true traffic o e after)
+work_ticks view time traffic o e before after act awake works quiet_after = record { goes = goes_then works.goes (after_tick_goes view time true traffic o e after); met = by works.entries }
+  where
+    end : PartitionState
+    end = after_tick view time true traffic o e after
+
+    none : flag (is_halted before.state) ≡ 0
+    none = ap flag awake
+
+    by : (after.health.next ≤ before.health.next + 1) ⊎ Halts after act → end.health.next + flag (is_halted before.state) ≤ before.health.next + 1 + flag (is_halted end.state)
+    by (inl few) =
+        let kept : end.health.next ≤ after.health.next + 0 = (after_tick_goes view time true traffic o e after).met in
+        omega (arith, few, kept, none)
+    by (inr halts) =
+        let same : end ≡ after = quiet_after halts.alone in
+        let one : flag (is_halted after.state) ≡ 1 = ap flag halts.halted in
+        let two : after.health.next ≤ before.health.next + 2 = works.goes.met in
+        subst (λ (last : PartitionState). last.health.next + flag (is_halted before.state) ≤ before.health.next + 1 + flag (is_halted last.state)) (sym same) (omega (arith, one, two, none))
+
+-- what a tick leaves of a partition, by the local tick of the machine and the one of this partition
+abbrev left_by : Machine → ℕ → Option Turn → Option LocalTick → Option LocalTick → PartitionState → PartitionState
+left_by g p turn tick its ps =
+    after_tick (view_of g.system p) g.time (is_some its) (heard_as (name_of g.system.conf p) (system_traffic g.system.conf turn (traffic_of (act_of tick)))) (order_upon (act_of tick) p)
+    (event_of (act_of tick)) (worked_in its ps)
+
+-- a tick that reaches nothing leaves a partition as its work did
+nothing_follows : (g : Machine) (p : ℕ) (turn : Option Turn) (act : Act) (ps : PartitionState) → act ≡ told.Nothing
+    → after_tick (view_of g.system p) g.time true (heard_as (name_of g.system.conf p) (system_traffic g.system.conf turn (traffic_of act))) (order_upon act p) (event_of act) ps ≡ ps
+unfolding after_tick
+nothing_follows g p None act ps is = rw is refl
+nothing_follows g p (Some turn) act ps is = rw is refl
+
+awake : (state : State) → takes_turns state ≡ true → is_halted state ≡ false
+awake Ready is = refl
+awake Idle is = refl
+awake Suspended is = absurd cc
+awake Halted is = absurd cc
+
+-- the partition of the slot
+taken_ticks : (g : Machine) (p : ℕ) (ps : PartitionState) (turn : Option Turn) (first : Bool)
+    → Ticks (view_of g.system p) ps (left_by g p turn (taken_by g p first (Some ps)) (taken_by g p first (Some ps)) ps)
+taken_ticks g p ps turn first = at (takes_turns ps.state) refl
+  where
+    tick : LocalTick
+    tick = local_of g p first ps
+
+    at : (b : Bool) → takes_turns ps.state ≡ b → Ticks (view_of g.system p) ps (left_by g p turn (if b then Some tick else None) (if b then Some tick else None) ps)
+    at true is = work_ticks (view_of g.system p) g.time _ _ _ ps tick.after tick.act (awake ps.state is) (local_works g p first ps) (nothing_follows g p turn tick.act tick.after)
+    at false is = rest_ticks (view_of g.system p) g.time _ _ _ ps
+
+turn_ticks : (g : Machine) (p : ℕ) (ps : PartitionState) (turn : Option Turn) → slice_get g.parts p ≡ Some ps
+    → Ticks (view_of g.system p) ps (left_by g p turn (local_in g turn) (if_its_turn (is_turn_of turn p) (local_in g turn)) ps)
+turn_ticks g p ps None there = rest_ticks (view_of g.system p) g.time _ _ _ ps
+turn_ticks g p ps (Some turn) there = at (turn.part == p) refl
+  where
+    at : (b : Bool) → (turn.part == p) ≡ b → Ticks (view_of g.system p) ps (left_by g p (Some turn) (local_in g (Some turn)) (if_its_turn b (local_in g (Some turn))) ps)
+    at true its =
+        let same : turn.part ≡ p = eqb-true turn.part p its in
+        let is : local_in g (Some turn) ≡ taken_by g p turn.first (Some ps) = ap (λ q. taken_by g q turn.first (slice_get g.parts q)) same ∙ ap (taken_by g p turn.first) there in
+        subst (λ (tick : Option LocalTick). Ticks (view_of g.system p) ps (left_by g p (Some turn) tick tick ps)) (sym is) (taken_ticks g p ps (Some turn) turn.first)
+    at false other = rest_ticks (view_of g.system p) g.time _ _ _ ps
+
+part_ticks : (g : Machine) (p : ℕ) (ps : PartitionState) → slice_get g.parts p ≡ Some ps → Ticks (view_of g.system p) ps (part_after g (happened g) p ps)
+unfolding part_after happened happened_by local tick_of
+part_ticks g p ps there = turn_ticks g p ps (turn_of g) there
 
 -- the facts after one more tick
-facts_after : (view : PartitionView) (n : ℕ) (ps qs : PartitionState) → AreFacts view n ps → Goes view 1 2 ps qs → AreFacts view (n + 1) qs
-facts_after view n ps qs facts goes =
+facts_after : (view : PartitionView) (n : ℕ) (ps qs : PartitionState) → AreFacts view n ps → Ticks view ps qs → AreFacts view (n + 1) qs
+facts_after view n ps qs facts ticks =
     let a : ps.traces.next ≤ n = facts.traces in
-    let b : qs.traces.next ≤ ps.traces.next + 1 = goes.traced in
-    let c : ps.health.next ≤ 2 * n = facts.health in
-    let d : qs.health.next ≤ ps.health.next + 2 = goes.met in
+    let b : qs.traces.next ≤ ps.traces.next + 1 = ticks.goes.traced in
+    let c : ps.health.next ≤ n + flag (is_halted ps.state) = facts.health in
+    let d : qs.health.next + flag (is_halted ps.state) ≤ ps.health.next + 1 + flag (is_halted qs.state) = ticks.met in
+    let e : ps.clocks.execution ≤ n = facts.execution in
+    let f : qs.clocks.execution ≤ ps.clocks.execution + 1 = ticks.goes.ran in
     record {
       traces = omega (arith, a, b);
       health = omega (arith, c, d);
-      loads = goes.loaded facts.loads;
-      inputs = last_of qs.inputs ps.inputs view.inputs goes.read facts.inputs;
-      made = goes.made facts.made;
+      execution = omega (arith, e, f);
+      loads = ticks.goes.loaded facts.loads;
+      inputs = last_of qs.inputs ps.inputs view.inputs ticks.goes.read facts.inputs;
+      made = ticks.goes.made facts.made;
     }
-
-part_facts : (g : Machine) (p : ℕ) (ps : PartitionState) → AreFacts (view_of g.system p) (begun g) ps
-    → AreFacts (view_of g.system p) (begun g + 1) (alone_step (view_of g.system p) (part g p ps) (cue g p)).state
-unfolding part
-part_facts g p ps facts = facts_after (view_of g.system p) (begun g) ps _ facts (alone_goes (view_of g.system p) (part g p ps) (cue g p))
 
 -- one more tick has begun
 event_begins : (e : WholeEvent) (ticks : ℕ) → ticks_after e ticks + flag (is_halt e) ≡ ticks + 1
@@ -339,7 +496,7 @@ step_begins g runs =
     let next : begun (step g) ≡ g.ticks + 1 = ap begun (step_runs g runs) ∙ after_begins g in
     omega (arith, now, next)
 
--- a partition that is there after a tick was there before it
+-- a partition after a tick, where it was there before it
 after_where : (g : Machine) (p : ℕ) → slice_get (after g (happened g)).parts p ≡ on (part_after g (happened g) p) (slice_get g.parts p)
 unfolding after
 after_where g p = get_each (part_after g (happened g)) g.parts p
@@ -347,20 +504,17 @@ after_where g p = get_each (part_after g (happened g)) g.parts p
 pub keeps_facts : KeepsFacts
 keeps_facts g facts p qs there = at g.halted refl
   where
-    from : (o : Option PartitionState) → g.halted ≡ false → slice_get g.parts p ≡ o → AreFacts (view_of (step g).system p) (begun (step g)) qs
-    from None runs is =
-        let none : slice_get (step g).parts p ≡ None = ap (λ m. slice_get m.parts p) (step_runs g runs) ∙ after_where g p ∙ ap (on (part_after g (happened g) p)) is in
-        absurd (let e = sym none ∙ there in cc)
-    from (Some ps) runs is =
-        let after_alone : Alone = alone_step (view_of g.system p) (part g p ps) (cue g p) in
-        let same : after_alone.state ≡ qs = same_Some after_alone.state qs (sym (state_there (step g) p after_alone (tick_state g p ps runs is)) ∙ there) in
+    from : (o : Option PartitionState) → g.halted ≡ false → slice_get g.parts p ≡ o → on (part_after g (happened g) p) o ≡ Some qs → AreFacts (view_of (step g).system p) (begun (step g)) qs
+    from None runs is found = absurd cc
+    from (Some ps) runs is found =
         subst (λ (system : System). AreFacts (view_of system p) (begun (step g)) qs) (sym (step_system g))
         (subst (λ (n : ℕ). AreFacts (view_of g.system p) n qs) (sym (step_begins g runs))
-        (subst (AreFacts (view_of g.system p) (begun g + 1)) same (part_facts g p ps (facts p ps is))))
+        (subst (AreFacts (view_of g.system p) (begun g + 1)) (same_Some (part_after g (happened g) p ps) qs found)
+        (facts_after (view_of g.system p) (begun g) ps (part_after g (happened g) p ps) (facts p ps is) (part_ticks g p ps is))))
 
     at : (b : Bool) → g.halted ≡ b → AreFacts (view_of (step g).system p) (begun (step g)) qs
     at true halts = subst HasFacts (sym (step_halted g halts)) facts p qs there
-    at false runs = from (slice_get g.parts p) runs refl
+    at false runs = from (slice_get g.parts p) runs refl (sym (after_where g p) ∙ ap (λ m. slice_get m.parts p) (sym (step_runs g runs)) ∙ there)
 
 -- the facts of a machine that boots
 table_is : {Y : Type 0} (f : ℕ → Y) (n p : ℕ) (y : Y) → slice_get (table f n) p ≡ Some y → f p ≡ y
@@ -369,8 +523,8 @@ table_is f (suc n) zero y is = same_Some (f 0) y is
 table_is f (suc n) (suc p) y is = table_is (λ k. f (suc k)) n p y is
 
 booted_facts : (view : PartitionView) → AreFacts view 0 (booted view)
-unfolding booted nothing_kept
-booted_facts view = record { traces = omega arith; health = omega arith; loads = All-nil (λ (e : TraceEntry). length e.load ≡ 8); inputs = record { used = []; is = refl }; made = no_ends view }
+unfolding booted no_clocks nothing_kept
+booted_facts view = record { traces = omega arith; health = omega arith; execution = omega arith; loads = All-nil (λ (e : TraceEntry). length e.load ≡ 8); inputs = record { used = []; is = refl }; made = no_ends view }
 
 pub boots_with_facts : BootsWithFacts
 unfolding start

@@ -1,5 +1,5 @@
--- What holds of each partition at all times, whatever its programs do.
-use Rattle.std.specs.Prelude.{◌≡◌, ℕ, ◌+◌, ◌*◌, ◌≤◌, ◌++◌, true, Bool, List, length, All, IsSome, Some, None, slice_get, slice_index_or}
+-- What holds of each partition, and of the machine, at all times, whatever the programs do.
+use Rattle.std.specs.Prelude.{◌≡◌, ℕ, ◌+◌, ◌≤◌, ◌++◌, true, Bool, List, length, All, IsSome, Some, None, slice_get, slice_index_or}
 use Rattle.cyclic_plans.specs.PlanClock.{AsksPlan, IsInFrame}
 use Rattle.sparc_step.specs.Registers.{Registers}
 use Rattle.xm_conf.specs.Description.{described}
@@ -12,7 +12,7 @@ use Rattle.xm_traces.specs.declared.entry.TraceEntry.{TraceEntry}
 use Rattle.machine_model.specs.Laws.{HasLength}
 use Rattle.machine_model.specs.Machine.{Machine, answer_to, run, start, step}
 use Rattle.machine_model.specs.Observed.{Observation, observed_by}
-use Rattle.machine_model.specs.Partition.{PartitionState}
+use Rattle.machine_model.specs.Partition.{PartitionState, is_halted}
 use Rattle.machine_model.specs.Structures.{flag}
 use Rattle.machine_model.specs.View.{PartitionView, PortChannel, System, view_of}
 
@@ -34,11 +34,14 @@ AreEnds view made = (r : ℕ) → is_made r made ≡ true → IsEnd view r
 abbrev pub HaveEight : List TraceEntry → Type 0
 HaveEight entries = All (λ entry. length entry.load ≡ 8) entries
 
--- after so many ticks that have begun: at most one trace entry came with each, and at most two health entries; the trace entries that are kept have
--- eight bytes; the input words that are left are the last of those that the partition was given; and the made ports are ends of channels
+-- after so many ticks that have begun: at most one trace entry came with each; so did at most one health entry, and one more where the partition has
+-- halted, since a tick makes two only where the delivery of a trap fails, and then the partition halts; its execution clock counted at most each of them;
+-- the trace entries that are kept have eight bytes; the input words that are left are the last of those that the partition was given; and the made ports
+-- are ends of channels
 pub record AreFacts (view : PartitionView) (ticks : ℕ) (ps : PartitionState) : Type 0 where
   pub traces : ps.traces.next ≤ ticks
-  pub health : ps.health.next ≤ 2 * ticks
+  pub health : ps.health.next ≤ ticks + flag (is_halted ps.state)
+  pub execution : ps.clocks.execution ≤ ticks
   pub loads : HaveEight ps.traces.entries
   pub inputs : AreLast ps.inputs view.inputs
   pub made : AreEnds view ps.made
@@ -65,6 +68,45 @@ RunsWithFacts = (system : System) (count : ℕ) → HasFacts (run (start system)
 abbrev pub ShowsItsSizeInRuns : Type 0
 ShowsItsSizeInRuns = (system : System) (count : ℕ) (view : PartitionView) (core : Registers) (call : Observation) →
     observed_by view core ≡ Some call → HasLength call.size (answer_to (run (start system) count) call.question)
+
+-- the hardware clock is not past the ticks that are done
+abbrev pub IsTimed : Machine → Type 0
+IsTimed g = g.time ≤ g.ticks
+
+-- a machine boots so, and keeps it in each tick, so that it holds after every run
+abbrev pub BootsTimed : Type 0
+BootsTimed = (system : System) → IsTimed (start system)
+
+abbrev pub KeepsTimed : Type 0
+KeepsTimed = (g : Machine) → IsTimed g → IsTimed (step g)
+
+abbrev pub RunsTimed : Type 0
+RunsTimed = (system : System) (count : ℕ) → IsTimed (run (start system) count)
+
+-- the machine has each partition and each channel of its configuration
+pub record IsComplete (g : Machine) : Type 0 where
+  pub parts : length g.parts ≡ length g.system.conf.parts
+  pub channels : length g.channels ≡ length g.system.conf.chans
+
+-- what runs is the same, and there are as many partitions and channels
+pub record IsAsMany (before after : Machine) : Type 0 where
+  pub system : after.system ≡ before.system
+  pub parts : length after.parts ≡ length before.parts
+  pub channels : length after.channels ≡ length before.channels
+
+-- a tick changes neither what runs nor how many partitions and channels there are, and no more does a run
+abbrev pub KeepsNumbers : Type 0
+KeepsNumbers = (g : Machine) → IsAsMany g (step g)
+
+abbrev pub RunsKeepNumbers : Type 0
+RunsKeepNumbers = (g : Machine) (count : ℕ) → IsAsMany g (run g count)
+
+-- a machine boots complete, and is complete after every run
+abbrev pub BootsComplete : Type 0
+BootsComplete = (system : System) → IsComplete (start system)
+
+abbrev pub RunsComplete : Type 0
+RunsComplete = (system : System) (count : ℕ) → IsComplete (run (start system) count)
 
 -- the plan clock runs a plan that there is, in its frame, and a plan that is asked for is there
 pub record IsClocked (g : Machine) : Type 0 where

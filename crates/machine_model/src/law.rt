@@ -1,6 +1,6 @@
 //! The laws of the machine: a partition depends on nothing but its own things and its cues.
 
-ghost use Rattle.machine_model.specs.Facts.{BootsClocked, BootsWithFacts, BootsWithShapes, KeepsClocked, KeepsFacts, KeepsShapes, PortsHaveKinds, RunsClocked, RunsWithFacts, RunsWithShapes, ShowsItsSizeInRuns};
+ghost use Rattle.machine_model.specs.Facts.{BootsClocked, BootsComplete, BootsTimed, BootsWithFacts, BootsWithShapes, KeepsClocked, KeepsFacts, KeepsNumbers, KeepsShapes, KeepsTimed, PortsHaveKinds, RunsClocked, RunsComplete, RunsKeepNumbers, RunsTimed, RunsWithFacts, RunsWithShapes, ShowsItsSizeInRuns};
 ghost use Rattle.machine_model.specs.Laws.{
   ActsWithinBounds,
   AllTicks,
@@ -94,14 +94,31 @@ pub fn earlier_ticks()
     ensures runs { TwoRunsEarlier }
 {}
 
-/// The entries of a partition's logs are bounded by the ticks, its trace entries have eight bytes, its
-/// input words are among those that
-/// it was given, and its made ports are ends of channels: when it boots, after each tick, and so
-/// after every run.
+/// A partition has at most one trace entry and one health entry for each tick that has begun, and one
+/// health entry more where it has halted; its execution clock is at most these ticks, its trace
+/// entries have eight bytes, its input words are among those that it was given, and its made ports
+/// are ends of channels: when it boots, after each tick, and so after every run.
 pub fn keeps_facts()
     ensures boots { BootsWithFacts }
     ensures ticks { KeepsFacts }
     ensures runs { RunsWithFacts }
+{}
+
+/// The hardware clock is not past the ticks that are done: when the machine boots, after each tick,
+/// and so after every run.
+pub fn keeps_hardware_clock()
+    ensures boots { BootsTimed }
+    ensures ticks { KeepsTimed }
+    ensures runs { RunsTimed }
+{}
+
+/// What runs, and the numbers of partitions and of channels, are the same after each tick and so after
+/// every run; from its boot on a machine has each partition and each channel of its configuration.
+pub fn keeps_numbers()
+    ensures ticks { KeepsNumbers }
+    ensures runs { RunsKeepNumbers }
+    ensures boots { BootsComplete }
+    ensures complete { RunsComplete }
 {}
 
 /// Under a configuration that meets the rules the plan clock is inside its frame, and its plan and
