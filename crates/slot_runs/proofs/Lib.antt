@@ -19,5 +19,4 @@ pub mod LateLemmas
 pub mod AlikeLemmas
 pub mod GoingOnLemmas
 pub mod StepLemmas
-pub mod BuiltLemmas
-pub mod PlainLemmas
+pub mod TickPassLemmas

@@ -65,7 +65,7 @@ next_tick g p first ps done is =
     }
 
 -- a partition's view has its number
-view_id : (system : System) (p : ℕ) → (view_of system p).id ≡ p
+pub view_id : (system : System) (p : ℕ) → (view_of system p).id ≡ p
 unfolding view_of
 view_id system p = refl
 

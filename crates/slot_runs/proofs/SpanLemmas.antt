@@ -173,6 +173,7 @@ inside_to g parts last (suc k) span within first ticks =
 pub quiet_to : (g : Machine) (last : ℕ) (parts new : List PartitionState) → IsUnderway g last parts → IsQuietTick (inside last parts g) new → IsQuietSpan g last new
 quiet_to g last parts new is tick = record {
   state = state_more g last parts new is tick.state;
+  silent = is.lines;
   lines = lines_one_more g last parts is ∙ tick.lines;
   said = λ p. said_one_more g last p parts is ∙ tick.said p;
 }

@@ -1,5 +1,5 @@
 -- Instructions of a partition that only go, one a tick.
-use Rattle.std.proofs.Common.{◌≡◌, ℕ, suc, ◌+◌, false, List, [], Option, refl, sym, ap, ◌∙◌, arith}
+use Rattle.std.proofs.Common.{◌≡◌, ℕ, suc, ◌+◌, List, [], Option, refl, sym, ap, ◌∙◌, arith}
 use Rattle.std.proofs.Math.Nat.{add-zero}
 use Rattle.guest_bus.specs.Memory.{Area, Memory}
 use Rattle.sparc_step.specs.Execution.{Turned}
@@ -13,10 +13,8 @@ use Rattle.machine_model.specs.LocalTick.{by_turn, clocked, executed, turned_sta
 use Rattle.machine_model.specs.Partition.{PartitionState, areas_of}
 use Rattle.machine_model.specs.Told.{Sight}
 use Rattle.machine_model.specs.View.{PartitionView}
-use Rattle.slot_runs.specs.Built.{is_unbuilt, is_unbuilt_turn}
-use Rattle.slot_runs.specs.Laws.{Executes}
 use Rattle.slot_runs.specs.Stepping.{stepped, then_settled}
-use Rattle.slot_runs.specs.Meeting.{HasGone, gone_on}
+use Rattle.slot_runs.specs.Meeting.{Executes, HasGone, gone_on}
 
 -- where a step more only went, all before it only went
 went_before : (t : Turned) (areas : List Area) → (then_settled t.turn areas t).turn ≡ Went → t.turn ≡ Went
@@ -62,14 +60,3 @@ next_goes k view ps gone = λ contents time sight.
     executed_went view contents time sight (gone_on k (areas_of view) ps) (stepped (suc k) (areas_of view) ps.core ps.memory)
     (settled_next k (areas_of view) ps.core ps.memory (gone_before k view ps gone)) gone
     ∙ ap quiet (goes_further k (areas_of view) ps)
-
--- an instruction that only goes is built
-built_went : (view : PartitionView) (ps : PartitionState) (t : Turned) → settled (areas_of view) ps.core ps.memory ≡ t → t.turn ≡ Went → is_unbuilt view ps ≡ false
-unfolding is_unbuilt
-built_went view ps t is went = ap (λ (s : Turned). is_unbuilt_turn s.turn view s.core) is ∙ ap (λ turn. is_unbuilt_turn turn view t.core) went
-
--- so the instruction behind them is built, where it only goes
-pub next_built : (k : ℕ) (view : PartitionView) (ps : PartitionState) → HasGone (suc k) view ps → is_unbuilt view (gone_on k (areas_of view) ps) ≡ false
-next_built k view ps gone =
-    built_went view (gone_on k (areas_of view) ps) (stepped (suc k) (areas_of view) ps.core ps.memory)
-    (settled_next k (areas_of view) ps.core ps.memory (gone_before k view ps gone)) gone

@@ -1,12 +1,10 @@
-pub mod Built
 pub mod GoingOn
 pub mod Late
-pub mod Laws
 pub mod Meeting
 pub mod NextLaws
-pub mod Parts
+pub mod PassLaws
+pub mod Passes
 pub mod Rest
-pub mod Run
 pub mod RunLemmas
 pub mod SpanLaws
 pub mod Spans

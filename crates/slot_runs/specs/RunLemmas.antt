@@ -1,13 +1,9 @@
--- Runs, their lines and their console bytes, put together, and where a run stops.
-use Rattle.std.proofs.Common.{◌≡◌, ℕ, zero, suc, ◌+◌, ◌<◌, Bool, true, false, ◌++◌, None, Some, refl, sym, ap, ◌∙◌, arith}
-use Rattle.std.specs.Prelude.{nat_lt}
+-- Runs, their lines and their console bytes, put together.
+use Rattle.std.proofs.Common.{◌≡◌, ℕ, zero, suc, ◌+◌, ◌++◌, refl, sym, ap, ◌∙◌}
 use Rattle.std.proofs.Math.Nat.{suc-add, zero-add}
-use Rattle.std.proofs.lemmas.Bool.Decides.{nat_tests}
 use Rattle.std.proofs.lemmas.List.{append_assoc, append-nil}
 use Rattle.machine_model.specs.Lines.{console, lines, said, step_console, step_lines, step_said}
 use Rattle.machine_model.specs.Machine.{Machine, run, step}
-use Rattle.slot_runs.specs.Built.{Place, unbuilt}
-use Rattle.slot_runs.specs.Run.{stop_at, stop_or, stop_within}
 
 -- a run of two parts
 pub run_add : (g : Machine) (j k : ℕ) → run g (j + k) ≡ run (run g j) k
@@ -56,25 +52,3 @@ said_more g zero p = append-nil (step_said g p)
 said_more g (suc k) p =
     ap (λ rest. step_said g p ++ rest) (said_more (step g) k p)
     ∙ sym (append_assoc (step_said g p) (said (step g) k p) (step_said (run (step g) k) p))
-
--- a run whose ticks are all built does not stop
-pub none_within : (g : Machine) (count : ℕ) → ((k : ℕ) → k < count → unbuilt (run g k) ≡ None) → stop_within g count ≡ None
-none_within g zero built = refl
-none_within g (suc count) built =
-    ap (λ s. stop_or s (stop_at count (unbuilt (run g count)))) (none_within g count (λ k below. built k (omega (arith, below))))
-    ∙ ap (stop_at count) (built count (omega arith))
-
--- a run stops at the first tick that is not built
-pub stop_is : (g : Machine) (count done : ℕ) (place : Place)
-    → ((k : ℕ) → k < done → unbuilt (run g k) ≡ None) → unbuilt (run g done) ≡ Some place → done < count
-    → stop_within g count ≡ Some (record { ticks = done; place = place })
-stop_is g zero done place built stuck below = absurd (omega (arith, below))
-stop_is g (suc count) done place built stuck below = at (nat_lt done count) refl (stop_is g count done place built stuck)
-  where
-    at : (b : Bool) → nat_lt done count ≡ b → (done < count → stop_within g count ≡ Some (record { ticks = done; place = place }))
-        → stop_within g (suc count) ≡ Some (record { ticks = done; place = place })
-    at true less earlier = ap (λ s. stop_or s (stop_at count (unbuilt (run g count)))) (earlier (grind (arith, nat_tests)))
-    at false more earlier =
-        let last : done ≡ count = grind (arith, nat_tests) in
-        ap (λ s. stop_or s (stop_at count (unbuilt (run g count)))) (none_within g count (λ k short. built k (omega (arith, short, last))))
-        ∙ ap (λ n. stop_at n (unbuilt (run g n))) (sym last) ∙ ap (stop_at done) stuck

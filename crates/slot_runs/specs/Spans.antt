@@ -53,6 +53,7 @@ pub record IsUnderway (g : Machine) (done : ℕ) (parts : List PartitionState) :
 -- the ticks up to this one leave these partitions, and tell at most that a plan starts
 pub record IsQuietSpan (g : Machine) (last : ℕ) (parts : List PartitionState) : Type 0 where
   pub state : run g (suc last) ≡ after_span last parts g
+  pub silent : lines g last ≡ []
   pub lines : lines g (suc last) ≡ plan_line last g
   pub said : (p : ℕ) → said g (suc last) p ≡ []
 

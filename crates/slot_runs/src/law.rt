@@ -2,27 +2,11 @@
 
 ghost use Rattle.slot_runs.specs.GoingOn.{GapGoesOn, LeftAreSpan, SilentConsoles, SlotGoesOn, SpanGoesOn};
 ghost use Rattle.slot_runs.specs.Late.{OthersGoAlike, RestedGoAlike};
-ghost use Rattle.slot_runs.specs.Laws.{ReadyTicks, StuckTicks, WaitingTicks};
 ghost use Rattle.slot_runs.specs.NextLaws.{MetTick, NextTick, ToldTick};
+ghost use Rattle.slot_runs.specs.PassLaws.{AllRest, OthersRest, OthersRestLater, PassedNext, TickInPasses};
 ghost use Rattle.slot_runs.specs.Rest.{DueTwice, LooksTwice, MeetsAfterRest, RestsBefore, RestsOnce, RestsTwice};
 ghost use Rattle.slot_runs.specs.SpanLaws.{GoingTicks, IdleTicks, RestingTicks};
 ghost use Rattle.slot_runs.specs.Undisturbed.{UndisturbedIdle, UndisturbedNext, UndisturbedTicks, UndisturbedTold};
-
-/// In its slot a partition that is ready executes instructions, and while they only go there is nothing to tell; the
-/// tick behind them is the machine's, too.
-pub fn ready_ticks()
-    ensures law { ReadyTicks }
-{}
-
-/// An instruction that is not built is met behind those that only went.
-pub fn stuck_ticks()
-    ensures law { StuckTicks }
-{}
-
-/// In a gap, and in the slot of a partition that is not ready, only the clocks go on.
-pub fn waiting_ticks()
-    ensures law { WaitingTicks }
-{}
 
 /// A timer need not be looked at in each tick: a later look alone leaves the same timer, and tells whether it was due.
 pub fn late_looks()
@@ -89,4 +73,14 @@ pub fn silent_consoles()
 pub fn late_machine()
     ensures all { RestedGoAlike }
     ensures others { OthersGoAlike }
+{}
+
+/// A tick of a machine is its passes, one after the other: the work of the partition whose slot it is, its traffic, its order on another,
+/// a hypervisor event, the rest of all others, and the clocks.
+pub fn tick_in_passes()
+    ensures law { TickInPasses }
+    ensures next { PassedNext }
+    ensures all { AllRest }
+    ensures others { OthersRest }
+    ensures later { OthersRestLater }
 {}
