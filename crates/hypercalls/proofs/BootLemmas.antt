@@ -2,15 +2,15 @@
 use Rattle.std.proofs.Common.{◌≡◌, ℕ, zero, suc, ◌<◌, ◌≤◌, List, [], ◌∷◌, ◌++◌, length, map, take, get_or, refl, sym, ap, ◌∙◌, ◌+◌, ◌≢◌, arith, below_more}
 use Rattle.std.proofs.lemmas.List.{get_or-set_other, get_or-set_same, get_or_default, map-append, same_lists, take_more}
 use Rattle.std.proofs.lemmas.Option.{get_or_from_slice_get}
-use Rattle.std.specs.Prelude.{Some, slice_get}
+use Rattle.std.specs.Prelude.{Some, false, slice_get}
 use Rattle.std.specs.FinMap.{empty}
 use Rattle.cyclic_plans.specs.PlanClock.{CyclicClock, started as plan_start}
-use Rattle.guest_bus.specs.Memory.{Area}
+use Rattle.guest_bus.specs.Memory.{Area, Memory}
 use Rattle.guest_memory.specs.Loading.{areas_of, loaded}
 use Rattle.guest_memory.specs.Memories.{Memories, areas_at, with_map}
 use Rattle.loaded_system.specs.System.{IsSystem, System}
 use Rattle.machine_model.specs.Lists.{table}
-use Rattle.machine_model.specs.Machine.{booted_part}
+use Rattle.machine_model.specs.Machine.{booted_part, start}
 use Rattle.machine_model.specs.Partition as model
 use Rattle.machine_model.specs.Partition.{PartitionState}
 use Rattle.machine_model.specs.View.{no_image, no_part, part_of, view_of}
@@ -18,7 +18,7 @@ use Rattle.xef_images.specs.Image.{Image}
 use Rattle.xm_conf.specs.Configuration.{Part}
 use Rattle.xm_ports.specs.Channels as ports
 use Rattle.xm_ports.specs.Channels.{ChannelTable, shapes_of}
-use Rattle.hypercalls.specs.State.{OwnState, booted, booted_own, kept_so, loaded_all, with_memories, with_memory, without_inputs}
+use Rattle.hypercalls.specs.State.{OwnState, booted_own, kept_so, loaded_all, with_inputs, with_memories, with_memory}
 
 -- the partitions of some images as they boot, apart from their memories
 abbrev pub booted_owns : List Image → List OwnState
@@ -62,57 +62,49 @@ load_end parts images memories p held same end before =
     ∙ before k (omega (arith, held))
     ∙ get_or_default (loaded_all parts images) k empty d (omega (arith, held, loaded-length parts images same)))
 
--- partitions with their memories, by what each is
-along_table : (parts : List Part) (images : List Image) (f : ℕ → PartitionState) → length images ≡ length parts
-    → ((q : ℕ) → q < length parts → with_memory (booted_own (get_or images q no_image).entry) (loaded (areas_of (get_or parts q no_part)) (get_or images q no_image)) ≡ f q)
-    → with_memories (booted_owns images) (loaded_all parts images) ≡ table f (length parts)
-along_table [] [] f same each = refl
-along_table [] (image ∷ images) f same each = absurd (omega (arith, same))
-along_table (part ∷ parts) [] f same each = absurd (omega (arith, same))
-along_table (part ∷ parts) (image ∷ images) f same each =
-    ap (λ (ps : PartitionState). ps ∷ with_memories (booted_owns images) (loaded_all parts images)) (each 0 (omega arith))
-    ∙ ap (λ (rest : List PartitionState). f 0 ∷ rest) (along_table parts images (λ (k : ℕ). f (suc k)) (omega (arith, same)) (λ q below. each (suc q) (omega (arith, below))))
-
--- no partition has an input word
-no_input : (parts : List Part) (q : ℕ) → [] ≡ get_or (map {A = Part} {B = List ℕ} (λ part. []) parts) q []
-no_input [] q = refl
-no_input (part ∷ parts) zero = refl
-no_input (part ∷ parts) (suc q) = no_input parts q
+-- partitions with their memories and input words, by what each is
+along_table : (parts : List Part) (images : List Image) (inputs : List (List ℕ)) (f : ℕ → PartitionState) → length images ≡ length parts → length inputs ≡ length parts
+    → ((q : ℕ) → q < length parts → with_memory (booted_own (get_or images q no_image).entry) (loaded (areas_of (get_or parts q no_part)) (get_or images q no_image)) (get_or inputs q []) ≡ f q)
+    → with_memories (booted_owns images) (loaded_all parts images) inputs ≡ table f (length parts)
+along_table [] [] inputs f same given each = refl
+along_table [] (image ∷ images) inputs f same given each = absurd (omega (arith, same))
+along_table (part ∷ parts) [] inputs f same given each = absurd (omega (arith, same))
+along_table (part ∷ parts) (image ∷ images) [] f same given each = absurd (omega (arith, given))
+along_table (part ∷ parts) (image ∷ images) (words ∷ inputs) f same given each =
+    ap (λ (ps : PartitionState). ps ∷ with_memories (booted_owns images) (loaded_all parts images) inputs) (each 0 (omega arith))
+    ∙ ap (λ (rest : List PartitionState). f 0 ∷ rest) (along_table parts images inputs (λ (k : ℕ). f (suc k)) (omega (arith, same)) (omega (arith, given)) (λ q below. each (suc q) (omega (arith, below))))
 
 -- one partition as it boots
-part_boots : (system : System) (q : ℕ)
-    → with_memory (booted_own (get_or system.images q no_image).entry) (loaded (areas_of (get_or system.conf.parts q no_part)) (get_or system.images q no_image)) ≡ booted_part (without_inputs system) q
+part_boots : (system : System) (inputs : List (List ℕ)) (q : ℕ)
+    → with_memory (booted_own (get_or system.images q no_image).entry) (loaded (areas_of (get_or system.conf.parts q no_part)) (get_or system.images q no_image)) (get_or inputs q []) ≡ booted_part (with_inputs system inputs) q
 unfolding booted_own model.booted model.loaded model.areas_of view_of part_of
-part_boots system q =
-    ap (λ (words : List ℕ). record (with_memory (booted_own (get_or system.images q no_image).entry) (loaded (areas_of (get_or system.conf.parts q no_part)) (get_or system.images q no_image))) { inputs = words })
-    (no_input system.conf.parts q)
+part_boots system inputs q = refl
 
 -- all of them
-pub parts_boot : (system : System) → length system.images ≡ length system.conf.parts → with_memories (booted_owns system.images) (loaded_all system.conf.parts system.images) ≡ table (booted_part (without_inputs system)) (length system.conf.parts)
-parts_boot system same = along_table system.conf.parts system.images (booted_part (without_inputs system)) same (λ q below. part_boots system q)
+pub parts_boot : (system : System) (inputs : List (List ℕ)) → length system.images ≡ length system.conf.parts → length inputs ≡ length system.conf.parts
+    → with_memories (booted_owns system.images) (loaded_all system.conf.parts system.images) inputs ≡ table (booted_part (with_inputs system inputs)) (length system.conf.parts)
+parts_boot system inputs same given = along_table system.conf.parts system.images inputs (booted_part (with_inputs system inputs)) same given (λ q below. part_boots system inputs q)
 
--- none has an input word
-pub inputs_boot : (parts : List Part) (images : List Image) → length images ≡ length parts → map (λ (own : OwnState). own.inputs) (booted_owns images) ≡ map {A = Part} {B = List ℕ} (λ part. []) parts
-unfolding booted_own
-inputs_boot [] [] same = refl
-inputs_boot [] (image ∷ images) same = absurd (omega (arith, same))
-inputs_boot (part ∷ parts) [] same = absurd (omega (arith, same))
-inputs_boot (part ∷ parts) (image ∷ images) same = ap (λ (rest : List (List ℕ)). [] ∷ rest) (inputs_boot parts images (omega (arith, same)))
-
--- the whole system
-pub system_boots : (system : System) (owns : List OwnState) (memories : Memories) (channels : ChannelTable) (clock : CyclicClock) → IsSystem system → owns ≡ booted_owns system.images → memories.maps ≡ loaded_all system.conf.parts system.images
-    → channels ≡ record { shapes = shapes_of system.conf; contents = map ports.empty (shapes_of system.conf) } → clock ≡ plan_start → kept_so system owns memories channels clock 0 0 ≡ booted system
-unfolding booted
-system_boots system owns memories channels clock is owns_is maps_is channels_is clock_is =
-    let states = ap (λ (o : List OwnState). with_memories o memories.maps) owns_is ∙ ap (with_memories (booted_owns system.images)) maps_is ∙ parts_boot system is.counted in
-    let inputs = ap (λ (o : List OwnState). map (λ (own : OwnState). own.inputs) o) owns_is ∙ inputs_boot system.conf.parts system.images is.counted in
+-- the whole machine
+pub machine_boots : (system : System) (inputs : List (List ℕ)) (owns : List OwnState) (memories : Memories) (channels : ChannelTable) (clock : CyclicClock) → IsSystem system → length inputs ≡ length system.conf.parts
+    → owns ≡ booted_owns system.images → memories.maps ≡ loaded_all system.conf.parts system.images
+    → channels ≡ record { shapes = shapes_of system.conf; contents = map ports.empty (shapes_of system.conf) } → clock ≡ plan_start
+    → (kept_so system inputs owns memories channels clock 0 0 0 false).machine ≡ start (with_inputs system inputs)
+unfolding start
+machine_boots system inputs owns memories channels clock is given owns_is maps_is channels_is clock_is =
+    let states =
+    ap (λ (o : List OwnState). with_memories o memories.maps inputs) owns_is
+    ∙ ap (λ (m : List Memory). with_memories (booted_owns system.images) m inputs) maps_is
+    ∙ parts_boot system inputs is.counted given in
     λ i. record {
-      system = record { conf = system.conf; images = system.images; inputs = inputs i };
+      system = with_inputs system inputs;
       parts = states i;
       channels = (channels_is i).contents;
       clock = clock_is i;
       time = 0;
+      ticks = 0;
       resets = 0;
+      halted = false;
     }
 
 -- one partition more boots

@@ -1,5 +1,7 @@
 -- Steps of a processor, one after another.
-use Rattle.std.proofs.Common.{◌≡◌, ℕ, suc, List, sym, ap, ◌∙◌, subst}
+use Rattle.std.proofs.Common.{◌≡◌, ◌≢◌, ℕ, zero, suc, ◌+◌, ◌%◌, List, refl, sym, ap, ◌∙◌, subst, arith}
+use Rattle.std.proofs.lemmas.Bool.Decides.{nat_tests}
+use Rattle.std.specs.Prelude.{◌==◌, true, false, IsErr, Ok, Err, Result}
 use Rattle.guest_bus.specs.Memory.{Area, Memory, Others}
 use Rattle.guest_memory.specs.Memories.{AreMemories, Memories, areas_at, map_at, others_of, with_map, with_selected}
 use Rattle.guest_memory.specs.SelectedLemmas.{changed_selected}
@@ -7,9 +9,12 @@ use Rattle.machine_model.specs.Partition.{PartitionState}
 use Rattle.sparc_step.specs.Execution.{Turned}
 use Rattle.sparc_step.specs.Registers.{Registers}
 use Rattle.sparc_step.specs.declared.outcome.Turn.{Turn}
-use Rattle.sparc_step.specs.declared.outcome.Turn.TheVariants.{Went}
+use Rattle.sparc_step.specs.declared.outcome.Turn.TheVariants.{Call, Went}
 use Rattle.slot_runs.specs.Stepping.{stepped, then_settled}
-use Rattle.virt_traps.specs.Settled.{settled}
+use Rattle.machine_model.specs.ProcessorCalls.{flushed, flushed_after}
+use Rattle.virt_traps.specs.Moves.{Moved, made, spilled}
+use Rattle.virt_traps.specs.Settled.{GoesOn, settled}
+use Rattle.virt_traps.specs.declared.windows.StackFault.{StackFault}
 use Rattle.hypercalls.specs.Stepping.{IsGone, with_turned}
 
 -- behind a step that went, one more is settled
@@ -49,6 +54,14 @@ selected_changed p old mid new is were are same areas_same =
     ∙ ap (λ (k : ℕ). with_map mid.selected (map_at k new) mid) number
     ∙ ap (λ (m : Memories). with_map m.selected (map_at p new) m) is
 
+-- and where what it leaves of the selected memory is known
+pub selected_became : (p : ℕ) (old mid new : Memories) (memory : Memory) → mid ≡ with_selected p old → AreMemories mid → AreMemories new → others_of new ≡ others_of mid → areas_at new.selected new ≡ areas_at mid.selected mid
+    → map_at new.selected new ≡ memory → new ≡ with_selected p (with_map p memory old)
+selected_became p old mid new memory is were are same areas_same became =
+    let number : new.selected ≡ p = ap (λ (o : Others). o.number) same ∙ ap (λ (m : Memories). m.selected) is in
+    selected_changed p old mid new is were are same areas_same
+    ∙ ap (λ (m : Memory). with_selected p (with_map p m old)) (ap (λ (k : ℕ). map_at k new) (sym number) ∙ became)
+
 -- what steps came to, of a partition as it is seen
 pub gone_seen : (turn : Turn) (went most : ℕ) (here areas : List Area) (before after seen_before seen_after : PartitionState) → here ≡ areas → seen_before ≡ before → seen_after ≡ after
     → IsGone turn went most here (stepped went here before.core before.memory) after.core after.memory → IsGone turn went most areas (stepped went areas seen_before.core seen_before.memory) seen_after.core seen_after.memory
@@ -63,3 +76,48 @@ turned_seen before after seen_before seen_after before_is after_is turned =
     turned
     ∙ ap (λ (x : PartitionState). with_turned x.core x.memory before) (sym after_is)
     ∙ ap (λ (x : PartitionState). with_turned seen_after.core seen_after.memory x) (sym before_is)
+
+-- a call's registers, of a partition as it is seen
+pub called_seen : (turn : Turn) (before after seen_before seen_after : PartitionState) → seen_before ≡ before → seen_after ≡ after → (turn ≡ Call → GoesOn before.core after.core) → turn ≡ Call → GoesOn seen_before.core seen_after.core
+called_seen turn before after seen_before seen_after before_is after_is goes call =
+    subst (λ (x : PartitionState). GoesOn x.core seen_after.core) (sym before_is)
+    (subst (λ (x : PartitionState). GoesOn before.core x.core) (sym after_is) (goes call))
+
+-- what a spill or a fill came to, by its parts
+moved_is : (moved : Moved) (core : Registers) (memory : Memory) → moved.answer ≡ Ok tt → core ≡ moved.core → memory ≡ moved.memory → moved ≡ made core memory
+moved_is moved core memory answer core_is memory_is = λ i. record { answer = answer i; core = sym core_is i; memory = sym memory_is i }
+
+-- a flush ends where all windows but the current one are spilled
+pub flush_ended : (count : ℕ) (areas : List Area) (core : Registers) (memory : Memory) → (core.cwp + 1) % 8 ≡ core.inv → flushed count areas (made core memory) ≡ made core memory
+flush_ended zero areas core memory all = refl
+flush_ended (suc count) areas core memory all =
+    let test : ((core.cwp + 1) % 8 == core.inv) ≡ true = grind (arith, nat_tests) in
+    rw test
+
+-- otherwise it spills one
+flush_spills : (left count : ℕ) (areas : List Area) (core : Registers) (memory : Memory) → left ≡ suc count → (core.cwp + 1) % 8 ≢ core.inv
+    → flushed left areas (made core memory) ≡ flushed_after (flushed count areas) (spilled areas core memory) (spilled areas core memory).answer
+flush_spills left count areas core memory left_is some =
+    let test : ((core.cwp + 1) % 8 == core.inv) ≡ false = grind (arith, nat_tests) in
+    rw (left_is, test)
+
+-- and goes on behind it
+pub flush_more : (left count : ℕ) (areas : List Area) (core new : Registers) (memory newest : Memory) → left ≡ suc count → (core.cwp + 1) % 8 ≢ core.inv
+    → (spilled areas core memory).answer ≡ Ok tt → new ≡ (spilled areas core memory).core → newest ≡ (spilled areas core memory).memory
+    → flushed left areas (made core memory) ≡ flushed count areas (made new newest)
+flush_more left count areas core new memory newest left_is some answer core_is memory_is =
+    flush_spills left count areas core memory left_is some
+    ∙ ap (flushed_after (flushed count areas) (spilled areas core memory)) answer
+    ∙ ap (flushed count areas) (moved_is (spilled areas core memory) new newest answer core_is memory_is)
+
+-- unless its stack cannot be used
+pub flush_refused : (left count : ℕ) (areas : List Area) (core : Registers) (memory : Memory) (fault : StackFault) → left ≡ suc count → (core.cwp + 1) % 8 ≢ core.inv
+    → (spilled areas core memory).answer ≡ Err fault → flushed left areas (made core memory) ≡ spilled areas core memory
+flush_refused left count areas core memory fault left_is some answer =
+    flush_spills left count areas core memory left_is some
+    ∙ ap (flushed_after (flushed count areas) (spilled areas core memory)) answer
+
+-- there is one fault only
+pub fault_is : (answer : Result (Unit {0}) StackFault) (fault : StackFault) → IsErr answer → answer ≡ Err fault
+fault_is (Ok all) fault is = let none : false ≡ true = is in cc
+fault_is (Err other) fault is = refl

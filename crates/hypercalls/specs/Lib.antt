@@ -1,4 +1,10 @@
+pub mod Inputs
+pub mod Lending
+pub mod MadePorts
+pub mod Messages
+pub mod PortNames
 pub mod Serving
-pub mod ServingLemmas
+pub mod Shown
 pub mod State
 pub mod Stepping
+pub mod Traffic

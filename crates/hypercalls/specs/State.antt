@@ -1,7 +1,7 @@
--- The state of the whole system as it is kept: the state of each partition apart from its memory, the channels, and the clocks.
-use Rattle.std.specs.Prelude.{◌≡◌, ℕ, Bool, List, [], ◌∷◌, length, map, drop, slice_index_or, slice_set}
-use Rattle.cyclic_plans.specs.PlanClock.{CyclicClock, started as plan_start}
-use Rattle.guest_bus.specs.Memory.{Memory}
+-- The state of the whole system as it is kept: the machine, with the state of each partition apart from its memory.
+use Rattle.std.specs.Prelude.{◌≡◌, ℕ, Bool, List, [], ◌∷◌, length, map, drop, slice_index_or}
+use Rattle.cyclic_plans.specs.PlanClock.{CyclicClock}
+use Rattle.guest_bus.specs.Memory.{Area, Memory}
 use Rattle.guest_memory.specs.Loading.{areas_of, loaded}
 use Rattle.guest_memory.specs.Memories.{Memories}
 use Rattle.health_monitor.specs.declared.entry.HealthEntry.{HealthEntry}
@@ -13,14 +13,14 @@ use Rattle.xef_images.specs.Image.{Image}
 use Rattle.xm_base.specs.declared.partition.State.{State}
 use Rattle.xm_base.specs.declared.partition.State.TheVariants.{Ready}
 use Rattle.xm_conf.specs.Configuration.{Part}
-use Rattle.xm_ports.specs.Channels.{ChannelTable, Content, empty, shapes_of}
+use Rattle.xm_ports.specs.Channels.{ChannelTable, Shape}
 use Rattle.xm_ports.specs.Ports.{no_ports}
 use Rattle.xm_traces.specs.Ring.{Kept, nothing_kept}
 use Rattle.xm_traces.specs.declared.entry.TraceEntry.{TraceEntry}
-use Rattle.machine_model.specs.Lists.{table}
-use Rattle.machine_model.specs.Machine.{Machine, booted_part}
+use Rattle.machine_model.specs.Machine.{Machine}
 use Rattle.machine_model.specs.Partition.{PartitionState}
-use Rattle.machine_model.specs.View.{System}
+use Rattle.machine_model.specs.View.{System, part_of}
+pub use Rattle.slot_runs.specs.Passes.{part_at, with_part}
 
 -- the state of a partition, but for its memory; `used` of its input words were read
 pub record OwnState : Type 0 where
@@ -33,10 +33,9 @@ pub record OwnState : Type 0 where
   pub ports : List Bool
   pub traces : Kept TraceEntry
   pub health : Kept HealthEntry
-  pub inputs : List ℕ
   pub used : ℕ
 
--- a partition as it boots, without input words
+-- a partition as it boots
 unfoldable pub booted_own : ℕ → OwnState
 booted_own entry = record {
   core = started entry;
@@ -48,13 +47,12 @@ booted_own entry = record {
   ports = no_ports;
   traces = nothing_kept;
   health = nothing_kept;
-  inputs = [];
   used = 0;
 }
 
--- with its memory it is the state of a partition, which has the input words that are left
-abbrev pub with_memory : OwnState → Memory → PartitionState
-with_memory own memory = record {
+-- with its memory and its input words it is the state of a partition, which has the words that are left
+abbrev pub with_memory : OwnState → Memory → List ℕ → PartitionState
+with_memory own memory words = record {
   core = own.core;
   memory = memory;
   traps = own.virt;
@@ -65,78 +63,65 @@ with_memory own memory = record {
   made = own.ports;
   traces = own.traces;
   health = own.health;
-  inputs = drop own.used own.inputs;
+  inputs = drop own.used words;
 }
 
--- partitions, each with the memory of its number
-abbrev pub with_memories : List OwnState → List Memory → List PartitionState
-with_memories [] memories = []
-with_memories (own ∷ owns) [] = []
-with_memories (own ∷ owns) (memory ∷ memories) = with_memory own memory ∷ with_memories owns memories
+-- partitions, each with the memory and the input words of its number
+abbrev pub with_memories : List OwnState → List Memory → List (List ℕ) → List PartitionState
+with_memories [] memories inputs = []
+with_memories (own ∷ owns) [] inputs = []
+with_memories (own ∷ owns) (memory ∷ memories) [] = []
+with_memories (own ∷ owns) (memory ∷ memories) (words ∷ inputs) = with_memory own memory words ∷ with_memories owns memories inputs
 
--- the state of the whole system: what runs, the partitions, what the channels hold, the plan clock, the hardware clock,
--- and how often the hypervisor was reset
+-- the whole system: the machine, and what its channels may hold
 pub record SysState : Type 0 where
-  pub system : System
-  pub parts : List PartitionState
-  pub channels : List Content
-  pub clock : CyclicClock
-  pub time : ℕ
-  pub resets : ℕ
+  pub machine : Machine
+  pub shapes : List Shape
 
--- the state of the whole system that is kept so
-abbrev pub kept_so : loaded_system.System → List OwnState → Memories → ChannelTable → CyclicClock → ℕ → ℕ → SysState
-kept_so system owns memories channels clock time resets = record {
-  system = record { conf = system.conf; images = system.images; inputs = map (λ own. own.inputs) owns };
-  parts = with_memories owns memories.maps;
-  channels = channels.contents;
-  clock = clock;
-  time = time;
-  resets = resets;
+-- a system with the input words of its partitions
+abbrev pub with_inputs : loaded_system.System → List (List ℕ) → System
+with_inputs system inputs = record { conf = system.conf; images = system.images; inputs = inputs }
+
+-- the whole system that is kept so
+abbrev pub kept_so : loaded_system.System → List (List ℕ) → List OwnState → Memories → ChannelTable → CyclicClock → ℕ → ℕ → ℕ → Bool → SysState
+kept_so system inputs owns memories channels clock time ticks resets halted = record {
+  machine = record {
+    system = with_inputs system inputs;
+    parts = with_memories owns memories.maps inputs;
+    channels = channels.contents;
+    clock = clock;
+    time = time;
+    ticks = ticks;
+    resets = resets;
+    halted = halted;
+  };
+  shapes = channels.shapes;
 }
 
--- what is kept of a system: each partition of the configuration has a state and a memory with its areas, and the channels are the configuration's
-pub record IsKeptSo (system : loaded_system.System) (owns : List OwnState) (memories : Memories) (channels : ChannelTable) : Type 0 where
+-- what is kept of a system: each partition of the configuration has a state, input words, and a memory with its areas
+pub record IsKeptSo (system : loaded_system.System) (inputs : List (List ℕ)) (owns : List OwnState) (memories : Memories) : Type 0 where
   pub counted : length owns ≡ length system.conf.parts
+  pub given : length inputs ≡ length system.conf.parts
   pub areas : memories.areas ≡ map areas_of system.conf.parts
   pub held : length memories.maps ≡ length system.conf.parts
-  pub shapes : channels.shapes ≡ shapes_of system.conf
 
--- the state of a partition; where there is none, one that boots
-abbrev pub part_at : ℕ → SysState → PartitionState
-part_at p sys = slice_index_or sys.parts p (booted_part sys.system p)
+-- the memory of a partition, its areas, and all of its input words
+abbrev pub memory_of : ℕ → Machine → Memory
+memory_of p g = (part_at p g).memory
 
--- the system with another state of one partition
-abbrev pub with_part : ℕ → PartitionState → SysState → SysState
-with_part p ps sys = record sys { parts = slice_set sys.parts p ps }
+abbrev pub areas_in : ℕ → Machine → List Area
+areas_in p g = areas_of (part_of g.system.conf p)
 
--- a system that runs without input words
-abbrev pub without_inputs : loaded_system.System → System
-without_inputs system = record { conf = system.conf; images = system.images; inputs = map (λ part. []) system.conf.parts }
+abbrev pub words_of : ℕ → Machine → List ℕ
+words_of p g = slice_index_or g.system.inputs p []
 
--- the system as it boots
-unfoldable pub booted : loaded_system.System → SysState
-booted system = record {
-  system = without_inputs system;
-  parts = table (booted_part (without_inputs system)) (length system.conf.parts);
-  channels = map empty (shapes_of system.conf);
-  clock = plan_start;
-  time = 0;
-  resets = 0;
-}
+-- the system with this machine
+abbrev pub with_machine : Machine → SysState → SysState
+with_machine g sys = record sys { machine = g }
 
--- the machine with this system, after so many ticks
-abbrev pub machine_of : SysState → ℕ → Bool → Machine
-machine_of sys ticks halted = record {
-  system = sys.system;
-  parts = sys.parts;
-  channels = sys.channels;
-  clock = sys.clock;
-  time = sys.time;
-  ticks = ticks;
-  resets = sys.resets;
-  halted = halted;
-}
+-- the machine with another state of one partition, whose memory stays
+abbrev pub with_own : ℕ → OwnState → Machine → Machine
+with_own p own g = with_part p (with_memory own (memory_of p g) (words_of p g)) g
 
 -- the memories with the images of partitions loaded
 abbrev pub loaded_all : List Part → List Image → List Memory

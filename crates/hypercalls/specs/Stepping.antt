@@ -1,15 +1,15 @@
 -- What steps of a partition came to.
 use Rattle.std.specs.Prelude.{◌≡◌, ℕ, ◌<◌, List}
 use Rattle.guest_bus.specs.Memory.{Area, Memory}
-use Rattle.guest_memory.specs.Loading.{areas_of}
 use Rattle.sparc_step.specs.Execution.{Turned}
 use Rattle.sparc_step.specs.Registers.{Registers}
 use Rattle.sparc_step.specs.declared.outcome.Turn.{Turn}
 use Rattle.sparc_step.specs.declared.outcome.Turn.TheVariants.{Went, Trap, Call}
+use Rattle.virt_traps.specs.Delivery.{Delivered, Returned, delivered, returned}
+use Rattle.virt_traps.specs.Moves.{Moved, made}
 use Rattle.virt_traps.specs.Settled.{IsUndoneButSpill, settled}
 use Rattle.machine_model.specs.Partition.{PartitionState}
-use Rattle.machine_model.specs.View.{part_of}
-use Rattle.hypercalls.specs.State.{SysState}
+use Rattle.machine_model.specs.ProcessorCalls.{flushed}
 
 -- what steps came to that were to be so many, those before the last being known: all of them went, or the last did not.
 -- Registers and memory are as that one leaves them; one that trapped leaves them as they were before it, but for a spill
@@ -25,10 +25,26 @@ IsGone Call went most areas before core memory =
     × (core ≡ (settled areas before.core before.memory).core)
     × (memory ≡ (settled areas before.core before.memory).memory)
 
--- the areas of a partition
-abbrev pub areas_in : ℕ → SysState → List Area
-areas_in p sys = areas_of (part_of sys.system.conf p)
-
 -- a partition with other registers and another memory
 abbrev pub with_turned : Registers → Memory → PartitionState → PartitionState
 with_turned core memory ps = record ps { core = core; memory = memory }
+
+-- the delivery of a trap of a type to a partition with these areas
+abbrev pub delivered_to : ℕ → List Area → PartitionState → Delivered
+delivered_to type areas ps = delivered areas ps.traps ps.core ps.memory type
+
+-- the return from a partition's trap
+abbrev pub returned_in : List Area → PartitionState → Returned
+returned_in areas ps = returned areas ps.traps ps.core ps.memory
+
+-- the partition behind it
+abbrev pub behind_return : Returned → PartitionState → PartitionState
+behind_return r ps = record ps { core = r.core; traps = r.traps }
+
+-- the flush of a partition's windows
+abbrev pub flushed_in : List Area → PartitionState → Moved
+flushed_in areas ps = flushed 8 areas (made ps.core ps.memory)
+
+-- the partition behind it
+abbrev pub behind_flush : Moved → PartitionState → PartitionState
+behind_flush moved ps = record ps { core = moved.core; memory = moved.memory }

@@ -13,7 +13,7 @@ use xm_base::{Memory, State};
 use xm_ports::Ports;
 use xm_traces::{Ring, TraceEntry};
 
-/// The state of a partition, but for its memory.
+/// The state of a partition, but for its memory and its input words, which belong to the system.
 #[derive(Debug, Drop)]
 pub struct PartState {
     pub core: Core,
@@ -27,9 +27,7 @@ pub struct PartState {
     pub ports: Ports,
     pub traces: Ring<TraceEntry>,
     pub health: Ring<HealthEntry>,
-    /// All of its input words.
-    pub inputs: Vec<u32>,
-    /// How many of them it has read.
+    /// How many of its input words it has read.
     pub used: usize,
 }
 
@@ -49,13 +47,12 @@ impl Model for PartState {
       ports = own.ports;
       traces = own.traces;
       health = own.health;
-      inputs = own.inputs.items;
       used = own.used;
     } };
 }
 
 impl PartState {
-    /// A partition as it boots, without input words.
+    /// A partition as it boots.
     #[tactic(auto, unfolding(crate::specs::State::booted_own))]
     pub(crate) fn boot(alloc: Global, entry: u32) -> Result<PartState, Memory>
         requires { entry % 4 ≡ 0 }
@@ -71,7 +68,6 @@ impl PartState {
             ports: Ports::new(),
             traces: Ring::new(alloc)?,
             health: Ring::new(alloc)?,
-            inputs: Vec::new(alloc),
             used: 0,
         })
     }

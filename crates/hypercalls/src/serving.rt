@@ -1,21 +1,52 @@
 //! A hypercall is served.
 
-ghost use Rattle.std.specs.Prelude.{◌≡◌, ◌<◌, length};
-ghost use Rattle.machine_model.specs.Told.{Sight};
-ghost use Rattle.hypercalls.specs.Serving.{Serves, caller_in};
+ghost use Rattle.std.specs.Prelude.{◌≡◌, ◌%◌, ◌<◌, ◌≤◌, length};
+ghost use Rattle.cyclic_plans.specs.PlanClock.{IsInFrame};
+ghost use Rattle.machine_model.specs.Hypercalls.{call_numbered, served};
+ghost use Rattle.slot_runs.specs.Passes.{part_at};
+ghost use Rattle.sparc_step.specs.Registers.{register_at};
+ghost use Rattle.xm_ports.specs.Channels.{shapes_of};
+ghost use Rattle.hypercalls.specs.Serving.{IsCaller, IsServed, caller_at, caller_of};
 
-use crate::console::write_console;
-use crate::halting::halt_partition;
+use crate::answering::{UNKNOWN_CALL, answer, argument};
+use crate::call_site::CallSite;
+use crate::log_calls::{hm_read, hm_status, raise_event, trace_event, trace_read, trace_status};
+use crate::message_calls::{
+    read_sampling_message, receive_queuing_message, send_queuing_message, write_sampling_message,
+};
+use crate::partition_calls::{
+    get_partition_status, get_self, get_system_status, halt_partition, halt_system, idle_self,
+    reset_partition, reset_system, resume_partition, shutdown_partition, suspend_partition,
+};
+use crate::port_making::{create_queuing_port, create_sampling_port};
+use crate::port_status::{get_queuing_port_status, get_sampling_port_status};
+use crate::processor_calls::{
+    clear_irqmask, flush_regwin, iret, read_input, set_irqmask, set_psr, set_tbr, write_console,
+};
 use crate::sys::Sys;
+use crate::time_calls::{get_plan_status, get_time, set_timer, switch_sched_plan};
+use health_monitor::Whole;
 use xm_base::{Order, PartId};
+use xm_conf::Event;
+use xm_traces::TraceEntry;
 
-/// What a hypercall leaves to be told.
+/// What a hypercall did and tells: at most one thing.
 #[derive(Clone, Copy, Debug, PartialEq, Eq)]
 pub enum Note {
     /// Nothing.
     Nothing,
     /// The caller wrote these bytes of its memory to its console.
     Console { at: u32, size: u32 },
+    /// The caller entered this in its traces.
+    Trace(TraceEntry),
+    /// The caller put a message, these bytes of its memory, into a channel.
+    Put { chan: u8, at: u32, size: u32 },
+    /// The caller took the first message out of a channel.
+    Take { chan: u8 },
+    /// The caller was shown something of the rest of the system: these bytes of its memory.
+    Saw { at: u32, size: u32 },
+    /// The caller was told that an entry of another partition is not kept.
+    NotKept,
 }
 
 /// How a hypercall reaches beyond the state of its caller. It is told, and not done.
@@ -24,7 +55,22 @@ pub enum Act {
     /// Not at all.
     Nothing,
     /// An order upon a partition, which may be the caller.
-    Upon { id: PartId, order: Order },
+    Upon {
+        id: PartId,
+        order: Order,
+    },
+    /// A plan is asked for.
+    Ask {
+        plan: u8,
+    },
+    /// An event of the whole system.
+    Whole(Whole),
+    /// A health event of the caller, with its word. Where the call is `undone`, the caller is at it again.
+    Event {
+        event: Event,
+        word: u32,
+        undone: bool,
+    },
 }
 
 /// What a hypercall came to.
@@ -34,29 +80,142 @@ pub struct Served {
     pub act: Act,
 }
 
-impl Served {
-    /// A call that has answered, and has nothing to tell.
-    pub(crate) fn quiet() -> Served
-        ensures { result ≡ record { note = Note.Nothing; act = Act.Nothing } }
-    {
-        Served {
-            note: Note::Nothing,
-            act: Act::Nothing,
-        }
+/// Serves the hypercall of partition `p`, whose trap instruction stood at `pc`, with `npc` behind it: its number stands in %o0, its
+/// arguments in %o1 to %o5, and its result comes to %o0. It changes its caller, the channels of the caller's ports, and of other partitions
+/// only that those that hear of a message get its interrupt.
+#[tactic(auto, unfolding(crate::specs::Serving::caller_of, crate::specs::Serving::caller_at, machine_model::specs::Hypercalls::served))]
+pub fn serve(sys: &mut Sys, p: PartId, pc: u32, npc: u32) -> Served
+    requires partition { p < length sys.old.machine.parts }
+    requires pc { pc % 4 ≡ 0 }
+    requires npc { npc % 4 ≡ 0 }
+    requires traces { (part_at p sys.old.machine).traces.next < 4294967295 }
+    requires shapes { sys.old.shapes ≡ shapes_of sys.old.machine.system.conf }
+    requires frame { IsInFrame sys.old.machine.system.conf sys.old.machine.clock sys.old.machine.time }
+    ensures served { IsServed p (caller_at p pc npc sys.old).sight (served (caller_at p pc npc sys.old)) result sys.old sys.new }
+{
+    serve_site(sys, CallSite { part: p, pc, npc })
+}
+
+// Serves the hypercall of a caller.
+#[tactic(auto, unfolding(machine_model::specs::Hypercalls::served))]
+fn serve_site(sys: &mut Sys, site: CallSite) -> Served
+    requires caller { IsCaller site sys.old }
+    requires pc { site.pc % 4 ≡ 0 }
+    requires npc { site.npc % 4 ≡ 0 }
+    requires traces { (part_at site.part sys.old.machine).traces.next < 4294967295 }
+    requires shapes { sys.old.shapes ≡ shapes_of sys.old.machine.system.conf }
+    requires frame { IsInFrame sys.old.machine.system.conf sys.old.machine.clock sys.old.machine.time }
+    ensures { IsServed site.part (caller_of site sys.old).sight (served (caller_of site sys.old)) result sys.old sys.new }
+{
+    let number = argument(sys, site, 0);
+    match number {
+        1..=11 => serve_partition_call(sys, site, number),
+        12..=15 => serve_time_call(sys, site, number),
+        16..=23 => serve_port_call(sys, site, number),
+        24..=29 => serve_log_call(sys, site, number),
+        30..=37 => serve_processor_call(sys, site, number),
+        _ => answer(sys, site, UNKNOWN_CALL),
     }
 }
 
-/// Serves the hypercall of partition `p`: its number stands in %o0, its arguments in %o1 to %o5, and its result comes to
-/// %o0. `pc` and `npc` are those of the trap instruction. The answer is `None`, and nothing has changed, where the call
-/// is not built: all but 2, upon the caller itself, and 32.
-pub fn serve(sys: &mut Sys, p: PartId, pc: u32, npc: u32) -> Option<Served>
-    requires { p < length sys.old.parts }
-    ensures served { (sight : Sight) → Serves result (caller_in sys.old p pc npc sight) p sys.old sys.new }
+// The calls on partitions and on the whole system.
+fn serve_partition_call(sys: &mut Sys, site: CallSite, number: u32) -> Served
+    requires caller { IsCaller site sys.old }
+    requires number { register_at (caller_of site sys.old).state.core 8 ≡ number }
+    requires from { 1 ≤ number }
+    requires to { number ≤ 11 }
+    ensures { IsServed site.part (caller_of site sys.old).sight (call_numbered number (caller_of site sys.old)) result sys.old sys.new }
 {
-    let _called_at = (pc, npc);
-    match sys.argument(p, 0) {
-        2 => halt_partition(sys, p),
-        32 => Some(write_console(sys, p)),
-        _ => None,
+    match number {
+        1 => get_self(sys, site),
+        2 => halt_partition(sys, site),
+        3 => reset_partition(sys, site),
+        4 => suspend_partition(sys, site),
+        5 => resume_partition(sys, site),
+        6 => shutdown_partition(sys, site),
+        7 => idle_self(sys, site),
+        8 => get_partition_status(sys, site),
+        9 => halt_system(sys, site),
+        10 => reset_system(sys, site),
+        _ => get_system_status(sys, site),
+    }
+}
+
+// The calls on clocks, timers and plans.
+fn serve_time_call(sys: &mut Sys, site: CallSite, number: u32) -> Served
+    requires caller { IsCaller site sys.old }
+    requires number { register_at (caller_of site sys.old).state.core 8 ≡ number }
+    requires from { 12 ≤ number }
+    requires to { number ≤ 15 }
+    requires frame { IsInFrame sys.old.machine.system.conf sys.old.machine.clock sys.old.machine.time }
+    ensures { IsServed site.part (caller_of site sys.old).sight (call_numbered number (caller_of site sys.old)) result sys.old sys.new }
+{
+    match number {
+        12 => get_time(sys, site),
+        13 => set_timer(sys, site),
+        14 => switch_sched_plan(sys, site),
+        _ => get_plan_status(sys, site),
+    }
+}
+
+// The calls on ports.
+fn serve_port_call(sys: &mut Sys, site: CallSite, number: u32) -> Served
+    requires caller { IsCaller site sys.old }
+    requires number { register_at (caller_of site sys.old).state.core 8 ≡ number }
+    requires from { 16 ≤ number }
+    requires to { number ≤ 23 }
+    requires shapes { sys.old.shapes ≡ shapes_of sys.old.machine.system.conf }
+    ensures { IsServed site.part (caller_of site sys.old).sight (call_numbered number (caller_of site sys.old)) result sys.old sys.new }
+{
+    match number {
+        16 => create_sampling_port(sys, site),
+        17 => write_sampling_message(sys, site),
+        18 => read_sampling_message(sys, site),
+        19 => get_sampling_port_status(sys, site),
+        20 => create_queuing_port(sys, site),
+        21 => send_queuing_message(sys, site),
+        22 => receive_queuing_message(sys, site),
+        _ => get_queuing_port_status(sys, site),
+    }
+}
+
+// The calls on traces and on the health log.
+fn serve_log_call(sys: &mut Sys, site: CallSite, number: u32) -> Served
+    requires caller { IsCaller site sys.old }
+    requires number { register_at (caller_of site sys.old).state.core 8 ≡ number }
+    requires from { 24 ≤ number }
+    requires to { number ≤ 29 }
+    requires traces { (part_at site.part sys.old.machine).traces.next < 4294967295 }
+    ensures { IsServed site.part (caller_of site sys.old).sight (call_numbered number (caller_of site sys.old)) result sys.old sys.new }
+{
+    match number {
+        24 => trace_event(sys, site),
+        25 => trace_read(sys, site),
+        26 => trace_status(sys, site),
+        27 => raise_event(sys, site),
+        28 => hm_read(sys, site),
+        _ => hm_status(sys, site),
+    }
+}
+
+// The calls on interrupts, the console, input words and the virtual processor.
+fn serve_processor_call(sys: &mut Sys, site: CallSite, number: u32) -> Served
+    requires caller { IsCaller site sys.old }
+    requires number { register_at (caller_of site sys.old).state.core 8 ≡ number }
+    requires from { 30 ≤ number }
+    requires to { number ≤ 37 }
+    requires pc { site.pc % 4 ≡ 0 }
+    requires npc { site.npc % 4 ≡ 0 }
+    ensures { IsServed site.part (caller_of site sys.old).sight (call_numbered number (caller_of site sys.old)) result sys.old sys.new }
+{
+    match number {
+        30 => set_irqmask(sys, site),
+        31 => clear_irqmask(sys, site),
+        32 => write_console(sys, site),
+        33 => read_input(sys, site),
+        34 => iret(sys, site),
+        35 => set_psr(sys, site),
+        36 => set_tbr(sys, site),
+        _ => flush_regwin(sys, site),
     }
 }

@@ -1,4 +1,4 @@
-use Rattle.std.proofs.Common.{length, arith, ap, ◌∙◌, sym}
+use Rattle.std.proofs.Common.{length, ap, ◌∙◌, sym}
 use Rattle.hypercalls.specs.State.{SysState}
 use Rattle.hypercalls.proofs.InsideLemmas.{is_counted}
 use Rattle.hypercalls.proofs.sys.Sys.count.Goals as goal
@@ -8,8 +8,5 @@ returns-clause-parts c = is_counted c.self.inside c.args.self.now c.self.invaria
 
 pub returns-clause-value : goal.returns-clause-value
 returns-clause-value c =
-    c.from.ensures ∙ c.count.ensures.value ∙ ap (λ (s : SysState). length s.system.conf.parts) c.self.view_is
+    c.count.ensures.value ∙ ap (λ (s : SysState). length s.machine.system.conf.parts) c.self.view_is
     ∙ sym (is_counted c.self.inside c.args.self.now c.self.invariant c.self.view_is)
-
-pub returns-clause-few : goal.returns-clause-few
-returns-clause-few c = omega (arith, c.from.ensures, c.count.ensures.few)

@@ -1,5 +1,5 @@
 use Rattle.std.proofs.Common.{arith}
-use Rattle.hypercalls.proofs.InsideLemmas.{is_kept, is_part}
+use Rattle.hypercalls.proofs.InsideLemmas.{is_kept, is_lent_value}
 use Rattle.hypercalls.proofs.sys.Sys.part.Goals as goal
 
 pub index-requires : goal.index-requires
@@ -8,5 +8,4 @@ index-requires c = omega (arith, c.from.ensures, is_kept c.self.inside c.args.se
 pub returns : goal.returns
 returns c =
     let here = rw c.from.ensures at c.index.ensures in
-    let part = is_part c.self.inside c.args.self.now c.args.p c.index.result.now c.self.invariant c.self.view_is c.requires here in
-    record { value = rw part }
+    record { value = is_lent_value c.self.inside c.args.self.now c.args.p c.index.result.now c.self.invariant c.self.view_is c.requires here }

@@ -1,11 +1,9 @@
-use Rattle.std.proofs.Common.{length, set, refl, arith, ap, ◌∙◌}
-use Rattle.std.proofs.lemmas.List.{length-map}
-use Rattle.guest_memory.specs.Loading.{areas_of}
+use Rattle.std.proofs.Common.{arith, ap, get_or, refl, set, [], ◌∙◌}
 use Rattle.guest_memory.specs.Memories.{map_at}
 use Rattle.machine_model.specs.Partition.{PartitionState}
-use Rattle.hypercalls.specs.State.{OwnState, SysState, kept_so, part_at, with_memory, with_part}
+use Rattle.hypercalls.specs.State.{OwnState, SysState, part_at, with_machine, with_memory, with_part}
 use Rattle.hypercalls.specs.contracts.own_state.PartState.{the_view}
-use Rattle.hypercalls.proofs.InsideLemmas.{is_areas, is_kept, is_part, is_stepped, part_set}
+use Rattle.hypercalls.proofs.InsideLemmas.{is_areas, is_in_memories, is_kept, is_part, is_stepped, part_set, seen_with}
 use Rattle.hypercalls.proofs.StepLemmas.{gone_seen, turned_seen}
 use Rattle.hypercalls.proofs.sys.Sys.step_many.Goals as goal
 
@@ -13,8 +11,7 @@ pub index_mut-requires : goal.index_mut-requires
 index_mut-requires c = omega (arith, c.from.ensures, is_kept c.self.inside c.args.self.now c.args.p c.self.invariant c.self.view_is c.requires)
 
 pub step_part-requires : goal.step_part-requires
-step_part-requires c =
-    omega (arith, is_kept c.self.inside c.args.self.now c.args.p c.self.invariant c.self.view_is c.requires, c.self.invariant.counted, ap length c.self.invariant.areas, length-map c.self.inside.system.conf.parts areas_of)
+step_part-requires c = is_in_memories c.self.inside c.args.self.now c.args.p c.self.invariant c.self.view_is c.requires
 
 pub returns-clause-went : goal.returns-clause-went
 returns-clause-went c =
@@ -36,19 +33,21 @@ returns-clause-gone c =
     let part = is_part c.self.inside c.args.self.now c.args.p (the_view c.behind-self.inside) c.self.invariant c.self.view_is c.requires here in
     let areas = is_areas c.self.inside c.args.self.now c.args.p c.self.invariant c.self.view_is c.requires in
     let own : OwnState = record (the_view c.behind-self.inside) { core = c.step_part.new.core } in
-    let new : SysState = kept_so c.self.inside.system (set c.self.inside.parts.items c.args.p own) c.step_part.new.ram c.self.inside.channels c.self.inside.plan_clock c.self.inside.time c.self.inside.resets in
-    let changed = is_stepped c.self.inside c.args.self.now c.args.p (the_view c.behind-self.inside) own c.step_part.new.ram c.self.view_is here refl c.step_part.ensures.others in
-    let after = part_set c.args.self.now new c.args.p (with_memory own (map_at c.args.p c.step_part.new.ram)) c.requires changed in
-    rw c.from.ensures (gone_seen c.step_part.result.turn c.step_part.result.went c.args.most _ _ _ (with_memory own (map_at c.args.p c.step_part.new.ram)) (part_at c.args.p c.args.self.now) (part_at c.args.p new) areas part after c.step_part.ensures.gone)
+    let new : SysState = seen_with c.self.inside (set c.self.inside.parts.items c.args.p own) c.step_part.new.ram in
+    let left = with_memory own (map_at c.args.p c.step_part.new.ram) (get_or c.self.inside.inputs c.args.p []) in
+    let changed = is_stepped c.self.inside c.args.self.now c.args.p own (map_at c.args.p c.step_part.new.ram) c.step_part.new.ram c.self.view_is c.step_part.ensures.others in
+    let after = part_set c.args.self.now new c.args.p left c.requires changed in
+    rw c.from.ensures (gone_seen c.step_part.result.turn c.step_part.result.went c.args.most _ _ _ left (part_at c.args.p c.args.self.now.machine) (part_at c.args.p new.machine) areas part after c.step_part.ensures.gone)
 
 pub returns-clause-others : goal.returns-clause-others
 returns-clause-others c =
     let here = rw (c.from.ensures, ← c.behind-self.view_is) at c.index_mut.ensures.value in
     let part = is_part c.self.inside c.args.self.now c.args.p (the_view c.behind-self.inside) c.self.invariant c.self.view_is c.requires here in
     let own : OwnState = record (the_view c.behind-self.inside) { core = c.step_part.new.core } in
-    let new : SysState = kept_so c.self.inside.system (set c.self.inside.parts.items c.args.p own) c.step_part.new.ram c.self.inside.channels c.self.inside.plan_clock c.self.inside.time c.self.inside.resets in
-    let changed = is_stepped c.self.inside c.args.self.now c.args.p (the_view c.behind-self.inside) own c.step_part.new.ram c.self.view_is here refl c.step_part.ensures.others in
-    let after = part_set c.args.self.now new c.args.p (with_memory own (map_at c.args.p c.step_part.new.ram)) c.requires changed in
+    let new : SysState = seen_with c.self.inside (set c.self.inside.parts.items c.args.p own) c.step_part.new.ram in
+    let left = with_memory own (map_at c.args.p c.step_part.new.ram) (get_or c.self.inside.inputs c.args.p []) in
+    let changed = is_stepped c.self.inside c.args.self.now c.args.p own (map_at c.args.p c.step_part.new.ram) c.step_part.new.ram c.self.view_is c.step_part.ensures.others in
+    let after = part_set c.args.self.now new c.args.p left c.requires changed in
     rw c.from.ensures (changed
-    ∙ ap (λ (ps : PartitionState). with_part c.args.p ps c.args.self.now)
-    (turned_seen _ (with_memory own (map_at c.args.p c.step_part.new.ram)) (part_at c.args.p c.args.self.now) (part_at c.args.p new) part after refl))
+    ∙ ap (λ (ps : PartitionState). with_machine (with_part c.args.p ps c.args.self.now.machine) c.args.self.now)
+    (turned_seen _ left (part_at c.args.p c.args.self.now.machine) (part_at c.args.p new.machine) part after refl))
