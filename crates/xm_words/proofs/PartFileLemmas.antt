@@ -11,7 +11,7 @@ use Rattle.std.proofs.lemmas.List.Kept.{AllPairs-cons}
 use Rattle.std.proofs.lemmas.List.Sums.{passes_at_first, position_or_len_is, split_at_first}
 use Rattle.std.proofs.lemmas.Str.Parse.{not_in_digits}
 use Rattle.std.proofs.Math.Seq.{drop-append-add, take-append_seam, get_or-append_seam}
-use Rattle.xm_words.specs.Grammar.{ArePartFiles, IsPartFile, part_word}
+use Rattle.xm_words.specs.Grammar.{AreApart, ArePartFiles, IsPartFile, part_word}
 use Rattle.xm_words.specs.Words.{PartFile, are_apart, are_named, are_part_files, before_others, has_part, is_equals, is_file, part_file_by, part_file_of, part_files, part_of}
 use Rattle.xm_words.proofs.NumberLemmas.{numerals}
 use Rattle.xm_words.proofs.WordLemmas.{file_is, is_of_file, number_text, text_number}
@@ -30,7 +30,7 @@ split_word word some =
     ∙ sym (append_assoc (before_first is_equals word) (codes "=") (after_first is_equals word))
 
 -- what a word names is typed so
-word_named : (word : List ℕ) (named : PartFile) → part_file_of word ≡ Some named → IsPartFile named × (word ≡ part_word named)
+pub word_named : (word : List ℕ) (named : PartFile) → part_file_of word ≡ Some named → IsPartFile named × (word ≡ part_word named)
 unfolding part_file_of
 word_named word named e = at (part_of (before_first is_equals word)) (is_file (after_first is_equals word)) refl refl e
   where
@@ -61,7 +61,7 @@ first_equals part file small =
     no_digit false same differs = refl
 
 -- what is typed for a file names it
-named_word : (named : PartFile) → IsPartFile named → part_file_of (part_word named) ≡ Some named
+pub named_word : (named : PartFile) → IsPartFile named → part_file_of (part_word named) ≡ Some named
 unfolding part_file_of
 named_word named right =
     let word : part_word named ≡ decimal named.part ++ (61 ∷ named.file) = append_assoc (decimal named.part) (codes "=") named.file in
@@ -129,14 +129,14 @@ pairs_tail R x xs pairs = λ i j d before within.
     (subst (R (get_or (x ∷ xs) (i + 1) d)) (behind_first x xs j d) (pairs (i + 1) (j + 1) d (omega arith) (omega arith)))
 
 -- files whose partitions are apart
-apart_pairs : (files : List PartFile) → are_apart files ≡ true → AllPairs (λ (one other : PartFile). one.part ≢ other.part) files
+pub apart_pairs : (files : List PartFile) → are_apart files ≡ true → AreApart files
 apart_pairs [] apart = λ i j d before within. absurd (omega arith)
 apart_pairs (file ∷ files) apart =
     let tests = and_parts (not (has_part file.part files)) (are_apart files) apart in
     AllPairs-cons (λ (one other : PartFile). one.part ≢ other.part) file files (no_part file.part files (not-true _ tests.0)) (apart_pairs files tests.1)
 
 -- and the test of such files
-pairs_apart : (files : List PartFile) → AllPairs (λ (one other : PartFile). one.part ≢ other.part) files → are_apart files ≡ true
+pub pairs_apart : (files : List PartFile) → AreApart files → are_apart files ≡ true
 pairs_apart [] pairs = refl
 pairs_apart (file ∷ files) pairs =
     and_from (not (has_part file.part files)) (are_apart files)

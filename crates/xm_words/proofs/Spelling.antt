@@ -1,15 +1,12 @@
 -- What is to be typed for each command.
-use Rattle.std.proofs.Common.{◌≡◌, ℕ, ◌≤◌, Bool, true, false, ◌&&◌, if◌then◌else◌, subst, List, [], ◌∷◌, codes, decimal, Option, Some, None, arith, refl, ap, ◌∙◌, ◌⊎◌, ⊎_elim, inl, inr}
+use Rattle.std.proofs.Common.{◌≡◌, ℕ, Bool, true, false, ◌&&◌, if◌then◌else◌, subst, List, [], ◌∷◌, codes, decimal, Option, Some, None, arith, refl, ap, ◌∙◌, ◌⊎◌, ⊎_elim, inl, inr}
 use Rattle.std.specs.Str.{bytes_eq}
 use Rattle.std.proofs.lemmas.Bool.{and_parts}
-use Rattle.std.proofs.lemmas.Slice.Eq.{bytes_eq-Decides}
-use Rattle.xm_base.specs.declared.limits.TheConstants.{TICKS}
-use Rattle.xm_words.specs.declared.commands.Span.{Span}
-use Rattle.xm_words.specs.declared.commands.Span.TheVariants.{Frames, Ticks}
-use Rattle.xm_words.specs.Grammar.{CommandsAreSpelled, IsFile, IsRight, count_of, option_of, words_of}
-use Rattle.xm_words.specs.Words.{Command, PartFile, Bare, Parse, BuildImage, ReadImage, Pack, ListContainer, CheckContainer, Run, are_part_files, asked, bare_of, command_of, command_of_more, command_of_three, command_of_two, format_command, is_file, of_file, of_files, pack_command, part_files, run_of, span_of, spanned, ticks_of}
+use Rattle.xm_words.specs.Grammar.{CommandsAreSpelled, IsFile, IsRight, words_of}
+use Rattle.xm_words.specs.Words.{Command, PartFile, RunOption, Bare, Parse, BuildImage, ReadImage, Pack, ListContainer, CheckContainer, Run, are_part_files, are_run_options, asked, bare_of, command_by_count, command_of, command_of_more, command_of_three, command_of_two, format_command, is_file, of_file, of_files, pack_command, part_files, run_of, run_options, ticks_of}
+use Rattle.xm_words.proofs.OptionLemmas.{reads_run_options, run_options_typed}
 use Rattle.xm_words.proofs.PartFileLemmas.{files_named, files_typed_right}
-use Rattle.xm_words.proofs.WordLemmas.{file_is, is_of_file, text_ticks, ticks_text}
+use Rattle.xm_words.proofs.WordLemmas.{file_is, is_of_file, named, text_ticks, ticks_text}
 
 -- words are what is typed for a command, and what they name is right
 pub record Typed (words : List (List ℕ)) (command : Command) : Type 0 where
@@ -24,10 +21,6 @@ typed_as words made command typed e = (let same : made ≡ command = cc in subst
 asked_parts : (t : Bool) (made command : Command) → asked t made ≡ Some command → (t ≡ true) × (Some made ≡ Some command)
 asked_parts true made command e = (refl, e)
 asked_parts false made command e = cc
-
--- a name that passes its test is that text
-named : (word text : List ℕ) → bytes_eq word text ≡ true → word ≡ text
-named word text e = (bytes_eq-Decides word text).0 e
 
 -- a choice whose test fails
 other : (t : Bool) (x y : Option Command) (command : Command) → (if t then x else y) ≡ Some command → (t ≡ true × (x ≡ Some command)) ⊎ (y ≡ Some command)
@@ -111,54 +104,21 @@ two_typed name first second command e =
     none : None ≡ Some command → Typed (name ∷ first ∷ second ∷ []) command
     none h = absurd (let no : ⊥ = cc in no)
 
--- words are an option and its number, and that is not above the limit
-record TypedSpan (option number : List ℕ) (span : Span) : Type 0 where
-  pub option_is : option ≡ option_of span
-  pub number_is : number ≡ decimal (count_of span)
-  pub small : count_of span ≤ TICKS
-
--- so it is with a length that is the same
-span_as : (option number : List ℕ) (made span : Span) → TypedSpan option number made → Some made ≡ Some span → TypedSpan option number span
-span_as option number made span typed e = (let same : made ≡ span = cc in subst (TypedSpan option number) same typed)
-
--- how long a run is
-span_typed : (option number : List ℕ) (span : Span) → span_of option number ≡ Some span → TypedSpan option number span
-unfolding span_of
-span_typed option number span e = at (bytes_eq option (codes "--frames")) (bytes_eq option (codes "--ticks")) (ticks_of number) refl refl refl e
-  where
-    at : (frames ticks : Bool) (count : Option ℕ) → bytes_eq option (codes "--frames") ≡ frames → bytes_eq option (codes "--ticks") ≡ ticks → ticks_of number ≡ count
-        → (if frames then spanned Frames count else if ticks then spanned Ticks count else None) ≡ Some span → TypedSpan option number span
-    at true ticks (Some n) is asked count e =
-        let text = ticks_text number n count in
-        span_as option number (Frames n) span (record { option_is = named option (codes "--frames") is; number_is = text.1; small = text.0 }) e
-    at true ticks None is asked count e = absurd (let no : ⊥ = cc in no)
-    at false true (Some n) is asked count e =
-        let text = ticks_text number n count in
-        span_as option number (Ticks n) span (record { option_is = named option (codes "--ticks") asked; number_is = text.1; small = text.0 }) e
-    at false true None is asked count e = absurd (let no : ⊥ = cc in no)
-    at false false count is asked counted e = absurd (let no : ⊥ = cc in no)
-
 -- a run of a container
-run_typed : (name container option number : List ℕ) (command : Command) → name ≡ codes "run" → run_of (is_file container) container (span_of option number) ≡ Some command
-    → Typed (name ∷ container ∷ option ∷ number ∷ []) command
-run_typed name container option number command is e = at (is_file container) (span_of option number) refl refl e
-  where
-    at : (t : Bool) (span : Option Span) → is_file container ≡ t → span_of option number ≡ span → run_of t container span ≡ Some command → Typed (name ∷ container ∷ option ∷ number ∷ []) command
-    at true (Some span) file told e =
-        let words = span_typed option number span told in
-        let option_is : option ≡ option_of span = words.option_is in
-        let number_is : number ≡ decimal (count_of span) = words.number_is in
-        typed_as _ (Run container span) command (record { text = cc; right = (file_is container file, words.small) }) e
-    at true None file told e = absurd (let no : ⊥ = cc in no)
-    at false span file told e = absurd (let no : ⊥ = cc in no)
+run_typed : (name container : List ℕ) (options : List (List ℕ)) (command : Command) → name ≡ codes "run" → run_of container options ≡ Some command → Typed (name ∷ container ∷ options) command
+run_typed name container options command is e =
+    let parts = asked_parts (is_file container && are_run_options options) (Run container (run_options options)) command e in
+    let tests = and_parts (is_file container) (are_run_options options) parts.0 in
+    let right = run_options_typed options tests.1 in
+    typed_as _ (Run container (run_options options)) command
+    (record { text = ap (λ front. front ∷ container ∷ options) is ∙ ap (λ words. codes "run" ∷ container ∷ words) right.0; right = (file_is container tests.0, right.1) })
+    parts.1
 
 -- what a name and three words ask for
 three_typed : (name first second third : List ℕ) (command : Command) → command_of_three name first second third ≡ Some command → Typed (name ∷ first ∷ second ∷ third ∷ []) command
 unfolding command_of_three
 three_typed name first second third command e =
-    ⊎_elim build (λ h. ⊎_elim run none
-    (other (bytes_eq name (codes "run")) (run_of (is_file first) first (span_of second third)) None command h))
-    (other (bytes_eq name (codes "xmeformat") && bytes_eq first (codes "build")) (of_files BuildImage second third) (if bytes_eq name (codes "run") then run_of (is_file first) first (span_of second third) else None) command e)
+    ⊎_elim build none (other (bytes_eq name (codes "xmeformat") && bytes_eq first (codes "build")) (of_files BuildImage second third) None command e)
   where
     build : ((bytes_eq name (codes "xmeformat") && bytes_eq first (codes "build")) ≡ true × (of_files BuildImage second third ≡ Some command)) → Typed (name ∷ first ∷ second ∷ third ∷ []) command
     build h =
@@ -166,9 +126,6 @@ three_typed name first second third command e =
         let name_is = named name (codes "xmeformat") tests.0 in
         let verb_is = named first (codes "build") tests.1 in
         files_typed _ BuildImage second third command (λ right. record { text = cc; right = right }) h.1
-
-    run : ((bytes_eq name (codes "run") ≡ true) × (run_of (is_file first) first (span_of second third) ≡ Some command)) → Typed (name ∷ first ∷ second ∷ third ∷ []) command
-    run h = run_typed name first second third command (named name (codes "run") h.0) h.1
 
     none : None ≡ Some command → Typed (name ∷ first ∷ second ∷ third ∷ []) command
     none h = absurd (let no : ⊥ = cc in no)
@@ -195,33 +152,41 @@ more_typed name verb configuration output images command e =
     none : None ≡ Some command → Typed (name ∷ verb ∷ configuration ∷ output ∷ images) command
     none h = absurd (let no : ⊥ = cc in no)
 
+-- what a name and words whose number is fixed ask for, or those of images
+counted_typed : (name first : List ℕ) (rest : List (List ℕ)) (command : Command) → command_by_count name first rest ≡ Some command → Typed (name ∷ first ∷ rest) command
+unfolding command_by_count
+counted_typed name first [] command e = absurd (let no : ⊥ = cc in no)
+counted_typed name first (second ∷ []) command e = two_typed name first second command e
+counted_typed name first (second ∷ third ∷ []) command e = three_typed name first second third command e
+counted_typed name first (second ∷ third ∷ fourth ∷ rest) command e = more_typed name first second third (fourth ∷ rest) command e
+
 -- what words ask for is typed so
 typed : (words : List (List ℕ)) (command : Command) → command_of words ≡ Some command → Typed words command
 unfolding command_of
 typed [] command e = absurd (let no : ⊥ = cc in no)
 typed (name ∷ []) command e = absurd (let no : ⊥ = cc in no)
-typed (name ∷ first ∷ []) command e = absurd (let no : ⊥ = cc in no)
-typed (name ∷ first ∷ second ∷ []) command e = two_typed name first second command e
-typed (name ∷ first ∷ second ∷ third ∷ []) command e = three_typed name first second third command e
-typed (name ∷ first ∷ second ∷ third ∷ fourth ∷ rest) command e = more_typed name first second third (fourth ∷ rest) command e
+typed (name ∷ first ∷ rest) command e =
+    ⊎_elim (λ h. run_typed name first rest command (named name (codes "run") h.0) h.1) (λ h. counted_typed name first rest command h)
+    (other (bytes_eq name (codes "run")) (run_of first rest) (command_by_count name first rest) command e)
 
 -- what is typed for a container asks for it
 reads_pack : (configuration output : List ℕ) (images : List PartFile) → IsRight (Pack configuration output images) → command_of (words_of (Pack configuration output images)) ≡ Some (Pack configuration output images)
-unfolding command_of command_of_more
+unfolding command_of command_by_count command_of_more
 reads_pack configuration output [] right = absurd (omega (arith, right.2.some))
 reads_pack configuration output (image ∷ images) right =
     let typed = files_typed_right (image ∷ images) right.2 in
     rw (is_of_file configuration right.0, is_of_file output right.1, typed.0, typed.1) refl
 
--- what is typed for the length of a run tells it
-reads_span : (span : Span) → count_of span ≤ TICKS → span_of (option_of span) (decimal (count_of span)) ≡ Some span
-unfolding span_of
-reads_span (Frames count) small = rw (text_ticks (decimal count) count small refl) refl
-reads_span (Ticks count) small = rw (text_ticks (decimal count) count small refl) refl
+-- what is typed for a run asks for it
+reads_run : (container : List ℕ) (options : List RunOption) → IsRight (Run container options) → command_of (words_of (Run container options)) ≡ Some (Run container options)
+unfolding command_of
+reads_run container options right =
+    let read = reads_run_options options right.1 in
+    rw (is_of_file container right.0, read.0, read.1) refl
 
 -- what is typed for a command asks for it
 reads : (command : Command) → IsRight command → command_of (words_of command) ≡ Some command
-unfolding command_of command_of_two command_of_three format_command pack_command
+unfolding command_of command_by_count command_of_two command_of_three format_command pack_command
 reads (Bare image ticks) right = rw (is_of_file image right.0, text_ticks (decimal ticks) ticks right.1 refl)
 reads (Parse description output) right = rw (is_of_file description right.0, is_of_file output right.1)
 reads (BuildImage program output) right = rw (is_of_file program right.0, is_of_file output right.1)
@@ -229,7 +194,7 @@ reads (ReadImage image) right = rw (is_of_file image right)
 reads (Pack configuration output images) right = reads_pack configuration output images right
 reads (ListContainer container) right = rw (is_of_file container right)
 reads (CheckContainer container) right = rw (is_of_file container right)
-reads (Run container span) right = rw (is_of_file container right.0, reads_span span right.1)
+reads (Run container options) right = reads_run container options right
 
 -- words are a command exactly where they are what is typed for it
 pub commands_spelled : CommandsAreSpelled

@@ -1,10 +1,11 @@
 -- What is to be typed for a number and for a file.
 use Rattle.std.proofs.Common.{◌≡◌, ℕ, ◌^◌, ◌<◌, ◌≤◌, Bool, true, false, not, nat_eq, nat_lt, List, length, codes, decimal, slice_index, Some, refl, sym, ap, ◌∙◌, arith, inl, inr}
+use Rattle.std.specs.Str.{bytes_eq}
 use Rattle.std.specs.Str.Parse.{digits_value}
 use Rattle.std.specs.List.{starts_with}
 use Rattle.std.proofs.lemmas.Bool.{and_parts, and_from, both_ways, cases_lt, ltb-true, lt-ltb, not-true}
 use Rattle.std.proofs.lemmas.Bool.Decides.{Decides-eqb}
-use Rattle.std.proofs.lemmas.Slice.Eq.{starts_is}
+use Rattle.std.proofs.lemmas.Slice.Eq.{bytes_eq-Decides, starts_is}
 use Rattle.std.proofs.lemmas.Fmt.{digits_decimal, digits_value-decimal, decimal-digits_value, decimal_nonempty, decimal_digit, first_decimal}
 use Rattle.xm_base.specs.declared.limits.TheConstants.{TICKS}
 use Rattle.xm_words.specs.Grammar.{IsFile, TicksAreDecimal}
@@ -54,6 +55,10 @@ text_ticks word n small text = text_number TICKS word n (omega arith) small text
 -- a word is so many ticks exactly where it is their text
 pub ticks_decimal : TicksAreDecimal
 ticks_decimal word n = (ticks_text word n, λ spells. text_ticks word n spells.0 spells.1)
+
+-- a name that passes its test is that text
+pub named : (word text : List ℕ) → bytes_eq word text ≡ true → word ≡ text
+named word text e = (bytes_eq-Decides word text).0 e
 
 -- what the test of a file's name says
 pub file_is : (word : List ℕ) → is_file word ≡ true → IsFile word

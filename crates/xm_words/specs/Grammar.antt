@@ -1,9 +1,12 @@
 -- The grammar in the words of its users: what is to be typed for each command.
 use Rattle.std.specs.Prelude.{◌≡◌, ◌≢◌, ℕ, ◌<◌, ◌≤◌, ◌↔◌, List, [], ◌∷◌, ◌++◌, length, map, codes, decimal, All, AllPairs, Some}
+use Rattle.std.specs.List.{flat_map}
 use Rattle.xm_base.specs.declared.limits.TheConstants.{TICKS}
 use Rattle.xm_words.specs.declared.commands.Span.{Span}
 use Rattle.xm_words.specs.declared.commands.Span.TheVariants.{Frames, Ticks}
-use Rattle.xm_words.specs.Words.{Command, PartFile, Bare, Parse, BuildImage, ReadImage, Pack, ListContainer, CheckContainer, Run, command_of, ticks_of}
+use Rattle.xm_words.specs.declared.run_options.FileKind.{FileKind}
+use Rattle.xm_words.specs.declared.run_options.FileKind.TheVariants.{Input}
+use Rattle.xm_words.specs.Words.{Command, PartFile, RunOption, Bare, Parse, BuildImage, ReadImage, Pack, ListContainer, CheckContainer, Run, Length, ForPart, command_of, files_in, spans_in, ticks_of}
 
 -- a word is so many ticks where it is their number in decimal, and they are not above the limit
 abbrev pub TicksAreDecimal : Type 0
@@ -28,6 +31,15 @@ abbrev pub count_of : Span → ℕ
 count_of (Frames count) = count
 count_of (Ticks count) = count
 
+-- the option that is typed for a file of a kind
+abbrev pub file_option_of : FileKind → List ℕ
+file_option_of Input = codes "--input"
+
+-- what is typed for an option of a run
+abbrev pub option_words : RunOption → List (List ℕ)
+option_words (Length span) = option_of span ∷ decimal (count_of span) ∷ []
+option_words (ForPart kind file) = file_option_of kind ∷ part_word file ∷ []
+
 -- what is typed for each command
 abbrev pub words_of : Command → List (List ℕ)
 words_of (Bare image ticks) = codes "bare" ∷ image ∷ decimal ticks ∷ []
@@ -37,19 +49,34 @@ words_of (ReadImage image) = codes "xmeformat" ∷ codes "read" ∷ image ∷ []
 words_of (Pack configuration output images) = codes "xmpack" ∷ codes "build" ∷ configuration ∷ output ∷ map part_word images
 words_of (ListContainer container) = codes "xmpack" ∷ codes "list" ∷ container ∷ []
 words_of (CheckContainer container) = codes "xmpack" ∷ codes "check" ∷ container ∷ []
-words_of (Run container span) = codes "run" ∷ container ∷ option_of span ∷ decimal (count_of span) ∷ []
+words_of (Run container options) = codes "run" ∷ container ∷ flat_map option_words options
 
 -- a file for a partition: the partition's number is at most 31, and the file is one
 abbrev pub IsPartFile : PartFile → Type 0
 IsPartFile named = (named.part ≤ 31) × IsFile named.file
 
+-- no partition has two files
+abbrev pub AreApart : List PartFile → Type 0
+AreApart files = AllPairs (λ one other. one.part ≢ other.part) files
+
 -- files for partitions: there is one, each is one, and no partition has two
 pub record ArePartFiles (files : List PartFile) : Type 0 where
   pub some : 0 < length files
   pub each : All IsPartFile files
-  pub apart : AllPairs (λ one other. one.part ≢ other.part) files
+  pub apart : AreApart files
 
--- what each command names is a file, and its ticks or major frames are not above the limit
+-- an option of a run: a length not above the limit, or a file for a partition
+abbrev pub IsRunOption : RunOption → Type 0
+IsRunOption (Length span) = count_of span ≤ TICKS
+IsRunOption (ForPart kind file) = IsPartFile file
+
+-- options of a run: each is one, one says how long the run is, and no partition has two files of one kind
+pub record AreRunOptions (options : List RunOption) : Type 0 where
+  pub each : All IsRunOption options
+  pub spanned : length (spans_in options) ≡ 1
+  pub apart : (kind : FileKind) → AreApart (files_in kind options)
+
+-- what each command names is a file, its ticks are not above the limit, and its options are right
 abbrev pub IsRight : Command → Type 0
 IsRight (Bare image ticks) = IsFile image × (ticks ≤ TICKS)
 IsRight (Parse description output) = IsFile description × IsFile output
@@ -58,7 +85,7 @@ IsRight (ReadImage image) = IsFile image
 IsRight (Pack configuration output images) = IsFile configuration × IsFile output × ArePartFiles images
 IsRight (ListContainer container) = IsFile container
 IsRight (CheckContainer container) = IsFile container
-IsRight (Run container span) = IsFile container × (count_of span ≤ TICKS)
+IsRight (Run container options) = IsFile container × AreRunOptions options
 
 -- words are a command exactly where they are what is typed for it, and what they name is right
 abbrev pub CommandsAreSpelled : Type 0

@@ -1,11 +1,15 @@
 -- What the program's commands say.
-use Rattle.std.specs.Prelude.{List, Option, Some, None}
+use Rattle.std.specs.Prelude.{ℕ, List, Option, Some, None}
 use Rattle.xm_words.specs.Texts.{texts_of}
-use Rattle.xm_words.specs.Words.{Command, PartFile, Bare, Parse, BuildImage, ReadImage, Pack, ListContainer, CheckContainer, Run, part_files}
+use Rattle.xm_words.specs.Words.{Command, PartFile, RunOption, Bare, Parse, BuildImage, ReadImage, Pack, ListContainer, CheckContainer, Run, Length, ForPart, files_in, part_files, run_options}
 use Rattle.xm_words.specs.declared.commands.Command as code
 use Rattle.xm_words.specs.declared.commands.Command.TheVariants as variant
 use Rattle.xm_words.specs.declared.part_files.PartFile as file
 use Rattle.xm_words.specs.declared.part_files.PartFiles as files
+use Rattle.xm_words.specs.declared.run_options.FileKind.{FileKind}
+use Rattle.xm_words.specs.declared.run_options.RunOption as option
+use Rattle.xm_words.specs.declared.run_options.RunOption.TheVariants as options
+use Rattle.xm_words.specs.declared.run_options.RunOptions as run
 
 -- what a file for a partition says
 abbrev pub seen_file : file.PartFile → PartFile
@@ -16,9 +20,28 @@ abbrev pub seen_part_file : Option file.PartFile → Option PartFile
 seen_part_file None = None
 seen_part_file (Some named) = Some (seen_file named)
 
+-- the files for partitions that words name: each word one, or each option of this kind
+abbrev pub files_by : Option FileKind → List (List ℕ) → List PartFile
+files_by None words = part_files words
+files_by (Some kind) words = files_in kind (run_options words)
+
 -- what files for partitions say
 abbrev pub seen_files : files.PartFiles → List PartFile
-seen_files named = part_files (texts_of named.words.now)
+seen_files named = files_by named.option (texts_of named.words.now)
+
+-- what an option of a run says
+abbrev pub seen_option : option.RunOption → RunOption
+seen_option (options.Length span) = Length span
+seen_option (options.ForPart kind file) = ForPart kind (seen_file file)
+
+-- what an option of a run says, where there is one
+abbrev pub seen_run_option : Option option.RunOption → Option RunOption
+seen_run_option None = None
+seen_run_option (Some named) = Some (seen_option named)
+
+-- what the options of a run say
+abbrev pub seen_options : run.RunOptions → List RunOption
+seen_options named = run_options (texts_of named.words.now)
 
 -- what a command of the program says
 abbrev pub seen_command : code.Command → Command
@@ -29,7 +52,7 @@ seen_command (variant.ReadImage image) = ReadImage image.now
 seen_command (variant.Pack configuration output images) = Pack configuration.now output.now (seen_files images)
 seen_command (variant.ListContainer container) = ListContainer container.now
 seen_command (variant.CheckContainer container) = CheckContainer container.now
-seen_command (variant.Run container span) = Run container.now span
+seen_command (variant.Run container options) = Run container.now (seen_options options)
 
 -- what a command of the program says, where there is one
 abbrev pub seen : Option code.Command → Option Command

@@ -1,20 +1,27 @@
 -- The words of a command line, and the commands that they spell.
 use Rattle.std.specs.Prelude.{◌≡◌, ◌≢◌, ℕ, ◌≤◌, ◌==◌, Bool, true, false, ◌&&◌, ◌||◌, not, nat_le, nat_lt, nat_eq, if◌then◌else◌, List, [], ◌∷◌, length, codes, slice_index, Option, Some, None, is_some}
-use Rattle.std.specs.List.{after_first, before_first, list_all, starts_with}
+use Rattle.std.specs.List.{after_first, before_first, filter_map, list_all, starts_with}
 use Rattle.std.specs.Str.{all_ascii_digits, bytes_eq}
 use Rattle.std.specs.Str.Parse.{digits_value}
 use Rattle.xm_base.specs.declared.limits.TheConstants.{TICKS}
 use Rattle.xm_words.specs.declared.commands.Span.{Span}
 use Rattle.xm_words.specs.declared.commands.Span.TheVariants.{Frames, Ticks}
+use Rattle.xm_words.specs.declared.run_options.FileKind.{FileKind}
+use Rattle.xm_words.specs.declared.run_options.FileKind.TheVariants.{Input}
 
 -- a file for a partition
 pub record PartFile : Type 0 where
   pub part : ℕ
   pub file : List ℕ
 
+-- an option of a run: how long it is; a file for a partition, and what it is there
+pub data RunOption : Type 0 where
+  Length : (span : Span) → RunOption
+  ForPart : (kind : FileKind) (file : PartFile) → RunOption
+
 -- a command: a raw image runs for so many ticks; the binary configuration of a system description is made; the image of
 -- a program is made; an image is told; a configuration and the images of its partitions are packed into a container; a
--- container is told; a container is checked; a container runs for so long
+-- container is told; a container is checked; a container runs with options
 pub data Command : Type 0 where
   Bare : (image : List ℕ) (ticks : ℕ) → Command
   Parse : (description output : List ℕ) → Command
@@ -23,7 +30,7 @@ pub data Command : Type 0 where
   Pack : (configuration output : List ℕ) (images : List PartFile) → Command
   ListContainer : (container : List ℕ) → Command
   CheckContainer : (container : List ℕ) → Command
-  Run : (container : List ℕ) (span : Span) → Command
+  Run : (container : List ℕ) (options : List RunOption) → Command
 
 -- a decimal number: digits without a sign, and without a leading zero unless it is `0`
 abbrev pub is_number : List ℕ → Bool
@@ -68,10 +75,10 @@ is_equals byte = byte == 61
 unfoldable pub part_file_of : List ℕ → Option PartFile
 part_file_of word = part_file_by (part_of (before_first is_equals word)) (is_file (after_first is_equals word)) (after_first is_equals word)
 
--- a file for a partition, where there is one, before others
-abbrev pub before_others : Option PartFile → List PartFile → List PartFile
-before_others None files = []
-before_others (Some file) files = file ∷ files
+-- what a word names, where it names something, before what others name
+abbrev pub before_others : {X : Type 0} → Option X → List X → List X
+before_others None others = []
+before_others (Some first) others = first ∷ others
 
 -- the files for partitions that words name, up to the first word that names none
 abbrev pub part_files : List (List ℕ) → List PartFile
@@ -96,10 +103,10 @@ are_named words = list_all (λ word. is_some (part_file_of word)) words
 unfoldable pub are_part_files : List (List ℕ) → Bool
 are_part_files words = nat_lt 0 (length words) && are_named words && are_apart (part_files words)
 
--- a command, where its words are right
-abbrev pub asked : Bool → Command → Option Command
-asked true command = Some command
-asked false command = None
+-- what is asked for, where that passes its test
+abbrev pub asked : {X : Type 0} → Bool → X → Option X
+asked true it = Some it
+asked false it = None
 
 -- a run of an image for a number of ticks, where there is one
 abbrev pub bare_for : List ℕ → Option ℕ → Option Command
@@ -123,15 +130,83 @@ span_of option number =
     else if bytes_eq option (codes "--ticks") then spanned Ticks (ticks_of number)
     else None
 
--- a run of a container for so long, where that is told
-abbrev pub run_for : List ℕ → Option Span → Option Command
-run_for container None = None
-run_for container (Some span) = Some (Run container span)
+-- what a file is to its run, by its option
+unfoldable pub kind_of : List ℕ → Option FileKind
+kind_of option = if bytes_eq option (codes "--input") then Some Input else None
 
--- a run of a container, where its word names a file
-abbrev pub run_of : Bool → List ℕ → Option Span → Option Command
-run_of true container span = run_for container span
-run_of false container span = None
+-- an option with a file for a partition, where both are told
+abbrev pub option_for : Option FileKind → Option PartFile → Option RunOption
+option_for None file = None
+option_for (Some kind) None = None
+option_for (Some kind) (Some file) = Some (ForPart kind file)
+
+-- an option with how long the run is, and else one with a file
+abbrev pub option_by : Option Span → Option RunOption → Option RunOption
+option_by (Some span) other = Some (Length span)
+option_by None other = other
+
+-- the option of a run that two words spell
+unfoldable pub run_option_of : List ℕ → List ℕ → Option RunOption
+run_option_of option word = option_by (span_of option word) (option_for (kind_of option) (part_file_of word))
+
+-- the options of a run that words spell, two words each, up to the first two that spell none
+abbrev pub run_options : List (List ℕ) → List RunOption
+run_options [] = []
+run_options (option ∷ []) = []
+run_options (option ∷ word ∷ words) = before_others (run_option_of option word) (run_options words)
+
+-- whether words are options of a run, two words each
+abbrev pub are_options : List (List ℕ) → Bool
+are_options [] = true
+are_options (option ∷ []) = false
+are_options (option ∷ word ∷ words) = is_some (run_option_of option word) && are_options words
+
+-- how long a run is by an option, where it says so
+abbrev pub span_by : RunOption → Option Span
+span_by (Length span) = Some span
+span_by (ForPart kind file) = None
+
+-- all that options say of how long a run is
+abbrev pub spans_in : List RunOption → List Span
+spans_in options = filter_map span_by options
+
+-- the first length among some; a run without one has no ticks, and no command asks for it
+abbrev pub first_span : List Span → Span
+first_span [] = Ticks 0
+first_span (span ∷ spans) = span
+
+-- how long a run with these options is
+abbrev pub span_in : List RunOption → Span
+span_in options = first_span (spans_in options)
+
+-- the place of a kind among all kinds of files
+abbrev pub place_of : FileKind → ℕ
+place_of Input = 0
+
+-- the file of a kind for a partition that an option names
+abbrev pub file_by : FileKind → RunOption → Option PartFile
+file_by kind (Length span) = None
+file_by kind (ForPart other file) = asked (place_of other == place_of kind) file
+
+-- the files of a kind for partitions that options name, in their order
+abbrev pub files_in : FileKind → List RunOption → List PartFile
+files_in kind options = filter_map (file_by kind) options
+
+-- the inputs of partitions that options name, in their order
+abbrev pub inputs_in : List RunOption → List PartFile
+inputs_in options = files_in Input options
+
+-- whether each partition has one file of each kind at most
+abbrev pub are_kinds_apart : List RunOption → Bool
+are_kinds_apart options = are_apart (inputs_in options)
+
+-- whether words are options of a run: each is one, one says how long the run is, and each partition has one file of each kind at most
+unfoldable pub are_run_options : List (List ℕ) → Bool
+are_run_options words = are_options words && nat_eq (length (spans_in (run_options words))) 1 && are_kinds_apart (run_options words)
+
+-- a run of a container with options
+abbrev pub run_of : List ℕ → List (List ℕ) → Option Command
+run_of container options = asked (is_file container && are_run_options options) (Run container (run_options options))
 
 -- a command of one file, where its word names one
 abbrev pub of_file : (List ℕ → Command) → List ℕ → Option Command
@@ -164,9 +239,7 @@ command_of_two name first second =
 -- the command of a name and three words
 unfoldable pub command_of_three : List ℕ → List ℕ → List ℕ → List ℕ → Option Command
 command_of_three name first second third =
-    if bytes_eq name (codes "xmeformat") && bytes_eq first (codes "build") then of_files BuildImage second third
-    else if bytes_eq name (codes "run") then run_of (is_file first) first (span_of second third)
-    else None
+    if bytes_eq name (codes "xmeformat") && bytes_eq first (codes "build") then of_files BuildImage second third else None
 
 -- the command of a name and four words or more
 unfoldable pub command_of_more : List ℕ → List ℕ → List ℕ → List ℕ → List (List ℕ) → Option Command
@@ -175,11 +248,15 @@ command_of_more name verb configuration output images =
     then asked (is_file configuration && is_file output && are_part_files images) (Pack configuration output (part_files images))
     else None
 
+-- the command of a name and words whose number is fixed, or those of images
+unfoldable pub command_by_count : List ℕ → List ℕ → List (List ℕ) → Option Command
+command_by_count name first [] = None
+command_by_count name first (second ∷ []) = command_of_two name first second
+command_by_count name first (second ∷ third ∷ []) = command_of_three name first second third
+command_by_count name first (second ∷ third ∷ fourth ∷ rest) = command_of_more name first second third (fourth ∷ rest)
+
 -- the command that words spell
 unfoldable pub command_of : List (List ℕ) → Option Command
 command_of [] = None
 command_of (name ∷ []) = None
-command_of (name ∷ first ∷ []) = None
-command_of (name ∷ first ∷ second ∷ []) = command_of_two name first second
-command_of (name ∷ first ∷ second ∷ third ∷ []) = command_of_three name first second third
-command_of (name ∷ first ∷ second ∷ third ∷ fourth ∷ rest) = command_of_more name first second third (fourth ∷ rest)
+command_of (name ∷ first ∷ rest) = if bytes_eq name (codes "run") then run_of first rest else command_by_count name first rest

@@ -1,6 +1,7 @@
 //! What the program is asked to do.
 
 use crate::part_files::PartFiles;
+use crate::run_options::RunOptions;
 
 /// How long a run is.
 #[derive(Clone, Copy, Debug, PartialEq, Eq)]
@@ -47,9 +48,9 @@ pub enum Command<'a> {
     CheckContainer {
         container: &'a str,
     },
-    /// Run the container in this file for so long.
+    /// Run the container in this file with these options.
     Run {
         container: &'a str,
-        span: Span,
+        options: RunOptions<'a>,
     },
 }

@@ -6,10 +6,12 @@ mod law;
 mod numbers;
 mod part_files;
 mod reading;
+mod run_options;
 mod words;
 
 pub use commands::{Command, Span};
 pub use law::grammar;
 pub use part_files::{PartFile, PartFiles};
 pub use reading::command;
+pub use run_options::{FileKind, RunOption, RunOptions};
 pub use words::Words;

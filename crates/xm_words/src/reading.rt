@@ -3,11 +3,12 @@
 ghost use Rattle.std.specs.Prelude.{◌≡◌, ◌&&◌};
 ghost use Rattle.xm_words.specs.Seen.{seen};
 ghost use Rattle.xm_words.specs.Texts.{texts_of};
-ghost use Rattle.xm_words.specs.Words.{BuildImage, Pack, Parse, are_part_files, asked, bare_of, command_of, command_of_more, command_of_three, command_of_two, format_command, is_file, of_files, pack_command, part_files, run_of, span_of, ticks_of};
+ghost use Rattle.xm_words.specs.Words.{BuildImage, Pack, Parse, are_part_files, asked, bare_of, command_by_count, command_of, command_of_more, command_of_three, command_of_two, format_command, is_file, of_files, pack_command, part_files, run_of, ticks_of};
 
-use crate::commands::{Command, Span};
-use crate::numbers::{frames, ticks};
+use crate::commands::Command;
+use crate::numbers::ticks;
 use crate::part_files::PartFiles;
+use crate::run_options::RunOptions;
 use crate::words::Words;
 
 /// The command that the words spell, or `None` where they spell none.
@@ -16,21 +17,29 @@ pub fn command(words: &Words) -> Option<Command<'_>>
     ensures { seen result ≡ command_of words.now }
 {
     match words.texts() {
-        [name, first, second] => command_of_two(name.as_str(), first.as_str(), second.as_str()),
-        [name, first, second, third] => command_of_three(
-            name.as_str(),
-            first.as_str(),
-            second.as_str(),
-            third.as_str(),
-        ),
-        [name, verb, configuration, output, images @ ..] => command_of_more(
-            name.as_str(),
-            verb.as_str(),
-            configuration.as_str(),
-            output.as_str(),
-            images,
-        ),
+        [name, first, rest @ ..] => {
+            if name.as_str() == "run" {
+                run(first.as_str(), rest)
+            } else {
+                command_by_count(name.as_str(), first.as_str(), rest)
+            }
+        }
         _ => None,
+    }
+}
+
+/// The command of a name and words whose number is fixed, or those of images.
+#[tactic(auto, unfolding(crate::specs::Words::command_by_count))]
+fn command_by_count<'a>(name: &str, first: &'a str, rest: &'a [String]) -> Option<Command<'a>>
+    ensures { seen result ≡ command_by_count name.now first.now (texts_of rest.now) }
+{
+    match rest {
+        [] => None,
+        [second] => command_of_two(name, first, second.as_str()),
+        [second, third] => command_of_three(name, first, second.as_str(), third.as_str()),
+        [configuration, output, images @ ..] => {
+            command_of_more(name, first, configuration.as_str(), output.as_str(), images)
+        }
     }
 }
 
@@ -64,8 +73,6 @@ fn command_of_three<'a>(
 {
     if name == "xmeformat" && first == "build" {
         build_image(second, third)
-    } else if name == "run" {
-        run(first, second, third)
     } else {
         None
     }
@@ -100,30 +107,15 @@ fn bare<'a>(image: &'a str, count: &str) -> Option<Command<'a>>
     Some(Command::Bare { image, ticks })
 }
 
-/// The run of a container that three words ask for.
-fn run<'a>(container: &'a str, option: &str, count: &str) -> Option<Command<'a>>
-    ensures { seen result ≡ run_of (is_file container.now) container.now (span_of option.now count.now) }
+/// The run of a container with the options that the words spell.
+fn run<'a>(container: &'a str, options: &'a [String]) -> Option<Command<'a>>
+    ensures { seen result ≡ run_of container.now (texts_of options.now) }
 {
-    let span = span(option, count)?;
-    if is_file(container) {
-        Some(Command::Run { container, span })
-    } else {
-        None
+    if !is_file(container) {
+        return None;
     }
-}
-
-/// How long the run is that an option and its number ask for.
-#[tactic(auto, unfolding(crate::specs::Words::span_of))]
-fn span(option: &str, count: &str) -> Option<Span>
-    ensures { result ≡ span_of option.now count.now }
-{
-    if option == "--frames" {
-        frames(count).map(Span::Frames)
-    } else if option == "--ticks" {
-        ticks(count).map(Span::Ticks)
-    } else {
-        None
-    }
+    let options = RunOptions::new(options)?;
+    Some(Command::Run { container, options })
 }
 
 /// The configuration that two words ask for.
