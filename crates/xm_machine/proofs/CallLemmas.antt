@@ -1,164 +1,349 @@
--- The rest of a tick whose instruction called.
-use Rattle.std.proofs.Common.{◌≡◌, inl, inr, ℕ, Bool, true, false, List, [], ◌∷◌, ◌++◌, Option, refl, sym, ap, ◌∙◌, arith}
-use Rattle.std.specs.Prelude.{◌==◌, if◌then◌else◌}
-use Rattle.std.proofs.lemmas.Bool.Decides.{nat_tests}
+-- A hypercall of a partition: it is served, its tick is counted, and what it asks for is followed.
+use Rattle.std.proofs.Common.{◌≡◌, ℕ, zero, suc, ◌<◌, ◌⊎◌, inl, inr, Bool, true, false, List, [], ◌∷◌, ◌++◌, Option, None, Some, length, map, set, get_or, refl, sym, ap, ◌∙◌, subst, arith}
+use Rattle.std.proofs.lemmas.List.{append_assoc, get_or-set_same, length-set, map-append, set-set}
+use Rattle.std.specs.Prelude.{if◌then◌else◌}
 use Rattle.guest_bus.specs.Memory.{Memory}
-use Rattle.xm_base.specs.declared.partition.Order.{Order}
-use Rattle.xm_base.specs.declared.partition.Order.TheVariants as order
-use Rattle.xm_base.specs.declared.partition.State.{State}
-use Rattle.xm_base.specs.declared.partition.State.TheVariants.{Ready, Halted}
-use Rattle.xm_ports.specs.Channels.{Content}
-use Rattle.xm_report.specs.declared.line.Move.TheVariants as move
-use Rattle.machine_model.specs.Caller.{Acts, Caller, Served, Upshot, with_answer}
-use Rattle.machine_model.specs.Health.{Worked, self_ordered}
-use Rattle.machine_model.specs.Hypercalls.{served}
-use Rattle.machine_model.specs.LocalTick.{by_act, by_upshot, called, clocked}
-use Rattle.machine_model.specs.Partition.{PartitionState, applies, carried_out, disarmed, order_told, ordered, ordered_told}
-use Rattle.machine_model.specs.Told as told
-use Rattle.machine_model.specs.Told.{Sight, Told}
-use Rattle.machine_model.specs.View.{PartitionView, System, view_of}
-use Rattle.slot_runs.specs.Built.{is_unbuilt_call}
-use Rattle.hypercalls.specs.Serving.{IsOwnHalt, act_of, told_by}
-use Rattle.hypercalls.specs.ServingLemmas.{served_alike}
-use Rattle.hypercalls.specs.declared.serving.Act.{Act}
-use Rattle.hypercalls.specs.declared.serving.Act.TheVariants as act
+use Rattle.hypercalls.specs.Serving.{IsServed, caller_at, own_traffic, told_by, traffic_by, untraded, upshot_of, without_traffic}
+use Rattle.hypercalls.specs.State.{SysState, with_machine}
 use Rattle.hypercalls.specs.declared.serving.Note.{Note}
 use Rattle.hypercalls.specs.declared.serving.Note.TheVariants as note
-use Rattle.xm_machine.specs.Turns.{Follows, IsCallDone, Stays, asked_told, telling_by, told_of, told_work}
-use Rattle.xm_machine.proofs.ServedLemmas.{Answers, calling, served_answers}
-use Rattle.xm_machine.proofs.TurnLemmas.{counted_on, stays_more}
+use Rattle.hypercalls.specs.declared.serving.Served as code
+use Rattle.machine_model.specs.Caller.{Acts, Meets, Served, Upshot}
+use Rattle.machine_model.specs.Health.{Worked, quiet}
+use Rattle.machine_model.specs.Hypercalls.{served}
+use Rattle.machine_model.specs.Lists.{each}
+use Rattle.machine_model.specs.LocalTick.{by_upshot, called, clocked}
+use Rattle.machine_model.specs.Machine.{Machine, booted_part}
+use Rattle.machine_model.specs.Partition.{PartitionState, is_halted}
+use Rattle.machine_model.specs.Told as told
+use Rattle.machine_model.specs.Told.{OwnPuts, OwnStill, OwnTakes, OwnTraffic, Sight, Told, Trades, line_of}
+use Rattle.machine_model.specs.Traffic.{Puts, Still, Takes, Traffic, after_message, after_traffic, heard_as, heard_from, hearing, interrupted, told_as}
+use Rattle.machine_model.specs.View.{PartitionView, System, name_of, named, view_of}
+use Rattle.slot_runs.specs.Passes.{part_at, traded, traffic_in, with_part}
+use Rattle.virt_traps.specs.Virtual.{raised}
+use Rattle.xm_report.specs.Report.{ReportLine}
+use Rattle.xm_machine.specs.Work.{IsDone, IsUponOne, IsWorked, TellsAlone, act_of, console_told, trace_told}
+use Rattle.xm_machine.specs.declared.beyond.Beyond.{Beyond}
+use Rattle.xm_machine.specs.declared.beyond.Beyond.TheVariants as beyond
+use Rattle.xm_machine.proofs.HealthLemmas.{silent}
+use Rattle.xm_machine.proofs.ServedLemmas.{KeptParts, kept_parts, served_keeps}
+use Rattle.xm_machine.proofs.ReachLemmas.{no_traffic, plain_act}
+use Rattle.xm_machine.proofs.WorkLemmas.{done_then, part_set, put_back}
 
--- nothing is asked for
-pub follows_nothing : (view : PartitionView) (old new : PartitionState) → old.state ≡ Ready → new ≡ old → Follows act.Nothing view old new
-follows_nothing view old new ready same = record {
-  work = ap (λ (x : PartitionState). record { after = x; told = []; act = told.Nothing }) (sym same);
-  stays = record {
-    state = inl (ap (λ (x : PartitionState). x.state) same ∙ ready);
-    traps = ap (λ (x : PartitionState). x.traps) same;
-    hardware = λ none. ap (λ (x : PartitionState). x.clocks.hardware_timer) same ∙ none;
-    execution = λ none. ap (λ (x : PartitionState). x.clocks.execution_timer) same ∙ none;
-    clock = ap (λ (x : PartitionState). x.clocks.execution) same ∙ omega arith;
-  };
-}
+-- an element that was set, and then changed with all others
+at_each_set : {X : Type 0} (f : ℕ → X → X) (xs : List X) (p : ℕ) (x d : X) → p < length xs → get_or (each f (set xs p x)) p d ≡ f p x
+at_each_set f [] p x d below = absurd (omega (arith, below))
+at_each_set f (y ∷ ys) zero x d below = refl
+at_each_set f (y ∷ ys) (suc p) x d below = at_each_set (λ k. f (suc k)) ys p x d (omega (arith, below))
 
--- an order to halt, where the partition is ready
-halts : (view : PartitionView) (ps : PartitionState) → ps.state ≡ Ready → ordered view order.Halt ps ≡ record (disarmed ps) { state = Halted }
-unfolding ordered
-halts view ps ready = ap (λ (s : State). if applies order.Halt s then carried_out view order.Halt ps else ps) ready
+-- one that is set after the change of all
+set_each_set : {X : Type 0} (f : ℕ → X → X) (xs : List X) (p : ℕ) (x y : X) → set (each f (set xs p x)) p (f p y) ≡ each f (set xs p y)
+set_each_set f [] p x y = refl
+set_each_set f (z ∷ zs) zero x y = refl
+set_each_set f (z ∷ zs) (suc p) x y = ap (λ more. f 0 z ∷ more) (set_each_set (λ k. f (suc k)) zs p x y)
 
-halt_told : (ps : PartitionState) → ps.state ≡ Ready → ordered_told order.Halt ps ≡ told.Moved move.Halt ∷ []
-unfolding ordered_told
-halt_told ps ready = ap (λ (s : State). if applies order.Halt s then order_told order.Halt else []) ready
+-- a change of all keeps their number
+each_length : {X Y : Type 0} (f : ℕ → X → Y) (xs : List X) → length (each f xs) ≡ length xs
+each_length f [] = refl
+each_length f (x ∷ xs) = ap suc (each_length (λ k. f (suc k)) xs)
 
-itself : (view : PartitionView) (ps : PartitionState) → ps.state ≡ Ready → self_ordered view order.Halt ps ≡ record { after = record (disarmed ps) { state = Halted }; told = told.Moved move.Halt ∷ []; act = told.Nothing }
-unfolding self_ordered
-itself view ps ready =
-    ap (λ (x : PartitionState). record { after = x; told = ordered_told order.Halt ps; act = told.Nothing }) (halts view ps ready)
-    ∙ ap (λ (t : List Told). record { after = record (disarmed ps) { state = Halted }; told = t; act = told.Nothing }) (halt_told ps ready)
-
--- an order upon oneself is carried out at once
-upon_itself : (view : PartitionView) (id : ℕ) (ps : PartitionState) → id ≡ view.id → by_act (told.Upon id order.Halt) view ps ≡ self_ordered view order.Halt ps
-upon_itself view id ps same =
-    let is : (id == view.id) ≡ true = grind (arith, nat_tests) in
-    ap (λ (b : Bool). if b then self_ordered view order.Halt ps else record { after = ps; told = []; act = told.Upon id order.Halt }) is
-
--- it has halted, and no timer is armed
-halted_stays : (old new : PartitionState) → new ≡ record (disarmed old) { state = Halted } → Stays 0 old new
-unfolding disarmed
-halted_stays old new is = record {
-  state = inr (ap (λ (x : PartitionState). x.state) is);
-  traps = ap (λ (x : PartitionState). x.traps) is;
-  hardware = λ none. ap (λ (x : PartitionState). x.clocks.hardware_timer) is;
-  execution = λ none. ap (λ (x : PartitionState). x.clocks.execution_timer) is;
-  clock = ap (λ (x : PartitionState). x.clocks.execution) is ∙ omega arith;
-}
-
--- a partition halts itself
-pub follows_halt : (view : PartitionView) (p id : ℕ) (an_order : Order) (old new : PartitionState) → view.id ≡ p → id ≡ p → an_order ≡ order.Halt → old.state ≡ Ready → new ≡ record (disarmed old) { state = Halted }
-    → Follows (act.Upon id an_order) view old new
-follows_halt view p id an_order old new its named halting ready is = record {
-  work = ap (λ (o : Order). by_act (told.Upon id o) view old) halting
-      ∙ upon_itself view id old (named ∙ sym its) ∙ itself view old ready
-      ∙ ap (λ (x : PartitionState). record { after = x; told = told.Moved move.Halt ∷ []; act = told.Nothing }) (sym is);
-  stays = halted_stays old new is;
-}
-
--- a partition that only answered a call, with the tick counted
-answered_stays : (value : ℕ) (old after counted : PartitionState) → old.state ≡ Ready → after ≡ with_answer value old → counted ≡ counted_on 1 after → Stays 1 old counted
-unfolding with_answer
-answered_stays value old after counted ready answered is =
-    let all : counted ≡ counted_on 1 (with_answer value old) = is ∙ ap (counted_on 1) answered in
-    record {
-      state = inl (ap (λ (x : PartitionState). x.state) all ∙ ready);
-      traps = ap (λ (x : PartitionState). x.traps) all;
-      hardware = λ none. ap (λ (x : PartitionState). x.clocks.hardware_timer) all ∙ none;
-      execution = λ none. ap (λ (x : PartitionState). x.clocks.execution_timer) all ∙ none;
-      clock = ap (λ (x : PartitionState). x.clocks.execution) all;
-    }
-
--- what the call and what it asks for tell
-tale : (asked : Act) (said : Note) (p : ℕ) (before after : Memory) → IsOwnHalt asked said p → (asked ≡ act.Nothing → after ≡ before) → told_by said before ++ asked_told asked ≡ told_of (telling_by asked said) after
-tale act.Nothing note.Nothing p before after own same = refl
-tale act.Nothing (note.Console at size) p before after own same =
-    ap (λ (m : Memory). told_of (telling_by act.Nothing (note.Console at size)) m) (sym (same refl))
-tale (act.Upon id an_order) said p before after own same =
-    ap (λ (n : Note). told_by n before ++ told.Moved move.Halt ∷ []) own.2
-
--- the memory that a call leaves, where nothing is asked for
-memory_kept : (asked : Act) (view : PartitionView) (old new : PartitionState) → asked ≡ act.Nothing → Follows asked view old new → new.memory ≡ old.memory
-memory_kept act.Nothing view old new is follows = ap (λ (w : Worked). w.after.memory) (sym follows.work)
-memory_kept (act.Upon id an_order) view old new is follows = absurd (cc)
-
--- what a call tells, before what it asks for
-abbrev before_work : List Told → Worked → Worked
-before_work told w = record w { told = told ++ w.told }
-
--- a call and what follows it, by what serving it comes to
-called_is : (caller : Caller) (s : Served) → served caller ≡ s → called caller ≡ before_work s.told (by_upshot s.upshot caller.view caller.time (clocked s.after))
-unfolding called
-called_is caller s is = ap (λ (x : Served). before_work x.told (by_upshot x.upshot caller.view caller.time (clocked x.after))) is
-
-clocked_is : (ps : PartitionState) → clocked ps ≡ counted_on 1 ps
+-- an interrupt that becomes pending, and a tick that is counted
+counted_interrupted : (heard : Option ℕ) (ps : PartitionState) → clocked (interrupted heard ps) ≡ interrupted heard (clocked ps)
 unfolding clocked
-clocked_is ps = refl
+counted_interrupted None ps = refl
+counted_interrupted (Some n) ps = by (is_halted ps.state)
+  where
+    by : (b : Bool) → clocked (if b then ps else record ps { traps = raised n ps.traps }) ≡ (if b then clocked ps else record (clocked ps) { traps = raised n ps.traps })
+    by true = refl
+    by false = refl
 
-module _ (asked : Act) (said : Note) (view : PartitionView) (p : ℕ) (old after counted new : PartitionState) (contents : List (Option Content)) (time : ℕ) (sight : Sight) (pc npc : ℕ) where
-  -- a call that was served and followed is done as defined
-  pub call_done : is_unbuilt_call view old.core ≡ false → after ≡ (served (calling view old contents time sight pc npc)).after
-      → (served (calling view old contents time sight pc npc)).told ≡ told_by said (served (calling view old contents time sight pc npc)).after.memory
-      → (served (calling view old contents time sight pc npc)).upshot ≡ Acts (act_of asked) → IsOwnHalt asked said p → counted ≡ counted_on 1 after
-      → Follows asked view counted new → IsCallDone (telling_by asked said) view old new
-  call_done built left tells upshot own counts follows = record {
-    built = built;
-    work = λ others later another at behind. work others later another at behind;
-    stays = λ ready. stays ready;
-  }
+-- traffic that is heard, and a tick that is counted
+counted_hearing : (view : PartitionView) (own : OwnTraffic) (ps : PartitionState) → clocked (hearing view own ps) ≡ hearing view own (clocked ps)
+unfolding after_message clocked
+counted_hearing view OwnStill ps = refl
+counted_hearing view (OwnPuts q bytes) ps = counted_interrupted (heard_from q view.part.ports ps.made view.channels) ps
+counted_hearing view (OwnTakes q) ps = refl
+
+-- traffic that is heard keeps the health log and the clock
+kept_interrupted : (heard : Option ℕ) (ps : PartitionState) → kept_parts (interrupted heard ps) ≡ kept_parts ps
+kept_interrupted None ps = refl
+kept_interrupted (Some n) ps = by (is_halted ps.state)
+  where
+    by : (b : Bool) → kept_parts (if b then ps else record ps { traps = raised n ps.traps }) ≡ kept_parts ps
+    by true = refl
+    by false = refl
+
+kept_hearing : (view : PartitionView) (own : OwnTraffic) (ps : PartitionState) → kept_parts (hearing view own ps) ≡ kept_parts ps
+unfolding after_message
+kept_hearing view OwnStill ps = refl
+kept_hearing view (OwnPuts q bytes) ps = kept_interrupted (heard_from q view.part.ports ps.made view.channels) ps
+kept_hearing view (OwnTakes q) ps = refl
+
+-- what a partition makes of traffic
+abbrev heard_in : Machine → Traffic → ℕ → PartitionState → PartitionState
+heard_in g traffic q ps = hearing (view_of g.system q) (heard_as (name_of g.system.conf q) traffic) ps
+
+-- a tick that is counted after traffic
+counted_traffic : (traffic : Traffic) (p : ℕ) (x : PartitionState) (g : Machine) → p < length g.parts
+    → set (each (heard_in g traffic) (set g.parts p x)) p (clocked (get_or (each (heard_in g traffic) (set g.parts p x)) p (booted_part g.system p))) ≡ each (heard_in g traffic) (set g.parts p (clocked x))
+counted_traffic traffic p x g below =
+    ap (λ (ps : PartitionState). set (each (heard_in g traffic) (set g.parts p x)) p (clocked ps)) (at_each_set (heard_in g traffic) g.parts p x (booted_part g.system p) below)
+    ∙ ap (λ (ps : PartitionState). set (each (heard_in g traffic) (set g.parts p x)) p ps) (counted_hearing (view_of g.system p) (heard_as (name_of g.system.conf p) traffic) x)
+    ∙ set_each_set (heard_in g traffic) g.parts p x (clocked x)
+
+counted_traded : (traffic : Traffic) (p : ℕ) (x : PartitionState) (g : Machine) → p < length g.parts
+    → with_part p (clocked (part_at p (traded traffic (with_part p x g)))) (traded traffic (with_part p x g)) ≡ traded traffic (with_part p (clocked x) g)
+counted_traded Still p x g below =
+    ap (λ (ps : PartitionState). with_part p (clocked ps) (with_part p x g)) (get_or-set_same g.parts p x (booted_part g.system p) below)
+    ∙ ap (λ (parts : List PartitionState). record g { parts = parts }) (set-set g.parts p x (clocked x))
+counted_traded (Puts channel bytes) p x g below =
+    ap (λ (parts : List PartitionState). record g { parts = parts; channels = each (after_traffic g.time (Puts channel bytes)) g.channels }) (counted_traffic (Puts channel bytes) p x g below)
+counted_traded (Takes channel) p x g below =
+    ap (λ (parts : List PartitionState). record g { parts = parts; channels = each (after_traffic g.time (Takes channel)) g.channels }) (counted_traffic (Takes channel) p x g below)
+
+-- traffic keeps the system, the clock and the number of ticks
+traded_system : (traffic : Traffic) (g : Machine) → (traded traffic g).system ≡ g.system
+traded_system Still g = refl
+traded_system (Puts channel bytes) g = refl
+traded_system (Takes channel) g = refl
+
+traded_time : (traffic : Traffic) (g : Machine) → (traded traffic g).time ≡ g.time
+traded_time Still g = refl
+traded_time (Puts channel bytes) g = refl
+traded_time (Takes channel) g = refl
+
+traded_ticks : (traffic : Traffic) (g : Machine) → (traded traffic g).ticks ≡ g.ticks
+traded_ticks Still g = refl
+traded_ticks (Puts channel bytes) g = refl
+traded_ticks (Takes channel) g = refl
+
+-- and how many partitions there are
+traded_length : (traffic : Traffic) (g : Machine) → length (traded traffic g).parts ≡ length g.parts
+traded_length Still g = refl
+traded_length (Puts channel bytes) g = each_length (heard_in g (Puts channel bytes)) g.parts
+traded_length (Takes channel) g = each_length (heard_in g (Takes channel)) g.parts
+
+-- a partition after traffic has the health log and the clock that it was given
+traded_kept : (traffic : Traffic) (p : ℕ) (x : PartitionState) (g : Machine) → p < length g.parts → kept_parts (part_at p (traded traffic (with_part p x g))) ≡ kept_parts x
+traded_kept Still p x g below = ap kept_parts (get_or-set_same g.parts p x (booted_part g.system p) below)
+traded_kept (Puts channel bytes) p x g below =
+    ap kept_parts (at_each_set (heard_in g (Puts channel bytes)) g.parts p x (booted_part g.system p) below)
+    ∙ kept_hearing (view_of g.system p) (heard_as (name_of g.system.conf p) (Puts channel bytes)) x
+traded_kept (Takes channel) p x g below =
+    ap kept_parts (at_each_set (heard_in g (Takes channel)) g.parts p x (booted_part g.system p) below)
+    ∙ kept_hearing (view_of g.system p) (heard_as (name_of g.system.conf p) (Takes channel)) x
+
+-- what a call leaves, with its tick counted
+counted : (p : ℕ) (s : Served) (traffic : Traffic) (old one two : SysState) → p < length old.machine.parts
+    → one ≡ with_machine (traded traffic (with_part p s.after old.machine)) old
+    → two ≡ with_machine (with_part p (clocked (part_at p one.machine)) one.machine) one
+    → two ≡ with_machine (traded traffic (with_part p (clocked s.after) old.machine)) old
+counted p s traffic old one two below one_is two_is =
+    two_is
+    ∙ ap (λ (sys : SysState). with_machine (with_part p (clocked (part_at p sys.machine)) sys.machine) sys) one_is
+    ∙ ap (λ (g : Machine). with_machine g old) (counted_traded traffic p s.after old.machine below)
+
+-- a call tells bytes for the console, and else traces
+told_apart : (a_note : Note) (memory : Memory) → told_by a_note memory ≡ console_told a_note memory ++ trace_told a_note
+told_apart note.Nothing memory = refl
+told_apart (note.Console at size) memory = refl
+told_apart (note.Trace entry) memory = refl
+told_apart (note.Put chan at size) memory = refl
+told_apart (note.Take chan) memory = refl
+told_apart (note.Saw at size) memory = refl
+told_apart note.NotKept memory = refl
+
+-- where it tells nothing, no memory shows bytes for the console
+console_none : (a_note : Note) (memory other : Memory) → told_by a_note memory ≡ [] → console_told a_note other ≡ console_told a_note memory
+console_none note.Nothing memory other none = refl
+console_none (note.Console at size) memory other none = absurd cc
+console_none (note.Trace entry) memory other none = refl
+console_none (note.Put chan at size) memory other none = refl
+console_none (note.Take chan) memory other none = refl
+console_none (note.Saw at size) memory other none = refl
+console_none note.NotKept memory other none = refl
+
+-- the bytes for the console are the same after what follows the call
+console_same : (s : Served) (a_note : Note) (view : PartitionView) (time : ℕ) → s.told ≡ told_by a_note s.after.memory → (s.told ≡ []) ⊎ (s.upshot ≡ Acts told.Nothing)
+    → console_told a_note (by_upshot s.upshot view time (clocked s.after)).after.memory ≡ console_told a_note s.after.memory
+unfolding clocked
+console_same s a_note view time told_is (inl none) = console_none a_note s.after.memory _ (sym told_is ∙ none)
+console_same s a_note view time told_is (inr nothing) = ap (λ (u : Upshot). console_told a_note (by_upshot u view time (clocked s.after)).after.memory) nothing
+
+-- the lines of a call and of what follows it
+call_lines : (line : Told → ReportLine) (a_note : Note) (memory after : Memory) (tale more : List Told) (between got : List ReportLine)
+    → tale ≡ told_by a_note memory → console_told a_note after ≡ console_told a_note memory → between ≡ map line (trace_told a_note) → got ≡ between ++ map line more
+    → map line (tale ++ more) ≡ map line (console_told a_note after) ++ got
+call_lines line a_note memory after tale more between got tale_is console_is between_is got_is =
+    map-append line tale more
+    ∙ ap (λ (first : List Told). map line first ++ map line more) (tale_is ∙ told_apart a_note memory ∙ ap (λ (console : List Told). console ++ trace_told a_note) (sym console_is))
+    ∙ ap (λ (lines : List ReportLine). lines ++ map line more) (map-append line (console_told a_note after) (trace_told a_note))
+    ∙ append_assoc (map line (console_told a_note after)) (map line (trace_told a_note)) (map line more)
+    ∙ ap (λ (lines : List ReportLine). map line (console_told a_note after) ++ (lines ++ map line more)) (sym between_is)
+    ∙ ap (λ (lines : List ReportLine). map line (console_told a_note after) ++ lines) (sym got_is)
+
+-- an order is upon a partition that there was
+one_before : (reach : Beyond) (g h : Machine) → length g.parts ≡ length h.parts → IsUponOne reach g → IsUponOne reach h
+one_before beyond.Nothing g h same one = one
+one_before (beyond.Order id order) g h same one = subst (λ (count : ℕ). id < count) same one
+one_before (beyond.Plan plan) g h same one = one
+one_before (beyond.Whole event) g h same one = one
+
+-- what a call and what follows it come to
+abbrev worked_by : Served → PartitionView → ℕ → Worked
+worked_by s view time = record (by_upshot s.upshot view time (clocked s.after)) { told = s.told ++ (by_upshot s.upshot view time (clocked s.after)).told }
+
+-- what follows a call of this upshot, on a system
+abbrev following : Upshot → ℕ → SysState → Worked
+following u p sys = by_upshot u (view_of sys.machine.system p) sys.machine.time (part_at p sys.machine)
+
+-- a call that was served, whose tick was counted, and that was followed
+record IsCalled (p : ℕ) (sight : Sight) (s : Served) (answer : code.Served) (reach : Beyond) (old one two new : SysState) (between got : List ReportLine) : Type 0 where
+  below : p < length old.machine.parts
+  acts : (s.told ≡ []) ⊎ (s.upshot ≡ Acts told.Nothing)
+  serves : IsServed p sight s answer old one
+  counts : two ≡ with_machine (with_part p (clocked (part_at p one.machine)) one.machine) one
+  traces : between ≡ map (line_of two.machine.ticks p) (trace_told answer.note)
+  follows : IsDone p (following (upshot_of answer.act) p two).after (following (upshot_of answer.act) p two).told two new between got
+  act : (following (upshot_of answer.act) p two).act ≡ act_of reach
+  one_is : IsUponOne reach two.machine
+
+module _ (p : ℕ) (sight : Sight) (s : Served) (answer : code.Served) (reach : Beyond) (old one two new : SysState) (between got : List ReportLine) where
+  -- one without traffic
+  plain_call : IsCalled p sight s answer reach old one two new between got → untraded s.upshot ≡ s.upshot → own_traffic s.upshot ≡ OwnStill
+      → IsWorked p (worked_by s (view_of old.machine.system p) old.machine.time) answer.note reach old new got
+  plain_call c plain own_still =
+      let view = view_of old.machine.system p in
+      let w = by_upshot s.upshot view old.machine.time (clocked s.after) in
+      let still : traffic_by answer.note s.after.memory ≡ Still =
+      sym c.serves.traffic ∙ ap (λ (own : OwnTraffic). told_as (named old.machine.system.conf p) own) own_still in
+      let two_is : two ≡ with_machine (with_part p (clocked s.after) old.machine) old =
+      counted p s (traffic_by answer.note s.after.memory) old one two c.below c.serves.state c.counts
+      ∙ ap (λ (t : Traffic). with_machine (traded t (with_part p (clocked s.after) old.machine)) old) still in
+      let upshot_is : upshot_of answer.act ≡ s.upshot = sym c.serves.upshot ∙ plain in
+      let follows = subst (λ (u : Upshot). IsDone p (following u p two).after (following u p two).told two new between got) upshot_is c.follows in
+      let same : following s.upshot p two ≡ w =
+      ap (λ (x : PartitionState). by_upshot s.upshot (view_of two.machine.system p) two.machine.time x) (part_set old two p (clocked s.after) c.below two_is)
+      ∙ ap (λ (sys : SysState). by_upshot s.upshot (view_of sys.machine.system p) sys.machine.time (clocked s.after)) two_is in
+      let done : IsDone p w.after w.told old new between got =
+      done_then (λ v t x. (by_upshot s.upshot v t x).after) (λ v t x. (by_upshot s.upshot v t x).told) p (clocked s.after) [] old two new between between got c.below
+      (silent p (clocked s.after) old two between two_is) follows in
+      let act_is : w.act ≡ act_of reach = ap (λ (x : Worked). x.act) (sym same) ∙ ap (λ (u : Upshot). (following u p two).act) (sym upshot_is) ∙ c.act in
+      let ticks : two.machine.ticks ≡ old.machine.ticks = ap (λ (sys : SysState). sys.machine.ticks) two_is in
+      let traces = c.traces ∙ ap (λ (n : ℕ). map (line_of n p) (trace_told answer.note)) ticks in
+      let lengths : length two.machine.parts ≡ length old.machine.parts =
+      ap (λ (sys : SysState). length sys.machine.parts) two_is ∙ length-set old.machine.parts p (clocked s.after) in
+      record {
+        state = done.state ∙ ap (λ (t : Traffic). with_machine (traded t (with_part p w.after old.machine)) old) (sym (no_traffic p w reach old act_is));
+        lines = call_lines (line_of old.machine.ticks p) answer.note s.after.memory w.after.memory s.told w.told between got c.serves.told
+            (console_same s answer.note view old.machine.time c.serves.told c.acts) traces done.lines;
+        act = ap without_traffic act_is ∙ plain_act reach;
+        readable = c.serves.readable;
+        one = one_before reach two.machine old.machine lengths c.one_is;
+      }
+
+  -- one that puts or takes a message
+  trading_call : (own : OwnTraffic) → IsCalled p sight s answer reach old one two new between got → s.upshot ≡ Acts (Trades own)
+      → IsWorked p (worked_by s (view_of old.machine.system p) old.machine.time) answer.note reach old new got
+  unfolding clocked
+  trading_call own c trades =
+      let view = view_of old.machine.system p in
+      let traffic = traffic_by answer.note s.after.memory in
+      let two_is : two ≡ with_machine (traded traffic (with_part p (clocked s.after) old.machine)) old = counted p s traffic old one two c.below c.serves.state c.counts in
+      let upshot_is : upshot_of answer.act ≡ Acts told.Nothing = sym c.serves.upshot ∙ ap untraded trades in
+      let follows : IsDone p (part_at p two.machine) [] two new between got =
+      subst (λ (u : Upshot). IsDone p (following u p two).after (following u p two).told two new between got) upshot_is c.follows in
+      let act_is : told.Nothing ≡ act_of reach = sym (ap (λ (u : Upshot). (following u p two).act) upshot_is) ∙ c.act in
+      let traffic_is : told_as (named old.machine.system.conf p) own ≡ traffic =
+      sym (ap (λ (u : Upshot). told_as (named old.machine.system.conf p) (own_traffic u)) trades) ∙ c.serves.traffic in
+      let ticks : two.machine.ticks ≡ old.machine.ticks =
+      ap (λ (sys : SysState). sys.machine.ticks) two_is ∙ traded_ticks traffic (with_part p (clocked s.after) old.machine) in
+      let traces = c.traces ∙ ap (λ (n : ℕ). map (line_of n p) (trace_told answer.note)) ticks in
+      let lengths : length two.machine.parts ≡ length old.machine.parts =
+      ap (λ (sys : SysState). length sys.machine.parts) two_is ∙ traded_length traffic (with_part p (clocked s.after) old.machine) ∙ length-set old.machine.parts p (clocked s.after) in
+      let worked : IsWorked p (record (quiet (clocked s.after)) { told = s.told ++ []; act = Trades own }) answer.note reach old new got = record {
+        state = follows.state ∙ put_back p two ∙ two_is
+            ∙ ap (λ (t : Traffic). with_machine (traded t (with_part p (clocked s.after) old.machine)) old) (sym traffic_is);
+        lines = call_lines (line_of old.machine.ticks p) answer.note s.after.memory s.after.memory s.told [] between got c.serves.told refl traces follows.lines;
+        act = act_is;
+        readable = c.serves.readable;
+        one = one_before reach two.machine old.machine lengths c.one_is;
+      } in
+      subst (λ (u : Upshot). IsWorked p (record (by_upshot u view old.machine.time (clocked s.after)) { told = s.told ++ (by_upshot u view old.machine.time (clocked s.after)).told }) answer.note reach old new got) (sym trades) worked
+
+  -- each call
+  any_call : IsCalled p sight s answer reach old one two new between got → IsWorked p (worked_by s (view_of old.machine.system p) old.machine.time) answer.note reach old new got
+  any_call c = by s.upshot refl
     where
-      s : Served
-      s = served (calling view old contents time sight pc npc)
+      by : (u : Upshot) → s.upshot ≡ u → IsWorked p (worked_by s (view_of old.machine.system p) old.machine.time) answer.note reach old new got
+      by (Acts told.Nothing) is = plain_call c (ap untraded is ∙ sym is) (ap own_traffic is)
+      by (Acts (Trades own)) is = trading_call own c is
+      by (Acts (told.Upon id order)) is = plain_call c (ap untraded is ∙ sym is) (ap own_traffic is)
+      by (Acts (told.Plans change)) is = plain_call c (ap untraded is ∙ sym is) (ap own_traffic is)
+      by (Acts (told.UponAll event)) is = plain_call c (ap untraded is ∙ sym is) (ap own_traffic is)
+      by (Meets event word) is = plain_call c (ap untraded is ∙ sym is) (ap own_traffic is)
 
-      behind_it : counted ≡ clocked s.after
-      behind_it = counts ∙ ap (counted_on 1) left ∙ sym (clocked_is s.after)
+-- a call from these program counters
+pub call_worked : (p pc npc n : ℕ) (answer : code.Served) (reach : Beyond) (old one two new : SysState) (had between got : List ReportLine) → p < length old.machine.parts → had ≡ []
+    → IsServed p (caller_at p pc npc old).sight (served (caller_at p pc npc old)) answer old one
+    → two ≡ with_machine (with_part p (clocked (part_at p one.machine)) one.machine) one
+    → n ≡ two.machine.ticks
+    → between ≡ had ++ map (line_of n p) (trace_told answer.note)
+    → IsDone p (by_upshot (upshot_of answer.act) (view_of two.machine.system p) two.machine.time (part_at p two.machine)).after
+    (by_upshot (upshot_of answer.act) (view_of two.machine.system p) two.machine.time (part_at p two.machine)).told two new between got
+    → (by_upshot (upshot_of answer.act) (view_of two.machine.system p) two.machine.time (part_at p two.machine)).act ≡ act_of reach
+    → IsUponOne reach two.machine
+    → IsWorked p (called (caller_at p pc npc old)) answer.note reach old new got
+unfolding called caller_at
+call_worked p pc npc n answer reach old one two new had between got below empty serves counts n_is traces follows act one_is =
+    let caller = caller_at p pc npc old in
+    any_call p caller.sight (served caller) answer reach old one two new between got (record {
+      below = below;
+      acts = (served_keeps caller).acts;
+      serves = serves;
+      counts = counts;
+      traces = traces ∙ ap (λ (h : List ReportLine). h ++ map (line_of n p) (trace_told answer.note)) empty ∙ ap (λ (k : ℕ). map (line_of k p) (trace_told answer.note)) n_is;
+      follows = follows;
+      act = act;
+      one_is = one_is;
+    })
 
-      memory : asked ≡ act.Nothing → new.memory ≡ s.after.memory
-      memory nothing =
-          memory_kept asked view counted new nothing follows ∙ ap (λ (x : PartitionState). x.memory) counts ∙ ap (λ (x : PartitionState). x.memory) left
+-- where what follows a call of this upshot reaches, by its note
+reach_told : (a_note : Note) (s : Served) (u : Upshot) (reach : Beyond) (view : PartitionView) (time : ℕ) (ps : PartitionState) → s.told ≡ told_by a_note s.after.memory → (s.told ≡ []) ⊎ (s.upshot ≡ Acts told.Nothing)
+    → untraded s.upshot ≡ u → (by_upshot u view time ps).act ≡ act_of reach → TellsAlone a_note reach
+reach_told note.Nothing s u reach view time ps told_is acts is act = tt
+reach_told (note.Console at size) s u reach view time ps told_is (inl none) is act = absurd cc
+reach_told (note.Console at size) s u reach view time ps told_is (inr nothing) is act =
+    sym act ∙ ap (λ (upshot : Upshot). (by_upshot upshot view time ps).act) (sym is ∙ ap untraded nothing)
+reach_told (note.Trace entry) s u reach view time ps told_is acts is act = tt
+reach_told (note.Put chan at size) s u reach view time ps told_is acts is act = tt
+reach_told (note.Take chan) s u reach view time ps told_is acts is act = tt
+reach_told (note.Saw at size) s u reach view time ps told_is acts is act = tt
+reach_told note.NotKept s u reach view time ps told_is acts is act = tt
 
-      work : (others : List (Option Content)) (later : ℕ) (another : Sight) (at behind : ℕ) → called (calling view old others later another at behind) ≡ told_work new (telling_by asked said)
-      work others later another at behind =
-          called_is (calling view old others later another at behind) s (served_alike view old others contents later time another sight at pc behind npc built)
-          ∙ ap (λ (u : Upshot). before_work s.told (by_upshot u view later (clocked s.after))) upshot
-          ∙ ap (λ (ps : PartitionState). before_work s.told (by_act (act_of asked) view ps)) (sym behind_it)
-          ∙ ap (before_work s.told) follows.work
-          ∙ ap (λ (t : List Told). record { after = new; told = t ++ asked_told asked; act = told.Nothing }) tells
-          ∙ ap (λ (t : List Told). record { after = new; told = t; act = told.Nothing }) (tale asked said p s.after.memory new.memory own memory)
+-- a call that tells bytes for the console reaches nothing
+pub call_alone : (p pc npc : ℕ) (answer : code.Served) (reach : Beyond) (old one two : SysState)
+    → IsServed p (caller_at p pc npc old).sight (served (caller_at p pc npc old)) answer old one
+    → (by_upshot (upshot_of answer.act) (view_of two.machine.system p) two.machine.time (part_at p two.machine)).act ≡ act_of reach → TellsAlone answer.note reach
+call_alone p pc npc answer reach old one two serves act =
+    let caller = caller_at p pc npc old in
+    reach_told answer.note (served caller) (upshot_of answer.act) reach (view_of two.machine.system p) two.machine.time (part_at p two.machine) serves.told (served_keeps caller).acts serves.upshot act
 
-      stays : old.state ≡ Ready → Stays 1 old new
-      stays ready =
-          let answers : Answers (calling view old contents time sight pc npc) s = served_answers (calling view old contents time sight pc npc) built in
-          stays_more 1 0 1 old counted new (omega arith) (answered_stays answers.value old after counted ready (left ∙ answers.after) counts) follows.stays
+-- a call keeps the health log and the execution clock of its partition
+pub call_keeps : (p pc npc : ℕ) (answer : code.Served) (old one : SysState) → p < length old.machine.parts
+    → IsServed p (caller_at p pc npc old).sight (served (caller_at p pc npc old)) answer old one → kept_parts (part_at p one.machine) ≡ kept_parts (part_at p old.machine)
+unfolding caller_at
+call_keeps p pc npc answer old one below serves =
+    let caller = caller_at p pc npc old in
+    ap (λ (sys : SysState). kept_parts (part_at p sys.machine)) serves.state
+    ∙ traded_kept (traffic_by answer.note (served caller).after.memory) p (served caller).after old.machine below
+    ∙ (served_keeps caller).same
 
--- the number of a view is its partition's
-pub view_id : (system : System) (p : ℕ) → (view_of system p).id ≡ p
-unfolding view_of
-view_id system p = refl
+-- and how many partitions there are
+pub call_counts : (p pc npc : ℕ) (answer : code.Served) (old one : SysState)
+    → IsServed p (caller_at p pc npc old).sight (served (caller_at p pc npc old)) answer old one → length one.machine.parts ≡ length old.machine.parts
+call_counts p pc npc answer old one serves =
+    let caller = caller_at p pc npc old in
+    ap (λ (sys : SysState). length sys.machine.parts) serves.state
+    ∙ traded_length (traffic_by answer.note (served caller).after.memory) (with_part p (served caller).after old.machine)
+    ∙ length-set old.machine.parts p (served caller).after

@@ -1,19 +1,22 @@
--- Runs of the machine by parts: how one goes on, is cut off by its sink, or meets a tick that is not built.
-use Rattle.std.proofs.Common.{◌≡◌, ⊎_elim, ℕ, suc, ◌+◌, ◌-◌, ◌<◌, ◌≤◌, List, [], ◌++◌, length, take, Option, None, Result, Ok, Err, refl, sym, ap, ◌∙◌, subst, arith, length-append}
+-- Runs of the machine by parts: how one goes on, is cut off by its sink, or ends as the hypervisor halts.
+use Rattle.std.proofs.Common.{◌≡◌, ⊎_elim, ℕ, zero, suc, ◌+◌, ◌-◌, ◌*◌, ◌<◌, ◌≤◌, Bool, false, true, List, [], ◌++◌, length, Option, Result, Ok, Err, refl, sym, ap, ◌∙◌, subst, arith, length-append}
+use Rattle.std.specs.Prelude.{not}
 use Rattle.std.proofs.lemmas.Bool.{cases_lt}
 use Rattle.std.proofs.lemmas.List.{append-nil}
 use Rattle.xm_outside.specs.Growth.{grown, grown-nothing, grown_grown, GrewByPrefix}
 use Rattle.xm_report.specs.Report.{ReportLine, texts, texts-append}
-use Rattle.machine_model.specs.Lines.{lines, step_lines}
-use Rattle.machine_model.specs.Machine.{Machine, run}
-use Rattle.slot_runs.specs.Built.{Place, unbuilt}
-use Rattle.slot_runs.specs.RunLemmas.{lines_add, lines_more, run_add}
+use Rattle.xm_report.specs.declared.output.WriteFault.{WriteFault}
+use Rattle.machine_model.specs.Lines.{lines, lines_unless, step_lines}
+use Rattle.machine_model.specs.Machine.{Machine, run, step}
+use Rattle.machine_model.specs.Structures.{flag}
+use Rattle.hypercalls.specs.State.{SysState}
+use Rattle.slot_runs.specs.RunLemmas.{lines_add, run_add}
 use Rattle.xm_machine.proofs.FrontLemmas.{front_of_all}
-use Rattle.xm_machine.specs.Machine.{AreRun, AreStopped, AreTaken, IsStep, IsStepCut, IsStepStuck, RunsTicks, Says, Steps, TakesTurns, Tells, lines_told}
-use Rattle.xm_machine.specs.Turns.{ticks_done}
-use Rattle.xm_machine.specs.declared.run.RunFault.{RunFault}
-use Rattle.xm_machine.specs.declared.run.RunFault.TheVariants.{Write, NotBuilt}
-use Rattle.xm_machine.specs.declared.telling.Telling.{Telling}
+use Rattle.xm_machine.proofs.KeptLemmas.{run_halted, step_halted, ticks_exact, ticks_least}
+use Rattle.xm_machine.specs.Outcome.{IsTick}
+use Rattle.xm_machine.specs.Span.{IsSpanDone, console_lines}
+use Rattle.xm_machine.specs.Steps.{AreRun, IsStep, IsStepCut, Steps, Tells}
+use Rattle.xm_machine.specs.declared.slot.Span.{Span}
 
 -- the lines of a run, and of more ticks
 texts_add : (g mid : Machine) (j k : ℕ) → mid ≡ run g j → texts (lines g (j + k)) ≡ texts (lines g j) ++ texts (lines mid k)
@@ -32,161 +35,159 @@ lines_grow g j k less =
       length-append (texts (lines g j)) (texts (lines (run g j) (k - j))),
     )
 
--- ticks that were done, of which the last alone tells something: the lines of them all
-taken_lines : (p quiet : ℕ) (telling : Telling) (old new : Machine) → AreTaken p quiet telling old new → lines old (quiet + 1) ≡ lines_told (old.ticks + quiet) p telling new.parts
-taken_lines p quiet telling old new taken =
-    let one : quiet + 1 ≡ suc quiet = omega arith in
-    ap (lines old) one ∙ lines_more old quiet ∙ ap (λ (before : List ReportLine). before ++ step_lines (run old quiet)) taken.silent ∙ taken.last
+-- a machine that has halted has no more lines
+step_silent : (g : Machine) → g.halted ≡ true → step_lines g ≡ []
+unfolding step_lines
+step_silent g halts = ap (λ b. lines_unless b g) halts
 
--- their lines went out
-pub step_done : (p quiet count most : ℕ) (telling : Telling) (old new : Machine) (had got : Option (List ℕ)) → AreTaken p quiet telling old new → quiet < most → new.ticks ≡ old.ticks + (quiet + 1)
-    → Tells (Ok count) (lines_told (old.ticks + quiet) p telling new.parts) had got → IsStep count most old new had got
-step_done p quiet count most telling old new had got taken few ticks tells =
-    let all = taken_lines p quiet telling old new taken in
-    record {
-      done = quiet + 1;
-      some = omega arith;
-      within = omega arith;
-      are = record {
-        built = λ k below. taken.built k (omega arith);
-        state = taken.state;
-        ticks = ticks;
-        count = tells.0 ∙ ap length (sym all);
-        report = tells.1 ∙ ap (λ (l : List ReportLine). grown had (texts l)) (sym all);
-      };
-    }
+lines_halted : (k : ℕ) (g : Machine) → g.halted ≡ true → lines g k ≡ []
+lines_halted zero g halts = refl
+lines_halted (suc k) g halts =
+    ap (λ (first : List ReportLine). first ++ lines (step g) k) (step_silent g halts)
+    ∙ ap (λ (m : Machine). lines m k) (step_halted g halts) ∙ lines_halted k g halts
 
--- their lines did not go out whole
-pub step_cut : (p quiet most : ℕ) (telling : Telling) (old new : Machine) (had got : Option (List ℕ)) → AreTaken p quiet telling old new → quiet < most
-    → Tells (Err Write) (lines_told (old.ticks + quiet) p telling new.parts) had got → IsStepCut most old new had got
-step_cut p quiet most telling old new had got taken few cut =
-    let all : lines_told (old.ticks + quiet) p telling new.parts ≡ lines old (quiet + 1) = sym (taken_lines p quiet telling old new taken) in
-    let none : length (texts (lines old quiet)) ≡ 0 = ap (λ (l : List ReportLine). length (texts l)) taken.silent in
-    let front : GrewByPrefix had (texts (lines old (quiet + 1))) got = record {
-      count = cut.count;
-      short = omega (arith, cut.short, ap (λ (l : List ReportLine). length (texts l)) all);
-      grew = cut.grew ∙ ap (λ (l : List ReportLine). grown had (take cut.count (texts l))) all;
-    } in
+-- a tick of a machine that has halted
+pub halted_tick : (g : Machine) (had : Option (List ℕ)) → g.halted ≡ true → IsTick {T = Unit {0}} (Ok tt) g g had had
+halted_tick g had halts = record {
+  state = sym (step_halted g halts);
+  report = sym (grown-nothing had) ∙ ap (λ (l : List ReportLine). grown had (texts l)) (sym (step_silent g halts));
+}
+
+-- ticks of a span were done, and what they told was put out
+pub step_told : (result : Result ℕ WriteFault) (span : Span) (most : ℕ) (old new : SysState) (after : List ReportLine) (had got : Option (List ℕ)) → IsSpanDone span most old new after
+    → Tells result (console_lines span old.machine new.machine ++ after) had got → Steps result most old.machine new.machine had got
+step_told (Ok count) span most old new after had got done tells = record {
+  done = span.ticks;
+  some = done.some;
+  within = done.within;
+  are = record {
+    state = ap (λ (s : SysState). s.machine) done.state;
+    count = tells.0 ∙ ap length (sym done.lines);
+    report = tells.1 ∙ ap (λ (l : List ReportLine). grown had (texts l)) (sym done.lines);
+  };
+}
+step_told (Err fault) span most old new after had got done cut =
+    let front : GrewByPrefix had (texts (lines old.machine span.ticks)) got = subst (λ (l : List ReportLine). GrewByPrefix had (texts l) got) (sym done.lines) cut in
+    let none : length (texts (lines old.machine (span.ticks - 1))) ≡ 0 = ap (λ (l : List ReportLine). length (texts l)) done.silent in
     record {
-      done = quiet + 1;
-      some = omega arith;
-      within = omega arith;
+      done = span.ticks;
+      some = done.some;
+      within = done.within;
       are = record {
-        built = λ k below. taken.built k (omega arith);
-        state = taken.state;
+        state = ap (λ (s : SysState). s.machine) done.state;
         report = front;
-        whole = λ k below. omega (arith, none, lines_grow old k quiet (omega arith));
+        whole = λ k below. omega (arith, none, lines_grow old.machine k (span.ticks - 1) (omega (arith, below)));
         cut = front.short;
       };
     }
 
--- a tick was not built
-pub step_stuck : (p pc quiet most : ℕ) (old new : Machine) (had : Option (List ℕ)) → AreStopped p pc quiet old new → quiet < most → IsStepStuck (record { part = p; pc = pc }) most old new had had
-step_stuck p pc quiet most old new had stopped few = record {
-  done = quiet;
-  within = few;
-  are = record {
-    built = stopped.built;
-    stop = stopped.place;
-    ticks = stopped.ticks;
-    report = sym (grown-nothing had) ∙ ap (λ (l : List ReportLine). grown had (texts l)) (sym stopped.silent);
-  };
+-- a run is on its way: so many of its ticks at most were done, and each told a few lines
+pub record Goes (told ticks : ℕ) (old new : Machine) (had got : Option (List ℕ)) : Type 0 where
+  pub done : ℕ
+  pub within : done ≤ ticks
+  pub few : told ≤ 25 * done
+  pub are : AreRun done told old new had got
+
+-- it begins
+pub begins : (ticks : ℕ) (g : Machine) (had : Option (List ℕ)) → Goes 0 ticks g g had had
+begins ticks g had = record {
+  done = 0;
+  within = omega arith;
+  few = omega arith;
+  are = record { state = refl; count = refl; report = sym (grown-nothing had) };
 }
 
--- a run that begins
-pub begins : (g : Machine) (had : Option (List ℕ)) → AreRun 0 0 g g had had
-begins g had = record {
-  built = λ k below. absurd (omega arith);
-  state = refl;
-  ticks = omega arith;
-  count = refl;
-  report = sym (grown-nothing had);
-}
-
--- ticks that were built, and more that were
-built_on : (g mid : Machine) (done more : ℕ) → mid ≡ run g done → ((k : ℕ) → k < done → unbuilt (run g k) ≡ None) → ((k : ℕ) → k < more → unbuilt (run mid k) ≡ None) → (k : ℕ) → k < done + more → unbuilt (run g k) ≡ None
-built_on g mid done more is before later k below = ⊎_elim (before k) behind (cases_lt k done)
-  where
-    behind : done ≤ k → unbuilt (run g k) ≡ None
-    behind from =
-        let rest : k ≡ done + (k - done) = omega arith in
-        ap (λ (n : ℕ). unbuilt (run g n)) rest ∙ ap unbuilt (run_add g done (k - done)) ∙ ap (λ (m : Machine). unbuilt (run m (k - done))) (sym is) ∙ later (k - done) (omega arith)
-
--- the state behind more ticks
+-- the state after more ticks
 state_on : (g mid new : Machine) (done more : ℕ) → mid ≡ run g done → new ≡ run mid more → new ≡ run g (done + more)
 state_on g mid new done more is then = then ∙ ap (λ (m : Machine). run m more) is ∙ sym (run_add g done more)
 
--- a run goes on
-pub goes_on : (g mid new : Machine) (k told count most both : ℕ) (had before got : Option (List ℕ)) → AreRun k told g mid had before → (step : IsStep count most mid new before got) → both ≡ k + step.done → AreRun both (told + count) g new had got
-goes_on g mid new k told count most both had before got goes step is =
-    subst (λ (n : ℕ). AreRun n (told + count) g new had got) (sym is) (record {
-      built = built_on g mid k step.done goes.state goes.built step.are.built;
-      state = state_on g mid new k step.done goes.state step.are.state;
-      ticks = omega (arith, step.are.ticks, goes.ticks);
-      count = omega (arith, goes.count, step.are.count, ap length (lines_add g k step.done), length-append (lines g k) (lines (run g k) step.done), ap (λ (m : Machine). length (lines m step.done)) goes.state);
-      report = step.are.report ∙ ap (λ (m : Option (List ℕ)). grown m (texts (lines mid step.done))) goes.report
-          ∙ grown_grown had (texts (lines g k)) (texts (lines mid step.done)) ∙ ap (grown had) (sym (texts_add g mid k step.done goes.state));
-    })
+-- as long as the hypervisor has not halted the ticks done are those that were counted
+pub counted : (told ticks : ℕ) (old new : Machine) (had got : Option (List ℕ)) → (goes : Goes told ticks old new had got) → new.halted ≡ false → new.ticks ≡ old.ticks + goes.done
+counted told ticks old new had got goes runs =
+    ap (λ (m : Machine). m.ticks) goes.are.state ∙ ticks_exact goes.done old (sym (ap (λ (m : Machine). m.halted) goes.are.state) ∙ runs)
 
--- a run is cut off
-pub goes_cut : (g mid new : Machine) (k told most ticks : ℕ) (had before got : Option (List ℕ)) → AreRun k told g mid had before → IsStepCut most mid new before got → k + most ≤ ticks → IsStepCut ticks g new had got
-goes_cut g mid new k told most ticks had before got goes step room =
-    let both : texts (lines g (k + step.done)) ≡ texts (lines g k) ++ texts (lines mid step.done) = texts_add g mid k step.done goes.state in
-    let front : GrewByPrefix had (texts (lines g (k + step.done))) got =
-    front_of_all had before got (texts (lines g k)) (texts (lines mid step.done)) [] (texts (lines g (k + step.done)))
-    (both ∙ sym (append-nil (texts (lines g k) ++ texts (lines mid step.done)))) goes.report step.are.report in
+-- it goes on
+pub goes_on : (g mid new : Machine) (told count most ticks : ℕ) (had before got : Option (List ℕ)) → (goes : Goes told ticks g mid had before) → IsStep count most mid new before got → count ≤ 25 → goes.done + most ≤ ticks → Goes (told + count) ticks g new had got
+goes_on g mid new told count most ticks had before got goes step few room = record {
+  done = goes.done + step.done;
+  within = omega (arith, step.within, room);
+  few = omega (arith, goes.few, few, step.some);
+  are = record {
+    state = state_on g mid new goes.done step.done goes.are.state step.are.state;
+    count = omega (arith, goes.are.count, step.are.count, ap length (lines_add g goes.done step.done), length-append (lines g goes.done) (lines (run g goes.done) step.done), ap (λ (m : Machine). length (lines m step.done)) goes.are.state);
+    report = step.are.report ∙ ap (λ (m : Option (List ℕ)). grown m (texts (lines mid step.done))) goes.are.report
+        ∙ grown_grown had (texts (lines g goes.done)) (texts (lines mid step.done)) ∙ ap (grown had) (sym (texts_add g mid goes.done step.done goes.are.state));
+  };
+}
+
+-- it is cut off
+pub goes_cut : (g mid new : Machine) (told most ticks : ℕ) (had before got : Option (List ℕ)) → (goes : Goes told ticks g mid had before) → IsStepCut most mid new before got → goes.done + most ≤ ticks → IsStepCut ticks g new had got
+goes_cut g mid new told most ticks had before got goes step room =
+    let both : texts (lines g (goes.done + step.done)) ≡ texts (lines g goes.done) ++ texts (lines mid step.done) = texts_add g mid goes.done step.done goes.are.state in
+    let front : GrewByPrefix had (texts (lines g (goes.done + step.done))) got =
+    front_of_all had before got (texts (lines g goes.done)) (texts (lines mid step.done)) [] (texts (lines g (goes.done + step.done)))
+    (both ∙ sym (append-nil (texts (lines g goes.done) ++ texts (lines mid step.done)))) goes.are.report step.are.report in
     record {
-      done = k + step.done;
+      done = goes.done + step.done;
       some = omega (arith, step.some);
       within = omega (arith, step.within, room);
       are = record {
-        built = built_on g mid k step.done goes.state goes.built step.are.built;
-        state = state_on g mid new k step.done goes.state step.are.state;
+        state = state_on g mid new goes.done step.done goes.are.state step.are.state;
         report = front;
-        whole = λ j below. ⊎_elim (earlier j) (later j below) (cases_lt j k);
+        whole = λ j below. ⊎_elim (earlier j) (later j below) (cases_lt j goes.done);
         cut = front.short;
       };
     }
   where
-    earlier : (j : ℕ) → j < k → length (texts (lines g j)) ≤ length (texts (lines g k)) + step.are.report.count
-    earlier j less = omega (arith, lines_grow g j k (omega arith))
+    earlier : (j : ℕ) → j < goes.done → length (texts (lines g j)) ≤ length (texts (lines g goes.done)) + step.are.report.count
+    earlier j less = omega (arith, lines_grow g j goes.done (omega arith))
 
-    later : (j : ℕ) → j < k + step.done → k ≤ j → length (texts (lines g j)) ≤ length (texts (lines g k)) + step.are.report.count
+    later : (j : ℕ) → j < goes.done + step.done → goes.done ≤ j → length (texts (lines g j)) ≤ length (texts (lines g goes.done)) + step.are.report.count
     later j below from =
-        let rest : j ≡ k + (j - k) = omega arith in
+        let rest : j ≡ goes.done + (j - goes.done) = omega arith in
         omega (
           arith,
           ap (λ (n : ℕ). length (texts (lines g n))) rest,
-          ap length (texts_add g mid k (j - k) goes.state),
-          length-append (texts (lines g k)) (texts (lines mid (j - k))),
-          step.are.whole (j - k) (omega arith),
+          ap length (texts_add g mid goes.done (j - goes.done) goes.are.state),
+          length-append (texts (lines g goes.done)) (texts (lines mid (j - goes.done))),
+          step.are.whole (j - goes.done) (omega arith),
         )
 
--- a run meets a tick that is not built
-pub goes_stuck : (place : Place) (g mid new : Machine) (k told most ticks : ℕ) (had before got : Option (List ℕ)) → AreRun k told g mid had before → IsStepStuck place most mid new before got → k + most ≤ ticks → IsStepStuck place ticks g new had got
-goes_stuck place g mid new k told most ticks had before got goes step room = record {
-  done = k + step.done;
-  within = omega (arith, step.within, room);
-  are = record {
-    built = built_on g mid k step.done goes.state goes.built step.are.built;
-    stop = ap unbuilt (run_add g k step.done) ∙ ap (λ (m : Machine). unbuilt (run m step.done)) (sym goes.state) ∙ step.are.stop;
-    ticks = omega (arith, step.are.ticks, goes.ticks);
-    report = step.are.report ∙ ap (λ (m : Option (List ℕ)). grown m (texts (lines mid step.done))) goes.report
-        ∙ grown_grown had (texts (lines g k)) (texts (lines mid step.done)) ∙ ap (grown had) (sym (texts_add g mid k step.done goes.state));
-  };
-}
+-- a run after which the hypervisor has halted is one of more ticks, too
+halted_run : (g new : Machine) (done ticks told : ℕ) (had got : Option (List ℕ)) → AreRun done told g new had got → new.halted ≡ true → done ≤ ticks → AreRun ticks told g new had got
+halted_run g new done ticks told had got are halts within =
+    let rest : ticks ≡ done + (ticks - done) = omega arith in
+    let still : (run g done).halted ≡ true = sym (ap (λ (m : Machine). m.halted) are.state) ∙ halts in
+    let stays : run g ticks ≡ run g done = ap (run g) rest ∙ run_add g done (ticks - done) ∙ run_halted (ticks - done) (run g done) still in
+    let same : lines g ticks ≡ lines g done =
+    ap (lines g) rest ∙ lines_add g done (ticks - done) ∙ ap (λ (l : List ReportLine). lines g done ++ l) (lines_halted (ticks - done) (run g done) still) ∙ append-nil (lines g done) in
+    record {
+      state = are.state ∙ sym stays;
+      count = are.count ∙ ap length (sym same);
+      report = are.report ∙ ap (λ (l : List ReportLine). grown had (texts l)) (sym same);
+    }
 
--- what turns told was put out, or they ended at a tick that is not built: a step of the run
-pub step_says : (result : Result ℕ RunFault) (p quiet most : ℕ) (last : Result Telling ℕ) (old new : Machine) (had got : Option (List ℕ)) → TakesTurns p quiet last old new → quiet < most → new.ticks ≡ old.ticks + ticks_done quiet last
-    → Says result (old.ticks + quiet) p last new.parts had got → Steps result most old new had got
-step_says (Ok count) p quiet most (Ok telling) old new had got taken few ticks says = step_done p quiet count most telling old new had got taken few ticks says
-step_says (Err Write) p quiet most (Ok telling) old new had got taken few ticks says = step_cut p quiet most telling old new had got taken few says
-step_says (Err (NotBuilt part pc)) p quiet most (Ok telling) old new had got taken few ticks says = absurd says
-step_says result p quiet most (Err pc) old new had got stopped few ticks says =
-    subst (λ (r : Result ℕ RunFault). Steps r most old new had got) (sym says.0)
-    (subst (λ (g : Option (List ℕ)). IsStepStuck (record { part = p; pc = pc }) most old new had g) (sym says.1) (step_stuck p pc quiet most old new had stopped few))
+-- the run has come to its end: the hypervisor has halted, or all ticks are done
+pub goes_out : (told ticks : ℕ) (g new : Machine) (had got : Option (List ℕ)) → Goes told ticks g new had got → g.ticks ≡ 0 → (new.halted ≡ false → ticks ≤ new.ticks) → AreRun ticks told g new had got
+goes_out told ticks g new had got goes fresh ends = at new.halted refl
+  where
+    at : (b : Bool) → new.halted ≡ b → AreRun ticks told g new had got
+    at true halts = halted_run g new goes.done ticks told had got goes.are halts goes.within
+    at false runs =
+        let all : goes.done ≡ ticks = omega (arith, counted told ticks g new had got goes runs, fresh, ends runs, goes.within) in
+        subst (λ (n : ℕ). AreRun n told g new had got) all goes.are
 
--- a run that a step ended
-pub goes_wrong : (fault : RunFault) (g mid new : Machine) (k told most ticks : ℕ) (had before got : Option (List ℕ)) → AreRun k told g mid had before → Steps (Err fault) most mid new before got → k + most ≤ ticks → RunsTicks (Err fault) ticks g new had got
-goes_wrong Write g mid new k told most ticks had before got goes step room = goes_cut g mid new k told most ticks had before got goes step room
-goes_wrong (NotBuilt part pc) g mid new k told most ticks had before got goes step room = goes_stuck (record { part = part; pc = pc }) g mid new k told most ticks had before got goes step room
+-- what a run has still to do: ticks, and to halt
+abbrev pub to_come : ℕ → Machine → ℕ
+to_come ticks g = ticks - g.ticks + flag (not g.halted)
+
+-- ticks make it less
+pub comes_nearer : (ticks done : ℕ) (old new : Machine) → old.halted ≡ false → old.ticks < ticks → 0 < done → new ≡ run old done → to_come ticks new < to_come ticks old
+comes_nearer ticks done old new runs below some is = at new.halted refl
+  where
+    before : flag (not old.halted) ≡ 1
+    before = ap (λ b. flag (not b)) runs
+
+    at : (b : Bool) → new.halted ≡ b → to_come ticks new < to_come ticks old
+    at true halts = omega (arith, before, ap (λ b. flag (not b)) halts, ap (λ (m : Machine). m.ticks) is, ticks_least done old, below)
+    at false goes = omega (arith, before, ap (λ b. flag (not b)) goes, ap (λ (m : Machine). m.ticks) is, ticks_exact done old (sym (ap (λ (m : Machine). m.halted) is) ∙ goes), below, some)

@@ -1,4 +1,5 @@
 pub mod Machine
 pub mod Outcome
-pub mod State
-pub mod Turns
+pub mod Span
+pub mod Steps
+pub mod Work

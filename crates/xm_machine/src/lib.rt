@@ -1,15 +1,22 @@
-//! The machine: it boots a system, does its ticks one by one, and writes the report of a run.
+//! The machine: it boots a system, does its ticks, and writes the report of a run.
 #![tactic(auto)]
 
+mod beyond;
 mod board;
+mod ending;
+mod health;
+mod lines;
 mod machine;
+mod order;
 mod report;
+mod rest;
 mod run;
 mod slot;
-mod telling;
+mod work;
 
 pub use board::Board;
+pub use hypercalls::{InputFault, Inputs};
 pub use machine::Machine;
 pub use machine_model::two_runs;
-pub use run::{Ran, RunFault};
+pub use run::Ran;
 pub use xm_report::{Line, Move, WriteFault, put_line};

@@ -1,197 +1,199 @@
 //! The machine: it boots, and does its ticks one by one.
 
-ghost use Rattle.std.specs.Prelude.{◌≡◌, ◌+◌, ◌<◌, ◌≤◌, false, IfOk, length};
-ghost use Rattle.hypercalls.specs.State.{machine_of};
+ghost use Rattle.std.specs.Prelude.{◌≡◌, ◌+◌, ◌*◌, ◌<◌, ◌≤◌, false, All, IfOk, length};
+ghost use Rattle.cyclic_plans.specs.PlanClock.{started};
+ghost use Rattle.hypercalls.specs.State.{with_inputs};
 ghost use Rattle.machine_model.specs.Lines.{end_lines};
-ghost use Rattle.xm_machine.specs.Machine.{CanTellIn, RunsTicks, Steps, TakesTurns, Tells};
-ghost use Rattle.xm_machine.specs.Outcome.{HasRunCause, IsRun, IsTick};
-ghost use Rattle.slot_runs.specs.Run.{first_line, last_line};
-ghost use Rattle.xm_machine.specs.State.{booted};
-ghost use Rattle.xm_machine.specs.Turns.{ticks_done};
+ghost use Rattle.machine_model.specs.Machine.{start};
+ghost use Rattle.machine_model.specs.Partition.{reset};
+ghost use Rattle.machine_model.specs.Told.{AllReset};
+ghost use Rattle.machine_model.specs.View.{view_of};
+ghost use Rattle.slot_runs.specs.Passes.{evented, part_at, with_part};
+ghost use Rattle.xm_machine.specs.Machine.{IsCounted};
+ghost use Rattle.xm_machine.specs.Outcome.{HasWriteCause, IsRun, IsTick, first_line, last_line};
+ghost use Rattle.xm_machine.specs.Steps.{RunsTicks, Steps, Tells};
 ghost use Rattle.xm_report.specs.Report.{line_of};
 
 use crate::board::Board;
-use crate::report::{end_parts, put, say};
-use crate::run::{Ran, RunFault};
-use crate::slot::{pass, ticks_left, turns_in};
-use crate::telling::Turns;
-use hypercalls::Sys;
+use crate::lines::Lines;
+use crate::report::{end_parts, tell};
+use crate::run::Ran;
+use crate::slot::run_span;
+use crate::{ending, order};
+use cyclic_plans::PlanClock;
+use hypercalls::{Inputs, Sys};
 use loaded_system::System;
-use slot_runs::{ready_ticks, stuck_ticks, waiting_ticks};
+use machine_model::{keeps_facts, keeps_hardware_clock, keeps_numbers, keeps_plans};
 use std::alloc::Global;
 use std::marker::Model;
-use xm_base::{Memory, TICKS};
+use xm_base::{Memory, Mode, PartId, TICKS};
 use xm_outside::Sink;
-use xm_report::Line;
+use xm_report::{Line, WriteFault, put_line};
 
 /// A machine that was booted.
 #[derive(Debug, Drop)]
 pub struct Machine {
     sys: Sys,
-    ticks: u64,
-    halted: bool,
+    lines: Lines,
 }
 
 impl Model for Machine {
     ghost use Rattle.std.specs.Coded.{codes};
     ghost use Rattle.guest_bus.specs.Memory.{memory_code};
-    ghost use Rattle.hypercalls.specs.State.{machine_of};
-    ghost use Rattle.xm_machine.specs.Machine.{Meaning};
-    ghost use Rattle.slot_runs.specs.Parts.{IsMachine};
+    ghost use Rattle.xm_machine.specs.Machine.{IsMachine, Meaning};
 
     ghost Value = { Meaning };
 
     ghost coded = { Prim.hlevel (codes, memory_code) };
 
-    ghost view = { λ a. record { state = machine_of a.sys a.ticks a.halted } };
+    ghost view = { λ a. record { state = a.sys.machine } };
 
-    ghost invariant = { λ a. IsMachine (machine_of a.sys a.ticks a.halted) };
+    ghost invariant = { λ a. IsMachine a.sys };
 }
 
 impl Machine {
-    /// The machine with this system, before its first tick. All memory of a run is taken here.
-    #[tactic(auto, unfolding(crate::specs::State::booted))]
-    pub fn boot(alloc: Global, system: System) -> Result<Machine, Memory>
-        ensures { IfOk result (λ machine. machine.state ≡ booted system) }
+    /// The machine with this system and the input words of its partitions, before its first tick. All memory of a run is taken here.
+    pub fn boot(alloc: Global, system: System, inputs: Inputs) -> Result<Machine, Memory>
+        requires { length inputs ≡ length system.conf.parts }
+        ensures { IfOk result (λ machine. machine.state ≡ start (with_inputs system inputs)) }
     {
+        keeps_facts();
+        keeps_hardware_clock();
+        keeps_numbers();
+        keeps_plans();
         Ok(Machine {
-            sys: Sys::new(alloc, system)?,
-            ticks: 0,
-            halted: false,
+            sys: Sys::new(alloc, system, inputs)?,
+            lines: Lines::new(alloc)?,
         })
     }
 
     /// The whole system as it stands.
     pub fn sys(&self) -> &Sys
-        ensures { self.now.state ≡ machine_of result.now self.now.state.ticks self.now.state.halted }
+        ensures { result.now.machine ≡ self.now.state }
     {
         &self.sys
     }
 
-    /// How many ticks were done.
+    /// How many ticks were done. The one in which the hypervisor halts is not counted.
     pub fn done(&self) -> u64
         ensures done { result ≡ self.now.state.ticks }
-        ensures most { result ≤ TICKS }
+        ensures counters { IsCounted self.now.state }
     {
-        self.ticks
+        self.sys.ticks()
     }
 
-    /// Whether the hypervisor halted.
+    /// Whether the hypervisor has halted.
     pub fn halted(&self) -> bool
         ensures { result ≡ self.now.state.halted }
     {
-        self.halted
+        self.sys.halted()
     }
 
-    /// One tick, whose lines go out. After `Write` the tick was done whole; after `NotBuilt` it
-    /// is not counted, and nothing else is said of the machine.
-    pub fn tick<O: Sink>(&mut self, out: &mut O, _board: &mut Board) -> Result<(), RunFault>
+    /// One tick, whose lines go out. After `WriteFault` the tick was done whole. A machine whose hypervisor has halted stays as it is.
+    pub fn tick<O: Sink>(&mut self, out: &mut O, _board: &mut Board) -> Result<(), WriteFault>
         requires { self.old.state.ticks < TICKS }
         ensures tick { IsTick result self.old.state self.new.state (O.got out.old) (O.got out.new) }
-        ensures cause { HasRunCause result (O.faults out.old) (O.faults out.new) }
+        ensures cause { HasWriteCause result (O.faults out.old) (O.faults out.new) }
+        ensures counters { IsCounted self.new.state }
     {
-        self.step(1, out).map(|_| ())
+        if !self.sys.halted() {
+            self.step(1, out)?;
+        }
+        Ok(())
     }
 
-    /// The run of so many ticks, with its whole report: the first line, the ticks' lines and the
-    /// lines of the end. After `Write` the tick in hand was done whole and no later one begun; where
-    /// the first line failed, none was.
+    /// The run of so many ticks, with its whole report: the first line, the ticks' lines and the lines of the end. It ends with the tick in
+    /// which the hypervisor halts. After `WriteFault` the tick in hand was done whole and no later one begun; where the first line failed,
+    /// none was.
     pub fn run<O: Sink>(
         &mut self,
         ticks: u64,
         out: &mut O,
         _board: &mut Board,
-    ) -> Result<Ran, RunFault>
+    ) -> Result<Ran, WriteFault>
         requires fresh { self.old.state.ticks ≡ 0 }
         requires running { self.old.state.halted ≡ false }
         requires most { ticks ≤ TICKS }
         ensures run { IsRun result ticks self.old.state self.new.state (O.got out.old) (O.got out.new) }
-        ensures cause { HasRunCause result (O.faults out.old) (O.faults out.new) }
+        ensures cause { HasWriteCause result (O.faults out.old) (O.faults out.new) }
+        ensures counters { IsCounted self.new.state }
     {
-        put(out, &self.first_line(ticks))?;
-        let said = self.run_ticks(ticks, out)?;
+        put_line(out, &first_line(&self.sys, ticks))?;
+        let told = self.run_ticks(ticks, out)?;
         let ended = self.end(out)?;
         Ok(Ran {
-            ticks: self.ticks,
-            halted: self.halted,
-            lines: 1 + said + ended,
+            ticks: self.done(),
+            halted: self.halted(),
+            lines: 1 + told + ended,
         })
     }
 
-    // The ticks of one slot or gap, at most so many, up to the first that has a line; it goes out. Tells how many lines
-    // that was.
-    fn step<O: Sink>(&mut self, most: u64, out: &mut O) -> Result<u64, RunFault>
+    /// Resets a partition, with this status for it to ask for.
+    pub fn reset_part(&mut self, p: PartId, mode: Mode, status: u32)
+        requires partition { p < length self.old.state.parts }
+        requires log { (part_at p self.old.state).health.next ≤ self.old.state.ticks }
+        ensures value { self.new.state ≡ with_part p (reset (view_of self.old.state.system p) mode status (part_at p self.old.state)) self.old.state }
+    {
+        order::reset(&mut self.sys, p, mode, status);
+    }
+
+    /// Resets all partitions and the hypervisor: the hardware clock and the plans begin anew, and the channels are empty.
+    pub fn reset_all(&mut self, mode: Mode)
+        requires log { All (λ part. part.health.next ≤ self.old.state.ticks) self.old.state.parts }
+        ensures value { self.new.state ≡ record (evented (AllReset mode) self.old.state) { clock = started; time = 0 } }
+    {
+        ending::reset_all(&mut self.sys, mode);
+        *self.sys.plan_clock_mut() = PlanClock::start();
+        self.sys.set_now(0);
+    }
+
+    // Ticks of one slot or gap, at most so many, whose lines go out. Tells how many lines that was.
+    fn step<O: Sink>(&mut self, most: u64, out: &mut O) -> Result<u64, WriteFault>
+        requires running { self.old.state.halted ≡ false }
         requires some { 0 < most }
         requires most { self.old.state.ticks + most ≤ TICKS }
         ensures step { Steps result most self.old.state self.new.state (O.got out.old) (O.got out.new) }
-        ensures few { IfOk result (λ said. said ≤ 1) }
-        ensures cause { HasRunCause result (O.faults out.old) (O.faults out.new) }
+        ensures few { IfOk result (λ told. told ≤ 25) }
+        ensures cause { HasWriteCause result (O.faults out.old) (O.faults out.new) }
+        ensures counters { IsCounted self.new.state }
     {
-        let n = self.done();
-        let turns = self.take_turns(most);
-        say(&self.sys, n + turns.quiet, turns, out)
+        keeps_facts();
+        keeps_hardware_clock();
+        keeps_numbers();
+        keeps_plans();
+        self.lines.clear();
+        let begun = self.sys.ticks();
+        let span = run_span(&mut self.sys, &mut self.lines, most);
+        let last = begun + span.ticks - 1;
+        tell(&self.sys, last, span.part, span.note, &self.lines, out)
     }
 
-    // The work of ticks of one slot or gap, at most so many: those of which there is nothing to tell, and the one after
-    // them.
-    fn take_turns(&mut self, most: u64) -> Turns
-        requires some { 0 < most }
-        requires most { self.old.state.ticks + most ≤ TICKS }
-        ensures turns { TakesTurns result.part result.quiet result.last self.old.state self.new.state }
-        ensures few { result.quiet < most }
-        ensures part { result.part < length self.new.state.parts }
-        ensures told { IfOk result.last (λ telling. CanTellIn telling result.part self.new.state) }
-        ensures ticks { self.new.state.ticks ≡ self.old.state.ticks + ticks_done result.quiet result.last }
-    {
-        ready_ticks();
-        stuck_ticks();
-        waiting_ticks();
-        let most = most.min(ticks_left(&self.sys));
-        let turns = turns_in(&mut self.sys, most);
-        self.ticks += turns.done();
-        pass(&mut self.sys, turns.done());
-        turns
-    }
-
-    // The first line of the report.
-    #[tactic(auto, unfolding(xm_conf::specs::Description::described))]
-    fn first_line(&self, ticks: u64) -> Line<'static>
-        ensures { line_of result ≡ first_line self.now.state ticks }
-    {
-        let conf = self.sys.conf().raw();
-        Line::System {
-            parts: conf.parts.len() as u8,
-            plans: conf.plans.len() as u8,
-            ticks,
-        }
-    }
-
-    // So many ticks, and how many lines they said.
-    fn run_ticks<O: Sink>(&mut self, ticks: u64, out: &mut O) -> Result<u64, RunFault>
-        requires most { self.old.state.ticks + ticks ≤ TICKS }
+    // Ticks up to so many in all, or to the one in which the hypervisor halts, and how many lines they told.
+    fn run_ticks<O: Sink>(&mut self, ticks: u64, out: &mut O) -> Result<u64, WriteFault>
+        requires fresh { self.old.state.ticks ≡ 0 }
+        requires running { self.old.state.halted ≡ false }
+        requires most { ticks ≤ TICKS }
         ensures run { RunsTicks result ticks self.old.state self.new.state (O.got out.old) (O.got out.new) }
-        ensures few { IfOk result (λ said. said ≤ ticks) }
-        ensures ticks { IfOk result (λ said. self.new.state.ticks ≡ self.old.state.ticks + ticks) }
-        ensures cause { HasRunCause result (O.faults out.old) (O.faults out.new) }
+        ensures few { IfOk result (λ told. told ≤ 25 * ticks) }
+        ensures cause { HasWriteCause result (O.faults out.old) (O.faults out.new) }
+        ensures counters { IsCounted self.new.state }
     {
-        let mut said = 0;
-        let mut done = 0;
-        while done < ticks {
-            let before = self.done();
-            said += self.step(ticks - done, out)?;
-            done += self.done() - before;
+        let mut told = 0;
+        while !self.sys.halted() && self.sys.ticks() < ticks {
+            let left = ticks - self.sys.ticks();
+            told += self.step(left, out)?;
         }
-        Ok(said)
+        Ok(told)
     }
 
     // The lines of the end, and how many they are.
-    fn end<O: Sink>(&self, out: &mut O) -> Result<u64, RunFault>
+    fn end<O: Sink>(&self, out: &mut O) -> Result<u64, WriteFault>
         ensures told { Tells result (end_lines self.now.state) (O.got out.old) (O.got out.new) }
         ensures few { IfOk result (λ ended. ended ≤ 17) }
-        ensures cause { HasRunCause result (O.faults out.old) (O.faults out.new) }
+        ensures cause { HasWriteCause result (O.faults out.old) (O.faults out.new) }
     {
         let ended = end_parts(&self.sys, out)?;
-        put(out, &self.last_line())?;
+        put_line(out, &self.last_line())?;
         Ok(ended + 1)
     }
 
@@ -200,10 +202,23 @@ impl Machine {
         ensures { line_of result ≡ last_line self.now.state }
     {
         Line::EndWhole {
-            halted: self.halted,
+            halted: self.halted(),
             plan: self.sys.plan_clock().plan(),
             clock: self.sys.now(),
-            ticks: self.ticks,
+            ticks: self.done(),
         }
+    }
+}
+
+// The first line of the report.
+#[tactic(auto, unfolding(xm_conf::specs::Description::described))]
+fn first_line(sys: &Sys, ticks: u64) -> Line<'static>
+    ensures { line_of result ≡ first_line sys.now.machine ticks }
+{
+    let conf = sys.conf().raw();
+    Line::System {
+        parts: conf.parts.len() as u8,
+        plans: conf.plans.len() as u8,
+        ticks,
     }
 }

@@ -1,138 +1,127 @@
 //! The lines of a report go out.
 
-ghost use Rattle.std.specs.Prelude.{◌≡◌, ◌<◌, ◌≤◌, ◌∷◌, [], IfOk, length, true};
+ghost use Rattle.std.specs.Prelude.{◌≡◌, ◌+◌, ◌-◌, ◌<◌, ◌≤◌, ◌∷◌, ◌++◌, [], All, IfOk, length, map, true};
 ghost use Rattle.guest_bus.specs.Memory.{all_from, bytes_at, is_readable};
-ghost use Rattle.hypercalls.specs.State.{part_at};
-ghost use Rattle.hypercalls.specs.Stepping.{areas_in};
+ghost use Rattle.hypercalls.specs.Serving.{CanBeTold};
+ghost use Rattle.hypercalls.specs.State.{areas_in, memory_of};
 ghost use Rattle.machine_model.specs.Lines.{end_line};
 ghost use Rattle.machine_model.specs.Lists.{all_of};
-ghost use Rattle.xm_machine.specs.Machine.{Puts, Says, Tells, lines_told, memory_at};
-ghost use Rattle.xm_machine.specs.Outcome.{HasRunCause};
-ghost use Rattle.xm_machine.specs.Turns.{CanTell};
+ghost use Rattle.machine_model.specs.Told as told;
+ghost use Rattle.slot_runs.specs.Passes.{part_at};
+ghost use Rattle.xm_machine.specs.Outcome.{HasWriteCause};
+ghost use Rattle.xm_machine.specs.Steps.{Tells};
+ghost use Rattle.xm_machine.specs.Work.{console_told};
 ghost use Rattle.xm_report.specs.Report.{IsShort, line_of};
 
-use crate::run::RunFault;
-use crate::telling::{Telling, Turns};
-use hypercalls::Sys;
+use crate::lines::Lines;
+use hypercalls::{Note, Sys};
 use xm_base::{CONSOLE_BYTES, PartId};
 use xm_outside::Sink;
-use xm_report::{Line, Move, WriteFault, put_line};
+use xm_report::{Line, WriteFault, put_line};
 
-/// Puts one line out.
-pub(crate) fn put<O: Sink>(out: &mut O, line: &Line<'_>) -> Result<(), RunFault>
-    requires { IsShort (line_of line.now) }
-    ensures told { Puts result (line_of line.now) (O.got out.old) (O.got out.new) }
-    ensures cause { HasRunCause result (O.faults out.old) (O.faults out.new) }
-{
-    match put_line(out, line) {
-        Ok(()) => Ok(()),
-        Err(WriteFault) => Err(RunFault::Write),
-    }
-}
-
-/// Puts out what there is to tell of turns whose last tick is tick n, and tells how many lines that was; or they ended at
-/// a tick that is not built.
-pub(crate) fn say<O: Sink>(sys: &Sys, n: u64, turns: Turns, out: &mut O) -> Result<u64, RunFault>
-    requires partition { turns.part < length sys.now.parts }
-    requires told { IfOk turns.last (λ telling. CanTell telling (areas_in turns.part sys.now)) }
-    ensures said { Says result n turns.part turns.last sys.now.parts (O.got out.old) (O.got out.new) }
-    ensures few { IfOk result (λ said. said ≤ 1) }
-    ensures cause { HasRunCause result (O.faults out.old) (O.faults out.new) }
-{
-    match turns.last {
-        Ok(telling) => tell(sys, n, turns.part, telling, out),
-        Err(pc) => Err(RunFault::NotBuilt {
-            part: turns.part,
-            pc,
-        }),
-    }
-}
-
-// Puts out what there is to tell of tick n of partition p, and tells how many lines that was.
-fn tell<O: Sink>(
+/// Puts out what there is to tell of tick n: the bytes that partition `p` wrote to its console, where its note tells any, and then these
+/// lines. Tells how many lines that was.
+pub(crate) fn tell<O: Sink>(
     sys: &Sys,
     n: u64,
     p: PartId,
-    telling: Telling,
+    note: Note,
+    lines: &Lines,
     out: &mut O,
-) -> Result<u64, RunFault>
-    requires partition { p < length sys.now.parts }
-    requires telling { CanTell telling (areas_in p sys.now) }
-    ensures told { Tells result (lines_told n p telling sys.now.parts) (O.got out.old) (O.got out.new) }
-    ensures few { IfOk result (λ told. told ≤ 1) }
-    ensures cause { HasRunCause result (O.faults out.old) (O.faults out.new) }
+) -> Result<u64, WriteFault>
+    requires partition { p < length sys.now.machine.parts }
+    requires readable { CanBeTold note (areas_in p sys.now.machine) }
+    requires few { length lines.now ≤ 24 }
+    ensures told { Tells result (map (told.line_of n p) (console_told note (memory_of p sys.now.machine)) ++ lines.now) (O.got out.old) (O.got out.new) }
+    ensures few { IfOk result (λ count. count ≤ 25) }
+    ensures cause { HasWriteCause result (O.faults out.old) (O.faults out.new) }
 {
-    match telling {
-        Telling::Nothing => Ok(0),
-        Telling::Console { at, size } => tell_console(sys, n, p, at, size, out),
-        Telling::Halted => put_one(
-            out,
-            &Line::Moved {
-                n,
-                p,
-                to: Move::Halt,
-            },
-        ),
+    let console = tell_console(sys, n, p, note, out)?;
+    let others = put_all(out, lines.as_slice())?;
+    Ok(console + others)
+}
+
+// Puts out the line of bytes that went to the console, where the note tells any.
+fn tell_console<O: Sink>(
+    sys: &Sys,
+    n: u64,
+    p: PartId,
+    note: Note,
+    out: &mut O,
+) -> Result<u64, WriteFault>
+    requires partition { p < length sys.now.machine.parts }
+    requires readable { CanBeTold note (areas_in p sys.now.machine) }
+    ensures told { Tells result (map (told.line_of n p) (console_told note (memory_of p sys.now.machine))) (O.got out.old) (O.got out.new) }
+    ensures few { IfOk result (λ count. count ≤ 1) }
+    ensures cause { HasWriteCause result (O.faults out.old) (O.faults out.new) }
+{
+    match note {
+        Note::Console { at, size } => put_console(sys, n, p, at, size, out),
+        _ => Ok(0),
     }
 }
 
 // Puts out the line of bytes that went to the console.
-fn tell_console<O: Sink>(
+fn put_console<O: Sink>(
     sys: &Sys,
     n: u64,
     p: PartId,
     at: u32,
     size: u32,
     out: &mut O,
-) -> Result<u64, RunFault>
-    requires partition { p < length sys.now.parts }
-    requires telling { CanTell (Telling.Console at size) (areas_in p sys.now) }
-    ensures told { Tells result (lines_told n p (Telling.Console at size) sys.now.parts) (O.got out.old) (O.got out.new) }
-    ensures few { IfOk result (λ told. told ≤ 1) }
-    ensures cause { HasRunCause result (O.faults out.old) (O.faults out.new) }
+) -> Result<u64, WriteFault>
+    requires partition { p < length sys.now.machine.parts }
+    requires few { size ≤ CONSOLE_BYTES }
+    requires readable { all_from (is_readable (areas_in p sys.now.machine)) at size ≡ true }
+    ensures told { Tells result (told.line_of n p (told.Console (bytes_at (memory_of p sys.now.machine) at size)) ∷ []) (O.got out.old) (O.got out.new) }
+    ensures few { IfOk result (λ count. count ≤ 1) }
+    ensures cause { HasWriteCause result (O.faults out.old) (O.faults out.new) }
 {
     let mut buffer = [0; CONSOLE_BYTES as usize];
     let bytes = &mut buffer[..size as usize];
     read_console(sys, p, at, bytes);
-    put_one(out, &Line::Console { n, p, bytes })
+    put_line(out, &Line::Console { n, p, bytes })?;
+    Ok(1)
 }
 
 // The bytes of a partition's memory that went to its console.
 fn read_console(sys: &Sys, p: PartId, at: u32, bytes: &mut [u8])
-    requires partition { p < length sys.now.parts }
-    requires readable { all_from (is_readable (areas_in p sys.now)) at (length bytes.old) ≡ true }
-    ensures { bytes.new ≡ bytes_at (memory_at p sys.now.parts) at (length bytes.old) }
+    requires partition { p < length sys.now.machine.parts }
+    requires readable { all_from (is_readable (areas_in p sys.now.machine)) at (length bytes.old) ≡ true }
+    ensures { bytes.new ≡ bytes_at (memory_of p sys.now.machine) at (length bytes.old) }
 {
     let count = sys.count();
-    prove!(u32::from(p) < count);
+    prove!(p < count);
     match sys.ram().copy_in(p, at, bytes) {
         Ok(()) => {}
         Err(_) => unreachable!(),
     }
 }
 
-// Puts one line out, and tells that it was one.
-fn put_one<O: Sink>(out: &mut O, line: &Line<'_>) -> Result<u64, RunFault>
-    requires { IsShort (line_of line.now) }
-    ensures told { Tells result (line_of line.now ∷ []) (O.got out.old) (O.got out.new) }
-    ensures few { IfOk result (λ told. told ≤ 1) }
-    ensures cause { HasRunCause result (O.faults out.old) (O.faults out.new) }
+// Puts out lines, and tells how many.
+fn put_all<O: Sink>(out: &mut O, lines: &[Line<'_>]) -> Result<u64, WriteFault>
+    requires short { All IsShort (map line_of lines.now) }
+    ensures told { Tells result (map line_of lines.now) (O.got out.old) (O.got out.new) }
+    ensures count { IfOk result (λ count. count ≡ length lines.now) }
+    ensures cause { HasWriteCause result (O.faults out.old) (O.faults out.new) }
 {
-    match put(out, line) {
-        Ok(()) => Ok(1),
-        Err(fault) => Err(fault),
+    let mut count = 0;
+    for line in lines {
+        put_line(out, line)?;
+        count += 1;
     }
+    Ok(count)
 }
 
 /// Puts out how each partition stands at the end, and tells how many lines that was.
-pub(crate) fn end_parts<O: Sink>(sys: &Sys, out: &mut O) -> Result<u64, RunFault>
-    ensures told { Tells result (all_of (λ p ps. end_line p ps ∷ []) sys.now.parts) (O.got out.old) (O.got out.new) }
+pub(crate) fn end_parts<O: Sink>(sys: &Sys, out: &mut O) -> Result<u64, WriteFault>
+    ensures told { Tells result (all_of (λ p ps. end_line p ps ∷ []) sys.now.machine.parts) (O.got out.old) (O.got out.new) }
     ensures few { IfOk result (λ told. told ≤ 16) }
-    ensures cause { HasRunCause result (O.faults out.old) (O.faults out.new) }
+    ensures cause { HasWriteCause result (O.faults out.old) (O.faults out.new) }
 {
     let mut p = 0;
-    while u32::from(p) < sys.count() {
-        put(out, &end_line(sys, p))?;
+    while p < sys.count() {
+        put_line(out, &end_line(sys, p))?;
         p += 1;
     }
     Ok(u64::from(p))
@@ -140,8 +129,8 @@ pub(crate) fn end_parts<O: Sink>(sys: &Sys, out: &mut O) -> Result<u64, RunFault
 
 // The line that tells how a partition stands at the end.
 fn end_line(sys: &Sys, p: PartId) -> Line<'static>
-    requires { p < length sys.now.parts }
-    ensures { line_of result ≡ end_line p (part_at p sys.now) }
+    requires { p < length sys.now.machine.parts }
+    ensures { line_of result ≡ end_line p (part_at p sys.now.machine) }
 {
     let part = sys.part(p);
     Line::EndPart {

@@ -10,12 +10,3 @@ pub struct Ran {
     /// The lines of the report.
     pub lines: u64,
 }
-
-/// Why a tick or a run did not reach its end.
-#[derive(Clone, Copy, Debug, PartialEq, Eq)]
-pub enum RunFault {
-    /// The sink did not take a line whole.
-    Write,
-    /// The tick at hand is not built, in this partition at this program counter.
-    NotBuilt { part: u8, pc: u32 },
-}

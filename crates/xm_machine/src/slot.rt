@@ -1,211 +1,370 @@
-//! The ticks of a partition in its slot.
+//! The ticks of one slot or gap.
 
-ghost use Rattle.std.specs.Prelude.{◌≡◌, ℕ, ◌+◌, ◌^◌, ◌<◌, ◌≤◌, All, IfOk, IfSome, None, length};
-ghost use Rattle.cyclic_plans.specs.PlanClock.{IsInFrame, here, slot_at};
-ghost use Rattle.cyclic_plans.specs.Slots.{frame_of};
-ghost use Rattle.hypercalls.specs.Serving.{CanBeTold, IsOwnHalt};
-ghost use Rattle.hypercalls.specs.State.{part_at, with_part};
-ghost use Rattle.hypercalls.specs.Stepping.{areas_in};
-ghost use Rattle.machine_model.specs.View.{view_of};
-ghost use Rattle.xm_machine.specs.Turns.{AreReadyTurns, AreTurns, CanTell, Follows, IsCall, TurnsIn, passed, telling_by};
-ghost use Rattle.slot_runs.specs.Parts.{began};
+ghost use Rattle.std.specs.Prelude.{◌≡◌, ℕ, ◌+◌, ◌-◌, ◌%◌, ◌^◌, ◌<◌, ◌≤◌, ◌++◌, Bool, true, false, if◌then◌else◌, [], IfSome, None, Some, length};
+ghost use Rattle.cyclic_plans.specs.PlanClock.{IsInFrame, here, moment, slot_at};
+ghost use Rattle.cyclic_plans.specs.Slots.{IsHere, frame_of, slots_of};
+ghost use Rattle.hypercalls.specs.State.{with_machine};
+ghost use Rattle.machine_model.specs.LocalTick.{goes_on, with_interrupts};
+ghost use Rattle.machine_model.specs.Machine.{Machine};
+ghost use Rattle.machine_model.specs.Partition.{PartitionState, takes_turns};
+ghost use Rattle.slot_runs.specs.Meeting.{NoDelivery, awake};
+ghost use Rattle.slot_runs.specs.Passes.{part_at, rest_but, with_part};
+ghost use Rattle.slot_runs.specs.SpanLaws.{IsNobodys};
+ghost use Rattle.slot_runs.specs.Spans.{IsSlotOf, IsStretch, after_span, plan_line};
+ghost use Rattle.slot_runs.specs.Undisturbed.{NoneFallsDue};
+ghost use Rattle.virt_traps.specs.Virtual.{due};
+ghost use Rattle.xm_machine.specs.Machine.{IsMachine};
+ghost use Rattle.xm_machine.specs.Span.{AreDoneFrom, CanTake, CanTakeAfter, HasTurned, IsIdle, IsMet, IsSpanDone, NoneDue, behind, counted_on};
 
-use crate::telling::{Telling, Turns};
+use crate::beyond::Beyond;
+use crate::ending::{end_tick, end_ticks};
+use crate::lines::Lines;
+use crate::rest::rest;
+use crate::work::{call, meet_trap, take_interrupt};
 use cyclic_plans::Here;
-use hypercalls::{Act, Note, Served, Sys, serve};
+use hypercalls::{Note, Sys};
+use machine_model::{acts_within_bounds, keeps_numbers};
+use slot_runs::{next_tick, resting_ticks, slot_goes_on, tick_in_passes, undisturbed_ticks};
 use sparc_step::Turn;
+use virt_clocks::next_deadline_is_least;
 use xm_base::{PartId, State};
 
-/// The interrupt of the start of a slot.
+/// The interrupts that ticks bring.
+const HARDWARE_TIMER: u8 = 0;
+
+const EXECUTION_TIMER: u8 = 1;
+
 const SLOT_START: u8 = 5;
 
-/// The ticks of the slot or gap at hand, at most so many, up to the first of which there is something to tell, or that is
-/// not built.
-pub(crate) fn turns_in(sys: &mut Sys, most: u64) -> Turns
-    requires frame { IsInFrame sys.old.system.conf sys.old.clock sys.old.time }
+/// Ticks of one slot or gap that were done, of which only the last may have lines.
+#[derive(Debug, Drop)]
+pub(crate) struct Span {
+    /// How many there were, with the last.
+    pub(crate) ticks: u64,
+    /// The partition that worked in the last; in a gap, any.
+    pub(crate) part: PartId,
+    /// What its call told.
+    pub(crate) note: Note,
+}
+
+impl Span {
+    // So many ticks in which no call told anything.
+    fn quiet(ticks: u64, part: PartId) -> Span
+        ensures { result ≡ record { ticks = ticks; part = part; note = Note.Nothing } }
+    {
+        Span {
+            ticks,
+            part,
+            note: Note::Nothing,
+        }
+    }
+}
+
+/// The ticks of the slot or gap at hand, at most so many, up to the first in which more is done than instructions that go. Their lines
+/// are those of the last.
+pub(crate) fn run_span(sys: &mut Sys, lines: &mut Lines, most: u64) -> Span
+    requires machine { IsMachine sys.old }
+    requires running { sys.old.machine.halted ≡ false }
     requires some { 0 < most }
-    requires clocks { All (λ part. part.clocks.execution + most < 2 ^ 63) sys.old.parts }
-    ensures turns { TurnsIn (here sys.old.system.conf sys.old.clock sys.old.time) result sys.old sys.new }
-    ensures part { result.part < length sys.old.parts }
-    ensures few { result.quiet < most }
-    ensures told { IfOk result.last (λ telling. CanTell telling (areas_in result.part sys.old)) }
+    requires ticks { sys.old.machine.ticks + most ≤ 4000000000 }
+    requires empty { lines.old ≡ [] }
+    ensures done { IsSpanDone result most sys.old sys.new lines.new }
 {
+    let most = most.min(ticks_left(sys));
     match here(sys) {
-        Some(slot) => take_slot(sys, slot.part, slot.first, most),
-        None => Turns::waiting(0, most),
+        Some(slot) => run_slot(sys, lines, slot, most),
+        None => wait(sys, lines, most),
     }
 }
 
 // Whose slot it is, or `None` in a gap.
 fn here(sys: &Sys) -> Option<Here>
-    requires { IsInFrame sys.now.system.conf sys.now.clock sys.now.time }
-    ensures value { result ≡ here sys.now.system.conf sys.now.clock sys.now.time }
-    ensures part { IfSome result (λ slot. slot.part < length sys.now.parts) }
-    ensures some { 0 < length sys.now.parts }
+    requires { IsInFrame sys.now.machine.system.conf sys.now.machine.clock sys.now.machine.time }
+    ensures value { result ≡ here sys.now.machine.system.conf sys.now.machine.clock sys.now.machine.time }
+    ensures covers { IfSome result (IsHere (moment sys.now.machine.clock sys.now.machine.time) (slots_of sys.now.machine.system.conf sys.now.machine.clock.plan)) }
 {
-    let conf = sys.conf();
-    // By its rules the partition of a slot is one of its own.
-    let _rules = conf.raw();
-    let _count = sys.count();
-    sys.plan_clock().here(conf, sys.now())
+    sys.plan_clock().here(sys.conf(), sys.now())
 }
 
-/// How many ticks are left to the end of the slot or gap at hand.
-pub(crate) fn ticks_left(sys: &Sys) -> u64
-    requires { IsInFrame sys.now.system.conf sys.now.clock sys.now.time }
-    ensures alike { (ticks : ℕ) → ticks < result → slot_at sys.now.system.conf sys.now.clock (sys.now.time + ticks) ≡ slot_at sys.now.system.conf sys.now.clock sys.now.time }
-    ensures within { sys.now.time + result ≤ sys.now.clock.frame_start + frame_of sys.now.system.conf sys.now.clock.plan }
+// How many ticks are left to the end of the slot or gap at hand.
+fn ticks_left(sys: &Sys) -> u64
+    requires { IsInFrame sys.now.machine.system.conf sys.now.machine.clock sys.now.machine.time }
+    ensures alike { (ticks : ℕ) → ticks < result → slot_at sys.now.machine.system.conf sys.now.machine.clock (sys.now.machine.time + ticks) ≡ slot_at sys.now.machine.system.conf sys.now.machine.clock sys.now.machine.time }
+    ensures within { sys.now.machine.time + result ≤ sys.now.machine.clock.frame_start + frame_of sys.now.machine.system.conf sys.now.machine.clock.plan }
     ensures some { 0 < result }
 {
     sys.plan_clock().ticks_left(sys.conf(), sys.now())
 }
 
-/// The clocks past so many ticks of one frame.
-pub(crate) fn pass(sys: &mut Sys, ticks: u64)
-    requires few { sys.old.time + ticks < 2 ^ 64 }
-    requires asked { sys.old.clock.asked ≡ None }
-    requires frame { IsInFrame sys.old.system.conf sys.old.clock sys.old.time }
-    requires within { sys.old.time + ticks ≤ sys.old.clock.frame_start + frame_of sys.old.system.conf sys.old.clock.plan }
-    ensures value { sys.new ≡ passed ticks sys.old }
-    ensures frame { IsInFrame sys.new.system.conf sys.new.clock sys.new.time }
-    ensures asked { sys.new.clock.asked ≡ None }
+// Ticks of a partition's slot.
+fn run_slot(sys: &mut Sys, lines: &mut Lines, slot: Here, most: u64) -> Span
+    requires take { CanTake slot.part most sys.old }
+    requires slot { IsSlotOf sys.old.machine slot.part slot.first (part_at slot.part sys.old.machine) }
+    requires stretch { IsStretch sys.old.machine most }
+    requires empty { lines.old ≡ [] }
+    ensures done { AreDoneFrom result most sys.old.machine sys.old sys.new lines.new }
 {
-    if ticks > 0 {
-        // No plan is asked for, so none starts.
-        let _same = sys.end_ticks(ticks);
+    if takes_turns(sys, slot.part) {
+        take_slot(sys, lines, slot.part, slot.first, most)
+    } else {
+        wait(sys, lines, most)
     }
 }
 
-// The ticks of a partition's slot, at most so many, up to the first of which there is something to tell, or that is not
-// built. `first` is whether the slot begins with them.
-fn take_slot(sys: &mut Sys, p: PartId, first: bool, most: u64) -> Turns
-    requires partition { p < length sys.old.parts }
-    requires some { 0 < most }
-    requires clock { (part_at p sys.old).clocks.execution + most < 2 ^ 63 }
-    ensures turns { AreTurns result.quiet result.last (part_at p sys.old).state first (view_of sys.old.system p) (part_at p sys.old) (part_at p sys.new) }
-    ensures others { sys.new ≡ with_part p (part_at p sys.new) sys.old }
-    ensures part { result.part ≡ p }
-    ensures few { result.quiet < most }
-    ensures told { IfOk result.last (λ telling. CanTell telling (areas_in p sys.old)) }
+// Whether a partition takes its turn in its slots: it is not suspended, and has not halted.
+fn takes_turns(sys: &Sys, p: PartId) -> bool
+    requires partition { p < length sys.now.machine.parts }
+    ensures { result ≡ takes_turns (part_at p sys.now.machine).state }
 {
     match sys.part(p).state {
-        State::Ready => begin_slot(sys, p, first, most),
-        State::Idle | State::Suspended | State::Halted => Turns::waiting(p, most),
+        State::Ready | State::Idle => true,
+        State::Suspended | State::Halted => false,
     }
 }
 
-// The ticks of a partition that is ready.
-fn begin_slot(sys: &mut Sys, p: PartId, first: bool, most: u64) -> Turns
-    requires partition { p < length sys.old.parts }
-    requires ready { (part_at p sys.old).state ≡ State.Ready }
+// So many ticks in which all partitions rest.
+fn wait(sys: &mut Sys, lines: &mut Lines, most: u64) -> Span
+    requires nobodys { IsNobodys sys.old.machine }
+    requires stretch { IsStretch sys.old.machine most }
+    requires running { sys.old.machine.halted ≡ false }
+    requires parts { 0 < length sys.old.machine.parts }
     requires some { 0 < most }
-    requires clock { (part_at p sys.old).clocks.execution + most < 2 ^ 63 }
-    ensures turns { AreReadyTurns result.quiet result.last (view_of sys.old.system p) (began first (part_at p sys.old)) (part_at p sys.new) }
-    ensures others { sys.new ≡ with_part p (part_at p sys.new) sys.old }
-    ensures part { result.part ≡ p }
-    ensures few { result.quiet < most }
-    ensures told { IfOk result.last (λ telling. CanTell telling (areas_in p sys.old)) }
+    requires ticks { sys.old.machine.ticks + most ≤ 4000000000 }
+    requires time { sys.old.machine.time ≤ sys.old.machine.ticks }
+    requires frame { IsInFrame sys.old.machine.system.conf sys.old.machine.clock sys.old.machine.time }
+    requires empty { lines.old ≡ [] }
+    ensures done { AreDoneFrom result most sys.old.machine sys.old sys.new lines.new }
 {
-    announce(sys, p, first);
-    run_slot(sys, p, most)
+    resting_ticks();
+    slot_goes_on();
+    tick_in_passes();
+    keeps_numbers();
+    let last = sys.now() + most - 1;
+    rest(sys, None, last);
+    end_ticks(sys, lines, most);
+    Span::quiet(most, 0)
 }
 
-// Makes the interrupt of a slot's start pending where the slot begins.
-fn announce(sys: &mut Sys, p: PartId, first: bool)
-    requires { p < length sys.old.parts }
-    ensures { sys.new ≡ with_part p (began first (part_at p sys.old)) sys.old }
+// Ticks of a partition that takes its turn: the interrupts of the first come, and may wake it.
+fn take_slot(sys: &mut Sys, lines: &mut Lines, p: PartId, first: bool, most: u64) -> Span
+    requires take { CanTake p most sys.old }
+    requires slot { IsSlotOf sys.old.machine p first (part_at p sys.old.machine) }
+    requires turns { takes_turns (part_at p sys.old.machine).state ≡ true }
+    requires stretch { IsStretch sys.old.machine most }
+    requires empty { lines.old ≡ [] }
+    ensures done { AreDoneFrom result most sys.old.machine sys.old sys.new lines.new }
 {
+    next_deadline_is_least();
+    meet(sys, p, first);
+    if goes_on(sys, p, first) {
+        wake(sys, p);
+        go_on(sys, lines, p, most)
+    } else {
+        stay_idle(sys, lines, p, most)
+    }
+}
+
+// A partition that goes on is ready.
+fn wake(sys: &mut Sys, p: PartId)
+    requires partition { p < length sys.old.machine.parts }
+    ensures { sys.new ≡ with_machine (with_part p (awake (part_at p sys.old.machine)) sys.old.machine) sys.old }
+{
+    sys.part_mut(p).state = State::Ready;
+}
+
+// The interrupts of a tick become pending: the start of a slot, and those of the timers that are due.
+#[tactic(auto, unfolding(machine_model::specs::LocalTick::with_interrupts, machine_model::specs::Partition::hardware_looked_at, machine_model::specs::Partition::execution_looked_at))]
+fn meet(sys: &mut Sys, p: PartId, first: bool)
+    requires partition { p < length sys.old.machine.parts }
+    ensures { sys.new ≡ with_machine (with_part p (with_interrupts sys.old.machine.time first (part_at p sys.old.machine)) sys.old.machine) sys.old }
+{
+    let now = sys.now();
+    let own = sys.part_mut(p);
     if first {
-        sys.raise(p, SLOT_START);
+        own.virt.raise(SLOT_START);
+    }
+    if own.clocks.hw_due(now) {
+        own.virt.raise(HARDWARE_TIMER);
+    }
+    if own.clocks.exec_due() {
+        own.virt.raise(EXECUTION_TIMER);
     }
 }
 
-// The ticks of a partition that is ready, from its next instruction on.
-fn run_slot(sys: &mut Sys, p: PartId, most: u64) -> Turns
-    requires partition { p < length sys.old.parts }
-    requires ready { (part_at p sys.old).state ≡ State.Ready }
+// Whether the partition goes on: an idle one is woken by the start of its slot or an interrupt that is due.
+fn goes_on(sys: &Sys, p: PartId, first: bool) -> bool
+    requires partition { p < length sys.now.machine.parts }
+    requires turns { takes_turns (part_at p sys.now.machine).state ≡ true }
+    ensures { result ≡ goes_on (part_at p sys.now.machine).state first (due (part_at p sys.now.machine).traps) }
+{
+    let own = sys.part(p);
+    own.state == State::Ready || first || own.virt.due().is_some()
+}
+
+// How many ticks there are, at most so many, in which no timer of the partition falls due after the first.
+fn ticks_undisturbed(sys: &Sys, p: PartId, running: bool, most: u64) -> u64
+    requires partition { p < length sys.now.machine.parts }
     requires some { 0 < most }
-    requires clock { (part_at p sys.old).clocks.execution + most < 2 ^ 63 }
-    ensures turns { AreReadyTurns result.quiet result.last (view_of sys.old.system p) (part_at p sys.old) (part_at p sys.new) }
-    ensures others { sys.new ≡ with_part p (part_at p sys.new) sys.old }
-    ensures part { result.part ≡ p }
-    ensures few { result.quiet < most }
-    ensures told { IfOk result.last (λ telling. CanTell telling (areas_in p sys.old)) }
+    requires timers { NoneDue sys.now.machine.time (part_at p sys.now.machine).clocks }
+    ensures some { 0 < result }
+    ensures within { result ≤ most }
+    ensures calm { NoneFallsDue sys.now.machine.time (result - 1) running (part_at p sys.now.machine).clocks }
 {
+    match sys.part(p).clocks.next_due(sys.now(), running) {
+        Some(ticks) => most.min(ticks),
+        None => most,
+    }
+}
+
+// Ticks of an idle partition that nothing wakes.
+fn stay_idle(sys: &mut Sys, lines: &mut Lines, p: PartId, most: u64) -> Span
+    requires take { CanTake p most sys.old }
+    requires timers { NoneDue sys.old.machine.time (part_at p sys.old.machine).clocks }
+    requires empty { lines.old ≡ [] }
+    ensures done { (g : Machine) (ps : PartitionState) → IsIdle g p ps most sys.old → AreDoneFrom result most g sys.old sys.new lines.new }
+{
+    undisturbed_ticks();
+    slot_goes_on();
+    tick_in_passes();
+    keeps_numbers();
+    let ticks = ticks_undisturbed(sys, p, false, most);
+    pass(sys, lines, p, ticks)
+}
+
+// So many ticks of the slot of partition `p` with nothing to tell but that a plan starts: all others rest.
+fn pass(sys: &mut Sys, lines: &mut Lines, p: PartId, ticks: u64) -> Span
+    requires some { 0 < ticks }
+    requires time { sys.old.machine.time + ticks < 2 ^ 64 }
+    requires ticks { sys.old.machine.ticks + ticks < 2 ^ 64 }
+    requires frame { IsInFrame sys.old.machine.system.conf sys.old.machine.clock (sys.old.machine.time + ticks - 1) }
+    requires room { length lines.old < 24 }
+    ensures state { sys.new ≡ with_machine (after_span (ticks - 1) (rest_but (Some p) (sys.old.machine.time + ticks - 1) sys.old.machine).parts sys.old.machine) sys.old }
+    ensures lines { lines.new ≡ lines.old ++ plan_line (ticks - 1) sys.old.machine }
+    ensures few { length lines.new ≤ length lines.old + 1 }
+    ensures span { result ≡ record { ticks = ticks; part = p; note = Note.Nothing } }
+{
+    let last = sys.now() + ticks - 1;
+    rest(sys, Some(p), last);
+    end_ticks(sys, lines, ticks);
+    Span::quiet(ticks, p)
+}
+
+// Ticks of a partition that goes on: it takes an interrupt, or executes instructions.
+fn go_on(sys: &mut Sys, lines: &mut Lines, p: PartId, most: u64) -> Span
+    requires take { CanTake p most sys.old }
+    requires timers { NoneDue sys.old.machine.time (part_at p sys.old.machine).clocks }
+    requires empty { lines.old ≡ [] }
+    ensures done { (g : Machine) (first : Bool) (ps : PartitionState) → IsMet g p first ps most sys.old → AreDoneFrom result most g sys.old sys.new lines.new }
+{
+    match interrupt(sys, p) {
+        Some(n) => deliver(sys, lines, p, n),
+        None => execute(sys, lines, p, most),
+    }
+}
+
+// The interrupt that is delivered to the partition, where one is due and traps are enabled.
+fn interrupt(sys: &Sys, p: PartId) -> Option<u8>
+    requires partition { p < length sys.now.machine.parts }
+    ensures value { result ≡ (if (part_at p sys.now.machine).traps.enabled then due (part_at p sys.now.machine).traps else None) }
+    ensures below { IfSome result (λ n. n < 32) }
+{
+    let virt = &sys.part(p).virt;
+    if virt.enabled { virt.due() } else { None }
+}
+
+// A tick in which a partition takes an interrupt.
+fn deliver(sys: &mut Sys, lines: &mut Lines, p: PartId, n: u8) -> Span
+    requires take { CanTake p 1 sys.old }
+    requires interrupt { n < 32 }
+    requires empty { lines.old ≡ [] }
+    ensures done { (g : Machine) (first : Bool) (ps : PartitionState) (most : ℕ) → IsMet g p first ps most sys.old → 0 < most → (part_at p sys.old.machine).traps.enabled ≡ true → due (part_at p sys.old.machine).traps ≡ Some n → AreDoneFrom result most g sys.old sys.new lines.new }
+{
+    next_tick();
+    tick_in_passes();
+    acts_within_bounds();
+    keeps_numbers();
+    take_interrupt(sys, lines, p, n);
+    end_tick(sys, lines, p, Beyond::Nothing);
+    Span::quiet(1, p)
+}
+
+// Instructions of a partition, one a tick, up to the first that does more than go.
+fn execute(sys: &mut Sys, lines: &mut Lines, p: PartId, most: u64) -> Span
+    requires take { CanTake p most sys.old }
+    requires timers { NoneDue sys.old.machine.time (part_at p sys.old.machine).clocks }
+    requires empty { lines.old ≡ [] }
+    ensures done { (g : Machine) (first : Bool) (ps : PartitionState) → IsMet g p first ps most sys.old → NoDelivery (part_at p sys.old.machine).traps → AreDoneFrom result most g sys.old sys.new lines.new }
+{
+    undisturbed_ticks();
+    slot_goes_on();
+    tick_in_passes();
+    keeps_numbers();
+    let most = ticks_undisturbed(sys, p, true, most);
     let gone = sys.step_many(p, most);
-    sys.count_ticks(p, gone.went);
+    count_on(sys, p, gone.went);
     match gone.turn {
-        Turn::Went => Turns {
-            part: p,
-            quiet: gone.went - 1,
-            last: Ok(Telling::Nothing),
-        },
-        Turn::Trap(_) => Turns {
-            part: p,
-            quiet: gone.went,
-            last: Err(gone.pc),
-        },
-        Turn::Call => Turns {
-            part: p,
-            quiet: gone.went,
-            last: call(sys, p, gone.pc).ok_or(gone.pc),
-        },
+        Turn::Went => pass(sys, lines, p, gone.went),
+        Turn::Trap(tt) => trap_after(sys, lines, p, tt, gone.went, gone.pc),
+        Turn::Call => call_after(sys, lines, p, gone.went, gone.pc),
     }
 }
 
-// The rest of a tick whose instruction, at a program counter, called; `None` where the call is not built.
-fn call(sys: &mut Sys, p: PartId, pc: u32) -> Option<Telling>
-    requires partition { p < length sys.old.parts }
-    requires ready { (part_at p sys.old).state ≡ State.Ready }
-    requires clock { (part_at p sys.old).clocks.execution + 1 < 2 ^ 63 }
-    ensures call { IsCall result (view_of sys.old.system p) (part_at p sys.old) (part_at p sys.new) }
-    ensures others { sys.new ≡ with_part p (part_at p sys.new) sys.old }
-    ensures told { IfSome result (λ telling. CanTell telling (areas_in p sys.old)) }
+// So many ticks more on a partition's execution clock.
+fn count_on(sys: &mut Sys, p: PartId, ticks: u64)
+    requires partition { p < length sys.old.machine.parts }
+    requires clock { (part_at p sys.old.machine).clocks.execution + ticks < 2 ^ 63 }
+    ensures { sys.new ≡ with_machine (with_part p (counted_on ticks (part_at p sys.old.machine)) sys.old.machine) sys.old }
 {
-    let npc = program_counter(sys, p);
-    match serve(sys, p, pc, npc) {
-        Some(served) => {
-            sys.count_ticks(p, 1);
-            Some(follow(sys, p, served))
-        }
-        None => None,
+    sys.part_mut(p).clocks.pass_many(ticks);
+}
+
+// The tick of an instruction that trapped, after so many in which the partition only went.
+fn trap_after(sys: &mut Sys, lines: &mut Lines, p: PartId, tt: u8, went: u64, pc: u32) -> Span
+    requires take { CanTakeAfter p went sys.old }
+    requires empty { lines.old ≡ [] }
+    ensures done { (g : Machine) (first : Bool) (ps : PartitionState) (most : ℕ) → HasTurned (Turn.Trap tt) g p first ps went most pc sys.old → AreDoneFrom result most g sys.old sys.new lines.new }
+{
+    undisturbed_ticks();
+    tick_in_passes();
+    acts_within_bounds();
+    keeps_numbers();
+    stand_behind(sys, p, went);
+    let reach = meet_trap(sys, lines, p, tt, pc);
+    end_tick(sys, lines, p, reach);
+    Span::quiet(went + 1, p)
+}
+
+// The tick of an instruction that called, after so many in which the partition only went.
+fn call_after(sys: &mut Sys, lines: &mut Lines, p: PartId, went: u64, pc: u32) -> Span
+    requires take { CanTakeAfter p went sys.old }
+    requires pc { pc % 4 ≡ 0 }
+    requires next { (part_at p sys.old.machine).core.npc ≡ ((part_at p sys.old.machine).core.pc + 4) % 2 ^ 32 }
+    requires empty { lines.old ≡ [] }
+    ensures done { (g : Machine) (first : Bool) (ps : PartitionState) (most : ℕ) → HasTurned Turn.Call g p first ps went most pc sys.old → AreDoneFrom result most g sys.old sys.new lines.new }
+{
+    undisturbed_ticks();
+    tick_in_passes();
+    acts_within_bounds();
+    keeps_numbers();
+    stand_behind(sys, p, went);
+    let (note, reach) = call(sys, lines, p, pc);
+    end_tick(sys, lines, p, reach);
+    Span {
+        ticks: went + 1,
+        part: p,
+        note,
     }
 }
 
-// Where a partition goes on.
-fn program_counter(sys: &Sys, p: PartId) -> u32
-    requires { p < length sys.now.parts }
-    ensures { result ≡ (part_at p sys.now).core.pc }
+// The system as it stands behind so many ticks in which the partition only went: all others have rested.
+fn stand_behind(sys: &mut Sys, p: PartId, ticks: u64)
+    requires time { sys.old.machine.time + ticks < 2 ^ 64 }
+    requires ticks { sys.old.machine.ticks + ticks < 2 ^ 64 }
+    ensures { sys.new ≡ with_machine (behind p ticks sys.old.machine) sys.old }
 {
-    sys.part(p).core.pc
-}
-
-// Does what a call asks for: so far, that its partition halts.
-fn follow(sys: &mut Sys, p: PartId, served: Served) -> Telling
-    requires partition { p < length sys.old.parts }
-    requires ready { (part_at p sys.old).state ≡ State.Ready }
-    requires orders { IsOwnHalt served.act served.note p }
-    requires told { CanBeTold served.note (areas_in p sys.old) }
-    ensures follows { Follows served.act (view_of sys.old.system p) (part_at p sys.old) (part_at p sys.new) }
-    ensures others { sys.new ≡ with_part p (part_at p sys.new) sys.old }
-    ensures telling { result ≡ telling_by served.act served.note }
-    ensures told { CanTell result (areas_in p sys.old) }
-{
-    match served.act {
-        Act::Nothing => telling_of(served.note),
-        Act::Upon { .. } => {
-            sys.halt(p);
-            Telling::Halted
-        }
-    }
-}
-
-// What a note leaves to be told.
-fn telling_of(note: Note) -> Telling
-    ensures { result ≡ telling_by Act.Nothing note }
-{
-    match note {
-        Note::Nothing => Telling::Nothing,
-        Note::Console { at, size } => Telling::Console { at, size },
+    if ticks > 0 {
+        let last = sys.now() + ticks - 1;
+        rest(sys, Some(p), last);
+        sys.pass_ticks(ticks);
     }
 }

@@ -1,25 +1,32 @@
-use Rattle.std.proofs.Common.{◌<◌, length, refl, ◌∙◌, arith}
+use Rattle.std.proofs.Common.{[], ◌∷◌, ◌+◌, ◌<◌, List, drop, length, ◌∙◌, arith, subst}
 use Rattle.std.proofs.lemmas.Result.{err_from_is_err_and}
+use Rattle.xm_report.specs.Report.{ReportLine}
 use Rattle.hypercalls.specs.State.{part_at}
+use Rattle.machine_model.specs.Lines.{end_line}
+use Rattle.machine_model.specs.Lists.{all_of}
 use Rattle.machine_model.specs.Machine.{booted_part}
-use Rattle.xm_machine.proofs.OutLemmas.{ends_cut, ends_more}
+use Rattle.xm_machine.proofs.OutLemmas.{AreOut, ends_from, more_out, next_end, out_cut}
 use Rattle.xm_machine.proofs.report.end_parts.Goals as goal
 
-pub returns-in_err-put-clause-told : goal.returns-in_err-put-clause-told
-returns-in_err-put-clause-told g c =
+pub returns-in_err-put_line-clause-told : goal.returns-in_err-put_line-clause-told
+returns-in_err-put_line-clause-told g c =
     let p = err_from_is_err_and c.from_residual.result c.from_residual.ensures.1 in
-    let cut = rw c.end_line.ensures at c.in_err-put.ensures.told in
-    let below : c.loop-out.p < length c.args.sys.now.parts = omega (arith, c.loop-out-test.true, c.count.ensures.value, c.from.ensures) in
-    rw (p.1, p.2) (ends_cut _ c.args.sys.now.parts c.loop-out.p (part_at c.loop-out.p c.args.sys.now) (booted_part c.args.sys.now.system c.loop-out.p)
-    (g.O.Sink.got c.args.out.now) (g.O.Sink.got c.loop-out.out) (g.O.Sink.got c.put.new.out) below refl c.loop-out.invariant.ends cut)
+    let cut = rw c.end_line.ensures at c.in_err-put_line.ensures.got in
+    let below : c.loop-p.p < length c.args.sys.now.machine.parts = omega (arith, c.loop-p-test.true, c.count.ensures.value) in
+    let next = subst (λ (rest : List ReportLine). AreOut (all_of (λ p ps. end_line p ps ∷ []) c.args.sys.now.machine.parts) rest c.loop-p.p (g.O.Sink.got c.args.out.now) (g.O.Sink.got c.loop-p.out))
+    (next_end c.loop-p.p c.args.sys.now.machine.parts (booted_part c.args.sys.now.machine.system c.loop-p.p) below) c.loop-p.invariant.out in
+    rw (p.1) (out_cut (all_of (λ p ps. end_line p ps ∷ []) c.args.sys.now.machine.parts) (ends_from (c.loop-p.p + 1) (drop (c.loop-p.p + 1) c.args.sys.now.machine.parts))
+    (end_line c.loop-p.p (part_at c.loop-p.p c.args.sys.now.machine)) c.loop-p.p (g.O.Sink.got c.args.out.now) (g.O.Sink.got c.loop-p.out) (g.O.Sink.got c.put_line.new.out) next cut)
 
-pub loop-out-preserved : goal.loop-out-preserved
-loop-out-preserved g c =
-    let put = rw c.end_line.ensures at c.in_ok-put.ensures.told in
-    let below : c.loop-out.p < length c.args.sys.now.parts = omega (arith, c.loop-out-test.true, c.count.ensures.value, c.from.ensures) in
+pub loop-p-preserved : goal.loop-p-preserved
+loop-p-preserved g c =
+    let put = rw c.end_line.ensures at c.in_ok-put_line.ensures.got in
+    let below : c.loop-p.p < length c.args.sys.now.machine.parts = omega (arith, c.loop-p-test.true, c.count.ensures.value) in
+    let next = subst (λ (rest : List ReportLine). AreOut (all_of (λ p ps. end_line p ps ∷ []) c.args.sys.now.machine.parts) rest c.loop-p.p (g.O.Sink.got c.args.out.now) (g.O.Sink.got c.loop-p.out))
+    (next_end c.loop-p.p c.args.sys.now.machine.parts (booted_part c.args.sys.now.machine.system c.loop-p.p) below) c.loop-p.invariant.out in
     record {
-      ends = ends_more c.args.sys.now.parts c.loop-out.p (part_at c.loop-out.p c.args.sys.now) (booted_part c.args.sys.now.system c.loop-out.p)
-          (g.O.Sink.got c.args.out.now) (g.O.Sink.got c.loop-out.out) (g.O.Sink.got c.put.new.out) below refl c.loop-out.invariant.ends put;
+      out = more_out (all_of (λ p ps. end_line p ps ∷ []) c.args.sys.now.machine.parts) (ends_from (c.loop-p.p + 1) (drop (c.loop-p.p + 1) c.args.sys.now.machine.parts))
+          (end_line c.loop-p.p (part_at c.loop-p.p c.args.sys.now.machine)) c.loop-p.p (g.O.Sink.got c.args.out.now) (g.O.Sink.got c.loop-p.out) (g.O.Sink.got c.put_line.new.out) next put;
       within = omega (arith, below);
-      faults = c.in_ok-put.ensures.cause ∙ c.loop-out.invariant.faults;
+      faults = c.in_ok-put_line.ensures.cause ∙ c.loop-p.invariant.faults;
     }

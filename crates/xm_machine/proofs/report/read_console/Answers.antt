@@ -4,14 +4,14 @@ use Rattle.xm_machine.proofs.RamLemmas.{below_areas, map_there, not_refused}
 use Rattle.xm_machine.proofs.report.read_console.Goals as goal
 
 pub copy_in-requires : goal.copy_in-requires
-copy_in-requires c = below_areas c.args.sys.now c.ram.result.now c.args.p c.requires.partition c.count-count.ensures.parts c.ram.ensures.areas
+copy_in-requires c = below_areas c.args.sys.now.machine c.ram.result.now c.args.p c.requires.partition c.count-count.ensures.parts c.ram.ensures.areas
 
 pub unreachable-requires : goal.unreachable-requires
 unreachable-requires c =
-    not_refused c.args.sys.now c.ram.result.now c.args.p c.requires.partition c.count-count.ensures.parts c.copy_in.result c.in-Err.field-0 c.args.at (length c.args.bytes.now)
+    not_refused c.args.sys.now.machine c.ram.result.now c.args.p c.requires.partition c.count-count.ensures.parts c.copy_in.result c.in-Err.field-0 c.args.at (length c.args.bytes.now)
     c.ram.ensures.areas c.requires.readable c.copy_in.ensures.answer c.in-Err.is
 
 pub returns : goal.returns
 returns c =
     c.in-Ok.ensures.read
-    ∙ ap (λ (m : Memory). bytes_at m c.args.at (length c.args.bytes.now)) (map_there c.args.sys.now c.ram.result.now c.args.p c.requires.partition c.count-count.ensures.parts c.ram.ensures.maps)
+    ∙ ap (λ (m : Memory). bytes_at m c.args.at (length c.args.bytes.now)) (map_there c.args.sys.now.machine c.ram.result.now c.args.p c.requires.partition c.count-count.ensures.parts c.ram.ensures.maps)

@@ -1,10 +1,23 @@
-use Rattle.std.proofs.Common.{ap}
-use Rattle.xm_machine.specs.Machine.{Meaning}
-use Rattle.xm_machine.proofs.GoingLemmas.{step_says}
+use Rattle.xm_machine.proofs.GoingLemmas.{step_told}
+use Rattle.xm_machine.proofs.KeptLemmas.{kept_ticks}
 use Rattle.xm_machine.proofs.machine.Machine.step.Goals as goal
+
+pub invariant_of-self : goal.invariant_of-self
+invariant_of-self g c =
+    let most = rw (← c.self.view_is) at c.requires.most in
+    let done = c.run_span-span.ensures.done in
+    kept_ticks c.keeps_facts.ensures.ticks c.keeps_hardware_clock.ensures.ticks c.keeps_numbers.ensures.ticks c.keeps_plans.ensures.ticks
+    c.self.inside.sys c.run_span-span.new.sys c.run_span-span.result.ticks c.args.most c.self.invariant done.state done.within most
 
 pub returns-clause-step : goal.returns-clause-step
 returns-clause-step g c =
-    let said = rw (c.done-n.ensures.done, ap (λ (m : Meaning). m.state.parts) c.self.view_is) at c.say.ensures.said in
-    step_says c.say.result c.take_turns-turns.result.part c.take_turns-turns.result.quiet c.args.most c.take_turns-turns.result.last c.args.self.now.state c.take_turns-turns.new.self.state
-    (g.O.Sink.got c.args.out.now) (g.O.Sink.got c.say.new.out) c.take_turns-turns.ensures.turns c.take_turns-turns.ensures.few c.take_turns-turns.ensures.ticks said
+    let told = rw c.ticks-begun.ensures.value at c.tell.ensures.told in
+    rw (← c.self.view_is) (step_told c.tell.result c.run_span-span.result c.args.most c.self.inside.sys c.run_span-span.new.sys c.run_span-span.new.lines
+    (g.O.Sink.got c.args.out.now) (g.O.Sink.got c.tell.new.out) c.run_span-span.ensures.done told)
+
+pub returns-clause-counters : goal.returns-clause-counters
+returns-clause-counters g c =
+    let most = rw (← c.self.view_is) at c.requires.most in
+    let done = c.run_span-span.ensures.done in
+    (kept_ticks c.keeps_facts.ensures.ticks c.keeps_hardware_clock.ensures.ticks c.keeps_numbers.ensures.ticks c.keeps_plans.ensures.ticks
+    c.self.inside.sys c.run_span-span.new.sys c.run_span-span.result.ticks c.args.most c.self.invariant done.state done.within most).counted

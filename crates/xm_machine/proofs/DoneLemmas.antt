@@ -1,0 +1,200 @@
+-- Ticks that were done: quiet ones, and those of which the last had work.
+use Rattle.std.proofs.Common.{◌≡◌, ℕ, zero, suc, ◌+◌, ◌<◌, ◌≤◌, Bool, true, false, List, [], ◌∷◌, ◌++◌, length, map, Option, None, Some, refl, sym, ap, subst, ◌∙◌, arith}
+use Rattle.std.specs.Prelude.{◌-◌, ◌==◌, if◌then◌else◌, IfSome, slice_index_or, slice_set}
+use Rattle.std.proofs.lemmas.Bool.{eq-eqb}
+use Rattle.std.proofs.lemmas.List.{append-nil}
+use Rattle.guest_bus.specs.Memory.{Memory, bytes_at}
+use Rattle.health_monitor.specs.declared.effects.Whole.TheVariants as whole
+use Rattle.hypercalls.specs.Serving.{CanBeTold, without_traffic}
+use Rattle.hypercalls.specs.State.{SysState, areas_in, memory_of, with_machine}
+use Rattle.hypercalls.specs.declared.serving.Note.{Note}
+use Rattle.hypercalls.specs.declared.serving.Note.TheVariants as note
+use Rattle.virt_traps.specs.Virtual.{due, raised}
+use Rattle.xm_report.specs.Report.{ReportLine}
+use Rattle.machine_model.specs.Facts.{IsAsMany, RunsKeepNumbers}
+use Rattle.machine_model.specs.Health.{Worked, done_to_all, interrupt_delivered}
+use Rattle.machine_model.specs.Laws.{ActsWithinBounds}
+use Rattle.machine_model.specs.Lines.{lines, step_lines}
+use Rattle.machine_model.specs.Lists.{each, is_number}
+use Rattle.machine_model.specs.LocalTick.{bounded, clocked, local_tick, with_interrupts, worked, worked_if}
+use Rattle.machine_model.specs.Machine.{Machine, booted_part, copies, run, sight, step}
+use Rattle.machine_model.specs.Partition.{PartitionState, is_halted, rested}
+use Rattle.machine_model.specs.Told as told
+use Rattle.machine_model.specs.Told.{Act, Directed, OwnPuts, OwnStill, OwnTakes, OwnTraffic, Told, line_of, reach_of}
+use Rattle.machine_model.specs.Traffic.{Puts, Still, Takes, Traffic, after_message, heard_as, heard_from, hearing, interrupted}
+use Rattle.guest_memory.specs.Loading.{areas_of}
+use Rattle.machine_model.specs.View.{PartitionView, System, name_of, part_of, view_of}
+use Rattle.slot_runs.specs.Meeting.{HasGone, awake, first_after, gone_on}
+use Rattle.slot_runs.specs.NextLaws.{IsNextTick, IsTickOf, MetTick, next_work}
+use Rattle.slot_runs.specs.PassLaws.{IsInPasses, IsPassedNext, PassedNext, TickInPasses}
+use Rattle.slot_runs.specs.Passes.{rest_but, traded, traffic_in, with_part, worked_lines, worked_through}
+use Rattle.slot_runs.specs.SpanLaws.{IsAwake, its_areas, met}
+use Rattle.slot_runs.specs.Undisturbed.{IsUndisturbed, UndisturbedNext, gone_parts, next_instruction}
+use Rattle.xm_machine.specs.Span.{AreDoneFrom}
+use Rattle.xm_machine.specs.Work.{IsUponOne, IsWorked, TellsAlone, act_of, console_told, ended_by, ending_lines}
+use Rattle.xm_machine.specs.declared.beyond.Beyond.{Beyond}
+use Rattle.xm_machine.specs.declared.beyond.Beyond.TheVariants as beyond
+use Rattle.xm_machine.proofs.InstructionLemmas.{part_in}
+use Rattle.xm_machine.proofs.SlotLemmas.{IsAt, at_next, its_before, within_bounds}
+use Rattle.xm_machine.proofs.TickLemmas.{tick_lines, tick_state}
+
+-- hearing of a message leaves the memory
+hearing_memory : (view : PartitionView) (own : OwnTraffic) (ps : PartitionState) → (hearing view own ps).memory ≡ ps.memory
+unfolding after_message
+hearing_memory view OwnStill ps = refl
+hearing_memory view (OwnPuts q bytes) ps = at (heard_from q view.part.ports ps.made view.channels) (is_halted ps.state)
+  where
+    either : (b : Bool) (n : ℕ) → (if b then ps else record ps { traps = raised n ps.traps }).memory ≡ ps.memory
+    either true n = refl
+    either false n = refl
+
+    at : (heard : Option ℕ) (b : Bool) → (interrupted heard ps).memory ≡ ps.memory
+    at None b = refl
+    at (Some n) b = either (is_halted ps.state) n
+hearing_memory view (OwnTakes q) ps = refl
+
+-- a pass leaves the memory of a partition where what it does to that one leaves it
+each_memory : (f : ℕ → PartitionState → PartitionState) (xs : List PartitionState) (p : ℕ) (other : PartitionState) → ((ps : PartitionState) → (f p ps).memory ≡ ps.memory)
+    → (slice_index_or (each f xs) p other).memory ≡ (slice_index_or xs p other).memory
+each_memory f [] p other same = refl
+each_memory f (x ∷ xs) zero other same = same x
+each_memory f (x ∷ xs) (suc p) other same = each_memory (λ k. f (suc k)) xs p other same
+
+traded_memory : (traffic : Traffic) (p : ℕ) (g : Machine) → memory_of p (traded traffic g) ≡ memory_of p g
+traded_memory Still p g = refl
+traded_memory (Puts channel bytes) p g =
+    each_memory (λ q ps. hearing (view_of g.system q) (heard_as (name_of g.system.conf q) (Puts channel bytes)) ps) g.parts p (booted_part g.system p)
+    (λ ps. hearing_memory (view_of g.system p) (heard_as (name_of g.system.conf p) (Puts channel bytes)) ps)
+traded_memory (Takes channel) p g =
+    each_memory (λ q ps. hearing (view_of g.system q) (heard_as (name_of g.system.conf q) (Takes channel)) ps) g.parts p (booted_part g.system p)
+    (λ ps. hearing_memory (view_of g.system p) (heard_as (name_of g.system.conf p) (Takes channel)) ps)
+
+rest_memory : (p time : ℕ) (g : Machine) → memory_of p (rest_but (Some p) time g) ≡ memory_of p g
+rest_memory p time g =
+    each_memory (λ q ps. if is_number (Some p) q then ps else rested time ps) g.parts p (booted_part g.system p)
+    (λ ps. ap (λ (own : Bool). (if own then ps else rested time ps).memory) (eq-eqb p p refl))
+
+-- a tick that does not reach beyond its partition leaves the memory that the work left
+plain_memory : (p : ℕ) (traffic : Traffic) (after : PartitionState) (m : Machine) → p < length m.parts
+    → memory_of p (ended_by told.Nothing p (traded traffic (with_part p after m))) ≡ after.memory
+plain_memory p traffic after m below =
+    rest_memory p (traded traffic (with_part p after m)).time (traded traffic (with_part p after m))
+    ∙ traded_memory traffic p (with_part p after m)
+    ∙ ap (λ (ps : PartitionState). ps.memory) (part_in m.parts p after (booted_part m.system p) below)
+
+-- so the bytes for the console are still there
+told_after : (a_note : Note) (reach : Beyond) (p : ℕ) (traffic : Traffic) (after : PartitionState) (m : Machine) → p < length m.parts → TellsAlone a_note reach
+    → console_told a_note (memory_of p (ended_by (act_of reach) p (traded traffic (with_part p after m)))) ≡ console_told a_note after.memory
+told_after note.Nothing reach p traffic after m below alone = refl
+told_after (note.Console at size) reach p traffic after m below alone =
+    ap (λ (act : Act). told.Console (bytes_at (memory_of p (ended_by act p (traded traffic (with_part p after m)))) at size) ∷ []) alone
+    ∙ ap (λ (memory : Memory). told.Console (bytes_at memory at size) ∷ []) (plain_memory p traffic after m below)
+told_after (note.Trace entry) reach p traffic after m below alone = refl
+told_after (note.Put chan at size) reach p traffic after m below alone = refl
+told_after (note.Take chan) reach p traffic after m below alone = refl
+told_after (note.Saw at size) reach p traffic after m below alone = refl
+told_after note.NotKept reach p traffic after m below alone = refl
+
+-- the order of an act, but for its traffic
+same_directed : (act : Act) → (reach_of act).directed ≡ (reach_of (without_traffic act)).directed
+same_directed told.Nothing = refl
+same_directed (told.Trades traffic) = refl
+same_directed (told.Upon id order) = refl
+same_directed (told.Plans change) = refl
+same_directed (told.UponAll event) = refl
+
+beyond_one : (reach : Beyond) (m : Machine) → IsUponOne reach m → IfSome (reach_of (act_of reach)).directed (λ directed. directed.id < length m.parts)
+beyond_one beyond.Nothing m one = tt
+beyond_one (beyond.Order id order) m one = one
+beyond_one (beyond.Plan plan) m one = tt
+beyond_one (beyond.Whole whole.Nothing) m one = tt
+beyond_one (beyond.Whole (whole.Reset mode)) m one = tt
+beyond_one (beyond.Whole whole.Halt) m one = tt
+beyond_one (beyond.Whole whole.Maintenance) m one = tt
+
+directed_one : (act : Act) (reach : Beyond) (m : Machine) → without_traffic act ≡ act_of reach → IsUponOne reach m → IfSome (reach_of act).directed (λ directed. directed.id < length m.parts)
+directed_one act reach m is one =
+    subst (λ (directed : Option Directed). IfSome directed (λ d. d.id < length m.parts)) (sym (same_directed act ∙ ap (λ (a : Act). (reach_of a).directed) is)) (beyond_one reach m one)
+
+-- ticks of which the last had this work, which was done and ended
+passed_done : RunsKeepNumbers → (g m : Machine) (p done most : ℕ) (work : Worked) (a_note : Note) (reach : Beyond) (old mid new : SysState) (got all : List ReportLine)
+    → m ≡ run g done → m.ticks ≡ g.ticks + done → lines g done ≡ [] → p < length m.parts → done < most
+    → run g (suc done) ≡ worked_through p work m → lines g (suc done) ≡ worked_lines p work m
+    → IsWorked p work a_note reach (with_machine m old) mid got → TellsAlone a_note reach
+    → new ≡ with_machine (ended_by (act_of reach) p mid.machine) mid → all ≡ got ++ ending_lines (act_of reach) mid.machine → length all ≤ 24
+    → AreDoneFrom (record { ticks = done + 1; part = p; note = a_note }) most g old new all
+passed_done keeps g m p done most work a_note reach old mid new got all m_is ticks silent below fewer state its_lines worked alone ended told_lines few =
+    let one : done + 1 ≡ suc done = omega arith in
+    let its_state : new ≡ with_machine (run g (done + 1)) old =
+    tick_state p work a_note reach (with_machine m old) mid new got worked ended ∙ ap (λ (x : Machine). with_machine x old) (sym state ∙ ap (run g) (sym one)) in
+    let many : IsAsMany g (run g (done + 1)) = keeps g (done + 1) in
+    let before : IsAsMany g (run g done) = keeps g done in
+    let memory : console_told a_note (memory_of p new.machine) ≡ console_told a_note work.after.memory =
+    ap (λ (x : SysState). console_told a_note (memory_of p x.machine)) ended
+    ∙ ap (λ (x : SysState). console_told a_note (memory_of p (ended_by (act_of reach) p x.machine))) worked.state
+    ∙ told_after a_note reach p (traffic_in m p work.act) work.after m below alone in
+    record {
+      some = omega arith;
+      within = omega (arith, fewer);
+      state = its_state;
+      lines =
+          ap (lines g) one ∙ its_lines ∙ tick_lines p work a_note reach (with_machine m old) mid got all worked told_lines
+          ∙ ap (λ (tale : List Told). map (line_of m.ticks p) tale ++ all) (sym memory)
+          ∙ ap (λ (n : ℕ). map (line_of n p) (console_told a_note (memory_of p new.machine)) ++ all) (omega (arith, ticks));
+      silent = ap (lines g) (omega arith) ∙ silent;
+      few = few;
+      part = omega (arith, ap (λ (x : SysState). length x.machine.parts) its_state, many.parts, before.parts, ap (λ (x : Machine). length x.parts) m_is, below);
+      readable = subst (λ (x : Machine). CanBeTold a_note (areas_in p x)) (sym (ap (λ (x : SysState). x.machine) its_state))
+          (same_areas (run g (done + 1)) m (many.system ∙ sym before.system ∙ sym (ap (λ (x : Machine). x.system) m_is)) worked.readable);
+    }
+  where
+    same_areas : (x y : Machine) → x.system ≡ y.system → CanBeTold a_note (areas_in p y) → CanBeTold a_note (areas_in p x)
+    same_areas x y same readable = subst (λ (s : System). CanBeTold a_note (areas_of (part_of s.conf p))) (sym same) readable
+
+-- ticks in which the partition of the slot went, and one in which its instruction trapped or called
+pub next_done : RunsKeepNumbers → ActsWithinBounds → UndisturbedNext → PassedNext
+    → (g : Machine) (p : ℕ) (first : Bool) (ps : PartitionState) (done most : ℕ) (a_note : Note) (reach : Beyond) (old mid new : SysState) (got all : List ReportLine)
+    → IsUndisturbed g p first ps done → HasGone done (view_of g.system p) (met g first ps) → p < length g.parts → done < most
+    → IsWorked p (next_instruction (run g done) p (gone_on done (its_areas g p) (met g first ps))) a_note reach (with_machine (run g done) old) mid got → TellsAlone a_note reach
+    → new ≡ with_machine (ended_by (act_of reach) p mid.machine) mid → all ≡ got ++ ending_lines (act_of reach) mid.machine → length all ≤ 24
+    → AreDoneFrom (record { ticks = done + 1; part = p; note = a_note }) most g old new all
+next_done keeps bounds undisturbed passes g p first ps done most a_note reach old mid new got all is gone below fewer worked alone ended told_lines few =
+    let next : IsNextTick g done (gone_parts done g p first ps) p (first_after done first) (next_instruction (run g done) p (gone_on done (its_areas g p) (met g first ps))) =
+    undisturbed g p first ps done is gone in
+    let at = at_next g p first ps done (next_instruction (run g done) p (gone_on done (its_areas g p) (met g first ps))) is next in
+    let counted : length (run g done).parts ≡ length g.parts = (keeps g done).parts in
+    let there : p < length (run g done).parts = omega (arith, counted, below) in
+    let passed : IsPassedNext g done (gone_parts done g p first ps) p (next_instruction (run g done) p (gone_on done (its_areas g p) (met g first ps))) =
+    passes g done (gone_parts done g p first ps) p (first_after done first) (next_instruction (run g done) p (gone_on done (its_areas g p) (met g first ps))) next
+    (ap (λ (x : Machine). x.halted) next.before.state ∙ is.span.running) there
+    (within_bounds bounds (run g done) p (first_after done first) (its_before done ps (gone_on done (its_areas g p) (met g first ps))) (gone_on done (its_areas g p) (met g first ps)) at)
+    (directed_one (next_instruction (run g done) p (gone_on done (its_areas g p) (met g first ps))).act reach (run g done) worked.act worked.one) in
+    passed_done keeps g (run g done) p done most (next_instruction (run g done) p (gone_on done (its_areas g p) (met g first ps))) a_note reach old mid new got all refl
+    (ap (λ (x : Machine). x.ticks) next.before.state) next.before.lines there fewer passed.state passed.lines worked alone ended told_lines few
+
+-- the work of a partition that is awake
+works_awake : (g : Machine) (p : ℕ) (first : Bool) (ps : PartitionState) → IsAwake g p first ps
+    → worked (view_of g.system p) (copies g p) g.time first (sight g p) ps ≡ next_work g p (met g first ps)
+unfolding worked
+works_awake g p first ps is = ap (λ (b : Bool). worked_if b (view_of g.system p) (copies g p) g.time (sight g p) (with_interrupts g.time first ps)) is.wakes
+
+awake_bounds : ActsWithinBounds → (g : Machine) (p : ℕ) (first : Bool) (ps : PartitionState) → IsAwake g p first ps
+    → bounded (view_of g.system p) (next_work g p (met g first ps)).act ≡ (next_work g p (met g first ps)).act
+unfolding local_tick
+awake_bounds law g p first ps is =
+    subst (λ (w : Worked). bounded (view_of g.system p) w.act ≡ w.act) (works_awake g p first ps is)
+    (law g.system p ps (copies g p) g.ticks g.time first (sight g p))
+
+-- a tick in which the partition of the slot does this work
+pub met_done : RunsKeepNumbers → ActsWithinBounds → MetTick → TickInPasses
+    → (g : Machine) (p : ℕ) (first : Bool) (ps : PartitionState) (most : ℕ) (a_note : Note) (reach : Beyond) (old mid new : SysState) (got all : List ReportLine)
+    → g.halted ≡ false → IsAwake g p first ps → p < length g.parts → 0 < most
+    → IsWorked p (next_work g p (met g first ps)) a_note reach (with_machine g old) mid got → TellsAlone a_note reach
+    → new ≡ with_machine (ended_by (act_of reach) p mid.machine) mid → all ≡ got ++ ending_lines (act_of reach) mid.machine → length all ≤ 24
+    → AreDoneFrom (record { ticks = 0 + 1; part = p; note = a_note }) most g old new all
+met_done keeps bounds meets passes g p first ps most a_note reach old mid new got all runs is below some worked alone ended told_lines few =
+    let passed : IsInPasses g p (next_work g p (met g first ps)) =
+    passes g p first (next_work g p (met g first ps)) runs below (meets g p first ps runs is) (awake_bounds bounds g p first ps is)
+    (directed_one (next_work g p (met g first ps)).act reach g worked.act worked.one) in
+    passed_done keeps g g p 0 most (next_work g p (met g first ps)) a_note reach old mid new got all refl (omega arith) refl below some passed.state
+    (append-nil (step_lines g) ∙ passed.lines) worked alone ended told_lines few

@@ -1,0 +1,46 @@
+//! The rest of partitions that do no work in a tick.
+
+ghost use Rattle.std.specs.Prelude.{◌≡◌, ◌<◌, length};
+ghost use Rattle.hypercalls.specs.State.{with_machine};
+ghost use Rattle.machine_model.specs.Lists.{is_number};
+ghost use Rattle.machine_model.specs.Partition.{rested};
+ghost use Rattle.slot_runs.specs.Passes.{part_at, rest_but, with_part};
+
+use hypercalls::Sys;
+use xm_base::{PartId, State};
+
+/// The interrupt of the hardware timer.
+const HARDWARE_TIMER: u8 = 0;
+
+/// All partitions rest at this time, but for one where it is named.
+pub(crate) fn rest(sys: &mut Sys, working: Option<PartId>, time: u64)
+    ensures { sys.new ≡ with_machine (rest_but working time sys.old.machine) sys.old }
+{
+    for p in 0..sys.count() {
+        if !is_working(working, p) {
+            rest_one(sys, p, time);
+        }
+    }
+}
+
+// Whether this partition is the one that works.
+fn is_working(working: Option<PartId>, p: PartId) -> bool
+    ensures { result ≡ is_number working p }
+{
+    match working {
+        Some(working) => working == p,
+        None => false,
+    }
+}
+
+// A partition rests: only its hardware timer is looked at, and not where it has halted.
+#[tactic(auto, unfolding(machine_model::specs::Partition::rested, machine_model::specs::Partition::hardware_looked_at))]
+fn rest_one(sys: &mut Sys, p: PartId, time: u64)
+    requires { p < length sys.old.machine.parts }
+    ensures { sys.new ≡ with_machine (with_part p (rested time (part_at p sys.old.machine)) sys.old.machine) sys.old }
+{
+    let own = sys.part_mut(p);
+    if own.state != State::Halted && own.clocks.hw_due(time) {
+        own.virt.raise(HARDWARE_TIMER);
+    }
+}
