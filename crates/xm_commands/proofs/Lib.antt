@@ -1,4 +1,5 @@
 pub mod ImagingLemmas
+pub mod InputLemmas
 pub mod OutsideLemmas
 pub mod PackingLemmas
 pub mod ParsingLemmas

@@ -12,8 +12,7 @@ use Rattle.xm_base.specs.Options.{on}
 use Rattle.xm_base.specs.declared.limits.TheConstants.{FILE_BYTES, IMAGE_BYTES, TICKS}
 use Rattle.xm_outside.specs.Causes.{counted}
 use Rattle.xm_outside.specs.Files.{Files, OthersStay, stored}
-use Rattle.xm_words.specs.Words.{Command, Bare, Parse, BuildImage, ReadImage, Pack, ListContainer, CheckContainer, Run}
-use Rattle.xm_words.specs.declared.commands.Span.{Span}
+use Rattle.xm_words.specs.Words.{Command, RunOption, Bare, Parse, BuildImage, ReadImage, Pack, ListContainer, CheckContainer, Run}
 use Rattle.xm_container.specs.Reading.{unpacked}
 use Rattle.xm_container.specs.declared.fault.BoxFault.{BoxFault}
 use Rattle.xm_commands.specs.Answer.{read_all, read_before, saved}
@@ -21,10 +20,11 @@ use Rattle.loaded_system.specs.Bare.{bare_system}
 use Rattle.loaded_system.specs.System.{System}
 use Rattle.xm_commands.specs.Ending.{length_text, ticks_text}
 use Rattle.xm_commands.specs.Imaging.{container_lines_of, container_verdict_of, image_lines_of, xef_of}
+use Rattle.xm_commands.specs.Inputs.{no_inputs}
 use Rattle.xm_commands.specs.Packing.{container_of}
 use Rattle.xm_commands.specs.Parsing.{xmc_of}
 use Rattle.xm_commands.specs.Denial.{Denial}
-use Rattle.xm_commands.specs.Outcome.{Output, bare_outcome, content, first_long, made, packed_to, ran, ran_within, refused, run_by, run_outcome, told, inputs_of, outcome_of, output_of, unless_long, worked}
+use Rattle.xm_commands.specs.Outcome.{Output, bare_outcome, content, first_long, made, packed_to, ran, ran_with, ran_within, refused, refused_by, run_by, run_outcome, told, inputs_of, outcome_of, output_of, unless_long, worked}
 use Rattle.xm_commands.specs.Top.{AreContents, FilesStay, HasCalls, counted_by, output_count}
 use Rattle.xm_commands.specs.Work.{Outside, ReadsFiles, called, called_for, wrote}
 
@@ -111,35 +111,40 @@ told-output file (Ok text) output e = cc
 told-output file (Err text) output e = cc
 
 -- a run of a system writes no file
-ran-output : (file : List ℕ) (ticks : ℕ) (system : System) (output : Output) → (ran file ticks system).output ≡ Some output → ⊥
+ran-output : (ticks : ℕ) (system : System) (inputs : List (List ℕ)) (output : Output) → (ran ticks system inputs).output ≡ Some output → ⊥
 unfolding ran
-ran-output file ticks system output e = cc
+ran-output ticks system inputs output e = cc
 
 -- a run of an image writes no file
 bare-output : (file : List ℕ) (ticks : ℕ) (image : List ℕ) (output : Output) → (bare_outcome file ticks image).output ≡ Some output → ⊥
 unfolding bare_outcome
 bare-output file ticks image output e = at ((length image == 0) || nat_lt IMAGE_BYTES (length image)) e
   where
-    at : (t : Bool) → (if t then refused file (length_text (length image)) else ran file ticks (bare_system image)).output ≡ Some output → ⊥
+    at : (t : Bool) → (if t then refused file (length_text (length image)) else ran ticks (bare_system image) (no_inputs 1)).output ≡ Some output → ⊥
     at true e = cc
-    at false e = ran-output file ticks (bare_system image) output e
+    at false e = ran-output ticks (bare_system image) (no_inputs 1) output e
 
 -- a run that may be too long writes no file
-within-output : (file : List ℕ) (asked : ℕ) (system : System) (output : Output) → (ran_within file asked system).output ≡ Some output → ⊥
+within-output : (file : List ℕ) (asked : ℕ) (system : System) (inputs : List (List ℕ)) (output : Output) → (ran_within file asked system inputs).output ≡ Some output → ⊥
 unfolding ran_within
-within-output file asked system output e = at (nat_lt TICKS asked) e
+within-output file asked system inputs output e = at (nat_lt TICKS asked) e
   where
-    at : (t : Bool) → (if t then refused file (ticks_text asked) else ran file asked system).output ≡ Some output → ⊥
+    at : (t : Bool) → (if t then refused file (ticks_text asked) else ran asked system inputs).output ≡ Some output → ⊥
     at true e = cc
-    at false e = ran-output file asked system output e
+    at false e = ran-output asked system inputs output e
+
+-- a run whose inputs may be refused writes no file
+with-output : (file : List ℕ) (asked : ℕ) (system : System) (read : Result (List (List ℕ)) Denial) (output : Output) → (ran_with file asked system read).output ≡ Some output → ⊥
+with-output file asked system (Ok inputs) output e = within-output file asked system inputs output e
+with-output file asked system (Err refusal) output e = cc
 
 -- a run of a container writes no file
-run-output : (file : List ℕ) (span : Span) (bytes : List ℕ) (output : Output) → (run_outcome file span bytes).output ≡ Some output → ⊥
+run-output : (file : List ℕ) (options : List RunOption) (bytes : List ℕ) (contents : List (List ℕ)) (output : Output) → (run_outcome file options bytes contents).output ≡ Some output → ⊥
 unfolding run_outcome
-run-output file span bytes output e = at (unpacked bytes) e
+run-output file options bytes contents output e = at (unpacked bytes) e
   where
-    at : (read : Result System BoxFault) → (run_by file span read).output ≡ Some output → ⊥
-    at (Ok system) e = within-output file _ system output e
+    at : (read : Result System BoxFault) → (run_by file options contents read).output ≡ Some output → ⊥
+    at (Ok system) e = with-output file _ system _ output e
     at (Err fault) e = cc
 
 -- a file that is too long is refused
@@ -161,38 +166,84 @@ output-named command contents output is = at command (first_long (inputs_of comm
     at (Pack configuration out images) None e = packed-output out (container_of configuration (content 0 contents) images (drop 1 contents)) output e
     at (ListContainer container) None e = absurd (told-output container (container_lines_of (content 0 contents)) output e)
     at (CheckContainer container) None e = absurd (told-output container (container_verdict_of (content 0 contents)) output e)
-    at (Run container span) None e = absurd (run-output container span (content 0 contents) output e)
+    at (Run container options) None e = absurd (run-output container options (content 0 contents) (drop 1 contents) output e)
 
--- a file that is made or refused is not both
-made-denied : (input file : List ℕ) (made_of : Result (List ℕ) (List ℕ)) (denial : Denial) → (made input file made_of).denial ≡ Some denial → (made input file made_of).output ≡ None
+-- a refusal is the one that is told
+same_refusal : (one other : Denial) → Some one ≡ Some other → refused_by one ≡ refused_by other
+same_refusal one other e = (let same : one ≡ other = cc in ap refused_by same)
+
+-- what is made is refused so, or not at all
+made-denied : (input file : List ℕ) (made_of : Result (List ℕ) (List ℕ)) (denial : Denial) → (made input file made_of).denial ≡ Some denial → made input file made_of ≡ refused_by denial
 made-denied input file (Ok bytes) denial e = absurd (cc)
-made-denied input file (Err text) denial e = refl
+made-denied input file (Err text) denial e = same_refusal _ denial e
 
--- what is packed or refused is not both
-packed-denied : (file : List ℕ) (packed : Result (List ℕ) Denial) (denial : Denial) → (packed_to file packed).denial ≡ Some denial → (packed_to file packed).output ≡ None
+-- and so is what is packed
+packed-denied : (file : List ℕ) (packed : Result (List ℕ) Denial) (denial : Denial) → (packed_to file packed).denial ≡ Some denial → packed_to file packed ≡ refused_by denial
 packed-denied file (Ok bytes) denial e = absurd (cc)
-packed-denied file (Err refusal) denial e = refl
+packed-denied file (Err refusal) denial e = same_refusal refusal denial e
+
+-- and what is told
+told-denied : (file : List ℕ) (text : Result (List ℕ) (List ℕ)) (denial : Denial) → (told file text).denial ≡ Some denial → told file text ≡ refused_by denial
+told-denied file (Ok text) denial e = absurd (cc)
+told-denied file (Err text) denial e = same_refusal _ denial e
+
+-- a run of a system is not refused
+ran-denied : (ticks : ℕ) (system : System) (inputs : List (List ℕ)) (denial : Denial) → (ran ticks system inputs).denial ≡ Some denial → ⊥
+unfolding ran
+ran-denied ticks system inputs denial e = cc
+
+-- a run of an image is refused so, or not at all
+bare-denied : (file : List ℕ) (ticks : ℕ) (image : List ℕ) (denial : Denial) → (bare_outcome file ticks image).denial ≡ Some denial → bare_outcome file ticks image ≡ refused_by denial
+unfolding bare_outcome
+bare-denied file ticks image denial e = at ((length image == 0) || nat_lt IMAGE_BYTES (length image)) e
+  where
+    at : (t : Bool) → (if t then refused file (length_text (length image)) else ran ticks (bare_system image) (no_inputs 1)).denial ≡ Some denial → (if t then refused file (length_text (length image)) else ran ticks (bare_system image) (no_inputs 1)) ≡ refused_by denial
+    at true e = same_refusal _ denial e
+    at false e = absurd (ran-denied ticks (bare_system image) (no_inputs 1) denial e)
+
+-- and so is a run that may be too long
+within-denied : (file : List ℕ) (asked : ℕ) (system : System) (inputs : List (List ℕ)) (denial : Denial) → (ran_within file asked system inputs).denial ≡ Some denial → ran_within file asked system inputs ≡ refused_by denial
+unfolding ran_within
+within-denied file asked system inputs denial e = at (nat_lt TICKS asked) e
+  where
+    at : (t : Bool) → (if t then refused file (ticks_text asked) else ran asked system inputs).denial ≡ Some denial → (if t then refused file (ticks_text asked) else ran asked system inputs) ≡ refused_by denial
+    at true e = same_refusal _ denial e
+    at false e = absurd (ran-denied asked system inputs denial e)
+
+-- and a run whose inputs may be refused
+with-denied : (file : List ℕ) (asked : ℕ) (system : System) (read : Result (List (List ℕ)) Denial) (denial : Denial) → (ran_with file asked system read).denial ≡ Some denial → ran_with file asked system read ≡ refused_by denial
+with-denied file asked system (Ok inputs) denial e = within-denied file asked system inputs denial e
+with-denied file asked system (Err refusal) denial e = same_refusal refusal denial e
+
+-- and a run of a container
+run-denied : (file : List ℕ) (options : List RunOption) (bytes : List ℕ) (contents : List (List ℕ)) (denial : Denial) → (run_outcome file options bytes contents).denial ≡ Some denial → run_outcome file options bytes contents ≡ refused_by denial
+unfolding run_outcome
+run-denied file options bytes contents denial e = at (unpacked bytes) e
+  where
+    at : (read : Result System BoxFault) → (run_by file options contents read).denial ≡ Some denial → run_by file options contents read ≡ refused_by denial
+    at (Ok system) e = with-denied file _ system _ denial e
+    at (Err fault) e = same_refusal _ denial e
 
 -- where there is no file, none is written
 pub no_output : (o : Option Output) → ((output : Output) → o ≡ Some output → ⊥) → o ≡ None
 no_output None never = refl
 no_output (Some output) never = absurd (never output refl)
 
--- a command that is refused writes no file
-pub output-denied : (command : Command) (contents : List (List ℕ)) (denial : Denial) → (outcome_of command contents).denial ≡ Some denial → (outcome_of command contents).output ≡ None
+-- a command that is refused comes to the refusal, and to nothing else
+pub outcome-denied : (command : Command) (contents : List (List ℕ)) (denial : Denial) → (outcome_of command contents).denial ≡ Some denial → outcome_of command contents ≡ refused_by denial
 unfolding outcome_of
-output-denied command contents denial is = at command (first_long (inputs_of command) contents) is
+outcome-denied command contents denial is = at command (first_long (inputs_of command) contents) is
   where
-    at : (command : Command) (long : Option (List ℕ)) → (unless_long long (worked command contents)).denial ≡ Some denial → (unless_long long (worked command contents)).output ≡ None
-    at command (Some file) e = refl
-    at (Bare image ticks) None e = no_output _ (bare-output image ticks (content 0 contents))
+    at : (command : Command) (long : Option (List ℕ)) → (unless_long long (worked command contents)).denial ≡ Some denial → unless_long long (worked command contents) ≡ refused_by denial
+    at command (Some file) e = same_refusal _ denial e
+    at (Bare image ticks) None e = bare-denied image ticks (content 0 contents) denial e
     at (Parse description out) None e = made-denied description out (xmc_of (content 0 contents)) denial e
     at (BuildImage program out) None e = made-denied program out (xef_of (content 0 contents)) denial e
-    at (ReadImage image) None e = no_output _ (told-output image (image_lines_of (content 0 contents)))
+    at (ReadImage image) None e = told-denied image (image_lines_of (content 0 contents)) denial e
     at (Pack configuration out images) None e = packed-denied out (container_of configuration (content 0 contents) images (drop 1 contents)) denial e
-    at (ListContainer container) None e = no_output _ (told-output container (container_lines_of (content 0 contents)))
-    at (CheckContainer container) None e = no_output _ (told-output container (container_verdict_of (content 0 contents)))
-    at (Run container span) None e = no_output _ (run-output container span (content 0 contents))
+    at (ListContainer container) None e = told-denied container (container_lines_of (content 0 contents)) denial e
+    at (CheckContainer container) None e = told-denied container (container_verdict_of (content 0 contents)) denial e
+    at (Run container options) None e = run-denied container options (content 0 contents) (drop 1 contents) denial e
 
 -- what a command writes leaves the other files
 pub wrote-stays : (out : Option (List ℕ)) (o : Option Output) (x : Outside) → ((output : Output) → o ≡ Some output → out ≡ Some output.file) → FilesStay out x.files (wrote o x).files

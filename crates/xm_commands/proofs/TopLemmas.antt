@@ -8,9 +8,9 @@ use Rattle.xm_commands.specs.Answer.{Answer, answer, answer_of, answer_to, answe
 use Rattle.xm_commands.specs.Ending.{Ending, Finished, Misused, Unread, Denied, Unwritten, Unsaved, Starved, complaint, status_of}
 use Rattle.xm_commands.specs.Denial.{Denial}
 use Rattle.xm_commands.specs.Outcome.{Output, Outcome, inputs_of, outcome_of, output_of}
-use Rattle.xm_commands.specs.Top.{Answers, AreContents, FilesStay, HasCalls, HasCauses, HasNoFault, IsBarren, IsFaultless, IsQuiet, IsReadCause, IsRefusal, IsSaid, IsWriteCause, OtherFilesStay, counted_by}
+use Rattle.xm_commands.specs.Top.{Answers, AreContents, FilesStay, HasCalls, HasCauses, HasNoFault, IsFaultless, IsQuiet, IsReadCause, IsRefusal, IsSaid, IsWriteCause, OtherFilesStay, counted_by}
 use Rattle.xm_commands.specs.Work.{Outside, IsCarriedOut, IsDone, IsMisuse, IsUnread, IsWorked, ReadsFiles, called, called_for, wrote}
-use Rattle.xm_commands.proofs.OutsideLemmas.{called_for-is, counted-counted_by, files_same, output-denied, output-named, read_all-absent, told_outcome, wrote-calls, wrote-faults, wrote-files, wrote-got, wrote-read_faults, wrote-stays, wrote-write_faults}
+use Rattle.xm_commands.proofs.OutsideLemmas.{called_for-is, counted-counted_by, files_same, outcome-denied, output-named, read_all-absent, told_outcome, wrote-calls, wrote-faults, wrote-files, wrote-got, wrote-read_faults, wrote-stays, wrote-write_faults}
 use Rattle.xm_commands.specs.declared.status.Status.{Status}
 use Rattle.xm_commands.specs.declared.status.Status.TheVariants.{Done, Refused, Usage, ReadFault, WriteFault, UartFault, NoMemory}
 
@@ -90,22 +90,30 @@ files_stay e (Some command) before after w = done e w
 denied-files : (file text : List ℕ) (command : Command) (before after : Outside) → IsCarriedOut (Some (record { file = file; text = text })) command before after → after.files ≡ before.files
 denied-files file text command before after w =
     ap (λ (x : Outside). x.files) w.outside
-    ∙ ap (λ (o : Option Output). (wrote o (called_for (inputs_of command) before)).files) (output-denied command w.contents _ w.denied)
+    ∙ ap (λ (o : Outcome). (wrote o.output (called_for (inputs_of command) before)).files) (outcome-denied command w.contents _ w.denied)
     ∙ called_for-files (inputs_of command) before
 
--- one of the statuses that are not barren is not
-loud_barren : (status : Status) → status ≢ Refused → status ≢ Usage → status ≢ ReadFault → status ≢ NoMemory → IsBarren status → ⊥
-loud_barren status refused usage read memory q = ⊎_elim refused (λ r. ⊎_elim usage (λ r. ⊎_elim read memory r) r) q
+-- a command that is refused leaves the report
+denied-report : (file text : List ℕ) (command : Command) (before after : Outside) → IsCarriedOut (Some (record { file = file; text = text })) command before after → after.got ≡ before.got
+denied-report file text command before after w =
+    ap (λ (x : Outside). x.got) w.outside
+    ∙ ap (λ (o : Outcome). grown (wrote o.output (called_for (inputs_of command) before)).got o.report) (outcome-denied command w.contents _ w.denied)
+    ∙ grown-nothing (called_for (inputs_of command) before).got
+    ∙ ap (λ (x : Outside). x.got) (called_for-is (inputs_of command) before)
+
+-- a status that is none of the quiet ones is not quiet
+loud : (status : Status) → status ≢ Refused → status ≢ Usage → status ≢ ReadFault → status ≢ NoMemory → IsQuiet status → ⊥
+loud status refused usage read memory q = ⊎_elim refused (λ r. ⊎_elim usage (λ r. ⊎_elim read memory r) r) q
 
 -- after these statuses no file was written
-pub barren : (e : Ending) (command : Option Command) (before after : Outside) → IsWorked e command before after → IsBarren (status_of e) → after.files ≡ before.files
+pub barren : (e : Ending) (command : Option Command) (before after : Outside) → IsWorked e command before after → IsQuiet (status_of e) → after.files ≡ before.files
 barren e None before after w q = ap (λ (x : Outside). x.files) (misused e before after w)
-barren Finished (Some command) before after w q = absurd (loud_barren Done (λ h. cc) (λ h. cc) (λ h. cc) (λ h. cc) q)
+barren Finished (Some command) before after w q = absurd (loud Done (λ h. cc) (λ h. cc) (λ h. cc) (λ h. cc) q)
 barren Misused (Some command) before after w q = absurd w
 barren (Unread file) (Some command) before after w q = ap (λ (x : Outside). x.files) w.outside ∙ called_for-files w.first before
 barren (Denied file text) (Some command) before after w q = denied-files file text command before after w
-barren Unwritten (Some command) before after w q = absurd (loud_barren WriteFault (λ h. cc) (λ h. cc) (λ h. cc) (λ h. cc) q)
-barren (Unsaved file) (Some command) before after w q = absurd (loud_barren WriteFault (λ h. cc) (λ h. cc) (λ h. cc) (λ h. cc) q)
+barren Unwritten (Some command) before after w q = absurd (loud WriteFault (λ h. cc) (λ h. cc) (λ h. cc) (λ h. cc) q)
+barren (Unsaved file) (Some command) before after w q = absurd (loud WriteFault (λ h. cc) (λ h. cc) (λ h. cc) (λ h. cc) q)
 barren Starved (Some command) before after w q = ap (λ (x : Outside). x.files) w.outside ∙ called_for-files w.first before
 
 -- the calls for files, and a file that is written, leave the count of failed writes
@@ -176,9 +184,7 @@ refusal_cause (Denied file text) command before after w h =
       contents = told.contents;
       are = told.are;
       refused = rw (ap (λ (o : Outcome). o.denial) (sym told.outcome) ∙ w.denied) refl;
-      report = ap (λ (x : Outside). x.got) w.outside
-          ∙ ap (λ (g : Option (List ℕ)). grown g (outcome_of command w.contents).report) (wrote-got _ _ ∙ ap (λ (x : Outside). x.got) (called_for-is (inputs_of command) before))
-          ∙ ap (λ (o : Outcome). grown before.got o.report) told.outcome;
+      report = denied-report file text command before after w;
       files = denied-files file text command before after w;
     }
 refusal_cause Unwritten command before after w h = absurd (cc)
@@ -241,19 +247,15 @@ has_causes e (Some command) before after w = record {
       report = ap (λ (x : Outside). x.faults) w.outside ∙ wrote-faults _ _ ∙ ap (λ (x : Outside). x.faults) (called_for-is (inputs_of command) before);
     }
 
--- a status that is none of the quiet ones is not quiet
-loud : (status : Status) → status ≢ Usage → status ≢ ReadFault → status ≢ NoMemory → IsQuiet status → ⊥
-loud status usage read memory q = ⊎_elim usage (λ r. ⊎_elim read memory r) q
-
 -- after these statuses the report has got nothing
 pub quiet : (e : Ending) (command : Option Command) (before after : Outside) → IsWorked e command before after → IsQuiet (status_of e) → after.got ≡ before.got
 quiet e None before after w q = ap (λ (x : Outside). x.got) (misused e before after w)
-quiet Finished (Some command) before after w q = absurd (loud Done (λ h. cc) (λ h. cc) (λ h. cc) q)
+quiet Finished (Some command) before after w q = absurd (loud Done (λ h. cc) (λ h. cc) (λ h. cc) (λ h. cc) q)
 quiet Misused (Some command) before after w q = absurd w
 quiet (Unread file) (Some command) before after w q = ap (λ (x : Outside). x.got) w.outside ∙ ap (λ (x : Outside). x.got) (called_for-is w.first before)
-quiet (Denied file text) (Some command) before after w q = absurd (loud Refused (λ h. cc) (λ h. cc) (λ h. cc) q)
-quiet Unwritten (Some command) before after w q = absurd (loud WriteFault (λ h. cc) (λ h. cc) (λ h. cc) q)
-quiet (Unsaved file) (Some command) before after w q = absurd (loud WriteFault (λ h. cc) (λ h. cc) (λ h. cc) q)
+quiet (Denied file text) (Some command) before after w q = denied-report file text command before after w
+quiet Unwritten (Some command) before after w q = absurd (loud WriteFault (λ h. cc) (λ h. cc) (λ h. cc) (λ h. cc) q)
+quiet (Unsaved file) (Some command) before after w q = absurd (loud WriteFault (λ h. cc) (λ h. cc) (λ h. cc) (λ h. cc) q)
 quiet Starved (Some command) before after w q = ap (λ (x : Outside). x.got) w.outside ∙ ap (λ (x : Outside). x.got) (called_for-is w.first before)
 
 -- a line goes out, or a front of it

@@ -10,24 +10,28 @@ use Rattle.xm_outside.specs.Growth.{grown, grown-nothing, GrewByPrefix}
 use Rattle.xm_conf.specs.Configuration.{Conf}
 use Rattle.xm_conf.specs.Description.{described}
 use Rattle.xm_conf.specs.Fits.{Fits}
-use Rattle.xm_machine.specs.Outcome.{IsRun}
-use Rattle.xm_machine.specs.State.{booted}
+use Rattle.hypercalls.specs.State.{with_inputs}
+use Rattle.xm_machine.specs.Outcome.{IsRun, report_of}
+use Rattle.machine_model.specs.Lines.{report}
 use Rattle.machine_model.specs.Machine.{Machine, start}
+use Rattle.machine_model.specs.View.{System as Booted}
 use Rattle.loaded_system.specs.Bare.{IsImageLength, bare_system}
 use Rattle.loaded_system.specs.System.{System}
 use Rattle.xm_machine.specs.declared.run.Ran.{Ran}
-use Rattle.xm_machine.specs.declared.run.RunFault.TheVariants.{Write, NotBuilt}
+use Rattle.xm_report.specs.Report.{ReportLine, texts}
+use Rattle.xm_report.specs.declared.output.WriteFault.{WriteFault}
 use Rattle.xm_container.specs.Reading.{unpacked}
 use Rattle.xm_container.specs.Texts.{box_fault_text}
 use Rattle.xm_container.specs.declared.fault.BoxFault.{BoxFault}
-use Rattle.xm_words.specs.Words.{Command, Bare, Parse, Run, command_of}
-use Rattle.xm_words.specs.declared.commands.Span.{Span}
+use Rattle.xm_words.specs.Words.{Command, RunOption, Bare, Parse, Run, command_of, inputs_in, span_in}
+use Rattle.xm_words.specs.RunLemmas.{span_within}
 use Rattle.xm_words.specs.Grammar.{CommandsAreSpelled}
-use Rattle.xm_words.specs.Seen.{seen}
+use Rattle.xm_words.specs.Seen.{seen, seen_options}
 use Rattle.xm_words.specs.declared.commands.Command as code
 use Rattle.xm_words.specs.declared.commands.Command.TheVariants as variant
-use Rattle.xm_commands.specs.Ending.{Ending, Finished, Misused, Unread, Denied, Unwritten, Unsaved, Starved, length_text, unbuilt_text}
-use Rattle.xm_commands.specs.Outcome.{Outcome, bare_outcome, inputs_of, made, outcome_of, output_of, ran, refused, run_by, run_outcome, stuck_denial, told, worked}
+use Rattle.xm_commands.specs.Ending.{Ending, Finished, Misused, Unread, Denied, Unwritten, Unsaved, Starved, length_text}
+use Rattle.xm_commands.specs.Outcome.{Outcome, bare_outcome, first_long, inputs_of, made, outcome_of, output_of, ran, ran_with, refused, run_by, run_outcome, ticks_asked, told, unless_long, worked}
+use Rattle.xm_commands.specs.Inputs.{inputs_for, no_inputs}
 use Rattle.xm_commands.specs.Parsing.{xmc_of}
 use Rattle.xm_commands.specs.Makes.{IsUnmade, IsUnmadeOf}
 use Rattle.xm_commands.specs.Told.{HasTicks}
@@ -39,29 +43,29 @@ use Rattle.xm_commands.specs.Work.{Outside, AreNotRead, Comes, IsDone, IsNotRead
 -- Runs.
 
 -- a machine boots with no tick done
-pub booted-ticks : (system : System) → (booted system).ticks ≡ 0
-unfolding booted start
-booted-ticks system = refl
+pub started-ticks : (system : Booted) → (start system).ticks ≡ 0
+unfolding start
+started-ticks system = refl
 
 -- a machine that boots has not halted
-pub booted-halted : (system : System) → (booted system).halted ≡ false
-unfolding booted start
-booted-halted system = refl
+pub started-halted : (system : Booted) → (start system).halted ≡ false
+unfolding start
+started-halted system = refl
+
+-- the report of a run from the start is that of the system
+reports_same : (system : Booted) (ticks : ℕ) → report_of (start system) ticks ≡ report system ticks
+unfolding report_of report start
+reports_same system ticks = refl
 
 -- a run that reached its end
-pub finished : (r : Ran) (file : List ℕ) (system : System) (ticks : ℕ) (new : Machine) (had got : Option (List ℕ)) → IsRun (Ok r) ticks (booted system) new had got → ((ran file ticks system).denial ≡ None) × (got ≡ grown had (ran file ticks system).report)
+pub finished : (r : Ran) (system : System) (inputs : List (List ℕ)) (ticks : ℕ) (new : Machine) (had got : Option (List ℕ)) → IsRun (Ok r) ticks (start (with_inputs system inputs)) new had got → ((ran ticks system inputs).denial ≡ None) × (got ≡ grown had (ran ticks system inputs).report)
 unfolding ran
-finished r file system ticks new had got is = (ap (stuck_denial file) is.built, is.report)
+finished r system inputs ticks new had got is = (refl, is.report ∙ ap (λ (lines : List ReportLine). grown had (texts lines)) (reports_same (with_inputs system inputs) ticks))
 
 -- a run whose report was not taken whole
-pub unwritten : (file : List ℕ) (system : System) (ticks : ℕ) (new : Machine) (had got : Option (List ℕ)) → IsRun (Err Write) ticks (booted system) new had got → GrewByPrefix had (ran file ticks system).report got
+pub unwritten : (fault : WriteFault) (system : System) (inputs : List (List ℕ)) (ticks : ℕ) (new : Machine) (had got : Option (List ℕ)) → IsRun (Err fault) ticks (start (with_inputs system inputs)) new had got → GrewByPrefix had (ran ticks system inputs).report got
 unfolding ran
-unwritten file system ticks new had got is = is.report
-
--- a run that met a tick that is not built
-pub denied : (part pc : ℕ) (file : List ℕ) (system : System) (ticks : ℕ) (new : Machine) (had got : Option (List ℕ)) → IsRun (Err (NotBuilt part pc)) ticks (booted system) new had got → ((ran file ticks system).denial ≡ Some (record { file = file; text = unbuilt_text part pc })) × (got ≡ grown had (ran file ticks system).report)
-unfolding ran
-denied part pc file system ticks new had got is = (ap (stuck_denial file) is.stop, is.report)
+unwritten fault system inputs ticks new had got is = subst (λ (lines : List ReportLine). GrewByPrefix had (texts lines) got) (reports_same (with_inputs system inputs) ticks) is.report
 
 -- a configuration has a plan
 pub has_plan : (conf : Conf) → Fits (described conf) → 0 < length conf.plans
@@ -90,7 +94,7 @@ unfolding bare_outcome
 outcome-length file ticks bytes short wrong = one-short (Bare file ticks) file bytes refl short ∙ (let test = length_test (length bytes) wrong in rw test refl)
 
 -- a file that is an image
-pub outcome-image : (file : List ℕ) (ticks : ℕ) (bytes : List ℕ) → IsImageLength (length bytes) → outcome_of (Bare file ticks) (bytes ∷ []) ≡ ran file ticks (bare_system bytes)
+pub outcome-image : (file : List ℕ) (ticks : ℕ) (bytes : List ℕ) → IsImageLength (length bytes) → outcome_of (Bare file ticks) (bytes ∷ []) ≡ ran ticks (bare_system bytes) (no_inputs 1)
 unfolding bare_outcome
 outcome-image file ticks bytes is =
     let short : length bytes ≤ FILE_BYTES = omega (arith, is.most) in
@@ -101,10 +105,16 @@ outcome-image file ticks bytes is =
 pub outcome-text : (file output bytes : List ℕ) → length bytes ≤ FILE_BYTES → outcome_of (Parse file output) (bytes ∷ []) ≡ made file output (xmc_of bytes)
 outcome-text file output bytes short = one-short (Parse file output) file bytes refl short
 
--- a container that is not too long
-pub outcome-run : (file : List ℕ) (span : Span) (bytes : List ℕ) → length bytes ≤ FILE_BYTES → outcome_of (Run file span) (bytes ∷ []) ≡ run_by file span (unpacked bytes)
+-- files none of which is too long
+pub outcome-short : (command : Command) (contents : List (List ℕ)) → first_long (inputs_of command) contents ≡ None → outcome_of command contents ≡ worked command contents
+unfolding outcome_of
+outcome-short command contents none = ap (λ (long : Option (List ℕ)). unless_long long (worked command contents)) none
+
+-- a container that is one
+pub outcome-unpacked : (file : List ℕ) (options : List RunOption) (bytes : List ℕ) (contents : List (List ℕ)) (system : System) → unpacked bytes ≡ Ok system
+    → run_outcome file options bytes contents ≡ ran_with file (ticks_asked (span_in options) system.conf) system (inputs_for (length system.conf.parts) (inputs_in options) contents)
 unfolding run_outcome
-outcome-run file span bytes short = one-short (Run file span) file bytes refl short
+outcome-unpacked file options bytes contents system is = ap (run_by file options contents) is
 
 -- a command whose words name no file to be written writes none
 pub no-writes : (command : Command) (contents : List (List ℕ)) → output_of command ≡ None → (outcome_of command contents).output ≡ None
@@ -134,12 +144,13 @@ fault_text_by (Ok system) = Ok []
 fault_text_by (Err fault) = Err (box_fault_text fault)
 
 -- and nothing is run
-pub unmade_runs : (e : Ending) (file : List ℕ) (span : Span) (why : Unmade) (read : Result System BoxFault) (had : Option (List ℕ)) (faults : ℕ) → IsUnmadeOf e file why → IsUnmade why (fault_text_by read) → Reports e (run_by file span read) had faults had faults
-unmade_runs e file span (unmade.Refused text) (Ok system) had faults ends is = absurd (cc)
-unmade_runs e file span (unmade.Refused text) (Err fault) had faults ends is =
+pub unmade_runs : (e : Ending) (file : List ℕ) (options : List RunOption) (contents : List (List ℕ)) (why : Unmade) (read : Result System BoxFault) (had : Option (List ℕ)) (faults : ℕ) → IsUnmadeOf e file why → IsUnmade why (fault_text_by read)
+    → Reports e (run_by file options contents read) had faults had faults
+unmade_runs e file options contents (unmade.Refused text) (Ok system) had faults ends is = absurd (cc)
+unmade_runs e file options contents (unmade.Refused text) (Err fault) had faults ends is =
     let same : box_fault_text fault ≡ string_bytes text = cc in
     rw (ends, same) (refused_reports file _ had faults)
-unmade_runs e file span unmade.Memory read had faults ends is = rw ends (refl, refl)
+unmade_runs e file options contents unmade.Memory read had faults ends is = rw ends (refl, refl)
 
 -- From what is done with files to what is done in all.
 
@@ -229,4 +240,4 @@ has_ticks (variant.ReadImage image) words law e = tt
 has_ticks (variant.Pack configuration output images) words law e = tt
 has_ticks (variant.ListContainer container) words law e = tt
 has_ticks (variant.CheckContainer container) words law e = tt
-has_ticks (variant.Run container span) words law e = ((law words (Run container.now span)).0 (sym e)).1.1
+has_ticks (variant.Run container options) words law e = span_within (seen_options options) ((law words (Run container.now (seen_options options))).0 (sym e)).1.1.each

@@ -1,7 +1,5 @@
 -- How a call ends: its status, and its line on the error output.
 use Rattle.std.specs.Prelude.{ℕ, List, [], ◌++◌, codes, decimal}
-use Rattle.std.specs.Int.{w32, to_be_bytes}
-use Rattle.hex.specs.Hex.{encode_lower}
 use Rattle.xm_commands.specs.declared.status.Status.{Status}
 use Rattle.xm_commands.specs.declared.status.Status.TheVariants.{Done, Refused, Usage, ReadFault, WriteFault, NoMemory}
 
@@ -47,6 +45,10 @@ length_text found = codes "image length=" ++ decimal found
 unfoldable pub ticks_text : ℕ → List ℕ
 ticks_text asked = codes "ticks asked=" ++ decimal asked
 
--- the fault text of a tick that is not built
-unfoldable pub unbuilt_text : ℕ → ℕ → List ℕ
-unbuilt_text part pc = codes "not-built part=" ++ decimal part ++ codes " pc=" ++ encode_lower (to_be_bytes w32 pc)
+-- the fault text of an input for a partition that a system does not have
+unfoldable pub partition_text : ℕ → List ℕ
+partition_text id = codes "partition id=" ++ decimal id
+
+-- the fault text of an input whose length is no multiple of 4
+unfoldable pub input_text : ℕ → List ℕ
+input_text length = codes "input length=" ++ decimal length

@@ -2,6 +2,7 @@ pub mod Answer
 pub mod Denial
 pub mod Ending
 pub mod Imaging
+pub mod Inputs
 pub mod Makes
 pub mod Outcome
 pub mod Packing

@@ -4,19 +4,20 @@ use Rattle.xm_base.specs.declared.limits.TheConstants.{FILE_BYTES, IMAGE_BYTES, 
 use Rattle.xm_report.specs.Report.{texts}
 use Rattle.xm_conf.specs.Configuration.{Conf}
 use Rattle.cyclic_plans.specs.Slots.{frame_of}
-use Rattle.slot_runs.specs.Run.{Stop, report_of, stop_within}
-use Rattle.xm_machine.specs.State.{booted}
+use Rattle.machine_model.specs.Lines.{report}
+use Rattle.hypercalls.specs.State.{with_inputs}
 use Rattle.loaded_system.specs.Bare.{bare_system}
 use Rattle.loaded_system.specs.System.{System}
 use Rattle.xm_container.specs.Reading.{unpacked}
 use Rattle.xm_container.specs.Texts.{box_fault_text}
 use Rattle.xm_container.specs.declared.fault.BoxFault.{BoxFault}
-use Rattle.xm_words.specs.Words.{Command, Bare, Parse, BuildImage, ReadImage, Pack, ListContainer, CheckContainer, Run}
+use Rattle.xm_words.specs.Words.{Command, RunOption, Bare, Parse, BuildImage, ReadImage, Pack, ListContainer, CheckContainer, Run, inputs_in, span_in}
 use Rattle.xm_words.specs.declared.commands.Span.{Span}
 use Rattle.xm_words.specs.declared.commands.Span.TheVariants.{Frames, Ticks}
 use Rattle.xm_commands.specs.Denial.{Denial}
-use Rattle.xm_commands.specs.Ending.{length_text, ticks_text, unbuilt_text}
+use Rattle.xm_commands.specs.Ending.{length_text, ticks_text}
 use Rattle.xm_commands.specs.Imaging.{container_lines_of, container_verdict_of, image_lines_of, xef_of}
+use Rattle.xm_commands.specs.Inputs.{inputs_for, no_inputs}
 use Rattle.xm_commands.specs.Packing.{container_of, names_of}
 use Rattle.xm_commands.specs.Parsing.{xmc_of}
 
@@ -31,9 +32,13 @@ pub record Outcome : Type 0 where
   pub output : Option Output
   pub report : List ℕ
 
--- a command that is refused, and does nothing
+-- a command that is refused so, and does nothing
+abbrev pub refused_by : Denial → Outcome
+refused_by denial = record { denial = Some denial; output = None; report = [] }
+
+-- a command that is refused because of a file, and does nothing
 abbrev pub refused : List ℕ → List ℕ → Outcome
-refused file text = record { denial = Some (record { file = file; text = text }); output = None; report = [] }
+refused file text = refused_by (record { file = file; text = text })
 
 -- the files that a command reads, in the order of its words
 abbrev pub inputs_of : Command → List (List ℕ)
@@ -44,7 +49,7 @@ inputs_of (ReadImage image) = image ∷ []
 inputs_of (Pack configuration output images) = configuration ∷ names_of images
 inputs_of (ListContainer container) = container ∷ []
 inputs_of (CheckContainer container) = container ∷ []
-inputs_of (Run container span) = container ∷ []
+inputs_of (Run container options) = container ∷ names_of (inputs_in options)
 
 -- the file that a command writes
 abbrev pub output_of : Command → Option (List ℕ)
@@ -55,40 +60,41 @@ output_of (ReadImage image) = None
 output_of (Pack configuration output images) = Some output
 output_of (ListContainer container) = None
 output_of (CheckContainer container) = None
-output_of (Run container span) = None
+output_of (Run container options) = None
 
--- the refusal of a run that is stuck
-abbrev pub stuck_denial : List ℕ → Option Stop → Option Denial
-stuck_denial file None = None
-stuck_denial file (Some stop) = Some (record { file = file; text = unbuilt_text stop.place.part stop.place.pc })
+-- what a run of so many ticks comes to, of a system whose partitions have these input words
+unfoldable pub ran : ℕ → System → List (List ℕ) → Outcome
+ran ticks system inputs = record { denial = None; output = None; report = texts (report (with_inputs system inputs) ticks) }
 
--- what a run of so many ticks of a system comes to that stands in a file
-unfoldable pub ran : List ℕ → ℕ → System → Outcome
-ran file ticks system = record { denial = stuck_denial file (stop_within (booted system) ticks); output = None; report = texts (report_of (booted system) ticks) }
-
--- what a raw image comes to, run for so many ticks
+-- what a raw image comes to, run for so many ticks without input words
 unfoldable pub bare_outcome : List ℕ → ℕ → List ℕ → Outcome
 bare_outcome file ticks image =
     if (length image == 0) || nat_lt IMAGE_BYTES (length image) then refused file (length_text (length image))
-    else ran file ticks (bare_system image)
+    else ran ticks (bare_system image) (no_inputs 1)
 
 -- how many ticks a run asks for, under a configuration: major frames are those of plan 0
 abbrev pub ticks_asked : Span → Conf → ℕ
 ticks_asked (Frames count) conf = count * frame_of conf 0
 ticks_asked (Ticks count) conf = count
 
--- what a run of a system comes to: it is refused where it asks for more ticks than a run may have
-unfoldable pub ran_within : List ℕ → ℕ → System → Outcome
-ran_within file asked system = if nat_lt TICKS asked then refused file (ticks_text asked) else ran file asked system
+-- what a run comes to, of a container's system with these input words: it is refused where it asks for more ticks than a run may have
+unfoldable pub ran_within : List ℕ → ℕ → System → List (List ℕ) → Outcome
+ran_within file asked system inputs = if nat_lt TICKS asked then refused file (ticks_text asked) else ran asked system inputs
 
--- what a container comes to that is run for so long, or the refusal of its file
-abbrev pub run_by : List ℕ → Span → Result System BoxFault → Outcome
-run_by file span (Ok system) = ran_within file (ticks_asked span system.conf) system
-run_by file span (Err fault) = refused file (box_fault_text fault)
+-- what a run comes to, of a container's system with input words, or the refusal of an input's file
+abbrev pub ran_with : List ℕ → ℕ → System → Result (List (List ℕ)) Denial → Outcome
+ran_with file asked system (Ok inputs) = ran_within file asked system inputs
+ran_with file asked system (Err refusal) = refused_by refusal
 
--- what the container of a file comes to, run for so long
-unfoldable pub run_outcome : List ℕ → Span → List ℕ → Outcome
-run_outcome file span bytes = run_by file span (unpacked bytes)
+-- what a container comes to that is run with options and inputs with these contents, or the refusal of its file
+abbrev pub run_by : List ℕ → List RunOption → List (List ℕ) → Result System BoxFault → Outcome
+run_by file options contents (Ok system) =
+    ran_with file (ticks_asked (span_in options) system.conf) system (inputs_for (length system.conf.parts) (inputs_in options) contents)
+run_by file options contents (Err fault) = refused file (box_fault_text fault)
+
+-- what the container of a file with these bytes comes to, run with options and inputs with these contents
+unfoldable pub run_outcome : List ℕ → List RunOption → List ℕ → List (List ℕ) → Outcome
+run_outcome file options bytes contents = run_by file options contents (unpacked bytes)
 
 -- what is printed of a file that was made
 unfoldable pub made_text : ℕ → List ℕ
@@ -102,7 +108,7 @@ made input output (Err text) = refused input text
 -- what files come to that are packed: their container, or the refusal of one of them
 abbrev pub packed_to : List ℕ → Result (List ℕ) Denial → Outcome
 packed_to output (Ok bytes) = record { denial = None; output = Some (record { file = output; bytes = bytes }); report = made_text (length bytes) }
-packed_to output (Err denial) = record { denial = Some denial; output = None; report = [] }
+packed_to output (Err denial) = refused_by denial
 
 -- what a file comes to that is told: its text, or a refusal
 abbrev pub told : List ℕ → Result (List ℕ) (List ℕ) → Outcome
@@ -122,7 +128,7 @@ worked (ReadImage image) contents = told image (image_lines_of (content 0 conten
 worked (Pack configuration output images) contents = packed_to output (container_of configuration (content 0 contents) images (drop 1 contents))
 worked (ListContainer container) contents = told container (container_lines_of (content 0 contents))
 worked (CheckContainer container) contents = told container (container_verdict_of (content 0 contents))
-worked (Run container span) contents = run_outcome container span (content 0 contents)
+worked (Run container options) contents = run_outcome container options (content 0 contents) (drop 1 contents)
 
 -- the first of the files that has more bytes than a file may have
 abbrev pub first_long : List (List ℕ) → List (List ℕ) → Option (List ℕ)

@@ -4,13 +4,15 @@ use Rattle.std.specs.String.{string_bytes}
 use Rattle.xm_base.specs.declared.limits.TheConstants.{FILE_BYTES, TICKS}
 use Rattle.xm_outside.specs.Files.{ReadsFile}
 use Rattle.xm_words.specs.Grammar.{count_of}
+use Rattle.xm_words.specs.Seen.{seen_options}
+use Rattle.xm_words.specs.Words.{span_in}
 use Rattle.xm_words.specs.declared.commands.Command.{Command}
 use Rattle.xm_words.specs.declared.commands.Command.TheVariants as words
-use Rattle.xm_commands.specs.Ending.{Ending, Finished, Misused, Unread, Denied, Unwritten, Unsaved, Starved, length_text, ticks_text, unbuilt_text}
+use Rattle.xm_commands.specs.Ending.{Ending, Finished, Misused, Unread, Denied, Unwritten, Unsaved, Starved, input_text, length_text, partition_text, ticks_text}
 use Rattle.xm_commands.specs.Denial.{Denial}
 use Rattle.xm_commands.specs.Work.{Outside, AreNotRead, IsNotRead, ReadsFiles, called, called_for}
 use Rattle.xm_commands.specs.declared.ending.Refusal.{Refusal}
-use Rattle.xm_commands.specs.declared.ending.Refusal.TheVariants.{TooLong, Length, Ticks, NotBuilt, Told}
+use Rattle.xm_commands.specs.declared.ending.Refusal.TheVariants.{TooLong, Length, Ticks, Partition, Input, Told}
 use Rattle.xm_commands.specs.declared.ending.Ending as code
 use Rattle.xm_commands.specs.declared.ending.Ending.TheVariants as variant
 
@@ -19,7 +21,8 @@ abbrev pub refusal_text : Refusal → List ℕ
 refusal_text TooLong = codes "too-long"
 refusal_text (Length found) = length_text found
 refusal_text (Ticks asked) = ticks_text asked
-refusal_text (NotBuilt part pc) = unbuilt_text part pc
+refusal_text (Partition id) = partition_text id
+refusal_text (Input found) = input_text found
 refusal_text (Told text) = string_bytes text
 
 -- what an ending of the program says
@@ -41,7 +44,7 @@ HasTicks (words.ReadImage image) = ⊤
 HasTicks (words.Pack configuration output images) = ⊤
 HasTicks (words.ListContainer container) = ⊤
 HasTicks (words.CheckContainer container) = ⊤
-HasTicks (words.Run container span) = count_of span ≤ TICKS
+HasTicks (words.Run container options) = count_of (span_in (seen_options options)) ≤ TICKS
 
 -- a file was read, or the call ends without it
 abbrev pub IsRead : {A : Type 0} → Result (Vec ℕ A) code.Ending → List ℕ → Outside → Outside → Type 0

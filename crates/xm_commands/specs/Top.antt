@@ -63,12 +63,12 @@ abbrev pub AreContents : Option Files → Command → List (List ℕ) → Type 0
 AreContents None command contents = Unit {0}
 AreContents (Some files) command contents = read_all files (inputs_of command) ≡ Ok contents
 
--- the bytes that were read are refused; no file is written
+-- the bytes that were read are refused; no file is written, and the report has got nothing
 pub record IsRefusedIn (command : Command) (before after : Outside) : Type 0 where
   pub contents : List (List ℕ)
   pub are : AreContents before.files command contents
   pub refused : IsSome (outcome_of command contents).denial
-  pub report : after.got ≡ grown before.got (outcome_of command contents).report
+  pub report : after.got ≡ before.got
   pub files : after.files ≡ before.files
 
 -- the bytes of the files that the words name are refused
@@ -133,13 +133,9 @@ pub record HasCauses (status : Status) (command : Option Command) (before after 
   pub done : status ≡ Done → IsFaultless before after
   pub calls : CallsAsNamed command before after
 
--- one of the statuses after which the report has got nothing
+-- one of the statuses after which the report has got nothing, and no file was written
 abbrev pub IsQuiet : Status → Type 0
-IsQuiet status = (status ≡ Usage) ⊎ (status ≡ ReadFault) ⊎ (status ≡ NoMemory)
-
--- one of the statuses after which no file was written
-abbrev pub IsBarren : Status → Type 0
-IsBarren status = (status ≡ Refused) ⊎ IsQuiet status
+IsQuiet status = (status ≡ Refused) ⊎ (status ≡ Usage) ⊎ (status ≡ ReadFault) ⊎ (status ≡ NoMemory)
 
 -- every file but the one that is written is as before
 abbrev pub FilesStay : Option (List ℕ) → Option Files → Option Files → Type 0

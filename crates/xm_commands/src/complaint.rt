@@ -1,9 +1,9 @@
 //! The line on the error output.
 
-ghost use Rattle.std.specs.Prelude.{◌≡◌, [], ◌++◌, codes};
+ghost use Rattle.std.specs.Prelude.{◌≡◌, ◌≤◌, [], ◌++◌, codes, decimal, length};
 ghost use Rattle.xm_outside.specs.Causes.{HasCause};
 ghost use Rattle.xm_outside.specs.Growth.{Writes};
-ghost use Rattle.xm_commands.specs.Ending.{Finished, behind_file, complaint, length_text, ticks_text, unbuilt_text};
+ghost use Rattle.xm_commands.specs.Ending.{Finished, behind_file, complaint};
 ghost use Rattle.xm_commands.specs.Told.{ending_of, refusal_text};
 
 use crate::ending::{Ending, Refusal};
@@ -29,27 +29,17 @@ pub(crate) fn complain<E: Sink>(err: &mut E, ending: &Ending<'_>) -> Result<(), 
 }
 
 // Writes the line of a file that is refused.
+#[tactic(auto, unfolding(crate::specs::Ending::length_text, crate::specs::Ending::ticks_text, crate::specs::Ending::partition_text, crate::specs::Ending::input_text))]
 fn deny<E: Sink>(err: &mut E, file: &str, why: &Refusal) -> Result<(), Failed>
     ensures line { Writes result (E.got err.old) (codes "xm_run: " ++ file.now ++ behind_file (refusal_text why.now)) (E.got err.new) }
     ensures cause { HasCause result (E.faults err.old) (E.faults err.new) }
 {
     match why {
         Refusal::TooLong => name_file(err, file, b": too-long\n"),
-        Refusal::Length { found } => {
-            let mut pen = Pen::new();
-            length_line(&mut pen, *found);
-            name_file(err, file, pen.bytes())
-        }
-        Refusal::Ticks { asked } => {
-            let mut pen = Pen::new();
-            ticks_line(&mut pen, *asked);
-            name_file(err, file, pen.bytes())
-        }
-        Refusal::NotBuilt { part, pc } => {
-            let mut pen = Pen::new();
-            unbuilt_line(&mut pen, *part, *pc);
-            name_file(err, file, pen.bytes())
-        }
+        Refusal::Length { found } => { name_number(err, file, b": image length=", *found as u64) }
+        Refusal::Ticks { asked } => name_number(err, file, b": ticks asked=", *asked),
+        Refusal::Partition { id } => name_number(err, file, b": partition id=", u64::from(*id)),
+        Refusal::Input { found } => { name_number(err, file, b": input length=", *found as u64) }
         Refusal::Told { text } => tell(err, file, text),
     }
 }
@@ -80,38 +70,25 @@ fn tell_behind<E: Sink>(err: &mut E, text: &[u8]) -> Result<(), Failed>
     write_three(err, b": ", text, b"\n")
 }
 
-// Writes what is said of an image's length.
-#[tactic(auto, unfolding(crate::specs::Ending::length_text))]
-fn length_line(pen: &mut Pen, found: usize)
-    requires { pen.old ≡ [] }
-    ensures { pen.new ≡ behind_file (length_text found) }
+// Writes a line that names a file, and that ends with a number behind this text.
+fn name_number<E: Sink>(err: &mut E, file: &str, text: &[u8], number: u64) -> Result<(), Failed>
+    requires { length text.now ≤ 32 }
+    ensures line { Writes result (E.got err.old) (codes "xm_run: " ++ file.now ++ (text.now ++ decimal number ++ codes "\n")) (E.got err.new) }
+    ensures cause { HasCause result (E.faults err.old) (E.faults err.new) }
 {
-    pen.text(b": image length=");
-    pen.number(found as u64);
-    pen.text(b"\n");
+    let mut pen = Pen::new();
+    number_line(&mut pen, text, number);
+    name_file(err, file, pen.bytes())
 }
 
-// Writes what is said of a run of too many ticks.
-#[tactic(auto, unfolding(crate::specs::Ending::ticks_text))]
-fn ticks_line(pen: &mut Pen, asked: u64)
-    requires { pen.old ≡ [] }
-    ensures { pen.new ≡ behind_file (ticks_text asked) }
+// Writes the end of a line that ends with a number.
+fn number_line(pen: &mut Pen, text: &[u8], number: u64)
+    requires empty { pen.old ≡ [] }
+    requires few { length text.now ≤ 32 }
+    ensures { pen.new ≡ text.now ++ decimal number ++ codes "\n" }
 {
-    pen.text(b": ticks asked=");
-    pen.number(asked);
-    pen.text(b"\n");
-}
-
-// Writes what is said of an instruction that isn't built.
-#[tactic(auto, unfolding(crate::specs::Ending::unbuilt_text))]
-fn unbuilt_line(pen: &mut Pen, part: u8, pc: u32)
-    requires { pen.old ≡ [] }
-    ensures { pen.new ≡ behind_file (unbuilt_text part pc) }
-{
-    pen.text(b": not-built part=");
-    pen.number(u64::from(part));
-    pen.text(b" pc=");
-    pen.word(pc);
+    pen.text(text);
+    pen.number(number);
     pen.text(b"\n");
 }
 

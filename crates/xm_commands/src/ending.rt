@@ -5,6 +5,7 @@ ghost use Rattle.xm_commands.specs.Ending.{status_of};
 ghost use Rattle.xm_commands.specs.Told.{ending_of};
 
 use crate::status::Status;
+use xm_base::PartId;
 
 /// Why a file that was read is refused.
 #[derive(Debug, Drop)]
@@ -15,8 +16,10 @@ pub(crate) enum Refusal {
     Length { found: usize },
     /// A run would have so many ticks, too many.
     Ticks { asked: u64 },
-    /// A partition came to an instruction that isn't built.
-    NotBuilt { part: u8, pc: u32 },
+    /// An input is for a partition that the system does not have.
+    Partition { id: PartId },
+    /// An input's length is no multiple of 4.
+    Input { found: usize },
     /// What it should be it is not, as this text says.
     Told { text: String },
 }

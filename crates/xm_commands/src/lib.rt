@@ -5,6 +5,7 @@ mod complaint;
 mod delivery;
 mod ending;
 mod imaging;
+mod inputs;
 mod packing;
 mod parsing;
 mod reading;

@@ -1,6 +1,6 @@
 //! A configuration and the images of its partitions are packed into a container.
 
-ghost use Rattle.std.specs.Prelude.{◌≡◌, ◌∷◌, ℕ, List, Option, drop, map, option_copied};
+ghost use Rattle.std.specs.Prelude.{◌≡◌, ◌∷◌, drop, map};
 ghost use Rattle.bin_config.specs.Texts.{fault_text as xmc_fault_text};
 ghost use Rattle.xef_images.specs.Reading.{xef};
 ghost use Rattle.xm_container.specs.Pack.{packed};
@@ -8,7 +8,7 @@ ghost use Rattle.xm_container.specs.Texts.{pack_fault_text};
 ghost use Rattle.xm_commands.specs.Makes.{IsTold};
 ghost use Rattle.xm_commands.specs.Outcome.{content, first_long};
 ghost use Rattle.xm_commands.specs.Packing.{container_by, container_of, container_with, image_by, images_of, limited, names_of};
-ghost use Rattle.xm_commands.specs.Told.{AreRead, MakesOr, bytes_of, ending_of};
+ghost use Rattle.xm_commands.specs.Told.{MakesOr, bytes_of, ending_of};
 ghost use Rattle.xm_commands.specs.Work.{IsDone, outside};
 ghost use Rattle.xm_words.specs.Seen.{seen_file, seen_files};
 ghost use Rattle.xm_words.specs.Words.{Pack};
@@ -16,12 +16,11 @@ ghost use Rattle.xm_words.specs.Words.{Pack};
 use crate::delivery::{put, unmade};
 use crate::ending::{Ending, Refusal};
 use crate::imaging::no_image;
-use crate::reading::read_file;
+use crate::reading::{first_long, read_files, split_contents};
 use crate::unmade::Unmade;
 use bin_config::{XmcFault, read_xmc};
 use std::alloc::Global;
 use xef_images::{Xef, read_xef};
-use xm_base::FILE_BYTES;
 use xm_conf::Conf;
 use xm_container::{Image, PackFault, pack};
 use xm_outside::{Sink, Store};
@@ -49,38 +48,6 @@ pub(crate) fn pack_files<'a, S: Store, O: Sink>(
     }
 }
 
-// Reads a configuration and images, in this order: of each file its bytes, or its first ones where it is too long.
-fn read_files<'a, S: Store>(
-    alloc: Global,
-    configuration: &'a str,
-    images: PartFiles<'a>,
-    files: &mut S,
-) -> Result<Vec<Vec<u8>>, Ending<'a>>
-    ensures { (got : Option (List ℕ)) (faults : ℕ) → AreRead result (configuration.now ∷ names_of (seen_files images.entry))
-        (outside (S.files files.old) (S.read_faults files.old) (S.write_faults files.old) (S.calls files.old) got faults)
-        (outside (S.files files.new) (S.read_faults files.new) (S.write_faults files.new) (S.calls files.new) got faults) }
-{
-    let mut contents = Vec::new(alloc);
-    let mut file = configuration;
-    let mut rest = images;
-    loop {
-        let bytes = match read_file(alloc, file, files) {
-            Ok(bytes) => bytes,
-            Err(ending) => return Err(ending),
-        };
-        if contents.push(bytes).is_err() {
-            return Err(Ending::Starved);
-        }
-        match rest.split_first() {
-            Some((next, others)) => {
-                file = next.file;
-                rest = others;
-            }
-            None => return Ok(contents),
-        }
-    }
-}
-
 // The container of files with these contents, or the first refusal.
 fn container<'a>(
     alloc: Global,
@@ -92,39 +59,16 @@ fn container<'a>(
         (limited (first_long (configuration.now ∷ names_of (seen_files images.entry)) (map bytes_of contents.now))
         (container_of configuration.now (content 0 (map bytes_of contents.now)) (seen_files images.entry) (drop 1 (map bytes_of contents.now)))) }
 {
-    let Some((bytes, others)) = contents.split_first() else {
-        return make_container(alloc, configuration, b"", images, contents);
-    };
-    if bytes.len() > FILE_BYTES {
-        return Err(Ending::Denied {
-            file: configuration,
-            why: Refusal::TooLong,
-        });
-    }
-    match first_long(images, others) {
+    match first_long(configuration, images, contents) {
         Some(file) => Err(Ending::Denied {
             file,
             why: Refusal::TooLong,
         }),
-        None => make_container(alloc, configuration, bytes, images, others),
-    }
-}
-
-// The first of the images whose file is too long.
-fn first_long<'a>(images: PartFiles<'a>, contents: &[Vec<u8>]) -> Option<&'a str>
-    ensures value { option_copied result ≡ first_long (names_of (seen_files images.entry)) (map bytes_of contents.now) }
-{
-    let mut rest = images;
-    for bytes in contents {
-        let Some((first, others)) = rest.split_first() else {
-            return None;
-        };
-        if bytes.len() > FILE_BYTES {
-            return Some(first.file);
+        None => {
+            let (bytes, others) = split_contents(contents);
+            make_container(alloc, configuration, bytes, images, others)
         }
-        rest = others;
     }
-    None
 }
 
 // The container of a configuration and images, none of whose files is too long.

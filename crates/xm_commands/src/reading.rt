@@ -1,13 +1,17 @@
-//! A file is read.
+//! Files are read.
 
-ghost use Rattle.std.specs.Prelude.{ℕ, List, Option};
-ghost use Rattle.xm_commands.specs.Told.{IsRead};
+ghost use Rattle.std.specs.Prelude.{◌≡◌, ◌∷◌, ℕ, List, None, Option, drop, map, option_copied};
+ghost use Rattle.xm_commands.specs.Outcome.{content, first_long};
+ghost use Rattle.xm_commands.specs.Packing.{names_of};
+ghost use Rattle.xm_commands.specs.Told.{AreRead, IsRead, bytes_of};
 ghost use Rattle.xm_commands.specs.Work.{outside};
+ghost use Rattle.xm_words.specs.Seen.{seen_files};
 
 use crate::ending::Ending;
 use std::alloc::Global;
 use xm_base::FILE_BYTES;
 use xm_outside::{Store, StoreFault};
+use xm_words::PartFiles;
 
 /// The bytes of a file, or its first ones where it is too long; or how the call ends without them.
 pub(crate) fn read_file<'a, S: Store>(
@@ -24,5 +28,80 @@ pub(crate) fn read_file<'a, S: Store>(
         Err(StoreFault::Memory) => Err(Ending::Starved),
         Err(StoreFault::Failed) => Err(Ending::Unread { file }),
         Err(StoreFault::Absent) => Err(Ending::Unread { file }),
+    }
+}
+
+/// The bytes of a file and of files for partitions, read in this order: of each its bytes, or its first ones where it is too long.
+pub(crate) fn read_files<'a, S: Store>(
+    alloc: Global,
+    first: &'a str,
+    others: PartFiles<'a>,
+    files: &mut S,
+) -> Result<Vec<Vec<u8>>, Ending<'a>>
+    ensures { (got : Option (List ℕ)) (faults : ℕ) → AreRead result (first.now ∷ names_of (seen_files others.entry))
+        (outside (S.files files.old) (S.read_faults files.old) (S.write_faults files.old) (S.calls files.old) got faults)
+        (outside (S.files files.new) (S.read_faults files.new) (S.write_faults files.new) (S.calls files.new) got faults) }
+{
+    let mut contents = Vec::new(alloc);
+    let mut file = first;
+    let mut rest = others;
+    loop {
+        let bytes = match read_file(alloc, file, files) {
+            Ok(bytes) => bytes,
+            Err(ending) => return Err(ending),
+        };
+        if contents.push(bytes).is_err() {
+            return Err(Ending::Starved);
+        }
+        match rest.split_first() {
+            Some((next, more)) => {
+                file = next.file;
+                rest = more;
+            }
+            None => return Ok(contents),
+        }
+    }
+}
+
+/// The first of the files with these contents that is too long: this one, and those for partitions.
+pub(crate) fn first_long<'a>(
+    first: &'a str,
+    others: PartFiles<'a>,
+    contents: &[Vec<u8>],
+) -> Option<&'a str>
+    ensures value { option_copied result ≡ first_long (first.now ∷ names_of (seen_files others.entry)) (map bytes_of contents.now) }
+{
+    let (bytes, more) = contents.split_first()?;
+    if bytes.len() > FILE_BYTES {
+        return Some(first);
+    }
+    first_long_for_parts(others, more)
+}
+
+// The first of the files for partitions that is too long.
+fn first_long_for_parts<'a>(files: PartFiles<'a>, contents: &[Vec<u8>]) -> Option<&'a str>
+    ensures value { option_copied result ≡ first_long (names_of (seen_files files.entry)) (map bytes_of contents.now) }
+{
+    let mut rest = files;
+    for bytes in contents {
+        let Some((first, others)) = rest.split_first() else {
+            return None;
+        };
+        if bytes.len() > FILE_BYTES {
+            return Some(first.file);
+        }
+        rest = others;
+    }
+    None
+}
+
+/// The content of the first file, and those of the others.
+pub(crate) fn split_contents(contents: &[Vec<u8>]) -> (&[u8], &[Vec<u8>])
+    ensures first { result.0.now ≡ content 0 (map bytes_of contents.now) }
+    ensures others { map bytes_of result.1.now ≡ drop 1 (map bytes_of contents.now) }
+{
+    match contents.split_first() {
+        Some((first, others)) => (first, others),
+        None => (b"", contents),
     }
 }

@@ -1,6 +1,6 @@
 //! A raw image is run, and its report goes out.
 
-ghost use Rattle.std.specs.Prelude.{◌≤◌, [], ◌∷◌};
+ghost use Rattle.std.specs.Prelude.{◌≡◌, ◌≤◌, [], ◌∷◌, length};
 ghost use Rattle.xm_base.specs.declared.limits.TheConstants.{TICKS};
 ghost use Rattle.xm_commands.specs.Outcome.{outcome_of, ran};
 ghost use Rattle.xm_commands.specs.Told.{ending_of};
@@ -12,7 +12,7 @@ use crate::reading::read_file;
 use std::alloc::Global;
 use xm_base::FILE_BYTES;
 use xm_container::{BareFault, System, bare};
-use xm_machine::{Board, Machine, RunFault};
+use xm_machine::{Board, Inputs, Machine, WriteFault};
 use xm_outside::{Sink, Store};
 
 /// Reads a raw image and runs it for so many ticks.
@@ -54,7 +54,10 @@ fn run_bytes<'a, O: Sink>(
         };
     }
     match bare(alloc, bytes) {
-        Ok(system) => run_system(alloc, image, ticks, system, out, board),
+        Ok(system) => match Inputs::new(alloc, 1) {
+            Ok(inputs) => run_system(alloc, ticks, system, inputs, out, board),
+            Err(_) => Ending::Starved,
+        },
         Err(BareFault::Memory) => Ending::Starved,
         Err(BareFault::Length { found }) => Ending::Denied {
             file: image,
@@ -63,27 +66,24 @@ fn run_bytes<'a, O: Sink>(
     }
 }
 
-/// Boots the system of a file and runs it.
+/// Boots a system whose partitions have these input words, and runs it.
 pub(crate) fn run_system<'a, O: Sink>(
     alloc: Global,
-    file: &'a str,
     ticks: u64,
     system: System,
+    inputs: Inputs,
     out: &mut O,
     board: &mut Board,
 ) -> Ending<'a>
-    requires { ticks ≤ TICKS }
-    ensures { Reports (ending_of result) (ran file.now ticks system) (O.got out.old) (O.faults out.old) (O.got out.new) (O.faults out.new) }
+    requires most { ticks ≤ TICKS }
+    requires given { length inputs ≡ length system.conf.parts }
+    ensures { Reports (ending_of result) (ran ticks system inputs) (O.got out.old) (O.faults out.old) (O.got out.new) (O.faults out.new) }
 {
-    let Ok(mut machine) = Machine::boot(alloc, system) else {
+    let Ok(mut machine) = Machine::boot(alloc, system, inputs) else {
         return Ending::Starved;
     };
     match machine.run(ticks, out, board) {
         Ok(_) => Ending::Finished,
-        Err(RunFault::Write) => Ending::Unwritten,
-        Err(RunFault::NotBuilt { part, pc }) => Ending::Denied {
-            file,
-            why: Refusal::NotBuilt { part, pc },
-        },
+        Err(WriteFault) => Ending::Unwritten,
     }
 }

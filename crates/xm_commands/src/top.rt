@@ -2,7 +2,7 @@
 
 ghost use Rattle.std.specs.Prelude.{◌≡◌, ◌≢◌, ◌↔◌, None};
 ghost use Rattle.xm_commands.specs.Ending.{Misused, complaint};
-ghost use Rattle.xm_commands.specs.Top.{Answers, HasCauses, IsBarren, IsExplained, IsQuiet, IsSaid, OtherFilesStay};
+ghost use Rattle.xm_commands.specs.Top.{Answers, HasCauses, IsExplained, IsQuiet, IsSaid, OtherFilesStay};
 ghost use Rattle.xm_commands.specs.Work.{outside};
 ghost use Rattle.xm_words.specs.Words.{command_of};
 
@@ -46,7 +46,7 @@ pub fn xm_main<S: Store, O: Sink, E: Sink>(
     ensures silent { result ≡ Status.Done → err.new ≡ err.old }
     ensures quiet { IsQuiet result → O.got out.new ≡ O.got out.old }
     ensures files { OtherFilesStay (command_of words.now) (S.files files.old) (S.files files.new) }
-    ensures barren { IsBarren result → S.files files.new ≡ S.files files.old }
+    ensures barren { IsQuiet result → S.files files.new ≡ S.files files.old }
     ensures writes { result ≢ Status.WriteFault → S.write_faults files.new ≡ S.write_faults files.old }
 {
     let ending = work(alloc, words, files, out, board);

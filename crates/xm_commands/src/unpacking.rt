@@ -1,71 +1,114 @@
 //! A container is unpacked, and its system is run.
 
-ghost use Rattle.std.specs.Prelude.{◌≡◌, ◌≤◌, [], ◌∷◌};
+ghost use Rattle.std.specs.Prelude.{◌≡◌, ◌≤◌, ◌∷◌, None, drop, length, map};
 ghost use Rattle.xm_base.specs.declared.limits.TheConstants.{TICKS};
 ghost use Rattle.cyclic_plans.specs.Slots.{frame_of};
-ghost use Rattle.xm_commands.specs.Outcome.{outcome_of, ran_within, ticks_asked};
-ghost use Rattle.xm_commands.specs.Told.{ending_of};
+ghost use Rattle.xm_commands.specs.Inputs.{inputs_for};
+ghost use Rattle.xm_commands.specs.Outcome.{content, first_long, outcome_of, ran_with, ran_within, run_outcome, ticks_asked};
+ghost use Rattle.xm_commands.specs.Packing.{names_of};
+ghost use Rattle.xm_commands.specs.Told.{bytes_of, ending_of};
 ghost use Rattle.xm_commands.specs.Work.{IsDone, Reports, outside};
 ghost use Rattle.xm_words.specs.Grammar.{count_of};
-ghost use Rattle.xm_words.specs.Words.{Run};
+ghost use Rattle.xm_words.specs.Seen.{seen_options};
+ghost use Rattle.xm_words.specs.Words.{Run, inputs_in, span_in};
 
 use crate::delivery::unmade;
 use crate::ending::{Ending, Refusal};
 use crate::imaging::no_container;
-use crate::reading::read_file;
+use crate::inputs::inputs_for;
+use crate::reading::{first_long, read_files, split_contents};
 use crate::running::run_system;
 use std::alloc::Global;
-use xm_base::{FILE_BYTES, TICKS};
+use xm_base::TICKS;
 use xm_conf::Conf;
 use xm_container::{System, unpack};
-use xm_machine::Board;
+use xm_machine::{Board, Inputs};
 use xm_outside::{Sink, Store};
-use xm_words::Span;
+use xm_words::{RunOptions, Span};
 
-/// Reads a container and runs it for so long.
+/// Reads a container and the inputs of a run, and runs it.
 pub(crate) fn run_container<'a, S: Store, O: Sink>(
     alloc: Global,
     container: &'a str,
-    span: Span,
+    options: RunOptions<'a>,
     files: &mut S,
     out: &mut O,
     board: &mut Board,
 ) -> Ending<'a>
-    requires { count_of span ≤ TICKS }
-    ensures { IsDone (ending_of result) (Run container.now span)
+    requires { count_of (span_in (seen_options options)) ≤ TICKS }
+    ensures { IsDone (ending_of result) (Run container.now (seen_options options.entry))
         (outside (S.files files.old) (S.read_faults files.old) (S.write_faults files.old) (S.calls files.old) (O.got out.old) (O.faults out.old))
         (outside (S.files files.new) (S.read_faults files.new) (S.write_faults files.new) (S.calls files.new) (O.got out.new) (O.faults out.new)) }
 {
-    match read_file(alloc, container, files) {
-        Ok(bytes) => run_packed(alloc, container, span, &bytes, out, board),
+    match read_files(alloc, container, options.inputs(), files) {
+        Ok(contents) => run_files(alloc, container, options, &contents, out, board),
         Err(ending) => ending,
     }
 }
 
-// Runs the system of a container's file that is not too long.
-fn run_packed<'a, O: Sink>(
+// Runs a container with inputs, by the contents of their files.
+fn run_files<'a, O: Sink>(
     alloc: Global,
     container: &'a str,
-    span: Span,
-    bytes: &[u8],
+    options: RunOptions<'a>,
+    contents: &[Vec<u8>],
     out: &mut O,
     board: &mut Board,
 ) -> Ending<'a>
-    requires { count_of span ≤ TICKS }
-    ensures { Reports (ending_of result) (outcome_of (Run container.now span) (bytes.now ∷ [])) (O.got out.old) (O.faults out.old) (O.got out.new) (O.faults out.new) }
+    requires { count_of (span_in (seen_options options)) ≤ TICKS }
+    ensures { Reports (ending_of result) (outcome_of (Run container.now (seen_options options.entry)) (map bytes_of contents.now)) (O.got out.old) (O.faults out.old) (O.got out.new) (O.faults out.new) }
 {
-    if bytes.len() > FILE_BYTES {
-        return Ending::Denied {
-            file: container,
+    match first_long(container, options.inputs(), contents) {
+        Some(file) => Ending::Denied {
+            file,
             why: Refusal::TooLong,
-        };
+        },
+        None => run_packed(alloc, container, options, contents, out, board),
     }
+}
+
+// Runs a container with inputs, where none of their files is too long.
+fn run_packed<'a, O: Sink>(
+    alloc: Global,
+    container: &'a str,
+    options: RunOptions<'a>,
+    contents: &[Vec<u8>],
+    out: &mut O,
+    board: &mut Board,
+) -> Ending<'a>
+    requires most { count_of (span_in (seen_options options)) ≤ TICKS }
+    requires short { first_long (container.now ∷ names_of (inputs_in (seen_options options))) (map bytes_of contents.now) ≡ None }
+    ensures { Reports (ending_of result) (run_outcome container.now (seen_options options.entry) (content 0 (map bytes_of contents.now)) (drop 1 (map bytes_of contents.now)))
+        (O.got out.old) (O.faults out.old) (O.got out.new) (O.faults out.new) }
+{
+    let (bytes, inputs) = split_contents(contents);
     match unpack(alloc, bytes) {
-        Ok(system) => {
-            let asked = ticks_asked(span, system.conf());
-            run_within(alloc, container, asked, system, out, board)
-        }
+        Ok(system) => run_unpacked(alloc, container, options, system, inputs, out, board),
         Err(fault) => unmade(container, no_container(alloc, fault)),
+    }
+}
+
+// Runs the system of a container with inputs, by the contents of their files.
+fn run_unpacked<'a, O: Sink>(
+    alloc: Global,
+    container: &'a str,
+    options: RunOptions<'a>,
+    system: System,
+    contents: &[Vec<u8>],
+    out: &mut O,
+    board: &mut Board,
+) -> Ending<'a>
+    requires most { count_of (span_in (seen_options options)) ≤ TICKS }
+    requires short { first_long (names_of (inputs_in (seen_options options))) (map bytes_of contents.now) ≡ None }
+    ensures { Reports (ending_of result)
+        (ran_with container.now (ticks_asked (span_in (seen_options options.entry)) system.conf) system (inputs_for (length system.conf.parts) (inputs_in (seen_options options.entry)) (map bytes_of contents.now)))
+        (O.got out.old) (O.faults out.old) (O.got out.new) (O.faults out.new) }
+{
+    let parts = part_count(system.conf());
+    let asked = ticks_asked(options.span(), system.conf());
+    match inputs_for(alloc, parts, options.inputs(), contents) {
+        Ok(inputs) => run_within(alloc, container, asked, system, inputs, out, board),
+        Err(ending) => ending,
     }
 }
 
@@ -76,10 +119,12 @@ fn run_within<'a, O: Sink>(
     container: &'a str,
     asked: u64,
     system: System,
+    inputs: Inputs,
     out: &mut O,
     board: &mut Board,
 ) -> Ending<'a>
-    ensures { Reports (ending_of result) (ran_within container.now asked system) (O.got out.old) (O.faults out.old) (O.got out.new) (O.faults out.new) }
+    requires { length inputs ≡ length system.conf.parts }
+    ensures { Reports (ending_of result) (ran_within container.now asked system inputs) (O.got out.old) (O.faults out.old) (O.got out.new) (O.faults out.new) }
 {
     if asked > TICKS {
         return Ending::Denied {
@@ -87,7 +132,15 @@ fn run_within<'a, O: Sink>(
             why: Refusal::Ticks { asked },
         };
     }
-    run_system(alloc, container, asked, system, out, board)
+    run_system(alloc, asked, system, inputs, out, board)
+}
+
+// How many partitions a configuration has.
+#[tactic(auto, unfolding(xm_conf::specs::Description::described))]
+fn part_count(conf: &Conf) -> u8
+    ensures { result ≡ length conf.now.parts }
+{
+    conf.raw().parts.len() as u8
 }
 
 // How many ticks a run asks for.

@@ -64,8 +64,8 @@ fn carry_out<'a, S: Store, O: Sink>(
         } => pack_files(alloc, configuration, output, images, files, out),
         Command::ListContainer { container } => list_container(alloc, container, files, out),
         Command::CheckContainer { container } => check_container(alloc, container, files, out),
-        Command::Run { container, span } => {
-            run_container(alloc, container, span, files, out, board)
+        Command::Run { container, options } => {
+            run_container(alloc, container, options, files, out, board)
         }
     }
 }

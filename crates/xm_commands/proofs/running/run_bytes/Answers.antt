@@ -12,9 +12,10 @@ pub returns-then-bytes-gt-FILE_BYTES : goal.returns-then-bytes-gt-FILE_BYTES
 returns-then-bytes-gt-FILE_BYTES g c =
     rw (one-long (Bare c.args.image.now c.args.ticks) c.args.image.now c.args.bytes.now refl c.if-bytes-gt-FILE_BYTES.true) (refl, sym (grown-nothing (g.O.Sink.got c.args.out.now)), refl)
 
-pub returns-in-Ok : goal.returns-in-Ok
-returns-in-Ok g c =
-    rw (outcome-image c.args.image.now c.args.ticks c.args.bytes.now c.in-Ok.ensures.value.0, ← c.in-Ok.ensures.value.1) c.run_system.ensures
+pub returns-in-Ok-new : goal.returns-in-Ok-new
+returns-in-Ok-new g c =
+    let reports = rw (c.in-Ok.ensures.value.1, c.in-Ok-new.ensures.value) at c.run_system.ensures in
+    rw (outcome-image c.args.image.now c.args.ticks c.args.bytes.now c.in-Ok.ensures.value.0) reports
 
 pub returns-in-Err-Length : goal.returns-in-Err-Length
 returns-in-Err-Length g c =

@@ -2,7 +2,7 @@ use Rattle.std.proofs.Common.{map, ap, ◌∙◌, arith}
 use Rattle.std.proofs.lemmas.List.{drop_all}
 use Rattle.xm_commands.specs.Told.{bytes_of}
 use Rattle.xm_commands.proofs.PackingLemmas.{none_long}
-use Rattle.xm_commands.proofs.packing.first_long.Goals as goal
+use Rattle.xm_commands.proofs.reading.first_long_for_parts.Goals as goal
 
 pub returns : goal.returns
 returns c = record {

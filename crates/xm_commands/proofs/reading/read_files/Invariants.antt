@@ -6,12 +6,12 @@ use Rattle.xm_commands.specs.Packing.{names_of}
 use Rattle.xm_commands.specs.Told.{bytes_of}
 use Rattle.xm_commands.specs.Work.{outside}
 use Rattle.xm_commands.proofs.PackingLemmas.{HasRead}
-use Rattle.xm_commands.proofs.packing.read_files.Given as goal
+use Rattle.xm_commands.proofs.reading.read_files.Given as goal
 
 abbrev pub invariant-loop-bytes : goal.invariant-loop-bytes
 invariant-loop-bytes g l =
     shadow (Utf8 l.file)
-    × ((got : Option (List ℕ)) (faults : ℕ) → HasRead (l.fn.configuration ∷ names_of (seen_files l.fn.images)) (l.file ∷ names_of (seen_files l.rest)) (map bytes_of l.contents.items)
+    × ((got : Option (List ℕ)) (faults : ℕ) → HasRead (l.fn.first ∷ names_of (seen_files l.fn.others)) (l.file ∷ names_of (seen_files l.rest)) (map bytes_of l.contents.items)
     (outside (g.S.Store.files l.fn.files) (g.S.Store.read_faults l.fn.files) (g.S.Store.write_faults l.fn.files) (g.S.Store.calls l.fn.files) got faults)
     (outside (g.S.Store.files l.files) (g.S.Store.read_faults l.files) (g.S.Store.write_faults l.files) (g.S.Store.calls l.files) got faults))
 

@@ -2,7 +2,7 @@ use Rattle.std.proofs.Common.{rules, sym, ap, ◌∙◌}
 use Rattle.xm_commands.specs.Packing.{names_of}
 use Rattle.xm_commands.specs.Told.{bytes_of, ending_of}
 use Rattle.xm_commands.proofs.PackingLemmas.{chose_ok, has_all, has_more, has_next, map_push, not_more, starved_there}
-use Rattle.xm_commands.proofs.packing.read_files.Goals as goal
+use Rattle.xm_commands.proofs.reading.read_files.Goals as goal
 
 pub returns-in-Err : goal.returns-in-Err
 returns-in-Err g c = λ got faults. not_more (ending_of c.in-Err.ending) _ _ _ _ _ _ _ (c.loop-bytes.invariant.1 got faults) (c.in-Err.ensures got faults)

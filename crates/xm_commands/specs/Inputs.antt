@@ -1,0 +1,35 @@
+-- The input words of partitions, by the files that a run is given for them.
+use Rattle.std.specs.Prelude.{ℕ, ◌%◌, nat_eq, nat_le, if◌then◌else◌, List, [], ◌∷◌, length, replicate, slice_set, Option, Some, None, Result, Ok, Err}
+use Rattle.hypercalls.specs.Inputs.{words_in}
+use Rattle.xm_words.specs.Words.{PartFile}
+use Rattle.xm_commands.specs.Denial.{Denial}
+use Rattle.xm_commands.specs.Ending.{input_text, partition_text}
+use Rattle.xm_commands.specs.Packing.{denial}
+
+-- so many partitions without input words
+abbrev pub no_inputs : ℕ → List (List ℕ)
+no_inputs parts = replicate parts []
+
+-- the first of the files whose partition is none of so many
+abbrev pub first_beyond : ℕ → List PartFile → Option PartFile
+first_beyond parts [] = None
+first_beyond parts (named ∷ files) = if nat_le parts named.part then Some named else first_beyond parts files
+
+-- input words where each file gives its partition the words that its bytes spell; refused by the first of the files whose length is
+-- no multiple of 4
+abbrev pub inputs_with : List (List ℕ) → List PartFile → List (List ℕ) → Result (List (List ℕ)) Denial
+inputs_with inputs [] contents = Ok inputs
+inputs_with inputs (named ∷ files) [] = Ok inputs
+inputs_with inputs (named ∷ files) (bytes ∷ contents) =
+    if nat_eq (length bytes % 4) 0 then inputs_with (slice_set inputs named.part (words_in bytes)) files contents
+    else Err (denial named.file (input_text (length bytes)))
+
+-- input words, unless a file is for a partition that is not there
+abbrev pub unless_beyond : Option PartFile → Result (List (List ℕ)) Denial → Result (List (List ℕ)) Denial
+unless_beyond None inputs = inputs
+unless_beyond (Some named) inputs = Err (denial named.file (partition_text named.part))
+
+-- the input words of so many partitions, by files with these contents: a file for a partition that is not there is refused before any
+-- other, and each time it is the first in the order of the files that is refused
+unfoldable pub inputs_for : ℕ → List PartFile → List (List ℕ) → Result (List (List ℕ)) Denial
+inputs_for parts files contents = unless_beyond (first_beyond parts files) (inputs_with (no_inputs parts) files contents)

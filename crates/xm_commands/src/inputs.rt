@@ -1,0 +1,96 @@
+//! The input words of partitions, by the files that a run is given for them.
+
+ghost use Rattle.std.specs.Prelude.{◌≡◌, ◌∷◌, ◌<◌, ◌^◌, [], IfErr, IfOk, None, Ok, OnOk, length, map};
+ghost use Rattle.xm_commands.specs.Inputs.{first_beyond, inputs_for, inputs_with, no_inputs};
+ghost use Rattle.xm_commands.specs.Outcome.{first_long};
+ghost use Rattle.xm_commands.specs.Packing.{names_of};
+ghost use Rattle.xm_commands.specs.Told.{IsDenied, MakesOr, bytes_of, ending_of};
+ghost use Rattle.xm_words.specs.Seen.{seen_file, seen_files, seen_part_file};
+
+use crate::ending::{Ending, Refusal};
+use std::alloc::Global;
+use xm_machine::Inputs;
+use xm_words::{PartFile, PartFiles};
+
+/// The input words of so many partitions, by files none of which is too long; or the first refusal.
+#[tactic(auto, unfolding(crate::specs::Inputs::inputs_for))]
+pub(crate) fn inputs_for<'a>(
+    alloc: Global,
+    parts: u8,
+    files: PartFiles<'a>,
+    contents: &[Vec<u8>],
+) -> Result<Inputs, Ending<'a>>
+    requires { first_long (names_of (seen_files files)) (map bytes_of contents.now) ≡ None }
+    ensures value { MakesOr (λ inputs. inputs) result (inputs_for parts (seen_files files.entry) (map bytes_of contents.now)) }
+    ensures count { IfOk result (λ inputs. length inputs ≡ parts) }
+{
+    match first_beyond(parts, files) {
+        Some(named) => Err(Ending::Denied {
+            file: named.file,
+            why: Refusal::Partition { id: named.part },
+        }),
+        None => read_inputs(alloc, parts, files, contents),
+    }
+}
+
+// The first of the files whose partition is none of so many.
+fn first_beyond<'a>(parts: u8, files: PartFiles<'a>) -> Option<PartFile<'a>>
+    ensures value { seen_part_file result ≡ first_beyond parts (seen_files files.entry) }
+{
+    let mut rest = files;
+    while let Some((first, others)) = rest.split_first() {
+        if first.part >= parts {
+            return Some(first);
+        }
+        rest = others;
+    }
+    None
+}
+
+// The input words of so many partitions, by files each of which is for one of them.
+fn read_inputs<'a>(
+    alloc: Global,
+    parts: u8,
+    files: PartFiles<'a>,
+    contents: &[Vec<u8>],
+) -> Result<Inputs, Ending<'a>>
+    requires short { first_long (names_of (seen_files files)) (map bytes_of contents.now) ≡ None }
+    requires inside { first_beyond parts (seen_files files) ≡ None }
+    ensures value { MakesOr (λ inputs. inputs) result (inputs_with (no_inputs parts) (seen_files files.entry) (map bytes_of contents.now)) }
+    ensures count { IfOk result (λ inputs. length inputs ≡ parts) }
+{
+    let mut inputs = match Inputs::new(alloc, parts) {
+        Ok(inputs) => inputs,
+        Err(_) => return Err(Ending::Starved),
+    };
+    let mut rest = files;
+    for bytes in contents {
+        let Some((first, others)) = rest.split_first() else {
+            return Ok(inputs);
+        };
+        if let Err(ending) = give(&mut inputs, first, bytes) {
+            return Err(ending);
+        }
+        rest = others;
+    }
+    Ok(inputs)
+}
+
+// Gives a partition the words of its file.
+fn give<'a>(inputs: &mut Inputs, named: PartFile<'a>, bytes: &[u8]) -> Result<(), Ending<'a>>
+    requires inside { (seen_file named).part < length inputs.old }
+    requires short { length bytes.now < 2 ^ 34 }
+    ensures given { OnOk result (inputs_with inputs.old (seen_file named.entry ∷ []) (bytes.now ∷ []) ≡ Ok inputs.new) }
+    ensures refused { IfErr result (λ ending. IsDenied (ending_of ending) (inputs_with inputs.old (seen_file named.entry ∷ []) (bytes.now ∷ []))) }
+{
+    if bytes.len() % 4 != 0 {
+        return Err(Ending::Denied {
+            file: named.file,
+            why: Refusal::Input { found: bytes.len() },
+        });
+    }
+    match inputs.set(named.part, bytes) {
+        Ok(()) => Ok(()),
+        Err(_) => Err(Ending::Starved),
+    }
+}
