@@ -1,9 +1,6 @@
 /*
  * The hypercalls, as inline functions: `ta 0x70`, the number in %o0, the arguments in %o1 to %o5, the result
  * in %o0. docs/HYPERCALLS.md says what each does, what it tests and what it writes.
- *
- * The machine makes two of them so far, XM_halt_partition and XM_write_console. Any other one ends the run
- * as `not-built`.
  */
 #ifndef XM_H
 #define XM_H

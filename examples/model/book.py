@@ -1,0 +1,219 @@
+#!/usr/bin/env python3
+"""Writes the small systems that tell most as data of `case_suite`: their containers, calls and the model's reports.
+
+usage: book.py FOLDER
+
+FOLDER is crates/case_suite/data. The files are those of BOOKS.
+"""
+import re
+import struct
+import sys
+import tempfile
+import textwrap
+from pathlib import Path
+
+from box import ACTIONS, EVENTS, Part, container, image_file
+from cases import CASES, all_cases
+from model import CALLS, run_words
+from shown import BOOKS
+
+LEGEND = """\
+The containers and the reports are those of examples/model, a second simulator in Python that was written from the
+description of the machine; `examples/model/book.py crates/case_suite/data` writes this file.
+
+Each guest is listed by its steps, with the address of the first one of a line:
+  name(..)      a hypercall with its arguments, by its name in docs/HYPERCALLS.md or else by its number
+  ask name(..)  the same, and then the result goes to the console as four bytes
+  show x, n     n bytes at x go to the console
+  show %r       the register goes to the console as four bytes
+  wait n        nothing for n ticks
+  stack         %sp and %fp are set for windows
+  loop          a branch to itself
+At 0x1000 of a partition stand the words `shown`, `four` (abcdefgh) and `room` (64 bytes), at 0x1400 the handlers, each
+named by its trap type, and at 0x2000 the table of traps. Its area is writable up to 0x4000, and read-only from there to
+0x5000. Partition 0 begins at 0x40100000, each further one 0x10000 behind. A partition that is not listed loops.
+
+Containers whose configurations differ in few bytes have their front in common, up to the images, with that of partition 0
+where it only loops. Bytes 8 and 9 are the container's length, the others what the lines above the container say. Of each
+image there are its head, the words of each segment in lines of their own, and its digest."""
+MOST_CHANGES = 8
+
+
+class Fronts:
+    """The fronts of containers that were written before, by their names."""
+
+    def __init__(self):
+        self.known = {}
+
+    def near(self, front):
+        """A known front that differs in few bytes, and the places and values of those."""
+        for name, other in self.known.items():
+            changes = [[place, byte] for place, (byte, old) in enumerate(zip(front, other)) if byte != old]
+            if len(front) == len(other) and len(changes) <= MOST_CHANGES:
+                return name, changes
+        return None
+
+    def container_entry(self, name, system, lines):
+        content = container(system)
+        size = 15 + struct.unpack(">I", content[10:14])[0]
+        images = list(system.parts)
+        if is_idle(images[0].image.guest):
+            size += 5 + len(image_file(images.pop(0).image))
+        front = content[:size]
+        entry = []
+        if not self.near(front):
+            known = f"front {len(self.known)}"
+            self.known[known] = front
+            entry = file_entry(known, hex_lines(front))
+        known, changes = self.near(front)
+        entry += [*comment(lines), "[[file]]", f'name = "{name}"', f'of = "{known}"']
+        if changes:
+            entry.append(f"bytes = {changes}")
+        rest = [line for part in images for line in image_lines(system.parts.index(part), part.image)]
+        return [*entry, 'append_hex = """', *rest, content[-16:].hex(), '"""', ""]
+
+
+def comment(lines):
+    return [f"# {line}".rstrip() for line in lines]
+
+
+def named_calls(step):
+    """The step with the hypercalls by their names."""
+
+    def named(match):
+        ask, number = match[1] or "", int(match[2])
+        return f"{ask}{CALLS[number][0]}(" if number in CALLS else f"{ask}hypercall {match[2]}("
+
+    step = re.sub(r"^(ask )?(?:hypercall )?(\d+|0x[0-9a-f]+)\(", lambda m: named_base(m, named), step)
+    return re.sub(r"^handler (\d+):$", lambda m: f"trap {int(m[1]):#04x}:", step)
+
+
+def named_base(match, named):
+    number = int(match[2], 0)
+    return named({1: match[1], 2: str(number)})
+
+
+def listing(program):
+    """The steps, as many in a line as there is room for; a label begins a line."""
+    lines, line, at = [], "", None
+    for address, step in program.steps:
+        step = named_calls(step)
+        if line and (step.endswith(":") or len(line) + len(step) > 100):
+            lines.append(f"  {at:08x}  {line}")
+            line = ""
+        if not line:
+            at = address
+        joint = "" if not line else " " if line.endswith(":") else "; "
+        line += joint + step
+    return [*lines, f"  {at:08x}  {line}"]
+
+
+def is_idle(guest):
+    return [step for _, step in guest.steps] == ["loop"]
+
+
+def listed(system):
+    lines = []
+    for number, part in enumerate(system.parts):
+        program = part.image.guest
+        if not is_idle(program):
+            lines += [f"partition {number}:", *listing(program)]
+    return lines
+
+
+def settings(system):
+    """What the configuration says of events, beside the default answers and flags."""
+    default = Part("", [])
+    lines = []
+    for number, part in enumerate(system.parts):
+        words = [f"{event}: {ACTIONS[action]}" for event, action, usual
+                 in zip(EVENTS, part.actions, default.actions) if action != usual]
+        if part.logged != default.logged:
+            words.append(f"logged {part.logged:03x}")
+        if words:
+            lines += textwrap.wrap(f"partition {number} has {', '.join(words)}", 116)
+    return lines
+
+
+def hex_lines(content):
+    digits = content.hex()
+    words = [digits[k : k + 8] for k in range(0, len(digits), 8)]
+    return [" ".join(words[k : k + 12]) for k in range(0, len(words), 12)]
+
+
+def image_lines(number, image):
+    """The image's number, length and head, then the content of each segment, then the digest."""
+    content = image_file(image)
+    size = 15 + 12 * len(image.segments)
+    lines = [f"{number:02x} {len(content):08x} {content[:10].hex()} {content[10:15].hex()}"]
+    lines[0] += "".join(f" {content[place:place + 12].hex()}" for place in range(15, size, 12))
+    for segment in image.segments:
+        lines += hex_lines(segment.content)
+    return [*lines, content[-16:].hex()]
+
+
+def file_entry(name, lines):
+    return ["[[file]]", f'name = "{name}"', 'hex = """', *lines, '"""', ""]
+
+
+def text_value(text):
+    return '"' + text.replace("\\", "\\\\").replace('"', '\\"').replace("\n", "\\n") + '"'
+
+
+def input_name(name, number):
+    return f"{name}.{number}.in"
+
+
+def case_files(name, fronts):
+    system, _, inputs = CASES[name]
+    lines = [f"{name}:", *settings(system), *listed(system)]
+    lines = fronts.container_entry(f"{name}.box", system, lines)
+    for number, words in inputs.items():
+        lines += file_entry(input_name(name, number), [" ".join(f"{word:08x}" for word in words)])
+    return lines
+
+
+def case_row(name, shows):
+    system, words, inputs = CASES[name]
+    files = [f"{name}.box", *(input_name(name, number) for number in inputs)]
+    for number in inputs:
+        words = [*words, "--input", f"{number}={input_name(name, number)}"]
+    listed_files = ", ".join(f'"{file}"' for file in files)
+    call = " ".join(["run", f"{name}.box", *words])
+    return f'  {{ shows = "{shows}", call = "{call}", file = [{listed_files}], out = {text_value(report(name, words))} }},'
+
+
+def report(name, words):
+    system, _, inputs = CASES[name]
+    with tempfile.TemporaryDirectory() as folder:
+        (Path(folder) / f"{name}.box").write_bytes(container(system))
+        for number, values in inputs.items():
+            (Path(folder) / input_name(name, number)).write_bytes(struct.pack(f">{len(values)}I", *values))
+        return run_words([f"{name}.box", *words], Path(folder))[0]
+
+
+def book(title, groups):
+    lines = comment([title, *LEGEND.splitlines()])
+    fronts = Fronts()
+    for name, rows in groups.items():
+        lines.append("")
+        for case in rows:
+            lines += case_files(case, fronts)
+        lines += ["[[group]]", f'name = "{name}"', "case = ["]
+        lines += [case_row(case, shows) for case, shows in rows.items()]
+        lines.append("]")
+    return "".join(line + "\n" for line in lines)
+
+
+def main():
+    if len(sys.argv) != 2:
+        print(__doc__, file=sys.stderr)
+        return 2
+    all_cases()
+    for file, (title, groups) in BOOKS.items():
+        (Path(sys.argv[1]) / file).write_text(book(title, groups))
+    return 0
+
+
+if __name__ == "__main__":
+    sys.exit(main())
