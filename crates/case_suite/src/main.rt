@@ -27,7 +27,7 @@ use verdict::Verdict;
 const WORKED: &str = "worked.toml";
 
 // The files of cases, in the order in which they are done.
-const BOOKS: [&str; 15] = [
+const BOOKS: [&str; 20] = [
     "differing.toml",
     "raw_images.toml",
     "descriptions.toml",
@@ -39,6 +39,11 @@ const BOOKS: [&str; 15] = [
     "container_files.toml",
     "runs.toml",
     "machines.toml",
+    "calls.toml",
+    "ports.toml",
+    "timers.toml",
+    "health.toml",
+    "resets.toml",
     "outside.toml",
     "words.toml",
     "texts.toml",

@@ -9,7 +9,7 @@ use std::alloc::Global;
 use std::fs;
 use xm_base::TICKS;
 use xm_commands::{Status, xm_main};
-use xm_machine::{Board, Machine};
+use xm_machine::{Board, Inputs, Machine};
 use xm_outside::{MemStore, OutSink, Sink};
 use xm_words::Words;
 
@@ -71,9 +71,17 @@ fn main(rt: HostRuntime) -> Result<()> {
 }
 
 // The machine of a raw image after so many ticks, whose lines go out.
+#[tactic(auto, unfolding(loaded_system::specs::Bare::bare_conf))]
 fn ticked<O: Sink>(alloc: Global, image: &[u8], ticks: u64, out: &mut O) -> Result<Machine> {
-    let system = bare(alloc, image).ok().context("no system")?;
-    let mut machine = Machine::boot(alloc, system).ok().context(NO_MEMORY)?;
+    let Ok(system) = bare(alloc, image) else {
+        bail!("no system");
+    };
+    let Ok(inputs) = Inputs::new(alloc, 1) else {
+        bail!("{NO_MEMORY}");
+    };
+    let Ok(mut machine) = Machine::boot(alloc, system, inputs) else {
+        bail!("{NO_MEMORY}");
+    };
     for _ in 0..ticks {
         if machine.done() == TICKS {
             break;
