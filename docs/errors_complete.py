@@ -39,18 +39,12 @@ def fault_texts():
 
 
 def complaint_texts():
-    """The texts of the program's own lines: whole literals, or what a function puts together by a pen."""
+    """The texts of the program's own lines; a number stands behind a text that ends with `=`."""
     source = (ROOT / "crates/xm_commands/src" / COMPLAINTS).read_text(encoding="utf-8")
-    for function in re.split(r"\nfn |\npub\(crate\) fn ", source)[1:]:
-        pieces = re.findall(r'pen\.text\(b"([^"]*)"\)|(pen\.(?:number|word)\()', function)
-        if pieces:
-            texts = ["".join(text or "_" for text, _ in pieces)]
-        else:
-            texts = re.findall(r'b"([^"]*)"', function)
-        for text in texts:
-            text = text.replace("\\n", "").removeprefix("xm_run: ").removeprefix(": ")
-            if text:
-                yield COMPLAINTS, spelled(text)
+    for text in re.findall(r'b"([^"]*)"', source):
+        text = text.replace("\\n", "").removeprefix("xm_run: ").removeprefix(": ")
+        if text:
+            yield COMPLAINTS, spelled(re.sub(r"=$", "=_", text))
 
 
 def rows():
