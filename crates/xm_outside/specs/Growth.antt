@@ -25,6 +25,16 @@ abbrev pub Writes : {T E : Type 0} → Result T E → Option (List ℕ) → List
 Writes (Ok _) old bytes new = new ≡ grown old bytes
 Writes (Err _) old bytes new = GrewByPrefix old bytes new
 
+-- grown by a prefix of the bytes, which may be all of them
+pub record GrewBySome (old : Option (List ℕ)) (bytes : List ℕ) (new : Option (List ℕ)) : Type 0 where
+  pub count : ℕ
+  pub grew : new ≡ grown old (take count bytes)
+
+-- one write to a UART: it takes all of the bytes, and after a fault a prefix of them
+abbrev pub Receives : {T E : Type 0} → Result T E → Option (List ℕ) → List ℕ → Option (List ℕ) → Type 0
+Receives (Ok _) old bytes new = new ≡ grown old bytes
+Receives (Err _) old bytes new = GrewBySome old bytes new
+
 -- grown by nothing
 pub grown-nothing : (old : Option (List ℕ)) → grown old [] ≡ old
 grown-nothing None = refl

@@ -3,3 +3,4 @@ pub mod Files
 pub mod Growth
 pub mod MemSink
 pub mod MemStore
+pub mod MemUart

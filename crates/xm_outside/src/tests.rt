@@ -1,7 +1,8 @@
 //! What no clause says: that memory suffices, and what the system does.
 
 use crate::{
-    Failed, FileStore, MemSink, MemStore, OutSink, Sink, Store, StoreFault, SureSink, write_all,
+    Failed, FileStore, FileUart, MemSink, MemStore, MemUart, OutSink, Sink, Store, StoreFault,
+    SureSink, SureUart, Uart, write_all,
 };
 use std::fs::File;
 use std::test::Fail;
@@ -23,6 +24,19 @@ fn memory_suffices(rt: HostRuntime) -> Result<(), Fail> {
     assert_eq!(rt; sink.got(), b"1234567abc".as_slice());
     assert_eq!(rt; sink.starved(), 0);
     assert_eq!(rt; write_all(&mut SureSink::new(), b"1234567"), Ok(()));
+    let mut uart = MemUart::new(rt.alloc(), vec![in rt.alloc(); 1, 2]?, 2);
+    for (bytes, answer, got) in [
+        (b"xyz".as_slice(), Ok(()), b"xyz".as_slice()),
+        (b"abc", Err(Failed), b"xyzab"),
+        (b"d", Err(Failed), b"xyzabd"),
+        (b"efg", Ok(()), b"xyzabdefg"),
+    ] {
+        assert_eq!(rt; uart.write(bytes), answer);
+        assert_eq!(rt; uart.got(), got);
+    }
+    assert_eq!(rt; (uart.faulted(), uart.starved()), (2, 0));
+    assert_eq!(rt; SureUart::new().write(b"1234567"), Ok(()));
+    assert_eq!(rt; SureUart::new().faulted(), 0);
     Ok(())
 }
 
@@ -65,5 +79,28 @@ fn files_and_streams_have_what_was_written(rt: HostRuntime) -> Result<(), Fail> 
     assert!(rt; prefix.is_ok_and(|bytes| bytes.as_slice() == b"01234".as_slice()));
     let nowhere = format!(in rt.alloc(); "{}/xm_outside_none/a", dir.as_str())?;
     assert_eq!(rt; store.write(nowhere.as_str(), b""), Err(Failed));
+    Ok(())
+}
+
+#[test]
+fn the_first_write_empties_a_file_of_before(rt: HostRuntime) -> Result<(), Fail> {
+    let dir = env::temp_dir(&rt)?;
+    env::set_current_dir(&rt, dir.as_str())?;
+    fs::write(&rt, "uart7.out", "of a run before")?;
+    let mut uart = FileUart::new(rt, 7);
+    let untouched = fs::read_to_string(&rt, "uart7.out")?;
+    assert_eq!(rt; untouched.as_str(), "of a run before");
+    assert_eq!(rt; uart.write(b"hi"), Ok(()));
+    assert_eq!(rt; uart.write(b"\n\\"), Ok(()));
+    let wrote = fs::read_to_string(&rt, "uart7.out")?;
+    fs::remove_file(&rt, "uart7.out")?;
+    assert_eq!(rt; wrote.as_str(), "hi\n\\");
+    assert_eq!(rt; uart.faulted(), 0);
+
+    fs::create_dir(&rt, "uart0.out")?;
+    let mut uart = FileUart::new(rt, 0);
+    assert_eq!(rt; uart.write(b"a"), Err(Failed));
+    assert_eq!(rt; uart.faulted(), 1);
+    fs::remove_dir(&rt, "uart0.out")?;
     Ok(())
 }

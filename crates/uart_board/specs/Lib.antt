@@ -1,0 +1,3 @@
+pub mod Board
+pub mod Heard
+pub mod Views

@@ -1,0 +1,123 @@
+//! A UART in memory that keeps what it gets, and fails where it is told to.
+
+ghost use Rattle.std.specs.Prelude.{◌≡◌, ℕ, ◌⊎◌, ◌↔◌, [], Option, Some, OnOk, OnErr, IsErr, IsTrue};
+ghost use Rattle.std.specs.List.{Contains};
+ghost use Rattle.xm_outside.specs.Causes.{HasCause, Rose, counted};
+ghost use Rattle.xm_outside.specs.Growth.{Receives};
+ghost use Rattle.xm_outside.specs.MemUart.{IsListed, Keeps};
+
+use crate::store::Failed;
+use crate::uart::Uart;
+use std::alloc::Global;
+use std::marker::Model;
+
+/// A UART that keeps what it gets. It fails at the calls whose numbers it was given, and keeps at most so many
+/// bytes of such a call.
+#[derive(Debug, Drop)]
+pub struct MemUart {
+    got: Vec<u8>,
+    fails: Vec<u64>,
+    keep: usize,
+    calls: u64,
+    faults: u64,
+    starved: u64,
+}
+
+impl Model for MemUart {
+    ghost use Rattle.xm_outside.specs.MemUart.{UartState};
+
+    ghost Value = { UartState };
+
+    ghost view = { λ u. record {
+      got = u.got.items;
+      fails = u.fails.items;
+      keep = u.keep;
+      calls = u.calls;
+      faults = u.faults;
+      starved = u.starved;
+    } };
+}
+
+impl MemUart {
+    /// A UART that got nothing. The numbers of calls count from 0.
+    pub fn new(alloc: Global, fails: Vec<u64>, keep: usize) -> MemUart
+        ensures { result ≡ record {
+          got = [];
+          fails = fails.items;
+          keep = keep;
+          calls = 0;
+          faults = 0;
+          starved = 0;
+        } }
+    {
+        MemUart {
+            got: Vec::new(alloc),
+            fails,
+            keep,
+            calls: 0,
+            faults: 0,
+            starved: 0,
+        }
+    }
+
+    /// The bytes that it got.
+    pub fn got(&self) -> &[u8]
+        ensures { result.now ≡ self.now.got }
+    {
+        &self.got
+    }
+
+    /// How many calls failed because they were out of memory, and for nothing else.
+    pub fn starved(&self) -> u64
+        ensures { result ≡ self.now.starved }
+    {
+        self.starved
+    }
+
+    /// Whether the next call is to fail.
+    fn is_listed(&self) -> bool
+        ensures { IsTrue result ↔ IsListed self.now }
+    {
+        self.fails.contains(&self.calls)
+    }
+}
+
+impl Uart for MemUart {
+    ghost got = { λ u. Some u.got };
+
+    ghost faults = { λ u. u.faults };
+
+    fn write(&mut self, bytes: &[u8]) -> Result<(), Failed>
+        ensures got { Receives result (Some self.old.got) bytes.now (Some self.new.got) }
+        ensures cause { HasCause result self.old.faults self.new.faults }
+        ensures listed { IsListed self.old → IsErr result }
+        ensures only { OnErr result (IsListed self.old ⊎ Rose self.old.starved self.new.starved) }
+        ensures kept { OnErr result (Keeps self.old bytes.now self.new.got) }
+        ensures starved { OnOk result (self.new.starved ≡ self.old.starved) }
+        ensures refused { IsListed self.old → self.new.starved ≡ self.old.starved }
+        ensures fails { self.new.fails ≡ self.old.fails }
+        ensures keep { self.new.keep ≡ self.old.keep }
+        ensures calls { self.new.calls ≡ counted self.old.calls }
+    {
+        let listed = self.is_listed();
+        self.calls = self.calls.saturating_add(1);
+        if listed {
+            self.faults = self.faults.saturating_add(1);
+            let count = bytes.len().min(self.keep);
+            let _ = self.got.extend_from_slice(&bytes[..count]);
+            return Err(Failed);
+        }
+        if self.got.extend_from_slice(bytes).is_err() {
+            self.faults = self.faults.saturating_add(1);
+            self.starved = self.starved.saturating_add(1);
+            return Err(Failed);
+        }
+        Ok(())
+    }
+
+    fn faulted(&self) -> u64
+        ensures count { result ≡ self.now.faults }
+    {
+        self.faults
+    }
+}
