@@ -1,0 +1,12 @@
+pub mod CourseLemmas
+pub mod EachLemmas
+pub mod EarliestLemmas
+pub mod JobLemmas
+pub mod LoadLemmas
+pub mod OverloadLemmas
+pub mod PeriodLemmas
+pub mod PlanLemmas
+pub mod ServedLemmas
+pub mod SharedLemmas
+pub mod TimeLemmas
+pub mod TurnLemmas

@@ -1,0 +1,8 @@
+-- Each requirement is possible.
+use Rattle.plan_maker.specs.Needed.{IsPossible}
+use Rattle.plan_maker.proofs.EachLemmas.{all_from_each}
+use Rattle.plan_maker.proofs.ServedLemmas.{each_possible}
+use Rattle.plan_maker.proofs.making.planned.Goals as goal
+
+pub common_period-requires : goal.common_period-requires
+common_period-requires c = all_from_each IsPossible c.args.requirements.now (each_possible 0 c.args.requirements.now c.requires.possible)

@@ -1,0 +1,7 @@
+pub mod Course
+pub mod Needed
+pub mod Planned
+pub mod Rows
+pub mod Served
+pub mod Texts
+pub mod Turns

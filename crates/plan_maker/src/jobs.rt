@@ -1,0 +1,110 @@
+//! Requirements, and what is left of each in its current window.
+
+ghost use Rattle.std.specs.Prelude.{◌≡◌, ◌+◌, ◌^◌, ◌<◌, All, map, fold, min};
+ghost use Rattle.plan_maker.specs.Course.{earliest, sooner};
+ghost use Rattle.plan_maker.specs.Turns.{spent, renewed, next_end};
+
+/// What a partition requires: so many ticks in each period.
+#[derive(Clone, Copy, Debug, PartialEq, Eq)]
+pub struct Requirement {
+    /// The partition's number.
+    pub part: u8,
+    /// The ticks that it needs in each period.
+    pub duration: u32,
+    /// The ticks of a period.
+    pub period: u32,
+}
+
+/// What a requirement has to get in its current window.
+#[derive(Clone, Copy, Debug, PartialEq, Eq)]
+pub struct Job {
+    /// The requirement.
+    pub requirement: Requirement,
+    /// The ticks that it has not had yet.
+    pub left: u32,
+    /// The tick with which its next window begins.
+    pub end: u32,
+}
+
+/// The job that goes first, or `None` where no job has ticks to get.
+#[tactic(auto, unfolding(crate::specs::Course::earliest))]
+pub(crate) fn earliest(jobs: &[Job]) -> Option<Job>
+    ensures { result ≡ earliest jobs.now }
+{
+    let mut best = None;
+    for job in jobs {
+        best = sooner(best, *job);
+    }
+    best
+}
+
+/// Of the job that goes first and the next one, the one that goes first.
+fn sooner(best: Option<Job>, job: Job) -> Option<Job>
+    ensures { result ≡ sooner best job }
+{
+    match best {
+        None => { if job.left > 0 { Some(job) } else { None } }
+        Some(best) => {
+            if job.left > 0 && job.end < best.end {
+                Some(job)
+            } else {
+                Some(best)
+            }
+        }
+    }
+}
+
+/// The tick at which the next window ends, or the frame.
+pub(crate) fn next_end(frame: u32, jobs: &[Job]) -> u32
+    ensures { result ≡ next_end frame jobs.now }
+{
+    jobs.iter().map(|job| job.end).fold(frame, u32::min)
+}
+
+/// A partition has so many ticks.
+pub(crate) fn spend(jobs: &mut [Job], part: u8, ticks: u32)
+    ensures { jobs.new ≡ map (spent part ticks) jobs.old }
+{
+    for job in jobs.iter_mut() {
+        *job = spent(*job, part, ticks);
+    }
+}
+
+/// A job after its partition, or another one, had so many ticks.
+fn spent(job: Job, part: u8, ticks: u32) -> Job
+    ensures { result ≡ spent part ticks job }
+{
+    if job.requirement.part != part {
+        return job;
+    }
+    Job {
+        requirement: job.requirement,
+        left: job.left.saturating_sub(ticks),
+        end: job.end,
+    }
+}
+
+/// The windows that end at a tick begin again.
+pub(crate) fn renew(jobs: &mut [Job], tick: u32)
+    requires { All (λ job. job.end + job.requirement.period < 2 ^ 32) jobs.old }
+    ensures { jobs.new ≡ map (renewed tick) jobs.old }
+{
+    for job in jobs.iter_mut() {
+        *job = renewed(*job, tick);
+    }
+}
+
+/// A job in the next window, where its window ends at the tick.
+fn renewed(job: Job, tick: u32) -> Job
+    requires { job.end + job.requirement.period < 2 ^ 32 }
+    ensures { result ≡ renewed tick job }
+{
+    if job.end != tick {
+        return job;
+    }
+    Job {
+        requirement: job.requirement,
+        left: job.requirement.duration,
+        end: job.end + job.requirement.period,
+    }
+}
