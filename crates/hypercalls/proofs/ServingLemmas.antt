@@ -8,11 +8,11 @@ use Rattle.machine_model.specs.Observed.{observing}
 use Rattle.machine_model.specs.Told.{Sight, Unseen}
 use Rattle.machine_model.specs.View.{PartitionView}
 use Rattle.sparc_step.specs.Registers.{register_at}
-use Rattle.hypercalls.specs.Serving.{IsServed, caller_of}
-use Rattle.hypercalls.specs.State.{SysState}
-use Rattle.hypercalls.specs.declared.call_site.CallSite.{CallSite}
-use Rattle.hypercalls.specs.declared.serving.Served as code
-use Rattle.hypercalls.proofs.SightLemmas.{shown_for, sight_of_number}
+use Rattle.whole_system.specs.Serving.{IsServed, caller_of}
+use Rattle.whole_system.specs.State.{SysState}
+use Rattle.whole_system.specs.declared.call_site.CallSite.{CallSite}
+use Rattle.whole_system.specs.declared.served.Served as code
+use Rattle.whole_system.specs.SightLemmas.{shown_for, sight_of_number}
 
 -- a call of this number observes nothing
 abbrev pub ObservesNothing : ℕ → Type 0

@@ -6,84 +6,27 @@ ghost use Rattle.machine_model.specs.Hypercalls.{call_numbered, served};
 ghost use Rattle.slot_runs.specs.Passes.{part_at};
 ghost use Rattle.sparc_step.specs.Registers.{register_at};
 ghost use Rattle.xm_ports.specs.Channels.{shapes_of};
-ghost use Rattle.hypercalls.specs.Serving.{IsCaller, IsServed, caller_at, caller_of};
+ghost use Rattle.whole_system.specs.Serving.{IsCaller, IsServed, caller_at, caller_of};
 
-use crate::answering::{UNKNOWN_CALL, answer, argument};
-use crate::call_site::CallSite;
-use crate::log_calls::{hm_read, hm_status, raise_event, trace_event, trace_read, trace_status};
-use crate::message_calls::{
+use control_calls::{
+    clear_irqmask, flush_regwin, get_partition_status, get_plan_status, get_self,
+    get_system_status, get_time, halt_partition, halt_system, hm_read, hm_status, idle_self, iret,
+    raise_event, read_input, reset_partition, reset_system, resume_partition, set_irqmask, set_psr,
+    set_tbr, set_timer, shutdown_partition, suspend_partition, switch_sched_plan, trace_event,
+    trace_read, trace_status, write_console,
+};
+use port_calls::{
+    create_queuing_port, create_sampling_port, get_queuing_port_status, get_sampling_port_status,
     read_sampling_message, receive_queuing_message, send_queuing_message, write_sampling_message,
 };
-use crate::partition_calls::{
-    get_partition_status, get_self, get_system_status, halt_partition, halt_system, idle_self,
-    reset_partition, reset_system, resume_partition, shutdown_partition, suspend_partition,
-};
-use crate::port_making::{create_queuing_port, create_sampling_port};
-use crate::port_status::{get_queuing_port_status, get_sampling_port_status};
-use crate::processor_calls::{
-    clear_irqmask, flush_regwin, iret, read_input, set_irqmask, set_psr, set_tbr, write_console,
-};
-use crate::sys::Sys;
-use crate::time_calls::{get_plan_status, get_time, set_timer, switch_sched_plan};
-use health_monitor::Whole;
-use xm_base::{Order, PartId};
-use xm_conf::Event;
-use xm_traces::TraceEntry;
-
-/// What a hypercall did and tells: at most one thing.
-#[derive(Clone, Copy, Debug, PartialEq, Eq)]
-pub enum Note {
-    /// Nothing.
-    Nothing,
-    /// The caller wrote these bytes of its memory to its console.
-    Console { at: u32, size: u32 },
-    /// The caller entered this in its traces.
-    Trace(TraceEntry),
-    /// The caller put a message, these bytes of its memory, into a channel.
-    Put { chan: u8, at: u32, size: u32 },
-    /// The caller took the first message out of a channel.
-    Take { chan: u8 },
-    /// The caller was shown something of the rest of the system: these bytes of its memory.
-    Saw { at: u32, size: u32 },
-    /// The caller was told that an entry of another partition is not kept.
-    NotKept,
-}
-
-/// How a hypercall reaches beyond the state of its caller. It is told, and not done.
-#[derive(Clone, Copy, Debug, PartialEq, Eq)]
-pub enum Act {
-    /// Not at all.
-    Nothing,
-    /// An order upon a partition, which may be the caller.
-    Upon {
-        id: PartId,
-        order: Order,
-    },
-    /// A plan is asked for.
-    Ask {
-        plan: u8,
-    },
-    /// An event of the whole system.
-    Whole(Whole),
-    /// A health event of the caller, with its word. Where the call is `undone`, the caller is at it again.
-    Event {
-        event: Event,
-        word: u32,
-        undone: bool,
-    },
-}
-
-/// What a hypercall came to.
-#[derive(Clone, Copy, Debug, PartialEq, Eq)]
-pub struct Served {
-    pub note: Note,
-    pub act: Act,
-}
+use whole_system::answering::{UNKNOWN_CALL, answer, argument};
+use whole_system::{CallSite, Served, Sys};
+use xm_base::PartId;
 
 /// Serves the hypercall of partition `p`, whose trap instruction stood at `pc`, with `npc` behind it: its number stands in %o0, its
 /// arguments in %o1 to %o5, and its result comes to %o0. It changes its caller, the channels of the caller's ports, and of other partitions
 /// only that those that hear of a message get its interrupt.
-#[tactic(auto, unfolding(crate::specs::Serving::caller_of, crate::specs::Serving::caller_at, machine_model::specs::Hypercalls::served))]
+#[tactic(auto, unfolding(whole_system::specs::Serving::caller_of, whole_system::specs::Serving::caller_at, machine_model::specs::Hypercalls::served))]
 pub fn serve(sys: &mut Sys, p: PartId, pc: u32, npc: u32) -> Served
     requires partition { p < length sys.old.machine.parts }
     requires pc { pc % 4 ≡ 0 }

@@ -10,7 +10,7 @@ use Rattle.xm_outside.specs.Growth.{grown, grown-nothing, GrewByPrefix}
 use Rattle.xm_conf.specs.Configuration.{Conf}
 use Rattle.xm_conf.specs.Description.{described}
 use Rattle.xm_conf.specs.Fits.{Fits}
-use Rattle.hypercalls.specs.State.{with_inputs}
+use Rattle.whole_system.specs.State.{with_inputs}
 use Rattle.xm_machine.specs.Outcome.{IsRun, report_of}
 use Rattle.machine_model.specs.Lines.{report}
 use Rattle.machine_model.specs.Machine.{Machine, start}

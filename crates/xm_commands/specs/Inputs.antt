@@ -1,6 +1,6 @@
 -- The input words of partitions, by the files that a run is given for them.
 use Rattle.std.specs.Prelude.{ℕ, ◌%◌, nat_eq, nat_le, if◌then◌else◌, List, [], ◌∷◌, length, replicate, slice_set, Option, Some, None, Result, Ok, Err}
-use Rattle.hypercalls.specs.Inputs.{words_in}
+use Rattle.whole_system.specs.Inputs.{words_in}
 use Rattle.xm_words.specs.Words.{PartFile}
 use Rattle.xm_commands.specs.Denial.{Denial}
 use Rattle.xm_commands.specs.Ending.{input_text, partition_text}

@@ -5,7 +5,7 @@ use Rattle.xm_report.specs.Report.{texts}
 use Rattle.xm_conf.specs.Configuration.{Conf}
 use Rattle.cyclic_plans.specs.Slots.{frame_of}
 use Rattle.machine_model.specs.Lines.{report}
-use Rattle.hypercalls.specs.State.{with_inputs}
+use Rattle.whole_system.specs.State.{with_inputs}
 use Rattle.loaded_system.specs.Bare.{bare_system}
 use Rattle.loaded_system.specs.System.{System}
 use Rattle.xm_container.specs.Reading.{unpacked}

@@ -9,7 +9,7 @@ ghost use Rattle.xm_words.specs.Seen.{seen_file, seen_files, seen_part_file};
 
 use crate::ending::{Ending, Refusal};
 use std::alloc::Global;
-use xm_machine::Inputs;
+use xm_machine::{InputFault, Inputs};
 use xm_words::{PartFile, PartFiles};
 
 /// The input words of so many partitions, by files none of which is too long; or the first refusal.
@@ -83,14 +83,12 @@ fn give<'a>(inputs: &mut Inputs, named: PartFile<'a>, bytes: &[u8]) -> Result<()
     ensures given { OnOk result (inputs_with inputs.old (seen_file named.entry ∷ []) (bytes.now ∷ []) ≡ Ok inputs.new) }
     ensures refused { IfErr result (λ ending. IsDenied (ending_of ending) (inputs_with inputs.old (seen_file named.entry ∷ []) (bytes.now ∷ []))) }
 {
-    if bytes.len() % 4 != 0 {
-        return Err(Ending::Denied {
-            file: named.file,
-            why: Refusal::Input { found: bytes.len() },
-        });
-    }
     match inputs.set(named.part, bytes) {
         Ok(()) => Ok(()),
-        Err(_) => Err(Ending::Starved),
+        Err(InputFault::Length { found }) => Err(Ending::Denied {
+            file: named.file,
+            why: Refusal::Input { found },
+        }),
+        Err(InputFault::Memory) => Err(Ending::Starved),
     }
 }

@@ -1,13 +1,13 @@
 -- A hypercall of a partition: it is served, its tick is counted, and what it asks for is followed.
-use Rattle.std.proofs.Common.{◌≡◌, ℕ, zero, suc, ◌<◌, ◌⊎◌, inl, inr, Bool, true, false, List, [], ◌∷◌, ◌++◌, Option, None, Some, length, map, set, get_or, refl, sym, ap, ◌∙◌, subst, arith}
+use Rattle.std.proofs.Common.{◌≡◌, ℕ, ◌<◌, ◌⊎◌, inl, inr, Bool, true, false, List, [], ◌++◌, Option, None, Some, length, map, set, get_or, refl, sym, ap, ◌∙◌, subst}
 use Rattle.std.proofs.lemmas.List.{append_assoc, get_or-set_same, length-set, map-append, set-set}
 use Rattle.std.specs.Prelude.{if◌then◌else◌}
 use Rattle.guest_bus.specs.Memory.{Memory}
-use Rattle.hypercalls.specs.Serving.{IsServed, caller_at, own_traffic, told_by, traffic_by, untraded, upshot_of, without_traffic}
-use Rattle.hypercalls.specs.State.{SysState, with_machine}
-use Rattle.hypercalls.specs.declared.serving.Note.{Note}
-use Rattle.hypercalls.specs.declared.serving.Note.TheVariants as note
-use Rattle.hypercalls.specs.declared.serving.Served as code
+use Rattle.whole_system.specs.Serving.{IsServed, caller_at, own_traffic, told_by, traffic_by, untraded, upshot_of, without_traffic}
+use Rattle.whole_system.specs.State.{SysState, with_machine}
+use Rattle.whole_system.specs.declared.served.Note.{Note}
+use Rattle.whole_system.specs.declared.served.Note.TheVariants as note
+use Rattle.whole_system.specs.declared.served.Served as code
 use Rattle.machine_model.specs.Caller.{Acts, Meets, Served, Upshot}
 use Rattle.machine_model.specs.Health.{Worked, quiet}
 use Rattle.machine_model.specs.Hypercalls.{served}
@@ -18,34 +18,17 @@ use Rattle.machine_model.specs.Partition.{PartitionState, is_halted}
 use Rattle.machine_model.specs.Told as told
 use Rattle.machine_model.specs.Told.{OwnPuts, OwnStill, OwnTakes, OwnTraffic, Sight, Told, Trades, line_of}
 use Rattle.machine_model.specs.Traffic.{Puts, Still, Takes, Traffic, after_message, after_traffic, heard_as, heard_from, hearing, interrupted, told_as}
-use Rattle.machine_model.specs.View.{PartitionView, System, name_of, named, view_of}
-use Rattle.slot_runs.specs.Passes.{part_at, traded, traffic_in, with_part}
+use Rattle.machine_model.specs.View.{PartitionView, name_of, named, view_of}
+use Rattle.slot_runs.specs.Passes.{part_at, traded, with_part}
 use Rattle.virt_traps.specs.Virtual.{raised}
 use Rattle.xm_report.specs.Report.{ReportLine}
 use Rattle.xm_machine.specs.Work.{IsDone, IsUponOne, IsWorked, TellsAlone, act_of, console_told, trace_told}
 use Rattle.xm_machine.specs.declared.beyond.Beyond.{Beyond}
-use Rattle.xm_machine.specs.declared.beyond.Beyond.TheVariants as beyond
 use Rattle.xm_machine.proofs.HealthLemmas.{silent}
-use Rattle.xm_machine.proofs.ServedLemmas.{KeptParts, kept_parts, served_keeps}
-use Rattle.xm_machine.proofs.ReachLemmas.{no_traffic, plain_act}
-use Rattle.xm_machine.proofs.WorkLemmas.{done_then, part_set, put_back}
-
--- an element that was set, and then changed with all others
-at_each_set : {X : Type 0} (f : ℕ → X → X) (xs : List X) (p : ℕ) (x d : X) → p < length xs → get_or (each f (set xs p x)) p d ≡ f p x
-at_each_set f [] p x d below = absurd (omega (arith, below))
-at_each_set f (y ∷ ys) zero x d below = refl
-at_each_set f (y ∷ ys) (suc p) x d below = at_each_set (λ k. f (suc k)) ys p x d (omega (arith, below))
-
--- one that is set after the change of all
-set_each_set : {X : Type 0} (f : ℕ → X → X) (xs : List X) (p : ℕ) (x y : X) → set (each f (set xs p x)) p (f p y) ≡ each f (set xs p y)
-set_each_set f [] p x y = refl
-set_each_set f (z ∷ zs) zero x y = refl
-set_each_set f (z ∷ zs) (suc p) x y = ap (λ more. f 0 z ∷ more) (set_each_set (λ k. f (suc k)) zs p x y)
-
--- a change of all keeps their number
-each_length : {X Y : Type 0} (f : ℕ → X → Y) (xs : List X) → length (each f xs) ≡ length xs
-each_length f [] = refl
-each_length f (x ∷ xs) = ap suc (each_length (λ k. f (suc k)) xs)
+use Rattle.xm_machine.proofs.ServedLemmas.{kept_parts, served_keeps}
+use Rattle.xm_machine.proofs.ReachLemmas.{no_traffic, one_before, plain_act}
+use Rattle.xm_machine.proofs.WorkLemmas.{done_then, put_back, put_there}
+use Rattle.xm_machine.proofs.ListLemmas.{at_each_set, each_length, set_each_set}
 
 -- an interrupt that becomes pending, and a tick that is counted
 counted_interrupted : (heard : Option ℕ) (ps : PartitionState) → clocked (interrupted heard ps) ≡ interrupted heard (clocked ps)
@@ -101,17 +84,7 @@ counted_traded (Puts channel bytes) p x g below =
 counted_traded (Takes channel) p x g below =
     ap (λ (parts : List PartitionState). record g { parts = parts; channels = each (after_traffic g.time (Takes channel)) g.channels }) (counted_traffic (Takes channel) p x g below)
 
--- traffic keeps the system, the clock and the number of ticks
-traded_system : (traffic : Traffic) (g : Machine) → (traded traffic g).system ≡ g.system
-traded_system Still g = refl
-traded_system (Puts channel bytes) g = refl
-traded_system (Takes channel) g = refl
-
-traded_time : (traffic : Traffic) (g : Machine) → (traded traffic g).time ≡ g.time
-traded_time Still g = refl
-traded_time (Puts channel bytes) g = refl
-traded_time (Takes channel) g = refl
-
+-- traffic keeps the number of ticks
 traded_ticks : (traffic : Traffic) (g : Machine) → (traded traffic g).ticks ≡ g.ticks
 traded_ticks Still g = refl
 traded_ticks (Puts channel bytes) g = refl
@@ -182,13 +155,6 @@ call_lines line a_note memory after tale more between got tale_is console_is bet
     ∙ ap (λ (lines : List ReportLine). map line (console_told a_note after) ++ (lines ++ map line more)) (sym between_is)
     ∙ ap (λ (lines : List ReportLine). map line (console_told a_note after) ++ lines) (sym got_is)
 
--- an order is upon a partition that there was
-one_before : (reach : Beyond) (g h : Machine) → length g.parts ≡ length h.parts → IsUponOne reach g → IsUponOne reach h
-one_before beyond.Nothing g h same one = one
-one_before (beyond.Order id order) g h same one = subst (λ (count : ℕ). id < count) same one
-one_before (beyond.Plan plan) g h same one = one
-one_before (beyond.Whole event) g h same one = one
-
 -- what a call and what follows it come to
 abbrev worked_by : Served → PartitionView → ℕ → Worked
 worked_by s view time = record (by_upshot s.upshot view time (clocked s.after)) { told = s.told ++ (by_upshot s.upshot view time (clocked s.after)).told }
@@ -223,7 +189,7 @@ module _ (p : ℕ) (sight : Sight) (s : Served) (answer : code.Served) (reach : 
       let upshot_is : upshot_of answer.act ≡ s.upshot = sym c.serves.upshot ∙ plain in
       let follows = subst (λ (u : Upshot). IsDone p (following u p two).after (following u p two).told two new between got) upshot_is c.follows in
       let same : following s.upshot p two ≡ w =
-      ap (λ (x : PartitionState). by_upshot s.upshot (view_of two.machine.system p) two.machine.time x) (part_set old two p (clocked s.after) c.below two_is)
+      ap (λ (x : PartitionState). by_upshot s.upshot (view_of two.machine.system p) two.machine.time x) (put_there p (clocked s.after) old.machine two old c.below two_is)
       ∙ ap (λ (sys : SysState). by_upshot s.upshot (view_of sys.machine.system p) sys.machine.time (clocked s.after)) two_is in
       let done : IsDone p w.after w.told old new between got =
       done_then (λ v t x. (by_upshot s.upshot v t x).after) (λ v t x. (by_upshot s.upshot v t x).told) p (clocked s.after) [] old two new between between got c.below

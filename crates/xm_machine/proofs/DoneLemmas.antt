@@ -1,31 +1,31 @@
 -- Ticks that were done: quiet ones, and those of which the last had work.
-use Rattle.std.proofs.Common.{◌≡◌, ℕ, zero, suc, ◌+◌, ◌<◌, ◌≤◌, Bool, true, false, List, [], ◌∷◌, ◌++◌, length, map, Option, None, Some, refl, sym, ap, subst, ◌∙◌, arith}
-use Rattle.std.specs.Prelude.{◌-◌, ◌==◌, if◌then◌else◌, IfSome, slice_index_or, slice_set}
+use Rattle.std.proofs.Common.{◌≡◌, ℕ, suc, ◌+◌, ◌<◌, ◌≤◌, Bool, true, false, List, [], ◌∷◌, ◌++◌, length, map, Option, None, Some, refl, sym, ap, subst, ◌∙◌, arith}
+use Rattle.std.specs.Prelude.{◌-◌, if◌then◌else◌, IfSome}
 use Rattle.std.proofs.lemmas.Bool.{eq-eqb}
-use Rattle.std.proofs.lemmas.List.{append-nil}
+use Rattle.std.proofs.lemmas.List.{append-nil, get_or-set_same}
 use Rattle.guest_bus.specs.Memory.{Memory, bytes_at}
 use Rattle.health_monitor.specs.declared.effects.Whole.TheVariants as whole
-use Rattle.hypercalls.specs.Serving.{CanBeTold, without_traffic}
-use Rattle.hypercalls.specs.State.{SysState, areas_in, memory_of, with_machine}
-use Rattle.hypercalls.specs.declared.serving.Note.{Note}
-use Rattle.hypercalls.specs.declared.serving.Note.TheVariants as note
-use Rattle.virt_traps.specs.Virtual.{due, raised}
+use Rattle.whole_system.specs.Serving.{CanBeTold, without_traffic}
+use Rattle.whole_system.specs.State.{SysState, areas_in, memory_of, with_machine}
+use Rattle.whole_system.specs.declared.served.Note.{Note}
+use Rattle.whole_system.specs.declared.served.Note.TheVariants as note
+use Rattle.virt_traps.specs.Virtual.{raised}
 use Rattle.xm_report.specs.Report.{ReportLine}
 use Rattle.machine_model.specs.Facts.{IsAsMany, RunsKeepNumbers}
-use Rattle.machine_model.specs.Health.{Worked, done_to_all, interrupt_delivered}
+use Rattle.machine_model.specs.Health.{Worked}
 use Rattle.machine_model.specs.Laws.{ActsWithinBounds}
 use Rattle.machine_model.specs.Lines.{lines, step_lines}
-use Rattle.machine_model.specs.Lists.{each, is_number}
-use Rattle.machine_model.specs.LocalTick.{bounded, clocked, local_tick, with_interrupts, worked, worked_if}
-use Rattle.machine_model.specs.Machine.{Machine, booted_part, copies, run, sight, step}
+use Rattle.machine_model.specs.Lists.{is_number}
+use Rattle.machine_model.specs.LocalTick.{bounded, local_tick, with_interrupts, worked, worked_if}
+use Rattle.machine_model.specs.Machine.{Machine, booted_part, copies, run, sight}
 use Rattle.machine_model.specs.Partition.{PartitionState, is_halted, rested}
 use Rattle.machine_model.specs.Told as told
 use Rattle.machine_model.specs.Told.{Act, Directed, OwnPuts, OwnStill, OwnTakes, OwnTraffic, Told, line_of, reach_of}
 use Rattle.machine_model.specs.Traffic.{Puts, Still, Takes, Traffic, after_message, heard_as, heard_from, hearing, interrupted}
 use Rattle.guest_memory.specs.Loading.{areas_of}
 use Rattle.machine_model.specs.View.{PartitionView, System, name_of, part_of, view_of}
-use Rattle.slot_runs.specs.Meeting.{HasGone, awake, first_after, gone_on}
-use Rattle.slot_runs.specs.NextLaws.{IsNextTick, IsTickOf, MetTick, next_work}
+use Rattle.slot_runs.specs.Meeting.{HasGone, first_after, gone_on}
+use Rattle.slot_runs.specs.NextLaws.{IsNextTick, MetTick, next_work}
 use Rattle.slot_runs.specs.PassLaws.{IsInPasses, IsPassedNext, PassedNext, TickInPasses}
 use Rattle.slot_runs.specs.Passes.{rest_but, traded, traffic_in, with_part, worked_lines, worked_through}
 use Rattle.slot_runs.specs.SpanLaws.{IsAwake, its_areas, met}
@@ -34,9 +34,9 @@ use Rattle.xm_machine.specs.Span.{AreDoneFrom}
 use Rattle.xm_machine.specs.Work.{IsUponOne, IsWorked, TellsAlone, act_of, console_told, ended_by, ending_lines}
 use Rattle.xm_machine.specs.declared.beyond.Beyond.{Beyond}
 use Rattle.xm_machine.specs.declared.beyond.Beyond.TheVariants as beyond
-use Rattle.xm_machine.proofs.InstructionLemmas.{part_in}
-use Rattle.xm_machine.proofs.SlotLemmas.{IsAt, at_next, its_before, within_bounds}
+use Rattle.xm_machine.proofs.SlotLemmas.{at_next, its_before, within_bounds}
 use Rattle.xm_machine.proofs.TickLemmas.{tick_lines, tick_state}
+use Rattle.xm_machine.proofs.ListLemmas.{each_at}
 
 -- hearing of a message leaves the memory
 hearing_memory : (view : PartitionView) (own : OwnTraffic) (ps : PartitionState) → (hearing view own ps).memory ≡ ps.memory
@@ -53,25 +53,19 @@ hearing_memory view (OwnPuts q bytes) ps = at (heard_from q view.part.ports ps.m
     at (Some n) b = either (is_halted ps.state) n
 hearing_memory view (OwnTakes q) ps = refl
 
--- a pass leaves the memory of a partition where what it does to that one leaves it
-each_memory : (f : ℕ → PartitionState → PartitionState) (xs : List PartitionState) (p : ℕ) (other : PartitionState) → ((ps : PartitionState) → (f p ps).memory ≡ ps.memory)
-    → (slice_index_or (each f xs) p other).memory ≡ (slice_index_or xs p other).memory
-each_memory f [] p other same = refl
-each_memory f (x ∷ xs) zero other same = same x
-each_memory f (x ∷ xs) (suc p) other same = each_memory (λ k. f (suc k)) xs p other same
-
+-- traffic and the rest of all others leave the memory of a partition
 traded_memory : (traffic : Traffic) (p : ℕ) (g : Machine) → memory_of p (traded traffic g) ≡ memory_of p g
 traded_memory Still p g = refl
 traded_memory (Puts channel bytes) p g =
-    each_memory (λ q ps. hearing (view_of g.system q) (heard_as (name_of g.system.conf q) (Puts channel bytes)) ps) g.parts p (booted_part g.system p)
+    each_at (λ (ps : PartitionState). ps.memory) (λ q ps. hearing (view_of g.system q) (heard_as (name_of g.system.conf q) (Puts channel bytes)) ps) g.parts p (booted_part g.system p)
     (λ ps. hearing_memory (view_of g.system p) (heard_as (name_of g.system.conf p) (Puts channel bytes)) ps)
 traded_memory (Takes channel) p g =
-    each_memory (λ q ps. hearing (view_of g.system q) (heard_as (name_of g.system.conf q) (Takes channel)) ps) g.parts p (booted_part g.system p)
+    each_at (λ (ps : PartitionState). ps.memory) (λ q ps. hearing (view_of g.system q) (heard_as (name_of g.system.conf q) (Takes channel)) ps) g.parts p (booted_part g.system p)
     (λ ps. hearing_memory (view_of g.system p) (heard_as (name_of g.system.conf p) (Takes channel)) ps)
 
 rest_memory : (p time : ℕ) (g : Machine) → memory_of p (rest_but (Some p) time g) ≡ memory_of p g
 rest_memory p time g =
-    each_memory (λ q ps. if is_number (Some p) q then ps else rested time ps) g.parts p (booted_part g.system p)
+    each_at (λ (ps : PartitionState). ps.memory) (λ q ps. if is_number (Some p) q then ps else rested time ps) g.parts p (booted_part g.system p)
     (λ ps. ap (λ (own : Bool). (if own then ps else rested time ps).memory) (eq-eqb p p refl))
 
 -- a tick that does not reach beyond its partition leaves the memory that the work left
@@ -80,7 +74,7 @@ plain_memory : (p : ℕ) (traffic : Traffic) (after : PartitionState) (m : Machi
 plain_memory p traffic after m below =
     rest_memory p (traded traffic (with_part p after m)).time (traded traffic (with_part p after m))
     ∙ traded_memory traffic p (with_part p after m)
-    ∙ ap (λ (ps : PartitionState). ps.memory) (part_in m.parts p after (booted_part m.system p) below)
+    ∙ ap (λ (ps : PartitionState). ps.memory) (get_or-set_same m.parts p after (booted_part m.system p) below)
 
 -- so the bytes for the console are still there
 told_after : (a_note : Note) (reach : Beyond) (p : ℕ) (traffic : Traffic) (after : PartitionState) (m : Machine) → p < length m.parts → TellsAlone a_note reach

@@ -4,7 +4,7 @@ use Rattle.std.proofs.lemmas.Bool.{eq-eqb}
 use Rattle.std.proofs.lemmas.Bool.Decides.{nat_tests}
 use Rattle.std.proofs.lemmas.List.{append-nil, append_assoc}
 use Rattle.std.specs.Prelude.{◌==◌}
-use Rattle.hypercalls.specs.State.{SysState}
+use Rattle.whole_system.specs.State.{SysState}
 use Rattle.cyclic_plans.specs.PlanClock.{CyclicClock, ended, ends_frame, entered_plan, frame_from, in_maintenance, next_plan, other_plan, started}
 use Rattle.xm_base.specs.declared.partition.Mode.{Mode}
 use Rattle.xm_base.specs.declared.partition.Order.{Order}
@@ -20,6 +20,7 @@ use Rattle.machine_model.specs.Whole.{event_lines}
 use Rattle.slot_runs.specs.Passes.{part_at}
 use Rattle.slot_runs.specs.Spans.{plan_line}
 use Rattle.xm_machine.specs.Work.{IsDone, added_below, ending_lines, reset_lines}
+use Rattle.xm_machine.proofs.ListLemmas.{none_told}
 
 -- the line of a plan that starts after tick n, where one does
 abbrev pub plan_told : ℕ → Option ℕ → List ReportLine
@@ -59,11 +60,6 @@ span_line g ticks plan some is =
     ∙ ap (λ (k : ℕ). plan_lines (g.ticks + ticks - 1) g.clock.plan (ended g.system.conf g.clock k).plan) now
     ∙ entered_lines g.system.conf g.clock (g.time + ticks - 1) (g.ticks + ticks - 1)
     ∙ ap (plan_told (g.ticks + ticks - 1)) (sym is)
-
--- partitions that add no line
-none_told : {X Y : Type 0} (xs : List X) → all_of {X = X} {Y = Y} (λ q x. []) xs ≡ []
-none_told [] = refl
-none_told (x ∷ xs) = none_told xs
 
 -- the lines of a tick that does not reach beyond its partition
 plain_ending : (g : Machine) → ending_lines Nothing g ≡ plan_lines g.ticks g.clock.plan (ended g.system.conf g.clock g.time).plan
@@ -108,10 +104,18 @@ added_all {X} {Y} f (x ∷ xs) =
     ap (λ (lines : List Y). f 0 ++ lines) (added_all (λ k. f (suc k)) xs) ∙ added_first f (length xs)
 
 -- the lines of a tick in which all are reset
-pub reset_ending : (g : Machine) (mode : Mode) → ending_lines (UponAll (AllReset mode)) g ≡ reset_lines g.ticks (length g.parts) mode ++ plan_lines g.ticks g.clock.plan started.plan
+reset_ending : (g : Machine) (mode : Mode) → ending_lines (UponAll (AllReset mode)) g ≡ reset_lines g.ticks (length g.parts) mode ++ plan_lines g.ticks g.clock.plan started.plan
 reset_ending g mode =
     ap (λ (lines : List ReportLine). WholeLine g.ticks (reset_move mode) ∷ (lines ++ plan_lines g.ticks g.clock.plan started.plan))
     (added_all (λ p. event_lines g.ticks (AllReset mode) p) g.parts)
+
+-- those lines, added to what was told before
+pub reset_told : (g : Machine) (mode : Mode) (had got : List ReportLine)
+    → got ≡ had ++ reset_lines g.ticks (length g.parts) mode ++ plan_lines g.ticks g.clock.plan started.plan → got ≡ had ++ ending_lines (UponAll (AllReset mode)) g
+reset_told g mode had got told =
+    told
+    ∙ append_assoc had (reset_lines g.ticks (length g.parts) mode) (plan_lines g.ticks g.clock.plan started.plan)
+    ∙ ap (λ (lines : List ReportLine). had ++ lines) (sym (reset_ending g mode))
 
 -- the lines of a tick whose order was obeyed before its plain end
 pub order_then : (id : ℕ) (order : Order) (after : PartitionState) (old mid : SysState) (had between got : List ReportLine)

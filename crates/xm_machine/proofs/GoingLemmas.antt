@@ -9,7 +9,7 @@ use Rattle.xm_report.specs.declared.output.WriteFault.{WriteFault}
 use Rattle.machine_model.specs.Lines.{lines, lines_unless, step_lines}
 use Rattle.machine_model.specs.Machine.{Machine, run, step}
 use Rattle.machine_model.specs.Structures.{flag}
-use Rattle.hypercalls.specs.State.{SysState}
+use Rattle.whole_system.specs.State.{SysState}
 use Rattle.slot_runs.specs.RunLemmas.{lines_add, run_add}
 use Rattle.xm_machine.proofs.FrontLemmas.{front_of_all}
 use Rattle.xm_machine.proofs.KeptLemmas.{run_halted, step_halted, ticks_exact, ticks_least}

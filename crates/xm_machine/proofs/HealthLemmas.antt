@@ -1,15 +1,15 @@
 -- Health events of a partition and the delivery of its traps, as they are done one step after the other.
-use Rattle.std.proofs.Common.{◌≡◌, ℕ, ◌+◌, ◌<◌, List, [], ◌∷◌, ◌++◌, length, map, refl, sym, ap, ◌∙◌, subst}
+use Rattle.std.proofs.Common.{◌≡◌, ℕ, ◌+◌, ◌<◌, List, [], ◌∷◌, length, sym, ap, subst}
 use Rattle.std.proofs.lemmas.List.{append-nil}
 use Rattle.std.specs.Prelude.{Option, Result, Ok, Err}
 use Rattle.health_monitor.specs.Monitor.{action_in, effect_of, is_logged}
 use Rattle.health_monitor.specs.declared.effects.Effect.{Effect}
-use Rattle.hypercalls.specs.State.{SysState, areas_in, with_machine}
-use Rattle.hypercalls.specs.Stepping.{delivered_to}
-use Rattle.machine_model.specs.Health.{Worked, answered_by, behind, by_delivery, by_interrupt, done_to_all, done_to_itself, entered, entered_if, entered_told, event_handled, interrupt_delivered, is_passed_over, passed_over_if, quiet, trap_delivered, undelivered}
+use Rattle.whole_system.specs.State.{SysState, areas_in, with_machine}
+use Rattle.whole_system.specs.Stepping.{delivered_to}
+use Rattle.machine_model.specs.Health.{Worked, answered_by, behind, by_delivery, by_interrupt, done_to_all, done_to_itself, entered, entered_if, entered_told, event_handled, interrupt_delivered, is_passed_over, passed_over_if, trap_delivered, undelivered}
 use Rattle.machine_model.specs.Machine.{Machine}
 use Rattle.machine_model.specs.Partition.{PartitionState, areas_of, ordered, ordered_told}
-use Rattle.machine_model.specs.Told.{Told, Health, line_of}
+use Rattle.machine_model.specs.Told.{Health}
 use Rattle.machine_model.specs.View.{PartitionView, view_of}
 use Rattle.slot_runs.specs.Passes.{part_at, with_part}
 use Rattle.virt_traps.specs.Virtual.{cleared}

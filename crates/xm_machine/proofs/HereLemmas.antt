@@ -2,17 +2,17 @@
 use Rattle.std.proofs.Common.{◌≡◌, inl, ℕ, ◌+◌, ◌<◌, ◌≤◌, Bool, true, false, List, length, Option, None, Some, refl, sym, ap, subst, ◌∙◌, arith, []}
 use Rattle.std.specs.Prelude.{All, IfSome, IsSomeAnd, slice_get}
 use Rattle.std.proofs.lemmas.Option.{get_or_from_slice_get, slice_get-get_or, slice_get_within}
-use Rattle.cyclic_plans.specs.PlanClock.{IsInFrame, here, moment}
+use Rattle.cyclic_plans.specs.PlanClock.{here, moment}
 use Rattle.cyclic_plans.specs.Slots.{IsHere, RunsIn, frame_of, slots_of}
 use Rattle.cyclic_plans.specs.declared.slots.Here.{Here}
-use Rattle.hypercalls.specs.State.{SysState}
+use Rattle.whole_system.specs.State.{SysState}
 use Rattle.xm_conf.specs.Configuration.{Conf, Plan}
 use Rattle.xm_conf.specs.Description.{described}
 use Rattle.xm_conf.specs.Fits.{Fits}
 use Rattle.xm_conf.specs.declared.plan.Slot.{Slot}
 use Rattle.machine_model.specs.Facts.{AreFacts}
 use Rattle.machine_model.specs.Machine.{Machine, booted_part, turn_here, turn_of}
-use Rattle.machine_model.specs.Partition.{PartitionState, is_halted}
+use Rattle.machine_model.specs.Partition.{is_halted}
 use Rattle.machine_model.specs.Structures.{flag}
 use Rattle.machine_model.specs.View.{view_of}
 use Rattle.slot_runs.specs.Passes.{part_at}

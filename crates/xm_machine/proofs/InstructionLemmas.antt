@@ -1,13 +1,13 @@
 -- An instruction that trapped or called: its work, as the system behind it has it.
-use Rattle.std.proofs.Common.{◌≡◌, ℕ, zero, suc, ◌+◌, ◌<◌, Bool, true, false, List, [], ◌∷◌, ◌++◌, length, map, Option, None, Some, refl, sym, ap, subst, ◌∙◌, arith}
-use Rattle.std.specs.Prelude.{◌%◌, ◌^◌, ◌==◌, if◌then◌else◌, Result, Ok, Err, slice_get, slice_index_or, slice_set}
-use Rattle.std.proofs.lemmas.List.{length-set}
+use Rattle.std.proofs.Common.{◌≡◌, ℕ, ◌+◌, ◌<◌, Bool, true, false, List, ◌++◌, length, map, Some, refl, sym, ap, subst, ◌∙◌}
+use Rattle.std.specs.Prelude.{◌%◌, ◌^◌, ◌==◌, if◌then◌else◌, Result, Ok, Err}
+use Rattle.std.proofs.lemmas.List.{get_or-set_same, length-set, set-set}
 use Rattle.guest_bus.specs.Memory.{Area, Memory, is_readable, is_writable}
 use Rattle.health_monitor.specs.Monitor.{event_of_type}
-use Rattle.hypercalls.specs.Serving.{CanBeTold, caller_at, sight_at}
-use Rattle.hypercalls.specs.State.{SysState, areas_in, part_at, with_machine}
-use Rattle.hypercalls.specs.declared.serving.Note.{Note}
-use Rattle.sparc_step.specs.Execution.{Turned, refused as trapped, turned}
+use Rattle.whole_system.specs.Serving.{CanBeTold, caller_at}
+use Rattle.whole_system.specs.State.{SysState, areas_in, part_at, with_machine}
+use Rattle.whole_system.specs.declared.served.Note.{Note}
+use Rattle.sparc_step.specs.Execution.{refused as trapped, turned}
 use Rattle.sparc_step.specs.Registers.{Registers, advanced}
 use Rattle.sparc_step.specs.Undone.{turned-IsOrderly}
 use Rattle.sparc_step.specs.declared.outcome.Turn.{Turn}
@@ -19,7 +19,7 @@ use Rattle.virt_traps.specs.declared.windows.StackFault.{StackFault}
 use Rattle.xm_report.specs.Report.{ReportLine}
 use Rattle.machine_model.specs.Caller.{Caller}
 use Rattle.machine_model.specs.Health.{Worked, event_handled}
-use Rattle.machine_model.specs.LocalTick.{by_turn, called, clocked, executed, turned_state, with_interrupts}
+use Rattle.machine_model.specs.LocalTick.{by_turn, called, clocked, executed, turned_state}
 use Rattle.machine_model.specs.Machine.{Machine, booted_part, copies, sight, sight_for}
 use Rattle.machine_model.specs.Observed.{observed_by}
 use Rattle.machine_model.specs.Partition.{PartitionState, areas_of}
@@ -29,9 +29,9 @@ use Rattle.slot_runs.specs.Passes.{traded, traffic_in, with_part}
 use Rattle.slot_runs.specs.Undisturbed.{next_instruction}
 use Rattle.xm_machine.specs.Work.{IsUponOne, IsWorked, console_told}
 use Rattle.xm_machine.specs.declared.beyond.Beyond.{Beyond}
-use Rattle.xm_machine.specs.declared.beyond.Beyond.TheVariants as beyond
 use Rattle.xm_machine.proofs.SightLemmas.{sight_is}
 use Rattle.xm_machine.proofs.SlotLemmas.{IsAt}
+use Rattle.xm_machine.proofs.ReachLemmas.{one_before}
 
 -- the program counter after a call is that of the next instruction
 advanced_goes_on : (core before after : Registers) → before.pc ≡ core.pc → before.npc ≡ core.npc → after ≡ advanced before → GoesOn core after
@@ -95,12 +95,6 @@ call_goes_on areas core memory calls = at (turned areas core memory).turn refl c
     at (Trap type) is calls = trap_goes_on type areas core memory calls
     at Call is calls = advanced_goes_on core core _ refl refl ((turned-IsOrderly areas core memory).called calls)
 
--- a partition that is put in
-pub part_in : {X : Type 0} (xs : List X) (p : ℕ) (new other : X) → p < length xs → slice_index_or (slice_set xs p new) p other ≡ new
-part_in [] p new other below = absurd (omega (arith, below))
-part_in (x ∷ xs) zero new other below = refl
-part_in (x ∷ xs) (suc p) new other below = part_in xs p new other (omega (arith, below))
-
 -- the work of an instruction that trapped
 pub trap_work : (m : Machine) (p type pc : ℕ) (s new : PartitionState) (old mid : SysState) → p < length m.parts → mid ≡ with_machine (with_part p new m) old
     → (settled (areas_of (view_of m.system p)) s.core s.memory).turn ≡ Trap type → new ≡ turned_state (settled (areas_of (view_of m.system p)) s.core s.memory) s → pc ≡ s.core.pc
@@ -108,7 +102,7 @@ pub trap_work : (m : Machine) (p type pc : ℕ) (s new : PartitionState) (old mi
 unfolding executed
 trap_work m p type pc s new old mid below is traps new_is pc_is =
     ap (λ (x : SysState). event_handled (view_of x.machine.system p) x.machine.time (event_of_type type) pc (Some type) (clocked (part_at p x.machine))) is
-    ∙ ap (λ (x : PartitionState). event_handled (view_of m.system p) m.time (event_of_type type) pc (Some type) (clocked x)) (part_in m.parts p new (booted_part m.system p) below ∙ new_is)
+    ∙ ap (λ (x : PartitionState). event_handled (view_of m.system p) m.time (event_of_type type) pc (Some type) (clocked x)) (get_or-set_same m.parts p new (booted_part m.system p) below ∙ new_is)
     ∙ ap (λ (at : ℕ). event_handled (view_of m.system p) m.time (event_of_type type) at (Some type) (clocked (turned_state (settled (areas_of (view_of m.system p)) s.core s.memory) s))) pc_is
     ∙ sym (ap (λ (t : Turn). by_turn t (view_of m.system p) (copies m p) m.time (sight m p) s (turned_state (settled (areas_of (view_of m.system p)) s.core s.memory) s)) traps)
 
@@ -123,7 +117,7 @@ caller_is : (m : Machine) (p pc npc : ℕ) (new : PartitionState) (old : SysStat
 unfolding caller_at copies
 caller_is m p pc npc new old below =
     ap (λ (x : PartitionState). calls_so m p x (sight_for (with_part p new m) (view_of m.system p) (observed_by (view_of m.system p) x.core)) pc npc)
-    (part_in m.parts p new (booted_part m.system p) below)
+    (get_or-set_same m.parts p new (booted_part m.system p) below)
 
 -- what it is shown is what it was shown when the tick began
 sight_so : (m : Machine) (p : ℕ) (first : Bool) (ps s new : PartitionState) → IsAt m p first ps s
@@ -149,21 +143,8 @@ call_work m p pc first ps s new old mid below is at calls new_is pc_is =
   where
     goes : (part_at p (with_part p new m)).core.pc ≡ s.core.npc
     goes =
-        ap (λ (x : PartitionState). x.core.pc) (part_in m.parts p new (booted_part m.system p) below ∙ new_is)
+        ap (λ (x : PartitionState). x.core.pc) (get_or-set_same m.parts p new (booted_part m.system p) below ∙ new_is)
         ∙ (call_goes_on (areas_of (view_of m.system p)) s.core s.memory calls).0
-
--- an element that is written twice
-pub set_twice : {X : Type 0} (xs : List X) (p : ℕ) (one two : X) → slice_set (slice_set xs p one) p two ≡ slice_set xs p two
-set_twice [] p one two = refl
-set_twice (x ∷ xs) zero one two = refl
-set_twice {X} (x ∷ xs) (suc p) one two = ap (λ (rest : List X). x ∷ rest) (set_twice xs p one two)
-
--- an order is upon a partition that there is, whatever one is
-upon_one : (reach : Beyond) (p : ℕ) (new : PartitionState) (m : Machine) → IsUponOne reach (with_part p new m) → IsUponOne reach m
-upon_one beyond.Nothing p new m one = tt
-upon_one (beyond.Order id order) p new m one = rw (length-set m.parts p new) at one
-upon_one (beyond.Plan plan) p new m one = tt
-upon_one (beyond.Whole event) p new m one = tt
 
 -- work on a system in which the partition's own state was changed before is work on the system as it was
 pub worked_on : (p : ℕ) (new : PartitionState) (work same : Worked) (a_note : Note) (reach : Beyond) (m : Machine) (old mid after : SysState) (got : List ReportLine)
@@ -172,9 +153,9 @@ worked_on p new work same a_note reach m old mid after got is work_is worked =
     subst (λ (w : Worked). IsWorked p w a_note reach (with_machine m old) after got) work_is (record {
       state = worked.state
           ∙ ap (λ (x : SysState). with_machine (traded (traffic_in x.machine p work.act) (with_part p work.after x.machine)) x) is
-          ∙ ap (λ (parts : List PartitionState). with_machine (traded (traffic_in m p work.act) (record m { parts = parts })) old) (set_twice m.parts p new work.after);
+          ∙ ap (λ (parts : List PartitionState). with_machine (traded (traffic_in m p work.act) (record m { parts = parts })) old) (set-set m.parts p new work.after);
       lines = subst (λ (x : SysState). map (line_of x.machine.ticks p) work.told ≡ map (line_of x.machine.ticks p) (console_told a_note work.after.memory) ++ got) is worked.lines;
       act = worked.act;
       readable = subst (λ (x : SysState). CanBeTold a_note (areas_in p x.machine)) is worked.readable;
-      one = upon_one reach p new m (subst (λ (x : SysState). IsUponOne reach x.machine) is worked.one);
+      one = one_before reach (with_part p new m) m (length-set m.parts p new) (subst (λ (x : SysState). IsUponOne reach x.machine) is worked.one);
     })

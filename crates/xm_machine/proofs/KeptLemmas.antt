@@ -1,5 +1,5 @@
 -- What holds of every machine holds of it when it boots, after ticks and after resets; and what that says of a partition.
-use Rattle.std.proofs.Common.{◌≡◌, ◌≢◌, ⊎_elim, ℕ, zero, suc, ◌+◌, ◌^◌, ◌<◌, ◌≤◌, Bool, false, true, List, [], ◌∷◌, length, set, get_or, Option, Some, None, refl, sym, ap, ◌∙◌, subst, arith, length-set}
+use Rattle.std.proofs.Common.{◌≡◌, ◌≢◌, ⊎_elim, ℕ, zero, suc, ◌+◌, ◌^◌, ◌<◌, ◌≤◌, Bool, false, true, length, set, get_or, Option, Some, None, refl, sym, ap, ◌∙◌, subst, arith, length-set}
 use Rattle.std.specs.Prelude.{All, replicate, slice_get, slice_index_or}
 use Rattle.std.proofs.lemmas.Bool.{cases_eq}
 use Rattle.std.proofs.lemmas.List.{get_or-set_other, get_or-set_same, length-map}
@@ -15,9 +15,8 @@ use Rattle.xm_conf.specs.Description.{described}
 use Rattle.xm_conf.specs.Fits.{Fits}
 use Rattle.xm_ports.specs.Channels.{cleared, shapes_of}
 use Rattle.xm_ports.specs.Ports.{no_ports}
-use Rattle.hypercalls.specs.State.{SysState, part_at, with_machine, with_part}
+use Rattle.whole_system.specs.State.{SysState, part_at, with_machine, with_part}
 use Rattle.machine_model.specs.Facts.{AreEnds, AreFacts, BootsClocked, BootsComplete, BootsTimed, BootsWithFacts, HasFacts, IsAsMany, IsClocked, IsComplete, IsTimed, KeepsClocked, KeepsFacts, KeepsNumbers, KeepsTimed, begun}
-use Rattle.machine_model.specs.Lists.{each}
 use Rattle.machine_model.specs.Machine.{Machine, after, booted_part, happened, is_halt, run, start, step, step_unless}
 use Rattle.machine_model.specs.Partition.{PartitionState, is_halted, reset}
 use Rattle.machine_model.specs.Structures.{flag}
@@ -25,6 +24,7 @@ use Rattle.machine_model.specs.View.{PartitionView, System, view_of}
 use Rattle.machine_model.specs.Whole.{AllHalted, AllReset, NoEvent, WholeEvent, ticks_after}
 use Rattle.slot_runs.specs.Passes.{evented}
 use Rattle.xm_machine.specs.Machine.{IsMachine}
+use Rattle.xm_machine.proofs.ListLemmas.{each_length, get_each}
 
 -- what a hypervisor event counts
 event_most : (e : WholeEvent) (n : ℕ) → ticks_after e n ≤ n + 1
@@ -311,16 +311,6 @@ module _ (sys : SysState) (p : ℕ) (is : IsMachine sys) (below : p < length sys
         time = is.counted.time;
       }) is.counted.ticks
 
--- passes over lists
-each_counted : {X Y : Type 0} (f : ℕ → X → Y) (xs : List X) → length (each f xs) ≡ length xs
-each_counted f [] = refl
-each_counted f (x ∷ xs) = ap suc (each_counted (λ k. f (suc k)) xs)
-
-get_each : {X Y : Type 0} (f : ℕ → X → Y) (xs : List X) (p : ℕ) → slice_get (each f xs) p ≡ on (f p) (slice_get xs p)
-get_each f [] p = refl
-get_each f (x ∷ xs) zero = refl
-get_each f (x ∷ xs) (suc p) = get_each (λ k. f (suc k)) xs p
-
 -- all partitions are reset
 facts_reset : (g : Machine) (mode : Mode) → HasFacts g → All (λ part. part.health.next ≤ g.ticks) g.parts
     → HasFacts (record (evented (AllReset mode) g) { clock = clock_started; time = 0 })
@@ -351,7 +341,7 @@ kept_reset_all sys mode is log =
     same_system sys (record (evented (AllReset mode) sys.machine) { clock = clock_started; time = 0 }) is refl (record {
       fits = is.fits;
       complete = record {
-        parts = each_counted (λ k x. reset (view_of sys.machine.system k) mode 0 x) sys.machine.parts ∙ is.complete.parts;
+        parts = each_length (λ k x. reset (view_of sys.machine.system k) mode 0 x) sys.machine.parts ∙ is.complete.parts;
         channels = length-map sys.machine.channels cleared ∙ is.complete.channels;
       };
       clocked = record { in_frame = plan_begins sys.machine.system.conf is.fits; asked = nothing_asked sys.machine.system.conf };

@@ -7,6 +7,7 @@ pub mod HealthLemmas
 pub mod HereLemmas
 pub mod InstructionLemmas
 pub mod KeptLemmas
+pub mod ListLemmas
 pub mod OutLemmas
 pub mod PassLemmas
 pub mod RamLemmas

@@ -2,7 +2,7 @@
 use Rattle.std.proofs.Common.{◌≡◌, ℕ, zero, suc, ◌+◌, ◌<◌, ◌≤◌, List, [], ◌∷◌, length, refl, sym, ap, ◌∙◌, arith}
 use Rattle.std.proofs.Math.Numerals.{suc-eq-add-one}
 use Rattle.std.specs.Prelude.{slice_index_or, slice_set}
-use Rattle.hypercalls.specs.State.{SysState, part_at, with_machine, with_part}
+use Rattle.whole_system.specs.State.{SysState, part_at, with_machine, with_part}
 use Rattle.machine_model.specs.Lists.{each}
 use Rattle.machine_model.specs.Machine.{booted_part}
 use Rattle.machine_model.specs.Partition.{PartitionState}

@@ -9,7 +9,7 @@ use Rattle.guest_memory.specs.RefusedLemmas.{none_refused}
 use Rattle.guest_memory.specs.declared.outside.Outside.{Outside}
 use Rattle.machine_model.specs.Machine.{Machine, booted_part}
 use Rattle.machine_model.specs.View.{no_part, part_of}
-use Rattle.hypercalls.specs.State.{areas_in, memory_of}
+use Rattle.whole_system.specs.State.{areas_in, memory_of}
 
 module _ (g : Machine) (memories : Memories) (p : ℕ) (below : p < length g.parts) (counted : length g.parts ≡ length g.system.conf.parts) where
   -- a partition has areas

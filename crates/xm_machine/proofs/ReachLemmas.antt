@@ -1,17 +1,18 @@
 -- The whole work of a partition in a tick.
-use Rattle.std.proofs.Common.{◌≡◌, ◌≢◌, ℕ, ◌+◌, ◌<◌, true, false, Bool, List, [], ◌∷◌, ◌++◌, length, map, refl, sym, ap, ◌∙◌, arith}
+use Rattle.std.proofs.Common.{◌≡◌, ◌≢◌, ℕ, ◌+◌, ◌<◌, true, false, List, [], ◌++◌, length, map, refl, sym, ap, ◌∙◌, subst, arith}
 use Rattle.std.proofs.lemmas.Bool.Decides.{nat_tests}
 use Rattle.std.specs.Prelude.{◌==◌, Result, Ok, Err}
 use Rattle.health_monitor.specs.declared.effects.Whole.{Whole}
 use Rattle.health_monitor.specs.declared.effects.Whole.TheVariants as whole
-use Rattle.hypercalls.specs.Serving.{without_traffic}
-use Rattle.hypercalls.specs.State.{SysState, with_machine}
-use Rattle.hypercalls.specs.declared.serving.Note.TheVariants as note
+use Rattle.whole_system.specs.Serving.{without_traffic}
+use Rattle.whole_system.specs.State.{SysState, with_machine}
+use Rattle.whole_system.specs.declared.served.Note.TheVariants as note
 use Rattle.machine_model.specs.Health.{Worked, by_interrupt, done_to_all, interrupt_delivered, quiet, self_ordered, undelivered}
 use Rattle.machine_model.specs.LocalTick.{by_act}
+use Rattle.machine_model.specs.Machine.{Machine}
 use Rattle.machine_model.specs.Partition.{PartitionState, areas_of, ordered, ordered_told}
 use Rattle.machine_model.specs.Told as told
-use Rattle.machine_model.specs.Told.{OwnStill, OwnTraffic, Told, line_of}
+use Rattle.machine_model.specs.Told.{OwnStill, OwnTraffic, line_of}
 use Rattle.machine_model.specs.Traffic.{Still, Traffic, told_as, traffic_of}
 use Rattle.machine_model.specs.View.{PartitionView, System, named, view_of}
 use Rattle.slot_runs.specs.Passes.{part_at, traded, traffic_in, with_part}
@@ -23,7 +24,7 @@ use Rattle.xm_machine.specs.Work.{IsDone, IsUponOne, IsWorked, act_of}
 use Rattle.xm_machine.specs.declared.beyond.Beyond.{Beyond}
 use Rattle.xm_machine.specs.declared.beyond.Beyond.TheVariants as beyond
 use Rattle.xm_machine.proofs.HealthLemmas.{is_work, silent}
-use Rattle.xm_machine.proofs.WorkLemmas.{done_then, part_set, put_back}
+use Rattle.xm_machine.proofs.WorkLemmas.{done_then, put_back, put_there}
 
 -- what reaches beyond a partition is no traffic
 pub still_act : (reach : Beyond) → traffic_of (act_of reach) ≡ OwnStill
@@ -49,6 +50,13 @@ plain_act (beyond.Whole whole.Maintenance) = refl
 pub no_traffic : (p : ℕ) (work : Worked) (reach : Beyond) (old : SysState) → work.act ≡ act_of reach → traffic_in old.machine p work.act ≡ Still
 no_traffic p work reach old is = ap (λ (traffic : OwnTraffic). told_as (named old.machine.system.conf p) traffic) (ap traffic_of is ∙ still_act reach)
 
+-- an order is upon a partition that there was
+pub one_before : (reach : Beyond) (g h : Machine) → length g.parts ≡ length h.parts → IsUponOne reach g → IsUponOne reach h
+one_before beyond.Nothing g h same one = one
+one_before (beyond.Order id order) g h same one = subst (λ (count : ℕ). id < count) same one
+one_before (beyond.Plan plan) g h same one = one
+one_before (beyond.Whole event) g h same one = one
+
 -- work that is done, with no traffic and no bytes for the console
 pub worked_done : (p : ℕ) (work : Worked) (reach : Beyond) (old new : SysState) (had got : List ReportLine) → had ≡ []
     → IsDone p work.after work.told old new had got → work.act ≡ act_of reach → IsUponOne reach old.machine → IsWorked p work note.Nothing reach old new got
@@ -70,7 +78,7 @@ pub worked_after : (f : PartitionView → ℕ → PartitionState → Worked) (p 
 worked_after f p ps reach old mid new had got below empty mid_is done act_is one =
     let work = f (view_of old.machine.system p) old.machine.time ps in
     let same : f (view_of mid.machine.system p) mid.machine.time (part_at p mid.machine) ≡ work =
-    ap (λ (x : PartitionState). f (view_of mid.machine.system p) mid.machine.time x) (part_set old mid p ps below mid_is)
+    ap (λ (x : PartitionState). f (view_of mid.machine.system p) mid.machine.time x) (put_there p ps old.machine mid old below mid_is)
     ∙ ap (λ (s : SysState). f (view_of s.machine.system p) s.machine.time ps) mid_is in
     worked_done p work reach old new had got empty
     (done_then (λ view time x. (f view time x).after) (λ view time x. (f view time x).told) p ps [] old mid new had had got below (silent p ps old mid had mid_is) done)

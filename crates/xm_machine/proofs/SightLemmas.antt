@@ -1,7 +1,7 @@
 -- What an observing call is shown: the question is of another partition or of the system, so that it can be answered after the call's instruction.
-use Rattle.std.proofs.Common.{◌≡◌, ◌≢◌, ◌⊎◌, inl, inr, ℕ, zero, suc, ◌<◌, Bool, true, false, List, [], ◌∷◌, length, Option, None, Some, refl, sym, ap, ◌∙◌, arith}
-use Rattle.std.specs.Prelude.{◌==◌, ◌||◌, ◌&&◌, not, nat_lt, if◌then◌else◌, slice_get, slice_set}
-use Rattle.std.proofs.lemmas.Bool.{eq-eqb, eqb-true}
+use Rattle.std.proofs.Common.{◌≡◌, ◌≢◌, ◌⊎◌, inl, inr, ℕ, Bool, true, false, Option, None, Some, refl, sym, ap, ◌∙◌}
+use Rattle.std.specs.Prelude.{◌==◌, ◌||◌, ◌&&◌, not, nat_lt, if◌then◌else◌, slice_get}
+use Rattle.std.proofs.lemmas.Bool.{eq-eqb}
 use Rattle.guest_bus.specs.Memory.{Memory, all_from, is_writable}
 use Rattle.sparc_step.specs.Registers.{Registers, register_at}
 use Rattle.sparc_step.specs.declared.outcome.Turn.{Turn}
@@ -19,14 +19,7 @@ use Rattle.machine_model.specs.Told.{Sight, Unseen}
 use Rattle.machine_model.specs.View.{PartitionView, view_of}
 use Rattle.slot_runs.specs.Meeting.{NoDelivery}
 use Rattle.slot_runs.specs.Passes.{with_part}
-
--- another element than the one that is written
-get_other : {X : Type 0} (xs : List X) (p q : ℕ) (new : X) → q ≢ p → slice_get (slice_set xs p new) q ≡ slice_get xs q
-get_other [] p q new other = refl
-get_other (x ∷ xs) zero zero new other = absurd (other refl)
-get_other (x ∷ xs) zero (suc q) new other = refl
-get_other (x ∷ xs) (suc p) zero new other = refl
-get_other (x ∷ xs) (suc p) (suc q) new other = get_other xs p q new (λ e. other (ap suc e))
+use Rattle.xm_machine.proofs.ListLemmas.{get_other}
 
 -- what is shown is the same on two machines, where the partition asks
 abbrev ShowsAlike : Machine → Machine → PartitionView → Option Observation → Type 0

@@ -1,11 +1,10 @@
 -- The tick after those in which the partition of a slot only went: how its partition stands in it, and its work.
-use Rattle.std.proofs.Common.{◌≡◌, ◌⊎◌, inl, inr, ℕ, zero, suc, ◌+◌, ◌<◌, ◌≤◌, Bool, true, false, List, [], ◌∷◌, length, Option, None, Some, refl, sym, ap, subst, ◌∙◌, arith}
+use Rattle.std.proofs.Common.{◌≡◌, ◌⊎◌, inl, inr, ℕ, zero, suc, ◌+◌, ◌<◌, Bool, true, false, List, [], ◌∷◌, Option, None, Some, refl, sym, ap, subst, ◌∙◌, arith}
 use Rattle.std.specs.Prelude.{◌-◌, if◌then◌else◌, IfSome, map, nat_le, slice_get, slice_set}
 use Rattle.std.proofs.lemmas.Bool.Decides.{nat_tests}
 use Rattle.virt_clocks.specs.Clocks.{PartitionClocks, is_due, lesser, looked_at, next_due, rearmed, ticks_until}
 use Rattle.virt_clocks.specs.declared.timer.Timer.{Timer}
 use Rattle.virt_traps.specs.Virtual.{VirtualTraps, due}
-use Rattle.xm_base.specs.declared.partition.State.TheVariants.{Ready}
 use Rattle.xm_ports.specs.Channels.{Content}
 use Rattle.machine_model.specs.Health.{Worked}
 use Rattle.machine_model.specs.Laws.{ActsWithinBounds}
@@ -16,8 +15,7 @@ use Rattle.machine_model.specs.Told.{Sight}
 use Rattle.machine_model.specs.View.{PartitionView, view_of}
 use Rattle.slot_runs.specs.Meeting.{NoDelivery, awake, first_after, gone_on}
 use Rattle.slot_runs.specs.NextLaws.{IsNextTick}
-use Rattle.slot_runs.specs.Passes.{with_part}
-use Rattle.slot_runs.specs.SpanLaws.{its_areas, met, others_rested}
+use Rattle.slot_runs.specs.SpanLaws.{its_areas, met}
 use Rattle.slot_runs.specs.Undisturbed.{IsUndisturbed, NoneFallsDue, gone_parts, next_instruction}
 
 -- a timer with so many ticks left is not due before

@@ -1,20 +1,17 @@
 -- The ticks of a slot or gap, out of what the passes over the system left.
-use Rattle.std.proofs.Common.{◌≡◌, ℕ, zero, suc, ◌+◌, ◌<◌, ◌≤◌, Bool, true, false, List, [], ◌∷◌, ◌++◌, length, map, Option, None, Some, refl, sym, ap, subst, ◌∙◌, arith}
-use Rattle.std.specs.Prelude.{◌-◌, ◌%◌, ◌^◌, if◌then◌else◌, slice_index_or, slice_set}
+use Rattle.std.proofs.Common.{◌≡◌, ℕ, zero, suc, ◌+◌, ◌<◌, ◌≤◌, Bool, false, List, [], ◌++◌, length, None, Some, refl, sym, ap, subst, ◌∙◌, arith}
+use Rattle.std.proofs.lemmas.List.{set-set}
+use Rattle.std.specs.Prelude.{◌-◌, ◌^◌, if◌then◌else◌}
 use Rattle.std.proofs.lemmas.Bool.{eq-eqb}
-use Rattle.std.proofs.lemmas.List.{length-set}
 use Rattle.cyclic_plans.specs.PlanClock.{CyclicClock, IsInFrame}
-use Rattle.hypercalls.specs.Serving.{CanBeTold}
-use Rattle.hypercalls.specs.State.{SysState, with_machine}
-use Rattle.hypercalls.specs.declared.serving.Note.{Note}
-use Rattle.hypercalls.specs.declared.serving.Note.TheVariants as note
-use Rattle.virt_traps.specs.Virtual.{due}
-use Rattle.xm_ports.specs.Channels.{shapes_of}
+use Rattle.whole_system.specs.State.{SysState, with_machine}
+use Rattle.whole_system.specs.declared.served.Note.{Note}
+use Rattle.whole_system.specs.declared.served.Note.TheVariants as note
 use Rattle.xm_report.specs.Report.{ReportLine}
 use Rattle.machine_model.specs.Facts.{AreEnds, IsAsMany, RunsKeepNumbers}
 use Rattle.machine_model.specs.Health.{Worked}
 use Rattle.machine_model.specs.Lines.{lines}
-use Rattle.machine_model.specs.Lists.{each, is_number}
+use Rattle.machine_model.specs.Lists.{is_number}
 use Rattle.machine_model.specs.LocalTick.{with_interrupts}
 use Rattle.machine_model.specs.Machine.{Machine, booted_part, run}
 use Rattle.machine_model.specs.Partition.{PartitionState, rested}
@@ -26,13 +23,14 @@ use Rattle.slot_runs.specs.NextLaws.{IsNextTick}
 use Rattle.slot_runs.specs.PassLaws.{AllRest, OthersRest}
 use Rattle.slot_runs.specs.Passes.{part_at, rest_but, traded, traffic_in, with_part}
 use Rattle.slot_runs.specs.SpanLaws.{IsNobodys, RestingTicks, all_rested, its_areas, met, others_rested}
-use Rattle.slot_runs.specs.Spans.{IsQuietSpan, IsSpan, IsStretch, after_span, inside, plan_line}
-use Rattle.slot_runs.specs.Undisturbed.{IsUndisturbed, NoneFallsDue, UndisturbedIdle, UndisturbedNext, UndisturbedTicks, gone_parts, next_instruction}
-use Rattle.xm_machine.specs.Span.{AreDoneFrom, CanTakeAfter, HasTurned, IsIdle, IsMet, behind}
+use Rattle.slot_runs.specs.Spans.{IsQuietSpan, IsSpan, IsStretch, after_span, plan_line}
+use Rattle.slot_runs.specs.Undisturbed.{IsUndisturbed, NoneFallsDue, UndisturbedIdle, UndisturbedNext, gone_parts, next_instruction}
+use Rattle.xm_machine.specs.Span.{AreDoneFrom, CanTakeAfter, IsIdle, behind}
 use Rattle.xm_machine.specs.Work.{IsWorked}
 use Rattle.xm_machine.specs.declared.beyond.Beyond.{Beyond}
 use Rattle.xm_machine.specs.declared.slot.Span.{Span}
-use Rattle.xm_machine.proofs.InstructionLemmas.{part_in, set_twice}
+use Rattle.xm_machine.proofs.ListLemmas.{each_at, each_length}
+use Rattle.xm_machine.proofs.WorkLemmas.{put_there}
 
 -- so many ticks of partition p in which no call told anything
 abbrev pub quiet_span : ℕ → ℕ → Span
@@ -95,10 +93,6 @@ slot_done others keeps g p ticks most x old mid new had all span some within bel
     (all_is ∙ ap (λ (y : List ReportLine). y ++ plan_line (ticks - 1) mid.machine) none ∙ ap (λ (y : SysState). plan_line (ticks - 1) y.machine) mid_is)
     (few_lines had all none few))
 
--- the partition of a system in which it was put
-pub put_there : (p : ℕ) (x : PartitionState) (g : Machine) (sys old : SysState) → p < length g.parts → sys ≡ with_machine (with_part p x g) old → part_at p sys.machine ≡ x
-put_there p x g sys old below is = ap (λ (y : SysState). part_at p y.machine) is ∙ part_in g.parts p x (booted_part g.system p) below
-
 -- ticks of an idle partition that nothing wakes
 pub idle_done : UndisturbedIdle → LeftAreSpan → OthersRest → RunsKeepNumbers → (g : Machine) (p ticks most : ℕ) (ps : PartitionState) (old new : SysState) (had all : List ReportLine) (span : Span)
     → IsIdle g p ps most old → 0 < ticks → ticks ≤ most → NoneFallsDue old.machine.time (ticks - 1) false (part_at p old.machine).clocks → had ≡ []
@@ -114,20 +108,10 @@ idle_done idles left others keeps g p ticks most ps old new had all span is some
         (subst (λ (t : ℕ). NoneFallsDue t (ticks - 1) false (part_at p old.machine).clocks) (ap (λ (x : SysState). x.machine.time) is.met) calm)
 
 -- partition p is not reached by the rest of the others
-each_at : (f : ℕ → PartitionState → PartitionState) (xs : List PartitionState) (p : ℕ) (other : PartitionState) → ((ps : PartitionState) → f p ps ≡ ps)
-    → slice_index_or (each f xs) p other ≡ slice_index_or xs p other
-each_at f [] p other same = refl
-each_at f (x ∷ xs) zero other same = same x
-each_at f (x ∷ xs) (suc p) other same = each_at (λ k. f (suc k)) xs p other same
-
-each_length : (f : ℕ → PartitionState → PartitionState) (xs : List PartitionState) → length (each f xs) ≡ length xs
-each_length f [] = refl
-each_length f (x ∷ xs) = ap suc (each_length (λ k. f (suc k)) xs)
-
 behind_part : (p k : ℕ) (g : Machine) → part_at p (behind p k g) ≡ part_at p g
 behind_part p zero g = refl
 behind_part p (suc k) g =
-    each_at (λ q ps. if is_number (Some p) q then ps else rested (g.time + k) ps) g.parts p (booted_part g.system p)
+    each_at (λ (ps : PartitionState). ps) (λ q ps. if is_number (Some p) q then ps else rested (g.time + k) ps) g.parts p (booted_part g.system p)
     (λ ps. ap (λ (own : Bool). if own then ps else rested (g.time + k) ps) (eq-eqb p p refl))
 
 behind_count : (p k : ℕ) (g : Machine) → length (behind p k g).parts ≡ length g.parts
@@ -217,5 +201,5 @@ turned_behind others nexts g p first ps new went old mid is gone old_is mid_is =
     same zero next = refl
     same (suc k) next =
         ap (λ (parts : List PartitionState). record g { parts = parts; time = g.time + suc k; ticks = g.ticks + suc k })
-        (sym (others g k p new) ∙ sym (set_twice (all_rested k g) p (gone_on (suc k) (its_areas g p) (met g first ps)) new))
+        (sym (others g k p new) ∙ sym (set-set (all_rested k g) p (gone_on (suc k) (its_areas g p) (met g first ps)) new))
         ∙ ap (with_part p new) (sym next.before.state)

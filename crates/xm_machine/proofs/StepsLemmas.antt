@@ -1,22 +1,21 @@
 -- Instructions of the partition of a slot, out of what its steps came to.
 use Rattle.std.proofs.Common.{◌≡◌, ℕ, suc, ◌+◌, ◌<◌, ◌≤◌, Bool, true, List, [], ◌++◌, length, Option, None, Some, refl, sym, ap, subst, ◌∙◌, arith}
 use Rattle.std.specs.Prelude.{◌-◌, ◌%◌, ◌^◌, IfSome}
-use Rattle.std.proofs.lemmas.List.{length-set}
+use Rattle.std.proofs.lemmas.List.{get_or-set_same, length-set, set-set}
 use Rattle.guest_bus.specs.Memory.{Area, Memory}
-use Rattle.hypercalls.specs.State.{SysState, areas_in, memory_of, with_machine}
-use Rattle.hypercalls.specs.Stepping.{IsGone, with_turned}
+use Rattle.whole_system.specs.State.{SysState, areas_in, with_machine}
+use Rattle.whole_system.specs.Stepping.{IsGone, with_turned}
 use Rattle.sparc_step.specs.Execution.{Turned}
 use Rattle.sparc_step.specs.Registers.{Registers}
 use Rattle.sparc_step.specs.declared.outcome.Turn.{Turn}
-use Rattle.sparc_step.specs.declared.outcome.Turn.TheVariants.{Went, Trap, Call}
+use Rattle.sparc_step.specs.declared.outcome.Turn.TheVariants.{Went, Call}
 use Rattle.virt_traps.specs.Settled.{GoesOn, settled}
-use Rattle.xm_conf.specs.Configuration.{Conf}
 use Rattle.xm_report.specs.Report.{ReportLine}
 use Rattle.machine_model.specs.Facts.{RunsKeepNumbers}
 use Rattle.machine_model.specs.LocalTick.{turned_state}
 use Rattle.machine_model.specs.Machine.{Machine, booted_part, run}
 use Rattle.machine_model.specs.Partition.{PartitionState, areas_of}
-use Rattle.machine_model.specs.View.{part_of, view_of}
+use Rattle.machine_model.specs.View.{view_of}
 use Rattle.slot_runs.specs.GoingOn.{LeftAreSpan}
 use Rattle.slot_runs.specs.Meeting.{HasGone, NoDelivery, gone_on}
 use Rattle.slot_runs.specs.PassLaws.{OthersRest}
@@ -27,8 +26,9 @@ use Rattle.slot_runs.specs.Stepping.{stepped}
 use Rattle.slot_runs.specs.Undisturbed.{IsUndisturbed, NoneFallsDue, UndisturbedTicks}
 use Rattle.xm_machine.specs.Span.{AreDoneFrom, HasTurned, IsMet, counted_on}
 use Rattle.xm_machine.specs.declared.slot.Span.{Span}
-use Rattle.xm_machine.proofs.InstructionLemmas.{call_goes_on, part_in, set_twice}
-use Rattle.xm_machine.proofs.SpanLemmas.{put_there, quiet_span, slot_done}
+use Rattle.xm_machine.proofs.InstructionLemmas.{call_goes_on}
+use Rattle.xm_machine.proofs.SpanLemmas.{quiet_span, slot_done}
+use Rattle.xm_machine.proofs.WorkLemmas.{put_there}
 
 -- the areas of a partition's memory
 areas_same : (p : ℕ) (g : Machine) → areas_in p g ≡ its_areas g p
@@ -77,8 +77,8 @@ module _ (g : Machine) (p : ℕ) (first : Bool) (ps : PartitionState) (most : �
   behind_steps went core memory mid new steps =
       steps.counted
       ∙ ap (λ (x : SysState). with_machine (with_part p (counted_on went (part_at p x.machine)) x.machine) x) mid_is
-      ∙ ap (λ (x : PartitionState). with_machine (with_part p (counted_on went x) (with_part p turned g)) old) (part_in g.parts p turned (booted_part g.system p) is.there)
-      ∙ ap (λ (parts : List PartitionState). with_machine (record g { parts = parts }) old) (set_twice g.parts p turned (counted_on went turned))
+      ∙ ap (λ (x : PartitionState). with_machine (with_part p (counted_on went x) (with_part p turned g)) old) (get_or-set_same g.parts p turned (booted_part g.system p) is.there)
+      ∙ ap (λ (parts : List PartitionState). with_machine (record g { parts = parts }) old) (set-set g.parts p turned (counted_on went turned))
     where
       turned : PartitionState
       turned = with_turned core memory (met g first ps)
@@ -90,7 +90,7 @@ module _ (g : Machine) (p : ℕ) (first : Bool) (ps : PartitionState) (most : �
           ∙ ap (λ (m : Memory). with_machine (with_part p (with_turned core m (part_at p old.machine)) old.machine) old) steps.its_memory
           ∙ ap (λ (x : PartitionState). with_machine (with_part p (with_turned core memory x) old.machine) old) part_is
           ∙ ap (λ (x : SysState). with_machine (with_part p turned x.machine) old) is.met
-          ∙ ap (λ (parts : List PartitionState). with_machine (record g { parts = parts }) old) (set_twice g.parts p (met g first ps) turned)
+          ∙ ap (λ (parts : List PartitionState). with_machine (record g { parts = parts }) old) (set-set g.parts p (met g first ps) turned)
 
   -- all steps went
   pub went_done : UndisturbedTicks → LeftAreSpan → OthersRest → RunsKeepNumbers → (within went : ℕ) (core : Registers) (memory : Memory) (mid counted new : SysState) (had all : List ReportLine) (span : Span)

@@ -1,9 +1,9 @@
 -- The slot of a partition that takes its turn: the interrupts of its first tick, and what then holds.
 use Rattle.std.proofs.Common.{◌≡◌, ℕ, ◌+◌, ◌<◌, ◌≤◌, Bool, true, false, List, length, Option, None, Some, refl, sym, ap, subst, ◌∙◌, arith}
-use Rattle.std.specs.Prelude.{◌^◌, ◌==◌, ◌||◌, if◌then◌else◌, is_some, nat_le, nat_lt}
+use Rattle.std.specs.Prelude.{◌^◌, ◌==◌, if◌then◌else◌, nat_le, nat_lt}
 use Rattle.std.proofs.lemmas.Bool.Decides.{nat_tests}
-use Rattle.std.proofs.lemmas.List.{length-set}
-use Rattle.hypercalls.specs.State.{SysState, with_machine}
+use Rattle.std.proofs.lemmas.List.{length-set, set-set}
+use Rattle.whole_system.specs.State.{SysState, with_machine}
 use Rattle.cyclic_plans.specs.PlanClock.{AsksPlan, IsInFrame}
 use Rattle.cyclic_plans.specs.Slots.{frame_of}
 use Rattle.xm_ports.specs.Channels.{shapes_of}
@@ -16,7 +16,7 @@ use Rattle.xm_base.specs.declared.partition.State.TheVariants.{Ready, Idle, Susp
 use Rattle.xm_report.specs.Report.{ReportLine}
 use Rattle.machine_model.specs.Facts.{AreEnds}
 use Rattle.machine_model.specs.LocalTick.{goes_on, with_interrupts}
-use Rattle.machine_model.specs.Machine.{Machine, booted_part, run}
+use Rattle.machine_model.specs.Machine.{Machine, run}
 use Rattle.machine_model.specs.Partition.{PartitionState, execution_looked_at, hardware_looked_at, takes_turns}
 use Rattle.machine_model.specs.View.{view_of}
 use Rattle.slot_runs.specs.Meeting.{awake}
@@ -25,9 +25,8 @@ use Rattle.slot_runs.specs.SpanLaws.{met}
 use Rattle.slot_runs.specs.Spans.{IsSlotOf, IsStretch}
 use Rattle.xm_machine.specs.Span.{AreDoneFrom, CanTake, IsIdle, IsMet, NoneDue}
 use Rattle.xm_machine.specs.declared.slot.Span.{Span}
-use Rattle.xm_machine.proofs.InstructionLemmas.{part_in, set_twice}
 use Rattle.xm_machine.proofs.SightLemmas.{met_state}
-use Rattle.xm_machine.proofs.SpanLemmas.{put_there}
+use Rattle.xm_machine.proofs.WorkLemmas.{put_there}
 
 -- a timer that was looked at is not due
 looked_not_due : NextDeadlineIsLeast → (t : ℕ) (x : Option Timer) → is_due t (looked_at t x) ≡ false
@@ -125,7 +124,7 @@ woken p first old mid sys below mid_is is =
     ∙ ap (λ (x : PartitionState). with_machine (with_part p (awake x) mid.machine) mid) (put_there p (with_interrupts old.machine.time first (part_at p old.machine)) old.machine mid old below mid_is)
     ∙ ap (λ (s : SysState). with_machine (with_part p (met old.machine first (part_at p old.machine)) s.machine) s) mid_is
     ∙ ap (λ (parts : List PartitionState). with_machine (record old.machine { parts = parts }) old)
-    (set_twice old.machine.parts p (with_interrupts old.machine.time first (part_at p old.machine)) (met old.machine first (part_at p old.machine)))
+    (set-set old.machine.parts p (with_interrupts old.machine.time first (part_at p old.machine)) (met old.machine first (part_at p old.machine)))
 
 -- a partition that takes its turn still does
 pub turns_met : (p : ℕ) (first : Bool) (old mid : SysState) → p < length old.machine.parts

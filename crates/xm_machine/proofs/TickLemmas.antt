@@ -1,11 +1,10 @@
 -- A tick of one partition: its work, and then the end of the tick, are the whole tick.
-use Rattle.std.proofs.Common.{◌≡◌, ℕ, zero, suc, List, [], ◌∷◌, ◌++◌, map, Some, refl, sym, ap, ◌∙◌}
-use Rattle.std.specs.Prelude.{slice_set}
+use Rattle.std.proofs.Common.{◌≡◌, ℕ, List, [], ◌∷◌, ◌++◌, map, Some, refl, sym, ap, ◌∙◌}
 use Rattle.std.proofs.lemmas.List.{append_assoc}
 use Rattle.xm_report.specs.Report.{ReportLine}
-use Rattle.hypercalls.specs.Serving.{without_traffic}
-use Rattle.hypercalls.specs.State.{SysState, with_machine}
-use Rattle.hypercalls.specs.declared.serving.Note.{Note}
+use Rattle.whole_system.specs.Serving.{without_traffic}
+use Rattle.whole_system.specs.State.{SysState, with_machine}
+use Rattle.whole_system.specs.declared.served.Note.{Note}
 use Rattle.machine_model.specs.Health.{Worked}
 use Rattle.machine_model.specs.Lines.{plan_lines}
 use Rattle.machine_model.specs.Lists.{all_of}
@@ -18,6 +17,7 @@ use Rattle.machine_model.specs.Whole.{event_lines, event_of, whole_lines}
 use Rattle.slot_runs.specs.Passes.{evented, obeyed_in, obeyed_lines, rest_but, tick_ended, traded, traffic_in, with_part, worked_lines, worked_through}
 use Rattle.xm_machine.specs.Work.{IsWorked, act_of, console_told, ended_by, ending_lines}
 use Rattle.xm_machine.specs.declared.beyond.Beyond.{Beyond}
+use Rattle.xm_machine.proofs.ListLemmas.{none_told, same_set}
 
 -- the end of a tick does not look at the traffic of its act
 ended_alike : (act : Act) (p : ℕ) (g : Machine) → ended_by act p g ≡ ended_by (without_traffic act) p g
@@ -51,16 +51,6 @@ through_is p work g =
     ap (λ (time : ℕ). tick_ended work.act (rest_but (Some p) time (evented (event_of work.act) (obeyed_in (reach_of work.act).directed (after_work p work g)))))
     (sym (traded_time (traffic_in g p work.act) (with_part p work.after g)))
 
--- lines that are the same for each element
-same_set : {X Y : Type 0} (f : ℕ → List Y) (xs : List X) (p : ℕ) (new : X) → all_of (λ q x. f q) xs ≡ all_of (λ q x. f q) (slice_set xs p new)
-same_set f [] p new = refl
-same_set f (x ∷ xs) zero new = refl
-same_set f (x ∷ xs) (suc p) new = ap (λ rest. f 0 ++ rest) (same_set (λ k. f (suc k)) xs p new)
-
-none_of : {X Y : Type 0} (xs : List X) → all_of {X = X} {Y = Y} (λ q x. []) xs ≡ []
-none_of [] = refl
-none_of {X} {Y} (x ∷ xs) = none_of {X = X} {Y = Y} xs
-
 -- the line of a plan that starts after a tick of this act
 abbrev plan_of : Act → Machine → List ReportLine
 plan_of act g = plan_lines g.ticks g.clock.plan (clock_after (event_of act) g.system.conf act g.clock g.time).plan
@@ -82,10 +72,10 @@ traded_ending : (own : OwnTraffic) (traffic : Traffic) (p : ℕ) (after : Partit
 traded_ending own Still p after g = set_ending (Trades own) p after g
 traded_ending own (Puts channel bytes) p after g =
     ap (λ (lines : List ReportLine). lines ++ plan_of (Trades own) g)
-    (none_of g.parts ∙ sym (none_of (traded (Puts channel bytes) (with_part p after g)).parts))
+    (none_told g.parts ∙ sym (none_told (traded (Puts channel bytes) (with_part p after g)).parts))
 traded_ending own (Takes channel) p after g =
     ap (λ (lines : List ReportLine). lines ++ plan_of (Trades own) g)
-    (none_of g.parts ∙ sym (none_of (traded (Takes channel) (with_part p after g)).parts))
+    (none_told g.parts ∙ sym (none_told (traded (Takes channel) (with_part p after g)).parts))
 
 ending_is : (act : Act) (p : ℕ) (after : PartitionState) (g : Machine) → own_ending act p after g ≡ ending_lines act (traded (traffic_in g p act) (with_part p after g))
 ending_is Nothing p after g = set_ending Nothing p after g

@@ -1,18 +1,18 @@
 -- The ticks of a slot that end with an instruction that trapped or called, or with an interrupt.
-use Rattle.std.proofs.Common.{◌≡◌, ℕ, ◌+◌, ◌<◌, ◌≤◌, Bool, true, List, ◌++◌, length, Some, refl, sym, ap, subst, ◌∙◌, arith}
+use Rattle.std.proofs.Common.{◌≡◌, ℕ, ◌+◌, ◌<◌, ◌≤◌, Bool, true, List, ◌++◌, length, Some, sym, ap, subst, ◌∙◌, arith}
+use Rattle.std.proofs.lemmas.List.{get_or-set_same}
 use Rattle.std.specs.Prelude.{◌%◌, ◌^◌}
-use Rattle.hypercalls.specs.Serving.{caller_at}
-use Rattle.hypercalls.specs.State.{SysState, with_machine}
-use Rattle.hypercalls.specs.declared.serving.Note.{Note}
-use Rattle.hypercalls.specs.declared.serving.Note.TheVariants as note
+use Rattle.whole_system.specs.Serving.{caller_at}
+use Rattle.whole_system.specs.State.{SysState, with_machine}
+use Rattle.whole_system.specs.declared.served.Note.{Note}
+use Rattle.whole_system.specs.declared.served.Note.TheVariants as note
 use Rattle.health_monitor.specs.Monitor.{event_of_type}
-use Rattle.sparc_step.specs.declared.outcome.Turn.{Turn}
 use Rattle.sparc_step.specs.declared.outcome.Turn.TheVariants.{Trap, Call}
 use Rattle.virt_traps.specs.Settled.{settled}
 use Rattle.virt_traps.specs.Virtual.{due}
 use Rattle.xm_report.specs.Report.{ReportLine}
 use Rattle.machine_model.specs.Facts.{RunsKeepNumbers}
-use Rattle.machine_model.specs.Health.{Worked, event_handled, interrupt_delivered}
+use Rattle.machine_model.specs.Health.{event_handled, interrupt_delivered}
 use Rattle.machine_model.specs.Laws.{ActsWithinBounds}
 use Rattle.machine_model.specs.LocalTick.{called, clocked, delivered_or_executed, turned_state}
 use Rattle.machine_model.specs.Machine.{Machine, booted_part, copies, run, sight}
@@ -30,7 +30,7 @@ use Rattle.xm_machine.specs.declared.beyond.Beyond.{Beyond}
 use Rattle.xm_machine.specs.declared.beyond.Beyond.TheVariants as beyond
 use Rattle.xm_machine.specs.declared.slot.Span.{Span}
 use Rattle.xm_machine.proofs.DoneLemmas.{met_done, next_done}
-use Rattle.xm_machine.proofs.InstructionLemmas.{call_work, part_in, trap_work, worked_on}
+use Rattle.xm_machine.proofs.InstructionLemmas.{call_work, trap_work, worked_on}
 use Rattle.xm_machine.proofs.SlotLemmas.{at_next, its_before}
 use Rattle.xm_machine.proofs.SpanLemmas.{quiet_span, turned_behind}
 
@@ -92,7 +92,7 @@ pub deliver_done : MetTick → TickInPasses → ActsWithinBounds → RunsKeepNum
     → new ≡ with_machine (ended_by (act_of beyond.Nothing) p after.machine) after → all ≡ got ++ ending_lines (act_of beyond.Nothing) after.machine → length all ≤ 24
     → span ≡ quiet_span 1 p → AreDoneFrom span most g old new all
 deliver_done meets passes bounds keeps g p first ps most n old after new got all span is some enabled waits worked ended told_lines few span_is =
-    let part : part_at p old.machine ≡ met g first ps = ap (λ (x : SysState). part_at p x.machine) is.met ∙ part_in g.parts p (met g first ps) (booted_part g.system p) is.there in
+    let part : part_at p old.machine ≡ met g first ps = ap (λ (x : SysState). part_at p x.machine) is.met ∙ get_or-set_same g.parts p (met g first ps) (booted_part g.system p) is.there in
     let on : (met g first ps).traps.enabled ≡ true = sym (ap (λ (x : PartitionState). x.traps.enabled) part) ∙ enabled in
     let first_due : due (met g first ps).traps ≡ Some n = sym (ap (λ (x : PartitionState). due x.traps) part) ∙ waits in
     let work : interrupt_delivered (view_of old.machine.system p) old.machine.time n (clocked (part_at p old.machine)) ≡ next_work g p (met g first ps) =

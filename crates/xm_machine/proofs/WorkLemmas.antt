@@ -2,8 +2,8 @@
 use Rattle.std.proofs.Common.{◌≡◌, ℕ, ◌<◌, List, ◌++◌, length, map, sym, ap, ◌∙◌}
 use Rattle.std.proofs.lemmas.List.{append_assoc, get_or-set_same, map-append, set-get_or, set-set}
 use Rattle.xm_report.specs.Report.{ReportLine}
-use Rattle.hypercalls.specs.State.{SysState, with_machine}
-use Rattle.machine_model.specs.Machine.{booted_part}
+use Rattle.whole_system.specs.State.{SysState, with_machine}
+use Rattle.machine_model.specs.Machine.{Machine, booted_part}
 use Rattle.machine_model.specs.Partition.{PartitionState}
 use Rattle.machine_model.specs.Told.{Told, line_of}
 use Rattle.machine_model.specs.View.{PartitionView, view_of}
@@ -15,10 +15,9 @@ pub put_back : (p : ℕ) (sys : SysState) → with_machine (with_part p (part_at
 put_back p sys =
     ap (λ (parts : List PartitionState). with_machine (record sys.machine { parts = parts }) sys) (set-get_or sys.machine.parts p (booted_part sys.machine.system p))
 
--- the state of a partition that was changed
-pub part_set : (old new : SysState) (p : ℕ) (ps : PartitionState) → p < length old.machine.parts → new ≡ with_machine (with_part p ps old.machine) old → part_at p new.machine ≡ ps
-part_set old new p ps below is =
-    ap (λ (s : SysState). part_at p s.machine) is ∙ get_or-set_same old.machine.parts p ps (booted_part old.machine.system p) below
+-- the partition of a system in which it was put
+pub put_there : (p : ℕ) (x : PartitionState) (g : Machine) (sys old : SysState) → p < length g.parts → sys ≡ with_machine (with_part p x g) old → part_at p sys.machine ≡ x
+put_there p x g sys old below is = ap (λ (y : SysState). part_at p y.machine) is ∙ get_or-set_same g.parts p x (booted_part g.system p) below
 
 -- a partition that is changed twice
 pub state_then : (f : PartitionView → ℕ → PartitionState → PartitionState) (p : ℕ) (ps : PartitionState) (old mid new : SysState) → p < length old.machine.parts
@@ -27,7 +26,7 @@ pub state_then : (f : PartitionView → ℕ → PartitionState → PartitionStat
     → new ≡ with_machine (with_part p (f (view_of old.machine.system p) old.machine.time ps) old.machine) old
 state_then f p ps old mid new below mid_is new_is =
     new_is
-    ∙ ap (λ (x : PartitionState). with_machine (with_part p (f (view_of mid.machine.system p) mid.machine.time x) mid.machine) mid) (part_set old mid p ps below mid_is)
+    ∙ ap (λ (x : PartitionState). with_machine (with_part p (f (view_of mid.machine.system p) mid.machine.time x) mid.machine) mid) (put_there p ps old.machine mid old below mid_is)
     ∙ ap (λ (s : SysState). with_machine (with_part p (f (view_of s.machine.system p) s.machine.time ps) s.machine) s) mid_is
     ∙ ap (λ (parts : List PartitionState). with_machine (record old.machine { parts = parts }) old) (set-set old.machine.parts p ps (f (view_of old.machine.system p) old.machine.time ps))
 
@@ -52,7 +51,7 @@ pub done_then : (f : PartitionView → ℕ → PartitionState → PartitionState
     → IsDone p (f (view_of old.machine.system p) old.machine.time ps) (first ++ tale (view_of old.machine.system p) old.machine.time ps) old new had got
 done_then f tale p ps first old mid new had between got below one two =
     let told : tale (view_of mid.machine.system p) mid.machine.time (part_at p mid.machine) ≡ tale (view_of old.machine.system p) old.machine.time ps =
-    ap (λ (x : PartitionState). tale (view_of mid.machine.system p) mid.machine.time x) (part_set old mid p ps below one.state)
+    ap (λ (x : PartitionState). tale (view_of mid.machine.system p) mid.machine.time x) (put_there p ps old.machine mid old below one.state)
     ∙ ap (λ (s : SysState). tale (view_of s.machine.system p) s.machine.time ps) one.state in
     record {
       state = state_then f p ps old mid new below one.state two.state;

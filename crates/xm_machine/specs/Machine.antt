@@ -4,7 +4,7 @@ use Rattle.xm_base.specs.declared.limits.TheConstants.{TICKS}
 use Rattle.xm_conf.specs.Description.{described}
 use Rattle.xm_conf.specs.Fits.{Fits}
 use Rattle.xm_ports.specs.Channels.{shapes_of}
-use Rattle.hypercalls.specs.State.{SysState}
+use Rattle.whole_system.specs.State.{SysState}
 use Rattle.machine_model.specs.Facts.{HasFacts, IsClocked, IsComplete, IsTimed}
 use Rattle.machine_model.specs.Machine.{Machine}
 

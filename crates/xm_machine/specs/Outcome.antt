@@ -2,7 +2,7 @@
 use Rattle.std.specs.Prelude.{◌≡◌, ℕ, ◌+◌, ◌<◌, ◌≤◌, ◌↔◌, IsTrue, List, ◌∷◌, ◌++◌, length, Option, Result, Ok, Err}
 use Rattle.xm_outside.specs.Causes.{Rose}
 use Rattle.xm_outside.specs.Growth.{grown, GrewByPrefix, Writes}
-use Rattle.xm_report.specs.Report.{EndWhole, ReportLine, SystemLine, text_of, texts}
+use Rattle.xm_report.specs.Report.{EndWhole, ReportLine, SystemLine, texts}
 use Rattle.xm_report.specs.declared.output.WriteFault.{WriteFault}
 use Rattle.machine_model.specs.Lines.{end_lines, lines, step_lines}
 use Rattle.machine_model.specs.Machine.{Machine, run, step}

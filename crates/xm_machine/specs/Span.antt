@@ -9,8 +9,8 @@ use Rattle.virt_traps.specs.Virtual.{due}
 use Rattle.xm_base.specs.declared.partition.State.TheVariants.{Idle}
 use Rattle.xm_ports.specs.Channels.{shapes_of}
 use Rattle.xm_report.specs.Report.{ReportLine}
-use Rattle.hypercalls.specs.Serving.{CanBeTold}
-use Rattle.hypercalls.specs.State.{SysState, areas_in, memory_of, with_machine}
+use Rattle.whole_system.specs.Serving.{CanBeTold}
+use Rattle.whole_system.specs.State.{SysState, areas_in, memory_of, with_machine}
 use Rattle.machine_model.specs.Facts.{AreEnds}
 use Rattle.machine_model.specs.Lines.{lines}
 use Rattle.machine_model.specs.LocalTick.{turned_state, with_interrupts}

@@ -1,5 +1,5 @@
 -- Ticks of a run that were done, and what the sink got of their lines.
-use Rattle.std.specs.Prelude.{◌≡◌, ℕ, ◌+◌, ◌<◌, ◌≤◌, ◌⊎◌, true, List, length, Option, Result, Ok, Err}
+use Rattle.std.specs.Prelude.{◌≡◌, ℕ, ◌<◌, ◌≤◌, List, length, Option, Result, Ok, Err}
 use Rattle.xm_outside.specs.Growth.{grown, GrewByPrefix}
 use Rattle.xm_report.specs.Report.{ReportLine, texts}
 use Rattle.xm_report.specs.declared.output.WriteFault.{WriteFault}

@@ -11,10 +11,10 @@ use Rattle.machine_model.specs.Partition.{PartitionState}
 use Rattle.machine_model.specs.Told as told
 use Rattle.machine_model.specs.Told.{Act, Told, line_of, reach_of}
 use Rattle.machine_model.specs.Whole.{AllReset, event_lines, event_of, whole_lines}
-use Rattle.hypercalls.specs.Serving.{CanBeTold, without_traffic}
-use Rattle.hypercalls.specs.State.{SysState, areas_in, with_machine}
-use Rattle.hypercalls.specs.declared.serving.Note.{Note}
-use Rattle.hypercalls.specs.declared.serving.Note.TheVariants as note
+use Rattle.whole_system.specs.Serving.{CanBeTold, without_traffic}
+use Rattle.whole_system.specs.State.{SysState, areas_in, with_machine}
+use Rattle.whole_system.specs.declared.served.Note.{Note}
+use Rattle.whole_system.specs.declared.served.Note.TheVariants as note
 use Rattle.slot_runs.specs.Passes.{evented, obeyed_in, obeyed_lines, rest_but, tick_ended, traded, traffic_in, with_part}
 use Rattle.xm_machine.specs.declared.beyond.Beyond.{Beyond}
 use Rattle.xm_machine.specs.declared.beyond.Beyond.TheVariants as beyond

@@ -2,7 +2,7 @@
 
 ghost use Rattle.std.specs.Prelude.{◌≡◌, ◌+◌, ◌-◌, ◌^◌, ◌<◌, ◌≤◌, ◌++◌, length};
 ghost use Rattle.cyclic_plans.specs.PlanClock.{IsInFrame};
-ghost use Rattle.hypercalls.specs.State.{with_machine};
+ghost use Rattle.whole_system.specs.State.{with_machine};
 ghost use Rattle.machine_model.specs.Health.{done_to_all};
 ghost use Rattle.machine_model.specs.Lines.{plan_lines};
 ghost use Rattle.machine_model.specs.Lists.{each};

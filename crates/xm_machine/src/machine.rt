@@ -2,7 +2,7 @@
 
 ghost use Rattle.std.specs.Prelude.{◌≡◌, ◌+◌, ◌*◌, ◌<◌, ◌≤◌, false, All, IfOk, length};
 ghost use Rattle.cyclic_plans.specs.PlanClock.{started};
-ghost use Rattle.hypercalls.specs.State.{with_inputs};
+ghost use Rattle.whole_system.specs.State.{with_inputs};
 ghost use Rattle.machine_model.specs.Lines.{end_lines};
 ghost use Rattle.machine_model.specs.Machine.{start};
 ghost use Rattle.machine_model.specs.Partition.{reset};

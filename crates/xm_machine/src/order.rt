@@ -1,7 +1,7 @@
 //! Orders upon partitions, and their resets.
 
 ghost use Rattle.std.specs.Prelude.{◌≡◌, ◌+◌, ◌<◌, ◌≤◌, ◌++◌, length, map};
-ghost use Rattle.hypercalls.specs.State.{with_machine};
+ghost use Rattle.whole_system.specs.State.{with_machine};
 ghost use Rattle.machine_model.specs.Partition.{applies, carried_out, memory_after, order_told, ordered, ordered_told, reset, reset_move, resets_after};
 ghost use Rattle.machine_model.specs.Told.{line_of};
 ghost use Rattle.machine_model.specs.View.{view_of};

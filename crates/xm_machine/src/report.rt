@@ -2,8 +2,8 @@
 
 ghost use Rattle.std.specs.Prelude.{◌≡◌, ◌+◌, ◌-◌, ◌<◌, ◌≤◌, ◌∷◌, ◌++◌, [], All, IfOk, length, map, true};
 ghost use Rattle.guest_bus.specs.Memory.{all_from, bytes_at, is_readable};
-ghost use Rattle.hypercalls.specs.Serving.{CanBeTold};
-ghost use Rattle.hypercalls.specs.State.{areas_in, memory_of};
+ghost use Rattle.whole_system.specs.Serving.{CanBeTold};
+ghost use Rattle.whole_system.specs.State.{areas_in, memory_of};
 ghost use Rattle.machine_model.specs.Lines.{end_line};
 ghost use Rattle.machine_model.specs.Lists.{all_of};
 ghost use Rattle.machine_model.specs.Told as told;

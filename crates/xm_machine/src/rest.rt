@@ -1,7 +1,7 @@
 //! The rest of partitions that do no work in a tick.
 
 ghost use Rattle.std.specs.Prelude.{◌≡◌, ◌<◌, length};
-ghost use Rattle.hypercalls.specs.State.{with_machine};
+ghost use Rattle.whole_system.specs.State.{with_machine};
 ghost use Rattle.machine_model.specs.Lists.{is_number};
 ghost use Rattle.machine_model.specs.Partition.{rested};
 ghost use Rattle.slot_runs.specs.Passes.{part_at, rest_but, with_part};

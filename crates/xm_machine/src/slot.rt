@@ -3,7 +3,7 @@
 ghost use Rattle.std.specs.Prelude.{◌≡◌, ℕ, ◌+◌, ◌-◌, ◌%◌, ◌^◌, ◌<◌, ◌≤◌, ◌++◌, Bool, true, false, if◌then◌else◌, [], IfSome, None, Some, length};
 ghost use Rattle.cyclic_plans.specs.PlanClock.{IsInFrame, here, moment, slot_at};
 ghost use Rattle.cyclic_plans.specs.Slots.{IsHere, frame_of, slots_of};
-ghost use Rattle.hypercalls.specs.State.{with_machine};
+ghost use Rattle.whole_system.specs.State.{with_machine};
 ghost use Rattle.machine_model.specs.LocalTick.{goes_on, with_interrupts};
 ghost use Rattle.machine_model.specs.Machine.{Machine};
 ghost use Rattle.machine_model.specs.Partition.{PartitionState, takes_turns};

@@ -3,9 +3,9 @@
 ghost use Rattle.std.specs.Prelude.{◌≡◌, ◌+◌, ◌%◌, ◌^◌, ◌<◌, ◌≤◌, ◌++◌, [], Some, length, map};
 ghost use Rattle.cyclic_plans.specs.PlanClock.{AsksPlan, IsInFrame};
 ghost use Rattle.health_monitor.specs.Monitor.{event_of_type};
-ghost use Rattle.hypercalls.specs.Serving as serving;
-ghost use Rattle.hypercalls.specs.State.{with_machine};
-ghost use Rattle.hypercalls.specs.Serving.{IsServed, caller_at, upshot_of};
+ghost use Rattle.whole_system.specs.Serving as serving;
+ghost use Rattle.whole_system.specs.State.{with_machine};
+ghost use Rattle.whole_system.specs.Serving.{IsServed, caller_at, upshot_of};
 ghost use Rattle.machine_model.specs.Facts.{AreEnds};
 ghost use Rattle.machine_model.specs.Health.{event_handled, interrupt_delivered};
 ghost use Rattle.machine_model.specs.Hypercalls.{served};

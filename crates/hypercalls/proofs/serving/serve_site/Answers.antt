@@ -2,7 +2,7 @@ use Rattle.std.proofs.Common.{◌≡◌, ℕ, sym, ap, ◌∙◌, arith, subst}
 use Rattle.machine_model.specs.Caller.{Served}
 use Rattle.machine_model.specs.Hypercalls.{call_numbered, served}
 use Rattle.sparc_step.specs.Registers.{register_at}
-use Rattle.hypercalls.specs.Serving.{IsServed, caller_of}
+use Rattle.whole_system.specs.Serving.{IsServed, caller_of}
 use Rattle.hypercalls.proofs.ServingLemmas.{IsUnknown, unknown_answers, unknown_unseen, unseen}
 use Rattle.hypercalls.proofs.serving.serve_site.Goals as goal
 use Rattle.hypercalls.proofs.serving.serve_site.Goals.{in_default-via-then-number-lt1, in_default-via-else-number-lt1+else-number-lt12+else-number-lt16+else-number-lt24+else-number-lt30+else-number-lt38}

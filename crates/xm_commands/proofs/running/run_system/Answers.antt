@@ -1,6 +1,6 @@
 use Rattle.std.proofs.Common.{◌∙◌, ap}
 use Rattle.machine_model.specs.Machine.{Machine}
-use Rattle.hypercalls.specs.State.{with_inputs}
+use Rattle.whole_system.specs.State.{with_inputs}
 use Rattle.xm_commands.proofs.WorkLemmas.{started-ticks, started-halted, finished, unwritten}
 use Rattle.xm_commands.proofs.running.run_system.Goals as goal
 

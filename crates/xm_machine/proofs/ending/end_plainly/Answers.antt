@@ -1,5 +1,5 @@
 use Rattle.std.proofs.Common.{List, ◌++◌, sym, ap, ◌∙◌}
-use Rattle.hypercalls.specs.State.{SysState}
+use Rattle.whole_system.specs.State.{SysState}
 use Rattle.xm_report.specs.Report.{ReportLine}
 use Rattle.slot_runs.specs.Spans.{plan_line}
 use Rattle.xm_machine.proofs.EndLemmas.{span_ending}

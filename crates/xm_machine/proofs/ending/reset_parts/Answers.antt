@@ -1,5 +1,5 @@
 use Rattle.std.proofs.Common.{◌<◌, ◌≤◌, length, ap, arith}
-use Rattle.hypercalls.specs.State.{SysState}
+use Rattle.whole_system.specs.State.{SysState}
 use Rattle.machine_model.specs.Partition.{reset}
 use Rattle.machine_model.specs.View.{view_of}
 use Rattle.slot_runs.specs.Passes.{part_at}

@@ -1,7 +1,7 @@
 use Rattle.std.proofs.Common.{[], ◌∷◌, ◌+◌, ◌<◌, List, drop, length, ◌∙◌, arith, subst}
 use Rattle.std.proofs.lemmas.Result.{err_from_is_err_and}
 use Rattle.xm_report.specs.Report.{ReportLine}
-use Rattle.hypercalls.specs.State.{part_at}
+use Rattle.whole_system.specs.State.{part_at}
 use Rattle.machine_model.specs.Lines.{end_line}
 use Rattle.machine_model.specs.Lists.{all_of}
 use Rattle.machine_model.specs.Machine.{booted_part}

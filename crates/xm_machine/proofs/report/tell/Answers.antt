@@ -1,6 +1,6 @@
 use Rattle.std.proofs.Common.{map}
 use Rattle.std.proofs.lemmas.Result.{err_from_is_err_and}
-use Rattle.hypercalls.specs.State.{memory_of}
+use Rattle.whole_system.specs.State.{memory_of}
 use Rattle.machine_model.specs.Told as told
 use Rattle.xm_machine.specs.Work.{console_told}
 use Rattle.xm_machine.proofs.OutLemmas.{rest_cut}

@@ -1,4 +1,4 @@
-use Rattle.std.proofs.Common.{◌≡◌, ◌≤◌, ◌<◌, arith}
+use Rattle.std.proofs.Common.{arith}
 use Rattle.xm_machine.proofs.HereLemmas.{can_take, gap_is, owned_here, slot_of, some_part}
 use Rattle.xm_machine.proofs.slot.run_span.Goals as goal
 

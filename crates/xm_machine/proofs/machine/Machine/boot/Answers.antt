@@ -1,4 +1,4 @@
-use Rattle.hypercalls.specs.State.{with_inputs}
+use Rattle.whole_system.specs.State.{with_inputs}
 use Rattle.xm_machine.proofs.KeptLemmas.{kept_boot}
 use Rattle.xm_machine.proofs.machine.Machine.boot.Goals as goal
 

@@ -1,7 +1,0 @@
-use Rattle.hypercalls.proofs.StepLemmas.{selected_became}
-use Rattle.hypercalls.proofs.stepping.deliver_part.Goals as goal
-
-pub returns-clause-memory : goal.returns-clause-memory
-returns-clause-memory c =
-    let memory = rw c.select.ensures.value at c.deliver-answer.ensures.memory in
-    selected_became c.args.p c.args.ram.now c.select.new.self c.deliver-answer.new.bus _ c.select.ensures.value c.selected-before.ensures.memories c.selected-behind.ensures.memories c.deliver-answer.ensures.others c.deliver-answer.ensures.areas memory

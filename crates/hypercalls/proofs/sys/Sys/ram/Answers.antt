@@ -1,5 +1,0 @@
-use Rattle.hypercalls.proofs.InsideLemmas.{is_maps}
-use Rattle.hypercalls.proofs.sys.Sys.ram.Goals as goal
-
-pub returns-clause-maps : goal.returns-clause-maps
-returns-clause-maps c = is_maps c.self.inside c.args.self.now c.self.invariant c.self.view_is

@@ -1,9 +1,0 @@
-use Rattle.std.proofs.Common.{◌≡◌, drop}
-use Rattle.hypercalls.specs.State.{part_at}
-use Rattle.hypercalls.specs.Traffic.{hears_from, is_on}
-use Rattle.hypercalls.proofs.traffic.one_hears.Given as goal
-
-abbrev pub invariant-loop-r : goal.invariant-loop-r
-invariant-loop-r l =
-    let on = is_on l.sys.machine.system.conf l.q l.chan (part_at l.q l.sys.machine).made in
-    hears_from on l.r (drop l.r l.ports) ≡ hears_from on 0 l.ports

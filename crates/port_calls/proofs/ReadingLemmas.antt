@@ -1,0 +1,104 @@
+-- Messages that are read: what they leave of the caller.
+use Rattle.std.proofs.Common.{◌≡◌, ℕ, ◌<◌, ◌-◌, true, false, List, [], ◌∷◌, length, set, None, Some, refl, sym, ap, ◌∙◌}
+use Rattle.std.specs.Prelude.{Bool, nat_lt, not}
+use Rattle.std.proofs.lemmas.List.{get_or-set_same, set-set}
+use Rattle.guest_bus.specs.Memory.{all_from, is_writable}
+use Rattle.machine_model.specs.Caller.{Caller, Served, acting, answering, b_of, c_of, d_of, invalid_parameter, is_room, not_allowed, refused_if, tested, with_answer, with_written}
+use Rattle.machine_model.specs.Partition.{PartitionState, areas_of}
+use Rattle.machine_model.specs.PortCalls.{MadePort, destination_only, is_source, made_port, message_read, on_port, sample_read}
+use Rattle.machine_model.specs.Structures.{flag, is_valid, refresh_of, word}
+use Rattle.machine_model.specs.Told.{OwnTakes, Trades, Unseen}
+use Rattle.machine_model.specs.Traffic.{Takes, takes_at}
+use Rattle.machine_model.specs.View.{named, view_of}
+use Rattle.slot_runs.specs.Passes.{with_traffic}
+use Rattle.xm_conf.specs.declared.port.Kind.{Kind}
+use Rattle.port_calls.specs.MadePorts.{port_in}
+use Rattle.port_calls.specs.Messages.{first_refusal, message_tests, sample_tests}
+use Rattle.whole_system.specs.Serving.{IsServed, caller_of}
+use Rattle.whole_system.specs.State.{SysState, part_at, with_machine, with_part}
+use Rattle.whole_system.specs.declared.call_site.CallSite.{CallSite}
+use Rattle.port_calls.specs.declared.made_ports.MadePort as found
+use Rattle.whole_system.specs.declared.served.Act.TheVariants as act
+use Rattle.whole_system.specs.declared.served.Note.TheVariants as note
+use Rattle.whole_system.specs.declared.served.Served as code
+use Rattle.port_calls.proofs.MessageLemmas.{on_made, tested_passed}
+use Rattle.whole_system.specs.ServedLemmas.{served_as, served_changed}
+
+-- a partition's state that is set, and then changed
+pub set_changed : (old mid new : SysState) (p : ℕ) (ps : PartitionState) (f : PartitionState → PartitionState) → p < length old.machine.parts → mid ≡ with_machine (with_part p ps old.machine) old
+    → new ≡ with_machine (with_part p (f (part_at p mid.machine)) mid.machine) mid → new ≡ with_machine (with_part p (f ps) old.machine) old
+set_changed old mid new p ps f below mid_is new_is =
+    new_is
+    ∙ ap (λ (s : SysState). with_machine (with_part p (f (part_at p s.machine)) s.machine) s) mid_is
+    ∙ ap (λ (x : PartitionState). with_machine (record old.machine { parts = set (set old.machine.parts p ps) p (f x) }) old) (get_or-set_same old.machine.parts p ps _ below)
+    ∙ ap (λ (parts : List PartitionState). with_machine (record old.machine { parts = parts }) old) (set-set old.machine.parts p ps (f ps))
+
+-- a call that reads, on a port that writes
+pub read_source : (the_kind : Kind) (caller : Caller) (port : MadePort) (read : MadePort → Served) → Some port ≡ made_port the_kind caller → is_source port.way ≡ true
+    → on_port (made_port the_kind caller) caller (λ port. tested (destination_only port ∷ []) caller (read port)) ≡ answering not_allowed caller.state
+read_source the_kind caller port read is source = on_made the_kind caller port (λ port. tested (destination_only port ∷ []) caller (read port)) is ∙ ap (λ b. tested (refused_if b not_allowed ∷ []) caller (read port)) source
+
+-- and on one that reads
+pub read_passed : (the_kind : Kind) (caller : Caller) (port : MadePort) (read : MadePort → Served) (served : Served) → Some port ≡ made_port the_kind caller → is_source port.way ≡ false → served ≡ read port
+    → on_port (made_port the_kind caller) caller (λ port. tested (destination_only port ∷ []) caller (read port)) ≡ served
+read_passed the_kind caller port read served is source same =
+    on_made the_kind caller port (λ port. tested (destination_only port ∷ []) caller (read port)) is ∙ ap (λ b. tested (refused_if b not_allowed ∷ []) caller (read port)) source ∙ sym same
+
+-- the areas of the caller stay when its state is set
+pub room_after : (site : CallSite) (old mid : SysState) (ps : PartitionState) (address size : ℕ) → mid ≡ with_machine (with_part site.part ps old.machine) old → is_room (caller_of site old) address size ≡ true → is_room (caller_of site mid) address size ≡ true
+unfolding caller_of
+room_after site old mid ps address size mid_is room = ap (λ (s : SysState). all_from (is_writable (areas_of (view_of s.machine.system site.part))) address size) mid_is ∙ room
+
+-- where a sample may be read, its validity may be written
+pub validity_room : (caller : Caller) (size : ℕ) → None ≡ first_refusal (sample_tests caller size) → is_room caller (d_of caller) 4 ≡ true
+validity_room caller size passed = at (nat_lt (c_of caller) size) (is_room caller (b_of caller) size) (is_room caller (d_of caller) 4) passed
+  where
+    at : (long there here : Bool) → None ≡ first_refusal (refused_if long invalid_parameter ∷ refused_if (not there) invalid_parameter ∷ refused_if (not here) invalid_parameter ∷ []) → here ≡ true
+    at true there here is = absurd cc
+    at false false here is = absurd cc
+    at false true false is = absurd cc
+    at false true true is = refl
+
+-- a sample that is read
+pub sample_done : (site : CallSite) (old mid new : SysState) (port : found.MadePort) (time value at to : ℕ) (message bytes : List ℕ) (result : code.Served) → site.part < length old.machine.parts
+    → None ≡ first_refusal (sample_tests (caller_of site old) (length message)) → to ≡ b_of (caller_of site old) → at ≡ d_of (caller_of site old) → value ≡ length message → bytes ≡ word (flag (is_valid (refresh_of port.kind) (old.machine.time - time)))
+    → mid ≡ with_machine (with_part site.part (with_written to message (caller_of site old).state) old.machine) old → IsServed site.part Unseen (answering value (with_written at bytes (caller_of site mid).state)) result mid new
+    → IsServed site.part Unseen (sample_read (caller_of site old) (port_in site.part old port) (record { time = time; bytes = message })) result old new
+unfolding caller_of
+sample_done site old mid new port time value at to message bytes result below passed to_is at_is value_is bytes_is mid_is served =
+    let caller = caller_of site old in
+    let reads = tested_passed (sample_tests caller (length message)) caller
+    (answering (length message) (with_written (d_of caller) (word (flag (is_valid (refresh_of port.kind) (old.machine.time - time)))) (with_written (b_of caller) message caller.state))) passed in
+    let here = served_changed site old mid new (with_written to message caller.state) result (λ (ps : PartitionState). answering value (with_written at bytes ps)) below mid_is served in
+    served_as refl
+    (reads
+    ∙ ap (λ n. answering n (with_written (d_of caller) (word (flag (is_valid (refresh_of port.kind) (old.machine.time - time)))) (with_written (b_of caller) message caller.state))) (sym value_is)
+    ∙ ap (λ (b : List ℕ). answering value (with_written (d_of caller) b (with_written (b_of caller) message caller.state))) (sym bytes_is)
+    ∙ ap (λ d. answering value (with_written d bytes (with_written (b_of caller) message caller.state))) (sym at_is)
+    ∙ ap (λ b. answering value (with_written at bytes (with_written b message caller.state))) (sym to_is)) here
+
+-- a message that is taken
+pub message_done : (site : CallSite) (old mid set new : SysState) (port : found.MadePort) (value to : ℕ) (message : List ℕ) → site.part < length old.machine.parts → named old.machine.system.conf site.part (port_in site.part old port).name ≡ Some port.chan
+    → None ≡ first_refusal (message_tests (caller_of site old) (length message)) → to ≡ b_of (caller_of site old) → value ≡ length message
+    → mid ≡ with_machine (with_part site.part (with_written to message (caller_of site old).state) old.machine) old → set ≡ with_machine (with_part site.part (with_answer value (caller_of site mid).state) mid.machine) mid
+    → new ≡ with_machine (with_traffic (Takes port.chan) set.machine) set
+    → IsServed site.part Unseen (message_read (caller_of site old) (port_in site.part old port) message) (record { note = note.Take port.chan; act = act.Nothing }) old new
+unfolding caller_of
+message_done site old mid set new port value to message below called passed to_is value_is mid_is set_is new_is =
+    let caller = caller_of site old in
+    let name = (port_in site.part old port).name in
+    let reads = tested_passed (message_tests caller (length message)) caller (acting (Trades (OwnTakes name)) (length message) (with_written (b_of caller) message caller.state)) passed in
+    let state = set_changed old mid set site.part (with_written to message caller.state) (with_answer value) below mid_is set_is in
+    served_as refl
+    (reads
+    ∙ ap (λ n. acting (Trades (OwnTakes name)) n (with_written (b_of caller) message caller.state)) (sym value_is)
+    ∙ ap (λ b. acting (Trades (OwnTakes name)) value (with_written b message caller.state)) (sym to_is))
+    (record {
+      state = new_is ∙ ap (λ (s : SysState). with_machine (with_traffic (Takes port.chan) s.machine) s) state;
+      told = refl;
+      upshot = refl;
+      traffic = ap takes_at called;
+      seen = refl;
+      readable = tt;
+      one = tt;
+    })

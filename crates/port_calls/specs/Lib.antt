@@ -1,0 +1,4 @@
+pub mod MadePorts
+pub mod Messages
+pub mod PortNames
+pub mod Traffic

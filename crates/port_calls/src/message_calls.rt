@@ -1,0 +1,302 @@
+//! The calls on messages: numbers 17, 18, 21 and 22.
+
+ghost use Rattle.std.specs.Prelude.{◌≡◌, ◌≤◌, ◌-◌, ◌++◌, IfSome, None, Some, drop, length, option_map, slice_get, take};
+ghost use Rattle.xm_ports.specs.Channels.{HasQueue, HasSampling, IsMessage, IsTable, content_at, first_message, sample_of, shapes_of};
+ghost use Rattle.slot_runs.specs.Passes.{with_traffic};
+ghost use Rattle.machine_model.specs.Caller.{c_of, with_answer};
+ghost use Rattle.machine_model.specs.PortCalls.{is_full, is_source, message_read, putting, read_sampling_message, receive_queuing_message, sample_read, send_queuing_message, write_sampling_message};
+ghost use Rattle.machine_model.specs.Structures.{flag, is_valid, refresh_of};
+ghost use Rattle.machine_model.specs.Told.{Unseen};
+ghost use Rattle.machine_model.specs.Traffic.{Puts};
+ghost use Rattle.machine_model.specs.View.{named};
+ghost use Rattle.port_calls.specs.MadePorts.{port_in, table_in};
+ghost use Rattle.port_calls.specs.Messages.{HasRoomFor, first_refusal, message_tests, put_tests, sample_tests};
+ghost use Rattle.whole_system.specs.Serving.{IsCaller, IsServed, caller_of};
+ghost use Rattle.whole_system.specs.State.{with_machine, with_part};
+
+use crate::made_ports::{MadePort, made_port, most_of, refresh_of};
+use crate::traffic::{MESSAGE_BYTES, drop_first, put_sampling, send};
+use whole_system::answering::{
+    B, C, D, INVALID_PARAMETER, NO_ACTION, NOT_ALLOWED, NOT_AVAILABLE, OUT_0, answer,
+    answer_written, argument, read, room, text, write,
+};
+use whole_system::structures::validity;
+use whole_system::{Act, CallSite, Note, Served, Sys};
+use xm_conf::{ChanKind, Kind, Way};
+
+/// Call 17, XM_write_sampling_message(a, b, c): c bytes at b.
+pub fn write_sampling_message(sys: &mut Sys, site: CallSite) -> Served
+    requires caller { IsCaller site sys.old }
+    requires shapes { sys.old.shapes ≡ shapes_of sys.old.machine.system.conf }
+    ensures { IsServed site.part Unseen (write_sampling_message (caller_of site sys.old)) result sys.old sys.new }
+{
+    let Some(port) = made_port(sys, site, Kind::Sampling) else {
+        return answer(sys, site, INVALID_PARAMETER);
+    };
+    if let Some(code) = put_refusal(sys, site, port) {
+        return answer(sys, site, code);
+    }
+    put_message(sys, site, port)
+}
+
+/// Call 21, XM_send_queuing_message(a, b, c): c bytes at b.
+pub fn send_queuing_message(sys: &mut Sys, site: CallSite) -> Served
+    requires caller { IsCaller site sys.old }
+    requires shapes { sys.old.shapes ≡ shapes_of sys.old.machine.system.conf }
+    ensures { IsServed site.part Unseen (send_queuing_message (caller_of site sys.old)) result sys.old sys.new }
+{
+    let Some(port) = made_port(sys, site, Kind::Queuing) else {
+        return answer(sys, site, INVALID_PARAMETER);
+    };
+    if let Some(code) = put_refusal(sys, site, port) {
+        return answer(sys, site, code);
+    }
+    if is_full(sys, site, port) {
+        return answer(sys, site, NOT_AVAILABLE);
+    }
+    put_message(sys, site, port)
+}
+
+/// Why the call's message is not put into a port's channel, where it is refused.
+fn put_refusal(sys: &Sys, site: CallSite, port: MadePort) -> Option<u32>
+    requires { IsCaller site sys.now }
+    ensures { result ≡ first_refusal (put_tests (caller_of site sys.now) (port_in site.part sys.now port)) }
+{
+    let size = argument(sys, site, C);
+    if !is_source(port.way) {
+        return Some(NOT_ALLOWED);
+    }
+    if size == 0 || size > u32::from(port.length) {
+        return Some(INVALID_PARAMETER);
+    }
+    text(sys, site, argument(sys, site, B), size)
+}
+
+/// Whether a port is a source.
+fn is_source(way: Way) -> bool
+    ensures { result ≡ is_source way }
+{
+    match way {
+        Way::Source => true,
+        Way::Destination => false,
+    }
+}
+
+/// Whether the queue of a port holds as many messages as it may.
+fn is_full(sys: &Sys, site: CallSite, port: MadePort) -> bool
+    requires { HasQueue port.chan (table_in sys.now) }
+    ensures { result ≡ is_full (port_in site.part sys.now port) }
+{
+    usize::from(most_of(port.kind)) <= sys.channels().count(port.chan)
+}
+
+/// The call's message is put into a port's channel.
+fn put_message(sys: &mut Sys, site: CallSite, port: MadePort) -> Served
+    requires caller { IsCaller site sys.old }
+    requires shapes { sys.old.shapes ≡ shapes_of sys.old.machine.system.conf }
+    requires named { named sys.old.machine.system.conf site.part (port_in site.part sys.old port).name ≡ Some port.chan }
+    requires shaped { slice_get sys.old.shapes port.chan ≡ Some (record { kind = port.kind; length = port.length }) }
+    requires tests { first_refusal (put_tests (caller_of site sys.old) (port_in site.part sys.old port)) ≡ None }
+    requires few { c_of (caller_of site sys.old) ≤ 4096 }
+    requires room { HasRoomFor port.kind port.chan sys.old }
+    ensures { IsServed site.part Unseen (putting (caller_of site sys.old) (port_in site.part sys.old port)) result sys.old sys.new }
+{
+    let size = argument(sys, site, C);
+    let mut buffer = [0; MESSAGE_BYTES];
+    put_read(sys, site, port, &mut buffer[..size as usize])
+}
+
+/// Reads the call's message into a buffer of its size, and puts it into a port's channel.
+fn put_read(sys: &mut Sys, site: CallSite, port: MadePort, message: &mut [u8]) -> Served
+    requires caller { IsCaller site sys.old }
+    requires shapes { sys.old.shapes ≡ shapes_of sys.old.machine.system.conf }
+    requires named { named sys.old.machine.system.conf site.part (port_in site.part sys.old port).name ≡ Some port.chan }
+    requires shaped { slice_get sys.old.shapes port.chan ≡ Some (record { kind = port.kind; length = port.length }) }
+    requires tests { first_refusal (put_tests (caller_of site sys.old) (port_in site.part sys.old port)) ≡ None }
+    requires size { length message.old ≡ c_of (caller_of site sys.old) }
+    requires room { HasRoomFor port.kind port.chan sys.old }
+    ensures { IsServed site.part Unseen (putting (caller_of site sys.old) (port_in site.part sys.old port)) result sys.old sys.new }
+{
+    let at = argument(sys, site, B);
+    let size = argument(sys, site, C);
+    read(sys, site, at, message);
+    set_result(sys, site, 0);
+    put(sys, port, message);
+    Served {
+        note: Note::Put {
+            chan: port.chan,
+            at,
+            size,
+        },
+        act: Act::Nothing,
+    }
+}
+
+/// Puts a message into a port's channel.
+fn put(sys: &mut Sys, port: MadePort, bytes: &[u8])
+    requires shapes { sys.old.shapes ≡ shapes_of sys.old.machine.system.conf }
+    requires shaped { slice_get sys.old.shapes port.chan ≡ Some (record { kind = port.kind; length = port.length }) }
+    requires bytes { IsMessage port.length bytes.now }
+    requires room { HasRoomFor port.kind port.chan sys.old }
+    ensures { sys.new ≡ with_machine (with_traffic (Puts port.chan bytes.now) sys.old.machine) sys.old }
+{
+    match port.kind {
+        ChanKind::Sampling { refresh: _ } => put_sampling(sys, port.chan, bytes),
+        ChanKind::Queuing { most: _ } => match send(sys, port.chan, bytes) {
+            Ok(()) => {}
+            Err(_) => unreachable!(),
+        },
+    }
+}
+
+/// Sets the result of a call.
+#[tactic(auto, unfolding(whole_system::specs::Serving::caller_of, machine_model::specs::Caller::with_answer))]
+fn set_result(sys: &mut Sys, site: CallSite, value: u32)
+    requires { IsCaller site sys.old }
+    ensures { sys.new ≡ with_machine (with_part site.part (with_answer value (caller_of site sys.old).state) sys.old.machine) sys.old }
+{
+    sys.part_mut(site.part).core.set(OUT_0, value);
+}
+
+/// Call 18, XM_read_sampling_message(a, b, c, d): into c bytes at b, and the validity at d.
+pub fn read_sampling_message(sys: &mut Sys, site: CallSite) -> Served
+    requires caller { IsCaller site sys.old }
+    requires shapes { sys.old.shapes ≡ shapes_of sys.old.machine.system.conf }
+    ensures { IsServed site.part Unseen (read_sampling_message (caller_of site sys.old)) result sys.old sys.new }
+{
+    let Some(port) = made_port(sys, site, Kind::Sampling) else {
+        return answer(sys, site, INVALID_PARAMETER);
+    };
+    if is_source(port.way) {
+        return answer(sys, site, NOT_ALLOWED);
+    }
+    let mut buffer = [0; MESSAGE_BYTES];
+    let Some((time, size)) = copy_sample(sys, port.chan, &mut buffer) else {
+        return answer(sys, site, NO_ACTION);
+    };
+    read_sample(sys, site, port, time, &buffer[..size])
+}
+
+/// Writes the message of a sampling channel to the caller's memory, and whether it is valid.
+fn read_sample(sys: &mut Sys, site: CallSite, port: MadePort, time: u64, message: &[u8]) -> Served
+    requires caller { IsCaller site sys.old }
+    requires few { length message.now ≤ 4096 }
+    ensures { IsServed site.part Unseen (sample_read (caller_of site sys.old) (port_in site.part sys.old port) (record { time = time; bytes = message.now })) result sys.old sys.new }
+{
+    if let Some(code) = sample_refusal(sys, site, message.len() as u32) {
+        return answer(sys, site, code);
+    }
+    let valid = validity_at(port.kind, sys.now(), time);
+    let at = argument(sys, site, D);
+    write(sys, site, argument(sys, site, B), message);
+    answer_written(sys, site, at, &valid.to_be_bytes(), message.len() as u32)
+}
+
+/// Why a message of so many bytes is not written to the caller's memory, with its validity, where that is refused.
+fn sample_refusal(sys: &Sys, site: CallSite, size: u32) -> Option<u32>
+    requires { IsCaller site sys.now }
+    ensures { result ≡ first_refusal (sample_tests (caller_of site sys.now) size) }
+{
+    if argument(sys, site, C) < size {
+        return Some(INVALID_PARAMETER);
+    }
+    if let Some(code) = room(sys, site, argument(sys, site, B), size) {
+        return Some(code);
+    }
+    room(sys, site, argument(sys, site, D), 4)
+}
+
+/// Whether a message that was written at a time is valid at another, as a number.
+fn validity_at(kind: ChanKind, now: u64, written: u64) -> u32
+    ensures { result ≡ flag (is_valid (refresh_of kind) (now - written)) }
+{
+    validity(refresh_of(kind), now.saturating_sub(written))
+}
+
+/// Copies the message of a sampling channel to the front of a buffer, and tells when it was written and how many bytes it has.
+fn copy_sample(sys: &Sys, chan: u8, into: &mut [u8]) -> Option<(u64, usize)>
+    requires channel { HasSampling chan (table_in sys.now) }
+    requires table { IsTable (table_in sys.now) }
+    requires room { 4096 ≤ length into.old }
+    ensures value { option_map (λ found. record { time = found.0; bytes = take found.1 into.new }) result ≡ sample_of (content_at chan (table_in sys.now)) }
+    ensures few { IfSome result (λ found. found.1 ≤ 4096) }
+    ensures length { length into.new ≡ length into.old }
+{
+    let sample = sys.channels().get_sampling(chan)?;
+    put_front(into, sample.bytes);
+    Some((sample.time, sample.bytes.len()))
+}
+
+/// Copies bytes to the front of a buffer.
+fn put_front(into: &mut [u8], from: &[u8])
+    requires { length from.now ≤ length into.old }
+    ensures { into.new ≡ from.now ++ drop (length from.now) into.old }
+{
+    into[..from.len()].copy_from_slice(from);
+}
+
+/// Call 22, XM_receive_queuing_message(a, b, c): into c bytes at b.
+pub fn receive_queuing_message(sys: &mut Sys, site: CallSite) -> Served
+    requires caller { IsCaller site sys.old }
+    requires shapes { sys.old.shapes ≡ shapes_of sys.old.machine.system.conf }
+    ensures { IsServed site.part Unseen (receive_queuing_message (caller_of site sys.old)) result sys.old sys.new }
+{
+    let Some(port) = made_port(sys, site, Kind::Queuing) else {
+        return answer(sys, site, INVALID_PARAMETER);
+    };
+    if is_source(port.way) {
+        return answer(sys, site, NOT_ALLOWED);
+    }
+    let mut buffer = [0; MESSAGE_BYTES];
+    let Some(size) = copy_first(sys, port.chan, &mut buffer) else {
+        return answer(sys, site, NOT_AVAILABLE);
+    };
+    read_message(sys, site, port, &buffer[..size])
+}
+
+/// Writes the first message of a queue to the caller's memory, and takes it from the queue.
+fn read_message(sys: &mut Sys, site: CallSite, port: MadePort, message: &[u8]) -> Served
+    requires caller { IsCaller site sys.old }
+    requires named { named sys.old.machine.system.conf site.part (port_in site.part sys.old port).name ≡ Some port.chan }
+    requires queue { HasQueue port.chan (table_in sys.old) }
+    requires first { Some message.now ≡ first_message (content_at port.chan (table_in sys.old)) }
+    requires few { length message.now ≤ 4096 }
+    ensures { IsServed site.part Unseen (message_read (caller_of site sys.old) (port_in site.part sys.old port) message.now) result sys.old sys.new }
+{
+    let size = message.len() as u32;
+    if let Some(code) = message_refusal(sys, site, size) {
+        return answer(sys, site, code);
+    }
+    write(sys, site, argument(sys, site, B), message);
+    set_result(sys, site, size);
+    drop_first(sys, port.chan);
+    Served {
+        note: Note::Take { chan: port.chan },
+        act: Act::Nothing,
+    }
+}
+
+/// Why a message of so many bytes is not written to the caller's memory, where that is refused.
+fn message_refusal(sys: &Sys, site: CallSite, size: u32) -> Option<u32>
+    requires { IsCaller site sys.now }
+    ensures { result ≡ first_refusal (message_tests (caller_of site sys.now) size) }
+{
+    if argument(sys, site, C) < size {
+        return Some(INVALID_PARAMETER);
+    }
+    room(sys, site, argument(sys, site, B), size)
+}
+
+/// Copies the first message of a queue to the front of a buffer, and tells how many bytes it has.
+fn copy_first(sys: &Sys, chan: u8, into: &mut [u8]) -> Option<usize>
+    requires channel { HasQueue chan (table_in sys.now) }
+    requires table { IsTable (table_in sys.now) }
+    requires room { 4096 ≤ length into.old }
+    ensures value { option_map (λ size. take size into.new) result ≡ first_message (content_at chan (table_in sys.now)) }
+    ensures few { IfSome result (λ size. size ≤ 4096) }
+    ensures length { length into.new ≡ length into.old }
+{
+    let message = sys.channels().first(chan)?;
+    put_front(into, message);
+    Some(message.len())
+}

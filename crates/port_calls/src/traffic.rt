@@ -1,0 +1,151 @@
+//! Messages that are put into channels and taken from them, and the partitions that hear of them.
+
+ghost use Rattle.std.specs.Prelude.{◌≡◌, ◌↔◌, ◌<◌, ◌≤◌, IsErr, IsSomeAnd, OnErr, OnOk, Some, length};
+ghost use Rattle.xm_ports.specs.Channels.{FitsChannel, HasQueue, HasSampling, IsFull, content_at, first_message, shapes_of};
+ghost use Rattle.slot_runs.specs.Passes.{with_traffic};
+ghost use Rattle.machine_model.specs.Traffic.{Puts, Takes, interrupted, is_destination};
+ghost use Rattle.machine_model.specs.View.{part_of};
+ghost use Rattle.port_calls.specs.MadePorts.{table_in};
+ghost use Rattle.whole_system.specs.State.{part_at, with_machine, with_part};
+ghost use Rattle.port_calls.specs.Traffic.{heard_at, hears_from, hears_in, is_on, notified};
+
+use whole_system::Sys;
+use xm_base::{PartId, State};
+use xm_conf::{Port, Way};
+use xm_ports::Full;
+
+/// How many bytes a message has at most.
+pub(crate) const MESSAGE_BYTES: usize = 4096;
+
+/// The interrupt that a message in a sampling channel brings.
+const SAMPLING_PORT: u8 = 3;
+
+/// The interrupt that a message in a queue brings.
+const QUEUING_PORT: u8 = 4;
+
+/// Writes a message to a sampling channel. The partitions that hear it are interrupted.
+pub(crate) fn put_sampling(sys: &mut Sys, chan: u8, bytes: &[u8])
+    requires shapes { sys.old.shapes ≡ shapes_of sys.old.machine.system.conf }
+    requires channel { HasSampling chan (table_in sys.old) }
+    requires bytes { FitsChannel bytes.now chan (table_in sys.old) }
+    ensures { sys.new ≡ with_machine (with_traffic (Puts chan bytes.now) sys.old.machine) sys.old }
+{
+    let now = sys.now();
+    sys.channels_mut().put_sampling(chan, bytes, now);
+    notify(sys, chan, SAMPLING_PORT);
+}
+
+/// Puts a message at the end of a queue, or answers `Full`. The partitions that hear it are interrupted.
+pub(crate) fn send(sys: &mut Sys, chan: u8, bytes: &[u8]) -> Result<(), Full>
+    requires shapes { sys.old.shapes ≡ shapes_of sys.old.machine.system.conf }
+    requires channel { HasQueue chan (table_in sys.old) }
+    requires bytes { FitsChannel bytes.now chan (table_in sys.old) }
+    ensures full { IsErr result ↔ IsFull chan (table_in sys.old) }
+    ensures sent { OnOk result (sys.new ≡ with_machine (with_traffic (Puts chan bytes.now) sys.old.machine) sys.old) }
+    ensures unchanged { OnErr result (sys.new ≡ sys.old) }
+{
+    match sys.channels_mut().send(chan, bytes) {
+        Ok(()) => {
+            notify(sys, chan, QUEUING_PORT);
+            Ok(())
+        }
+        Err(full) => Err(full),
+    }
+}
+
+/// Takes the first message from a queue.
+pub(crate) fn drop_first(sys: &mut Sys, chan: u8)
+    requires channel { HasQueue chan (table_in sys.old) }
+    requires first { IsSomeAnd (first_message (content_at chan (table_in sys.old))) (λ first. length first ≤ 4096) }
+    ensures { sys.new ≡ with_machine (with_traffic (Takes chan) sys.old.machine) sys.old }
+{
+    let mut message = [0; MESSAGE_BYTES];
+    sys.channels_mut().receive(chan, &mut message);
+}
+
+/// Makes an interrupt pending at each partition that hears what is put into a channel.
+pub(crate) fn notify(sys: &mut Sys, chan: u8, interrupt: u8)
+    requires { interrupt < 32 }
+    ensures { sys.new ≡ with_machine (notified chan interrupt sys.old.machine) sys.old }
+{
+    for q in 0..sys.count() {
+        hear(sys, q, chan, interrupt);
+    }
+}
+
+/// Makes an interrupt pending at a partition, where it hears what is put into a channel.
+fn hear(sys: &mut Sys, q: PartId, chan: u8, interrupt: u8)
+    requires there { q < length sys.old.machine.parts }
+    requires interrupt { interrupt < 32 }
+    ensures { sys.new ≡ with_machine (with_part q (heard_at sys.old.machine.system.conf chan interrupt q (part_at q sys.old.machine)) sys.old.machine) sys.old }
+{
+    if hears(sys, q, chan) {
+        raise_at(sys, q, interrupt);
+    }
+}
+
+/// Makes an interrupt pending at a partition, unless it has halted.
+fn raise_at(sys: &mut Sys, q: PartId, interrupt: u8)
+    requires there { q < length sys.old.machine.parts }
+    requires interrupt { interrupt < 32 }
+    ensures { sys.new ≡ with_machine (with_part q (interrupted (Some interrupt) (part_at q sys.old.machine)) sys.old.machine) sys.old }
+{
+    let own = sys.part_mut(q);
+    match own.state {
+        State::Ready | State::Idle | State::Suspended => own.virt.raise(interrupt),
+        State::Halted => {}
+    }
+}
+
+/// Whether a partition hears what is put into a channel.
+#[tactic(auto, unfolding(crate::specs::Traffic::hears_in))]
+fn hears(sys: &Sys, q: PartId, chan: u8) -> bool
+    requires { q < length sys.now.machine.parts }
+    ensures { result ≡ hears_in sys.now.machine.system.conf q chan (part_at q sys.now.machine) }
+{
+    one_hears(sys, q, chan, ports_of(sys, q))
+}
+
+/// The ports of a partition.
+#[tactic(auto, unfolding(machine_model::specs::View::part_of, xm_conf::specs::Description::described))]
+fn ports_of(sys: &Sys, q: PartId) -> &[Port]
+    requires { q < length sys.now.machine.parts }
+    ensures ports { result.now ≡ (part_of sys.now.machine.system.conf q).ports }
+    ensures few { length result.now ≤ 32 }
+{
+    let _count = sys.count();
+    &sys.conf().raw().parts[usize::from(q)].ports
+}
+
+/// Whether one of a partition's ports is a made destination on a channel.
+fn one_hears(sys: &Sys, q: PartId, chan: u8, ports: &[Port]) -> bool
+    requires there { q < length sys.now.machine.parts }
+    requires few { length ports.now ≤ 32 }
+    ensures { result ≡ hears_from (is_on sys.now.machine.system.conf q chan (part_at q sys.now.machine).made) 0 ports.now }
+{
+    for r in 0..ports.len() {
+        if is_destination(ports[r].way) && is_on(sys, q, chan, r as u8) {
+            return true;
+        }
+    }
+    false
+}
+
+/// Whether a port is a destination.
+fn is_destination(way: Way) -> bool
+    ensures { result ≡ is_destination way }
+{
+    match way {
+        Way::Source => false,
+        Way::Destination => true,
+    }
+}
+
+/// Whether a partition's port is made, and on a channel.
+#[tactic(auto, unfolding(crate::specs::Traffic::is_on))]
+fn is_on(sys: &Sys, q: PartId, chan: u8, port: u8) -> bool
+    requires { q < length sys.now.machine.parts }
+    ensures { result ≡ is_on sys.now.machine.system.conf q chan (part_at q sys.now.machine).made port }
+{
+    sys.part(q).ports.is_made(port) && sys.conf().channel_of(q, port) == Some(chan)
+}

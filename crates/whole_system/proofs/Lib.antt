@@ -1,0 +1,6 @@
+pub mod BootLemmas
+pub mod CallerLemmas
+pub mod InputLemmas
+pub mod InsideLemmas
+pub mod PartsLemmas
+pub mod StepLemmas

@@ -1,0 +1,5 @@
+use Rattle.whole_system.proofs.InsideLemmas.{is_maps}
+use Rattle.whole_system.proofs.sys.Sys.ram.Goals as goal
+
+pub returns-clause-maps : goal.returns-clause-maps
+returns-clause-maps c = is_maps c.self.inside c.args.self.now c.self.invariant c.self.view_is

@@ -1,0 +1,140 @@
+-- What a hypercall is given, and what serving one leaves and tells.
+use Rattle.std.specs.Prelude.{◌≡◌, ℕ, ◌<◌, ◌≤◌, true, List, [], ◌∷◌, length}
+use Rattle.guest_bus.specs.Memory.{Area, Memory, all_from, bytes_at, is_readable}
+use Rattle.xm_base.specs.declared.limits.TheConstants.{CONSOLE_BYTES}
+use Rattle.machine_model.specs.Caller.{Acts, Caller, Meets, Served, Upshot}
+use Rattle.machine_model.specs.Health.{done_to_all}
+use Rattle.machine_model.specs.Machine.{Machine, copies, sight_for}
+use Rattle.machine_model.specs.Observed.{observed_by}
+use Rattle.machine_model.specs.Partition.{areas_of}
+use Rattle.machine_model.specs.Told as told
+use Rattle.machine_model.specs.Told.{Act, OwnStill, OwnTraffic, Sight, Told}
+use Rattle.machine_model.specs.Traffic.{Puts, Still, Takes, Traffic, told_as, traffic_of}
+use Rattle.machine_model.specs.View.{named, view_of}
+use Rattle.slot_runs.specs.Passes.{part_at, traded, with_part}
+use Rattle.whole_system.specs.State.{SysState, areas_in, with_machine}
+use Rattle.whole_system.specs.declared.call_site.CallSite.{CallSite}
+use Rattle.whole_system.specs.declared.served.Act as code_act
+use Rattle.whole_system.specs.declared.served.Act.TheVariants as act
+use Rattle.whole_system.specs.declared.served.Note.{Note}
+use Rattle.whole_system.specs.declared.served.Note.TheVariants as note
+use Rattle.whole_system.specs.declared.served.Served as code
+
+-- what a partition that calls is shown of the rest of the system
+abbrev pub sight_at : ℕ → Machine → Sight
+sight_at p g = sight_for g (view_of g.system p) (observed_by (view_of g.system p) (part_at p g).core)
+
+-- a partition that calls, as the call is given it
+unfoldable pub caller_of : CallSite → SysState → Caller
+caller_of site sys = record {
+  view = view_of sys.machine.system site.part;
+  state = part_at site.part sys.machine;
+  contents = copies sys.machine site.part;
+  time = sys.machine.time;
+  sight = sight_at site.part sys.machine;
+  pc = site.pc;
+  npc = site.npc;
+}
+
+-- partition p as it calls, from this program counter and the next
+unfoldable pub caller_at : ℕ → ℕ → ℕ → SysState → Caller
+caller_at p pc npc sys = record {
+  view = view_of sys.machine.system p;
+  state = part_at p sys.machine;
+  contents = copies sys.machine p;
+  time = sys.machine.time;
+  sight = sight_at p sys.machine;
+  pc = pc;
+  npc = npc;
+}
+
+-- the partition that calls is there
+abbrev pub IsCaller : CallSite → SysState → Type 0
+IsCaller site sys = site.part < length sys.machine.parts
+
+-- all of so many bytes may be read by the caller
+abbrev pub MayRead : Caller → ℕ → ℕ → Type 0
+MayRead caller address size = all_from (is_readable (areas_of caller.view)) address size ≡ true
+
+-- what a note tells, over the memory that the call leaves
+abbrev pub told_by : Note → Memory → List Told
+told_by note.Nothing memory = []
+told_by (note.Console at size) memory = told.Console (bytes_at memory at size) ∷ []
+told_by (note.Trace entry) memory = told.Trace entry.bits entry.load ∷ []
+told_by (note.Put chan at size) memory = []
+told_by (note.Take chan) memory = []
+told_by (note.Saw at size) memory = []
+told_by note.NotKept memory = []
+
+-- the traffic that a note tells
+abbrev pub traffic_by : Note → Memory → Traffic
+traffic_by note.Nothing memory = Still
+traffic_by (note.Console at size) memory = Still
+traffic_by (note.Trace entry) memory = Still
+traffic_by (note.Put chan at size) memory = Puts chan (bytes_at memory at size)
+traffic_by (note.Take chan) memory = Takes chan
+traffic_by (note.Saw at size) memory = Still
+traffic_by note.NotKept memory = Still
+
+-- what a note tells of what the call was shown
+abbrev pub sight_by : Note → Memory → Sight
+sight_by note.Nothing memory = told.Unseen
+sight_by (note.Console at size) memory = told.Unseen
+sight_by (note.Trace entry) memory = told.Unseen
+sight_by (note.Put chan at size) memory = told.Unseen
+sight_by (note.Take chan) memory = told.Unseen
+sight_by (note.Saw at size) memory = told.Words (bytes_at memory at size)
+sight_by note.NotKept memory = told.NotKept
+
+-- the bytes that a note names may be read; those for the console are not too many
+abbrev pub CanBeTold : Note → List Area → Type 0
+CanBeTold note.Nothing areas = Unit {0}
+CanBeTold (note.Console at size) areas = (size ≤ CONSOLE_BYTES) × (all_from (is_readable areas) at size ≡ true)
+CanBeTold (note.Trace entry) areas = Unit {0}
+CanBeTold (note.Put chan at size) areas = all_from (is_readable areas) at size ≡ true
+CanBeTold (note.Take chan) areas = Unit {0}
+CanBeTold (note.Saw at size) areas = all_from (is_readable areas) at size ≡ true
+CanBeTold note.NotKept areas = Unit {0}
+
+-- the upshot that is told
+abbrev pub upshot_of : code_act.Act → Upshot
+upshot_of act.Nothing = Acts told.Nothing
+upshot_of (act.Upon id order) = Acts (told.Upon id order)
+upshot_of (act.Ask plan) = Acts (told.Plans (told.Asked plan))
+upshot_of (act.Whole event) = Acts (done_to_all event)
+upshot_of (act.Event event word undone) = Meets event word
+
+-- an order that is told is one upon a partition that there is
+abbrev pub IsUponOne : code_act.Act → SysState → Type 0
+IsUponOne act.Nothing sys = Unit {0}
+IsUponOne (act.Upon id order) sys = id < length sys.machine.parts
+IsUponOne (act.Ask plan) sys = Unit {0}
+IsUponOne (act.Whole event) sys = Unit {0}
+IsUponOne (act.Event event word undone) sys = Unit {0}
+
+-- an upshot but for its traffic, which is done and told by the note
+abbrev pub without_traffic : Act → Act
+without_traffic told.Nothing = told.Nothing
+without_traffic (told.Trades traffic) = told.Nothing
+without_traffic (told.Upon id order) = told.Upon id order
+without_traffic (told.Plans change) = told.Plans change
+without_traffic (told.UponAll event) = told.UponAll event
+
+abbrev pub untraded : Upshot → Upshot
+untraded (Acts act) = Acts (without_traffic act)
+untraded (Meets event word) = Meets event word
+
+-- its traffic, under the caller's names
+abbrev pub own_traffic : Upshot → OwnTraffic
+own_traffic (Acts act) = traffic_of act
+own_traffic (Meets event word) = OwnStill
+
+-- a call of partition p that was shown this came to what is stated: what it leaves of the caller and of the channels, what it tells, and how it reaches beyond the caller
+pub record IsServed (p : ℕ) (sight : Sight) (s : Served) (answer : code.Served) (old new : SysState) : Type 0 where
+  pub state : new ≡ with_machine (traded (traffic_by answer.note s.after.memory) (with_part p s.after old.machine)) old
+  pub told : s.told ≡ told_by answer.note s.after.memory
+  pub upshot : untraded s.upshot ≡ upshot_of answer.act
+  pub traffic : told_as (named old.machine.system.conf p) (own_traffic s.upshot) ≡ traffic_by answer.note s.after.memory
+  pub seen : sight ≡ sight_by answer.note s.after.memory
+  pub readable : CanBeTold answer.note (areas_in p old.machine)
+  pub one : IsUponOne answer.act old

@@ -1,0 +1,20 @@
+//! The whole system as it runs: the state of each partition, and how a hypercall answers.
+#![tactic(auto)]
+
+pub mod answering;
+mod call_site;
+mod gone;
+mod inputs;
+mod own_state;
+mod served;
+mod starting;
+mod stepping;
+pub mod structures;
+mod sys;
+
+pub use call_site::CallSite;
+pub use gone::Gone;
+pub use inputs::{InputFault, Inputs};
+pub use own_state::PartState;
+pub use served::{Act, Note, Served};
+pub use sys::Sys;

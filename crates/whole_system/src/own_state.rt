@@ -1,0 +1,74 @@
+//! The state of one partition.
+
+ghost use Rattle.std.specs.Prelude.{◌≡◌, ◌%◌, IfOk};
+ghost use Rattle.whole_system.specs.State.{booted_own};
+
+use health_monitor::HealthEntry;
+use sparc_step::Core;
+use std::alloc::Global;
+use std::marker::Model;
+use virt_clocks::Clocks;
+use virt_traps::Virt;
+use xm_base::{Memory, State};
+use xm_ports::Ports;
+use xm_traces::{Ring, TraceEntry};
+
+/// The state of a partition, but for its memory and its input words, which belong to the system.
+#[derive(Debug, Drop)]
+pub struct PartState {
+    pub core: Core,
+    pub virt: Virt,
+    pub clocks: Clocks,
+    pub state: State,
+    /// How many warm resets there were since the last cold one.
+    pub resets: u32,
+    /// What the last reset left for the partition to ask for.
+    pub reset_status: u32,
+    pub ports: Ports,
+    pub traces: Ring<TraceEntry>,
+    pub health: Ring<HealthEntry>,
+    /// How many of its input words it has read.
+    pub used: usize,
+}
+
+impl Model for PartState {
+    ghost use Rattle.std.specs.Coded.{codes};
+    ghost use Rattle.whole_system.specs.State.{OwnState};
+
+    ghost Value = { OwnState };
+
+    ghost view = { λ own. record {
+      core = own.core;
+      virt = own.virt;
+      clocks = own.clocks;
+      state = own.state;
+      resets = own.resets;
+      reset_status = own.reset_status;
+      ports = own.ports;
+      traces = own.traces;
+      health = own.health;
+      used = own.used;
+    } };
+}
+
+impl PartState {
+    /// A partition as it boots.
+    #[tactic(auto, unfolding(crate::specs::State::booted_own))]
+    pub(crate) fn boot(alloc: Global, entry: u32) -> Result<PartState, Memory>
+        requires { entry % 4 ≡ 0 }
+        ensures { IfOk result (λ own. own ≡ booted_own entry) }
+    {
+        Ok(PartState {
+            core: Core::start(entry),
+            virt: Virt::new(),
+            clocks: Clocks::new(),
+            state: State::Ready,
+            resets: 0,
+            reset_status: 0,
+            ports: Ports::new(),
+            traces: Ring::new(alloc)?,
+            health: Ring::new(alloc)?,
+            used: 0,
+        })
+    }
+}

@@ -1,0 +1,56 @@
+//! What a hypercall came to.
+
+use health_monitor::Whole;
+use xm_base::{Order, PartId};
+use xm_conf::Event;
+use xm_traces::TraceEntry;
+
+/// What a hypercall did and tells: at most one thing.
+#[derive(Clone, Copy, Debug, PartialEq, Eq)]
+pub enum Note {
+    /// Nothing.
+    Nothing,
+    /// The caller wrote these bytes of its memory to its console.
+    Console { at: u32, size: u32 },
+    /// The caller entered this in its traces.
+    Trace(TraceEntry),
+    /// The caller put a message, these bytes of its memory, into a channel.
+    Put { chan: u8, at: u32, size: u32 },
+    /// The caller took the first message out of a channel.
+    Take { chan: u8 },
+    /// The caller was shown something of the rest of the system: these bytes of its memory.
+    Saw { at: u32, size: u32 },
+    /// The caller was told that an entry of another partition is not kept.
+    NotKept,
+}
+
+/// How a hypercall reaches beyond the state of its caller. It is told, and not done.
+#[derive(Clone, Copy, Debug, PartialEq, Eq)]
+pub enum Act {
+    /// Not at all.
+    Nothing,
+    /// An order upon a partition, which may be the caller.
+    Upon {
+        id: PartId,
+        order: Order,
+    },
+    /// A plan is asked for.
+    Ask {
+        plan: u8,
+    },
+    /// An event of the whole system.
+    Whole(Whole),
+    /// A health event of the caller, with its word. Where the call is `undone`, the caller is at it again.
+    Event {
+        event: Event,
+        word: u32,
+        undone: bool,
+    },
+}
+
+/// What a hypercall came to.
+#[derive(Clone, Copy, Debug, PartialEq, Eq)]
+pub struct Served {
+    pub note: Note,
+    pub act: Act,
+}
