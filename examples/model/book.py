@@ -13,8 +13,8 @@ import textwrap
 from pathlib import Path
 
 from box import ACTIONS, EVENTS, Part, container, image_file
-from cases import CASES, all_cases
-from model import CALLS, run_words
+from cases import CASES, RESETS, all_cases
+from model import CALLS, RESET_NAMES, run_words
 from shown import BOOKS
 
 LEGEND = """\
@@ -24,6 +24,7 @@ description of the machine; `examples/model/book.py crates/case_suite/data` writ
 Each guest is listed by its steps, with the address of the first one of a line:
   name(..)      a hypercall with its arguments, by its name in docs/HYPERCALLS.md or else by its number
   ask name(..)  the same, and then the result goes to the console as four bytes
+  wild n, ..    the hypercalls of these numbers, each asked so, with all five arguments ffffffff
   show x, n     n bytes at x go to the console
   show %r       the register goes to the console as four bytes
   wait n        nothing for n ticks
@@ -180,7 +181,14 @@ def case_row(name, shows):
         words = [*words, "--input", f"{number}={input_name(name, number)}"]
     listed_files = ", ".join(f'"{file}"' for file in files)
     call = " ".join(["run", f"{name}.box", *words])
-    return f'  {{ shows = "{shows}", call = "{call}", file = [{listed_files}], out = {text_value(report(name, words))} }},'
+    resets = f"resets = [{', '.join(map(reset_value, RESETS[name]))}], " if name in RESETS else ""
+    return f'  {{ shows = "{shows}", call = "{call}", file = [{listed_files}], {resets}out = {text_value(report(name, words))} }},'
+
+
+def reset_value(reset):
+    tick, part, mode, status = reset
+    place = "" if part is None else f"part = {part}, status = {status}, "
+    return f'{{ tick = {tick}, {place}mode = "{RESET_NAMES[mode].lower()}" }}'
 
 
 def report(name, words):
@@ -189,7 +197,7 @@ def report(name, words):
         (Path(folder) / f"{name}.box").write_bytes(container(system))
         for number, values in inputs.items():
             (Path(folder) / input_name(name, number)).write_bytes(struct.pack(f">{len(values)}I", *values))
-        return run_words([f"{name}.box", *words], Path(folder))[0]
+        return run_words([f"{name}.box", *words], Path(folder), RESETS.get(name, ()))[0]
 
 
 def book(title, groups):

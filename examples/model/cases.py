@@ -32,6 +32,7 @@ EXECUTION = 1
 A = {name: number for number, name in enumerate(ACTIONS)}
 E = {name: number for number, name in enumerate(EVENTS)}
 CASES = {}
+RESETS = {}  # those between the ticks of a case: the tick's number, a partition or None for all, the mode, the status
 
 
 def start(number):
@@ -55,6 +56,15 @@ class Program(Guest):
     def asks(self, *calls):
         for call in calls:
             self.ask(*call)
+        return self
+
+    @listed(lambda *numbers: f"wild {', '.join(map(shown_operand, numbers))}")
+    def wild(self, *numbers):
+        """Hypercalls whose arguments are all ffffffff; the result of each goes to the console."""
+        for number in numbers:
+            for place in range(1, 6):
+                self.mov(-1, f"o{place}")
+            self.ask(number)
         return self
 
     @listed(lambda ticks: f"wait {ticks}")
@@ -563,6 +573,14 @@ def other_calls():
     for number in (0, 38, 39, 100, 0x80000001, ALL_ONES):
         unknown.ask(number)
     case("call_unknown", make(unknown))
+    for number, name in enumerate(("system", "plain")):
+        # Traps are disabled again before call 31, after which interrupts are no longer masked.
+        wild = Program(number).wild(1, 2, 3, 4, 5, 6, 8, 10, 11, 12, 13, 14, 15, 16, 17, 18, 19, 20, 21, 22, 23, 24)
+        wild.wild(25, 26, 28, 29, 32, 33, 0, 38, ALL_ONES, 7, 35, 36, 37).call(35, 0).wild(30, 31, 27)
+        wild.wild(*[9, 34][1 - number:])
+        system = make(*[Program(0), wild][1 - number:], actions={(number, "PARTITION_ERROR"): "IGNORE"})
+        case(f"calls_wild_{name}", system, "--ticks 4000")
+    case("call09_wild", make(Program(0).wild(9)), "--ticks 100")
     slot = Program(0)
     slot.set(1, "o0").branch("a", "over").put(HYPERCALL).show("four", 4).label("over").show_register()
     slot.set(34, "o0").set(2, "l1").branch("a", "far").put(HYPERCALL).nop(3).label("far").show_register()
@@ -1129,6 +1147,60 @@ def ports_32():
     return system
 
 
+def counts(number):
+    """It counts in its memory how often it began, and prints that."""
+    program = Program(number).set("shown", "l0").mem("ld", "l1", "l0").op("add", "l1", 1, "l1").mem("st", "l1", "l0")
+    return program.show("shown")
+
+
+def tells():
+    """Partition 0 counts, and prints its status and the system's."""
+    return counts(0).call(8, 0, "room").show("room", 20).call(11, "room").show("room", 8)
+
+
+def between(name, system, length, *resets, inputs=None):
+    """A case with resets between its ticks, in their order; there is no command for them."""
+    case(f"between_{name}", system, length, inputs)
+    RESETS[f"between_{name}"] = resets
+
+
+def between_cases():
+    for mode, name in ((0, "cold"), (1, "warm")):
+        between(f"own_{name}", make(tells()), "--ticks 700", (100, 0, mode, 7), (200, 0, mode, ALL_ONES))
+        between(f"halted_{name}", make(Program(0), counts(1).call(2, 1)), "--ticks 2000", (970, 1, mode, 9))
+        between(f"suspended_{name}", make(Program(0), counts(1).call(4, 1).show("four")), "--ticks 700", (600, 1, mode, 0))
+        between(f"idle_{name}", make(Program(0), counts(1).call(7).show("four")), "--ticks 1600", (948, 1, mode, 0))
+        sends = once(with_ports(0), lambda program: program.call(21, 2, "four", 4).call(17, 0, "four", 4))
+        sends.ask(23, 2, "room").show("room", 8).ask(19, 0, "room").show("room", 16)
+        receives = with_ports(1).ask(22, 2, "room", 8).ask(18, 0, "room", 8, "time")
+        system = make(sends, receives)
+        between(f"all_messages_{name}", system, "--ticks 1500", (470, None, mode, 0), inputs={0: [1]})
+        between(f"part_messages_{name}", system, "--ticks 1500", (470, 0, mode, 0), (480, 1, mode, 0), inputs={0: [1]})
+        between(f"all_status_{name}", make(tells(), counts(1)), "--ticks 1700", (450, None, mode, 0), (700, None, 1, 0))
+        between(f"all_plans_{name}", make(tells().call(14, 2, "room").call(15, "room").show("room", 20)), "--ticks 2600",
+                (600, None, mode, 0), (1700, None, mode, 0))
+        keeps = Program(0).call(24, 1, "four").call(27, 5).call(26, 0, "room").show("room", 8)
+        keeps.call(29, 0, "room").show("room", 8).call(28, 0, 1, "room").show("room", 20)
+        keeps.call(12, 0, "time").show("time", 8).call(12, 1, "time").show("time", 8)
+        system = make(keeps, actions={(0, "PARTITION_ERROR"): "IGNORE"})
+        between(f"all_rings_{name}", system, "--ticks 900", (300, None, mode, 0))
+        between(f"part_rings_{name}", system, "--ticks 900", (300, 0, mode, 0))
+        arms = once(Program(0).ready(3).on(INTERRUPT, say_time, back).on(INTERRUPT + 1, say_time, back),
+                    lambda program: program.call(13, 0, 0, 150, 0, 100).call(13, 1, 0, 170, 0, 0))
+        system = make(arms)
+        between(f"all_timers_{name}", system, "--ticks 900", (200, None, mode, 0), inputs={0: [1]})
+        between(f"part_timers_{name}", system, "--ticks 900", (200, 0, mode, 0), inputs={0: [1]})
+    starts = Program(1).on(INTERRUPT + 5, say_time, back).ready(32)
+    between("slot_start", make(Program(0), starts), "--ticks 2700", (500, 1, 1, 0), (1499, 1, 1, 0), (1500, 1, 1, 0))
+    between("other_slot", make(tells(), counts(1)), "--ticks 1100", (700, 0, 1, 3))
+    between("tick_0", make(tells(), counts(1)), "--ticks 700", (0, 1, 1, 4), (0, None, 1, 0), (0, 0, 1, 5))
+    between("same_tick", make(tells(), counts(1)), "--ticks 1200", (300, 0, 0, 5), (300, None, 1, 0), (300, 0, 1, 6))
+    between("after_halt", make(counts(0).wait(50).call(9)), "--ticks 300", (30, 0, 1, 1), (200, 0, 0, 2))
+    windows = Program(0).stack().call_to("deep").nop().loop().label("deep")
+    windows.save().op("add", "g2", 1, "g2").op("subcc", "g2", 20, "g0").branch("ne", "deep").nop().show("four")
+    between("windows", make(windows), "--ticks 300", (40, 0, 1, 0))
+
+
 def system_cases():
     case("token_ring", token_ring(), "--frames 6")
     case("no_ticks", make(Program(0)), "--ticks 0")
@@ -1153,7 +1225,7 @@ def system_cases():
 
 def all_cases():
     for group in (order_calls, status_calls, plan_calls, port_calls, trace_calls, other_calls, timer_cases, idle_cases,
-                  health_cases, reset_cases, processor_cases, size_cases, system_cases):
+                  health_cases, reset_cases, between_cases, processor_cases, size_cases, system_cases):
         group()
 
 
@@ -1181,9 +1253,10 @@ def main():
     folder, names = Path(words[0]), words[1:]
     folder.mkdir(parents=True, exist_ok=True)
     all_cases()
-    for name in names or CASES:
+    names = names or [name for name in CASES if name not in RESETS]
+    for name in names:
         write_case(folder, name, "--cores" in sys.argv)
-    print(f"{len(names or CASES)} cases")
+    print(f"{len(names)} cases")
     return 0
 
 

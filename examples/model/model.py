@@ -223,6 +223,9 @@ class Machine:
         self.say(f"XM {RESET_NAMES[mode]}")
         for part in self.parts:
             self.reset_part(part, mode, 0)
+        self.reset_hypervisor(mode)
+
+    def reset_hypervisor(self, mode):
         for channel in self.channels:
             channel.clear()
         self.resets = 0 if mode == COLD else (self.resets + 1) & WORD
@@ -654,11 +657,28 @@ class Machine:
             self.undone(part, pair)
         return OK
 
+    # Resets from outside, between two ticks: they print nothing.
+
+    def reset_between(self, part, mode, status):
+        """Of one partition, or of all and the hypervisor, whose clock and plans begin again."""
+        if part is not None:
+            self.parts[part].reset(mode, status)
+            return
+        for each in self.parts:
+            each.reset(mode, 0)
+        self.reset_hypervisor(mode)
+        self.now = 0
+        self.plan, self.frame_start, self.asked = 0, 0, None
+
     # The report.
 
-    def run(self, ticks):
+    def run(self, ticks, resets=()):
+        """Resets are a tick's number, before which they are done, and what reset_between takes."""
         self.lines = [f"SYSTEM parts={len(self.parts)} plans={len(self.system.plans)} ticks={ticks}"]
+        waiting = list(resets)
         while self.done < ticks and not self.halted:
+            while waiting and waiting[0][0] == self.done:
+                self.reset_between(*waiting.pop(0)[1:])
             self.tick()
         for part in self.parts:
             state = f"END P{part.number} {part.state} resets={part.resets}"
@@ -755,8 +775,8 @@ def read_words(words):
     return words[0], length, files, [(int(number), name) for number, name in order]
 
 
-def run_words(words, folder=Path()):
-    """The report of a run, and the core files by their names."""
+def run_words(words, folder=Path(), resets=()):
+    """The report of a run with resets between its ticks, and the core files by their names."""
     box, (unit, count), files, order = read_words(words)
     try:
         system = read_container((folder / box).read_bytes())
@@ -775,7 +795,7 @@ def run_words(words, folder=Path()):
     if ticks > MOST_TICKS:
         raise Refusal(f"{box}: ticks asked={ticks}")
     machine = Machine(system, inputs)
-    report = machine.run(ticks)
+    report = machine.run(ticks, resets)
     return report, {name: machine.core_file(number) for number, name in files["--core"].items()}
 
 

@@ -6,7 +6,7 @@ use anyhow::{Context, Result};
 use toml::Value;
 
 // The keys of a case.
-const KEYS: [&str; 16] = [
+const KEYS: [&str; 17] = [
     "shows",
     "call",
     "words",
@@ -23,6 +23,7 @@ const KEYS: [&str; 16] = [
     "same",
     "absent",
     "fails",
+    "resets",
 ];
 
 /// A case, and its group.

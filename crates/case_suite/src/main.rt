@@ -1,5 +1,5 @@
 //! Does the cases of its data folder by the program's commands, and prints how many of each group come out as wanted, and
-//! each that does not.
+//! each that does not. A run that is to end well is done tick by tick, too.
 #![tactic(auto)]
 
 mod case;
@@ -7,6 +7,7 @@ mod entry;
 mod making;
 mod recipe;
 mod tally;
+mod ticking;
 mod trial;
 mod verdict;
 mod wanted;
@@ -27,7 +28,7 @@ use verdict::Verdict;
 const WORKED: &str = "worked.toml";
 
 // The files of cases, in the order in which they are done.
-const BOOKS: [&str; 20] = [
+const BOOKS: [&str; 21] = [
     "differing.toml",
     "raw_images.toml",
     "descriptions.toml",
@@ -44,6 +45,7 @@ const BOOKS: [&str; 20] = [
     "timers.toml",
     "health.toml",
     "resets.toml",
+    "between.toml",
     "outside.toml",
     "words.toml",
     "texts.toml",
@@ -65,7 +67,10 @@ fn main(rt: HostRuntime) -> Result<()> {
         let book = read_table(&rt, rt.alloc(), name)?;
         all.add(do_book(&rt, rt.alloc(), Entry::new(&book), &mut shelf).context(name)?);
     }
-    println!(rt; "all: {all} as wanted")?;
+    println!(rt;
+        "all: {all} as wanted, {} of them tick by tick",
+        all.ticked()
+    )?;
     Ok(())
 }
 
@@ -120,7 +125,7 @@ fn do_group(
     let name = group.text("name")?.context("a group has no name")?;
     let mut tally = Tally::new();
     for case in group.list("case")?.unwrap_or(&[]) {
-        tally.count(is_as_wanted(rt, alloc, shelf, name, group, case)?);
+        count(rt, alloc, shelf, name, group, case, &mut tally)?;
     }
     let verb = if group.has("differs") {
         "differ"
@@ -131,15 +136,16 @@ fn do_group(
     Ok(tally)
 }
 
-// Does a case, and answers whether it holds, or differs where it is to differ; else it is printed.
-fn is_as_wanted(
+// Does a case, and counts it: it is to hold, or to differ where its group is to differ; else it is printed.
+fn count(
     rt: &(impl Files + Print),
     alloc: Global,
     shelf: &Shelf,
     name: &str,
     group: Entry<'_>,
     case: &Value,
-) -> Result<bool> {
+    tally: &mut Tally,
+) -> Result<()> {
     let case = Case::new(entry_of(case)?, group).context(name)?;
     let shows = case.shows().context(name)?;
     match tried(rt, alloc, shelf, case) {
@@ -148,13 +154,17 @@ fn is_as_wanted(
             if !wanted {
                 print_verdict(rt, name, shows, &verdict)?;
             }
-            Ok(wanted)
+            tally.count(wanted);
+            if verdict.is_ticked() {
+                tally.count_ticked();
+            }
         }
         Err(error) => {
             println!(rt; "{name}, {shows}: cannot be done: {error:#}")?;
-            Ok(false)
+            tally.count(false);
         }
     }
+    Ok(())
 }
 
 // Prints how a case differs, or that it holds.

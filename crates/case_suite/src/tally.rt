@@ -1,4 +1,4 @@
-//! How many cases come out as wanted.
+//! How many cases come out as wanted, and how many were done tick by tick, too.
 
 ghost use Rattle.std.specs.Prelude.{◌≡◌, false};
 
@@ -9,11 +9,16 @@ use std::fmt;
 pub(crate) struct Tally {
     held: u32,
     tried: u32,
+    ticked: u32,
 }
 
 impl Tally {
     pub(crate) fn new() -> Tally {
-        Tally { held: 0, tried: 0 }
+        Tally {
+            held: 0,
+            tried: 0,
+            ticked: 0,
+        }
     }
 
     /// Counts a case.
@@ -26,10 +31,21 @@ impl Tally {
         self.tried = self.tried.saturating_add(1);
     }
 
+    /// Counts a run that was done tick by tick.
+    pub(crate) fn count_ticked(&mut self) {
+        self.ticked = self.ticked.saturating_add(1);
+    }
+
+    /// How many runs were done tick by tick.
+    pub(crate) fn ticked(self) -> u32 {
+        self.ticked
+    }
+
     /// Counts the cases of another tally.
     pub(crate) fn add(&mut self, other: Tally) {
         self.held = self.held.saturating_add(other.held);
         self.tried = self.tried.saturating_add(other.tried);
+        self.ticked = self.ticked.saturating_add(other.ticked);
     }
 }
 

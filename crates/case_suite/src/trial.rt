@@ -5,6 +5,7 @@ ghost use Rattle.std.specs.Prelude.{◌≡◌, OnOk};
 use crate::case::Case;
 use crate::entry::{Entry, number_of, text_of};
 use crate::making::{Shelf, made};
+use crate::ticking::is_ticked;
 use crate::verdict::Verdict;
 use crate::wanted;
 use anyhow::{Context, Result, bail};
@@ -72,6 +73,11 @@ fn compared<'a>(
     let fails = case.entry("fails")?;
     let mut files = store(alloc, fails, given)?;
     let words = prepare(alloc, case, &mut files)?;
+    let mut verdict = Verdict::new(alloc);
+    compare_ticks(alloc, case, &words, &files, &mut verdict)?;
+    if case.own.has("resets") {
+        return Ok(verdict);
+    }
     let mut out = sink(alloc, fails, "out", "out_step")?;
     let mut err = sink(alloc, fails, "err", "err_step")?;
     let status = xm_main(
@@ -82,9 +88,8 @@ fn compared<'a>(
         &mut err,
         &mut Board::new(),
     );
-    let mut verdict = Verdict::new(alloc);
     verdict.status(wanted::status(case)?, status)?;
-    verdict.report(case.own, out.got())?;
+    verdict.report("report", case.own, out.got())?;
     verdict.text(
         "error output",
         wanted::line(alloc, case)?.as_bytes(),
@@ -92,6 +97,25 @@ fn compared<'a>(
     )?;
     compare_files(shelf, case, given, &files, &mut verdict)?;
     Ok(verdict)
+}
+
+// Does the words' run tick by tick, where it is to end well, and compares its report.
+fn compare_ticks(
+    alloc: Global,
+    case: Case<'_>,
+    words: &Words,
+    files: &MemStore,
+    verdict: &mut Verdict,
+) -> Result<()> {
+    if wanted::status(case)? != Status::Done {
+        return Ok(());
+    }
+    let resets = case.own.list("resets")?.unwrap_or(&[]);
+    let mut out = sink(alloc, None, "out", "out_step")?;
+    if is_ticked(alloc, words, files, resets, &mut out)? {
+        verdict.report_of_ticks(case.own, out.got())?;
+    }
+    Ok(())
 }
 
 // A store with the files that are given.

@@ -5,11 +5,12 @@ use anyhow::Result;
 use std::alloc::Global;
 use xm_commands::Status;
 
-/// A line for each thing that differs.
+/// A line for each thing that differs, and whether a run was done tick by tick, too.
 #[derive(Drop)]
 pub(crate) struct Verdict {
     alloc: Global,
     lines: Vec<String>,
+    ticked: bool,
 }
 
 impl Verdict {
@@ -17,12 +18,24 @@ impl Verdict {
         Verdict {
             alloc,
             lines: Vec::new(alloc),
+            ticked: false,
         }
     }
 
     /// The lines; there is none where the case holds.
     pub(crate) fn lines(&self) -> &[String] {
         &self.lines
+    }
+
+    /// Whether a run was done tick by tick.
+    pub(crate) fn is_ticked(&self) -> bool {
+        self.ticked
+    }
+
+    /// Compares the report of a run that was done tick by tick.
+    pub(crate) fn report_of_ticks(&mut self, case: Entry<'_>, got: &[u8]) -> Result<()> {
+        self.ticked = true;
+        self.report("report tick by tick", case, got)
     }
 
     /// Compares the status.
@@ -34,12 +47,12 @@ impl Verdict {
         Ok(())
     }
 
-    /// Compares the report, or how it begins.
-    pub(crate) fn report(&mut self, case: Entry<'_>, got: &[u8]) -> Result<()> {
+    /// Compares a report, or how it begins.
+    pub(crate) fn report(&mut self, what: &str, case: Entry<'_>, got: &[u8]) -> Result<()> {
         match case.text("out_begins")? {
             Some(prefix) if got.starts_with(prefix.as_bytes()) => Ok(()),
-            Some(prefix) => self.text("report", prefix.as_bytes(), got),
-            None => self.text("report", case.text("out")?.unwrap_or("").as_bytes(), got),
+            Some(prefix) => self.text(what, prefix.as_bytes(), got),
+            None => self.text(what, case.text("out")?.unwrap_or("").as_bytes(), got),
         }
     }
 

@@ -1,0 +1,224 @@
+//! A run that is done tick by tick, with resets between its ticks.
+
+ghost use Rattle.std.specs.Prelude.{◌≡◌, ◌<◌, ◌≤◌, All, IfOk, length};
+ghost use Rattle.std.specs.Bool.{OnTrue};
+ghost use Rattle.slot_runs.specs.Passes.{part_at};
+
+use crate::entry::{Entry, entry_of};
+use anyhow::{Context, Result, bail};
+use std::alloc::Global;
+use toml::Value;
+use xm_base::{FILE_BYTES, Mode, TICKS};
+use xm_container::{System, unpack};
+use xm_machine::{Board, Inputs, Line, Machine, WriteFault, put_line};
+use xm_outside::{MemStore, Sink};
+use xm_words::{Command, PartFile, PartFiles, Span, Words, command};
+
+const NO_MEMORY: &str = "there is no memory";
+
+const NOT_TAKEN: &str = "the report is not taken";
+
+// A longer run is not done tick by tick.
+const MOST_TICKS: u64 = 100_000;
+
+/// Does a run tick by tick over these files, with these resets, and writes its report. Answers whether it did: the words may
+/// be those of another command, or of too long a run.
+pub(crate) fn is_ticked<O: Sink>(
+    alloc: Global,
+    words: &Words,
+    files: &MemStore,
+    resets: &[Value],
+    out: &mut O,
+) -> Result<bool> {
+    let Some(Command::Run { container, options }) = command(words) else {
+        return Ok(false);
+    };
+    let mut machine = booted(alloc, container, options.inputs(), files)?;
+    let ticks = ticks_in(&machine, options.span())?;
+    if ticks > MOST_TICKS {
+        return Ok(false);
+    }
+    put_front(&machine, ticks, out)?;
+    for reset in resets {
+        do_reset(&mut machine, ticks, entry_of(reset)?, out)?;
+    }
+    do_ticks(&mut machine, ticks, out)?;
+    put_end(&machine, out).ok().context(NOT_TAKEN)?;
+    Ok(true)
+}
+
+// The machine of a container and its input words.
+fn booted(
+    alloc: Global,
+    container: &str,
+    inputs: PartFiles<'_>,
+    files: &MemStore,
+) -> Result<Machine> {
+    let bytes = files.get(container).context("there is no container")?;
+    let system = unpack(alloc, bytes).ok().context("it is no container")?;
+    let inputs = inputs_in(alloc, count(&system), inputs, files)?;
+    let machine = Machine::boot(alloc, system, inputs);
+    machine.ok().context(NO_MEMORY)
+}
+
+// How many partitions a system has.
+#[tactic(auto, unfolding(xm_conf::specs::Description::described))]
+fn count(system: &System) -> u8
+    ensures { result ≡ length system.now.conf.parts }
+{
+    system.conf().raw().parts.len() as u8
+}
+
+// The input words of so many partitions.
+fn inputs_in(alloc: Global, parts: u8, named: PartFiles<'_>, files: &MemStore) -> Result<Inputs>
+    ensures { IfOk result (λ inputs. length inputs ≡ parts) }
+{
+    let mut inputs = Inputs::new(alloc, parts).ok().context(NO_MEMORY)?;
+    let mut rest = named;
+    while let Some((first, others)) = rest.split_first() {
+        give(&mut inputs, parts, first, files)?;
+        rest = others;
+    }
+    Ok(inputs)
+}
+
+// Gives a partition the words of its file.
+fn give(inputs: &mut Inputs, parts: u8, named: PartFile<'_>, files: &MemStore) -> Result<()>
+    requires { length inputs.old ≡ parts }
+    ensures { length inputs.new ≡ parts }
+{
+    let bytes = files.get(named.file).context(named.file)?;
+    if named.part >= parts || bytes.len() > FILE_BYTES {
+        bail!("{} is no input", named.file);
+    }
+    inputs.set(named.part, bytes).ok().context("no input words")
+}
+
+// How many ticks a run has.
+fn ticks_in(machine: &Machine, span: Span) -> Result<u64> {
+    match span {
+        Span::Ticks(ticks) => Ok(ticks),
+        Span::Frames(frames) => {
+            let plans = &machine.sys().conf().raw().plans;
+            let plan = plans.first().context("there is no plan")?;
+            let ticks = frames.checked_mul(u64::from(plan.frame));
+            ticks.context("too many frames")
+        }
+    }
+}
+
+// Writes the first line of the report.
+fn put_front<O: Sink>(machine: &Machine, ticks: u64, out: &mut O) -> Result<()> {
+    let conf = machine.sys().conf().raw();
+    let line = Line::System {
+        parts: u8::try_from(conf.parts.len())?,
+        plans: u8::try_from(conf.plans.len())?,
+        ticks,
+    };
+    put_line(out, &line).ok().context(NOT_TAKEN)
+}
+
+// Does ticks up to so many in all.
+fn do_ticks<O: Sink>(machine: &mut Machine, ticks: u64, out: &mut O) -> Result<()> {
+    for _ in machine.done()..ticks {
+        if machine.halted() || machine.done() >= TICKS {
+            break;
+        }
+        let told = machine.tick(out, &mut Board::new());
+        told.ok().context(NOT_TAKEN)?;
+    }
+    Ok(())
+}
+
+// Does the ticks before a reset, and then it, where the run comes to it.
+fn do_reset<O: Sink>(
+    machine: &mut Machine,
+    ticks: u64,
+    reset: Entry<'_>,
+    out: &mut O,
+) -> Result<()> {
+    reset.has_only(&["tick", "part", "status", "mode"])?;
+    let tick = reset.number("tick")?.context("a reset has no tick")?;
+    do_ticks(machine, ticks.min(tick), out)?;
+    if machine.halted() || tick >= ticks {
+        return Ok(());
+    }
+    let mode = mode_of(reset.text("mode")?.context("a reset has no mode")?)?;
+    match reset.number("part")? {
+        Some(part) => {
+            let status = reset.number("status")?.unwrap_or(0);
+            reset_part(machine, u8::try_from(part)?, mode, u32::try_from(status)?)
+        }
+        None => reset_all(machine, mode),
+    }
+}
+
+// The mode of a name.
+fn mode_of(name: &str) -> Result<Mode> {
+    match name {
+        "cold" => Ok(Mode::Cold),
+        "warm" => Ok(Mode::Warm),
+        _ => bail!("{name} is no mode"),
+    }
+}
+
+// Resets a partition.
+fn reset_part(machine: &mut Machine, part: u8, mode: Mode, status: u32) -> Result<()> {
+    if part >= machine.sys().count() || !is_log_short(machine, part) {
+        bail!("partition {part} cannot be reset");
+    }
+    machine.reset_part(part, mode, status);
+    Ok(())
+}
+
+// Resets all.
+fn reset_all(machine: &mut Machine, mode: Mode) -> Result<()> {
+    if !are_logs_short(machine) {
+        bail!("all cannot be reset");
+    }
+    machine.reset_all(mode);
+    Ok(())
+}
+
+// Whether the health log of a partition is no longer than the ticks.
+fn is_log_short(machine: &Machine, part: u8) -> bool
+    requires { part < length machine.now.state.parts }
+    ensures { OnTrue result ((part_at part machine.now.state).health.next ≤ machine.now.state.ticks) }
+{
+    u64::from(machine.sys().part(part).health.counts().next) <= machine.done()
+}
+
+// Whether that is so of all partitions.
+fn are_logs_short(machine: &Machine) -> bool
+    ensures { OnTrue result (All (λ part. part.health.next ≤ machine.now.state.ticks) machine.now.state.parts) }
+{
+    for part in 0..machine.sys().count() {
+        if !is_log_short(machine, part) {
+            return false;
+        }
+    }
+    true
+}
+
+// Writes the last lines of the report.
+fn put_end<O: Sink>(machine: &Machine, out: &mut O) -> Result<(), WriteFault> {
+    let sys = machine.sys();
+    for p in 0..sys.count() {
+        let part = sys.part(p);
+        let line = Line::EndPart {
+            p,
+            state: part.state,
+            resets: part.resets,
+            exec: part.clocks.exec(),
+            pc: part.core.pc,
+        };
+        put_line(out, &line)?;
+    }
+    let line = Line::EndWhole {
+        halted: machine.halted(),
+        plan: sys.plan_clock().plan(),
+        clock: sys.now(),
+        ticks: machine.done(),
+    };
+    put_line(out, &line)
+}
