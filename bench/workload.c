@@ -1,5 +1,6 @@
 /*
  * A workload of whole numbers without end, for measuring how fast guests run: the longer the run, the more rounds.
+ * With ROUNDS defined it ends after so many.
  *
  * A round has about 1.7 million instructions: sorting, hashing, a sieve, products of matrices, text, division, and
  * recursion deeper than the register windows, so that they spill and fill. `result` keeps the compiler from leaving work out.
@@ -206,7 +207,11 @@ static unsigned crc(void)
 int main(void)
 {
     unsigned sum = 0;
+#ifdef ROUNDS
+    for (unsigned round = 0; round < ROUNDS; round++) {
+#else
     for (;;) {
+#endif
         sum = sum * 31 + sorting();
         sum = sum * 31 + hashing();
         sum = sum * 31 + sieving();
@@ -218,4 +223,5 @@ int main(void)
         sum = sum * 31 + dividing();
         result = sum;
     }
+    return 0;
 }

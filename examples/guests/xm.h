@@ -1,9 +1,33 @@
 /*
- * The hypercalls, as inline functions: `ta 0x70`, the number in %o0, the arguments in %o1 to %o5, the result
- * in %o0. docs/HYPERCALLS.md says what each does, what it tests and what it writes.
+ * The hypervisor for guests in C: the calls as inline functions, what they write as structures, and the numbers that have
+ * names. For assembly it has the macros of a table of traps. docs/XM_H.md is the page of it, docs/HYPERCALLS.md says what
+ * each call tests and does.
  */
 #ifndef XM_H
 #define XM_H
+
+#ifdef __ASSEMBLER__
+
+/* Begins a table of traps of that name, at a multiple of 4096, in the section .text.traps. */
+        .macro  trap_table name
+        .section .text.traps, "ax"
+        .balign 4096
+        .global \name
+\name:
+        .endm
+
+/* The instructions after it, four at most, stand at the table's entry of a type. Types come in rising order. */
+        .macro  at_trap table, type
+        .org    \table + 16 * \type
+        .endm
+
+/* Back from a trap, as the locals 0 to 2 of this window say (call 34). */
+        .macro  return_from_trap
+        mov     34, %o0
+        ta      0x70
+        .endm
+
+#else
 
 /* The numbers. */
 enum {
@@ -66,7 +90,130 @@ enum { XM_SOURCE = 0, XM_DESTINATION = 1 };
 /* The most bytes of one console call. */
 enum { XM_CONSOLE_BYTES = 1024 };
 
+/* Virtual interrupts, as bits 1 << n of a mask, and the trap type of each. */
+enum {
+    XM_HW_TIMER = 0,
+    XM_EXEC_TIMER = 1,
+    XM_SHUTDOWN = 2,
+    XM_SAMPLING_PORT = 3,
+    XM_QUEUING_PORT = 4,
+    XM_SLOT_START = 5,
+};
+#define XM_INTERRUPT_TRAP(interrupt) (0xe0 + (interrupt))
+
+/* The bit of sparc_set_psr that enables traps. */
+enum { XM_TRAPS_ENABLED = 1 << 5 };
+
+/* Health events and actions, by their numbers. */
+enum {
+    XM_HM_EV_PARTITION_ERROR = 0,
+    XM_HM_EV_MEM_PROTECTION = 1,
+    XM_HM_EV_UNEXPECTED_TRAP = 2,
+    XM_HM_EV_SPARC_ILLEGAL_INSTRUCTION = 3,
+    XM_HM_EV_SPARC_PRIVILEGED_INSTRUCTION = 4,
+    XM_HM_EV_SPARC_FP_DISABLED = 5,
+    XM_HM_EV_SPARC_CP_DISABLED = 6,
+    XM_HM_EV_SPARC_ADDRESS_NOT_ALIGNED = 7,
+    XM_HM_EV_SPARC_TAG_OVERFLOW = 8,
+    XM_HM_EV_SPARC_DIVIDE_EXCEPTION = 9,
+    XM_HM_EV_SPARC_INSTR_ACCESS = 10,
+    XM_HM_EV_SPARC_DATA_ACCESS = 11,
+};
+enum {
+    XM_HM_AC_IGNORE = 0,
+    XM_HM_AC_SHUTDOWN = 1,
+    XM_HM_AC_PARTITION_COLD_RESET = 2,
+    XM_HM_AC_PARTITION_WARM_RESET = 3,
+    XM_HM_AC_SUSPEND = 4,
+    XM_HM_AC_HALT = 5,
+    XM_HM_AC_PROPAGATE = 6,
+    XM_HM_AC_HYPERVISOR_COLD_RESET = 7,
+    XM_HM_AC_HYPERVISOR_WARM_RESET = 8,
+    XM_HM_AC_HYPERVISOR_HALT = 9,
+    XM_HM_AC_SWITCH_TO_MAINTENANCE = 10,
+};
+
 typedef unsigned int xm_word;
+typedef long long xm_time; /* microseconds; a tick is one */
+
+/* What calls write. Numbers of 8 bytes stand at multiples of 4. */
+#define XM_WRITTEN __attribute__((packed, aligned(4)))
+
+enum xm_state { XM_READY = 0, XM_IDLE = 1, XM_SUSPENDED = 2, XM_HALTED = 3 };
+
+struct xm_partition_status {
+    xm_word state; /* enum xm_state */
+    xm_word resets;
+    xm_word reset_status;
+    xm_time execution_clock;
+} XM_WRITTEN;
+
+struct xm_system_status {
+    xm_word resets;
+    xm_word partitions;
+} XM_WRITTEN;
+
+#define XM_NONE 0xffffffffu
+
+struct xm_plan_status {
+    xm_time frame_start;
+    xm_word plan;
+    xm_word asked_plan; /* XM_NONE where none is asked for */
+    xm_word slot;
+} XM_WRITTEN;
+
+struct xm_sampling_status {
+    xm_time time; /* of the message; 0 for none */
+    xm_word length;
+    xm_word valid;
+} XM_WRITTEN;
+
+struct xm_queuing_status {
+    xm_word messages;
+    xm_word most;
+} XM_WRITTEN;
+
+struct xm_trace_entry {
+    xm_time time;
+    xm_word bits;
+    xm_word number;
+    unsigned char bytes[8];
+} XM_WRITTEN;
+
+struct xm_health_entry {
+    xm_time time;
+    xm_word number;
+    unsigned char event;
+    unsigned char action;
+    unsigned short zero;
+    xm_word word; /* the program counter, or the code of XM_hm_raise_event */
+} XM_WRITTEN;
+
+/* Of traces or of the health log: the entries from `first` on and before `next` are kept. */
+struct xm_counts {
+    xm_word first;
+    xm_word next;
+} XM_WRITTEN;
+
+_Static_assert(sizeof(struct xm_partition_status) == 20, "as it is written");
+_Static_assert(sizeof(struct xm_system_status) == 8, "as it is written");
+_Static_assert(sizeof(struct xm_plan_status) == 20, "as it is written");
+_Static_assert(sizeof(struct xm_sampling_status) == 16, "as it is written");
+_Static_assert(sizeof(struct xm_queuing_status) == 8, "as it is written");
+_Static_assert(sizeof(struct xm_trace_entry) == 24, "as it is written");
+_Static_assert(sizeof(struct xm_health_entry) == 20, "as it is written");
+_Static_assert(sizeof(struct xm_counts) == 8, "as it is written");
+
+/* The state that a trap interrupted, for handle_trap (traps.S). What the handler changes here the return takes. */
+struct xm_trap {
+    xm_word psr; /* condition codes in bits 23 to 20, XM_TRAPS_ENABLED */
+    xm_word pc;
+    xm_word npc;
+};
+
+/* The table of traps of traps.S, and the function that it calls, which whoever links it has. */
+extern const char trap_entries[];
+void handle_trap(unsigned type, struct xm_trap *trap);
 
 /* A call changes %o0 and what it writes to memory, and no other register. */
 static inline int xm_call(xm_word number, xm_word a, xm_word b, xm_word c, xm_word d, xm_word e)
@@ -126,25 +273,17 @@ static inline int xm_call_4(xm_word number, xm_word a, xm_word b, xm_word c, xm_
     return (int)o0;
 }
 
-/* The two that the machine makes. */
-
-/* Halts a partition. Of its own number it does not come back. */
-static inline int XM_halt_partition(unsigned partition)
-{
-    return xm_call_1(XM_NR_halt_partition, partition);
-}
-
-/* Writes bytes to the console, at most XM_CONSOLE_BYTES of them, and gives how many. */
-static inline int XM_write_console(const char *text, unsigned size)
-{
-    return xm_call_2(XM_NR_write_console, (xm_word)text, size);
-}
-
 /* Partitions and the system. */
 
 static inline int XM_get_self(void)
 {
     return xm_call_0(XM_NR_get_self);
+}
+
+/* Halts a partition. Of its own number it does not come back. */
+static inline int XM_halt_partition(unsigned partition)
+{
+    return xm_call_1(XM_NR_halt_partition, partition);
 }
 
 static inline int XM_reset_partition(unsigned partition, unsigned mode, unsigned status)
@@ -172,8 +311,7 @@ static inline int XM_idle_self(void)
     return xm_call_0(XM_NR_idle_self);
 }
 
-/* Writes 20 bytes. */
-static inline int XM_get_partition_status(unsigned partition, void *status)
+static inline int XM_get_partition_status(unsigned partition, struct xm_partition_status *status)
 {
     return xm_call_2(XM_NR_get_partition_status, partition, (xm_word)status);
 }
@@ -188,32 +326,30 @@ static inline int XM_reset_system(unsigned mode)
     return xm_call_1(XM_NR_reset_system, mode);
 }
 
-/* Writes 8 bytes. */
-static inline int XM_get_system_status(void *status)
+static inline int XM_get_system_status(struct xm_system_status *status)
 {
     return xm_call_1(XM_NR_get_system_status, (xm_word)status);
 }
 
 /* Clocks, timers and plans. */
 
-static inline int XM_get_time(unsigned clock, long long *time)
+static inline int XM_get_time(unsigned clock, xm_time *time)
 {
     return xm_call_2(XM_NR_get_time, clock, (xm_word)time);
 }
 
-static inline int XM_set_timer(unsigned clock, long long deadline, long long interval)
+static inline int XM_set_timer(unsigned clock, xm_time deadline, xm_time interval)
 {
     return xm_call(XM_NR_set_timer, clock, (xm_word)(deadline >> 32), (xm_word)deadline,
         (xm_word)(interval >> 32), (xm_word)interval);
 }
 
-static inline int XM_switch_sched_plan(unsigned plan, unsigned *current)
+static inline int XM_switch_sched_plan(unsigned plan, xm_word *current)
 {
     return xm_call_2(XM_NR_switch_sched_plan, plan, (xm_word)current);
 }
 
-/* Writes 20 bytes. */
-static inline int XM_get_plan_status(void *status)
+static inline int XM_get_plan_status(struct xm_plan_status *status)
 {
     return xm_call_1(XM_NR_get_plan_status, (xm_word)status);
 }
@@ -230,13 +366,12 @@ static inline int XM_write_sampling_message(unsigned port, const void *message, 
     return xm_call_3(XM_NR_write_sampling_message, port, (xm_word)message, size);
 }
 
-static inline int XM_read_sampling_message(unsigned port, void *message, unsigned size, unsigned *valid)
+static inline int XM_read_sampling_message(unsigned port, void *message, unsigned size, xm_word *valid)
 {
     return xm_call_4(XM_NR_read_sampling_message, port, (xm_word)message, size, (xm_word)valid);
 }
 
-/* Writes 16 bytes. */
-static inline int XM_get_sampling_port_status(unsigned port, void *status)
+static inline int XM_get_sampling_port_status(unsigned port, struct xm_sampling_status *status)
 {
     return xm_call_2(XM_NR_get_sampling_port_status, port, (xm_word)status);
 }
@@ -256,8 +391,7 @@ static inline int XM_receive_queuing_message(unsigned port, void *message, unsig
     return xm_call_3(XM_NR_receive_queuing_message, port, (xm_word)message, size);
 }
 
-/* Writes 8 bytes. */
-static inline int XM_get_queuing_port_status(unsigned port, void *status)
+static inline int XM_get_queuing_port_status(unsigned port, struct xm_queuing_status *status)
 {
     return xm_call_2(XM_NR_get_queuing_port_status, port, (xm_word)status);
 }
@@ -270,14 +404,12 @@ static inline int XM_trace_event(unsigned bits, const void *bytes)
     return xm_call_2(XM_NR_trace_event, bits, (xm_word)bytes);
 }
 
-/* Writes 24 bytes. */
-static inline int XM_trace_read(unsigned partition, unsigned number, void *entry)
+static inline int XM_trace_read(unsigned partition, unsigned number, struct xm_trace_entry *entry)
 {
     return xm_call_3(XM_NR_trace_read, partition, number, (xm_word)entry);
 }
 
-/* Writes 8 bytes. */
-static inline int XM_trace_status(unsigned partition, void *counts)
+static inline int XM_trace_status(unsigned partition, struct xm_counts *counts)
 {
     return xm_call_2(XM_NR_trace_status, partition, (xm_word)counts);
 }
@@ -287,19 +419,17 @@ static inline int XM_hm_raise_event(unsigned word)
     return xm_call_1(XM_NR_hm_raise_event, word);
 }
 
-/* Writes 20 bytes. */
-static inline int XM_hm_read(unsigned partition, unsigned number, void *entry)
+static inline int XM_hm_read(unsigned partition, unsigned number, struct xm_health_entry *entry)
 {
     return xm_call_3(XM_NR_hm_read, partition, number, (xm_word)entry);
 }
 
-/* Writes 8 bytes. */
-static inline int XM_hm_status(unsigned partition, void *counts)
+static inline int XM_hm_status(unsigned partition, struct xm_counts *counts)
 {
     return xm_call_2(XM_NR_hm_status, partition, (xm_word)counts);
 }
 
-/* Interrupts, input and the processor. */
+/* Interrupts, the console, input and the processor. */
 
 static inline int XM_set_irqmask(unsigned interrupts)
 {
@@ -311,12 +441,18 @@ static inline int XM_clear_irqmask(unsigned interrupts)
     return xm_call_1(XM_NR_clear_irqmask, interrupts);
 }
 
-static inline int XM_read_input(unsigned *word)
+/* Writes bytes to the console, at most XM_CONSOLE_BYTES of them, and gives how many. */
+static inline int XM_write_console(const char *text, unsigned size)
+{
+    return xm_call_2(XM_NR_write_console, (xm_word)text, size);
+}
+
+static inline int XM_read_input(xm_word *word)
 {
     return xm_call_1(XM_NR_read_input, (xm_word)word);
 }
 
-/* Back from a trap, as the locals of this window say: for the end of a trap's handler in assembly. */
+/* Back from a trap, as the locals of this window say. Handlers in assembly end with return_from_trap. */
 static inline int sparc_iret(void)
 {
     return xm_call_0(XM_NR_sparc_iret);
@@ -337,5 +473,7 @@ static inline int sparc_flush_regwin(void)
 {
     return xm_call_0(XM_NR_sparc_flush_regwin);
 }
+
+#endif /* __ASSEMBLER__ */
 
 #endif

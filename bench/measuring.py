@@ -1,0 +1,109 @@
+"""What the scripts of this folder share: the program that is measured, what callgrind counts, and rates."""
+import os
+import resource
+import subprocess
+import sys
+from collections import defaultdict
+
+ROOT = os.path.dirname(os.path.dirname(os.path.realpath(__file__)))
+BENCH = f"{ROOT}/bench"
+# Ticks under callgrind, and ticks for the rate.
+COUNTED = (2_000_000, 8_000_000)
+TIMED = (50_000_000, 250_000_000)
+TURNS = 3
+
+
+def stop(why):
+    sys.exit(f"{os.path.basename(sys.argv[0])}: {why}")
+
+
+def program():
+    """The program that `./xm_run` builds, or the one that PROGRAM names."""
+    given = os.environ.get("PROGRAM")
+    if given:
+        return given
+    done = subprocess.run([f"{ROOT}/xm_run", "bare", f"{ROOT}/examples/bare/hi.bin", "0"], stdout=subprocess.DEVNULL)
+    if done.returncode:
+        stop("the program is not built")
+    return f"{ROOT}/crates/xm_run/out/xm_run"
+
+
+def output_of(command, **more):
+    """What a command writes to standard output; it has to end with status 0."""
+    done = subprocess.run(command, stdout=subprocess.PIPE, stderr=subprocess.PIPE, stdin=subprocess.DEVNULL, text=True, **more)
+    if done.returncode:
+        stop(f"{' '.join(command)}: status {done.returncode}\n{done.stdout[-500:]}{done.stderr[-500:]}")
+    return done.stdout
+
+
+def under_callgrind(command, path):
+    """The command under callgrind, which writes what it counted to a file."""
+    return [
+        "valgrind", "--tool=callgrind", "--dump-instr=yes", "--compress-pos=no", "--compress-strings=no",
+        f"--callgrind-out-file={path}", *command,
+    ]  # fmt: skip
+
+
+class Profile:
+    """What callgrind counted: host instructions in all, by function, and at each address of the program."""
+
+    def __init__(self, path, name):
+        self.total = 0
+        self.by_function = defaultdict(int)
+        self.by_address = defaultdict(int)
+        function = ours = None
+        called = False
+        with open(path) as lines:
+            for line in lines:
+                if line.startswith("fn="):
+                    function = line[3:].strip()
+                elif line.startswith("ob="):
+                    ours = os.path.basename(line[3:].strip()) == name
+                elif line.startswith("totals:"):
+                    self.total = int(line.split()[1])
+                elif line.startswith("calls="):
+                    called = True
+                elif line.startswith("0x"):
+                    # The line behind `calls=` has the cost of what was called, which stands there itself.
+                    if not called:
+                        fields = line.split()
+                        self.by_function[function] += int(fields[-1])
+                        if ours:
+                            self.by_address[int(fields[0], 16)] += int(fields[-1])
+                    called = False
+
+
+def spent(profiles):
+    """The host instructions that the longer of two runs has more."""
+    before, after = profiles
+    return after.total - before.total
+
+
+def used():
+    """Seconds of processor time of all commands that have ended."""
+    usage = resource.getrusage(resource.RUSAGE_CHILDREN)
+    return usage.ru_utime + usage.ru_stime
+
+
+def seconds_of(run):
+    """Processor time of a run, so that what else the machine does counts little."""
+    before = used()
+    run()
+    return used() - before
+
+
+def rates(measured):
+    """Millions of guest instructions a second of processor time, by name; each has two runs with the guest instructions of each.
+
+    The difference of the two counts, each the best of some turns, in which all are measured one after the other.
+    """
+    best = {}
+    for _ in range(TURNS):
+        for name, runs in measured.items():
+            for guests, run in runs:
+                seconds = seconds_of(run)
+                best[name, guests] = min(seconds, best.get((name, guests), seconds))
+    found = {}
+    for name, ((short, _), (long, _)) in measured.items():
+        found[name] = (long - short) / (best[name, long] - best[name, short]) / 1e6
+    return found
