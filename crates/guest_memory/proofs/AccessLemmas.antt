@@ -1,72 +1,89 @@
--- Accesses to a memory that is kept by areas: where they are refused, and what they answer.
-use Rattle.std.proofs.Common.{◌≡◌, ◌≢◌, ℕ, zero, suc, ◌+◌, ◌%◌, ◌<◌, ◌≤◌, Bool, true, false, ◌&&◌, ◌||◌, not, cond, ◌==◌, List, [], ◌∷◌, length, get_or, take, drop, Option, Some, None, Ok, Err, refl, sym, ap, ◌∙◌, inl, inr, ⊎_elim, arith}
-use Rattle.std.specs.Prelude.{All, AllPairs, IsSomeAnd, slice_get}
+-- Accesses to a memory that is kept by areas: where they are refused, what they answer, and what they leave.
+use borrow.Rule.Slice.PartMut.{put_mid}
+use Rattle.std.proofs.Common.{◌≡◌, ◌≢◌, ℕ, zero, suc, ◌+◌, ◌-◌, ◌%◌, ◌<◌, ◌≤◌, Bool, true, false, not, cond, ◌==◌, List, [], ◌∷◌, length, take, drop, Option, Some, None, Ok, Err, refl, sym, ap, ◌∙◌, arith}
+use Rattle.std.specs.Prelude.{IsSomeAnd, slice_get}
+use Rattle.std.specs.FinMap.{get}
 use Rattle.std.specs.Int.{w32, byte_len, from_be_bytes, to_be_bytes}
 use Rattle.std.proofs.lemmas.Bool.Decides.{nat_tests}
 use Rattle.guest_bus.specs.Access.{Stores, access_fault, after_store, fetched, loaded, memory_unless_refused, store_fault, unless_refused, width_of}
-use Rattle.guest_bus.specs.Memory.{Area, Memory, covers, is_readable, is_writable, all_from, with_bytes}
+use Rattle.guest_bus.specs.AccessLemmas.{length-bytes_high_first}
+use Rattle.guest_bus.specs.Memory.{Area, Memory, bytes_at, is_readable, is_writable, all_from, with_bytes}
 use Rattle.guest_bus.specs.MemoryLemmas.{all_from-each, all_from-true}
 use Rattle.guest_bus.specs.declared.bus.BusFault.{BusFault}
 use Rattle.guest_bus.specs.declared.bus.BusFault.TheVariants.{Outside, Unaligned}
 use Rattle.guest_bus.specs.declared.bus.Size.{Size}
 use Rattle.guest_bus.specs.declared.bus.Size.TheVariants.{One, Two, Four, Eight}
-use Rattle.guest_memory.specs.Held.{HeldArea, seen, areas_in, memory_in, holds, LiesAt, IsAt, IsSpace, Accesses}
-use Rattle.guest_memory.specs.Memories.{Apart, IsPlaced}
-use Rattle.guest_memory.specs.declared.find.Place.{Place}
-use Rattle.guest_memory.proofs.HeldLemmas.{apart_first, apart_tail, bytes_at-memory_in, covers_at, not_both, readable_at, there}
+use Rattle.guest_memory.specs.Flat.{Accesses, Follow, IsAt, IsSpace, Stands, area_in, listed, memory_in}
+use Rattle.guest_memory.specs.Memories.{ArePlaced, IsPlaced, size_of}
+use Rattle.guest_memory.specs.declared.entry.Entry.{Entry}
+use Rattle.guest_memory.specs.declared.entry.Place.{Place}
+use Rattle.guest_memory.proofs.AreaLemmas.{covers_at, listed_at, placed_at, readable_at, writable_at, writable_readable}
+use Rattle.guest_memory.proofs.FlatLemmas.{bytes_at-memory_in, ends_within, get-memory_in, memory_in-put}
 
--- an area of the space is whole pages
-pub placed_at : (areas : List HeldArea) (k : ℕ) (held : HeldArea) → All IsPlaced (areas_in areas) → slice_get areas k ≡ Some held → IsPlaced (seen held)
-placed_at [] k held each is = absurd cc
-placed_at (x ∷ xs) zero held each is = let e : x ≡ held = cc in rw (← e) (each 0 (seen x) (omega arith))
-placed_at (x ∷ xs) (suc k) held each is = placed_at xs k held (λ i d below. each (suc i) d (omega (arith, below))) is
+-- what follows from the area that has an address follows from its place
+pub by_entry : {P : Type 0} (entries : List Entry) (place : Place) (q n : ℕ) → IsAt q n place entries → ((entry : Entry) → slice_get entries place.area ≡ Some entry → Stands q n place entry → P) → P
+by_entry {P} entries place q n stands follows = at (slice_get entries place.area) refl stands
+  where
+    at : (found : Option Entry) → slice_get entries place.area ≡ found → IsSomeAnd found (Stands q n place) → P
+    at None is here = absurd here
+    at (Some entry) is here = follows entry is here
+
+-- an address stands in the area of a number
+pub stands_there : (entries : List Entry) (k q : ℕ) (entry : Entry) (place : Place) → slice_get entries k ≡ Some entry → place.area ≡ k → Stands q 1 place entry → IsAt q 1 place entries
+stands_there entries k q entry place is same stands = let e : slice_get entries place.area ≡ Some entry = ap (slice_get entries) same ∙ is in rw e stands
+
+-- an area's place is how many bytes the areas before it have
+pub follow_at : (place : ℕ) (entries : List Entry) (k : ℕ) (entry : Entry) → Follow place entries → slice_get entries k ≡ Some entry → entry.place ≡ place + size_of (take k (listed entries))
+follow_at place [] k entry follow is = absurd cc
+follow_at place (x ∷ xs) zero entry follow is =
+    let e : entry ≡ x = cc in
+    let same : place ≡ place + 0 = omega arith in
+    ap (λ (y : Entry). y.place) e ∙ follow.0 ∙ same
+follow_at place (x ∷ xs) (suc k) entry follow is =
+    let same : place + x.size + size_of (take k (listed xs)) ≡ place + (x.size + size_of (take k (listed xs))) = omega arith in
+    follow_at (place + x.size) xs k entry follow.1 is ∙ same
+
+-- the place of bytes in an area
+lies_at : (entries : List Entry) (place : Place) (entry : Entry) (q n : ℕ) → Follow 0 entries → slice_get entries place.area ≡ Some entry → Stands q n place entry → place.byte + entry.start ≡ size_of (take place.area (listed entries)) + q
+lies_at entries place entry q n follow is here = let e = follow_at 0 entries place.area entry follow is in omega (arith, here.byte, e)
+
+-- so many bytes that stand in one area
+pub bytes_stand : (entries : List Entry) (bytes : List ℕ) (place : Place) (q n : ℕ) → IsSpace entries bytes → IsAt q n place entries → bytes_at (memory_in (listed entries) bytes) q n ≡ take n (drop place.byte bytes)
+bytes_stand entries bytes place q n space stands = by_entry entries place q n stands (λ entry is here.
+    bytes_at-memory_in (listed entries) place.area q n place.byte (area_in entry) bytes space.placed.apart (listed_at entries place.area entry is) space.whole here.from here.fits (lies_at entries place entry q n space.follow is here))
+
+-- they end within all bytes
+pub bytes_within : (entries : List Entry) (bytes : List ℕ) (place : Place) (q n : ℕ) → IsSpace entries bytes → IsAt q n place entries → place.byte + n ≤ length bytes
+bytes_within entries bytes place q n space stands = by_entry entries place q n stands (λ entry is here.
+    omega (arith, lies_at entries place entry q n space.follow is here, ends_within (listed entries) place.area (area_in entry) (listed_at entries place.area entry is), space.whole, here.fits))
+
+-- what is written there
+pub bytes_written : (entries : List Entry) (bytes new : List ℕ) (place : Place) (q n : ℕ) → IsSpace entries bytes → IsAt q n place entries → length new ≡ n
+    → memory_in (listed entries) (put_mid place.byte n bytes new) ≡ with_bytes (memory_in (listed entries) bytes) q new
+bytes_written entries bytes new place q n space stands counted = by_entry entries place q n stands (λ entry is here.
+    memory_in-put (listed entries) place.area q n place.byte (area_in entry) bytes new space.placed.apart (listed_at entries place.area entry is) space.whole here.from here.fits (lies_at entries place entry q n space.follow is here) counted)
+
+-- the byte at an address
+pub byte_stands : (entries : List Entry) (bytes : List ℕ) (place : Place) (q byte : ℕ) → IsSpace entries bytes → IsAt q 1 place entries → slice_get bytes place.byte ≡ Some byte → Some byte ≡ get (memory_in (listed entries) bytes) q
+byte_stands entries bytes place q byte space stands is_there = by_entry entries place q 1 stands (λ entry is here.
+    let at : size_of (take place.area (listed entries)) + (q - entry.start) ≡ place.byte = omega (arith, lies_at entries place entry q 1 space.follow is here, here.from) in
+    sym is_there ∙ ap (slice_get bytes) (sym at)
+    ∙ sym (get-memory_in (listed entries) place.area q (area_in entry) bytes space.placed.apart (listed_at entries place.area entry is) space.whole here.from (omega (arith, here.fits))))
 
 -- an aligned access that begins in an area ends in it
-pub aligned_fits : (held : HeldArea) (address at : ℕ) (size : Size) → IsPlaced (seen held) → address % byte_len (width_of size) ≡ 0 → LiesAt address at 1 held → at + byte_len (width_of size) ≤ length held.bytes
-aligned_fits held address at One placed aligned here = here.fits
-aligned_fits held address at Two placed aligned here = omega arith
-aligned_fits held address at Four placed aligned here = omega arith
-aligned_fits held address at Eight placed aligned here = omega arith
+pub aligned_fits : (area : Area) (address : ℕ) (size : Size) → IsPlaced area → address % byte_len (width_of size) ≡ 0 → area.start ≤ address → address + 1 ≤ area.start + area.size → address + byte_len (width_of size) ≤ area.start + area.size
+aligned_fits area address One placed aligned from fits = fits
+aligned_fits area address Two placed aligned from fits = omega (arith, placed.start, placed.size)
+aligned_fits area address Four placed aligned from fits = omega (arith, placed.start, placed.size)
+aligned_fits area address Eight placed aligned from fits = omega (arith, placed.start, placed.size)
 
 -- a range in one area may be read
-pub range_readable : (areas : List HeldArea) (k q at n : ℕ) (held : HeldArea) → slice_get areas k ≡ Some held → LiesAt q at n held → all_from (is_readable (areas_in areas)) q n ≡ true
-range_readable areas k q at n held is lies =
-    all_from-true (is_readable (areas_in areas)) q n (λ p from under. readable_at areas k p held is (covers_at (seen held) p (omega arith) (omega arith)))
-
--- where one area that is apart from all others has the address, none of the others lets it be written
-none_writable : (areas : List Area) (q : ℕ) → ((k : ℕ) (d : Area) → k < length areas → covers q (get_or areas k d) ≡ false) → is_writable areas q ≡ false
-none_writable [] q none = refl
-none_writable (a ∷ areas) q none =
-    let here : covers q a ≡ false = none 0 a (omega arith) in
-    rw here (none_writable areas q (λ k d below. none (suc k) d (omega (arith, below))))
-
--- apart from the other side
-apart_back : (a b : Area) → Apart a b → Apart b a
-apart_back a b (inl before) = inr before
-apart_back a b (inr behind) = inl behind
-
--- an address in one area is not in an area that is apart from it
-covers_apart : (a b : Area) (q : ℕ) → Apart a b → covers q b ≡ true → covers q a ≡ false
-covers_apart a b q apart has = ⊎_elim (λ below. grind (arith, nat_tests)) (λ above. grind (arith, nat_tests)) (not_both a b q apart has)
-
--- where the one area that has the address may only be read, it may not be written; else it may
-pub writable_at : (areas : List HeldArea) (k q : ℕ) (held : HeldArea) → AllPairs Apart (areas_in areas) → slice_get areas k ≡ Some held → holds q held ≡ true → is_writable (areas_in areas) q ≡ not held.read_only
-writable_at [] k q held apart is has = absurd cc
-writable_at (x ∷ xs) zero q held apart is has =
-    let e : x ≡ held = cc in
-    let here : holds q x ≡ true = ap (holds q) e ∙ has in
-    let later = none_writable (areas_in xs) q (λ i d below. covers_apart (get_or (areas_in xs) i d) (seen x) q (apart_back (seen x) (get_or (areas_in xs) i d) (apart 0 (suc i) d (omega arith) (omega (arith, below)))) here) in
-    rw (here, later) (or_false (not x.read_only) ∙ ap (λ (y : HeldArea). not y.read_only) e)
-  where
-    or_false : (b : Bool) → (b || false) ≡ b
-    or_false true = refl
-    or_false false = refl
-writable_at (x ∷ xs) (suc k) q held apart is has =
-    let out = covers_apart (seen x) (seen held) q (apart_first x xs k held apart is) has in
-    rw out (writable_at xs k q held (apart_tail (seen x) (areas_in xs) apart) is has)
+range_readable : (areas : List Area) (k q n : ℕ) (area : Area) → slice_get areas k ≡ Some area → area.start ≤ q → q + n ≤ area.start + area.size → all_from (is_readable areas) q n ≡ true
+range_readable areas k q n area is from fits =
+    all_from-true (is_readable areas) q n (λ p over under. readable_at areas k p area is (covers_at area p (omega arith) (omega arith)))
 
 -- an access that is aligned and allowed
-pub free_access : (allowed : ℕ → Bool) (address count : ℕ) → address % count ≡ 0 → all_from allowed address count ≡ true → access_fault allowed address count ≡ None
+free_access : (allowed : ℕ → Bool) (address count : ℕ) → address % count ≡ 0 → all_from allowed address count ≡ true → access_fault allowed address count ≡ None
 free_access allowed address count aligned all = let is : (address % count == 0) ≡ true = grind (arith, nat_tests) in rw (is, all)
 
 -- one that is aligned, and not allowed at its first byte
@@ -86,46 +103,34 @@ some_bytes Four = omega arith
 some_bytes Eight = omega arith
 
 -- an aligned access begins at its first byte, and nothing refuses it
-pub accesses_at : (areas : List HeldArea) (place : Place) (held : HeldArea) (address : ℕ) (size : Size) → IsSpace areas → slice_get areas place.area ≡ Some held → LiesAt address place.at 1 held → address % byte_len (width_of size) ≡ 0
-    → Accesses (is_readable (areas_in areas)) areas place address (byte_len (width_of size))
-accesses_at areas place held address size space is here aligned =
-    let fits = aligned_fits held address place.at size (placed_at areas place.area held space.placed.each is) aligned here in
-    let lies : LiesAt address place.at (byte_len (width_of size)) held = record { lies = here.lies; fits = fits } in
+pub accesses_found : (entries : List Entry) (place : Place) (address : ℕ) (size : Size) → ArePlaced (listed entries) → IsAt address 1 place entries → address % byte_len (width_of size) ≡ 0
+    → Accesses (is_readable (listed entries)) entries place address (byte_len (width_of size))
+accesses_found entries place address size placed stands aligned = by_entry entries place address 1 stands (λ entry is here.
+    let there = listed_at entries place.area entry is in
+    let fits = aligned_fits (area_in entry) address size (placed_at (listed entries) place.area (area_in entry) placed.each there) aligned here.from here.fits in
+    let all : Stands address (byte_len (width_of size)) place entry = record { from = here.from; fits = fits; byte = here.byte; room = here.room; read_only = here.read_only } in
     record {
-      free = free_access (is_readable (areas_in areas)) address (byte_len (width_of size)) aligned (range_readable areas place.area address place.at (byte_len (width_of size)) held is lies);
-      stands = rw is lies;
-    }
-
--- the same, where what stands there is known by its place
-pub accesses_found : (areas : List HeldArea) (place : Place) (address : ℕ) (size : Size) → IsSpace areas → IsAt address 1 place areas → address % byte_len (width_of size) ≡ 0
-    → Accesses (is_readable (areas_in areas)) areas place address (byte_len (width_of size))
-accesses_found areas place address size space stands aligned = at (slice_get areas place.area) refl stands
-  where
-    at : (found : Option HeldArea) → slice_get areas place.area ≡ found → IsSomeAnd found (LiesAt address place.at 1) → Accesses (is_readable (areas_in areas)) areas place address (byte_len (width_of size))
-    at None is here = absurd here
-    at (Some held) is here = accesses_at areas place held address size space is here aligned
+      free = free_access (is_readable (listed entries)) address (byte_len (width_of size)) aligned (range_readable (listed entries) place.area address (byte_len (width_of size)) (area_in entry) there here.from fits);
+      stands = rw is all;
+    })
 
 -- an access that nothing refuses answers its value
 answers : {X : Type 0} (fault : Option BusFault) (found value : X) → fault ≡ None → found ≡ value → unless_refused fault found ≡ Ok value
 answers fault found value none is = rw (none, is)
 
 -- the word that a fetch answers
-pub fetched_in : (areas : List HeldArea) (place : Place) (held : HeldArea) (address word : ℕ) → IsSpace areas → Accesses (is_readable (areas_in areas)) areas place address 4 → held ≡ get_or areas place.area held
-    → word ≡ from_be_bytes w32 (take 4 (drop place.at held.bytes)) → Ok word ≡ fetched (areas_in areas) (memory_in areas) address
+pub fetched_in : (entries : List Entry) (bytes : List ℕ) (place : Place) (address word : ℕ) → IsSpace entries bytes → Accesses (is_readable (listed entries)) entries place address 4
+    → word ≡ from_be_bytes w32 (take 4 (drop place.byte bytes)) → Ok word ≡ fetched (listed entries) (memory_in (listed entries) bytes) address
 unfolding fetched
-fetched_in areas place held address word space access e is =
-    let here = there areas place held address 4 access.stands e in
-    let lies : LiesAt address place.at 4 held = rw here at access.stands in
-    ap Ok is ∙ sym (answers _ _ _ access.free (ap (from_be_bytes w32) (bytes_at-memory_in areas place.area address place.at 4 held space.placed.apart here lies.lies lies.fits)))
+fetched_in entries bytes place address word space access is =
+    ap Ok is ∙ sym (answers _ _ _ access.free (ap (from_be_bytes w32) (bytes_stand entries bytes place address 4 space access.stands)))
 
 -- the value that a load answers
-pub loaded_in : (areas : List HeldArea) (place : Place) (held : HeldArea) (address value : ℕ) (size : Size) → IsSpace areas → Accesses (is_readable (areas_in areas)) areas place address (byte_len (width_of size)) → held ≡ get_or areas place.area held
-    → value ≡ from_be_bytes (width_of size) (take (byte_len (width_of size)) (drop place.at held.bytes)) → Ok value ≡ loaded (areas_in areas) (memory_in areas) address size
+pub loaded_in : (entries : List Entry) (bytes : List ℕ) (place : Place) (address value : ℕ) (size : Size) → IsSpace entries bytes → Accesses (is_readable (listed entries)) entries place address (byte_len (width_of size))
+    → value ≡ from_be_bytes (width_of size) (take (byte_len (width_of size)) (drop place.byte bytes)) → Ok value ≡ loaded (listed entries) (memory_in (listed entries) bytes) address size
 unfolding loaded
-loaded_in areas place held address value size space access e is =
-    let here = there areas place held address (byte_len (width_of size)) access.stands e in
-    let lies : LiesAt address place.at (byte_len (width_of size)) held = rw here at access.stands in
-    ap Ok is ∙ sym (answers _ _ _ access.free (ap (from_be_bytes (width_of size)) (bytes_at-memory_in areas place.area address place.at (byte_len (width_of size)) held space.placed.apart here lies.lies lies.fits)))
+loaded_in entries bytes place address value size space access is =
+    ap Ok is ∙ sym (answers _ _ _ access.free (ap (from_be_bytes (width_of size)) (bytes_stand entries bytes place address (byte_len (width_of size)) space access.stands)))
 
 -- an access that nothing refuses is aligned
 aligned_where_free : (allowed : ℕ → Bool) (address count : ℕ) → access_fault allowed address count ≡ None → address % count ≡ 0
@@ -135,40 +140,26 @@ aligned_where_free allowed address count free = at (address % count == 0) refl f
     at true is e = grind (arith, nat_tests)
     at false is e = absurd cc
 
--- the area at the place of an access has the access's first byte
-has_first : (held : HeldArea) (address at : ℕ) (size : Size) → LiesAt address at (byte_len (width_of size)) held → (q : ℕ) → address ≤ q → q < address + byte_len (width_of size) → holds q held ≡ true
-has_first held address at size lies q from under = covers_at (seen held) q (omega (arith, lies.lies)) (omega (arith, lies.lies, lies.fits))
-
 -- a store to an area that may only be read is outside
-pub store_refused : (areas : List HeldArea) (place : Place) (held : HeldArea) (address : ℕ) (size : Size) → IsSpace areas → Accesses (is_readable (areas_in areas)) areas place address (byte_len (width_of size)) → held ≡ get_or areas place.area held → held.read_only ≡ true
-    → access_fault (is_writable (areas_in areas)) address (byte_len (width_of size)) ≡ Some Outside
-store_refused areas place held address size space access e only =
-    let here = there areas place held address (byte_len (width_of size)) access.stands e in
-    let lies : LiesAt address place.at (byte_len (width_of size)) held = rw here at access.stands in
-    let none = writable_at areas place.area address held space.placed.apart here (has_first held address place.at size lies address (omega arith) (omega (arith, some_bytes size))) ∙ ap not only in
-    outside_access (is_writable (areas_in areas)) address (byte_len (width_of size)) (aligned_where_free (is_readable (areas_in areas)) address (byte_len (width_of size)) access.free) (some_bytes size) none
+pub store_refused : (entries : List Entry) (place : Place) (address : ℕ) (size : Size) → ArePlaced (listed entries) → Accesses (is_readable (listed entries)) entries place address (byte_len (width_of size)) → place.read_only ≡ true
+    → access_fault (is_writable (listed entries)) address (byte_len (width_of size)) ≡ Some Outside
+store_refused entries place address size placed access only = by_entry entries place address (byte_len (width_of size)) access.stands (λ entry is here.
+    let there = listed_at entries place.area entry is in
+    let has = covers_at (area_in entry) address here.from (omega (arith, here.fits, some_bytes size)) in
+    let none = writable_at (listed entries) place.area address (area_in entry) placed.apart there has ∙ ap not (sym here.read_only ∙ only) in
+    outside_access (is_writable (listed entries)) address (byte_len (width_of size)) (aligned_where_free (is_readable (listed entries)) address (byte_len (width_of size)) access.free) (some_bytes size) none)
 
 -- to another area nothing refuses it
-pub store_free : (areas : List HeldArea) (place : Place) (held : HeldArea) (address : ℕ) (size : Size) → IsSpace areas → Accesses (is_readable (areas_in areas)) areas place address (byte_len (width_of size)) → held ≡ get_or areas place.area held → held.read_only ≡ false
-    → Accesses (is_writable (areas_in areas)) areas place address (byte_len (width_of size))
-store_free areas place held address size space access e free =
-    let here = there areas place held address (byte_len (width_of size)) access.stands e in
-    let lies : LiesAt address place.at (byte_len (width_of size)) held = rw here at access.stands in
+pub store_free : (entries : List Entry) (place : Place) (address : ℕ) (size : Size) → ArePlaced (listed entries) → Accesses (is_readable (listed entries)) entries place address (byte_len (width_of size)) → place.read_only ≡ false
+    → Accesses (is_writable (listed entries)) entries place address (byte_len (width_of size))
+store_free entries place address size placed access free = by_entry entries place address (byte_len (width_of size)) access.stands (λ entry is here.
+    let there = listed_at entries place.area entry is in
     record {
-      free = free_access (is_writable (areas_in areas)) address (byte_len (width_of size)) (aligned_where_free (is_readable (areas_in areas)) address (byte_len (width_of size)) access.free)
-          (all_from-true (is_writable (areas_in areas)) address (byte_len (width_of size)) (λ q from under.
-          writable_at areas place.area q held space.placed.apart here (has_first held address place.at size lies q from under) ∙ ap not free));
+      free = free_access (is_writable (listed entries)) address (byte_len (width_of size)) (aligned_where_free (is_readable (listed entries)) address (byte_len (width_of size)) access.free)
+          (all_from-true (is_writable (listed entries)) address (byte_len (width_of size)) (λ q from under.
+          writable_at (listed entries) place.area q (area_in entry) placed.apart there (covers_at (area_in entry) q (omega (arith, here.from)) (omega (arith, here.fits))) ∙ ap not (sym here.read_only ∙ free)));
       stands = access.stands;
-    }
-
--- what may be written may be read
-pub writable_readable : (areas : List Area) (q : ℕ) → is_readable areas q ≡ false → is_writable areas q ≡ false
-writable_readable [] q none = refl
-writable_readable (a ∷ areas) q none = at (covers q a) (writable_readable areas q) none
-  where
-    at : (b : Bool) → (is_readable areas q ≡ false → is_writable areas q ≡ false) → (b || is_readable areas q) ≡ false → ((b && not a.read_only) || is_writable areas q) ≡ false
-    at true later e = absurd cc
-    at false later e = later e
+    })
 
 -- a range that may be written may be read
 pub range_readable_where_writable : (areas : List Area) (address count : ℕ) → all_from (is_writable areas) address count ≡ true → all_from (is_readable areas) address count ≡ true
@@ -212,3 +203,11 @@ stores_refused areas address size fault refused = rw refused refl
 pub unstored : (areas : List Area) (memory : Memory) (address value : ℕ) (size : Size) (fault : BusFault) → access_fault (is_writable areas) address (byte_len (width_of size)) ≡ Some fault → memory ≡ after_store areas memory address size value
 unfolding after_store store_fault
 unstored areas memory address value size fault refused = rw refused
+
+-- what a store to a place leaves
+pub value_written : (entries : List Entry) (bytes new : List ℕ) (place : Place) (address value : ℕ) (size : Size) → IsSpace entries bytes → Accesses (is_writable (listed entries)) entries place address (byte_len (width_of size))
+    → new ≡ put_mid place.byte (byte_len (width_of size)) bytes (to_be_bytes (width_of size) value) → memory_in (listed entries) new ≡ after_store (listed entries) (memory_in (listed entries) bytes) address size value
+value_written entries bytes new place address value size space access put =
+    stored_in (listed entries) (memory_in (listed entries) bytes) (memory_in (listed entries) new) address value size access.free
+    (ap (memory_in (listed entries)) put
+    ∙ bytes_written entries bytes (to_be_bytes (width_of size) value) place address (byte_len (width_of size)) space access.stands (length-bytes_high_first (byte_len (width_of size)) value))

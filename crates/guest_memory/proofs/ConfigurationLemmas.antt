@@ -1,22 +1,21 @@
 -- The areas of a configuration that meets the rules are whole pages below 2^32, and those of one partition are apart.
-use Rattle.std.proofs.Common.{◌≡◌, ℕ, suc, ◌+◌, ◌<◌, ◌≤◌, ◌^◌, List, [], ◌∷◌, ◌++◌, length, map, get_or, sym, ap, ◌∙◌, subst, arith}
+use Rattle.std.proofs.Common.{◌≡◌, ℕ, suc, ◌+◌, ◌<◌, ◌≤◌, ◌^◌, List, [], ◌∷◌, ◌++◌, map, get_or, refl, sym, arith}
+use Rattle.std.specs.List.{sum_by}
 use Rattle.std.specs.Prelude.{All, AllPairs, Any}
-use Rattle.std.proofs.Math.ListN.{get_or-map}
 use Rattle.std.proofs.lemmas.List.Elements.{All-cons, All-nil}
 use Rattle.std.proofs.lemmas.List.Kept.{AllPairs-cons}
-use Rattle.std.proofs.lemmas.List.{length-map}
-use Rattle.guest_bus.specs.Memory.{Area}
+use Rattle.std.proofs.lemmas.List.Sums.{sum_by-cons}
 use Rattle.xm_conf.specs.Along.{each_from}
 use Rattle.xm_conf.specs.Configuration.{Conf, Part}
 use Rattle.xm_conf.specs.Description.{described}
 use Rattle.xm_conf.specs.Fits.{Fits, IsRegion, IsSized, LiesIn}
 use Rattle.xm_conf.specs.Fits as rules
-use Rattle.xm_conf.specs.Rules.{addresses, area_stretch, page, part_stretches, stretch, stretches, whole_stretch, hypervisor}
+use Rattle.xm_conf.specs.Rules.{addresses, area_stretch, most_memory, page, part_size, part_stretches, stretch, stretches, whole_stretch, hypervisor}
 use Rattle.xm_conf.specs.declared.item.Item.{Item}
 use Rattle.xm_conf.specs.declared.part.Area as configured
 use Rattle.xm_conf.specs.declared.raw.Region.{Region}
 use Rattle.guest_memory.specs.Loading.{area_of, areas_of}
-use Rattle.guest_memory.specs.Memories.{Apart, ArePlaced, IsPlaced}
+use Rattle.guest_memory.specs.Memories.{Apart, ArePlaced, IsPlaced, size_of, whole_size}
 
 -- pairs of all but the first
 pairs_tail : {X : Type 0} (R : X → X → Type 0) (x : X) (xs : List X) → AllPairs R (x ∷ xs) → AllPairs R xs
@@ -98,7 +97,18 @@ fits_placed conf item fits =
     parts_placed conf.regions 0 item conf.parts fits.regions_sized fits.areas_sized fits.areas_inside
     (pairs_behind TellsApart (whole_stretch (hypervisor conf.hv_size conf.regions)) (each_from part_stretches 0 conf.parts) fits.areas_apart)
 
--- the areas of one partition are placed
-pub placed_of : (parts : List Part) (i : ℕ) (part : Part) → All ArePlaced (map areas_of parts) → i < length parts → part ≡ get_or parts i part → ArePlaced (areas_of part)
-placed_of parts i part all below is =
-    subst (λ (areas : List Area). ArePlaced areas) (get_or-map areas_of parts i part ∙ ap areas_of (sym is)) (all i (areas_of part) (omega (arith, length-map parts areas_of)))
+-- the bytes of areas, by the rules
+areas_sized : (areas : List configured.Area) → size_of (map area_of areas) ≡ sum_by (λ area. area.size) areas
+areas_sized [] = refl
+areas_sized (area ∷ areas) = omega (arith, areas_sized areas, sum_by-cons (λ (a : configured.Area). a.size) area areas)
+
+-- the bytes of all partitions, by the rules
+parts_sized : (parts : List Part) → whole_size (map areas_of parts) ≡ sum_by part_size parts
+unfolding areas_of part_size
+parts_sized [] = refl
+parts_sized (part ∷ parts) = omega (arith, areas_sized part.areas, parts_sized parts, sum_by-cons part_size part parts)
+
+-- they are fewer than a place can tell
+pub fits_few : (conf : Conf) → Fits (described conf) → whole_size (map areas_of conf.parts) < 4294967296
+unfolding described most_memory
+fits_few conf fits = omega (arith, parts_sized conf.parts, fits.memory)

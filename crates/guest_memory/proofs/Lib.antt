@@ -1,8 +1,11 @@
 pub mod AccessLemmas
+pub mod AreaLemmas
 pub mod ConfigurationLemmas
-pub mod HeldLemmas
+pub mod FlatLemmas
 pub mod MemoriesLemmas
+pub mod NearLemmas
 pub mod RangeLemmas
 pub mod SegmentLemmas
+pub mod TableLemmas
 pub mod TestLemmas
-pub mod WriteLemmas
+pub mod ZeroLemmas

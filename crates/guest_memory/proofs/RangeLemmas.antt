@@ -1,20 +1,21 @@
 -- Ranges of addresses: which of them is the first that is not allowed, and their bytes by parts.
-use Rattle.std.proofs.Common.{◌≡◌, ℕ, zero, suc, ◌+◌, ◌-◌, ◌<◌, ◌≤◌, ◌^◌, Bool, true, false, ◌&&◌, not, cond, List, [], ◌∷◌, ◌++◌, length, map, min, set, get_or, take, drop, Option, Some, None, is_some, refl, sym, ap, ◌∙◌, arith, length-take, take-add}
+use Rattle.std.proofs.Common.{◌≡◌, ℕ, zero, suc, ◌+◌, ◌-◌, ◌<◌, ◌≤◌, ◌^◌, Bool, true, false, ◌&&◌, not, cond, List, [], ◌∷◌, ◌++◌, length, take, drop, Option, Some, None, is_some, refl, sym, ap, ◌∙◌, arith, length-take, take-add}
 use borrow.Rule.Slice.PartMut.{put_mid}
 use Rattle.std.specs.Prelude.{slice_get}
 use Rattle.std.proofs.lemmas.Bool.{and_parts}
 use Rattle.std.proofs.lemmas.List.{take_rest}
 use Rattle.std.proofs.lemmas.Slice.{take-put_mid}
 use Rattle.std.specs.FinMap.{insert}
-use Rattle.guest_bus.specs.Memory.{Area, Memory, is_readable, all_from, bytes_at, with_bytes}
+use Rattle.guest_bus.specs.Memory.{Area, Memory, covers, is_readable, all_from, bytes_at, with_bytes}
 use Rattle.guest_bus.specs.MemoryLemmas.{all_from-each, all_from-true, length-bytes_at}
-use Rattle.guest_memory.specs.Held.{HeldArea, seen, areas_in, memory_in, holds, LiesAt, IsAt, IsSpace, zeroed}
-use Rattle.guest_memory.specs.Memories.{allows, first_refused, refuses}
+use Rattle.guest_memory.specs.Flat.{IsAt, IsSpace, Stands, area_in, listed, memory_in}
+use Rattle.guest_memory.specs.Memories.{ArePlaced, allows, first_refused, refuses}
 use Rattle.guest_memory.specs.declared.access.Access.{Access}
 use Rattle.guest_memory.specs.declared.access.Access.TheVariants.{Read, Write}
-use Rattle.guest_memory.specs.declared.find.Place.{Place}
-use Rattle.guest_memory.proofs.AccessLemmas.{placed_at, writable_at, writable_readable}
-use Rattle.guest_memory.proofs.HeldLemmas.{bytes_at-memory_in, covers_at, readable_at, there}
+use Rattle.guest_memory.specs.declared.entry.Entry.{Entry}
+use Rattle.guest_memory.specs.declared.entry.Place.{Place}
+use Rattle.guest_memory.proofs.AccessLemmas.{by_entry, bytes_stand, bytes_written}
+use Rattle.guest_memory.proofs.AreaLemmas.{covers_at, listed_at, placed_at, readable_at, writable_at, writable_readable}
 
 -- twice not
 pub not_not : (b : Bool) → not (not b) ≡ b
@@ -63,35 +64,35 @@ nothing_allowed Read areas q none = none
 nothing_allowed Write areas q none = writable_readable areas q none
 
 -- an access is allowed where the one area that has the address does not refuse it
-pub allowed_in : (access : Access) (areas : List HeldArea) (k q : ℕ) (held : HeldArea) → IsSpace areas → slice_get areas k ≡ Some held → holds q held ≡ true → allows access (areas_in areas) q ≡ not (refuses access held.read_only)
-allowed_in Read areas k q held space is has = readable_at areas k q held is has
-allowed_in Write areas k q held space is has = writable_at areas k q held space.placed.apart is has
+allowed_in : (access : Access) (areas : List Area) (k q : ℕ) (area : Area) → ArePlaced areas → slice_get areas k ≡ Some area → covers q area ≡ true → allows access areas q ≡ not (refuses access area.read_only)
+allowed_in Read areas k q area placed is has = readable_at areas k q area is has
+allowed_in Write areas k q area placed is has = writable_at areas k q area placed.apart is has
 
 -- the rest of an area that does not refuse an access is allowed
-pub room_allowed : (access : Access) (areas : List HeldArea) (place : Place) (held : HeldArea) (q : ℕ) → IsSpace areas → IsAt q 1 place areas → held ≡ get_or areas place.area held → refuses access held.read_only ≡ false
-    → all_from (allows access (areas_in areas)) q (length held.bytes - place.at) ≡ true
-room_allowed access areas place held q space stands e free =
-    let here = there areas place held q 1 stands e in
-    let lies : LiesAt q place.at 1 held = rw here at stands in
-    all_from-true (allows access (areas_in areas)) q (length held.bytes - place.at) (λ p from under.
-    allowed_in access areas place.area p held space here (covers_at (seen held) p (omega (arith, lies.lies, lies.fits)) (omega (arith, lies.lies, lies.fits))) ∙ ap not free)
+pub room_allowed : (access : Access) (entries : List Entry) (place : Place) (q : ℕ) → ArePlaced (listed entries) → IsAt q 1 place entries → refuses access place.read_only ≡ false
+    → all_from (allows access (listed entries)) q place.room ≡ true
+room_allowed access entries place q placed stands free = by_entry entries place q 1 stands (λ entry is here.
+    all_from-true (allows access (listed entries)) q place.room (λ p from under.
+    allowed_in access (listed entries) place.area p (area_in entry) placed (listed_at entries place.area entry is) (covers_at (area_in entry) p (omega (arith, here.from)) (omega (arith, here.room)))
+    ∙ ap (λ (only : Bool). not (refuses access only)) (sym here.read_only) ∙ ap not free))
 
 -- it ends at or below 2^32, and has at least one byte
-pub room_ends : (areas : List HeldArea) (place : Place) (held : HeldArea) (q : ℕ) → IsSpace areas → IsAt q 1 place areas → held ≡ get_or areas place.area held
-    → (place.at + 1 ≤ length held.bytes) × (q + (length held.bytes - place.at) ≤ 2 ^ 32)
-room_ends areas place held q space stands e =
-    let here = there areas place held q 1 stands e in
-    let lies : LiesAt q place.at 1 held = rw here at stands in
-    let placed = placed_at areas place.area held space.placed.each here in
-    (lies.fits, omega (arith, lies.lies, lies.fits, placed.ends))
+pub room_ends : (entries : List Entry) (place : Place) (q : ℕ) → ArePlaced (listed entries) → IsAt q 1 place entries → (0 < place.room) × (q + place.room ≤ 2 ^ 32)
+room_ends entries place q placed stands = by_entry entries place q 1 stands (λ entry is here.
+    let whole = placed_at (listed entries) place.area (area_in entry) placed.each (listed_at entries place.area entry is) in
+    (omega (arith, here.room, here.fits), omega (arith, here.room, whole.ends)))
 
 -- an area that refuses an access
-pub room_refused : (access : Access) (areas : List HeldArea) (place : Place) (held : HeldArea) (q : ℕ) → IsSpace areas → IsAt q 1 place areas → held ≡ get_or areas place.area held → refuses access held.read_only ≡ true
-    → allows access (areas_in areas) q ≡ false
-room_refused access areas place held q space stands e refused =
-    let here = there areas place held q 1 stands e in
-    let lies : LiesAt q place.at 1 held = rw here at stands in
-    allowed_in access areas place.area q held space here (covers_at (seen held) q (omega (arith, lies.lies)) (omega (arith, lies.lies, lies.fits))) ∙ ap not refused
+pub room_refused : (access : Access) (entries : List Entry) (place : Place) (q : ℕ) → ArePlaced (listed entries) → IsAt q 1 place entries → refuses access place.read_only ≡ true → allows access (listed entries) q ≡ false
+room_refused access entries place q placed stands refused = by_entry entries place q 1 stands (λ entry is here.
+    allowed_in access (listed entries) place.area q (area_in entry) placed (listed_at entries place.area entry is) (covers_at (area_in entry) q here.from (omega (arith, here.fits)))
+    ∙ ap (λ (only : Bool). not (refuses access only)) (sym here.read_only) ∙ ap not refused)
+
+-- so many bytes up to the end of an area
+pub room_stands : (entries : List Entry) (place : Place) (q n : ℕ) → IsAt q 1 place entries → n ≤ place.room → IsAt q n place entries
+room_stands entries place q n stands within = by_entry entries place q 1 stands (λ entry is here.
+    let all : Stands q n place entry = record { from = here.from; fits = omega (arith, here.room); byte = here.byte; room = here.room; read_only = here.read_only } in
+    rw is all)
 
 -- the bytes of a range in two parts
 pub bytes_at-add : (m : Memory) (a n k : ℕ) → bytes_at m a (n + k) ≡ bytes_at m a n ++ bytes_at m (a + n) k
@@ -112,16 +113,24 @@ with_bytes-append m a (x ∷ xs) ys =
     rw same (with_bytes-append (insert m a x) (suc a) xs ys)
 
 -- a piece of a range is read from the area that has its first address
-pub piece_read : (areas : List HeldArea) (place : Place) (held : HeldArea) (address size count most done : ℕ) (into new part : List ℕ) → IsSpace areas → IsAt address 1 place areas
-    → held ≡ get_or areas place.area held → size ≡ length held.bytes → count ≡ min (size - place.at) most → part ≡ take count (drop place.at held.bytes)
-    → new ≡ put_mid done (length part) into part → new ≡ put_mid done count into (bytes_at (memory_in areas) address count)
-piece_read areas place held address size count most done into new part space stands is sized counted part_is changed =
-    let here = there areas place held address 1 stands is in
-    let lies : LiesAt address place.at 1 held = rw here at stands in
-    let same : part ≡ bytes_at (memory_in areas) address count =
-    part_is ∙ sym (bytes_at-memory_in areas place.area address place.at count held space.placed.apart here lies.lies (omega (arith, lies.fits))) in
+pub piece_read : (entries : List Entry) (bytes : List ℕ) (place : Place) (address count done : ℕ) (into new part : List ℕ) → IsSpace entries bytes → IsAt address 1 place entries → count ≤ place.room
+    → part ≡ take count (drop place.byte bytes) → new ≡ put_mid done (length part) into part → new ≡ put_mid done count into (bytes_at (memory_in (listed entries) bytes) address count)
+piece_read entries bytes place address count done into new part space stands within part_is changed =
+    let same : part ≡ bytes_at (memory_in (listed entries) bytes) address count = part_is ∙ sym (bytes_stand entries bytes place address count space (room_stands entries place address count stands within)) in
     changed ∙ ap (λ (p : List ℕ). put_mid done (length p) into p) same
-    ∙ ap (λ (n : ℕ). put_mid done n into (bytes_at (memory_in areas) address count)) (length-bytes_at (memory_in areas) address count)
+    ∙ ap (λ (n : ℕ). put_mid done n into (bytes_at (memory_in (listed entries) bytes) address count)) (length-bytes_at (memory_in (listed entries) bytes) address count)
+
+-- a piece of some bytes is written to the area that has the address
+pub piece_written : (entries : List Entry) (bytes new : List ℕ) (place : Place) (address count : ℕ) (from : List ℕ) → IsSpace entries bytes → IsAt address 1 place entries → count ≤ place.room → count ≤ length from
+    → new ≡ put_mid place.byte (length (take count from)) bytes (take count from) → memory_in (listed entries) new ≡ with_bytes (memory_in (listed entries) bytes) address (take count from)
+piece_written entries bytes new place address count from space stands within fits put =
+    let counted : length (take count from) ≡ count = omega (arith, length-take count from) in
+    ap (memory_in (listed entries)) put
+    ∙ bytes_written entries bytes (take count from) place address (length (take count from)) space (room_stands entries place address (length (take count from)) stands (omega (arith, counted))) refl
+
+-- as many bytes as before are a space
+pub still_space : (entries : List Entry) (bytes new : List ℕ) → IsSpace entries bytes → length new ≡ length bytes → IsSpace entries new
+still_space entries bytes new space same = record { placed = space.placed; follow = space.follow; whole = same ∙ space.whole }
 
 -- a range of which a piece more was read
 pub read_more : (m : Memory) (address done n : ℕ) (old new : List ℕ) → done + n ≤ length old → take done old ≡ bytes_at m address done → new ≡ put_mid done n old (bytes_at m (address + done) n)
@@ -141,10 +150,3 @@ written_more old mid new address done n from within front changed =
     changed ∙ ap (λ (r : List ℕ). with_bytes mid (address + done) (take n r)) rest ∙ ap (λ (m : Memory). with_bytes m (address + done) (take n (drop done from))) front
     ∙ ap (λ (k : ℕ). with_bytes (with_bytes old address (take done from)) (address + k) (take n (drop done from))) (sym counted)
     ∙ sym (with_bytes-append old address (take done from) (take n (drop done from))) ∙ ap (with_bytes old address) joined
-
--- one area more is zero
-pub cleared_more : (old : List HeldArea) (i : ℕ) (item : HeldArea) → i < length old
-    → set (map zeroed (take i old) ++ drop i old) i (zeroed (get_or (map zeroed (take i old) ++ drop i old) i item)) ≡ map zeroed (take (suc i) old) ++ drop (suc i) old
-cleared_more [] i item below = absurd (omega arith)
-cleared_more (x ∷ xs) zero item below = refl
-cleared_more (x ∷ xs) (suc i) item below = ap (λ (rest : List HeldArea). zeroed x ∷ rest) (cleared_more xs i item (omega arith))

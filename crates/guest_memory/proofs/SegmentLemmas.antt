@@ -7,7 +7,7 @@ use Rattle.guest_bus.specs.Memory.{Area, Memory, all_from, covers, is_readable, 
 use Rattle.guest_bus.specs.MemoryLemmas.{all_from-true}
 use Rattle.xef_images.specs.Image.{Image, IsImage, IsSegment, Segment}
 use Rattle.guest_memory.specs.Loading.{HasSegment, LiesIn, with_segments}
-use Rattle.guest_memory.proofs.HeldLemmas.{covers_at}
+use Rattle.guest_memory.proofs.AreaLemmas.{covers_at}
 
 -- what holds of each segment holds of one
 one_of : (xs : List Segment) (i : ℕ) (x : Segment) → AllByRecursion IsSegment xs → i < length xs → x ≡ get_or xs i x → IsSegment x

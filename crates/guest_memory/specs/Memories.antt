@@ -1,7 +1,7 @@
 -- The memories of all partitions, and where an access to one of them is refused.
-use Rattle.std.specs.Prelude.{◌≡◌, ◌≢◌, ℕ, zero, suc, ◌+◌, ◌%◌, ◌^◌, ◌<◌, ◌≤◌, ◌⊎◌, Bool, false, if◌then◌else◌, nat_lt, List, [], length, slice_index_or, slice_set, remove, All, AllPairs, Option, None, Some, Result, Ok, Err}
-use Rattle.std.specs.FinMap.{empty}
-use Rattle.guest_bus.specs.Memory.{Area, Memory, Others, is_readable, is_writable}
+use Rattle.std.specs.Prelude.{◌≡◌, ◌≢◌, ℕ, zero, suc, ◌+◌, ◌-◌, ◌%◌, ◌^◌, ◌<◌, ◌≤◌, ◌⊎◌, Bool, false, if◌then◌else◌, nat_lt, List, [], ◌∷◌, length, take, drop, slice_get, slice_index_or, slice_set, remove, All, AllPairs, Option, None, Some, Result, Ok, Err}
+use Rattle.std.specs.FinMap.{empty, get}
+use Rattle.guest_bus.specs.Memory.{Area, Memory, Others, bytes_at, is_readable, is_writable}
 use Rattle.guest_bus.specs.Whole.{IsMemoryOf}
 use Rattle.guest_memory.specs.declared.access.Access.{Access}
 use Rattle.guest_memory.specs.declared.access.Access.TheVariants.{Read, Write}
@@ -20,6 +20,20 @@ areas_at p memories = slice_index_or memories.areas p []
 -- the bytes of a partition by their addresses
 abbrev pub map_at : ℕ → Memories → Memory
 map_at p memories = slice_index_or memories.maps p empty
+
+-- how many bytes areas have
+abbrev pub size_of : List Area → ℕ
+size_of [] = 0
+size_of (area ∷ areas) = area.size + size_of areas
+
+-- how many bytes the areas of all partitions have
+abbrev pub whole_size : List (List Area) → ℕ
+whole_size [] = 0
+whole_size (areas ∷ others) = size_of areas + whole_size others
+
+-- how many bytes all areas have that stand before one of a partition
+abbrev pub place_at : ℕ → ℕ → Memories → ℕ
+place_at p area memories = whole_size (take p memories.areas) + size_of (take area (areas_at p memories))
 
 -- the memories with other bytes for one partition
 abbrev pub with_map : ℕ → Memory → Memories → Memories
@@ -63,6 +77,18 @@ pub record AreMemories (memories : Memories) : Type 0 where
   pub few : length memories.areas ≤ 16
   pub placed : All ArePlaced memories.areas
   pub whole : (p : ℕ) → p < length memories.areas → IsMemoryOf (areas_at p memories) (map_at p memories)
+
+-- the byte at an address of an area stands in a list of all bytes, so far after the area's place as the address is after its start
+abbrev pub HasBytes : Memories → List ℕ → Type 0
+HasBytes memories whole =
+    (p k : ℕ) (area : Area) (address : ℕ) → slice_get (areas_at p memories) k ≡ Some area → area.start ≤ address → address < area.start + area.size
+    → get (map_at p memories) address ≡ slice_get whole (place_at p k memories + (address - area.start))
+
+-- the bytes of an area stand in a list of all bytes from the area's place on
+abbrev pub HasAreas : Memories → List ℕ → Type 0
+HasAreas memories whole =
+    (p k : ℕ) (area : Area) → slice_get (areas_at p memories) k ≡ Some area
+    → bytes_at (map_at p memories) area.start area.size ≡ take area.size (drop (place_at p k memories) whole)
 
 -- whether an access to the byte at an address is allowed
 abbrev pub allows : Access → List Area → ℕ → Bool

@@ -1,12 +1,28 @@
 //! Big endian values at a place of bytes.
 
-ghost use Rattle.std.specs.Prelude.{◌≡◌, ◌+◌, ◌≤◌, length, replicate, take, drop};
+ghost use Rattle.std.specs.Prelude.{◌≡◌, ◌+◌, ◌≤◌, Some, length, replicate, slice_get, take, drop};
 ghost use Rattle.std.specs.Int.{byte_len, from_be_bytes, to_be_bytes, w16, w32, w64};
 ghost use borrow.Rule.Slice.PartMut.{put_mid};
 ghost use Rattle.guest_bus.specs.Access.{width_of};
-ghost use Rattle.guest_memory.specs.Held.{AreBytes};
+ghost use Rattle.guest_memory.specs.Flat.{AreBytes};
 
 use guest_bus::Size;
+
+/// The byte at a place.
+pub(crate) fn byte_at(bytes: &[u8], at: usize) -> u8
+    requires { at + 1 ≤ length bytes.now }
+    ensures { slice_get bytes.now at ≡ Some result }
+{
+    bytes[at]
+}
+
+/// So many bytes from a place on.
+pub(crate) fn part(bytes: &[u8], at: usize, count: usize) -> &[u8]
+    requires { at + count ≤ length bytes.now }
+    ensures { result.now ≡ take count (drop at bytes.now) }
+{
+    &bytes[at..at + count]
+}
 
 /// The big endian value of a size at a place.
 pub(crate) fn value_at(bytes: &[u8], at: usize, size: Size) -> u64

@@ -1,37 +1,38 @@
-//! Where an address stands in areas.
+//! Which area has an address.
 
-ghost use Rattle.std.specs.Prelude.{◌≡◌, ◌<◌, ◌↔◌, false, IfSome, IsNone, length};
+ghost use Rattle.std.specs.Prelude.{◌≡◌, ◌<◌, ◌↔◌, false, IfSome, IsNone, length, take};
 ghost use Rattle.std.specs.List.{position_from};
 ghost use Rattle.guest_bus.specs.Memory.{is_readable};
-ghost use Rattle.guest_memory.specs.Held.{IsAt, areas_in, holds};
+ghost use Rattle.guest_memory.specs.Flat.{Follow, IsAt, holds, listed};
+ghost use Rattle.guest_memory.specs.Memories.{size_of};
 
-use crate::area::HeldArea;
+use crate::entry::{Entry, Place};
 
-/// A place of a byte: the number of an area, and how many of its bytes stand before.
-#[derive(Clone, Copy, Debug)]
-pub(crate) struct Place {
-    pub(crate) area: usize,
-    pub(crate) at: usize,
-}
-
-/// The place of an address, where it is in one of the areas.
-pub(crate) fn place_of(areas: &[HeldArea], address: u64) -> Option<Place>
-    ensures at { IfSome result (λ place. IsAt address 1 place areas.now) }
-    ensures none { IsNone result ↔ (is_readable (areas_in areas.now) address ≡ false) }
+/// Where the byte at an address lies, where it is in one of the areas.
+pub(crate) fn place_of(entries: &[Entry], address: u64) -> Option<Place>
+    ensures at { IfSome result (λ place. IsAt address 1 place entries.now) }
+    ensures room { IfSome result (λ place. 0 < place.room) }
+    ensures none { IsNone result ↔ (is_readable (listed entries.now) address ≡ false) }
 {
-    match area_with(areas, address) {
-        Some(area) => {
-            let at = areas[area].place(address);
-            Some(Place { area, at })
-        }
+    match area_with(entries, address) {
+        Some(area) => Some(entries[area].place_of(area, address)),
         None => None,
     }
 }
 
 /// The number of the first of these areas that has an address.
-fn area_with(areas: &[HeldArea], address: u64) -> Option<usize>
-    ensures first { result ≡ position_from (holds address) 0 areas.now }
-    ensures within { IfSome result (λ area. area < length areas.now) }
+fn area_with(entries: &[Entry], address: u64) -> Option<usize>
+    ensures first { result ≡ position_from (holds address) 0 entries.now }
+    ensures within { IfSome result (λ area. area < length entries.now) }
 {
-    areas.iter().position(|area| area.has(address))
+    entries.iter().position(|entry| entry.has(address))
+}
+
+/// How many bytes the areas before the one of a number have.
+pub(crate) fn place_in(entries: &[Entry], area: usize) -> u32
+    requires area { area < length entries.now }
+    requires follow { Follow 0 entries.now }
+    ensures { result ≡ size_of (take area (listed entries.now)) }
+{
+    entries[area].place()
 }

@@ -1,14 +1,17 @@
-//! The memories of all partitions, each with the areas of its configuration.
+//! The memories of all partitions, each with the areas of its configuration, in one vector.
 #![tactic(auto)]
 
 mod access;
-mod area;
 mod bytes;
+mod entry;
 mod find;
+mod near;
 mod outside;
+mod parts;
 mod ram;
 mod range;
 mod space;
+mod table;
 
 pub use outside::Outside;
 pub use ram::Ram;

@@ -1,16 +1,23 @@
 //! The memories of all partitions.
 
-ghost use Rattle.std.specs.Prelude.{◌≡◌, ◌<◌, ◌↔◌, false, All, IfOk, IsNone, OnErr, OnOk, length, map};
+ghost use Rattle.std.specs.Prelude.{◌≡◌, ◌+◌, ◌<◌, ◌≤◌, ◌↔◌, false, All, IfOk, IsNone, OnErr, OnOk, length, map, replicate};
 ghost use Rattle.std.specs.FinMap.{get};
+ghost use Rattle.guest_bus.specs.Access.{fetched, loaded as loaded_at};
 ghost use Rattle.guest_bus.specs.Memory.{all_from, bytes_at, is_readable, is_writable, with_bytes};
-ghost use Rattle.guest_bus.specs.Whole.{IsMemoryOf};
 ghost use Rattle.guest_memory.specs.Loading.{LiesIn, areas_of, loaded, zeros_in};
-ghost use Rattle.guest_memory.specs.Held.{areas_in, memory_in};
-ghost use Rattle.guest_memory.specs.Memories.{AreMemories, ArePlaced, SameElsewhere, answer_by, areas_at, first_refused, map_at, others_of, with_map, with_selected};
+ghost use Rattle.guest_memory.specs.Flat.{AreTables, Follow, IsTable, areas_in, listed, memory_in};
+ghost use Rattle.guest_memory.specs.Memories.{AreMemories, ArePlaced, HasAreas, HasBytes, SameElsewhere, answer_by, areas_at, first_refused, map_at, others_of, place_at, size_of, whole_size, with_map, with_selected};
 ghost use Rattle.xm_conf.specs.Fits.{HasSome};
 
+use crate::access::Access;
+use crate::bytes::part;
+use crate::entry::Entry;
+use crate::find::place_in;
+use crate::near::Near;
 use crate::outside::Outside;
-use crate::space::Space;
+use crate::range::refused;
+use crate::table::Table;
+use crate::{parts, space};
 use guest_bus::{Bus, BusFault, Size};
 use std::alloc::Global;
 use std::marker::Model;
@@ -22,23 +29,27 @@ use xm_conf::{Conf, Part};
 /// selected.
 #[derive(Debug, Drop)]
 pub struct Ram {
-    parts: Vec<Space>,
+    bytes: Vec<u8>,
+    tables: Vec<Table>,
     selected: u8,
+    // The first areas of the selected partition.
+    near: Near,
 }
 
 impl Model for Ram {
     ghost use Rattle.std.specs.Coded.{codes};
     ghost use Rattle.guest_bus.specs.Memory.{memory_code};
-    ghost use Rattle.guest_memory.specs.Held.{memories_of};
+    ghost use Rattle.guest_memory.specs.Flat as flat;
     ghost use Rattle.guest_memory.specs.Memories as plain;
+    ghost use Rattle.guest_memory.specs.Near as nearby;
 
     ghost Value = { plain.Memories };
 
     ghost coded = { Prim.hlevel (codes, memory_code) };
 
-    ghost view = { λ ram. memories_of ram.parts.items ram.selected };
+    ghost view = { λ ram. flat.memories_in ram.tables.items ram.bytes.items ram.selected };
 
-    ghost invariant = { λ ram. plain.AreMemories (memories_of ram.parts.items ram.selected) };
+    ghost invariant = { λ ram. nearby.AreReady ram.tables.items ram.bytes.items ram.selected ram.near };
 }
 
 impl Ram {
@@ -47,8 +58,15 @@ impl Ram {
     pub fn new(alloc: Global, conf: &Conf) -> Result<Ram, Memory>
         ensures value { IfOk result (λ ram. ram ≡ record { areas = map areas_of conf.now.parts; maps = map zeros_in (map areas_of conf.now.parts); selected = 0 }) }
     {
-        let parts = made(alloc, parts_of(conf))?;
-        Ok(Ram { parts, selected: 0 })
+        let made = tables_of(alloc, parts_of(conf))?;
+        let bytes = zeros(alloc, made.1)?;
+        let near = Near::of(&made.0[0]);
+        Ok(Ram {
+            bytes,
+            tables: made.0,
+            selected: 0,
+            near,
+        })
     }
 
     /// Selects the partition whose memory a processor sees.
@@ -57,6 +75,7 @@ impl Ram {
         ensures value { self.new ≡ with_selected p self.old }
     {
         self.selected = p;
+        self.near = Near::of(&self.tables[usize::from(p)]);
     }
 
     /// The partition whose memory a processor sees.
@@ -74,7 +93,7 @@ impl Ram {
         ensures read { OnOk result (into.new ≡ bytes_at (map_at p self.now) address (length into.old)) }
         ensures unchanged { OnErr result (into.new ≡ into.old) }
     {
-        self.parts[usize::from(p)].copy_in(address, into)
+        space::copy_in(self.entries(p), self.part(p), address, into)
     }
 
     /// Writes bytes to a partition's memory from an address on, where all of them may be written.
@@ -85,7 +104,7 @@ impl Ram {
         ensures unchanged { OnErr result (self.new ≡ self.old) }
         ensures others { SameElsewhere p self.old self.new }
     {
-        self.parts[usize::from(p)].copy_out(address, from)
+        parts::copy_out(&self.tables[usize::from(p)], &mut self.bytes, address, from)
     }
 
     /// Whether so many bytes of a partition's memory from an address on may be read.
@@ -93,7 +112,7 @@ impl Ram {
         requires { p < length self.now.areas }
         ensures value { result ≡ all_from (is_readable (areas_at p self.now)) address size }
     {
-        self.parts[usize::from(p)].may_read(address, size)
+        refused(self.entries(p), Access::Read, address, size as usize).is_none()
     }
 
     /// Whether so many bytes of a partition's memory from an address on may be written.
@@ -101,7 +120,7 @@ impl Ram {
         requires { p < length self.now.areas }
         ensures value { result ≡ all_from (is_writable (areas_at p self.now)) address size }
     {
-        self.parts[usize::from(p)].may_write(address, size)
+        refused(self.entries(p), Access::Write, address, size as usize).is_none()
     }
 
     /// Loads an image into a partition's memory, and makes all other bytes of it zero.
@@ -111,7 +130,7 @@ impl Ram {
         ensures value { self.new ≡ with_map p (loaded (areas_at p self.old) image.now) self.old }
         ensures others { SameElsewhere p self.old self.new }
     {
-        self.parts[usize::from(p)].reload(image);
+        parts::reload(&self.tables[usize::from(p)], &mut self.bytes, image);
     }
 
     /// The byte at an address of a partition's memory, or `None` where none of its areas has the address.
@@ -121,7 +140,92 @@ impl Ram {
         ensures none { IsNone result ↔ (is_readable (areas_at p self.now) address ≡ false) }
         ensures memories { AreMemories self.now }
     {
-        self.parts[usize::from(p)].byte(address)
+        space::byte(self.entries(p), self.part(p), address)
+    }
+
+    /// The bytes of all areas, one area after the other, in order of partition and area.
+    pub fn whole(&self) -> &[u8]
+        ensures size { length result.now ≡ whole_size self.now.areas }
+        ensures bytes { HasBytes self.now result.now }
+        ensures areas { HasAreas self.now result.now }
+    {
+        &self.bytes
+    }
+
+    /// How many of these bytes stand before those of an area of a partition.
+    pub fn place(&self, p: PartId, area: u8) -> u32
+        requires partition { p < length self.now.areas }
+        requires area { area < length (areas_at p self.now) }
+        ensures value { result ≡ place_at p area self.now }
+    {
+        let table = &self.tables[usize::from(p)];
+        let number = usize::from(area);
+        table.place() + place_in(table.entries(), number)
+    }
+
+    /// The word that a fetch in the selected partition's memory answers.
+    #[inline(always)]
+    fn fetched(&self, address: u32) -> Result<u32, BusFault>
+        ensures value { result ≡ fetched (areas_at self.now.selected self.now) (map_at self.now.selected self.now) address }
+        ensures memories { AreMemories self.now }
+    {
+        match self.near.fetched(&self.bytes, address) {
+            Some(word) => Ok(word),
+            None => self.search_and_fetch(address),
+        }
+    }
+
+    /// The value that a load from the selected partition's memory answers.
+    #[inline(always)]
+    fn loaded(&self, address: u32, size: Size) -> Result<u64, BusFault>
+        ensures value { result ≡ loaded_at (areas_at self.now.selected self.now) (map_at self.now.selected self.now) address size }
+        ensures memories { AreMemories self.now }
+    {
+        match self.near.loaded(&self.bytes, address, size) {
+            Some(value) => Ok(value),
+            None => self.search_and_load(address, size),
+        }
+    }
+
+    /// The word that a fetch in the selected partition's memory answers, by a search.
+    #[cold]
+    #[inline(never)]
+    fn search_and_fetch(&self, address: u32) -> Result<u32, BusFault>
+        ensures value { result ≡ fetched (areas_at self.now.selected self.now) (map_at self.now.selected self.now) address }
+    {
+        let p = self.selected();
+        space::fetch(self.entries(p), self.part(p), address)
+    }
+
+    /// The value that a load from the selected partition's memory answers, by a search.
+    #[cold]
+    #[inline(never)]
+    fn search_and_load(&self, address: u32, size: Size) -> Result<u64, BusFault>
+        ensures value { result ≡ loaded_at (areas_at self.now.selected self.now) (map_at self.now.selected self.now) address size }
+    {
+        let p = self.selected();
+        space::load(self.entries(p), self.part(p), address, size)
+    }
+
+    /// The areas of a partition.
+    fn entries(&self, p: PartId) -> &[Entry]
+        requires { p < length self.now.areas }
+        ensures areas { listed result.now ≡ areas_at p self.now }
+        ensures placed { ArePlaced (listed result.now) }
+        ensures follow { Follow 0 result.now }
+        ensures memories { AreMemories self.now }
+    {
+        self.tables[usize::from(p)].entries()
+    }
+
+    /// The bytes of a partition.
+    fn part(&self, p: PartId) -> &[u8]
+        requires { p < length self.now.areas }
+        ensures size { length result.now ≡ size_of (areas_at p self.now) }
+        ensures map { map_at p self.now ≡ memory_in (areas_at p self.now) result.now }
+    {
+        let table = &self.tables[usize::from(p)];
+        part(&self.bytes, table.place() as usize, table.size() as usize)
     }
 }
 
@@ -132,16 +236,26 @@ impl Bus for Ram {
 
     ghost others = { λ ram. others_of ram };
 
+    #[inline(always)]
     fn fetch(&mut self, address: u32) -> Result<u32, BusFault> {
-        self.parts[usize::from(self.selected)].fetch(address)
+        self.fetched(address)
     }
 
+    #[inline(always)]
     fn load(&mut self, address: u32, size: Size) -> Result<u64, BusFault> {
-        self.parts[usize::from(self.selected)].load(address, size)
+        self.loaded(address, size)
     }
 
+    #[inline(always)]
     fn store(&mut self, address: u32, size: Size, value: u64) -> Result<(), BusFault> {
-        self.parts[usize::from(self.selected)].store(address, size, value)
+        parts::store(
+            &self.near,
+            &self.tables[usize::from(self.selected)],
+            &mut self.bytes,
+            address,
+            size,
+            value,
+        )
     }
 }
 
@@ -151,31 +265,41 @@ fn parts_of(conf: &Conf) -> &[Part]
     ensures value { result.now ≡ conf.now.parts }
     ensures counted { HasSome result.now 16 }
     ensures placed { All ArePlaced (map areas_of result.now) }
+    ensures few { whole_size (map areas_of result.now) < 4294967296 }
 {
     &conf.raw().parts
 }
 
-/// The memories of partitions, all of zeros.
-fn made(alloc: Global, parts: &[Part]) -> Result<Vec<Space>, Memory>
-    requires { All ArePlaced (map areas_of parts.now) }
-    ensures areas { IfOk result (λ spaces. map areas_in spaces.items ≡ map areas_of parts.now) }
-    ensures maps { IfOk result (λ spaces. map memory_in spaces.items ≡ map zeros_in (map areas_of parts.now)) }
-    ensures whole { IfOk result (λ spaces. All (λ space. IsMemoryOf (areas_in space) (memory_in space)) spaces.items) }
+/// The tables of partitions, and how many bytes these have together.
+fn tables_of(alloc: Global, parts: &[Part]) -> Result<(Vec<Table>, u32), Memory>
+    requires { whole_size (map areas_of parts.now) < 4294967296 }
+    ensures areas { IfOk result (λ made. areas_in made.0.items ≡ map areas_of parts.now) }
+    ensures tables { IfOk result (λ made. AreTables 0 made.0.items) }
+    ensures size { IfOk result (λ made. made.1 ≡ whole_size (map areas_of parts.now)) }
 {
-    let mut spaces = Vec::with_capacity(alloc, parts.len())?;
+    let mut tables = Vec::with_capacity(alloc, parts.len())?;
+    let mut place = 0;
     for part in parts {
-        spaces.push_reserved(space_of(alloc, part)?);
+        let table = table_of(alloc, part, place)?;
+        place += table.size();
+        tables.push_reserved(table);
     }
-    Ok(spaces)
+    Ok((tables, place))
 }
 
-/// The memory of a partition, all of zeros.
+/// The table of a partition whose bytes lie from a place on.
 #[tactic(auto, unfolding(crate::specs::Loading::areas_of))]
-fn space_of(alloc: Global, part: &Part) -> Result<Space, Memory>
-    requires { ArePlaced (areas_of part.now) }
-    ensures areas { IfOk result (λ space. areas_in space ≡ areas_of part.now) }
-    ensures memory { IfOk result (λ space. memory_in space ≡ zeros_in (areas_of part.now)) }
-    ensures whole { IfOk result (λ space. IsMemoryOf (areas_in space) (memory_in space)) }
+fn table_of(alloc: Global, part: &Part, place: u32) -> Result<Table, Memory>
+    requires { place + size_of (areas_of part.now) < 4294967296 }
+    ensures areas { IfOk result (λ table. listed table.entries ≡ areas_of part.now) }
+    ensures table { IfOk result (λ table. IsTable place table) }
 {
-    Ok(Space::new(alloc, &part.areas)?)
+    Ok(Table::new(alloc, &part.areas, place)?)
+}
+
+/// So many zeros.
+fn zeros(alloc: Global, size: u32) -> Result<Vec<u8>, Memory>
+    ensures { IfOk result (λ bytes. bytes.items ≡ replicate size 0) }
+{
+    Ok(vec![in alloc; 0; size as usize]?)
 }

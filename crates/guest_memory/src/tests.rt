@@ -107,7 +107,15 @@ fn fresh(rt: &impl Abort, alloc: Global) -> Result<Ram, Memory>
     ensures { IfOk result (λ ram. length ram.areas ≡ 2) }
 {
     let conf = conf(alloc)?.expect(rt, "a configuration");
-    Ram::new(alloc, &conf)
+    fresh_of(alloc, &conf)
+}
+
+/// The memories of two partitions.
+fn fresh_of(alloc: Global, conf: &Conf) -> Result<Ram, Memory>
+    requires { length conf.now.parts ≡ 2 }
+    ensures { IfOk result (λ ram. length ram.areas ≡ 2) }
+{
+    Ram::new(alloc, conf)
 }
 
 /// The edges of the first partition's areas: an address, a size, and what a load and a store there answer.
@@ -305,6 +313,27 @@ fn a_processor_sees_and_changes_the_selected_partition_alone(rt: HostRuntime) ->
         ram.select(p & 1);
         let first = first_after_store(&mut ram, address, 0x4010_0000);
         assert_eq!(rt; first, byte, "partition {p} stores at {address}");
+    }
+    Ok(())
+}
+
+/// Places among all bytes, and the byte there after a write at the start of each partition.
+const WHOLE: [(usize, Option<u8>); 6] = [
+    (0, Some(1)),
+    (3, Some(4)),
+    (0x2fff, Some(0)),
+    (0x3000, Some(5)),
+    (0x4fff, Some(0)),
+    (0x5000, None),
+];
+
+#[test]
+fn the_bytes_of_all_areas_stand_one_after_the_other(rt: HostRuntime) -> Result<(), Fail> {
+    let mut ram = fresh(&rt, rt.alloc())?;
+    assert!(rt; put(&mut ram, 0, 0x4010_0000, &[1, 2, 3, 4]));
+    assert!(rt; put(&mut ram, 1, 0x4010_3000, &[5, 6, 7, 8]));
+    for (place, byte) in WHOLE {
+        assert_eq!(rt; ram.whole().get(place).copied(), byte, "place {place}");
     }
     Ok(())
 }

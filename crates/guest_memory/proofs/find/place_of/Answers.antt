@@ -1,25 +1,24 @@
-use Rattle.std.proofs.Common.{◌≡◌, Some, refl, sym, ap, ◌∙◌, arith}
-use Rattle.std.specs.Prelude.{slice_get}
+use Rattle.std.proofs.Common.{refl, sym, arith}
 use Rattle.std.proofs.lemmas.Option.{slice_get-get_or}
-use Rattle.guest_memory.proofs.HeldLemmas.{found_here, none_found, readable_at}
+use Rattle.guest_memory.proofs.AccessLemmas.{stands_there}
+use Rattle.guest_memory.proofs.AreaLemmas.{found_here, none_found, readable_found}
 use Rattle.guest_memory.proofs.find.place_of.Goals as goal
 
-pub place-at-requires : goal.place-at-requires
-place-at-requires c =
-    let here = slice_get-get_or c.args.areas.now c.in-Some.area c.index-areas-area.result (omega (arith, c.in-Some.ensures.within)) ∙ ap Some (sym c.index-areas-area.is) in
-    found_here c.args.areas.now c.args.address c.in-Some.area c.index-areas-area.result c.in-Some.ensures.first here
+pub place_of-requires : goal.place_of-requires
+place_of-requires c =
+    found_here c.args.entries.now c.args.address c.in-Some.area _ c.in-Some.ensures.first (slice_get-get_or c.args.entries.now c.in-Some.area _ (omega (arith, c.in-Some.ensures.within)))
 
 pub returns-in-Some-clause-at : goal.returns-in-Some-clause-at
 returns-in-Some-clause-at c =
-    let here : slice_get c.args.areas.now c.in-Some.area ≡ Some c.index-areas-area.result = slice_get-get_or c.args.areas.now c.in-Some.area c.index-areas-area.result (omega (arith, c.in-Some.ensures.within)) ∙ ap Some (sym c.index-areas-area.is) in
-    rw here (record { lies = c.place-at.ensures.lies; fits = c.place-at.ensures.within })
+    stands_there c.args.entries.now c.in-Some.area c.args.address _ c.place_of.result (slice_get-get_or c.args.entries.now c.in-Some.area _ (omega (arith, c.in-Some.ensures.within))) c.place_of.ensures.area c.place_of.ensures.stands
+
+pub returns-in-Some-clause-room : goal.returns-in-Some-clause-room
+returns-in-Some-clause-room c = omega (arith, c.place_of.ensures.stands.room, c.place_of.ensures.stands.fits)
 
 pub returns-in-Some-clause-none : goal.returns-in-Some-clause-none
 returns-in-Some-clause-none c =
-    let here = slice_get-get_or c.args.areas.now c.in-Some.area c.index-areas-area.result (omega (arith, c.in-Some.ensures.within)) ∙ ap Some (sym c.index-areas-area.is) in
-    let has = found_here c.args.areas.now c.args.address c.in-Some.area c.index-areas-area.result c.in-Some.ensures.first here in
-    let readable = readable_at c.args.areas.now c.in-Some.area c.args.address c.index-areas-area.result here has in
+    let readable = readable_found c.args.entries.now c.args.address c.in-Some.area c.in-Some.ensures.first in
     rw readable (λ e. absurd cc, λ e. absurd cc)
 
 pub returns-in-None-clause-none : goal.returns-in-None-clause-none
-returns-in-None-clause-none c = (λ _. none_found c.args.areas.now c.args.address 0 (sym c.in-None.ensures.first), λ _. refl)
+returns-in-None-clause-none c = (λ _. none_found c.args.entries.now c.args.address 0 (sym c.in-None.ensures.first), λ _. refl)

@@ -1,11 +1,10 @@
-use Rattle.std.proofs.Common.{◌≡◌, drop}
-use Rattle.guest_memory.specs.Held.{IsSpace, areas_in, memory_in}
+use Rattle.std.proofs.Common.{◌≡◌, drop, length}
+use Rattle.guest_memory.specs.Flat.{listed, memory_in}
 use Rattle.guest_memory.specs.Loading.{loaded, with_segments}
 use Rattle.guest_memory.proofs.range.load_image.Given as goal
 
 abbrev pub invariant-loop-segment : goal.invariant-loop-segment
 invariant-loop-segment l = record {
-  rest : with_segments (memory_in l.areas) (drop l.segment-index l.image.segments) ≡ loaded (areas_in l.fn.areas) l.image;
-  areas : areas_in l.areas ≡ areas_in l.fn.areas;
-  space : IsSpace l.areas;
+  rest : with_segments (memory_in (listed l.entries) l.bytes) (drop l.segment-index l.image.segments) ≡ loaded (listed l.entries) l.image;
+  length : length l.bytes ≡ length l.fn.bytes;
 }

@@ -1,7 +1,14 @@
-use Rattle.guest_memory.proofs.RangeLemmas.{piece_read}
+use Rattle.std.proofs.Common.{arith}
+use Rattle.guest_memory.proofs.AccessLemmas.{bytes_within}
+use Rattle.guest_memory.proofs.RangeLemmas.{piece_read, room_stands}
 use Rattle.guest_memory.proofs.range.read_piece.Goals as goal
+
+pub part-requires : goal.part-requires
+part-requires c =
+    bytes_within c.args.entries.now c.args.bytes.now c.in-Some.place c.args.address c.min-count.result c.requires.space
+    (room_stands c.args.entries.now c.in-Some.place c.args.address c.min-count.result c.in-Some.ensures.at (omega (arith, c.min-count.ensures)))
 
 pub returns-clause-read : goal.returns-clause-read
 returns-clause-read c =
-    piece_read c.args.areas.now c.in-Some.place c.index-areas-place.result c.args.address c.size.result c.min-count.result _ c.args.done c.args.into.now c.put.new.bytes c.part.result.now
-    c.requires.space c.in-Some.ensures.at c.index-areas-place.is c.size.ensures c.min-count.ensures c.part.ensures c.put.ensures.value
+    piece_read c.args.entries.now c.args.bytes.now c.in-Some.place c.args.address c.min-count.result c.args.done c.args.into.now c.put.new.bytes c.part.result.now
+    c.requires.space c.in-Some.ensures.at (omega (arith, c.min-count.ensures)) c.part.ensures c.put.ensures.value

@@ -1,17 +1,16 @@
-use Rattle.guest_memory.proofs.WriteLemmas.{piece_written}
+use Rattle.std.proofs.Common.{◌≡◌, length, take, arith, length-take}
+use Rattle.guest_memory.proofs.AccessLemmas.{bytes_within}
+use Rattle.guest_memory.proofs.RangeLemmas.{piece_written, room_stands}
 use Rattle.guest_memory.proofs.range.write_piece.Goals as goal
+
+pub put-requires : goal.put-requires
+put-requires c =
+    let counted : length (take c.min-count.result c.args.from.now) ≡ c.min-count.result = omega (arith, length-take c.min-count.result c.args.from.now, c.min-count.ensures) in
+    let within = bytes_within c.args.entries.now c.args.bytes.now c.in-Some.place c.args.address c.min-count.result c.requires.space
+    (room_stands c.args.entries.now c.in-Some.place c.args.address c.min-count.result c.in-Some.ensures.at (omega (arith, c.min-count.ensures))) in
+    omega (arith, within, counted)
 
 pub returns-clause-written : goal.returns-clause-written
 returns-clause-written c =
-    (piece_written c.args.areas.now c.in-Some.place c.index-areas-place.result c.index-areas-place-in-Some.result c.put.new.self c.args.address c.size.result c.min-count.result c.args.from.now
-    c.requires.space c.in-Some.ensures.at c.index-areas-place.is c.index-areas-place-in-Some.is c.size.ensures c.min-count.ensures c.put.ensures.value c.put.ensures.bytes).memory
-
-pub returns-clause-areas : goal.returns-clause-areas
-returns-clause-areas c =
-    (piece_written c.args.areas.now c.in-Some.place c.index-areas-place.result c.index-areas-place-in-Some.result c.put.new.self c.args.address c.size.result c.min-count.result c.args.from.now
-    c.requires.space c.in-Some.ensures.at c.index-areas-place.is c.index-areas-place-in-Some.is c.size.ensures c.min-count.ensures c.put.ensures.value c.put.ensures.bytes).areas
-
-pub returns-clause-space : goal.returns-clause-space
-returns-clause-space c =
-    (piece_written c.args.areas.now c.in-Some.place c.index-areas-place.result c.index-areas-place-in-Some.result c.put.new.self c.args.address c.size.result c.min-count.result c.args.from.now
-    c.requires.space c.in-Some.ensures.at c.index-areas-place.is c.index-areas-place-in-Some.is c.size.ensures c.min-count.ensures c.put.ensures.value c.put.ensures.bytes).space
+    piece_written c.args.entries.now c.args.bytes.now c.put.new.bytes c.in-Some.place c.args.address c.min-count.result c.args.from.now
+    c.requires.space c.in-Some.ensures.at (omega (arith, c.min-count.ensures)) (omega (arith, c.min-count.ensures)) c.put.ensures.value

@@ -1,12 +1,17 @@
-use Rattle.std.proofs.Common.{sym, ap, ◌∙◌}
-use Rattle.guest_memory.specs.Memories.{areas_at, map_at}
-use Rattle.guest_memory.proofs.MemoriesLemmas.{areas_there, map_there}
+use Rattle.std.proofs.Common.{◌≡◌, List, false}
+use Rattle.std.specs.Prelude.{◌↔◌, IsNone}
+use Rattle.std.specs.FinMap.{get}
+use Rattle.guest_bus.specs.Memory.{Area, Memory, is_readable}
+use Rattle.guest_memory.proofs.MemoriesLemmas.{as_seen, space_is}
 use Rattle.guest_memory.proofs.ram.Ram.byte.Goals as goal
 
-pub returns : goal.returns
-returns c =
-    let below = rw (← c.self.view_is) at c.requires in
-    let here = rw c.from.ensures at c.index.ensures in
-    let bytes = ap (map_at c.args.p) (sym c.self.view_is) ∙ map_there c.self.inside.parts.items c.self.inside.selected c.args.p c.index.result.now below here in
-    let areas = ap (areas_at c.args.p) (sym c.self.view_is) ∙ areas_there c.self.inside.parts.items c.self.inside.selected c.args.p c.index.result.now below here in
-    record { value = rw bytes c.byte.ensures.value; none = rw areas c.byte.ensures.none; memories = rw (← c.self.view_is) c.self.invariant }
+pub byte-requires : goal.byte-requires
+byte-requires c = space_is c.args.self.now c.args.p c.entries.result.now c.part.result.now c.entries.ensures.areas c.entries.ensures.placed c.entries.ensures.follow c.part.ensures.size
+
+pub returns-clause-value : goal.returns-clause-value
+returns-clause-value c =
+    as_seen (λ (a : List Area) (m : Memory). c.byte.result ≡ get m c.args.address) c.args.self.now c.args.p c.entries.result.now c.part.result.now c.entries.ensures.areas c.part.ensures.map c.byte.ensures.value
+
+pub returns-clause-none : goal.returns-clause-none
+returns-clause-none c =
+    as_seen (λ (a : List Area) (m : Memory). IsNone c.byte.result ↔ (is_readable a c.args.address ≡ false)) c.args.self.now c.args.p c.entries.result.now c.part.result.now c.entries.ensures.areas c.part.ensures.map c.byte.ensures.none

@@ -1,11 +1,11 @@
-use Rattle.std.proofs.Common.{sym, ap, ◌∙◌}
-use Rattle.guest_memory.specs.Memories.{areas_at}
-use Rattle.guest_memory.proofs.MemoriesLemmas.{areas_there}
+use Rattle.std.proofs.Common.{ℕ, not, Option, is_some, sym, ap, ◌∙◌}
+use Rattle.guest_bus.specs.Memory.{is_writable}
+use Rattle.guest_memory.specs.Flat.{listed}
+use Rattle.guest_memory.proofs.RangeLemmas.{all_from-none, not_not}
 use Rattle.guest_memory.proofs.ram.Ram.may_write.Goals as goal
 
 pub returns : goal.returns
-returns c =
-    let below = rw (← c.self.view_is) at c.requires in
-    let here = rw c.from.ensures at c.index.ensures in
-    let areas = ap (areas_at c.args.p) (sym c.self.view_is) ∙ areas_there c.self.inside.parts.items c.self.inside.selected c.args.p c.index.result.now below here in
-    record { value = rw areas c.may_write.ensures.value }
+returns c = record {
+  value = rw (← c.entries.ensures.areas) (sym (not_not c.is_none.result) ∙ ap not (sym c.is_none.ensures) ∙ ap (λ (o : Option ℕ). not (is_some o)) c.refused.ensures.value
+      ∙ sym (all_from-none (is_writable (listed c.entries.result.now)) c.args.address c.args.size));
+}

@@ -1,0 +1,62 @@
+-- The areas of one partition that are looked at first.
+use Rattle.std.specs.Prelude.{◌≡◌, ℕ, ◌+◌, ◌<◌, ◌≤◌, ◌^◌, ◌⊎◌, false, List, Option, None, Some, length, slice_get, slice_index_or}
+use Rattle.std.specs.Int.{byte_len}
+use Rattle.guest_bus.specs.Access.{after_store, store_fault}
+use Rattle.guest_bus.specs.Memory.{Area}
+use Rattle.guest_bus.specs.declared.bus.Size.{Size}
+use Rattle.guest_memory.specs.Flat.{AreBytes, AreKept, SameAround, Table, listed, memory_of_part}
+use Rattle.guest_memory.specs.Memories.{IsPlaced}
+use Rattle.guest_memory.specs.declared.entry.Entry.{Entry}
+use Rattle.guest_memory.specs.declared.near.Found.{Found}
+use Rattle.guest_memory.specs.declared.near.Near.{Near}
+use Rattle.guest_memory.specs.declared.near.Spot.{Spot}
+
+-- an area with its place among all bytes, where there is one, and else one without an address
+abbrev pub spot_of : ℕ → Option Entry → Spot
+spot_of place None = record { start = 0; size = 0; place = 0; read_only = false }
+spot_of place (Some entry) = record { start = entry.start; size = entry.size; place = place + entry.place; read_only = entry.read_only }
+
+-- the first two areas of a partition
+abbrev pub near_of : Table → Near
+near_of table = record { first = spot_of table.place (slice_get table.entries 0); second = spot_of table.place (slice_get table.entries 1) }
+
+-- the area as a guest sees it
+abbrev pub area_there : Spot → Area
+area_there spot = record { start = spot.start; size = spot.size; read_only = spot.read_only }
+
+-- an area is whole pages, and its bytes lie among all
+pub record FitsIn (spot : Spot) (whole : List ℕ) : Type 0 where
+  pub placed : IsPlaced (area_there spot)
+  pub within : spot.place + spot.size ≤ length whole
+  pub few : spot.place ≤ 2 ^ 32
+
+-- so are both areas
+pub record AreWithin (near : Near) (whole : List ℕ) : Type 0 where
+  pub first : FitsIn near.first whole
+  pub second : FitsIn near.second whole
+
+-- an area has the address, and the byte there is the one that was found
+pub record IsHere (address : ℕ) (found : Found) (spot : Spot) : Type 0 where
+  pub from : spot.start ≤ address
+  pub under : address < spot.start + spot.size
+  pub byte : found.byte + spot.start ≡ spot.place + address
+  pub only : found.read_only ≡ spot.read_only
+
+-- one of the two has it
+abbrev pub IsNear : ℕ → Found → Near → Type 0
+IsNear address found near = IsHere address found near.first ⊎ IsHere address found near.second
+
+-- a store was made, and no byte beside those of the partition is another
+pub record IsStored (table : Table) (old new : List ℕ) (address value : ℕ) (size : Size) : Type 0 where
+  pub free : store_fault (listed table.entries) address size ≡ None
+  pub memory : memory_of_part table new ≡ after_store (listed table.entries) (memory_of_part table old) address size value
+  pub others : SameAround table old new
+
+-- the areas that are looked at first are those of the selected partition
+abbrev pub AreNear : Near → List Table → ℕ → Type 0
+AreNear near tables selected = (table : Table) → table ≡ slice_index_or tables selected table → near ≡ near_of table
+
+-- the memories of partitions, in one list of bytes, with the areas that are looked at first
+pub record AreReady (tables : List Table) (bytes : List ℕ) (selected : ℕ) (ready : Near) : Type 0 where
+  pub kept : AreKept tables bytes selected
+  pub near : AreNear ready tables selected

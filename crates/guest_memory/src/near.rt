@@ -1,0 +1,166 @@
+//! The areas of one partition that are looked at first.
+
+ghost use Rattle.std.specs.Prelude.{◌≡◌, ◌+◌, ◌%◌, ◌<◌, ◌≤◌, ◌^◌, true, false, IfSome, Ok, length, slice_get};
+ghost use Rattle.std.specs.Bool.{OnTrue};
+ghost use Rattle.std.specs.Int.{byte_len};
+ghost use Rattle.guest_bus.specs.Access.{fetched, loaded, width_of};
+ghost use Rattle.guest_memory.specs.Flat.{AreBytes, IsPartOf, Table as Placed, listed, memory_of_part};
+ghost use Rattle.guest_memory.specs.Near.{AreWithin, IsHere, IsNear, IsStored, near_of, spot_of};
+
+use crate::bytes::{put_value, value_at, word};
+use crate::entry::Entry;
+use crate::table::Table;
+use guest_bus::Size;
+
+/// An area, and how many bytes of all lie before its own. One that is not there has no address.
+#[derive(Clone, Copy, Debug)]
+pub(crate) struct Spot {
+    pub(crate) start: u32,
+    pub(crate) size: u32,
+    pub(crate) place: usize,
+    pub(crate) read_only: bool,
+}
+
+/// Where a byte lies among all, and whether its area may only be read.
+#[derive(Clone, Copy, Debug)]
+pub(crate) struct Found {
+    pub(crate) byte: usize,
+    pub(crate) read_only: bool,
+}
+
+/// The first two areas of a partition. Most accesses are to these, and are made without a search.
+#[derive(Clone, Copy, Debug)]
+pub(crate) struct Near {
+    pub(crate) first: Spot,
+    pub(crate) second: Spot,
+}
+
+impl Spot {
+    // The area of a number in a partition whose bytes lie from a place on.
+    fn of(entries: &[Entry], number: usize, place: u32) -> Spot
+        ensures { result ≡ spot_of place (slice_get entries.now number) }
+    {
+        match entries.get(number) {
+            Some(entry) => Spot {
+                start: entry.start,
+                size: entry.size,
+                place: place as usize + entry.place as usize,
+                read_only: entry.read_only,
+            },
+            None => Spot {
+                start: 0,
+                size: 0,
+                place: 0,
+                read_only: false,
+            },
+        }
+    }
+
+    // Whether it has an address.
+    #[inline(always)]
+    fn has(&self, address: u32) -> bool
+        requires { self.now.start + self.now.size ≤ 2 ^ 32 }
+        ensures from { OnTrue result (self.now.start ≤ address) }
+        ensures under { OnTrue result (address < self.now.start + self.now.size) }
+    {
+        address.wrapping_sub(self.start) < self.size
+    }
+
+    // Where the byte at an address of it lies.
+    #[inline(always)]
+    fn found(&self, address: u32) -> Found
+        requires few { self.now.place ≤ 2 ^ 32 }
+        requires from { self.now.start ≤ address }
+        requires under { address < self.now.start + self.now.size }
+        ensures { IsHere address result self.now }
+    {
+        Found {
+            byte: self.place + address.wrapping_sub(self.start) as usize,
+            read_only: self.read_only,
+        }
+    }
+}
+
+impl Near {
+    /// Those of a partition.
+    pub(crate) fn of(table: &Table) -> Near
+        ensures { result ≡ near_of table.now }
+    {
+        Near {
+            first: Spot::of(table.entries(), 0, table.place()),
+            second: Spot::of(table.entries(), 1, table.place()),
+        }
+    }
+
+    // Where the byte at an address lies, where one of the two has it.
+    #[inline(always)]
+    fn find(&self, address: u32) -> Option<Found>
+        requires first { self.now.first.start + self.now.first.size ≤ 2 ^ 32 }
+        requires second { self.now.second.start + self.now.second.size ≤ 2 ^ 32 }
+        requires first_few { self.now.first.place ≤ 2 ^ 32 }
+        requires second_few { self.now.second.place ≤ 2 ^ 32 }
+        ensures { IfSome result (λ found. IsNear address found self.now) }
+    {
+        if self.first.has(address) {
+            Some(self.first.found(address))
+        } else if self.second.has(address) {
+            Some(self.second.found(address))
+        } else {
+            None
+        }
+    }
+
+    /// The word that a fetch answers, where it is found in one of the two.
+    #[inline(always)]
+    pub(crate) fn fetched(&self, whole: &[u8], address: u32) -> Option<u32>
+        requires { AreWithin self.now whole.now }
+        ensures { (table : Placed) → self.now ≡ near_of table → IsPartOf table whole.now → IfSome result (λ word. Ok word ≡ fetched (listed table.entries) (memory_of_part table whole.now) address) }
+    {
+        if address % 4 != 0 {
+            return None;
+        }
+        match self.find(address) {
+            Some(found) => Some(word(whole, found.byte)),
+            None => None,
+        }
+    }
+
+    /// The value that a load answers, where it is found in one of the two.
+    #[inline(always)]
+    pub(crate) fn loaded(&self, whole: &[u8], address: u32, size: Size) -> Option<u64>
+        requires { AreWithin self.now whole.now }
+        ensures { (table : Placed) → self.now ≡ near_of table → IsPartOf table whole.now → IfSome result (λ value. Ok value ≡ loaded (listed table.entries) (memory_of_part table whole.now) address size) }
+    {
+        if address % size.bytes() != 0 {
+            return None;
+        }
+        match self.find(address) {
+            Some(found) => Some(value_at(whole, found.byte, size)),
+            None => None,
+        }
+    }
+
+    /// Stores a value, where its place is found in one of the two and may be written. The answer is whether it did.
+    #[inline(always)]
+    pub(crate) fn stored(&self, whole: &mut [u8], address: u32, size: Size, value: u64) -> bool
+        requires { AreWithin self.now whole.old }
+        ensures done { OnTrue result ((table : Placed) → self.now ≡ near_of table → IsPartOf table whole.old → IsStored table whole.old whole.new address value size) }
+        ensures bytes { OnTrue result (AreBytes whole.new) }
+        ensures not_done { result ≡ false → whole.new ≡ whole.old }
+    {
+        if address % size.bytes() != 0 {
+            return false;
+        }
+        match self.find(address) {
+            Some(found) => {
+                if found.read_only {
+                    false
+                } else {
+                    put_value(whole, found.byte, size, value);
+                    true
+                }
+            }
+            None => false,
+        }
+    }
+}

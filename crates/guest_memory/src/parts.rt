@@ -1,0 +1,101 @@
+//! Writes to the bytes of one partition among those of all.
+
+ghost use Rattle.std.specs.Prelude.{◌≡◌, ◌<◌, OnErr, OnOk, length};
+ghost use Rattle.guest_bus.specs.Access.{Stores, after_store, store_fault};
+ghost use Rattle.guest_bus.specs.Memory.{is_writable, with_bytes};
+ghost use Rattle.guest_memory.specs.Flat.{AreBytes, IsPartOf, SameAround, listed, memory_of_part};
+ghost use Rattle.guest_memory.specs.Loading.{LiesIn, loaded};
+ghost use Rattle.guest_memory.specs.Memories.{answer_by, first_refused};
+ghost use Rattle.guest_memory.specs.Near.{near_of};
+
+use crate::near::Near;
+use crate::outside::Outside;
+use crate::range::load_image;
+use crate::space;
+use crate::table::Table;
+use guest_bus::{BusFault, Size};
+use xef_images::Xef;
+
+/// Stores a value where nothing refuses it.
+#[inline(always)]
+pub(crate) fn store(
+    near: &Near,
+    table: &Table,
+    whole: &mut [u8],
+    address: u32,
+    size: Size,
+    value: u64,
+) -> Result<(), BusFault>
+    requires near { near.now ≡ near_of table.now }
+    requires part { IsPartOf table.now whole.old }
+    requires few { length whole.old < 4294967296 }
+    ensures fault { Stores result (store_fault (listed table.now.entries) address size) }
+    ensures memory { memory_of_part table.now whole.new ≡ after_store (listed table.now.entries) (memory_of_part table.now whole.old) address size value }
+    ensures others { SameAround table.now whole.old whole.new }
+    ensures bytes { AreBytes whole.new }
+{
+    if near.stored(whole, address, size, value) {
+        Ok(())
+    } else {
+        search_and_store(table, whole, address, size, value)
+    }
+}
+
+/// Stores a value where nothing refuses it, by a search.
+#[cold]
+#[inline(never)]
+fn search_and_store(
+    table: &Table,
+    whole: &mut [u8],
+    address: u32,
+    size: Size,
+    value: u64,
+) -> Result<(), BusFault>
+    requires { IsPartOf table.now whole.old }
+    ensures fault { Stores result (store_fault (listed table.now.entries) address size) }
+    ensures memory { memory_of_part table.now whole.new ≡ after_store (listed table.now.entries) (memory_of_part table.now whole.old) address size value }
+    ensures others { SameAround table.now whole.old whole.new }
+    ensures bytes { AreBytes whole.new }
+{
+    let place = table.place() as usize;
+    let end = place + table.size() as usize;
+    space::store(
+        table.entries(),
+        &mut whole[place..end],
+        address,
+        size,
+        value,
+    )
+}
+
+/// Writes bytes from an address on, where all may be written.
+pub(crate) fn copy_out(
+    table: &Table,
+    whole: &mut [u8],
+    address: u32,
+    from: &[u8],
+) -> Result<(), Outside>
+    requires { IsPartOf table.now whole.old }
+    ensures answer { result ≡ answer_by (first_refused (is_writable (listed table.now.entries)) address (length from.now)) }
+    ensures written { OnOk result (memory_of_part table.now whole.new ≡ with_bytes (memory_of_part table.now whole.old) address from.now) }
+    ensures unchanged { OnErr result (whole.new ≡ whole.old) }
+    ensures others { SameAround table.now whole.old whole.new }
+    ensures bytes { AreBytes whole.new }
+{
+    let place = table.place() as usize;
+    let end = place + table.size() as usize;
+    space::copy_out(table.entries(), &mut whole[place..end], address, from)
+}
+
+/// Loads an image, with zeros in all other places.
+pub(crate) fn reload(table: &Table, whole: &mut [u8], image: &Xef)
+    requires part { IsPartOf table.now whole.old }
+    requires inside { LiesIn (listed table.now.entries) image.now }
+    ensures memory { memory_of_part table.now whole.new ≡ loaded (listed table.now.entries) image.now }
+    ensures others { SameAround table.now whole.old whole.new }
+    ensures bytes { AreBytes whole.new }
+{
+    let place = table.place() as usize;
+    let end = place + table.size() as usize;
+    load_image(table.entries(), &mut whole[place..end], image);
+}

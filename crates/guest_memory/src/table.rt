@@ -1,0 +1,69 @@
+//! Where the bytes of a partition's areas lie.
+
+ghost use Rattle.std.specs.Prelude.{◌≡◌, ◌+◌, ◌<◌, IfOk, map};
+ghost use Rattle.guest_memory.specs.Flat.{IsTable, listed};
+ghost use Rattle.guest_memory.specs.Loading.{area_of};
+ghost use Rattle.guest_memory.specs.Memories.{size_of};
+
+use crate::entry::Entry;
+use std::alloc::{AllocError, Global};
+use std::marker::Model;
+use xm_conf::Area;
+
+/// The areas of one partition. Their bytes lie one after the other, from a place of all bytes on.
+#[derive(Debug, Drop)]
+pub(crate) struct Table {
+    place: u32,
+    size: u32,
+    entries: Vec<Entry>,
+}
+
+impl Model for Table {
+    ghost use Rattle.guest_memory.specs.Flat as plain;
+
+    ghost Value = { plain.Table };
+
+    ghost view = { λ table. record { place = table.place; size = table.size; entries = table.entries.items } };
+}
+
+impl Table {
+    /// The areas of a partition, whose bytes lie from a place on.
+    pub(crate) fn new(alloc: Global, areas: &[Area], place: u32) -> Result<Table, AllocError>
+        requires { place + size_of (map area_of areas.now) < 4294967296 }
+        ensures areas { IfOk result (λ table. listed table.entries ≡ map area_of areas.now) }
+        ensures table { IfOk result (λ table. IsTable place table) }
+    {
+        let mut entries = Vec::with_capacity(alloc, areas.len())?;
+        let mut size = 0;
+        for area in areas {
+            entries.push_reserved(Entry::new(area, size));
+            size += area.size;
+        }
+        Ok(Table {
+            place,
+            size,
+            entries,
+        })
+    }
+
+    /// How many bytes of all lie before those of the partition.
+    pub(crate) fn place(&self) -> u32
+        ensures { result ≡ self.now.place }
+    {
+        self.place
+    }
+
+    /// How many bytes the partition has.
+    pub(crate) fn size(&self) -> u32
+        ensures { result ≡ self.now.size }
+    {
+        self.size
+    }
+
+    /// Its areas.
+    pub(crate) fn entries(&self) -> &[Entry]
+        ensures { result.now ≡ self.now.entries }
+    {
+        &self.entries
+    }
+}
