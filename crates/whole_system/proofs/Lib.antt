@@ -3,4 +3,5 @@ pub mod CallerLemmas
 pub mod InputLemmas
 pub mod InsideLemmas
 pub mod PartsLemmas
+pub mod RamLemmas
 pub mod StepLemmas

@@ -69,6 +69,14 @@ impl Inputs {
     {
         self.words[usize::from(p)].get(place).copied()
     }
+
+    /// How many input words of a partition are left after so many.
+    pub(crate) fn left(&self, p: PartId, used: usize) -> usize
+        requires { p < length self.now }
+        ensures value { result ≡ length (drop used (slice_index_or self.now p [])) }
+    {
+        self.words[usize::from(p)].len().saturating_sub(used)
+    }
 }
 
 /// The words that bytes spell, the highest byte of each first.

@@ -119,58 +119,62 @@ pub(crate) fn step_part(core: &mut Core, ram: &mut Ram, p: PartId, most: u64) ->
     ram.select(p);
     // It is selected before and behind the steps.
     let _before = ram.selected();
-    let (processor, gone) = go(Processor::of(core), ram, most);
+    let gone = go(core, ram, most);
     let _behind = ram.selected();
-    *core = processor.core();
     gone
 }
 
-// Steps, at most so many, up to the first that does more than go, with the registers at hand. It stands by itself, so that the
-// compiler has all of its registers for the loop.
+// The same over any memory. It stands by itself, so that the compiler has all of its registers for the loop; the registers at
+// hand are a local of it.
 #[inline(never)]
-fn go<B: Bus>(processor: Processor, bus: &mut B, most: u64) -> (Processor, Gone)
-    ensures went { (stepped result.1.went (B.areas bus.old) processor (B.memory bus.old)).turn ≡ Turn.Went }
-    ensures gone { IsGone result.1.turn result.1.went most (B.areas bus.old) (stepped result.1.went (B.areas bus.old) processor (B.memory bus.old)) result.0 (B.memory bus.new) }
-    ensures at { result.1.pc ≡ (stepped result.1.went (B.areas bus.old) processor (B.memory bus.old)).core.pc }
-    ensures aligned { result.1.pc % 4 ≡ 0 }
+fn go<B: Bus>(core: &mut Core, bus: &mut B, most: u64) -> Gone
+    ensures went { (stepped result.went (B.areas bus.old) core.old (B.memory bus.old)).turn ≡ Turn.Went }
+    ensures gone { IsGone result.turn result.went most (B.areas bus.old) (stepped result.went (B.areas bus.old) core.old (B.memory bus.old)) core.new (B.memory bus.new) }
+    ensures at { result.pc ≡ (stepped result.went (B.areas bus.old) core.old (B.memory bus.old)).core.pc }
+    ensures aligned { result.pc % 4 ≡ 0 }
     ensures areas { B.areas bus.new ≡ B.areas bus.old }
     ensures others { B.others bus.new ≡ B.others bus.old }
 {
-    let mut own = processor;
+    let mut own = Processor::of(core);
+    let gone = go_at_hand(&mut own, bus, most);
+    *core = own.core();
+    gone
+}
+
+// The same with the registers at hand.
+#[inline(always)]
+fn go_at_hand<B: Bus>(own: &mut Processor, bus: &mut B, most: u64) -> Gone
+    ensures went { (stepped result.went (B.areas bus.old) own.old (B.memory bus.old)).turn ≡ Turn.Went }
+    ensures gone { IsGone result.turn result.went most (B.areas bus.old) (stepped result.went (B.areas bus.old) own.old (B.memory bus.old)) own.new (B.memory bus.new) }
+    ensures at { result.pc ≡ (stepped result.went (B.areas bus.old) own.old (B.memory bus.old)).core.pc }
+    ensures aligned { result.pc % 4 ≡ 0 }
+    ensures areas { B.areas bus.new ≡ B.areas bus.old }
+    ensures others { B.others bus.new ≡ B.others bus.old }
+{
     let mut left = most;
     while left > 0 {
         let pc = own.pc();
-        match settle_at_hand(&mut own, bus) {
+        match settle_at_hand(own, bus) {
             Turn::Went => left -= 1,
             Turn::Trap(trap_type) => {
-                return (
-                    own,
-                    Gone {
-                        went: most - left,
-                        turn: Turn::Trap(trap_type),
-                        pc,
-                    },
-                );
+                return Gone {
+                    went: most - left,
+                    turn: Turn::Trap(trap_type),
+                    pc,
+                };
             }
             Turn::Call => {
-                return (
-                    own,
-                    Gone {
-                        went: most - left,
-                        turn: Turn::Call,
-                        pc,
-                    },
-                );
+                return Gone {
+                    went: most - left,
+                    turn: Turn::Call,
+                    pc,
+                };
             }
         }
     }
-    let pc = own.pc();
-    (
-        own,
-        Gone {
-            went: most,
-            turn: Turn::Went,
-            pc,
-        },
-    )
+    Gone {
+        went: most,
+        turn: Turn::Went,
+        pc: own.pc(),
+    }
 }

@@ -1,4 +1,4 @@
-//! The structures that hypercalls write: big endian fields, one behind the other.
+//! The structures that hypercalls write, and the parts of a core file: big endian fields, one after another.
 
 ghost use Rattle.std.specs.Prelude.{◌≡◌, ℕ, ◌+◌, ◌≤◌, List, [], ◌∷◌, ◌++◌, length, Some, IfSome};
 ghost use Rattle.std.specs.Int.{to_be_bytes, w16};
@@ -16,13 +16,13 @@ use xm_base::State;
 use xm_ports::Sample;
 use xm_traces::{Ring, TraceEntry};
 
-/// Bytes of the longest structure, a trace entry.
-const MOST_BYTES: usize = 24;
+/// Bytes of the longest structure: what a core file tells of a processor.
+const MOST_BYTES: usize = 28;
 
 /// A number that stands for none.
 const NONE: u32 = 0xffff_ffff;
 
-/// The bytes of a structure, as far as it is written, in a buffer of their own.
+/// The bytes of a structure, as far as it is written, in a buffer of their own. It has at most 28.
 #[derive(Drop)]
 pub struct Structure {
     bytes: ArrayVec<u8, MOST_BYTES>,
@@ -35,8 +35,8 @@ impl Model for Structure {
 }
 
 impl Structure {
-    // No field is written.
-    fn new() -> Structure
+    /// No field is written.
+    pub fn new() -> Structure
         ensures { result ≡ [] }
     {
         Structure {
@@ -51,45 +51,45 @@ impl Structure {
         self.bytes.as_slice()
     }
 
-    // Writes bytes as they are.
-    fn text(&mut self, bytes: &[u8])
-        requires { length self.old + length bytes.now ≤ 24 }
+    /// Writes bytes as they are.
+    pub fn text(&mut self, bytes: &[u8])
+        requires { length self.old + length bytes.now ≤ 28 }
         ensures value { self.new ≡ self.old ++ bytes.now }
         ensures size { length self.new ≡ length self.old + length bytes.now }
     {
         self.bytes.try_extend_from_slice(bytes).unwrap();
     }
 
-    // Writes a byte.
-    fn byte(&mut self, byte: u8)
-        requires { length self.old + 1 ≤ 24 }
+    /// Writes a byte.
+    pub fn byte(&mut self, byte: u8)
+        requires { length self.old + 1 ≤ 28 }
         ensures value { self.new ≡ self.old ++ byte ∷ [] }
         ensures size { length self.new ≡ length self.old + 1 }
     {
         self.text(&[byte]);
     }
 
-    // Writes a half word.
-    fn half(&mut self, half: u16)
-        requires { length self.old + 2 ≤ 24 }
+    /// Writes a half word.
+    pub fn half(&mut self, half: u16)
+        requires { length self.old + 2 ≤ 28 }
         ensures value { self.new ≡ self.old ++ to_be_bytes w16 half }
         ensures size { length self.new ≡ length self.old + 2 }
     {
         self.text(&half.to_be_bytes());
     }
 
-    // Writes a word.
-    fn word(&mut self, number: u32)
-        requires { length self.old + 4 ≤ 24 }
+    /// Writes a word.
+    pub fn word(&mut self, number: u32)
+        requires { length self.old + 4 ≤ 28 }
         ensures value { self.new ≡ self.old ++ word number }
         ensures size { length self.new ≡ length self.old + 4 }
     {
         self.text(&number.to_be_bytes());
     }
 
-    // Writes a double word.
-    fn double(&mut self, number: u64)
-        requires { length self.old + 8 ≤ 24 }
+    /// Writes a double word.
+    pub fn double(&mut self, number: u64)
+        requires { length self.old + 8 ≤ 28 }
         ensures value { self.new ≡ self.old ++ double number }
         ensures size { length self.new ≡ length self.old + 8 }
     {
@@ -97,8 +97,8 @@ impl Structure {
     }
 }
 
-// The number of a state.
-fn state_number(state: State) -> u32
+/// The number of a state.
+pub fn state_number(state: State) -> u8
     ensures { result ≡ state_number state }
 {
     match state {
@@ -126,7 +126,7 @@ pub fn partition_status(own: &PartState) -> Structure
     ensures size { length result ≡ 20 }
 {
     let mut status = Structure::new();
-    status.word(state_number(own.state));
+    status.word(u32::from(state_number(own.state)));
     status.word(own.resets);
     status.word(own.reset_status);
     status.double(own.clocks.exec());

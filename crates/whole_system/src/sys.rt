@@ -168,6 +168,14 @@ impl Sys {
         self.inputs.word(p, place)
     }
 
+    /// How many input words a partition has not read.
+    pub fn inputs_left(&self, p: PartId) -> usize
+        requires { p < length self.now.machine.parts }
+        ensures value { result ≡ length (part_at p self.now.machine).inputs }
+    {
+        self.inputs.left(p, self.parts[usize::from(p)].used)
+    }
+
     /// What the channels hold.
     pub fn channels(&self) -> &Channels
         ensures contents { result.now.contents ≡ self.now.machine.channels }

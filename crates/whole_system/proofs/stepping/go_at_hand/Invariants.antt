@@ -1,10 +1,10 @@
 use Rattle.std.proofs.Common.{◌≡◌, ◌≤◌, ◌-◌}
 use Rattle.whole_system.proofs.StepLemmas.{AreSteps}
-use Rattle.whole_system.proofs.stepping.go.Given as goal
+use Rattle.whole_system.proofs.stepping.go_at_hand.Given as goal
 
 abbrev pub invariant-loop-left : goal.invariant-loop-left
 invariant-loop-left g l = record {
-  steps : AreSteps (l.most - l.left) (g.B.Bus.areas l.fn.bus) l.fn.processor (g.B.Bus.memory l.fn.bus) l.own (g.B.Bus.memory l.bus);
+  steps : AreSteps (l.most - l.left) (g.B.Bus.areas l.fn.bus) l.fn.own (g.B.Bus.memory l.fn.bus) l.own (g.B.Bus.memory l.bus);
   few : l.left ≤ l.most;
   areas : g.B.Bus.areas l.bus ≡ g.B.Bus.areas l.fn.bus;
   others : g.B.Bus.others l.bus ≡ g.B.Bus.others l.fn.bus;
