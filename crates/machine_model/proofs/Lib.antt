@@ -33,4 +33,5 @@ pub mod WorkCallLemmas
 pub mod WorkTickLemmas
 pub mod ClockFactLemmas
 pub mod ShapeFactLemmas
+pub mod LengthLemmas
 pub mod MachineFactLemmas

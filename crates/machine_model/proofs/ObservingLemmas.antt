@@ -1,5 +1,5 @@
 -- What a partition asks for is what its call tests, and what it is shown has that size.
-use Rattle.std.proofs.Common.{◌≡◌, ℕ, Bool, true, false, List, [], ◌∷◌, length, Option, None, Some, refl, sym, ap, ◌∙◌, subst}
+use Rattle.std.proofs.Common.{◌≡◌, ℕ, ◌≤◌, Bool, true, false, List, [], ◌∷◌, length, Option, None, Some, refl, sym, ap, ◌∙◌, subst, arith}
 use Rattle.std.specs.Prelude.{slice_get, IfSome, if◌then◌else◌, ◌==◌, ◌&&◌, ◌||◌, not, nat_lt}
 use Rattle.std.proofs.lemmas.Bool.{eqb-true}
 use Rattle.std.proofs.lemmas.Option.{same_Some}
@@ -176,7 +176,7 @@ observes_as_tested caller call is is_kept =
     observes caller call (tests_room caller call (record { system = asks.0; is_kept = is_kept }) asks.1)
 
 -- the size of what a question asks for
-size_of : Question → ℕ
+pub size_of : Question → ℕ
 size_of (PartitionStatus id) = 20
 size_of SystemStatus = 8
 size_of CurrentPlan = 4
@@ -185,6 +185,17 @@ size_of (TraceEntryOf id number) = 24
 size_of (TraceCounts id) = 8
 size_of (HealthEntryOf id number) = 20
 size_of (HealthCounts id) = 8
+
+pub size_few : (question : Question) → size_of question ≤ 24
+unfolding size_of
+size_few (PartitionStatus id) = omega arith
+size_few SystemStatus = omega arith
+size_few CurrentPlan = omega arith
+size_few PlanStatus = omega arith
+size_few (TraceEntryOf id number) = omega arith
+size_few (TraceCounts id) = omega arith
+size_few (HealthEntryOf id number) = omega arith
+size_few (HealthCounts id) = omega arith
 
 -- a call asks for the size of its question
 SizeFits : Observation → Type 0
@@ -228,7 +239,7 @@ health_has None = tt
 health_has (Some entry) = refl
 
 -- what each question is answered has its size
-answer_has : (g : Machine) (question : Question) → ((id : ℕ) → IfSome (slice_get g.parts id) HasLoads) → HasLength (size_of question) (answer_to g question)
+pub answer_has : (g : Machine) (question : Question) → ((id : ℕ) → IfSome (slice_get g.parts id) HasLoads) → HasLength (size_of question) (answer_to g question)
 unfolding counts_bytes partition_status plan_status size_of system_status
 answer_has g (PartitionStatus id) loads = at (slice_get g.parts id)
   where

@@ -154,15 +154,15 @@ table_some f (suc n) zero y is = is
 table_some f (suc n) (suc r) y is = table_some (λ k. f (suc k)) n r y is
 
 -- the channel of a partition's port
-record IsItsChannel (conf : Conf) (p r : ℕ) (channel : PortChannel) : Type 0 where
-  number : ℕ
-  chan : Chan
-  found : channel_of conf p r ≡ Some number
-  there : slice_get conf.chans number ≡ Some chan
-  named_so : name_of conf p number ≡ Some channel.name
-  shape_is : shape_of chan ≡ channel.shape
+pub record IsItsChannel (conf : Conf) (p r : ℕ) (channel : PortChannel) : Type 0 where
+  pub number : ℕ
+  pub chan : Chan
+  pub found : channel_of conf p r ≡ Some number
+  pub there : slice_get conf.chans number ≡ Some chan
+  pub named_so : name_of conf p number ≡ Some channel.name
+  pub shape_is : shape_of chan ≡ channel.shape
 
-its_channel_is : (conf : Conf) (p r : ℕ) (channel : PortChannel) → port_channel conf p r ≡ Some channel → IsItsChannel conf p r channel
+pub its_channel_is : (conf : Conf) (p r : ℕ) (channel : PortChannel) → port_channel conf p r ≡ Some channel → IsItsChannel conf p r channel
 unfolding port_channel
 its_channel_is conf p r channel is = by (channel_of conf p r) refl is
   where
@@ -185,7 +185,7 @@ its_channel_is conf p r channel is = by (channel_of conf p r) refl is
     by None found said = absurd cc
     by (Some c) found said = with_both c found (slice_get conf.chans c) (name_of conf p c) refl refl said
 
-view_channel : (system : System) (p r : ℕ) (channel : PortChannel) → slice_index_or (view_of system p).channels r None ≡ Some channel → port_channel system.conf p r ≡ Some channel
+pub view_channel : (system : System) (p r : ℕ) (channel : PortChannel) → slice_index_or (view_of system p).channels r None ≡ Some channel → port_channel system.conf p r ≡ Some channel
 unfolding view_of
 view_channel system p r channel is = table_some (port_channel system.conf p) (length (part_of system.conf p).ports) r channel is
 
@@ -201,7 +201,7 @@ FitsChannels conf channels (Puts c bytes) =
 FitsChannels conf channels (Takes c) = Unit {0}
 
 -- what holds of each element of a list holds of one that is there
-all_at : {X : Type 0} (P : X → Type 0) (xs : List X) (k : ℕ) (x : X) → slice_get xs k ≡ Some x → All P xs → P x
+pub all_at : {X : Type 0} (P : X → Type 0) (xs : List X) (k : ℕ) (x : X) → slice_get xs k ≡ Some x → All P xs → P x
 all_at P [] k x is all = absurd cc
 all_at P (one ∷ xs) zero x is all = subst P (same_Some one x is) (All-head P one xs all)
 all_at P (one ∷ xs) (suc k) x is all = all_at P xs k x is (All-tail P one xs all)

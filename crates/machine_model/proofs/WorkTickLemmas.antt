@@ -552,7 +552,7 @@ entry_eight kept number all = by (nat_lt number (first_kept kept)) (nat_lt numbe
     by false true = kept_eight kept.entries (number - first_kept kept) all
     by false false = tt
 
-have_loads : (g : Machine) (id : ℕ) (o : Option PartitionState) → slice_get g.parts id ≡ o → HasFacts g → IfSome o HasLoads
+pub have_loads : (g : Machine) (id : ℕ) (o : Option PartitionState) → slice_get g.parts id ≡ o → HasFacts g → IfSome o HasLoads
 have_loads g id None is facts = tt
 have_loads g id (Some ps) is facts = λ number. entry_eight ps.traces number (facts id ps is).loads
 

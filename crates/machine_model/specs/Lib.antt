@@ -22,6 +22,7 @@ pub mod Alone
 pub mod CoreFile
 pub mod Laws
 pub mod Facts
+pub mod Lengths
 pub mod Rows
 pub mod SlotRows
 pub mod HealthRows

@@ -1,6 +1,7 @@
 //! The laws of the machine: a partition depends on nothing but its own things and its cues.
 
 ghost use Rattle.machine_model.specs.Facts.{BootsClocked, BootsComplete, BootsTimed, BootsWithFacts, BootsWithShapes, KeepsClocked, KeepsFacts, KeepsNumbers, KeepsShapes, KeepsTimed, PortsHaveKinds, RunsClocked, RunsComplete, RunsKeepNumbers, RunsTimed, RunsWithFacts, RunsWithShapes, ShowsItsSizeInRuns};
+ghost use Rattle.machine_model.specs.Lengths.{PutsFewBytes, ShowsFewBytes};
 ghost use Rattle.machine_model.specs.Laws.{
   ActsWithinBounds,
   AllTicks,
@@ -137,4 +138,11 @@ pub fn keeps_shapes()
     ensures ticks { KeepsShapes }
     ensures runs { RunsWithShapes }
     ensures kinds { PortsHaveKinds }
+{}
+
+/// Under a configuration that meets the rules a message that a tick puts is no longer than the longest that they allow; and what a
+/// partition is shown in a tick is no longer than an entry of a trace log.
+pub fn tells_few_bytes()
+    ensures messages { PutsFewBytes }
+    ensures sights { ShowsFewBytes }
 {}

@@ -71,7 +71,7 @@ abbrev quiet_tick : PartitionState → LocalTick
 quiet_tick new = record { after = new; lines = []; said = []; act = told.Nothing }
 
 -- the local tick of an instruction that only goes
-local_goes : (k last : ℕ) (g : Machine) (p : ℕ) (first : Bool) (ps : PartitionState) → IsSpan g last → k ≤ last → IsAwake g p first ps
+pub local_goes : (k last : ℕ) (g : Machine) (p : ℕ) (first : Bool) (ps : PartitionState) → IsSpan g last → k ≤ last → IsAwake g p first ps
     → NoDelivery (with_interrupts_to g.time k first ps).traps → HasGone (suc k) (view_of g.system p) (met g first ps)
     → local (going k g p first ps) ≡ Some (quiet_tick (its_state (suc k) g p first ps))
 local_goes k last g p first ps span within goes none gone =

@@ -36,7 +36,7 @@ abbrev idle_tick : PartitionState → LocalTick
 idle_tick new = record { after = new; lines = []; said = []; act = told.Nothing }
 
 -- the local tick of an idle partition that nothing wakes
-local_idle : (g : Machine) (p : ℕ) (ps s : PartitionState) → turn_of g ≡ Some (record { part = p; first = false }) → slice_get g.parts p ≡ Some ps
+pub local_idle : (g : Machine) (p : ℕ) (ps s : PartitionState) → turn_of g ≡ Some (record { part = p; first = false }) → slice_get g.parts p ≡ Some ps
     → ps.state ≡ Idle → with_interrupts g.time false ps ≡ s → due s.traps ≡ None → local g ≡ Some (idle_tick s)
 local_idle g p ps s turn there idle is none =
     let idle_still : s.state ≡ Idle = ap (λ (x : PartitionState). x.state) (sym is) ∙ same_state g.time false ps ∙ idle in
@@ -46,31 +46,31 @@ local_idle g p ps s turn there idle is none =
     ∙ ap (seen_outside (view_of g.system p) g.ticks) (worked_idle (view_of g.system p) (copies g p) g.time (sight_of_state g p false ps) ps s is idle_still none))
 
 -- the partition, when so many ticks are done
-abbrev idle_state : ℕ → Machine → PartitionState → PartitionState
+abbrev pub idle_state : ℕ → Machine → PartitionState → PartitionState
 idle_state zero g ps = ps
 idle_state (suc k) g ps = with_interrupts (g.time + k) false ps
 
 -- all partitions
-abbrev idle_parts : ℕ → Machine → ℕ → PartitionState → List PartitionState
+abbrev pub idle_parts : ℕ → Machine → ℕ → PartitionState → List PartitionState
 idle_parts zero g p ps = g.parts
 idle_parts (suc k) g p ps = others_rested k p (idle_state (suc k) g ps) g
 
 -- the machine
-abbrev idling : ℕ → Machine → ℕ → PartitionState → Machine
+abbrev pub idling : ℕ → Machine → ℕ → PartitionState → Machine
 idling k g p ps = inside k (idle_parts k g p ps) g
 
 -- it stays idle
-idle_still : (k : ℕ) (g : Machine) (ps : PartitionState) → ps.state ≡ Idle → (idle_state k g ps).state ≡ Idle
+pub idle_still : (k : ℕ) (g : Machine) (ps : PartitionState) → ps.state ≡ Idle → (idle_state k g ps).state ≡ Idle
 idle_still zero g ps idle = idle
 idle_still (suc k) g ps idle = same_state (g.time + k) false ps ∙ idle
 
 -- the partition stands at its place
-idle_place : (k : ℕ) (g : Machine) (p : ℕ) (ps : PartitionState) → slice_get g.parts p ≡ Some ps → slice_get (idle_parts k g p ps) p ≡ Some (idle_state k g ps)
+pub idle_place : (k : ℕ) (g : Machine) (p : ℕ) (ps : PartitionState) → slice_get g.parts p ≡ Some ps → slice_get (idle_parts k g p ps) p ≡ Some (idle_state k g ps)
 idle_place zero g p ps there = there
 idle_place (suc k) g p ps there = get_set_map (rested (g.time + k)) g.parts p ps (idle_state (suc k) g ps) there
 
 -- it looks at its timers once more
-idle_looks : (k : ℕ) (g : Machine) (ps : PartitionState) → with_interrupts (g.time + k) false (idle_state k g ps) ≡ idle_state (suc k) g ps
+pub idle_looks : (k : ℕ) (g : Machine) (ps : PartitionState) → with_interrupts (g.time + k) false (idle_state k g ps) ≡ idle_state (suc k) g ps
 idle_looks zero g ps = refl
 idle_looks (suc k) g ps = idles_later (g.time + k) (g.time + suc k) ps (omega arith)
 
@@ -87,13 +87,13 @@ not_first zero = refl
 not_first (suc k) = refl
 
 -- the turn stays the partition's
-idle_turn : (k last : ℕ) (g : Machine) (p : ℕ) (ps : PartitionState) → IsSpan g last → k ≤ last → IsSlotOf g p false ps
+pub idle_turn : (k last : ℕ) (g : Machine) (p : ℕ) (ps : PartitionState) → IsSpan g last → k ≤ last → IsSlotOf g p false ps
     → turn_of (idling k g p ps) ≡ Some (record { part = p; first = false })
 idle_turn k last g p ps span within slot =
     turn_inside g k last p false (idle_parts k g p ps) span within slot.turn ∙ ap (λ first. Some (record { part = p; first = first })) (not_first k)
 
 -- one such tick
-idles_inside : (k last : ℕ) (g : Machine) (p : ℕ) (ps : PartitionState) → IsSpan g last → k ≤ last → IsSlotOf g p false ps → ps.state ≡ Idle
+pub idles_inside : (k last : ℕ) (g : Machine) (p : ℕ) (ps : PartitionState) → IsSpan g last → k ≤ last → IsSlotOf g p false ps → ps.state ≡ Idle
     → due (with_interrupts (g.time + k) false ps).traps ≡ None → IsQuietTick (idling k g p ps) (idle_parts (suc k) g p ps)
 idles_inside k last g p ps span within slot idle none =
     let its_turn = idle_turn k last g p ps span within slot in

@@ -20,3 +20,5 @@ pub mod AlikeLemmas
 pub mod GoingOnLemmas
 pub mod StepLemmas
 pub mod TickPassLemmas
+pub mod ShownLemmas
+pub mod LastLemmas

@@ -46,7 +46,7 @@ rested_place zero g p ps there = (ps, there, refl)
 rested_place (suc k) g p ps there = (rested (g.time + k) ps, get_map (rested (g.time + k)) g.parts p ps there, rested_state (g.time + k) ps)
 
 -- no partition has a local tick
-none_inside : (k last : ℕ) (g : Machine) → IsSpan g last → k ≤ last → IsNobodys g → local (inside k (rested_inside k g) g) ≡ None
+pub none_inside : (k last : ℕ) (g : Machine) → IsSpan g last → k ≤ last → IsNobodys g → local (inside k (rested_inside k g) g) ≡ None
 none_inside k last g span within (inl gap) = local_by (inside k (rested_inside k g) g) None (gap_inside g k last (rested_inside k g) span within gap)
 none_inside k last g span within (inr (p, first, ps, slot, stays)) =
     let now = rested_place k g p ps slot.there in

@@ -30,7 +30,7 @@ pub gone_before : (k : ℕ) (view : PartitionView) (ps : PartitionState) → Has
 gone_before k view ps gone = went_before (stepped k (areas_of view) ps.core ps.memory) (areas_of view) gone
 
 -- the step behind steps that only went
-settled_next : (k : ℕ) (areas : List Area) (core : Registers) (memory : Memory) → (stepped k areas core memory).turn ≡ Went
+pub settled_next : (k : ℕ) (areas : List Area) (core : Registers) (memory : Memory) → (stepped k areas core memory).turn ≡ Went
     → settled areas (stepped k areas core memory).core (stepped k areas core memory).memory ≡ stepped (suc k) areas core memory
 settled_next k areas core memory went = ap (λ turn. then_settled turn areas (stepped k areas core memory)) (sym went)
 

@@ -68,7 +68,7 @@ met_at time k last first ps within far =
     undisturbed_met time k first ps (earlier_bound k last (next_due time true (with_interrupts time first ps).clocks) within far)
 
 -- so no interrupt can be delivered in any of them
-still_undelivered : (g : Machine) (p : ℕ) (first : Bool) (ps : PartitionState) (k last : ℕ) → k ≤ last → IsUndisturbed g p first ps last
+pub still_undelivered : (g : Machine) (p : ℕ) (first : Bool) (ps : PartitionState) (k last : ℕ) → k ≤ last → IsUndisturbed g p first ps last
     → NoDelivery (with_interrupts_to g.time k first ps).traps
 still_undelivered g p first ps k last within is =
     subst (λ (s : PartitionState). NoDelivery s.traps) (sym (met_at g.time k last first ps within is.timers)) is.undelivered
@@ -81,7 +81,7 @@ undisturbed_ticks g p first ps last is gone =
     (going_ticks g p first ps last is.span is.goes (still_undelivered g p first ps last last (omega arith) is) gone)
 
 -- the ticks before the next one
-gone_undisturbed : (g : Machine) (p : ℕ) (first : Bool) (ps : PartitionState) (done : ℕ) → IsUndisturbed g p first ps done
+pub gone_undisturbed : (g : Machine) (p : ℕ) (first : Bool) (ps : PartitionState) (done : ℕ) → IsUndisturbed g p first ps done
     → HasGone done (view_of g.system p) (met g first ps) → HasGoneOn g p first ps done
 gone_undisturbed g p first ps done is gone = record {
   span = is.span;
@@ -129,7 +129,7 @@ unfolding with_interrupts hardware_looked_at execution_looked_at
 execution_not_due time ps = looked_not_due ps.clocks.execution ps.clocks.execution_timer
 
 -- an idle partition looks at its timers to no effect
-idle_met : (time last : ℕ) (ps : PartitionState) → NoneFallsDue time last false (with_interrupts time false ps).clocks
+pub idle_met : (time last : ℕ) (ps : PartitionState) → NoneFallsDue time last false (with_interrupts time false ps).clocks
     → with_interrupts (time + last) false ps ≡ with_interrupts time false ps
 idle_met time last ps far =
     sym (idles_later time (time + last) ps (omega arith))

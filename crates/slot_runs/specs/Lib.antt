@@ -10,3 +10,4 @@ pub mod SpanLaws
 pub mod Spans
 pub mod Stepping
 pub mod Undisturbed
+pub mod Calm

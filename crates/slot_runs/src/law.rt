@@ -1,5 +1,6 @@
 //! What ticks of one slot or gap leave of the whole machine.
 
+ghost use Rattle.slot_runs.specs.Calm.{GoneCalm, IdleCalm, RestingCalm};
 ghost use Rattle.slot_runs.specs.GoingOn.{GapGoesOn, LeftAreSpan, SilentConsoles, SlotGoesOn, SpanGoesOn};
 ghost use Rattle.slot_runs.specs.Late.{OthersGoAlike, RestedGoAlike};
 ghost use Rattle.slot_runs.specs.NextLaws.{MetTick, NextTick, ToldTick};
@@ -83,4 +84,12 @@ pub fn tick_in_passes()
     ensures all { AllRest }
     ensures others { OthersRest }
     ensures later { OthersRestLater }
+{}
+
+/// The last of many ticks in which nothing is told is in the same slot or gap as the first, which begins with the first alone. It reaches
+/// beyond no partition, and nobody is shown anything.
+pub fn calm_ticks()
+    ensures resting { RestingCalm }
+    ensures idle { IdleCalm }
+    ensures gone { GoneCalm }
 {}

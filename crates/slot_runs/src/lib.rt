@@ -4,6 +4,6 @@
 mod law;
 
 pub use law::{
-    going_ticks, idle_ticks, late_looks, late_machine, late_rest, next_tick, resting_ticks,
-    silent_consoles, slot_goes_on, tick_in_passes, undisturbed_ticks,
+    calm_ticks, going_ticks, idle_ticks, late_looks, late_machine, late_rest, next_tick,
+    resting_ticks, silent_consoles, slot_goes_on, tick_in_passes, undisturbed_ticks,
 };
