@@ -1,0 +1,5 @@
+mod AreaLemmas
+mod LengthLemmas
+mod LogLemmas
+mod PortLemmas
+mod WritingLemmas

@@ -1,0 +1,11 @@
+//! The core file of a partition: all of its state, as bytes.
+#![tactic(auto)]
+
+mod areas;
+mod fields;
+mod logs;
+mod registers;
+mod standing;
+mod whole;
+
+pub use whole::{core_into, core_length};

@@ -1,0 +1,143 @@
+//! The traces and the health log of a partition.
+
+ghost use Rattle.std.specs.Prelude.{◌≡◌, ◌+◌, ◌-◌, ◌*◌, ◌<◌, ◌≤◌, ◌++◌, Some, length, slice_get, take};
+ghost use Rattle.std.specs.List.{flat_map};
+ghost use Rattle.machine_model.specs.CoreFile.{log_bytes};
+ghost use Rattle.machine_model.specs.Facts.{HaveEight};
+ghost use Rattle.machine_model.specs.Structures.{health_bytes, trace_bytes};
+ghost use Rattle.whole_system.specs.State.{part_at};
+
+use crate::fields::{put_structure, put_zeros};
+use health_monitor::HealthEntry;
+use whole_system::Sys;
+use whole_system::structures::{counts_bytes, health_bytes, trace_bytes};
+use xm_base::PartId;
+use xm_traces::{Ring, TraceEntry};
+
+/// How many entries a log keeps at most.
+const MOST_ENTRIES: usize = 64;
+
+/// Bytes of a trace entry.
+const TRACE_BYTES: usize = 24;
+
+/// Bytes of a health entry.
+const HEALTH_BYTES: usize = 20;
+
+/// Writes the logs of a partition at a place, and tells the place after their 2832 bytes.
+pub(crate) fn put_logs(into: &mut [u8], at: usize, sys: &Sys, p: PartId) -> usize
+    requires partition { p < length sys.now.machine.parts }
+    requires room { at + 2832 ≤ length into.old }
+    ensures text { take result into.new ≡ take at into.old ++ log_bytes 24 trace_bytes (part_at p sys.now.machine).traces ++ log_bytes 20 health_bytes (part_at p sys.now.machine).health }
+    ensures place { result ≡ at + 2832 }
+    ensures room { length into.new ≡ length into.old }
+{
+    let own = sys.part(p);
+    let at = put_traces(into, at, &own.traces);
+    put_health(into, at, &own.health)
+}
+
+/// Writes the traces of a partition at a place, and tells the place after their 1544 bytes.
+fn put_traces(into: &mut [u8], at: usize, traces: &Ring<TraceEntry>) -> usize
+    requires { at + 1544 ≤ length into.old }
+    ensures text { take result into.new ≡ take at into.old ++ log_bytes 24 trace_bytes traces.now }
+    ensures place { result ≡ at + 1544 }
+    ensures room { length into.new ≡ length into.old }
+{
+    let missing = MOST_ENTRIES - kept(traces);
+    let at = put_structure(into, at, &counts_bytes(traces));
+    let at = put_trace_entries(into, at, traces);
+    put_zeros(into, at, missing * TRACE_BYTES)
+}
+
+/// Writes the health log of a partition at a place, and tells the place after its 1288 bytes.
+fn put_health(into: &mut [u8], at: usize, health: &Ring<HealthEntry>) -> usize
+    requires { at + 1288 ≤ length into.old }
+    ensures text { take result into.new ≡ take at into.old ++ log_bytes 20 health_bytes health.now }
+    ensures place { result ≡ at + 1288 }
+    ensures room { length into.new ≡ length into.old }
+{
+    let missing = MOST_ENTRIES - kept(health);
+    let at = put_structure(into, at, &counts_bytes(health));
+    let at = put_health_entries(into, at, health);
+    put_zeros(into, at, missing * HEALTH_BYTES)
+}
+
+/// Writes the trace entries that are kept, the oldest first.
+fn put_trace_entries(into: &mut [u8], at: usize, traces: &Ring<TraceEntry>) -> usize
+    requires { at + 24 * length traces.now.entries ≤ length into.old }
+    ensures text { take result into.new ≡ take at into.old ++ flat_map trace_bytes traces.now.entries }
+    ensures place { result ≡ at + 24 * length traces.now.entries }
+    ensures room { length into.new ≡ length into.old }
+{
+    let mut after = at;
+    for place in 0..kept(traces) {
+        let entry = entry_at(traces, place);
+        after = put_structure(into, after, &trace_bytes(&entry));
+    }
+    after
+}
+
+/// Writes the health entries that are kept, the oldest first.
+fn put_health_entries(into: &mut [u8], at: usize, health: &Ring<HealthEntry>) -> usize
+    requires { at + 20 * length health.now.entries ≤ length into.old }
+    ensures text { take result into.new ≡ take at into.old ++ flat_map health_bytes health.now.entries }
+    ensures place { result ≡ at + 20 * length health.now.entries }
+    ensures room { length into.new ≡ length into.old }
+{
+    let mut after = at;
+    for place in 0..kept(health) {
+        let entry = entry_at(health, place);
+        after = put_structure(into, after, &health_bytes(&entry));
+    }
+    after
+}
+
+/// How many entries a log keeps.
+fn kept<T: Copy>(log: &Ring<T>) -> usize
+    ensures value { result ≡ length log.now.entries }
+    ensures few { result ≤ 64 }
+{
+    let counts = log.counts();
+    (counts.next - counts.first) as usize
+}
+
+/// The entry at a place among those that a log keeps.
+fn entry_at<T: Copy>(log: &Ring<T>, place: usize) -> T
+    requires { place < length log.now.entries }
+    ensures value { slice_get log.now.entries place ≡ Some result }
+{
+    match log.read(log.counts().first + place as u32) {
+        Some(entry) => entry,
+        None => unreachable!(),
+    }
+}
+
+/// Looks at the logs of a partition, so that it is known how long they are and that each trace entry has 8 bytes.
+pub(crate) fn look_at_logs(sys: &Sys, p: PartId)
+    requires { p < length sys.now.machine.parts }
+    ensures loads { HaveEight (part_at p sys.now.machine).traces.entries }
+    ensures traces { length (part_at p sys.now.machine).traces.entries ≤ 64 }
+    ensures health { length (part_at p sys.now.machine).health.entries ≤ 64 }
+{
+    let own = sys.part(p);
+    look_at(&own.traces);
+    let _events = kept(&own.health);
+}
+
+/// Looks at each trace entry.
+fn look_at(traces: &Ring<TraceEntry>)
+    ensures loads { HaveEight traces.now.entries }
+    ensures few { length traces.now.entries ≤ 64 }
+{
+    for place in 0..kept(traces) {
+        let entry = entry_at(traces, place);
+        look_at_entry(&entry);
+    }
+}
+
+/// Looks at a trace entry.
+fn look_at_entry(entry: &TraceEntry)
+    ensures eight { length entry.now.load ≡ 8 }
+{
+    let _load = &entry.load;
+}
