@@ -1,5 +1,5 @@
 -- What a UART tells of itself, and what a board tells of its places.
-use Rattle.std.specs.Prelude.{◌≡◌, ℕ, List, Option, None, slice_index_or}
+use Rattle.std.specs.Prelude.{◌≡◌, ℕ, List, Option, None, replicate, slice_index_or}
 use Rattle.xm_outside.specs.Causes.{Rose}
 use Rattle.xm_outside.specs.Growth.{GrewBySome, grown}
 
@@ -30,3 +30,7 @@ view_at place board = slice_index_or board.places place None
 -- the mark of the place, where it has one
 abbrev pub mark_at : ℕ → List (Option ℕ) → Option ℕ
 mark_at place marks = slice_index_or marks place None
+
+-- the same places, and no mark
+abbrev pub begun : BoardView → BoardView
+begun board = record { places = board.places; marks = replicate 8 None }

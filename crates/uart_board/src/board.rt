@@ -5,7 +5,7 @@ ghost use Rattle.xm_outside.specs.Causes.{HasCause};
 ghost use Rattle.xm_outside.specs.Growth.{Receives};
 ghost use Rattle.uart_board.specs.Board.{IsLost, IsTaken, empty_board, lost, uart_at, unmarked, with_uart};
 ghost use Rattle.uart_board.specs.Heard.{IsHeard, said_to};
-ghost use Rattle.uart_board.specs.Views.{HasFailed, HasTaken, mark_at};
+ghost use Rattle.uart_board.specs.Views.{HasFailed, HasTaken, begun, mark_at};
 
 use crate::views::{ViewBoard, ViewUart};
 use xm_outside::{Failed, Uart};
@@ -52,6 +52,7 @@ impl Board {
     /// Forgets all marks.
     pub fn begin(&mut self)
         ensures board { self.new ≡ unmarked self.old }
+        ensures view { ⟦<Board as ViewBoard>⟧.board_view self.new ≡ begun (⟦<Board as ViewBoard>⟧.board_view self.old) }
     {
         self.marks = [None; PLACES];
     }

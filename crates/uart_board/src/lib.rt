@@ -6,3 +6,6 @@ mod views;
 
 pub use board::Board;
 pub use views::{ViewBoard, ViewUart};
+
+#[cfg(test)]
+mod tests;

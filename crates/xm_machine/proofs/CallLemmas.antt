@@ -1,30 +1,34 @@
 -- A hypercall of a partition: it is served, its tick is counted, and what it asks for is followed.
 use Rattle.std.proofs.Common.{◌≡◌, ℕ, ◌<◌, ◌⊎◌, inl, inr, Bool, true, false, List, [], ◌++◌, Option, None, Some, length, map, set, get_or, refl, sym, ap, ◌∙◌, subst}
 use Rattle.std.proofs.lemmas.List.{append_assoc, get_or-set_same, length-set, map-append, set-set}
-use Rattle.std.specs.Prelude.{if◌then◌else◌}
+use Rattle.std.specs.Prelude.{◌==◌, if◌then◌else◌}
 use Rattle.guest_bus.specs.Memory.{Memory}
-use Rattle.whole_system.specs.Serving.{IsServed, caller_at, own_traffic, told_by, traffic_by, untraded, upshot_of, without_traffic}
+use Rattle.whole_system.specs.Serving.{IsServed, caller_at, own_traffic, sight_by, told_by, traffic_by, untraded, upshot_of, without_traffic}
 use Rattle.whole_system.specs.State.{SysState, with_machine}
 use Rattle.whole_system.specs.declared.served.Note.{Note}
 use Rattle.whole_system.specs.declared.served.Note.TheVariants as note
 use Rattle.whole_system.specs.declared.served.Served as code
 use Rattle.machine_model.specs.Caller.{Acts, Meets, Served, Upshot}
-use Rattle.machine_model.specs.Health.{Worked, quiet}
+use Rattle.machine_model.specs.Health.{Worked, quiet, self_ordered}
 use Rattle.machine_model.specs.Hypercalls.{served}
 use Rattle.machine_model.specs.Lists.{each}
 use Rattle.machine_model.specs.LocalTick.{by_upshot, called, clocked}
-use Rattle.machine_model.specs.Machine.{Machine, booted_part}
+use Rattle.machine_model.specs.Machine.{Machine, booted_part, sight_for}
+use Rattle.machine_model.specs.Observed.{Observation, observed_by}
 use Rattle.machine_model.specs.Partition.{PartitionState, is_halted}
 use Rattle.machine_model.specs.Told as told
-use Rattle.machine_model.specs.Told.{OwnPuts, OwnStill, OwnTakes, OwnTraffic, Sight, Told, Trades, line_of}
-use Rattle.machine_model.specs.Traffic.{Puts, Still, Takes, Traffic, after_message, after_traffic, heard_as, heard_from, hearing, interrupted, told_as}
+use Rattle.machine_model.specs.Told.{OwnPuts, OwnStill, OwnTakes, OwnTraffic, Sight, Told, Trades, Words, line_of}
+use Rattle.machine_model.specs.Traffic.{Puts, Still, Takes, Traffic, after_message, after_traffic, heard_as, heard_from, hearing, interrupted, told_as, traffic_of}
 use Rattle.machine_model.specs.View.{PartitionView, name_of, named, view_of}
 use Rattle.slot_runs.specs.Passes.{part_at, traded, with_part}
 use Rattle.virt_traps.specs.Virtual.{raised}
 use Rattle.xm_report.specs.Report.{ReportLine}
-use Rattle.xm_machine.specs.Work.{IsDone, IsUponOne, IsWorked, TellsAlone, act_of, console_told, trace_told}
+use Rattle.xm_machine.specs.Work.{AsksAtMost, IsDone, IsToldBy, IsUponOne, IsWorked, TellsAlone, act_of, console_told, trace_told}
 use Rattle.xm_machine.specs.declared.beyond.Beyond.{Beyond}
+use Rattle.xm_base.specs.declared.partition.Order.{Order}
 use Rattle.xm_machine.proofs.HealthLemmas.{silent}
+use Rattle.xm_machine.proofs.InstructionLemmas.{handled_still}
+use Rattle.xm_machine.proofs.MildLemmas.{Mild, served_mild}
 use Rattle.xm_machine.proofs.ServedLemmas.{kept_parts, served_keeps}
 use Rattle.xm_machine.proofs.ReachLemmas.{no_traffic, one_before, plain_act}
 use Rattle.xm_machine.proofs.WorkLemmas.{done_then, put_back, put_there}
@@ -274,18 +278,104 @@ call_worked p pc npc n answer reach old one two new had between got below empty 
       one_is = one_is;
     })
 
+-- a call that put a message does nothing else
+put_alone : (names : ℕ → Option ℕ) (upshot u : Upshot) (chan : ℕ) (bytes : List ℕ) (reach : Beyond) (view : PartitionView) (time : ℕ) (ps : PartitionState)
+    → told_as names (own_traffic upshot) ≡ Puts chan bytes → untraded upshot ≡ u → (by_upshot u view time ps).act ≡ act_of reach → act_of reach ≡ told.Nothing
+put_alone names (Acts told.Nothing) u chan bytes reach view time ps puts is act = absurd cc
+put_alone names (Acts (Trades own)) u chan bytes reach view time ps puts is act = sym act ∙ ap (λ (upshot : Upshot). (by_upshot upshot view time ps).act) (sym is)
+put_alone names (Acts (told.Upon id order)) u chan bytes reach view time ps puts is act = absurd cc
+put_alone names (Acts (told.Plans change)) u chan bytes reach view time ps puts is act = absurd cc
+put_alone names (Acts (told.UponAll event)) u chan bytes reach view time ps puts is act = absurd cc
+put_alone names (Meets event word) u chan bytes reach view time ps puts is act = absurd cc
+
+-- nor does what follows it change the memory
+put_memory : (names : ℕ → Option ℕ) (u : Upshot) (chan : ℕ) (bytes : List ℕ) (view : PartitionView) (time : ℕ) (ps : PartitionState)
+    → told_as names (own_traffic u) ≡ Puts chan bytes → (by_upshot u view time (clocked ps)).after.memory ≡ ps.memory
+unfolding clocked
+put_memory names (Acts told.Nothing) chan bytes view time ps puts = refl
+put_memory names (Acts (Trades own)) chan bytes view time ps puts = refl
+put_memory names (Acts (told.Upon id order)) chan bytes view time ps puts = absurd cc
+put_memory names (Acts (told.Plans change)) chan bytes view time ps puts = refl
+put_memory names (Acts (told.UponAll event)) chan bytes view time ps puts = refl
+put_memory names (Meets event word) chan bytes view time ps puts = absurd cc
+
+-- one that was shown bytes does nothing, or asks for a plan
+mild_alone : (upshot u : Upshot) (reach : Beyond) (view : PartitionView) (time : ℕ) (ps : PartitionState) → Mild upshot → untraded upshot ≡ u
+    → (by_upshot u view time ps).act ≡ act_of reach → AsksAtMost reach
+mild_alone upshot u reach view time ps (inl nothing) is act = inl (sym act ∙ ap (λ (x : Upshot). (by_upshot x view time ps).act) (sym is ∙ ap untraded nothing))
+mild_alone upshot u reach view time ps (inr (plan, asks)) is act =
+    inr (plan, sym act ∙ ap (λ (x : Upshot). (by_upshot x view time ps).act) (sym is ∙ ap untraded asks))
+
+mild_memory : (u : Upshot) (view : PartitionView) (time : ℕ) (ps : PartitionState) → Mild u → (by_upshot u view time (clocked ps)).after.memory ≡ ps.memory
+unfolding clocked
+mild_memory u view time ps (inl nothing) = ap (λ (x : Upshot). (by_upshot x view time (clocked ps)).after.memory) nothing
+mild_memory u view time ps (inr (plan, asks)) = ap (λ (x : Upshot). (by_upshot x view time (clocked ps)).after.memory) asks
+
+-- an order upon itself and a health event have no traffic
+order_still : (b : Bool) (view : PartitionView) (id : ℕ) (order : Order) (ps : PartitionState)
+    → traffic_of (if b then self_ordered view order ps else record (quiet ps) { act = told.Upon id order }).act ≡ OwnStill
+unfolding self_ordered
+order_still true view id order ps = refl
+order_still false view id order ps = refl
+
+-- what follows a call has the call's traffic
+same_traffic : (u : Upshot) (view : PartitionView) (time : ℕ) (ps : PartitionState) → traffic_of (by_upshot u view time ps).act ≡ own_traffic u
+same_traffic (Acts told.Nothing) view time ps = refl
+same_traffic (Acts (Trades own)) view time ps = refl
+same_traffic (Acts (told.Upon id order)) view time ps = order_still (id == view.id) view id order ps
+same_traffic (Acts (told.Plans change)) view time ps = refl
+same_traffic (Acts (told.UponAll event)) view time ps = refl
+same_traffic (Meets event word) view time ps = handled_still view time event word None ps
+
+-- the bytes that a note names of a message, and those that were shown, are still there
+bytes_same : (names : ℕ → Option ℕ) (a_note : Note) (seen : Sight) (s : Served) (view : PartitionView) (time : ℕ) → ((bytes : List ℕ) → seen ≡ Words bytes → Mild s.upshot)
+    → told_as names (own_traffic s.upshot) ≡ traffic_by a_note s.after.memory → seen ≡ sight_by a_note s.after.memory
+    → (traffic_by a_note s.after.memory ≡ traffic_by a_note (by_upshot s.upshot view time (clocked s.after)).after.memory)
+    × (sight_by a_note s.after.memory ≡ sight_by a_note (by_upshot s.upshot view time (clocked s.after)).after.memory)
+bytes_same names note.Nothing seen s view time mild trades shows = (refl, refl)
+bytes_same names (note.Console at size) seen s view time mild trades shows = (refl, refl)
+bytes_same names (note.Trace entry) seen s view time mild trades shows = (refl, refl)
+bytes_same names (note.Put chan at size) seen s view time mild trades shows =
+    (ap (traffic_by (note.Put chan at size)) (sym (put_memory names s.upshot chan _ view time s.after trades)), refl)
+bytes_same names (note.Take chan) seen s view time mild trades shows = (refl, refl)
+bytes_same names (note.Saw at size) seen s view time mild trades shows =
+    (refl, ap (sight_by (note.Saw at size)) (sym (mild_memory s.upshot view time s.after (mild _ shows))))
+bytes_same names note.NotKept seen s view time mild trades shows = (refl, refl)
+
+-- a call that was shown bytes observed
+saw_mild : (p pc npc : ℕ) (old : SysState) (bytes : List ℕ) → (caller_at p pc npc old).sight ≡ Words bytes → Mild (served (caller_at p pc npc old)).upshot
+unfolding caller_at
+saw_mild p pc npc old bytes shows = at (observed_by (view_of old.machine.system p) (part_at p old.machine).core) refl
+  where
+    at : (o : Option Observation) → observed_by (view_of old.machine.system p) (part_at p old.machine).core ≡ o → Mild (served (caller_at p pc npc old)).upshot
+    at None is = absurd (let none : sight_for old.machine (view_of old.machine.system p) None ≡ Words bytes = sym (ap (sight_for old.machine (view_of old.machine.system p)) is) ∙ shows in cc)
+    at (Some call) is = served_mild (caller_at p pc npc old) call is
+
+-- what a call's note tells is its traffic and what it was shown
+pub call_noted : (p pc npc : ℕ) (answer : code.Served) (old one : SysState) → IsServed p (caller_at p pc npc old).sight (served (caller_at p pc npc old)) answer old one
+    → IsToldBy p (caller_at p pc npc old).sight (called (caller_at p pc npc old)) answer.note old
+unfolding called caller_at
+call_noted p pc npc answer old one serves =
+    let caller = caller_at p pc npc old in
+    let same = bytes_same (named old.machine.system.conf p) answer.note caller.sight (served caller) caller.view caller.time (saw_mild p pc npc old) serves.traffic serves.seen in
+    record {
+      traffic = ap (told_as (named old.machine.system.conf p)) (same_traffic (served caller).upshot caller.view caller.time (clocked (served caller).after)) ∙ serves.traffic ∙ same.0;
+      seen = serves.seen ∙ same.1;
+    }
+
 -- where what follows a call of this upshot reaches, by its note
-reach_told : (a_note : Note) (s : Served) (u : Upshot) (reach : Beyond) (view : PartitionView) (time : ℕ) (ps : PartitionState) → s.told ≡ told_by a_note s.after.memory → (s.told ≡ []) ⊎ (s.upshot ≡ Acts told.Nothing)
+reach_told : (names : ℕ → Option ℕ) (seen : Sight) (a_note : Note) (s : Served) (u : Upshot) (reach : Beyond) (view : PartitionView) (time : ℕ) (ps : PartitionState) → s.told ≡ told_by a_note s.after.memory → (s.told ≡ []) ⊎ (s.upshot ≡ Acts told.Nothing)
+    → told_as names (own_traffic s.upshot) ≡ traffic_by a_note s.after.memory → seen ≡ sight_by a_note s.after.memory → ((bytes : List ℕ) → seen ≡ Words bytes → Mild s.upshot)
     → untraded s.upshot ≡ u → (by_upshot u view time ps).act ≡ act_of reach → TellsAlone a_note reach
-reach_told note.Nothing s u reach view time ps told_is acts is act = tt
-reach_told (note.Console at size) s u reach view time ps told_is (inl none) is act = absurd cc
-reach_told (note.Console at size) s u reach view time ps told_is (inr nothing) is act =
+reach_told names seen note.Nothing s u reach view time ps told_is acts trades shows mild is act = tt
+reach_told names seen (note.Console at size) s u reach view time ps told_is (inl none) trades shows mild is act = absurd cc
+reach_told names seen (note.Console at size) s u reach view time ps told_is (inr nothing) trades shows mild is act =
     sym act ∙ ap (λ (upshot : Upshot). (by_upshot upshot view time ps).act) (sym is ∙ ap untraded nothing)
-reach_told (note.Trace entry) s u reach view time ps told_is acts is act = tt
-reach_told (note.Put chan at size) s u reach view time ps told_is acts is act = tt
-reach_told (note.Take chan) s u reach view time ps told_is acts is act = tt
-reach_told (note.Saw at size) s u reach view time ps told_is acts is act = tt
-reach_told note.NotKept s u reach view time ps told_is acts is act = tt
+reach_told names seen (note.Trace entry) s u reach view time ps told_is acts trades shows mild is act = tt
+reach_told names seen (note.Put chan at size) s u reach view time ps told_is acts trades shows mild is act = put_alone names s.upshot u chan _ reach view time ps trades is act
+reach_told names seen (note.Take chan) s u reach view time ps told_is acts trades shows mild is act = tt
+reach_told names seen (note.Saw at size) s u reach view time ps told_is acts trades shows mild is act = mild_alone s.upshot u reach view time ps (mild _ shows) is act
+reach_told names seen note.NotKept s u reach view time ps told_is acts trades shows mild is act = tt
 
 -- a call that tells bytes for the console reaches nothing
 pub call_alone : (p pc npc : ℕ) (answer : code.Served) (reach : Beyond) (old one two : SysState)
@@ -293,7 +383,8 @@ pub call_alone : (p pc npc : ℕ) (answer : code.Served) (reach : Beyond) (old o
     → (by_upshot (upshot_of answer.act) (view_of two.machine.system p) two.machine.time (part_at p two.machine)).act ≡ act_of reach → TellsAlone answer.note reach
 call_alone p pc npc answer reach old one two serves act =
     let caller = caller_at p pc npc old in
-    reach_told answer.note (served caller) (upshot_of answer.act) reach (view_of two.machine.system p) two.machine.time (part_at p two.machine) serves.told (served_keeps caller).acts serves.upshot act
+    reach_told (named old.machine.system.conf p) caller.sight answer.note (served caller) (upshot_of answer.act) reach (view_of two.machine.system p) two.machine.time (part_at p two.machine) serves.told
+    (served_keeps caller).acts serves.traffic serves.seen (saw_mild p pc npc old) serves.upshot act
 
 -- a call keeps the health log and the execution clock of its partition
 pub call_keeps : (p pc npc : ℕ) (answer : code.Served) (old one : SysState) → p < length old.machine.parts

@@ -1,5 +1,5 @@
 -- Ticks that were done: quiet ones, and those of which the last had work.
-use Rattle.std.proofs.Common.{◌≡◌, ℕ, suc, ◌+◌, ◌<◌, ◌≤◌, Bool, true, false, List, [], ◌∷◌, ◌++◌, length, map, Option, None, Some, refl, sym, ap, subst, ◌∙◌, arith}
+use Rattle.std.proofs.Common.{◌≡◌, inl, inr, ℕ, suc, ◌+◌, ◌<◌, ◌≤◌, Bool, true, false, List, [], ◌∷◌, ◌++◌, length, map, Option, None, Some, refl, sym, ap, subst, ◌∙◌, arith}
 use Rattle.std.specs.Prelude.{◌-◌, if◌then◌else◌, IfSome}
 use Rattle.std.proofs.lemmas.Bool.{eq-eqb}
 use Rattle.std.proofs.lemmas.List.{append-nil, get_or-set_same}
@@ -17,23 +17,26 @@ use Rattle.machine_model.specs.Laws.{ActsWithinBounds}
 use Rattle.machine_model.specs.Lines.{lines, step_lines}
 use Rattle.machine_model.specs.Lists.{is_number}
 use Rattle.machine_model.specs.LocalTick.{bounded, local_tick, with_interrupts, worked, worked_if}
-use Rattle.machine_model.specs.Machine.{Machine, booted_part, copies, run, sight}
+use Rattle.machine_model.specs.Machine.{Machine, Turn, booted_part, copies, run, sight, turn_of}
 use Rattle.machine_model.specs.Partition.{PartitionState, is_halted, rested}
 use Rattle.machine_model.specs.Told as told
 use Rattle.machine_model.specs.Told.{Act, Directed, OwnPuts, OwnStill, OwnTakes, OwnTraffic, Told, line_of, reach_of}
 use Rattle.machine_model.specs.Traffic.{Puts, Still, Takes, Traffic, after_message, heard_as, heard_from, hearing, interrupted}
 use Rattle.guest_memory.specs.Loading.{areas_of}
 use Rattle.machine_model.specs.View.{PartitionView, System, name_of, part_of, view_of}
+use Rattle.slot_runs.specs.Calm.{turn_after}
 use Rattle.slot_runs.specs.Meeting.{HasGone, first_after, gone_on}
-use Rattle.slot_runs.specs.NextLaws.{IsNextTick, MetTick, next_work}
+use Rattle.slot_runs.specs.NextLaws.{IsNextTick, IsTickOf, MetTick, next_work}
 use Rattle.slot_runs.specs.PassLaws.{IsInPasses, IsPassedNext, PassedNext, TickInPasses}
 use Rattle.slot_runs.specs.Passes.{rest_but, traded, traffic_in, with_part, worked_lines, worked_through}
 use Rattle.slot_runs.specs.SpanLaws.{IsAwake, its_areas, met}
 use Rattle.slot_runs.specs.Undisturbed.{IsUndisturbed, UndisturbedNext, gone_parts, next_instruction}
+use Rattle.xm_machine.specs.Kept.{kept_by, kept_of}
 use Rattle.xm_machine.specs.Span.{AreDoneFrom}
 use Rattle.xm_machine.specs.Work.{IsUponOne, IsWorked, TellsAlone, act_of, console_told, ended_by, ending_lines}
 use Rattle.xm_machine.specs.declared.beyond.Beyond.{Beyond}
 use Rattle.xm_machine.specs.declared.beyond.Beyond.TheVariants as beyond
+use Rattle.xm_machine.proofs.KeepingLemmas.{IsNoted, same_order, worked_kept}
 use Rattle.xm_machine.proofs.SlotLemmas.{at_next, its_before, within_bounds}
 use Rattle.xm_machine.proofs.TickLemmas.{tick_lines, tick_state}
 use Rattle.xm_machine.proofs.ListLemmas.{each_at}
@@ -89,14 +92,33 @@ told_after (note.Take chan) reach p traffic after m below alone = refl
 told_after (note.Saw at size) reach p traffic after m below alone = refl
 told_after note.NotKept reach p traffic after m below alone = refl
 
--- the order of an act, but for its traffic
-same_directed : (act : Act) → (reach_of act).directed ≡ (reach_of (without_traffic act)).directed
-same_directed told.Nothing = refl
-same_directed (told.Trades traffic) = refl
-same_directed (told.Upon id order) = refl
-same_directed (told.Plans change) = refl
-same_directed (told.UponAll event) = refl
+-- nor does one that asks for a plan
+asking_memory : (plan p : ℕ) (traffic : Traffic) (after : PartitionState) (m : Machine) → p < length m.parts
+    → memory_of p (ended_by (told.Plans (told.Asked plan)) p (traded traffic (with_part p after m))) ≡ after.memory
+asking_memory plan p traffic after m below =
+    rest_memory p (traded traffic (with_part p after m)).time (traded traffic (with_part p after m))
+    ∙ traded_memory traffic p (with_part p after m)
+    ∙ ap (λ (ps : PartitionState). ps.memory) (get_or-set_same m.parts p after (booted_part m.system p) below)
 
+-- so the bytes of a message and those that were shown are still there, too
+kept_after : (a_note : Note) (reach : Beyond) (turn : Option Turn) (p : ℕ) (traffic : Traffic) (after : PartitionState) (m : Machine) → p < length m.parts → TellsAlone a_note reach
+    → kept_by turn true a_note reach (memory_of p (ended_by (act_of reach) p (traded traffic (with_part p after m)))) ≡ kept_by turn true a_note reach after.memory
+kept_after note.Nothing reach turn p traffic after m below alone = refl
+kept_after (note.Console at size) reach turn p traffic after m below alone = refl
+kept_after (note.Trace entry) reach turn p traffic after m below alone = refl
+kept_after (note.Put chan at size) reach turn p traffic after m below alone =
+    ap (kept_by turn true (note.Put chan at size) reach)
+    (ap (λ (act : Act). memory_of p (ended_by act p (traded traffic (with_part p after m)))) alone ∙ plain_memory p traffic after m below)
+kept_after (note.Take chan) reach turn p traffic after m below alone = refl
+kept_after (note.Saw at size) reach turn p traffic after m below (inl alone) =
+    ap (kept_by turn true (note.Saw at size) reach)
+    (ap (λ (act : Act). memory_of p (ended_by act p (traded traffic (with_part p after m)))) alone ∙ plain_memory p traffic after m below)
+kept_after (note.Saw at size) reach turn p traffic after m below (inr (plan, asks)) =
+    ap (kept_by turn true (note.Saw at size) reach)
+    (ap (λ (act : Act). memory_of p (ended_by act p (traded traffic (with_part p after m)))) asks ∙ asking_memory plan p traffic after m below)
+kept_after note.NotKept reach turn p traffic after m below alone = refl
+
+-- an order is upon a partition that there is
 beyond_one : (reach : Beyond) (m : Machine) → IsUponOne reach m → IfSome (reach_of (act_of reach)).directed (λ directed. directed.id < length m.parts)
 beyond_one beyond.Nothing m one = tt
 beyond_one (beyond.Order id order) m one = one
@@ -108,16 +130,17 @@ beyond_one (beyond.Whole whole.Maintenance) m one = tt
 
 directed_one : (act : Act) (reach : Beyond) (m : Machine) → without_traffic act ≡ act_of reach → IsUponOne reach m → IfSome (reach_of act).directed (λ directed. directed.id < length m.parts)
 directed_one act reach m is one =
-    subst (λ (directed : Option Directed). IfSome directed (λ d. d.id < length m.parts)) (sym (same_directed act ∙ ap (λ (a : Act). (reach_of a).directed) is)) (beyond_one reach m one)
+    subst (λ (directed : Option Directed). IfSome directed (λ d. d.id < length m.parts)) (sym (same_order act ∙ ap (λ (a : Act). (reach_of a).directed) is)) (beyond_one reach m one)
 
 -- ticks of which the last had this work, which was done and ended
-passed_done : RunsKeepNumbers → (g m : Machine) (p done most : ℕ) (work : Worked) (a_note : Note) (reach : Beyond) (old mid new : SysState) (got all : List ReportLine)
-    → m ≡ run g done → m.ticks ≡ g.ticks + done → lines g done ≡ [] → p < length m.parts → done < most
+passed_done : RunsKeepNumbers → (g m : Machine) (p done most : ℕ) (first : Bool) (work : Worked) (a_note : Note) (reach : Beyond) (old mid new : SysState) (got all : List ReportLine)
+    → m ≡ run g done → m.halted ≡ false → m.ticks ≡ g.ticks + done → lines g done ≡ [] → p < length m.parts → done < most
     → run g (suc done) ≡ worked_through p work m → lines g (suc done) ≡ worked_lines p work m
-    → IsWorked p work a_note reach (with_machine m old) mid got → TellsAlone a_note reach
+    → turn_after done (turn_of g) ≡ Some (record { part = p; first = first }) → IsTickOf m p first work → bounded (view_of m.system p) work.act ≡ work.act
+    → IsNoted m p work a_note → IsWorked p work a_note reach (with_machine m old) mid got → TellsAlone a_note reach
     → new ≡ with_machine (ended_by (act_of reach) p mid.machine) mid → all ≡ got ++ ending_lines (act_of reach) mid.machine → length all ≤ 24
-    → AreDoneFrom (record { ticks = done + 1; part = p; note = a_note }) most g old new all
-passed_done keeps g m p done most work a_note reach old mid new got all m_is ticks silent below fewer state its_lines worked alone ended told_lines few =
+    → AreDoneFrom (record { ticks = done + 1; part = p; worked = true; note = a_note; reach = reach }) most g old new all
+passed_done keeps g m p done most first work a_note reach old mid new got all m_is runs ticks silent below fewer state its_lines turns tick bounds noted worked alone ended told_lines few =
     let one : done + 1 ≡ suc done = omega arith in
     let its_state : new ≡ with_machine (run g (done + 1)) old =
     tick_state p work a_note reach (with_machine m old) mid new got worked ended ∙ ap (λ (x : Machine). with_machine x old) (sym state ∙ ap (run g) (sym one)) in
@@ -127,9 +150,16 @@ passed_done keeps g m p done most work a_note reach old mid new got all m_is tic
     ap (λ (x : SysState). console_told a_note (memory_of p x.machine)) ended
     ∙ ap (λ (x : SysState). console_told a_note (memory_of p (ended_by (act_of reach) p x.machine))) worked.state
     ∙ told_after a_note reach p (traffic_in m p work.act) work.after m below alone in
+    let its_kept : kept_of (run g done) ≡ kept_by (turn_after done (turn_of g)) true a_note reach (memory_of p new.machine) =
+    ap kept_of (sym m_is) ∙ worked_kept m p first work a_note reach tick bounds worked.act noted
+    ∙ ap (λ t. kept_by t true a_note reach work.after.memory) (sym turns)
+    ∙ sym (kept_after a_note reach (turn_after done (turn_of g)) p (traffic_in m p work.act) work.after m below alone)
+    ∙ ap (λ (x : SysState). kept_by (turn_after done (turn_of g)) true a_note reach (memory_of p (ended_by (act_of reach) p x.machine))) (sym worked.state)
+    ∙ ap (λ (x : SysState). kept_by (turn_after done (turn_of g)) true a_note reach (memory_of p x.machine)) (sym ended) in
     record {
       some = omega arith;
       within = omega (arith, fewer);
+      running = subst (λ (n : ℕ). (run g n).halted ≡ false) (less done) (ap (λ (x : Machine). x.halted) (sym m_is) ∙ runs);
       state = its_state;
       lines =
           ap (lines g) one ∙ its_lines ∙ tick_lines p work a_note reach (with_machine m old) mid got all worked told_lines
@@ -140,8 +170,12 @@ passed_done keeps g m p done most work a_note reach old mid new got all m_is tic
       part = omega (arith, ap (λ (x : SysState). length x.machine.parts) its_state, many.parts, before.parts, ap (λ (x : Machine). length x.parts) m_is, below);
       readable = subst (λ (x : Machine). CanBeTold a_note (areas_in p x)) (sym (ap (λ (x : SysState). x.machine) its_state))
           (same_areas (run g (done + 1)) m (many.system ∙ sym before.system ∙ sym (ap (λ (x : Machine). x.system) m_is)) worked.readable);
+      kept = subst (λ (n : ℕ). kept_of (run g n) ≡ kept_by (turn_after n (turn_of g)) true a_note reach (memory_of p new.machine)) (less done) its_kept;
     }
   where
+    less : (n : ℕ) → n ≡ n + 1 - 1
+    less n = omega arith
+
     same_areas : (x y : Machine) → x.system ≡ y.system → CanBeTold a_note (areas_in p y) → CanBeTold a_note (areas_in p x)
     same_areas x y same readable = subst (λ (s : System). CanBeTold a_note (areas_of (part_of s.conf p))) (sym same) readable
 
@@ -149,10 +183,11 @@ passed_done keeps g m p done most work a_note reach old mid new got all m_is tic
 pub next_done : RunsKeepNumbers → ActsWithinBounds → UndisturbedNext → PassedNext
     → (g : Machine) (p : ℕ) (first : Bool) (ps : PartitionState) (done most : ℕ) (a_note : Note) (reach : Beyond) (old mid new : SysState) (got all : List ReportLine)
     → IsUndisturbed g p first ps done → HasGone done (view_of g.system p) (met g first ps) → p < length g.parts → done < most
+    → IsNoted (run g done) p (next_instruction (run g done) p (gone_on done (its_areas g p) (met g first ps))) a_note
     → IsWorked p (next_instruction (run g done) p (gone_on done (its_areas g p) (met g first ps))) a_note reach (with_machine (run g done) old) mid got → TellsAlone a_note reach
     → new ≡ with_machine (ended_by (act_of reach) p mid.machine) mid → all ≡ got ++ ending_lines (act_of reach) mid.machine → length all ≤ 24
-    → AreDoneFrom (record { ticks = done + 1; part = p; note = a_note }) most g old new all
-next_done keeps bounds undisturbed passes g p first ps done most a_note reach old mid new got all is gone below fewer worked alone ended told_lines few =
+    → AreDoneFrom (record { ticks = done + 1; part = p; worked = true; note = a_note; reach = reach }) most g old new all
+next_done keeps bounds undisturbed passes g p first ps done most a_note reach old mid new got all is gone below fewer noted worked alone ended told_lines few =
     let next : IsNextTick g done (gone_parts done g p first ps) p (first_after done first) (next_instruction (run g done) p (gone_on done (its_areas g p) (met g first ps))) =
     undisturbed g p first ps done is gone in
     let at = at_next g p first ps done (next_instruction (run g done) p (gone_on done (its_areas g p) (met g first ps))) is next in
@@ -163,8 +198,11 @@ next_done keeps bounds undisturbed passes g p first ps done most a_note reach ol
     (ap (λ (x : Machine). x.halted) next.before.state ∙ is.span.running) there
     (within_bounds bounds (run g done) p (first_after done first) (its_before done ps (gone_on done (its_areas g p) (met g first ps))) (gone_on done (its_areas g p) (met g first ps)) at)
     (directed_one (next_instruction (run g done) p (gone_on done (its_areas g p) (met g first ps))).act reach (run g done) worked.act worked.one) in
-    passed_done keeps g (run g done) p done most (next_instruction (run g done) p (gone_on done (its_areas g p) (met g first ps))) a_note reach old mid new got all refl
-    (ap (λ (x : Machine). x.ticks) next.before.state) next.before.lines there fewer passed.state passed.lines worked alone ended told_lines few
+    passed_done keeps g (run g done) p done most (first_after done first) (next_instruction (run g done) p (gone_on done (its_areas g p) (met g first ps))) a_note reach old mid new got all refl
+    (ap (λ (x : Machine). x.halted) next.before.state ∙ is.span.running) (ap (λ (x : Machine). x.ticks) next.before.state) next.before.lines there fewer passed.state passed.lines
+    (ap (turn_after done) is.goes.slot.turn) next.tick
+    (within_bounds bounds (run g done) p (first_after done first) (its_before done ps (gone_on done (its_areas g p) (met g first ps))) (gone_on done (its_areas g p) (met g first ps)) at)
+    noted worked alone ended told_lines few
 
 -- the work of a partition that is awake
 works_awake : (g : Machine) (p : ℕ) (first : Bool) (ps : PartitionState) → IsAwake g p first ps
@@ -183,12 +221,12 @@ awake_bounds law g p first ps is =
 pub met_done : RunsKeepNumbers → ActsWithinBounds → MetTick → TickInPasses
     → (g : Machine) (p : ℕ) (first : Bool) (ps : PartitionState) (most : ℕ) (a_note : Note) (reach : Beyond) (old mid new : SysState) (got all : List ReportLine)
     → g.halted ≡ false → IsAwake g p first ps → p < length g.parts → 0 < most
-    → IsWorked p (next_work g p (met g first ps)) a_note reach (with_machine g old) mid got → TellsAlone a_note reach
+    → IsNoted g p (next_work g p (met g first ps)) a_note → IsWorked p (next_work g p (met g first ps)) a_note reach (with_machine g old) mid got → TellsAlone a_note reach
     → new ≡ with_machine (ended_by (act_of reach) p mid.machine) mid → all ≡ got ++ ending_lines (act_of reach) mid.machine → length all ≤ 24
-    → AreDoneFrom (record { ticks = 0 + 1; part = p; note = a_note }) most g old new all
-met_done keeps bounds meets passes g p first ps most a_note reach old mid new got all runs is below some worked alone ended told_lines few =
+    → AreDoneFrom (record { ticks = 0 + 1; part = p; worked = true; note = a_note; reach = reach }) most g old new all
+met_done keeps bounds meets passes g p first ps most a_note reach old mid new got all runs is below some noted worked alone ended told_lines few =
     let passed : IsInPasses g p (next_work g p (met g first ps)) =
     passes g p first (next_work g p (met g first ps)) runs below (meets g p first ps runs is) (awake_bounds bounds g p first ps is)
     (directed_one (next_work g p (met g first ps)).act reach g worked.act worked.one) in
-    passed_done keeps g g p 0 most (next_work g p (met g first ps)) a_note reach old mid new got all refl (omega arith) refl below some passed.state
-    (append-nil (step_lines g) ∙ passed.lines) worked alone ended told_lines few
+    passed_done keeps g g p 0 most first (next_work g p (met g first ps)) a_note reach old mid new got all refl runs (omega arith) refl below some passed.state
+    (append-nil (step_lines g) ∙ passed.lines) (ap (turn_after 0) is.slot.turn) (meets g p first ps runs is) (awake_bounds bounds g p first ps is) noted worked alone ended told_lines few

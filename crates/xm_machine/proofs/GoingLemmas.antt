@@ -40,7 +40,7 @@ step_silent : (g : Machine) → g.halted ≡ true → step_lines g ≡ []
 unfolding step_lines
 step_silent g halts = ap (λ b. lines_unless b g) halts
 
-lines_halted : (k : ℕ) (g : Machine) → g.halted ≡ true → lines g k ≡ []
+pub lines_halted : (k : ℕ) (g : Machine) → g.halted ≡ true → lines g k ≡ []
 lines_halted zero g halts = refl
 lines_halted (suc k) g halts =
     ap (λ (first : List ReportLine). first ++ lines (step g) k) (step_silent g halts)
@@ -98,7 +98,7 @@ begins ticks g had = record {
 }
 
 -- the state after more ticks
-state_on : (g mid new : Machine) (done more : ℕ) → mid ≡ run g done → new ≡ run mid more → new ≡ run g (done + more)
+pub state_on : (g mid new : Machine) (done more : ℕ) → mid ≡ run g done → new ≡ run mid more → new ≡ run g (done + more)
 state_on g mid new done more is then = then ∙ ap (λ (m : Machine). run m more) is ∙ sym (run_add g done more)
 
 -- as long as the hypervisor has not halted the ticks done are those that were counted

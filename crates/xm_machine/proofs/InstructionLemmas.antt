@@ -1,9 +1,11 @@
 -- An instruction that trapped or called: its work, as the system behind it has it.
-use Rattle.std.proofs.Common.{◌≡◌, ℕ, ◌+◌, ◌<◌, Bool, true, false, List, ◌++◌, length, map, Some, refl, sym, ap, subst, ◌∙◌}
+use Rattle.std.proofs.Common.{◌≡◌, ℕ, ◌+◌, ◌<◌, Bool, true, false, List, ◌++◌, length, map, Option, Some, refl, sym, ap, subst, ◌∙◌}
 use Rattle.std.specs.Prelude.{◌%◌, ◌^◌, ◌==◌, if◌then◌else◌, Result, Ok, Err}
 use Rattle.std.proofs.lemmas.List.{get_or-set_same, length-set, set-set}
 use Rattle.guest_bus.specs.Memory.{Area, Memory, is_readable, is_writable}
-use Rattle.health_monitor.specs.Monitor.{event_of_type}
+use Rattle.health_monitor.specs.Monitor.{action_in, effect_of, event_of_type}
+use Rattle.health_monitor.specs.declared.effects.Whole.{Whole}
+use Rattle.health_monitor.specs.declared.effects.Whole.TheVariants as whole
 use Rattle.whole_system.specs.Serving.{CanBeTold, caller_at}
 use Rattle.whole_system.specs.State.{SysState, areas_in, part_at, with_machine}
 use Rattle.whole_system.specs.declared.served.Note.{Note}
@@ -16,20 +18,22 @@ use Rattle.virt_traps.specs.Moves.{Moved, fill_address, filled, made, refused, s
 use Rattle.virt_traps.specs.SaveArea.{is_usable}
 use Rattle.virt_traps.specs.Settled.{GoesOn, after_trap, again_or_trap, answered, made_again, settled}
 use Rattle.virt_traps.specs.declared.windows.StackFault.{StackFault}
+use Rattle.xm_conf.specs.declared.health.Event.{Event}
 use Rattle.xm_report.specs.Report.{ReportLine}
 use Rattle.machine_model.specs.Caller.{Caller}
-use Rattle.machine_model.specs.Health.{Worked, event_handled}
+use Rattle.machine_model.specs.Health.{Worked, answered_by, done_to_all, event_handled}
 use Rattle.machine_model.specs.LocalTick.{by_turn, called, clocked, executed, turned_state}
 use Rattle.machine_model.specs.Machine.{Machine, booted_part, copies, sight, sight_for}
 use Rattle.machine_model.specs.Observed.{observed_by}
 use Rattle.machine_model.specs.Partition.{PartitionState, areas_of}
-use Rattle.machine_model.specs.Told.{Sight, line_of}
-use Rattle.machine_model.specs.View.{view_of}
+use Rattle.machine_model.specs.Told.{OwnStill, Sight, Unseen, line_of}
+use Rattle.machine_model.specs.Traffic.{traffic_of}
+use Rattle.machine_model.specs.View.{PartitionView, view_of}
 use Rattle.slot_runs.specs.Passes.{traded, traffic_in, with_part}
 use Rattle.slot_runs.specs.Undisturbed.{next_instruction}
 use Rattle.xm_machine.specs.Work.{IsUponOne, IsWorked, console_told}
 use Rattle.xm_machine.specs.declared.beyond.Beyond.{Beyond}
-use Rattle.xm_machine.proofs.SightLemmas.{sight_is}
+use Rattle.xm_machine.proofs.SightLemmas.{sight_is, trap_unseen}
 use Rattle.xm_machine.proofs.SlotLemmas.{IsAt}
 use Rattle.xm_machine.proofs.ReachLemmas.{one_before}
 
@@ -126,6 +130,29 @@ sight_so : (m : Machine) (p : ℕ) (first : Bool) (ps s new : PartitionState) �
 sight_so m p first ps s new at calls new_is =
     sight_is m p first ps new s.core s.memory at.turn at.there at.wakes at.undelivered (ap (λ (x : PartitionState). x.core) at.met) (ap (λ (x : PartitionState). x.memory) at.met) calls
     ∙ ap (λ (x : PartitionState). sight_for (with_part p new m) (view_of m.system p) (observed_by (view_of m.system p) x.core)) (sym new_is)
+
+pub call_sight : (m : Machine) (p pc npc : ℕ) (first : Bool) (ps s new : PartitionState) (old mid : SysState) → p < length m.parts → mid ≡ with_machine (with_part p new m) old
+    → IsAt m p first ps s → (settled (areas_of (view_of m.system p)) s.core s.memory).turn ≡ Call
+    → new ≡ turned_state (settled (areas_of (view_of m.system p)) s.core s.memory) s → sight m p ≡ (caller_at p pc npc mid).sight
+call_sight m p pc npc first ps s new old mid below is at calls new_is =
+    sight_so m p first ps s new at calls new_is
+    ∙ sym (ap (λ (x : SysState). (caller_at p pc npc x).sight) is ∙ ap (λ (c : Caller). c.sight) (caller_is m p pc npc new old below))
+
+-- what a trap is shown, and its traffic: none
+pub trap_sight : (m : Machine) (p type : ℕ) (first : Bool) (ps s : PartitionState) → IsAt m p first ps s → (settled (areas_of (view_of m.system p)) s.core s.memory).turn ≡ Trap type
+    → sight m p ≡ Unseen
+trap_sight m p type first ps s at traps =
+    trap_unseen m p first ps s.core s.memory type at.turn at.there (ap (λ (x : PartitionState). x.core) at.met) (ap (λ (x : PartitionState). x.memory) at.met) traps
+
+still_whole : (event : Whole) → traffic_of (done_to_all event) ≡ OwnStill
+still_whole whole.Nothing = refl
+still_whole (whole.Reset mode) = refl
+still_whole whole.Halt = refl
+still_whole whole.Maintenance = refl
+
+pub handled_still : (view : PartitionView) (time : ℕ) (event : Event) (word : ℕ) (type : Option ℕ) (ps : PartitionState) → traffic_of (event_handled view time event word type ps).act ≡ OwnStill
+unfolding event_handled answered_by
+handled_still view time event word type ps = still_whole (effect_of (action_in view.part.hm event) ps.traps.enabled).whole
 
 -- the work of an instruction that called
 pub call_work : (m : Machine) (p pc : ℕ) (first : Bool) (ps s new : PartitionState) (old mid : SysState) → p < length m.parts → mid ≡ with_machine (with_part p new m) old → IsAt m p first ps s

@@ -98,7 +98,7 @@ ticks_least (suc k) g = at g.halted refl (ticks_least k (step g))
     at false runs more = omega (arith, more, (step_counts g runs).least)
 
 -- a machine that has not halted after a run had not before
-ran_on : (k : ℕ) (g : Machine) → (run g k).halted ≡ false → g.halted ≡ false
+pub ran_on : (k : ℕ) (g : Machine) → (run g k).halted ≡ false → g.halted ≡ false
 ran_on k g runs = at g.halted refl
   where
     at : (b : Bool) → g.halted ≡ b → b ≡ false

@@ -5,7 +5,7 @@ use Rattle.std.proofs.lemmas.Bool.{eq-eqb}
 use Rattle.guest_bus.specs.Memory.{Memory, all_from, is_writable}
 use Rattle.sparc_step.specs.Registers.{Registers, register_at}
 use Rattle.sparc_step.specs.declared.outcome.Turn.{Turn}
-use Rattle.sparc_step.specs.declared.outcome.Turn.TheVariants.{Call}
+use Rattle.sparc_step.specs.declared.outcome.Turn.TheVariants.{Call, Trap}
 use Rattle.virt_traps.specs.Settled.{settled}
 use Rattle.virt_traps.specs.Virtual.{due}
 use Rattle.xm_base.specs.declared.partition.State.{State}
@@ -142,3 +142,66 @@ sight_is g p first ps new core memory turn there goes undelivered same_core same
     (undelivered_asks (due (with_interrupts g.time first ps).traps) (with_interrupts g.time first ps).traps.enabled (view_of g.system p) (with_interrupts g.time first ps) undelivered
     ∙ call_asks (view_of g.system p) (with_interrupts g.time first ps) core memory same_core same_memory calls)
     ∙ sight_stays g p new (settled (areas_of (view_of g.system p)) core memory).core
+
+-- one that asks for nothing is shown nothing
+unasked_state : (g : Machine) (p : ℕ) (first : Bool) (ps : PartitionState) → asks (view_of g.system p) ps g.time first ≡ None → sight_of_state g p first ps ≡ Unseen
+unfolding sight_of_state
+unasked_state g p first ps none =
+    ap (λ (o : Option Observation). if takes_turns ps.state then sight_for g (view_of g.system p) o else Unseen) none ∙ either (takes_turns ps.state)
+  where
+    either : (b : Bool) → (if b then Unseen else Unseen) ≡ Unseen
+    either true = refl
+    either false = refl
+
+unasked : (g : Machine) (p : ℕ) (first : Bool) (ps : PartitionState) → turn_of g ≡ Some (record { part = p; first = first }) → slice_get g.parts p ≡ Some ps
+    → asks (view_of g.system p) ps g.time first ≡ None → sight g p ≡ Unseen
+unfolding sight
+unasked g p first ps turn there none =
+    ap (λ t. sight_in g p t (slice_get g.parts p)) turn
+    ∙ ap (sight_in g p (Some (record { part = p; first = first }))) there
+    ∙ ap (λ (own : Bool). if own then sight_of_state g p first ps else Unseen) (eq-eqb p p refl)
+    ∙ unasked_state g p first ps none
+
+either_none : (b : Bool) (o : Option Observation) → o ≡ None → (if b then o else None) ≡ None
+either_none true o none = none
+either_none false o none = refl
+
+-- one that takes an interrupt is shown nothing
+delivered_unasked : (view : PartitionView) (ps : PartitionState) (time n : ℕ) (first : Bool) → due (with_interrupts time first ps).traps ≡ Some n
+    → (with_interrupts time first ps).traps.enabled ≡ true → asks view ps time first ≡ None
+unfolding asks
+delivered_unasked view ps time n first waits enabled =
+    either_none (goes_on (with_interrupts time first ps).state first (due (with_interrupts time first ps).traps)) _
+    (ap (λ o. unless_delivered o (with_interrupts time first ps).traps.enabled view (with_interrupts time first ps)) waits
+    ∙ ap (λ (b : Bool). unless_delivered (Some n) b view (with_interrupts time first ps)) enabled)
+
+pub delivered_unseen : (g : Machine) (p : ℕ) (first : Bool) (ps : PartitionState) (n : ℕ) → turn_of g ≡ Some (record { part = p; first = first }) → slice_get g.parts p ≡ Some ps
+    → due (with_interrupts g.time first ps).traps ≡ Some n → (with_interrupts g.time first ps).traps.enabled ≡ true → sight g p ≡ Unseen
+delivered_unseen g p first ps n turn there waits enabled = unasked g p first ps turn there (delivered_unasked (view_of g.system p) ps g.time n first waits enabled)
+
+-- nor is one whose instruction traps
+trap_asks : (view : PartitionView) (ps : PartitionState) (core : Registers) (memory : Memory) (type : ℕ) → ps.core ≡ core → ps.memory ≡ memory
+    → (settled (areas_of view) core memory).turn ≡ Trap type → asked_by view ps ≡ None
+unfolding asked_by
+trap_asks view ps core memory type same_core same_memory traps =
+    ap (λ (c : Registers). if_call (settled (areas_of view) c ps.memory).turn view (settled (areas_of view) c ps.memory).core) same_core
+    ∙ ap (λ (bytes : Memory). if_call (settled (areas_of view) core bytes).turn view (settled (areas_of view) core bytes).core) same_memory
+    ∙ ap (λ (t : Turn). if_call t view (settled (areas_of view) core memory).core) traps
+
+undelivered_none : (o : Option ℕ) (enabled : Bool) (view : PartitionView) (ps : PartitionState) → asked_by view ps ≡ None → unless_delivered o enabled view ps ≡ None
+undelivered_none None enabled view ps none = none
+undelivered_none (Some n) true view ps none = refl
+undelivered_none (Some n) false view ps none = none
+
+trap_unasked : (view : PartitionView) (ps : PartitionState) (time : ℕ) (first : Bool) → asked_by view (with_interrupts time first ps) ≡ None → asks view ps time first ≡ None
+unfolding asks
+trap_unasked view ps time first none =
+    either_none (goes_on (with_interrupts time first ps).state first (due (with_interrupts time first ps).traps)) _
+    (undelivered_none (due (with_interrupts time first ps).traps) (with_interrupts time first ps).traps.enabled view (with_interrupts time first ps) none)
+
+pub trap_unseen : (g : Machine) (p : ℕ) (first : Bool) (ps : PartitionState) (core : Registers) (memory : Memory) (type : ℕ) → turn_of g ≡ Some (record { part = p; first = first })
+    → slice_get g.parts p ≡ Some ps → (with_interrupts g.time first ps).core ≡ core → (with_interrupts g.time first ps).memory ≡ memory
+    → (settled (areas_of (view_of g.system p)) core memory).turn ≡ Trap type → sight g p ≡ Unseen
+trap_unseen g p first ps core memory type turn there same_core same_memory traps =
+    unasked g p first ps turn there
+    (trap_unasked (view_of g.system p) ps g.time first (trap_asks (view_of g.system p) (with_interrupts g.time first ps) core memory type same_core same_memory traps))

@@ -1,10 +1,10 @@
 -- The ticks of a slot or gap, out of what the passes over the system left.
-use Rattle.std.proofs.Common.{◌≡◌, ℕ, zero, suc, ◌+◌, ◌<◌, ◌≤◌, Bool, false, List, [], ◌++◌, length, None, Some, refl, sym, ap, subst, ◌∙◌, arith}
+use Rattle.std.proofs.Common.{◌≡◌, ℕ, zero, suc, ◌+◌, ◌<◌, ◌≤◌, Bool, true, false, List, [], ◌++◌, length, None, Some, refl, sym, ap, subst, ◌∙◌, arith}
 use Rattle.std.proofs.lemmas.List.{set-set}
 use Rattle.std.specs.Prelude.{◌-◌, ◌^◌, if◌then◌else◌}
 use Rattle.std.proofs.lemmas.Bool.{eq-eqb}
 use Rattle.cyclic_plans.specs.PlanClock.{CyclicClock, IsInFrame}
-use Rattle.whole_system.specs.State.{SysState, with_machine}
+use Rattle.whole_system.specs.State.{SysState, memory_of, with_machine}
 use Rattle.whole_system.specs.declared.served.Note.{Note}
 use Rattle.whole_system.specs.declared.served.Note.TheVariants as note
 use Rattle.xm_report.specs.Report.{ReportLine}
@@ -17,6 +17,7 @@ use Rattle.machine_model.specs.Machine.{Machine, booted_part, run}
 use Rattle.machine_model.specs.Partition.{PartitionState, rested}
 use Rattle.machine_model.specs.Traffic.{Puts, Still, Takes, Traffic}
 use Rattle.machine_model.specs.View.{System, view_of}
+use Rattle.slot_runs.specs.Calm.{IdleCalm, IsCalm, RestingCalm}
 use Rattle.slot_runs.specs.GoingOn.{LeftAreSpan}
 use Rattle.slot_runs.specs.Meeting.{HasGone, first_after, gone_on}
 use Rattle.slot_runs.specs.NextLaws.{IsNextTick}
@@ -28,48 +29,53 @@ use Rattle.slot_runs.specs.Undisturbed.{IsUndisturbed, NoneFallsDue, Undisturbed
 use Rattle.xm_machine.specs.Span.{AreDoneFrom, CanTakeAfter, IsIdle, behind}
 use Rattle.xm_machine.specs.Work.{IsWorked}
 use Rattle.xm_machine.specs.declared.beyond.Beyond.{Beyond}
+use Rattle.xm_machine.specs.declared.beyond.Beyond.TheVariants as beyond
 use Rattle.xm_machine.specs.declared.slot.Span.{Span}
+use Rattle.xm_machine.proofs.KeepingLemmas.{calm_kept}
 use Rattle.xm_machine.proofs.ListLemmas.{each_at, each_length}
 use Rattle.xm_machine.proofs.WorkLemmas.{put_there}
 
 -- so many ticks of partition p in which no call told anything
-abbrev pub quiet_span : ℕ → ℕ → Span
-quiet_span ticks p = record { ticks = ticks; part = p; note = note.Nothing }
+abbrev pub quiet_span : ℕ → ℕ → Bool → Beyond → Span
+quiet_span ticks p worked reach = record { ticks = ticks; part = p; worked = worked; note = note.Nothing; reach = reach }
 
 -- lines of which there is at most one are few
 few_lines : (had all : List ReportLine) → had ≡ [] → length all ≤ length had + 1 → length all ≤ 24
 few_lines had all none most = omega (arith, ap length none, most)
 
 -- ticks that leave these partitions, and tell at most that a plan starts
-quiet_done : RunsKeepNumbers → (g : Machine) (ticks most p : ℕ) (parts : List PartitionState) (old new : SysState) (all : List ReportLine)
-    → 0 < ticks → ticks ≤ most → p < length g.parts → IsQuietSpan g (ticks - 1) parts
-    → new ≡ with_machine (after_span (ticks - 1) parts g) old → all ≡ plan_line (ticks - 1) g → length all ≤ 24 → AreDoneFrom (quiet_span ticks p) most g old new all
-quiet_done keeps g ticks most p parts old new all some within below quiet new_is all_is few =
+quiet_done : RunsKeepNumbers → (g : Machine) (ticks most p : ℕ) (works : Bool) (parts : List PartitionState) (old new : SysState) (all : List ReportLine)
+    → 0 < ticks → ticks ≤ most → p < length g.parts → IsQuietSpan g (ticks - 1) parts → IsCalm g (ticks - 1) works
+    → new ≡ with_machine (after_span (ticks - 1) parts g) old → all ≡ plan_line (ticks - 1) g → length all ≤ 24 → AreDoneFrom (quiet_span ticks p works beyond.Nothing) most g old new all
+quiet_done keeps g ticks most p works parts old new all some within below quiet calm new_is all_is few =
     let one : suc (ticks - 1) ≡ ticks = omega (arith, some) in
     let its_state : new ≡ with_machine (run g ticks) old = new_is ∙ ap (λ (x : Machine). with_machine x old) (sym quiet.state ∙ ap (run g) one) in
     let many : IsAsMany g (run g ticks) = keeps g ticks in
     record {
       some = some;
       within = within;
+      running = calm.running;
       state = its_state;
       lines = ap (lines g) (sym one) ∙ quiet.lines ∙ sym all_is;
       silent = quiet.silent;
       few = few;
       part = omega (arith, ap (λ (x : SysState). length x.machine.parts) its_state, many.parts, below);
       readable = tt;
+      kept = calm_kept g (ticks - 1) works (memory_of p new.machine) calm;
     }
 
 -- ticks of a slot or gap in which all rest
-pub wait_done : RestingTicks → LeftAreSpan → AllRest → RunsKeepNumbers → (most last : ℕ) (old mid new : SysState) (had all : List ReportLine) (span : Span)
+pub wait_done : RestingTicks → RestingCalm → LeftAreSpan → AllRest → RunsKeepNumbers → (most last : ℕ) (old mid new : SysState) (had all : List ReportLine) (span : Span)
     → IsNobodys old.machine → IsStretch old.machine most → old.machine.halted ≡ false → 0 < length old.machine.parts → 0 < most
     → IsInFrame old.machine.system.conf old.machine.clock old.machine.time → had ≡ []
     → last ≡ old.machine.time + (most - 1) → mid ≡ with_machine (rest_but None last old.machine) old
     → new ≡ with_machine (after_span (most - 1) mid.machine.parts mid.machine) mid → all ≡ had ++ plan_line (most - 1) mid.machine → length all ≤ length had + 1
-    → span ≡ quiet_span most 0 → AreDoneFrom span most old.machine old new all
-wait_done resting left all_rest keeps most last old mid new had all span nobodys stretch runs there some frame none last_is mid_is new_is all_is few span_is =
+    → span ≡ quiet_span most 0 false beyond.Nothing → AreDoneFrom span most old.machine old new all
+wait_done resting calms left all_rest keeps most last old mid new had all span nobodys stretch runs there some frame none last_is mid_is new_is all_is few span_is =
     let within : IsSpan old.machine (most - 1) = left old.machine most (most - 1) runs frame stretch (omega (arith, some)) in
     subst (λ (s : Span). AreDoneFrom s most old.machine old new all) (sym span_is)
-    (quiet_done keeps old.machine most most 0 (all_rested (most - 1) old.machine) old new all some (omega arith) there (resting old.machine (most - 1) within nobodys)
+    (quiet_done keeps old.machine most most 0 false (all_rested (most - 1) old.machine) old new all some (omega arith) there (resting old.machine (most - 1) within nobodys)
+    (calms old.machine (most - 1) within nobodys)
     (new_is
     ∙ ap (λ (x : SysState). with_machine (after_span (most - 1) x.machine.parts x.machine) x) mid_is
     ∙ ap (λ (t : ℕ). with_machine (after_span (most - 1) (rest_but None t old.machine).parts old.machine) old) last_is
@@ -79,13 +85,13 @@ wait_done resting left all_rest keeps most last old mid new had all span nobodys
 
 -- ticks of a slot in which its partition comes to this state, and all others rest
 pub slot_done : OthersRest → RunsKeepNumbers → (g : Machine) (p ticks most : ℕ) (x : PartitionState) (old mid new : SysState) (had all : List ReportLine) (span : Span)
-    → 0 < ticks → ticks ≤ most → p < length g.parts → IsQuietSpan g (ticks - 1) (others_rested (ticks - 1) p x g) → had ≡ [] → mid ≡ with_machine (with_part p x g) old
+    → 0 < ticks → ticks ≤ most → p < length g.parts → IsQuietSpan g (ticks - 1) (others_rested (ticks - 1) p x g) → IsCalm g (ticks - 1) true → had ≡ [] → mid ≡ with_machine (with_part p x g) old
     → new ≡ with_machine (after_span (ticks - 1) (rest_but (Some p) (mid.machine.time + ticks - 1) mid.machine).parts mid.machine) mid
-    → all ≡ had ++ plan_line (ticks - 1) mid.machine → length all ≤ length had + 1 → span ≡ quiet_span ticks p → AreDoneFrom span most g old new all
-slot_done others keeps g p ticks most x old mid new had all span some within below quiet none mid_is new_is all_is few span_is =
+    → all ≡ had ++ plan_line (ticks - 1) mid.machine → length all ≤ length had + 1 → span ≡ quiet_span ticks p true beyond.Nothing → AreDoneFrom span most g old new all
+slot_done others keeps g p ticks most x old mid new had all span some within below quiet calm none mid_is new_is all_is few span_is =
     let last : g.time + ticks - 1 ≡ g.time + (ticks - 1) = omega (arith, some) in
     subst (λ (s : Span). AreDoneFrom s most g old new all) (sym span_is)
-    (quiet_done keeps g ticks most p (others_rested (ticks - 1) p x g) old new all some within below quiet
+    (quiet_done keeps g ticks most p true (others_rested (ticks - 1) p x g) old new all some within below quiet calm
     (new_is
     ∙ ap (λ (y : SysState). with_machine (after_span (ticks - 1) (rest_but (Some p) (y.machine.time + ticks - 1) y.machine).parts y.machine) y) mid_is
     ∙ ap (λ (t : ℕ). with_machine (after_span (ticks - 1) (rest_but (Some p) t (with_part p x g)).parts g) old) last
@@ -94,14 +100,14 @@ slot_done others keeps g p ticks most x old mid new had all span some within bel
     (few_lines had all none few))
 
 -- ticks of an idle partition that nothing wakes
-pub idle_done : UndisturbedIdle → LeftAreSpan → OthersRest → RunsKeepNumbers → (g : Machine) (p ticks most : ℕ) (ps : PartitionState) (old new : SysState) (had all : List ReportLine) (span : Span)
+pub idle_done : UndisturbedIdle → IdleCalm → LeftAreSpan → OthersRest → RunsKeepNumbers → (g : Machine) (p ticks most : ℕ) (ps : PartitionState) (old new : SysState) (had all : List ReportLine) (span : Span)
     → IsIdle g p ps most old → 0 < ticks → ticks ≤ most → NoneFallsDue old.machine.time (ticks - 1) false (part_at p old.machine).clocks → had ≡ []
     → new ≡ with_machine (after_span (ticks - 1) (rest_but (Some p) (old.machine.time + ticks - 1) old.machine).parts old.machine) old
-    → all ≡ had ++ plan_line (ticks - 1) old.machine → length all ≤ length had + 1 → span ≡ quiet_span ticks p → AreDoneFrom span most g old new all
-idle_done idles left others keeps g p ticks most ps old new had all span is some within calm none new_is all_is few span_is =
+    → all ≡ had ++ plan_line (ticks - 1) old.machine → length all ≤ length had + 1 → span ≡ quiet_span ticks p true beyond.Nothing → AreDoneFrom span most g old new all
+idle_done idles calms left others keeps g p ticks most ps old new had all span is some within calm none new_is all_is few span_is =
     let its_span : IsSpan g (ticks - 1) = left g most (ticks - 1) is.running is.frame is.stretch (omega (arith, some, within)) in
     slot_done others keeps g p ticks most (with_interrupts g.time false ps) old old new had all span some within is.there
-    (idles g p ps (ticks - 1) its_span is.slot is.idle is.none far) none is.met new_is all_is few span_is
+    (idles g p ps (ticks - 1) its_span is.slot is.idle is.none far) (calms g p ps (ticks - 1) its_span is.slot is.idle is.none far) none is.met new_is all_is few span_is
   where
     far : NoneFallsDue g.time (ticks - 1) false (with_interrupts g.time false ps).clocks
     far = subst (λ (x : PartitionState). NoneFallsDue g.time (ticks - 1) false x.clocks) (put_there p (with_interrupts g.time false ps) g old old is.there is.met)

@@ -16,6 +16,7 @@ use Rattle.machine_model.specs.LocalTick.{turned_state}
 use Rattle.machine_model.specs.Machine.{Machine, booted_part, run}
 use Rattle.machine_model.specs.Partition.{PartitionState, areas_of}
 use Rattle.machine_model.specs.View.{view_of}
+use Rattle.slot_runs.specs.Calm.{GoneCalm, IsCalm}
 use Rattle.slot_runs.specs.GoingOn.{LeftAreSpan}
 use Rattle.slot_runs.specs.Meeting.{HasGone, NoDelivery, gone_on}
 use Rattle.slot_runs.specs.PassLaws.{OthersRest}
@@ -25,6 +26,7 @@ use Rattle.slot_runs.specs.Spans.{IsQuietSpan, after_span, plan_line}
 use Rattle.slot_runs.specs.Stepping.{stepped}
 use Rattle.slot_runs.specs.Undisturbed.{IsUndisturbed, NoneFallsDue, UndisturbedTicks}
 use Rattle.xm_machine.specs.Span.{AreDoneFrom, HasTurned, IsMet, counted_on}
+use Rattle.xm_machine.specs.declared.beyond.Beyond.TheVariants as beyond
 use Rattle.xm_machine.specs.declared.slot.Span.{Span}
 use Rattle.xm_machine.proofs.InstructionLemmas.{call_goes_on}
 use Rattle.xm_machine.proofs.SpanLemmas.{quiet_span, slot_done}
@@ -93,14 +95,14 @@ module _ (g : Machine) (p : ℕ) (first : Bool) (ps : PartitionState) (most : �
           ∙ ap (λ (parts : List PartitionState). with_machine (record g { parts = parts }) old) (set-set g.parts p (met g first ps) turned)
 
   -- all steps went
-  pub went_done : UndisturbedTicks → LeftAreSpan → OthersRest → RunsKeepNumbers → (within went : ℕ) (core : Registers) (memory : Memory) (mid counted new : SysState) (had all : List ReportLine) (span : Span)
+  pub went_done : UndisturbedTicks → GoneCalm → LeftAreSpan → OthersRest → RunsKeepNumbers → (within went : ℕ) (core : Registers) (memory : Memory) (mid counted new : SysState) (had all : List ReportLine) (span : Span)
       → NoDelivery (part_at p old.machine).traps → 0 < within → within ≤ most → NoneFallsDue old.machine.time (within - 1) true (part_at p old.machine).clocks
       → AreSteps p went core memory old mid counted
       → IsGone Went went within (areas_in p old.machine) (stepped went (areas_in p old.machine) (part_at p old.machine).core (part_at p old.machine).memory) core memory
       → had ≡ []
       → new ≡ with_machine (after_span (went - 1) (rest_but (Some p) (counted.machine.time + went - 1) counted.machine).parts counted.machine) counted
-      → all ≡ had ++ plan_line (went - 1) counted.machine → length all ≤ length had + 1 → span ≡ quiet_span went p → AreDoneFrom span most g old new all
-  went_done ticks left others keeps within went core memory mid counted new had all span undelivered some bound calm steps gone none new_is all_is few span_is =
+      → all ≡ had ++ plan_line (went - 1) counted.machine → length all ≤ length had + 1 → span ≡ quiet_span went p true beyond.Nothing → AreDoneFrom span most g old new all
+  went_done ticks calms left others keeps within went core memory mid counted new had all span undelivered some bound calm steps gone none new_is all_is few span_is =
       let same : went ≡ within = gone.0 in
       let one : suc (went - 1) ≡ went = omega (arith, same, some) in
       let undisturbed : IsUndisturbed g p first ps (went - 1) = undisturbed_to left within (went - 1) undelivered calm (omega (arith, same)) (omega (arith, same, some, bound)) in
@@ -108,11 +110,12 @@ module _ (g : Machine) (p : ℕ) (first : Bool) (ps : PartitionState) (most : �
       let quiet : IsQuietSpan g (went - 1) (others_rested (went - 1) p (gone_on went (its_areas g p) (met g first ps)) g) =
       subst (λ (n : ℕ). IsQuietSpan g (went - 1) (others_rested (went - 1) p (gone_on n (its_areas g p) (met g first ps)) g)) one
       (ticks g p first ps (went - 1) undisturbed (subst (λ (n : ℕ). HasGone n (view_of g.system p) (met g first ps)) (sym one) has_gone)) in
+      let calm_last : IsCalm g (went - 1) true = calms g p first ps (went - 1) undisturbed (subst (λ (n : ℕ). HasGone n (view_of g.system p) (met g first ps)) (sym one) has_gone) in
       let its_core : core ≡ (stepped went (its_areas g p) (met g first ps).core (met g first ps).memory).core =
       carried (λ areas x. core ≡ (stepped went areas x.core x.memory).core) gone.1 in
       let its_memory : memory ≡ (stepped went (its_areas g p) (met g first ps).core (met g first ps).memory).memory =
       carried (λ areas x. memory ≡ (stepped went areas x.core x.memory).memory) gone.2 in
-      slot_done others keeps g p went most (gone_on went (its_areas g p) (met g first ps)) old counted new had all span (omega (arith, same, some)) (omega (arith, same, bound)) is.there quiet none
+      slot_done others keeps g p went most (gone_on went (its_areas g p) (met g first ps)) old counted new had all span (omega (arith, same, some)) (omega (arith, same, bound)) is.there quiet calm_last none
       (behind_steps went core memory mid counted steps
       ∙ ap (λ (c : Registers). with_machine (with_part p (counted_on went (with_turned c memory (met g first ps))) g) old) its_core
       ∙ ap (λ (m : Memory). with_machine (with_part p (counted_on went (with_turned (stepped went (its_areas g p) (met g first ps).core (met g first ps).memory).core m (met g first ps))) g) old) its_memory)
@@ -166,6 +169,8 @@ done_before span most p went g old mid counted new all counted_is mid_is done = 
   few = done.few;
   part = done.part;
   readable = done.readable;
+  kept = done.kept;
+  running = done.running;
 }
 
 -- after an instruction that called the program goes on

@@ -151,6 +151,8 @@ done_from span most g h old sys new all is done = record {
   few = done.few;
   part = done.part;
   readable = done.readable;
+  kept = done.kept;
+  running = done.running;
 }
 
 -- a partition that goes on is met so

@@ -1,3 +1,8 @@
+pub mod Alone
+pub mod CueValues
+pub mod Cues
+pub mod Heard
+pub mod Kept
 pub mod Machine
 pub mod Outcome
 pub mod Span

@@ -7,10 +7,12 @@ use Rattle.xm_ports.specs.Channels.{shapes_of}
 use Rattle.whole_system.specs.State.{SysState}
 use Rattle.machine_model.specs.Facts.{HasFacts, IsClocked, IsComplete, IsTimed}
 use Rattle.machine_model.specs.Machine.{Machine}
+use Rattle.xm_machine.specs.Kept.{Kept}
 
--- the meaning of a machine
+-- the meaning of a machine: its state, and what is kept of its last tick
 pub record Meaning : Type 0 where
   pub state : Machine
+  pub kept : Kept
 
 -- the counters of a machine: those of its partitions are bounded by the ticks that have begun, its clock by those that are done, and
 -- there are no more of them than a run may have

@@ -14,15 +14,17 @@ use Rattle.whole_system.specs.State.{SysState, areas_in, memory_of, with_machine
 use Rattle.machine_model.specs.Facts.{AreEnds}
 use Rattle.machine_model.specs.Lines.{lines}
 use Rattle.machine_model.specs.LocalTick.{turned_state, with_interrupts}
-use Rattle.machine_model.specs.Machine.{Machine, run}
+use Rattle.machine_model.specs.Machine.{Machine, run, turn_of}
 use Rattle.machine_model.specs.Partition.{PartitionState}
 use Rattle.machine_model.specs.Told.{line_of}
 use Rattle.machine_model.specs.View.{view_of}
+use Rattle.slot_runs.specs.Calm.{turn_after}
 use Rattle.slot_runs.specs.Meeting.{HasGone, gone_on}
 use Rattle.slot_runs.specs.Passes.{part_at, rest_but, with_part}
 use Rattle.slot_runs.specs.SpanLaws.{IsAwake, its_areas, met}
 use Rattle.slot_runs.specs.Spans.{IsSlotOf, IsStretch}
 use Rattle.slot_runs.specs.Undisturbed.{IsUndisturbed}
+use Rattle.xm_machine.specs.Kept.{kept_by, kept_of}
 use Rattle.xm_machine.specs.Work.{console_told}
 use Rattle.xm_machine.specs.declared.slot.Span.{Span}
 
@@ -30,27 +32,38 @@ use Rattle.xm_machine.specs.declared.slot.Span.{Span}
 abbrev pub console_lines : Span → Machine → Machine → List ReportLine
 console_lines span old new = map (line_of (old.ticks + span.ticks - 1) span.part) (console_told span.note (memory_of span.part new))
 
--- ticks of the machine were done; only the last has lines, which are these, but for one of bytes for the console
+-- what is to be kept of the last of the ticks of a span is told by the span
+abbrev pub IsKept : Span → Machine → Machine → Type 0
+IsKept span old new =
+    kept_of (run old (span.ticks - 1))
+    ≡ kept_by (turn_after (span.ticks - 1) (turn_of old)) span.worked span.note span.reach (memory_of span.part new)
+
+-- ticks of the machine were done, in the last of which the hypervisor may have halted; only the last has lines, which are these, but for
+-- one of bytes for the console
 pub record IsSpanDone (span : Span) (most : ℕ) (old new : SysState) (got : List ReportLine) : Type 0 where
   pub some : 0 < span.ticks
   pub within : span.ticks ≤ most
+  pub running : (run old.machine (span.ticks - 1)).halted ≡ false
   pub state : new ≡ with_machine (run old.machine span.ticks) old
   pub silent : lines old.machine (span.ticks - 1) ≡ []
   pub lines : lines old.machine span.ticks ≡ console_lines span old.machine new.machine ++ got
   pub few : length got ≤ 24
   pub part : span.part < length new.machine.parts
   pub readable : CanBeTold span.note (areas_in span.part new.machine)
+  pub kept : IsKept span old.machine new.machine
 
 -- the same, of a machine that stands before the system's
 pub record AreDoneFrom (span : Span) (most : ℕ) (g : Machine) (old new : SysState) (got : List ReportLine) : Type 0 where
   pub some : 0 < span.ticks
   pub within : span.ticks ≤ most
+  pub running : (run g (span.ticks - 1)).halted ≡ false
   pub state : new ≡ with_machine (run g span.ticks) old
   pub silent : lines g (span.ticks - 1) ≡ []
   pub lines : lines g span.ticks ≡ console_lines span g new.machine ++ got
   pub few : length got ≤ 24
   pub part : span.part < length new.machine.parts
   pub readable : CanBeTold span.note (areas_in span.part new.machine)
+  pub kept : IsKept span g new.machine
 
 -- what ticks of a slot of partition p need, so many at most
 pub record CanTake (p most : ℕ) (sys : SysState) : Type 0 where

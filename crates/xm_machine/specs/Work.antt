@@ -1,5 +1,5 @@
 -- The work of one tick, as it is done on the whole system: what it leaves, the lines that it adds, and how it reaches beyond its partition.
-use Rattle.std.specs.Prelude.{◌≡◌, ℕ, zero, suc, ◌<◌, List, [], ◌∷◌, ◌++◌, length, map, Some}
+use Rattle.std.specs.Prelude.{◌≡◌, ◌⊎◌, ℕ, zero, suc, ◌<◌, List, [], ◌∷◌, ◌++◌, length, map, Some}
 use Rattle.guest_bus.specs.Memory.{Memory, bytes_at}
 use Rattle.xm_base.specs.declared.partition.Mode.{Mode}
 use Rattle.xm_report.specs.Report.{ReportLine}
@@ -9,9 +9,9 @@ use Rattle.machine_model.specs.Lists.{all_of}
 use Rattle.machine_model.specs.Machine.{Machine, clock_after}
 use Rattle.machine_model.specs.Partition.{PartitionState}
 use Rattle.machine_model.specs.Told as told
-use Rattle.machine_model.specs.Told.{Act, Told, line_of, reach_of}
+use Rattle.machine_model.specs.Told.{Act, Sight, Told, line_of, reach_of}
 use Rattle.machine_model.specs.Whole.{AllReset, event_lines, event_of, whole_lines}
-use Rattle.whole_system.specs.Serving.{CanBeTold, without_traffic}
+use Rattle.whole_system.specs.Serving.{CanBeTold, sight_by, traffic_by, without_traffic}
 use Rattle.whole_system.specs.State.{SysState, areas_in, with_machine}
 use Rattle.whole_system.specs.declared.served.Note.{Note}
 use Rattle.whole_system.specs.declared.served.Note.TheVariants as note
@@ -56,6 +56,11 @@ pub record IsWorked (p : ℕ) (work : Worked) (a_note : Note) (reach : Beyond) (
   pub readable : CanBeTold a_note (areas_in p old.machine)
   pub one : IsUponOne reach old.machine
 
+-- the traffic of a call of partition p, and what it was shown, are what its note tells
+pub record IsToldBy (p : ℕ) (shown : Sight) (work : Worked) (a_note : Note) (old : SysState) : Type 0 where
+  pub traffic : traffic_in old.machine p work.act ≡ traffic_by a_note work.after.memory
+  pub seen : shown ≡ sight_by a_note work.after.memory
+
 -- the end of a tick of partition p: its order, a hypervisor event, the rest of all others, and the clocks
 abbrev pub ended_by : Act → ℕ → Machine → Machine
 ended_by act p g = tick_ended act (rest_but (Some p) g.time (evented (event_of act) (obeyed_in (reach_of act).directed g)))
@@ -85,12 +90,16 @@ trace_told (note.Take chan) = []
 trace_told (note.Saw at size) = []
 trace_told note.NotKept = []
 
--- where bytes for the console are told, nothing reaches beyond the partition
+-- nothing reaches beyond the partition, or only that a plan is asked for
+abbrev pub AsksAtMost : Beyond → Type 0
+AsksAtMost reach = (act_of reach ≡ told.Nothing) ⊎ ((plan : ℕ) × (act_of reach ≡ told.Plans (told.Asked plan)))
+
+-- where bytes for the console or of a message are told, nothing reaches beyond the partition; where it was shown bytes, it may ask for a plan
 abbrev pub TellsAlone : Note → Beyond → Type 0
 TellsAlone note.Nothing reach = Unit {0}
 TellsAlone (note.Console at size) reach = act_of reach ≡ told.Nothing
 TellsAlone (note.Trace entry) reach = Unit {0}
-TellsAlone (note.Put chan at size) reach = Unit {0}
+TellsAlone (note.Put chan at size) reach = act_of reach ≡ told.Nothing
 TellsAlone (note.Take chan) reach = Unit {0}
-TellsAlone (note.Saw at size) reach = Unit {0}
+TellsAlone (note.Saw at size) reach = AsksAtMost reach
 TellsAlone note.NotKept reach = Unit {0}

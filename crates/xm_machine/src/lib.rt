@@ -2,9 +2,11 @@
 #![tactic(auto)]
 
 mod beyond;
-mod board;
+mod cue;
 mod ending;
 mod health;
+mod kept;
+mod law;
 mod lines;
 mod machine;
 mod order;
@@ -14,8 +16,9 @@ mod run;
 mod slot;
 mod work;
 
-pub use board::Board;
+pub use cue::{Cue, Mine, Sight, Traffic, WholeCue};
 pub use hypercalls::{InputFault, Inputs};
+pub use law::keeps_cues;
 pub use machine::Machine;
 pub use machine_model::two_runs;
 pub use run::Ran;

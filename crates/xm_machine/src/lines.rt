@@ -1,6 +1,7 @@
 //! The lines of one tick.
 
 ghost use Rattle.std.specs.Prelude.{◌≡◌, ◌+◌, ◌<◌, ◌++◌, ◌∷◌, [], All, IfOk, length, map};
+ghost use Rattle.xm_machine.specs.Heard.{IsOther};
 ghost use Rattle.xm_report.specs.Report.{IsShort, line_of};
 
 use std::alloc::Global;
@@ -20,13 +21,14 @@ pub(crate) struct Lines {
 
 impl Model for Lines {
     ghost use Rattle.std.specs.Prelude.{All, List, ◌≤◌, map, vec_capacity, vec_len};
+    ghost use Rattle.xm_machine.specs.Heard.{IsOther};
     ghost use Rattle.xm_report.specs.Report.{IsShort, ReportLine, line_of};
 
     ghost Value = { List ReportLine };
 
     ghost view = { λ lines. map line_of lines.lines.items };
 
-    ghost invariant = { λ lines. All IsShort (map line_of lines.lines.items) × (24 ≤ vec_capacity lines.lines) };
+    ghost invariant = { λ lines. All IsShort (map line_of lines.lines.items) × All IsOther (map line_of lines.lines.items) × (24 ≤ vec_capacity lines.lines) };
 }
 
 impl Lines {
@@ -50,6 +52,7 @@ impl Lines {
     pub(crate) fn push(&mut self, line: Line<'static>)
         requires room { length self.old < 24 }
         requires short { IsShort (line_of line) }
+        requires other { IsOther (line_of line) }
         ensures value { self.new ≡ self.old ++ line_of line.entry ∷ [] }
         ensures count { length self.new ≡ length self.old + 1 }
     {
@@ -60,6 +63,7 @@ impl Lines {
     pub(crate) fn as_slice(&self) -> &[Line<'static>]
         ensures value { map line_of result.now ≡ self.now }
         ensures short { All IsShort (map line_of result.now) }
+        ensures other { All IsOther self.now }
     {
         self.lines.as_slice()
     }

@@ -3,29 +3,43 @@
 ghost use Rattle.std.specs.Prelude.{◌≡◌, ◌+◌, ◌*◌, ◌<◌, ◌≤◌, false, All, IfOk, length};
 ghost use Rattle.cyclic_plans.specs.PlanClock.{started};
 ghost use Rattle.whole_system.specs.State.{with_inputs};
-ghost use Rattle.machine_model.specs.Lines.{end_lines};
+ghost use Rattle.core_files.specs.Length.{core_length_of};
+ghost use Rattle.machine_model.specs.CoreFile.{core_file};
+ghost use Rattle.machine_model.specs.Lines.{console, end_lines};
 ghost use Rattle.machine_model.specs.Machine.{start};
 ghost use Rattle.machine_model.specs.Partition.{reset};
 ghost use Rattle.machine_model.specs.Told.{AllReset};
 ghost use Rattle.machine_model.specs.View.{view_of};
 ghost use Rattle.slot_runs.specs.Passes.{evented, part_at, with_part};
+ghost use Rattle.uart_board.specs.Heard.{IsHeard};
+ghost use Rattle.xm_machine.specs.Alone.{AreAlone, AreBootedAlone, RunsAlone};
+ghost use Rattle.xm_machine.specs.CueValues.{cue_value};
+ghost use Rattle.xm_machine.specs.Cues.{AreCued, KeepsLast, KeepsTicks, RunsCued, told_to};
+ghost use Rattle.xm_machine.specs.Heard.{IsRunHeard};
+ghost use Rattle.xm_machine.specs.Kept.{no_kept};
 ghost use Rattle.xm_machine.specs.Machine.{IsCounted};
 ghost use Rattle.xm_machine.specs.Outcome.{HasWriteCause, IsRun, IsTick, first_line, last_line};
 ghost use Rattle.xm_machine.specs.Steps.{RunsTicks, Steps, Tells};
 ghost use Rattle.xm_report.specs.Report.{line_of};
 
-use crate::board::Board;
+use crate::cue::Cue;
+use crate::kept::Kept;
 use crate::lines::Lines;
 use crate::report::{end_parts, tell};
 use crate::run::Ran;
-use crate::slot::run_span;
+use crate::slot::{here, run_span};
 use crate::{ending, order};
+use core_files::{core_into, core_length};
 use cyclic_plans::PlanClock;
 use hypercalls::{Inputs, Sys};
 use loaded_system::System;
-use machine_model::{keeps_facts, keeps_hardware_clock, keeps_numbers, keeps_plans};
+use machine_model::{
+    all_ticks, boots_alone, keeps_facts, keeps_hardware_clock, keeps_numbers, keeps_plans,
+    own_lines, tells_few_bytes,
+};
 use std::alloc::Global;
 use std::marker::Model;
+use uart_board::{Board, ViewBoard};
 use xm_base::{Memory, Mode, PartId, TICKS};
 use xm_outside::Sink;
 use xm_report::{Line, WriteFault, put_line};
@@ -35,6 +49,7 @@ use xm_report::{Line, WriteFault, put_line};
 pub struct Machine {
     sys: Sys,
     lines: Lines,
+    kept: Kept,
 }
 
 impl Model for Machine {
@@ -46,7 +61,7 @@ impl Model for Machine {
 
     ghost coded = { Prim.hlevel (codes, memory_code) };
 
-    ghost view = { λ a. record { state = a.sys.machine } };
+    ghost view = { λ a. record { state = a.sys.machine; kept = a.kept } };
 
     ghost invariant = { λ a. IsMachine a.sys };
 }
@@ -55,7 +70,8 @@ impl Machine {
     /// The machine with this system and the input words of its partitions, before its first tick. All memory of a run is taken here.
     pub fn boot(alloc: Global, system: System, inputs: Inputs) -> Result<Machine, Memory>
         requires { length inputs ≡ length system.conf.parts }
-        ensures { IfOk result (λ machine. machine.state ≡ start (with_inputs system inputs)) }
+        ensures state { IfOk result (λ machine. machine.state ≡ start (with_inputs system inputs)) }
+        ensures kept { IfOk result (λ machine. machine.kept ≡ no_kept) }
     {
         keeps_facts();
         keeps_hardware_clock();
@@ -64,6 +80,7 @@ impl Machine {
         Ok(Machine {
             sys: Sys::new(alloc, system, inputs)?,
             lines: Lines::new(alloc)?,
+            kept: Kept::new(alloc)?,
         })
     }
 
@@ -89,37 +106,60 @@ impl Machine {
         self.sys.halted()
     }
 
-    /// One tick, whose lines go out. After `WriteFault` the tick was done whole. A machine whose hypervisor has halted stays as it is.
-    pub fn tick<O: Sink>(&mut self, out: &mut O, _board: &mut Board) -> Result<(), WriteFault>
+    /// What partition `p` was told in the last tick that was done. Ticks of a machine whose hypervisor has halted are none, and a reset from
+    /// without is none.
+    pub fn cue(&self, p: PartId) -> Cue<'_>
+        requires { p < length self.now.state.parts }
+        ensures { cue_value result ≡ told_to self.now p }
+    {
+        self.kept.cue(self.sys.conf(), p)
+    }
+
+    /// One tick, whose lines go out, and whose console bytes go to their UARTs. After `WriteFault` the tick was done whole, and its bytes
+    /// were said. A machine whose hypervisor has halted stays as it is.
+    pub fn tick<O: Sink>(&mut self, out: &mut O, board: &mut Board) -> Result<(), WriteFault>
         requires { self.old.state.ticks < TICKS }
         ensures tick { IsTick result self.old.state self.new.state (O.got out.old) (O.got out.new) }
+        ensures alone { AreAlone 1 self.old.state self.new.state }
+        ensures cues { AreCued 1 self.old self.new }
+        ensures heard { IsHeard (console self.old.state 1) (⟦<Board as ViewBoard>⟧.board_view board.old) (⟦<Board as ViewBoard>⟧.board_view board.new) }
         ensures cause { HasWriteCause result (O.faults out.old) (O.faults out.new) }
         ensures counters { IsCounted self.new.state }
     {
+        all_ticks();
+        keeps_numbers();
         if !self.sys.halted() {
-            self.step(1, out)?;
+            self.step(1, out, board)?;
         }
         Ok(())
     }
 
-    /// The run of so many ticks, with its whole report: the first line, the ticks' lines and the lines of the end. It ends with the tick in
-    /// which the hypervisor halts. After `WriteFault` the tick in hand was done whole and no later one begun; where the first line failed,
-    /// none was.
+    /// The run of so many ticks, with its whole report: the first line, the ticks' lines and the lines of the end. Console bytes go to their
+    /// UARTs. It ends with the tick in which the hypervisor halts. After `WriteFault` the tick in hand was done whole, its bytes were said,
+    /// and no later one was begun; where the first line failed, none was.
     pub fn run<O: Sink>(
         &mut self,
         ticks: u64,
         out: &mut O,
-        _board: &mut Board,
+        board: &mut Board,
     ) -> Result<Ran, WriteFault>
         requires fresh { self.old.state.ticks ≡ 0 }
         requires running { self.old.state.halted ≡ false }
         requires most { ticks ≤ TICKS }
         ensures run { IsRun result ticks self.old.state self.new.state (O.got out.old) (O.got out.new) }
+        ensures alone { RunsAlone result ticks self.old.state self.new.state }
+        ensures booted { AreBootedAlone self.old.state ticks }
+        ensures cues { RunsCued result ticks self.old self.new }
+        ensures heard { IsRunHeard self.old.state self.new.state (⟦<Board as ViewBoard>⟧.board_view board.old) (⟦<Board as ViewBoard>⟧.board_view board.new) }
         ensures cause { HasWriteCause result (O.faults out.old) (O.faults out.new) }
         ensures counters { IsCounted self.new.state }
     {
+        all_ticks();
+        boots_alone();
+        own_lines();
+        keeps_numbers();
         put_line(out, &first_line(&self.sys, ticks))?;
-        let told = self.run_ticks(ticks, out)?;
+        let told = self.run_ticks(ticks, out, board)?;
         let ended = self.end(out)?;
         Ok(Ran {
             ticks: self.done(),
@@ -128,11 +168,30 @@ impl Machine {
         })
     }
 
+    /// How many bytes the core file of a partition has. No tick and no reset changes it.
+    pub fn core_length(&self, p: PartId) -> usize
+        requires { p < length self.now.state.parts }
+        ensures value { result ≡ core_length_of (view_of self.now.state.system p) }
+        ensures length { result ≡ length (core_file (view_of self.now.state.system p) (part_at p self.now.state)) }
+    {
+        core_length(&self.sys, p)
+    }
+
+    /// Writes the core file of a partition into a slice of its length.
+    pub fn core_into(&self, p: PartId, into: &mut [u8])
+        requires partition { p < length self.now.state.parts }
+        requires size { length into.old ≡ core_length_of (view_of self.now.state.system p) }
+        ensures file { into.new ≡ core_file (view_of self.now.state.system p) (part_at p self.now.state) }
+    {
+        core_into(&self.sys, p, into);
+    }
+
     /// Resets a partition, with this status for it to ask for.
     pub fn reset_part(&mut self, p: PartId, mode: Mode, status: u32)
         requires partition { p < length self.old.state.parts }
         requires log { (part_at p self.old.state).health.next ≤ self.old.state.ticks }
         ensures value { self.new.state ≡ with_part p (reset (view_of self.old.state.system p) mode status (part_at p self.old.state)) self.old.state }
+        ensures kept { self.new.kept ≡ self.old.kept }
     {
         order::reset(&mut self.sys, p, mode, status);
     }
@@ -141,47 +200,74 @@ impl Machine {
     pub fn reset_all(&mut self, mode: Mode)
         requires log { All (λ part. part.health.next ≤ self.old.state.ticks) self.old.state.parts }
         ensures value { self.new.state ≡ record (evented (AllReset mode) self.old.state) { clock = started; time = 0 } }
+        ensures kept { self.new.kept ≡ self.old.kept }
     {
         ending::reset_all(&mut self.sys, mode);
         *self.sys.plan_clock_mut() = PlanClock::start();
         self.sys.set_now(0);
     }
 
-    // Ticks of one slot or gap, at most so many, whose lines go out. Tells how many lines that was.
-    fn step<O: Sink>(&mut self, most: u64, out: &mut O) -> Result<u64, WriteFault>
+    // Ticks of one slot or gap, at most so many, whose lines go out, and whose console bytes to their UARTs. Tells how many lines that was.
+    fn step<O: Sink>(
+        &mut self,
+        most: u64,
+        out: &mut O,
+        board: &mut Board,
+    ) -> Result<u64, WriteFault>
         requires running { self.old.state.halted ≡ false }
         requires some { 0 < most }
         requires most { self.old.state.ticks + most ≤ TICKS }
         ensures step { Steps result most self.old.state self.new.state (O.got out.old) (O.got out.new) }
+        ensures kept { KeepsLast most self.old self.new }
         ensures few { IfOk result (λ told. told ≤ 25) }
         ensures cause { HasWriteCause result (O.faults out.old) (O.faults out.new) }
+        ensures heard { IsRunHeard self.old.state self.new.state (⟦<Board as ViewBoard>⟧.board_view board.old) (⟦<Board as ViewBoard>⟧.board_view board.new) }
         ensures counters { IsCounted self.new.state }
     {
         keeps_facts();
         keeps_hardware_clock();
         keeps_numbers();
         keeps_plans();
+        tells_few_bytes();
         self.lines.clear();
         let begun = self.sys.ticks();
-        let span = run_span(&mut self.sys, &mut self.lines, most);
+        let slot = here(&self.sys);
+        let span = run_span(&mut self.sys, &mut self.lines, slot, most);
+        self.kept.keep(&self.sys, slot, &span);
         let last = begun + span.ticks - 1;
-        tell(&self.sys, last, span.part, span.note, &self.lines, out)
+        tell(
+            &self.sys,
+            last,
+            span.part,
+            span.note,
+            &self.lines,
+            out,
+            board,
+        )
     }
 
     // Ticks up to so many in all, or to the one in which the hypervisor halts, and how many lines they told.
-    fn run_ticks<O: Sink>(&mut self, ticks: u64, out: &mut O) -> Result<u64, WriteFault>
+    fn run_ticks<O: Sink>(
+        &mut self,
+        ticks: u64,
+        out: &mut O,
+        board: &mut Board,
+    ) -> Result<u64, WriteFault>
         requires fresh { self.old.state.ticks ≡ 0 }
         requires running { self.old.state.halted ≡ false }
         requires most { ticks ≤ TICKS }
         ensures run { RunsTicks result ticks self.old.state self.new.state (O.got out.old) (O.got out.new) }
+        ensures kept { KeepsTicks result ticks self.old self.new }
         ensures few { IfOk result (λ told. told ≤ 25 * ticks) }
         ensures cause { HasWriteCause result (O.faults out.old) (O.faults out.new) }
+        ensures heard { IsRunHeard self.old.state self.new.state (⟦<Board as ViewBoard>⟧.board_view board.old) (⟦<Board as ViewBoard>⟧.board_view board.new) }
         ensures counters { IsCounted self.new.state }
     {
+        keeps_numbers();
         let mut told = 0;
         while !self.sys.halted() && self.sys.ticks() < ticks {
             let left = ticks - self.sys.ticks();
-            told += self.step(left, out)?;
+            told += self.step(left, out, board)?;
         }
         Ok(told)
     }

@@ -1,13 +1,16 @@
-//! The lines of a report go out.
+//! The lines of a report go out, and bytes for consoles to their UARTs.
 
-ghost use Rattle.std.specs.Prelude.{◌≡◌, ◌+◌, ◌-◌, ◌<◌, ◌≤◌, ◌∷◌, ◌++◌, [], All, IfOk, length, map, true};
+ghost use Rattle.std.specs.Prelude.{◌≡◌, ◌+◌, ◌-◌, ◌<◌, ◌≤◌, ◌∷◌, ◌++◌, [], All, IfOk, IfSome, length, map, true};
 ghost use Rattle.guest_bus.specs.Memory.{all_from, bytes_at, is_readable};
 ghost use Rattle.whole_system.specs.Serving.{CanBeTold};
 ghost use Rattle.whole_system.specs.State.{areas_in, memory_of};
 ghost use Rattle.machine_model.specs.Lines.{end_line};
 ghost use Rattle.machine_model.specs.Lists.{all_of};
 ghost use Rattle.machine_model.specs.Told as told;
+ghost use Rattle.machine_model.specs.View.{part_of};
 ghost use Rattle.slot_runs.specs.Passes.{part_at};
+ghost use Rattle.uart_board.specs.Heard.{IsHeard};
+ghost use Rattle.xm_machine.specs.Heard.{console_to, lines_to};
 ghost use Rattle.xm_machine.specs.Outcome.{HasWriteCause};
 ghost use Rattle.xm_machine.specs.Steps.{Tells};
 ghost use Rattle.xm_machine.specs.Work.{console_told};
@@ -15,12 +18,14 @@ ghost use Rattle.xm_report.specs.Report.{IsShort, line_of};
 
 use crate::lines::Lines;
 use hypercalls::{Note, Sys};
+use uart_board::{Board, ViewBoard};
+use whole_system::read_memory;
 use xm_base::{CONSOLE_BYTES, PartId};
 use xm_outside::Sink;
 use xm_report::{Line, WriteFault, put_line};
 
 /// Puts out what there is to tell of tick n: the bytes that partition `p` wrote to its console, where its note tells any, and then these
-/// lines. Tells how many lines that was.
+/// lines. Tells how many lines that was. Those bytes are said to the UART of the console first.
 pub(crate) fn tell<O: Sink>(
     sys: &Sys,
     n: u64,
@@ -28,6 +33,7 @@ pub(crate) fn tell<O: Sink>(
     note: Note,
     lines: &Lines,
     out: &mut O,
+    board: &mut Board,
 ) -> Result<u64, WriteFault>
     requires partition { p < length sys.now.machine.parts }
     requires readable { CanBeTold note (areas_in p sys.now.machine) }
@@ -35,33 +41,37 @@ pub(crate) fn tell<O: Sink>(
     ensures told { Tells result (map (told.line_of n p) (console_told note (memory_of p sys.now.machine)) ++ lines.now) (O.got out.old) (O.got out.new) }
     ensures few { IfOk result (λ count. count ≤ 25) }
     ensures cause { HasWriteCause result (O.faults out.old) (O.faults out.new) }
+    ensures heard { IsHeard (lines_to sys.now.machine (map (told.line_of n p) (console_told note (memory_of p sys.now.machine)) ++ lines.now)) (⟦<Board as ViewBoard>⟧.board_view board.old) (⟦<Board as ViewBoard>⟧.board_view board.new) }
 {
-    let console = tell_console(sys, n, p, note, out)?;
-    let others = put_all(out, lines.as_slice())?;
+    let rest = lines.as_slice();
+    let console = tell_console(sys, n, p, note, out, board)?;
+    let others = put_all(out, rest)?;
     Ok(console + others)
 }
 
-// Puts out the line of bytes that went to the console, where the note tells any.
+// Says the bytes for the console to its UART and puts out their line, where the note tells any.
 fn tell_console<O: Sink>(
     sys: &Sys,
     n: u64,
     p: PartId,
     note: Note,
     out: &mut O,
+    board: &mut Board,
 ) -> Result<u64, WriteFault>
     requires partition { p < length sys.now.machine.parts }
     requires readable { CanBeTold note (areas_in p sys.now.machine) }
     ensures told { Tells result (map (told.line_of n p) (console_told note (memory_of p sys.now.machine))) (O.got out.old) (O.got out.new) }
     ensures few { IfOk result (λ count. count ≤ 1) }
     ensures cause { HasWriteCause result (O.faults out.old) (O.faults out.new) }
+    ensures heard { IsHeard (lines_to sys.now.machine (map (told.line_of n p) (console_told note (memory_of p sys.now.machine)))) (⟦<Board as ViewBoard>⟧.board_view board.old) (⟦<Board as ViewBoard>⟧.board_view board.new) }
 {
     match note {
-        Note::Console { at, size } => put_console(sys, n, p, at, size, out),
+        Note::Console { at, size } => put_console(sys, n, p, at, size, out, board),
         _ => Ok(0),
     }
 }
 
-// Puts out the line of bytes that went to the console.
+// Says the bytes for the console to its UART, and puts out their line.
 fn put_console<O: Sink>(
     sys: &Sys,
     n: u64,
@@ -69,6 +79,7 @@ fn put_console<O: Sink>(
     at: u32,
     size: u32,
     out: &mut O,
+    board: &mut Board,
 ) -> Result<u64, WriteFault>
     requires partition { p < length sys.now.machine.parts }
     requires few { size ≤ CONSOLE_BYTES }
@@ -76,26 +87,37 @@ fn put_console<O: Sink>(
     ensures told { Tells result (told.line_of n p (told.Console (bytes_at (memory_of p sys.now.machine) at size)) ∷ []) (O.got out.old) (O.got out.new) }
     ensures few { IfOk result (λ count. count ≤ 1) }
     ensures cause { HasWriteCause result (O.faults out.old) (O.faults out.new) }
+    ensures heard { IsHeard (console_to sys.now.machine p (bytes_at (memory_of p sys.now.machine) at size)) (⟦<Board as ViewBoard>⟧.board_view board.old) (⟦<Board as ViewBoard>⟧.board_view board.new) }
 {
     let mut buffer = [0; CONSOLE_BYTES as usize];
     let bytes = &mut buffer[..size as usize];
-    read_console(sys, p, at, bytes);
+    read_memory(sys, p, at, bytes);
+    say(sys, p, bytes, board);
     put_line(out, &Line::Console { n, p, bytes })?;
     Ok(1)
 }
 
-// The bytes of a partition's memory that went to its console.
-fn read_console(sys: &Sys, p: PartId, at: u32, bytes: &mut [u8])
+// Says bytes to the UART of the partition's console, where it has one.
+fn say(sys: &Sys, p: PartId, bytes: &[u8], board: &mut Board)
     requires partition { p < length sys.now.machine.parts }
-    requires readable { all_from (is_readable (areas_in p sys.now.machine)) at (length bytes.old) ≡ true }
-    ensures { bytes.new ≡ bytes_at (memory_of p sys.now.machine) at (length bytes.old) }
+    ensures heard { IsHeard (console_to sys.now.machine p bytes.now) (⟦<Board as ViewBoard>⟧.board_view board.old) (⟦<Board as ViewBoard>⟧.board_view board.new) }
 {
+    if let Some(place) = console_of(sys, p) {
+        board.say(place, bytes);
+    }
+}
+
+// The place of the UART that is the partition's console, where it has one.
+#[tactic(auto, unfolding(machine_model::specs::View::part_of))]
+fn console_of(sys: &Sys, p: PartId) -> Option<u8>
+    requires partition { p < length sys.now.machine.parts }
+    ensures value { result ≡ (part_of sys.now.machine.system.conf p).console }
+    ensures below { IfSome result (λ place. place < 8) }
+{
+    let conf = sys.conf().raw();
     let count = sys.count();
     prove!(p < count);
-    match sys.ram().copy_in(p, at, bytes) {
-        Ok(()) => {}
-        Err(_) => unreachable!(),
-    }
+    conf.parts[usize::from(p)].console
 }
 
 // Puts out lines, and tells how many.

@@ -24,7 +24,9 @@ use crate::work::{call, meet_trap, take_interrupt};
 use cyclic_plans::Here;
 use hypercalls::{Note, Sys};
 use machine_model::{acts_within_bounds, keeps_numbers};
-use slot_runs::{next_tick, resting_ticks, slot_goes_on, tick_in_passes, undisturbed_ticks};
+use slot_runs::{
+    calm_ticks, next_tick, resting_ticks, slot_goes_on, tick_in_passes, undisturbed_ticks,
+};
 use sparc_step::Turn;
 use virt_clocks::next_deadline_is_least;
 use xm_base::{PartId, State};
@@ -43,27 +45,35 @@ pub(crate) struct Span {
     pub(crate) ticks: u64,
     /// The partition that worked in the last; in a gap, any.
     pub(crate) part: PartId,
+    /// Whether it worked, and not merely rested.
+    pub(crate) worked: bool,
     /// What its call told.
     pub(crate) note: Note,
+    /// How its work reached beyond it.
+    pub(crate) reach: Beyond,
 }
 
 impl Span {
-    // So many ticks in which no call told anything.
-    fn quiet(ticks: u64, part: PartId) -> Span
-        ensures { result ≡ record { ticks = ticks; part = part; note = Note.Nothing } }
+    // So many ticks in which no call told anything, with how the last reached beyond its partition.
+    fn quiet(ticks: u64, part: PartId, worked: bool, reach: Beyond) -> Span
+        ensures { result ≡ record { ticks = ticks; part = part; worked = worked; note = Note.Nothing; reach = reach } }
     {
         Span {
             ticks,
             part,
+            worked,
             note: Note::Nothing,
+            reach,
         }
     }
 }
 
-/// The ticks of the slot or gap at hand, at most so many, up to the first in which more is done than instructions that go. Their lines
+/// The ticks of the slot or gap that it is, at most so many, up to the first in which more is done than instructions that go. Their lines
 /// are those of the last.
-pub(crate) fn run_span(sys: &mut Sys, lines: &mut Lines, most: u64) -> Span
+pub(crate) fn run_span(sys: &mut Sys, lines: &mut Lines, slot: Option<Here>, most: u64) -> Span
     requires machine { IsMachine sys.old }
+    requires slot { slot ≡ here sys.old.machine.system.conf sys.old.machine.clock sys.old.machine.time }
+    requires covers { IfSome slot (IsHere (moment sys.old.machine.clock sys.old.machine.time) (slots_of sys.old.machine.system.conf sys.old.machine.clock.plan)) }
     requires running { sys.old.machine.halted ≡ false }
     requires some { 0 < most }
     requires ticks { sys.old.machine.ticks + most ≤ 4000000000 }
@@ -71,14 +81,14 @@ pub(crate) fn run_span(sys: &mut Sys, lines: &mut Lines, most: u64) -> Span
     ensures done { IsSpanDone result most sys.old sys.new lines.new }
 {
     let most = most.min(ticks_left(sys));
-    match here(sys) {
+    match slot {
         Some(slot) => run_slot(sys, lines, slot, most),
         None => wait(sys, lines, most),
     }
 }
 
-// Whose slot it is, or `None` in a gap.
-fn here(sys: &Sys) -> Option<Here>
+/// Whose slot it is, or `None` in a gap.
+pub(crate) fn here(sys: &Sys) -> Option<Here>
     requires { IsInFrame sys.now.machine.system.conf sys.now.machine.clock sys.now.machine.time }
     ensures value { result ≡ here sys.now.machine.system.conf sys.now.machine.clock sys.now.machine.time }
     ensures covers { IfSome result (IsHere (moment sys.now.machine.clock sys.now.machine.time) (slots_of sys.now.machine.system.conf sys.now.machine.clock.plan)) }
@@ -136,13 +146,14 @@ fn wait(sys: &mut Sys, lines: &mut Lines, most: u64) -> Span
     ensures done { AreDoneFrom result most sys.old.machine sys.old sys.new lines.new }
 {
     resting_ticks();
+    calm_ticks();
     slot_goes_on();
     tick_in_passes();
     keeps_numbers();
     let last = sys.now() + most - 1;
     rest(sys, None, last);
     end_ticks(sys, lines, most);
-    Span::quiet(most, 0)
+    Span::quiet(most, 0, false, Beyond::Nothing)
 }
 
 // Ticks of a partition that takes its turn: the interrupts of the first come, and may wake it.
@@ -224,6 +235,7 @@ fn stay_idle(sys: &mut Sys, lines: &mut Lines, p: PartId, most: u64) -> Span
     ensures done { (g : Machine) (ps : PartitionState) → IsIdle g p ps most sys.old → AreDoneFrom result most g sys.old sys.new lines.new }
 {
     undisturbed_ticks();
+    calm_ticks();
     slot_goes_on();
     tick_in_passes();
     keeps_numbers();
@@ -241,12 +253,12 @@ fn pass(sys: &mut Sys, lines: &mut Lines, p: PartId, ticks: u64) -> Span
     ensures state { sys.new ≡ with_machine (after_span (ticks - 1) (rest_but (Some p) (sys.old.machine.time + ticks - 1) sys.old.machine).parts sys.old.machine) sys.old }
     ensures lines { lines.new ≡ lines.old ++ plan_line (ticks - 1) sys.old.machine }
     ensures few { length lines.new ≤ length lines.old + 1 }
-    ensures span { result ≡ record { ticks = ticks; part = p; note = Note.Nothing } }
+    ensures span { result ≡ record { ticks = ticks; part = p; worked = true; note = Note.Nothing; reach = Beyond.Nothing } }
 {
     let last = sys.now() + ticks - 1;
     rest(sys, Some(p), last);
     end_ticks(sys, lines, ticks);
-    Span::quiet(ticks, p)
+    Span::quiet(ticks, p, true, Beyond::Nothing)
 }
 
 // Ticks of a partition that goes on: it takes an interrupt, or executes instructions.
@@ -285,7 +297,7 @@ fn deliver(sys: &mut Sys, lines: &mut Lines, p: PartId, n: u8) -> Span
     keeps_numbers();
     take_interrupt(sys, lines, p, n);
     end_tick(sys, lines, p, Beyond::Nothing);
-    Span::quiet(1, p)
+    Span::quiet(1, p, true, Beyond::Nothing)
 }
 
 // Instructions of a partition, one a tick, up to the first that does more than go.
@@ -296,6 +308,7 @@ fn execute(sys: &mut Sys, lines: &mut Lines, p: PartId, most: u64) -> Span
     ensures done { (g : Machine) (first : Bool) (ps : PartitionState) → IsMet g p first ps most sys.old → NoDelivery (part_at p sys.old.machine).traps → AreDoneFrom result most g sys.old sys.new lines.new }
 {
     undisturbed_ticks();
+    calm_ticks();
     slot_goes_on();
     tick_in_passes();
     keeps_numbers();
@@ -331,7 +344,7 @@ fn trap_after(sys: &mut Sys, lines: &mut Lines, p: PartId, tt: u8, went: u64, pc
     stand_behind(sys, p, went);
     let reach = meet_trap(sys, lines, p, tt, pc);
     end_tick(sys, lines, p, reach);
-    Span::quiet(went + 1, p)
+    Span::quiet(went + 1, p, true, reach)
 }
 
 // The tick of an instruction that called, after so many in which the partition only went.
@@ -352,7 +365,9 @@ fn call_after(sys: &mut Sys, lines: &mut Lines, p: PartId, went: u64, pc: u32) -
     Span {
         ticks: went + 1,
         part: p,
+        worked: true,
         note,
+        reach,
     }
 }
 

@@ -14,7 +14,7 @@ ghost use Rattle.machine_model.specs.Told.{Upon, line_of};
 ghost use Rattle.machine_model.specs.View.{view_of};
 ghost use Rattle.slot_runs.specs.Passes.{part_at, with_part};
 ghost use Rattle.xm_ports.specs.Channels.{shapes_of};
-ghost use Rattle.xm_machine.specs.Work.{IsDone, IsUponOne, IsWorked, TellsAlone, act_of, trace_told};
+ghost use Rattle.xm_machine.specs.Work.{IsDone, IsToldBy, IsUponOne, IsWorked, TellsAlone, act_of, trace_told};
 
 use crate::beyond::Beyond;
 use crate::health::{deliver_interrupt, handle_event, program_counter};
@@ -78,6 +78,7 @@ pub(crate) fn call(sys: &mut Sys, lines: &mut Lines, p: PartId, pc: u32) -> (Not
     requires empty { lines.old ≡ [] }
     ensures worked { IsWorked p (called (caller_at p pc (part_at p sys.old.machine).core.pc sys.old)) result.0 result.1 sys.old sys.new lines.new }
     ensures alone { TellsAlone result.0 result.1 }
+    ensures noted { IsToldBy p (caller_at p pc (part_at p sys.old.machine).core.pc sys.old).sight (called (caller_at p pc (part_at p sys.old.machine).core.pc sys.old)) result.0 sys.old }
     ensures few { length lines.new ≤ 4 }
 {
     let served = serve_call(sys, p, pc);

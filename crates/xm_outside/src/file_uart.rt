@@ -6,6 +6,7 @@ ghost use Rattle.xm_outside.specs.Growth.{Receives};
 
 use crate::store::Failed;
 use crate::uart::Uart;
+use std::fs::OpenOptions;
 use std::io::Write;
 use std::rt::Files;
 use std::{fs, io};
@@ -23,12 +24,13 @@ const NAMES: [&str; 8] = [
 ];
 
 /// A file as a UART: `uart0.out` to `uart7.out` of the folder where the program runs. The first write makes the
-/// file, or empties one that was there, and later ones append to it. Without a write no file is touched.
+/// file, or empties one that was there, and later ones append to it. Without a write no file is touched. Between
+/// writes the file is not open: a value that held it could not be boxed as a UART.
 #[derive(Drop)]
-pub struct FileUart<R: Files> {
+pub struct FileUart<R> {
     rt: R,
     name: &'static str,
-    file: Option<R::File>,
+    made: bool,
     faults: u64,
 }
 
@@ -41,22 +43,22 @@ impl<R: Files + Drop> FileUart<R> {
         FileUart {
             rt,
             name: NAMES[usize::from(place)],
-            file: None,
+            made: false,
             faults: 0,
         }
     }
 
-    /// Writes the bytes to the file, which is made first where it isn't open yet.
+    /// Writes the bytes to the file, which the first write makes or empties.
     fn append(&mut self, bytes: &[u8]) -> io::Result<()>
         ensures faults { self.new.faults ≡ self.old.faults }
     {
-        let mut file = match self.file.take() {
-            Some(file) => file,
-            None => fs::create(&self.rt, self.name)?,
+        let mut file = if self.made {
+            OpenOptions::new().append(true).open(&self.rt, self.name)?
+        } else {
+            fs::create(&self.rt, self.name)?
         };
-        let answer = file.write_all(bytes);
-        self.file = Some(file);
-        answer
+        self.made = true;
+        file.write_all(bytes)
     }
 }
 

@@ -13,7 +13,7 @@ returns-in-Went c =
     let gone = rw c.in-Went.is at c.step_many-gone.ensures.gone in
     record {
       done = λ g first ps is undelivered.
-          went_done g c.args.p first ps c.args.most c.args.sys.now is c.undisturbed_ticks.ensures.law c.slot_goes_on.ensures.left c.tick_in_passes.ensures.others c.keeps_numbers.ensures.runs
+          went_done g c.args.p first ps c.args.most c.args.sys.now is c.undisturbed_ticks.ensures.law c.calm_ticks.ensures.gone c.slot_goes_on.ensures.left c.tick_in_passes.ensures.others c.keeps_numbers.ensures.runs
           c.ticks_undisturbed-most.result c.step_many-gone.result.went _ _ c.step_many-gone.new.self c.count_on.new.sys c.pass.new.sys c.args.lines.now c.pass.new.lines c.pass.result
           undelivered c.ticks_undisturbed-most.ensures.some c.ticks_undisturbed-most.ensures.within c.ticks_undisturbed-most.ensures.calm
           (record { gone = c.step_many-gone.ensures.went; its_core = refl; its_memory = refl; others = c.step_many-gone.ensures.others; counted = c.count_on.ensures })

@@ -1,5 +1,5 @@
 use Rattle.slot_runs.specs.Passes.{part_at}
-use Rattle.xm_machine.proofs.CallLemmas.{call_alone, call_worked}
+use Rattle.xm_machine.proofs.CallLemmas.{call_alone, call_noted, call_worked}
 use Rattle.xm_machine.proofs.work.call.Goals as goal
 
 pub returns-clause-worked : goal.returns-clause-worked
@@ -11,3 +11,7 @@ pub returns-clause-alone : goal.returns-clause-alone
 returns-clause-alone c =
     call_alone c.args.p c.args.pc (part_at c.args.p c.args.sys.now.machine).core.pc c.serve_call-served.result c.follow-reach.result c.args.sys.now c.serve_call-served.new.sys c.count_tick.new.sys
     c.serve_call-served.ensures.served c.follow-reach.ensures.act
+
+pub returns-clause-noted : goal.returns-clause-noted
+returns-clause-noted c =
+    call_noted c.args.p c.args.pc (part_at c.args.p c.args.sys.now.machine).core.pc c.serve_call-served.result c.args.sys.now c.serve_call-served.new.sys c.serve_call-served.ensures.served

@@ -1,10 +1,13 @@
-use Rattle.std.proofs.Common.{◌≡◌, ap, refl, subst}
+use Rattle.std.proofs.Common.{◌≡◌, Ok, ap, refl, subst}
 use Rattle.std.proofs.lemmas.Result.{err_from_is_err_and}
 use Rattle.machine_model.specs.Machine.{Machine}
 use Rattle.xm_outside.specs.Growth.{GrewByPrefix, grown}
 use Rattle.xm_report.specs.Report.{text_of}
 use Rattle.xm_machine.specs.Machine.{Meaning}
 use Rattle.xm_machine.specs.Outcome.{first_line}
+use Rattle.xm_machine.proofs.AloneLemmas.{booted_alone, run_alone}
+use Rattle.xm_machine.proofs.HeardLemmas.{none_heard}
+use Rattle.xm_machine.proofs.CuedLemmas.{cued, cut_cued, keeps_none, keeps_whole}
 use Rattle.xm_machine.proofs.WholeLemmas.{end_cut, first_line_cut, ticks_cut, whole_out}
 use Rattle.xm_machine.proofs.machine.Machine.run.Goals as goal
 
@@ -40,3 +43,58 @@ returns-clause-run g c =
     (g.O.Sink.got c.args.out.now) (g.O.Sink.got c.put_line.new.out) (g.O.Sink.got c.run_ticks.new.out) (g.O.Sink.got c.end.new.out)
     first c.in_ok-told.ensures.run c.in_ok-ended.ensures.told.0 c.in_ok-ended.ensures.told.1
     c.done.ensures.done c.halted.ensures refl c.requires.fresh c.requires.running
+
+pub returns-in_err-put_line-clause-alone : goal.returns-in_err-put_line-clause-alone
+returns-in_err-put_line-clause-alone g c =
+    run_alone c.all_ticks.ensures.law c.from_residual.result c.args.ticks c.args.self.now.state c.args.self.now.state
+    (g.O.Sink.got c.args.out.now) (g.O.Sink.got c.put_line.new.out) (returns-in_err-put_line-clause-run g c)
+
+pub returns-in_err-put_line-clause-booted : goal.returns-in_err-put_line-clause-booted
+returns-in_err-put_line-clause-booted g c = booted_alone c.boots_alone.ensures.law c.own_lines.ensures.law c.args.self.now.state c.args.ticks
+
+pub returns-in_err-told-clause-alone : goal.returns-in_err-told-clause-alone
+returns-in_err-told-clause-alone g c =
+    run_alone c.all_ticks.ensures.law c.from_residual-in_err-told.result c.args.ticks c.args.self.now.state c.run_ticks.new.self.state
+    (g.O.Sink.got c.args.out.now) (g.O.Sink.got c.run_ticks.new.out) (returns-in_err-told-clause-run g c)
+
+pub returns-in_err-told-clause-booted : goal.returns-in_err-told-clause-booted
+returns-in_err-told-clause-booted g c = booted_alone c.boots_alone.ensures.law c.own_lines.ensures.law c.args.self.now.state c.args.ticks
+
+pub returns-in_err-ended-clause-alone : goal.returns-in_err-ended-clause-alone
+returns-in_err-ended-clause-alone g c =
+    run_alone c.all_ticks.ensures.law c.from_residual-in_err-ended.result c.args.ticks c.args.self.now.state c.run_ticks.new.self.state
+    (g.O.Sink.got c.args.out.now) (g.O.Sink.got c.end.new.out) (returns-in_err-ended-clause-run g c)
+
+pub returns-in_err-ended-clause-booted : goal.returns-in_err-ended-clause-booted
+returns-in_err-ended-clause-booted g c = booted_alone c.boots_alone.ensures.law c.own_lines.ensures.law c.args.self.now.state c.args.ticks
+
+pub returns-clause-alone : goal.returns-clause-alone
+returns-clause-alone g c =
+    run_alone c.all_ticks.ensures.law (Ok _) c.args.ticks c.args.self.now.state c.run_ticks.new.self.state
+    (g.O.Sink.got c.args.out.now) (g.O.Sink.got c.end.new.out) (returns-clause-run g c)
+
+pub returns-clause-booted : goal.returns-clause-booted
+returns-clause-booted g c = booted_alone c.boots_alone.ensures.law c.own_lines.ensures.law c.args.self.now.state c.args.ticks
+
+pub returns-in_err-put_line-clause-heard : goal.returns-in_err-put_line-clause-heard
+returns-in_err-put_line-clause-heard g c = none_heard c.keeps_numbers.ensures.runs c.args.self.now.state (record { places = _; marks = _ })
+
+pub returns-in_err-put_line-clause-cues : goal.returns-in_err-put_line-clause-cues
+returns-in_err-put_line-clause-cues g c =
+    let p = err_from_is_err_and c.from_residual.result c.from_residual.ensures.1 in
+    rw (p.1) (cut_cued c.keeps_numbers.ensures.ticks c.keeps_numbers.ensures.runs c.args.ticks c.args.self.now c.args.self.now (keeps_none c.args.ticks c.args.self.now))
+
+pub returns-in_err-told-clause-cues : goal.returns-in_err-told-clause-cues
+returns-in_err-told-clause-cues g c =
+    let p = err_from_is_err_and c.from_residual-in_err-told.result c.from_residual-in_err-told.ensures.1 in
+    rw (p.1) (cut_cued c.keeps_numbers.ensures.ticks c.keeps_numbers.ensures.runs c.args.ticks c.args.self.now c.run_ticks.new.self c.in_err-told.ensures.kept)
+
+pub returns-in_err-ended-clause-cues : goal.returns-in_err-ended-clause-cues
+returns-in_err-ended-clause-cues g c =
+    let p = err_from_is_err_and c.from_residual-in_err-ended.result c.from_residual-in_err-ended.ensures.1 in
+    rw (p.1) (cut_cued c.keeps_numbers.ensures.ticks c.keeps_numbers.ensures.runs c.args.ticks c.args.self.now c.run_ticks.new.self
+    (keeps_whole c.args.ticks c.args.self.now c.run_ticks.new.self c.in_ok-told.ensures.run.state c.in_ok-told.ensures.kept))
+
+pub returns-clause-cues : goal.returns-clause-cues
+returns-clause-cues g c =
+    cued c.keeps_numbers.ensures.ticks c.keeps_numbers.ensures.runs c.args.ticks c.args.self.now c.run_ticks.new.self c.in_ok-told.ensures.run.state c.in_ok-told.ensures.kept

@@ -1,5 +1,8 @@
+use Rattle.xm_machine.proofs.CuedLemmas.{keeps_span}
 use Rattle.xm_machine.proofs.GoingLemmas.{step_told}
+use Rattle.xm_machine.proofs.HeardLemmas.{span_heard}
 use Rattle.xm_machine.proofs.KeptLemmas.{kept_ticks}
+use Rattle.xm_machine.proofs.NotedLemmas.{few_noted, span_kept}
 use Rattle.xm_machine.proofs.machine.Machine.step.Goals as goal
 
 pub invariant_of-self : goal.invariant_of-self
@@ -21,3 +24,21 @@ returns-clause-counters g c =
     let done = c.run_span-span.ensures.done in
     (kept_ticks c.keeps_facts.ensures.ticks c.keeps_hardware_clock.ensures.ticks c.keeps_numbers.ensures.ticks c.keeps_plans.ensures.ticks
     c.self.inside.sys c.run_span-span.new.sys c.run_span-span.result.ticks c.args.most c.self.invariant done.state done.within most).counted
+
+pub returns-clause-heard : goal.returns-clause-heard
+returns-clause-heard g c =
+    let heard = rw c.ticks-begun.ensures.value at c.tell.ensures.heard in
+    rw (← c.self.view_is) (span_heard c.keeps_numbers.ensures.runs c.run_span-span.result c.args.most c.self.inside.sys c.run_span-span.new.sys c.run_span-span.new.lines
+    (record { places = _; marks = _ }) (record { places = _; marks = _ }) c.run_span-span.ensures.done heard)
+
+pub keep-requires-clause-few : goal.keep-requires-clause-few
+keep-requires-clause-few g c =
+    let most = rw (← c.self.view_is) at c.requires.most in
+    few_noted c.tells_few_bytes.ensures.messages c.tells_few_bytes.ensures.sights
+    c.keeps_facts.ensures.ticks c.keeps_hardware_clock.ensures.ticks c.keeps_numbers.ensures.ticks c.keeps_plans.ensures.ticks
+    c.run_span-span.result c.args.most c.self.inside.sys c.run_span-span.new.sys c.run_span-span.new.lines c.self.invariant c.run_span-span.ensures.done most
+
+pub returns-clause-kept : goal.returns-clause-kept
+returns-clause-kept g c =
+    rw (← c.self.view_is) (keeps_span c.run_span-span.result c.args.most c.self.inside.sys c.run_span-span.new.sys c.run_span-span.new.lines c.self.inside.kept c.keep.new.self c.run_span-span.ensures.done
+    (span_kept c.run_span-span.result c.args.most c.self.inside.sys c.run_span-span.new.sys c.run_span-span.new.lines c.here-slot.result c.keep.new.self c.here-slot.ensures.value c.run_span-span.ensures.done c.keep.ensures))

@@ -1,0 +1,172 @@
+//! What a machine keeps of its last tick, and what each partition was told in it.
+
+ghost use Rattle.std.specs.Prelude.{◌≡◌, ◌-◌, ◌<◌, ◌≤◌, IfOk, length, take, true};
+ghost use Rattle.guest_bus.specs.Memory.{all_from, bytes_at, is_readable};
+ghost use Rattle.machine_model.specs.Machine.{turn_here};
+ghost use Rattle.slot_runs.specs.Calm.{turn_after};
+ghost use Rattle.slot_runs.specs.Meeting.{first_after};
+ghost use Rattle.whole_system.specs.Serving.{CanBeTold};
+ghost use Rattle.whole_system.specs.State.{areas_in, memory_of};
+ghost use Rattle.xm_machine.specs.CueValues.{cue_value};
+ghost use Rattle.xm_machine.specs.Kept.{bytes_noted, kept_by, kept_cue, no_kept};
+
+use crate::beyond::Beyond;
+use crate::cue::{
+    Cue, Sight, Traffic, is_slot_of, mine_of, order_for, sight_of, traffic_heard, whole_of,
+};
+use crate::slot::Span;
+use cyclic_plans::Here;
+use hypercalls::{Note, Sys};
+use std::alloc::Global;
+use std::marker::Model;
+use whole_system::read_memory;
+use xm_base::{Memory, PartId};
+use xm_conf::Conf;
+
+/// How many bytes a message has at most. What a partition is shown has fewer.
+const MESSAGE_BYTES: usize = 4096;
+
+/// What a machine keeps of its last tick. All room for it is taken when it is made.
+#[derive(Debug, Drop)]
+pub(crate) struct Kept {
+    /// The slot that the tick was in.
+    slot: Option<Here>,
+    /// Whether the partition of the slot worked in it.
+    worked: bool,
+    /// What its call told.
+    note: Note,
+    /// How its work reached beyond it.
+    reach: Beyond,
+    /// Room for the bytes that the note named.
+    bytes: Vec<u8>,
+    /// How many they are.
+    size: usize,
+}
+
+impl Model for Kept {
+    ghost use Rattle.std.specs.Prelude.{◌≡◌, ◌≤◌, length, take};
+    ghost use Rattle.machine_model.specs.Machine.{turn_here};
+    ghost use Rattle.xm_machine.specs.Kept as plain;
+    ghost use Rattle.xm_machine.specs.Kept.{kept_with};
+
+    ghost Value = { plain.Kept };
+
+    ghost view = { λ k. kept_with (turn_here k.slot) k.worked k.note k.reach (take k.size k.bytes.items) };
+
+    ghost invariant = { λ k. (length k.bytes.items ≡ 4096) × (k.size ≤ 4096) };
+}
+
+impl Kept {
+    /// Nothing, as before the first tick.
+    pub(crate) fn new(alloc: Global) -> Result<Kept, Memory>
+        ensures { IfOk result (λ kept. kept ≡ no_kept) }
+    {
+        Ok(Kept {
+            slot: None,
+            worked: false,
+            note: Note::Nothing,
+            reach: Beyond::Nothing,
+            bytes: room(alloc, MESSAGE_BYTES)?,
+            size: 0,
+        })
+    }
+
+    /// Keeps the last tick of a span that began in this slot. The bytes that its note names still stand in its partition's memory.
+    pub(crate) fn keep(&mut self, sys: &Sys, slot: Option<Here>, span: &Span)
+        requires partition { span.now.part < length sys.now.machine.parts }
+        requires readable { CanBeTold span.now.note (areas_in span.now.part sys.now.machine) }
+        requires few { length (bytes_noted span.now.note (memory_of span.now.part sys.now.machine)) ≤ 4096 }
+        requires some { 0 < span.now.ticks }
+        ensures { self.new ≡ kept_by (turn_after (span.now.ticks - 1) (turn_here slot)) span.now.worked span.now.note span.now.reach (memory_of span.now.part sys.now.machine) }
+    {
+        self.slot = slot_after(span.ticks - 1, slot);
+        self.worked = span.worked;
+        self.note = span.note;
+        self.reach = span.reach;
+        self.size = read_noted(sys, span.part, span.note, &mut self.bytes);
+    }
+
+    /// What partition `p` was told.
+    #[tactic(auto, unfolding(crate::specs::Kept::kept_cue))]
+    pub(crate) fn cue(&self, conf: &Conf, p: PartId) -> Cue<'_>
+        requires { p < length conf.now.parts }
+        ensures { cue_value result ≡ kept_cue conf.now self.now p }
+    {
+        let bytes = &self.bytes[..self.size];
+        let own = is_slot_of(self.slot, p);
+        Cue {
+            mine: mine_of(self.slot, p),
+            traffic: if own && self.worked {
+                Traffic::Nothing
+            } else {
+                traffic_heard(conf, p, self.note, bytes)
+            },
+            order: order_for(self.reach, p),
+            whole: whole_of(self.reach),
+            seen: if own {
+                sight_of(self.note, bytes)
+            } else {
+                Sight::Nothing
+            },
+        }
+    }
+}
+
+// Room for so many bytes.
+fn room(alloc: Global, count: usize) -> Result<Vec<u8>, Memory>
+    ensures { IfOk result (λ bytes. length bytes.items ≡ count) }
+{
+    Ok(vec![in alloc; 0; count]?)
+}
+
+// The slot of a tick, when so many of it are done.
+fn slot_after(done: u64, slot: Option<Here>) -> Option<Here>
+    ensures { turn_here result ≡ turn_after done (turn_here slot) }
+{
+    match slot {
+        Some(slot) => Some(Here {
+            slot: slot.slot,
+            part: slot.part,
+            first: first_after(done, slot.first),
+        }),
+        None => None,
+    }
+}
+
+// Whether a tick is the first of its slot, when so many are done since one that was or was not.
+fn first_after(done: u64, first: bool) -> bool
+    ensures { result ≡ first_after done first }
+{
+    if done == 0 { first } else { false }
+}
+
+// Reads the bytes of a message that a note names, or of what was shown, and tells how many they are.
+fn read_noted(sys: &Sys, p: PartId, note: Note, bytes: &mut [u8]) -> usize
+    requires partition { p < length sys.now.machine.parts }
+    requires readable { CanBeTold note (areas_in p sys.now.machine) }
+    requires few { length (bytes_noted note (memory_of p sys.now.machine)) ≤ length bytes.old }
+    ensures bytes { take result bytes.new ≡ bytes_noted note (memory_of p sys.now.machine) }
+    ensures within { result ≤ length bytes.old }
+    ensures room { length bytes.new ≡ length bytes.old }
+{
+    match note {
+        Note::Put { at, size, .. } => read_first(sys, p, at, size, bytes),
+        Note::Saw { at, size } => read_first(sys, p, at, size, bytes),
+        Note::Nothing | Note::Console { .. } | Note::Trace(_) | Note::Take { .. } | Note::NotKept =>
+            0,
+    }
+}
+
+// Reads so many bytes of a partition's memory into the first of these.
+fn read_first(sys: &Sys, p: PartId, at: u32, size: u32, bytes: &mut [u8]) -> usize
+    requires partition { p < length sys.now.machine.parts }
+    requires readable { all_from (is_readable (areas_in p sys.now.machine)) at size ≡ true }
+    requires few { size ≤ length bytes.old }
+    ensures bytes { take result bytes.new ≡ bytes_at (memory_of p sys.now.machine) at size }
+    ensures within { result ≤ length bytes.old }
+    ensures room { length bytes.new ≡ length bytes.old }
+{
+    let size = size as usize;
+    read_memory(sys, p, at, &mut bytes[..size]);
+    size
+}

@@ -1,0 +1,8 @@
+//! What a machine keeps of a tick.
+
+ghost use Rattle.xm_machine.specs.Kept.{KeepsCues};
+
+/// What is kept of a tick tells each partition its cue.
+pub fn keeps_cues()
+    ensures law { KeepsCues }
+{}
