@@ -1,5 +1,5 @@
 -- What stays of the outside, and what the files come to.
-use Rattle.std.proofs.Common.{◌≡◌, ◌≢◌, ℕ, zero, suc, ◌+◌, ◌<◌, ◌≤◌, cond, min, ⊎_elim, Bool, true, false, nat_lt, ◌==◌, ◌||◌, codes, subst, if◌then◌else◌, List, [], ◌∷◌, ◌++◌, length, take, drop, Option, Some, None, Result, Ok, Err, refl, sym, ap, ◌∙◌, arith}
+use Rattle.std.proofs.Common.{◌≡◌, ◌≢◌, ℕ, zero, suc, ◌+◌, ◌<◌, ◌≤◌, cond, min, ⊎_elim, Bool, true, false, nat_lt, ◌==◌, ◌||◌, codes, if◌then◌else◌, List, [], ◌∷◌, ◌++◌, length, take, drop, Option, Some, None, Result, Ok, Err, refl, sym, ap, ◌∙◌, arith}
 use Rattle.std.proofs.lemmas.Bool.{cases_lt}
 use Rattle.std.proofs.lemmas.Bool.Decides.{nat_tests}
 use Rattle.std.proofs.lemmas.List.{length-take, take_all}
@@ -12,7 +12,7 @@ use Rattle.xm_base.specs.Options.{on}
 use Rattle.xm_base.specs.declared.limits.TheConstants.{FILE_BYTES, IMAGE_BYTES, TICKS}
 use Rattle.xm_outside.specs.Causes.{counted}
 use Rattle.xm_outside.specs.Files.{Files, OthersStay, stored}
-use Rattle.xm_words.specs.Words.{Command, RunOption, Bare, Parse, BuildImage, ReadImage, Pack, ListContainer, CheckContainer, Run}
+use Rattle.xm_words.specs.Words.{Command, PartFile, RunOption, Bare, Parse, BuildImage, ReadImage, Pack, ListContainer, CheckContainer, MakePlan, CheckPlan, Run, cores_in}
 use Rattle.xm_container.specs.Reading.{unpacked}
 use Rattle.xm_container.specs.declared.fault.BoxFault.{BoxFault}
 use Rattle.xm_commands.specs.Answer.{read_all, read_before, saved}
@@ -23,9 +23,10 @@ use Rattle.xm_commands.specs.Imaging.{container_lines_of, container_verdict_of, 
 use Rattle.xm_commands.specs.Inputs.{no_inputs}
 use Rattle.xm_commands.specs.Packing.{container_of}
 use Rattle.xm_commands.specs.Parsing.{xmc_of}
+use Rattle.xm_commands.specs.Planning.{plan_lines_of, verdicts_of}
 use Rattle.xm_commands.specs.Denial.{Denial}
 use Rattle.xm_commands.specs.Outcome.{Output, bare_outcome, content, first_long, made, packed_to, ran, ran_with, ran_within, refused, refused_by, run_by, run_outcome, told, inputs_of, outcome_of, output_of, unless_long, worked}
-use Rattle.xm_commands.specs.Top.{AreContents, FilesStay, HasCalls, counted_by, output_count}
+use Rattle.xm_commands.specs.Top.{AreContents, counted_by}
 use Rattle.xm_commands.specs.Work.{Outside, ReadsFiles, called, called_for, wrote}
 
 -- Calls.
@@ -80,20 +81,10 @@ stored-others files file bytes other differs = get-insert nat_list_cmp_total fil
     at Equal is = absurd (differs (slice_cmp-IsAntisymmetric nat_cmp-IsAntisymmetric other file is))
     at Greater is = refl
 
--- where nothing is written every file stays
-pub others_same : (told : Option Files) (file : List ℕ) → OthersStay told file told
-others_same None file = tt
-others_same (Some files) file = λ other differs. refl
-
 -- a file that is written leaves the others, where the store tells them
-others_stored : (told : Option Files) (file bytes : List ℕ) → OthersStay told file (stored told file bytes)
+pub others_stored : (told : Option Files) (file bytes : List ℕ) → OthersStay told file (stored told file bytes)
 others_stored None file bytes = tt
 others_stored (Some files) file bytes = λ other differs. stored-others files file bytes other differs
-
--- where nothing is written the files stay, whatever may be written
-pub files_same : (out : Option (List ℕ)) (told : Option Files) → FilesStay out told told
-files_same None told = refl
-files_same (Some file) told = others_same told file
 
 -- what is made is written where the words say
 made-output : (input file : List ℕ) (made_of : Result (List ℕ) (List ℕ)) (output : Output) → (made input file made_of).output ≡ Some output → Some file ≡ Some output.file
@@ -111,32 +102,32 @@ told-output file (Ok text) output e = cc
 told-output file (Err text) output e = cc
 
 -- a run of a system writes no file
-ran-output : (ticks : ℕ) (system : System) (inputs : List (List ℕ)) (output : Output) → (ran ticks system inputs).output ≡ Some output → ⊥
+ran-output : (ticks : ℕ) (cores : List PartFile) (system : System) (inputs : List (List ℕ)) (output : Output) → (ran ticks cores system inputs).output ≡ Some output → ⊥
 unfolding ran
-ran-output ticks system inputs output e = cc
+ran-output ticks cores system inputs output e = cc
 
 -- a run of an image writes no file
 bare-output : (file : List ℕ) (ticks : ℕ) (image : List ℕ) (output : Output) → (bare_outcome file ticks image).output ≡ Some output → ⊥
 unfolding bare_outcome
 bare-output file ticks image output e = at ((length image == 0) || nat_lt IMAGE_BYTES (length image)) e
   where
-    at : (t : Bool) → (if t then refused file (length_text (length image)) else ran ticks (bare_system image) (no_inputs 1)).output ≡ Some output → ⊥
+    at : (t : Bool) → (if t then refused file (length_text (length image)) else ran ticks [] (bare_system image) (no_inputs 1)).output ≡ Some output → ⊥
     at true e = cc
-    at false e = ran-output ticks (bare_system image) (no_inputs 1) output e
+    at false e = ran-output ticks [] (bare_system image) (no_inputs 1) output e
 
 -- a run that may be too long writes no file
-within-output : (file : List ℕ) (asked : ℕ) (system : System) (inputs : List (List ℕ)) (output : Output) → (ran_within file asked system inputs).output ≡ Some output → ⊥
+within-output : (file : List ℕ) (asked : ℕ) (cores : List PartFile) (system : System) (inputs : List (List ℕ)) (output : Output) → (ran_within file asked cores system inputs).output ≡ Some output → ⊥
 unfolding ran_within
-within-output file asked system inputs output e = at (nat_lt TICKS asked) e
+within-output file asked cores system inputs output e = at (nat_lt TICKS asked) e
   where
-    at : (t : Bool) → (if t then refused file (ticks_text asked) else ran asked system inputs).output ≡ Some output → ⊥
+    at : (t : Bool) → (if t then refused file (ticks_text asked) else ran asked cores system inputs).output ≡ Some output → ⊥
     at true e = cc
-    at false e = ran-output asked system inputs output e
+    at false e = ran-output asked cores system inputs output e
 
 -- a run whose inputs may be refused writes no file
-with-output : (file : List ℕ) (asked : ℕ) (system : System) (read : Result (List (List ℕ)) Denial) (output : Output) → (ran_with file asked system read).output ≡ Some output → ⊥
-with-output file asked system (Ok inputs) output e = within-output file asked system inputs output e
-with-output file asked system (Err refusal) output e = cc
+with-output : (file : List ℕ) (asked : ℕ) (cores : List PartFile) (system : System) (read : Result (List (List ℕ)) Denial) (output : Output) → (ran_with file asked cores system read).output ≡ Some output → ⊥
+with-output file asked cores system (Ok inputs) output e = within-output file asked cores system inputs output e
+with-output file asked cores system (Err refusal) output e = cc
 
 -- a run of a container writes no file
 run-output : (file : List ℕ) (options : List RunOption) (bytes : List ℕ) (contents : List (List ℕ)) (output : Output) → (run_outcome file options bytes contents).output ≡ Some output → ⊥
@@ -144,7 +135,7 @@ unfolding run_outcome
 run-output file options bytes contents output e = at (unpacked bytes) e
   where
     at : (read : Result System BoxFault) → (run_by file options contents read).output ≡ Some output → ⊥
-    at (Ok system) e = with-output file _ system _ output e
+    at (Ok system) e = with-output file _ (cores_in options) system _ output e
     at (Err fault) e = cc
 
 -- a file that is too long is refused
@@ -166,6 +157,8 @@ output-named command contents output is = at command (first_long (inputs_of comm
     at (Pack configuration out images) None e = packed-output out (container_of configuration (content 0 contents) images (drop 1 contents)) output e
     at (ListContainer container) None e = absurd (told-output container (container_lines_of (content 0 contents)) output e)
     at (CheckContainer container) None e = absurd (told-output container (container_verdict_of (content 0 contents)) output e)
+    at (MakePlan description) None e = absurd (told-output description (plan_lines_of (content 0 contents)) output e)
+    at (CheckPlan description) None e = absurd (told-output description (verdicts_of (content 0 contents)) output e)
     at (Run container options) None e = absurd (run-output container options (content 0 contents) (drop 1 contents) output e)
 
 -- a refusal is the one that is told
@@ -188,32 +181,32 @@ told-denied file (Ok text) denial e = absurd (cc)
 told-denied file (Err text) denial e = same_refusal _ denial e
 
 -- a run of a system is not refused
-ran-denied : (ticks : ℕ) (system : System) (inputs : List (List ℕ)) (denial : Denial) → (ran ticks system inputs).denial ≡ Some denial → ⊥
+ran-denied : (ticks : ℕ) (cores : List PartFile) (system : System) (inputs : List (List ℕ)) (denial : Denial) → (ran ticks cores system inputs).denial ≡ Some denial → ⊥
 unfolding ran
-ran-denied ticks system inputs denial e = cc
+ran-denied ticks cores system inputs denial e = cc
 
 -- a run of an image is refused so, or not at all
 bare-denied : (file : List ℕ) (ticks : ℕ) (image : List ℕ) (denial : Denial) → (bare_outcome file ticks image).denial ≡ Some denial → bare_outcome file ticks image ≡ refused_by denial
 unfolding bare_outcome
 bare-denied file ticks image denial e = at ((length image == 0) || nat_lt IMAGE_BYTES (length image)) e
   where
-    at : (t : Bool) → (if t then refused file (length_text (length image)) else ran ticks (bare_system image) (no_inputs 1)).denial ≡ Some denial → (if t then refused file (length_text (length image)) else ran ticks (bare_system image) (no_inputs 1)) ≡ refused_by denial
+    at : (t : Bool) → (if t then refused file (length_text (length image)) else ran ticks [] (bare_system image) (no_inputs 1)).denial ≡ Some denial → (if t then refused file (length_text (length image)) else ran ticks [] (bare_system image) (no_inputs 1)) ≡ refused_by denial
     at true e = same_refusal _ denial e
-    at false e = absurd (ran-denied ticks (bare_system image) (no_inputs 1) denial e)
+    at false e = absurd (ran-denied ticks [] (bare_system image) (no_inputs 1) denial e)
 
 -- and so is a run that may be too long
-within-denied : (file : List ℕ) (asked : ℕ) (system : System) (inputs : List (List ℕ)) (denial : Denial) → (ran_within file asked system inputs).denial ≡ Some denial → ran_within file asked system inputs ≡ refused_by denial
+within-denied : (file : List ℕ) (asked : ℕ) (cores : List PartFile) (system : System) (inputs : List (List ℕ)) (denial : Denial) → (ran_within file asked cores system inputs).denial ≡ Some denial → ran_within file asked cores system inputs ≡ refused_by denial
 unfolding ran_within
-within-denied file asked system inputs denial e = at (nat_lt TICKS asked) e
+within-denied file asked cores system inputs denial e = at (nat_lt TICKS asked) e
   where
-    at : (t : Bool) → (if t then refused file (ticks_text asked) else ran asked system inputs).denial ≡ Some denial → (if t then refused file (ticks_text asked) else ran asked system inputs) ≡ refused_by denial
+    at : (t : Bool) → (if t then refused file (ticks_text asked) else ran asked cores system inputs).denial ≡ Some denial → (if t then refused file (ticks_text asked) else ran asked cores system inputs) ≡ refused_by denial
     at true e = same_refusal _ denial e
-    at false e = absurd (ran-denied asked system inputs denial e)
+    at false e = absurd (ran-denied asked cores system inputs denial e)
 
 -- and a run whose inputs may be refused
-with-denied : (file : List ℕ) (asked : ℕ) (system : System) (read : Result (List (List ℕ)) Denial) (denial : Denial) → (ran_with file asked system read).denial ≡ Some denial → ran_with file asked system read ≡ refused_by denial
-with-denied file asked system (Ok inputs) denial e = within-denied file asked system inputs denial e
-with-denied file asked system (Err refusal) denial e = same_refusal refusal denial e
+with-denied : (file : List ℕ) (asked : ℕ) (cores : List PartFile) (system : System) (read : Result (List (List ℕ)) Denial) (denial : Denial) → (ran_with file asked cores system read).denial ≡ Some denial → ran_with file asked cores system read ≡ refused_by denial
+with-denied file asked cores system (Ok inputs) denial e = within-denied file asked cores system inputs denial e
+with-denied file asked cores system (Err refusal) denial e = same_refusal refusal denial e
 
 -- and a run of a container
 run-denied : (file : List ℕ) (options : List RunOption) (bytes : List ℕ) (contents : List (List ℕ)) (denial : Denial) → (run_outcome file options bytes contents).denial ≡ Some denial → run_outcome file options bytes contents ≡ refused_by denial
@@ -221,7 +214,7 @@ unfolding run_outcome
 run-denied file options bytes contents denial e = at (unpacked bytes) e
   where
     at : (read : Result System BoxFault) → (run_by file options contents read).denial ≡ Some denial → run_by file options contents read ≡ refused_by denial
-    at (Ok system) e = with-denied file _ system _ denial e
+    at (Ok system) e = with-denied file _ (cores_in options) system _ denial e
     at (Err fault) e = same_refusal _ denial e
 
 -- where there is no file, none is written
@@ -243,22 +236,9 @@ outcome-denied command contents denial is = at command (first_long (inputs_of co
     at (Pack configuration out images) None e = packed-denied out (container_of configuration (content 0 contents) images (drop 1 contents)) denial e
     at (ListContainer container) None e = told-denied container (container_lines_of (content 0 contents)) denial e
     at (CheckContainer container) None e = told-denied container (container_verdict_of (content 0 contents)) denial e
+    at (MakePlan description) None e = told-denied description (plan_lines_of (content 0 contents)) denial e
+    at (CheckPlan description) None e = told-denied description (verdicts_of (content 0 contents)) denial e
     at (Run container options) None e = run-denied container options (content 0 contents) (drop 1 contents) denial e
-
--- what a command writes leaves the other files
-pub wrote-stays : (out : Option (List ℕ)) (o : Option Output) (x : Outside) → ((output : Output) → o ≡ Some output → out ≡ Some output.file) → FilesStay out x.files (wrote o x).files
-wrote-stays out None x named = files_same out x.files
-wrote-stays out (Some output) x named =
-    subst (λ (f : Option (List ℕ)). FilesStay f x.files (stored x.files output.file output.bytes)) (sym (named output refl)) (others_stored x.files output.file output.bytes)
-
--- what a command writes is one call at most
-pub wrote-calls : (command : Command) (o : Option Output) (x : Outside) (n : ℕ) → ((output : Output) → o ≡ Some output → output_of command ≡ Some output.file) → x.calls ≡ counted_by (length (inputs_of command)) n → HasCalls command n (wrote o x).calls
-wrote-calls command None x n named calls = record { count = length (inputs_of command); few = omega arith; calls = calls }
-wrote-calls command (Some output) x n named calls = record {
-  count = suc (length (inputs_of command));
-  few = (let one : output_count (output_of command) ≡ 1 = ap output_count (named output refl) in omega arith);
-  calls = ap counted calls ∙ counted-counted_by (length (inputs_of command)) n;
-}
 
 -- What is read.
 

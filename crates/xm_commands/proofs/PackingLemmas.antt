@@ -6,7 +6,7 @@ use Rattle.xm_outside.specs.Files.{Files, ReadsFile}
 use Rattle.xm_container.specs.declared.image.Image.{Image as Given}
 use Rattle.xm_words.specs.Words.{PartFile, Pack}
 use Rattle.xm_commands.specs.Denial.{Denial}
-use Rattle.xm_commands.specs.Ending.{Ending, Finished, Misused, Unread, Denied, Unwritten, Unsaved, Starved}
+use Rattle.xm_commands.specs.Ending.{Ending, Finished, Misused, Unread, Denied, Unwritten, Unsaved, Unheard, Starved}
 use Rattle.xm_commands.specs.Outcome.{Outcome, content, first_long, outcome_of, packed_to, unless_long, worked}
 use Rattle.xm_commands.specs.Packing.{container_of, images_of, limited, names_of}
 use Rattle.xm_commands.specs.Work.{Outside, AreNotRead, Comes, IsNotRead, IsStarved, ReadsFiles, called, called_for}
@@ -71,6 +71,7 @@ not_more (Unread other) all rest contents file before now after had not_read =
 not_more (Denied other text) all rest contents file before now after had not_read = absurd not_read
 not_more Unwritten all rest contents file before now after had not_read = absurd not_read
 not_more (Unsaved other) all rest contents file before now after had not_read = absurd not_read
+not_more (Unheard place) all rest contents file before now after had not_read = absurd not_read
 not_more Starved all rest contents file before now after had not_read = record {
   first = had.first ++ file ∷ [];
   rest = rest;

@@ -1,16 +1,17 @@
 -- What the top call promises, from what the work did.
-use Rattle.std.proofs.Common.{◌≡◌, ◌≢◌, ℕ, suc, ◌+◌, ◌↔◌, inl, inr, ⊎_elim, List, [], length, Option, Some, None, Result, Ok, Err, refl, sym, ap, ◌∙◌, subst, arith, length-append}
-use Rattle.xm_outside.specs.Causes.{HasCause}
-use Rattle.xm_outside.specs.Files.{Files, IsAbsent}
+use Rattle.std.proofs.Common.{◌≡◌, ◌≢◌, ℕ, suc, ◌+◌, ◌↔◌, inl, inr, ⊎_elim, List, [], length, Option, Some, None, IsSome, Result, Ok, Err, refl, sym, ap, ◌∙◌, subst, arith, length-append}
+use Rattle.xm_outside.specs.Causes.{HasCause, Rose}
+use Rattle.xm_outside.specs.Files.{Files, IsAbsent, OthersStay}
 use Rattle.xm_outside.specs.Growth.{grown, grown-nothing, GrewByPrefix, Writes}
 use Rattle.xm_words.specs.Words.{Command, command_of}
-use Rattle.xm_commands.specs.Answer.{Answer, answer, answer_of, answer_to, answer_to_read, ending_by, read_all, saved}
-use Rattle.xm_commands.specs.Ending.{Ending, Finished, Misused, Unread, Denied, Unwritten, Unsaved, Starved, complaint, status_of}
+use Rattle.xm_commands.specs.Answer.{Answer, answer, answer_of, answer_to, answer_to_read, ending_by, read_all, saved, saved_all}
+use Rattle.xm_commands.specs.Ending.{Ending, Finished, Misused, Unread, Denied, Unwritten, Unsaved, Unheard, Starved, complaint, status_of}
 use Rattle.xm_commands.specs.Denial.{Denial}
 use Rattle.xm_commands.specs.Outcome.{Output, Outcome, inputs_of, outcome_of, output_of}
-use Rattle.xm_commands.specs.Top.{Answers, AreContents, FilesStay, HasCalls, HasCauses, HasNoFault, IsFaultless, IsQuiet, IsReadCause, IsRefusal, IsSaid, IsWriteCause, OtherFilesStay, counted_by}
-use Rattle.xm_commands.specs.Work.{Outside, IsCarriedOut, IsDone, IsMisuse, IsUnread, IsWorked, ReadsFiles, called, called_for, wrote}
-use Rattle.xm_commands.proofs.OutsideLemmas.{called_for-is, counted-counted_by, files_same, outcome-denied, output-named, read_all-absent, told_outcome, wrote-calls, wrote-faults, wrote-files, wrote-got, wrote-read_faults, wrote-stays, wrote-write_faults}
+use Rattle.xm_commands.specs.Top.{Answers, AreContents, FilesStay, HasCalls, HasCauses, HasNoFault, IsFaultless, IsLost, IsLostAfter, IsQuiet, IsReadCause, IsRefusal, IsSaid, IsWriteCause, OtherFilesStay, counted_by, writes_of}
+use Rattle.xm_commands.specs.Work.{Outside, IsCarriedOut, IsDone, IsLostOf, IsMisuse, IsUnread, IsWorked, ReadsFiles, called, called_for, did, file_in, told_all, wrote, wrote_all}
+use Rattle.xm_commands.proofs.OutsideLemmas.{called_for-is, counted-counted_by, outcome-denied, output-named, read_all-absent, told_outcome, wrote-got}
+use Rattle.xm_commands.proofs.WrittenLemmas.{did-faults, did-files, did-got, did-read_faults, did-write_faults, did_calls, did_stays, files_same, lost_count, lost_rose, lost_stays, never_lost, told_calls, told_stays, wrote-from, wrote_all-from, wrote_all-got}
 use Rattle.xm_commands.specs.declared.status.Status.{Status}
 use Rattle.xm_commands.specs.declared.status.Status.TheVariants.{Done, Refused, Usage, ReadFault, WriteFault, UartFault, NoMemory}
 
@@ -28,18 +29,10 @@ usage_exactly Unwritten None before after w = absurd w
 usage_exactly Unwritten (Some command) before after w = (λ h. cc, λ h. cc)
 usage_exactly (Unsaved file) None before after w = absurd w
 usage_exactly (Unsaved file) (Some command) before after w = (λ h. cc, λ h. cc)
+usage_exactly (Unheard place) None before after w = absurd w
+usage_exactly (Unheard place) (Some command) before after w = (λ h. cc, λ h. cc)
 usage_exactly Starved None before after w = absurd w
 usage_exactly Starved (Some command) before after w = (λ h. cc, λ h. cc)
-
--- no ending is a fault of a UART
-pub no_uart_fault : (e : Ending) → status_of e ≡ UartFault → ⊥
-no_uart_fault Finished h = cc
-no_uart_fault Misused h = cc
-no_uart_fault (Unread file) h = cc
-no_uart_fault (Denied file text) h = cc
-no_uart_fault Unwritten h = cc
-no_uart_fault (Unsaved file) h = cc
-no_uart_fault Starved h = cc
 
 -- What stays.
 
@@ -51,58 +44,59 @@ misused (Unread file) before after w = absurd w
 misused (Denied file text) before after w = absurd w
 misused Unwritten before after w = absurd w
 misused (Unsaved file) before after w = absurd w
+misused (Unheard place) before after w = absurd w
 misused Starved before after w = absurd w
 
 -- the calls for files change no file
 called_for-files : (files : List (List ℕ)) (x : Outside) → (called_for files x).files ≡ x.files
 called_for-files files x = ap (λ (y : Outside). y.files) (called_for-is files x)
 
--- what a command writes leaves the other files
-wrote_stays : (command : Command) (contents : List (List ℕ)) (before : Outside) → FilesStay (output_of command) before.files (wrote (outcome_of command contents).output (called_for (inputs_of command) before)).files
-wrote_stays command contents before =
-    let told = called_for-files (inputs_of command) before in
-    subst (λ (f : Option Files). FilesStay (output_of command) f (wrote (outcome_of command contents).output (called_for (inputs_of command) before)).files) told
-    (wrote-stays (output_of command) (outcome_of command contents).output (called_for (inputs_of command) before) (output-named command contents))
+-- the files stay as they do after the calls for those that are read
+stays_from : (command : Command) (before : Outside) (now : Option Files) → FilesStay (writes_of command) (called_for (inputs_of command) before).files now → FilesStay (writes_of command) before.files now
+stays_from command before now stays = subst (λ (f : Option Files). FilesStay (writes_of command) f now) (called_for-files (inputs_of command) before) stays
 
--- every file but the one that the words name to be written is as before
+-- every file but those that the words name to be written is as before
 pub files_stay : (e : Ending) (command : Option Command) (before after : Outside) → IsWorked e command before after → OtherFilesStay command before.files after.files
 files_stay e None before after w = ap (λ (x : Outside). x.files) (misused e before after w)
 files_stay e (Some command) before after w = done e w
   where
-    as_before : after.files ≡ before.files → FilesStay (output_of command) before.files after.files
-    as_before same = subst (λ (f : Option Files). FilesStay (output_of command) before.files f) (sym same) (files_same (output_of command) before.files)
+    as_before : after.files ≡ before.files → FilesStay (writes_of command) before.files after.files
+    as_before same = subst (λ (f : Option Files). FilesStay (writes_of command) before.files f) (sym same) (files_same (writes_of command) before.files)
 
-    carried : (d : Option Denial) → IsCarriedOut d command before after → FilesStay (output_of command) before.files after.files
-    carried d w = subst (λ (f : Option Files). FilesStay (output_of command) before.files f) (sym (ap (λ (x : Outside). x.files) w.outside)) (wrote_stays command w.contents before)
+    from_read : (now : Outside) → after.files ≡ now.files → FilesStay (writes_of command) (called_for (inputs_of command) before).files now.files → FilesStay (writes_of command) before.files after.files
+    from_read now same stays = subst (λ (f : Option Files). FilesStay (writes_of command) before.files f) (sym same) (stays_from command before now.files stays)
 
-    done : (e : Ending) → IsDone e command before after → FilesStay (output_of command) before.files after.files
+    carried : (d : Option Denial) → IsCarriedOut d command before after → FilesStay (writes_of command) before.files after.files
+    carried d w = from_read (did (outcome_of command w.contents) (called_for (inputs_of command) before)) (ap (λ (x : Outside). x.files) w.outside) (did_stays command w.contents (called_for (inputs_of command) before))
+
+    done : (e : Ending) → IsDone e command before after → FilesStay (writes_of command) before.files after.files
     done Finished w = carried None w
     done Misused w = absurd w
     done (Unread file) w = as_before (ap (λ (x : Outside). x.files) w.outside ∙ called_for-files w.first before)
     done (Denied file text) w = carried _ w
-    done Unwritten w = subst (λ (f : Option Files). FilesStay (output_of command) before.files f) (sym (ap (λ (x : Outside). x.files) w.outside)) (wrote_stays command w.contents before)
-    done (Unsaved file) w =
-        let named : output_of command ≡ Some file = output-named command w.contents w.output w.made ∙ ap Some (sym w.named) in
-        subst (λ (o : Option (List ℕ)). FilesStay o before.files after.files) (sym named) w.others
+    done Unwritten w =
+        from_read (told_all (outcome_of command w.contents) (called_for (inputs_of command) before)) (ap (λ (x : Outside). x.files) w.outside) (told_stays command w.contents (called_for (inputs_of command) before))
+    done (Unsaved file) w = stays_from command before after.files (lost_stays command w.contents file (called_for (inputs_of command) before) after w.lost)
+    done (Unheard place) w = carried None w.carried
     done Starved w = as_before (ap (λ (x : Outside). x.files) w.outside ∙ called_for-files w.first before)
 
 -- a command that is refused leaves the files
 denied-files : (file text : List ℕ) (command : Command) (before after : Outside) → IsCarriedOut (Some (record { file = file; text = text })) command before after → after.files ≡ before.files
 denied-files file text command before after w =
     ap (λ (x : Outside). x.files) w.outside
-    ∙ ap (λ (o : Outcome). (wrote o.output (called_for (inputs_of command) before)).files) (outcome-denied command w.contents _ w.denied)
+    ∙ ap (λ (o : Outcome). (did o (called_for (inputs_of command) before)).files) (outcome-denied command w.contents _ w.denied)
     ∙ called_for-files (inputs_of command) before
 
 -- a command that is refused leaves the report
 denied-report : (file text : List ℕ) (command : Command) (before after : Outside) → IsCarriedOut (Some (record { file = file; text = text })) command before after → after.got ≡ before.got
 denied-report file text command before after w =
     ap (λ (x : Outside). x.got) w.outside
-    ∙ ap (λ (o : Outcome). grown (wrote o.output (called_for (inputs_of command) before)).got o.report) (outcome-denied command w.contents _ w.denied)
+    ∙ ap (λ (o : Outcome). (did o (called_for (inputs_of command) before)).got) (outcome-denied command w.contents _ w.denied)
     ∙ grown-nothing (called_for (inputs_of command) before).got
     ∙ ap (λ (x : Outside). x.got) (called_for-is (inputs_of command) before)
 
 -- a status that is none of the quiet ones is not quiet
-loud : (status : Status) → status ≢ Refused → status ≢ Usage → status ≢ ReadFault → status ≢ NoMemory → IsQuiet status → ⊥
+pub loud : (status : Status) → status ≢ Refused → status ≢ Usage → status ≢ ReadFault → status ≢ NoMemory → IsQuiet status → ⊥
 loud status refused usage read memory q = ⊎_elim refused (λ r. ⊎_elim usage (λ r. ⊎_elim read memory r) r) q
 
 -- after these statuses no file was written
@@ -114,21 +108,23 @@ barren (Unread file) (Some command) before after w q = ap (λ (x : Outside). x.f
 barren (Denied file text) (Some command) before after w q = denied-files file text command before after w
 barren Unwritten (Some command) before after w q = absurd (loud WriteFault (λ h. cc) (λ h. cc) (λ h. cc) (λ h. cc) q)
 barren (Unsaved file) (Some command) before after w q = absurd (loud WriteFault (λ h. cc) (λ h. cc) (λ h. cc) (λ h. cc) q)
+barren (Unheard place) (Some command) before after w q = absurd (loud UartFault (λ h. cc) (λ h. cc) (λ h. cc) (λ h. cc) q)
 barren Starved (Some command) before after w q = ap (λ (x : Outside). x.files) w.outside ∙ called_for-files w.first before
 
--- the calls for files, and a file that is written, leave the count of failed writes
-carried_writes : (command : Command) (o : Option Output) (x : Outside) → (wrote o (called_for (inputs_of command) x)).write_faults ≡ x.write_faults
-carried_writes command o x = wrote-write_faults o _ ∙ ap (λ (y : Outside). y.write_faults) (called_for-is (inputs_of command) x)
+-- the calls for files, and all that is done, leave the count of failed writes
+carried_writes : (command : Command) (o : Outcome) (x : Outside) → (did o (called_for (inputs_of command) x)).write_faults ≡ x.write_faults
+carried_writes command o x = did-write_faults o _ ∙ ap (λ (y : Outside). y.write_faults) (called_for-is (inputs_of command) x)
 
 -- the count of failed writes stays, but after a fault of a write
 pub writes_stay : (e : Ending) (command : Option Command) (before after : Outside) → IsWorked e command before after → status_of e ≢ WriteFault → after.write_faults ≡ before.write_faults
 writes_stay e None before after w other = ap (λ (x : Outside). x.write_faults) (misused e before after w)
-writes_stay Finished (Some command) before after w other = ap (λ (x : Outside). x.write_faults) w.outside ∙ carried_writes command _ before
+writes_stay Finished (Some command) before after w other = ap (λ (x : Outside). x.write_faults) w.outside ∙ carried_writes command (outcome_of command w.contents) before
 writes_stay Misused (Some command) before after w other = absurd w
 writes_stay (Unread file) (Some command) before after w other = ap (λ (x : Outside). x.write_faults) w.outside ∙ ap (λ (y : Outside). y.write_faults) (called_for-is w.first before)
-writes_stay (Denied file text) (Some command) before after w other = ap (λ (x : Outside). x.write_faults) w.outside ∙ carried_writes command _ before
+writes_stay (Denied file text) (Some command) before after w other = ap (λ (x : Outside). x.write_faults) w.outside ∙ carried_writes command (outcome_of command w.contents) before
 writes_stay Unwritten (Some command) before after w other = absurd (other refl)
 writes_stay (Unsaved file) (Some command) before after w other = absurd (other refl)
+writes_stay (Unheard place) (Some command) before after w other = ap (λ (x : Outside). x.write_faults) w.carried.outside ∙ carried_writes command (outcome_of command w.carried.contents) before
 writes_stay Starved (Some command) before after w other = ap (λ (x : Outside). x.write_faults) w.outside ∙ ap (λ (y : Outside). y.write_faults) (called_for-is w.first before)
 
 -- Causes.
@@ -137,25 +133,24 @@ writes_stay Starved (Some command) before after w other = ap (λ (x : Outside). 
 all_calls : (command : Command) (before : Outside) → (called_for (inputs_of command) before).calls ≡ counted_by (length (inputs_of command)) before.calls
 all_calls command before = ap (λ (x : Outside). x.calls) (called_for-is (inputs_of command) before)
 
--- the calls of a command whose files were all read
-carried_calls : (command : Command) (contents : List (List ℕ)) (before : Outside) → HasCalls command before.calls (wrote (outcome_of command contents).output (called_for (inputs_of command) before)).calls
-carried_calls command contents before =
-    wrote-calls command (outcome_of command contents).output (called_for (inputs_of command) before) before.calls (output-named command contents) (all_calls command before)
-
 -- the calls of the store are as many as the words name files, at most
 calls_as_named : (e : Ending) (command : Command) (before after : Outside) → IsDone e command before after → HasCalls command before.calls after.calls
-calls_as_named Finished command before after w = subst (HasCalls command before.calls) (sym (ap (λ (x : Outside). x.calls) w.outside)) (carried_calls command w.contents before)
+calls_as_named Finished command before after w =
+    subst (HasCalls command before.calls) (sym (ap (λ (x : Outside). x.calls) w.outside)) (did_calls command w.contents before.calls (called_for (inputs_of command) before) (all_calls command before))
 calls_as_named Misused command before after w = absurd w
 calls_as_named (Unread file) command before after w = record {
   count = suc (length w.first);
   few = (let parts : length (inputs_of command) ≡ length w.first + suc (length w.rest) = ap length w.named ∙ length-append w.first _ in omega arith);
   calls = ap (λ (x : Outside). x.calls) w.outside ∙ ap (λ (x : Outside). (called x).calls) (called_for-is w.first before) ∙ counted-counted_by (length w.first) before.calls;
 }
-calls_as_named (Denied file text) command before after w = subst (HasCalls command before.calls) (sym (ap (λ (x : Outside). x.calls) w.outside)) (carried_calls command w.contents before)
-calls_as_named Unwritten command before after w = subst (HasCalls command before.calls) (sym (ap (λ (x : Outside). x.calls) w.outside)) (carried_calls command w.contents before)
-calls_as_named (Unsaved file) command before after w =
-    subst (HasCalls command before.calls) (sym (ap (λ (x : Outside). x.calls) w.outside))
-    (wrote-calls command (Some w.output) (called_for (inputs_of command) before) before.calls (λ output is. output-named command w.contents output (w.made ∙ is)) (all_calls command before))
+calls_as_named (Denied file text) command before after w =
+    subst (HasCalls command before.calls) (sym (ap (λ (x : Outside). x.calls) w.outside)) (did_calls command w.contents before.calls (called_for (inputs_of command) before) (all_calls command before))
+calls_as_named Unwritten command before after w =
+    subst (HasCalls command before.calls) (sym (ap (λ (x : Outside). x.calls) w.outside)) (told_calls command w.contents before.calls (called_for (inputs_of command) before) (all_calls command before))
+calls_as_named (Unsaved file) command before after w = lost_count command w.contents before.calls file (called_for (inputs_of command) before) after w.lost (all_calls command before)
+calls_as_named (Unheard place) command before after w =
+    subst (HasCalls command before.calls) (sym (ap (λ (x : Outside). x.calls) w.carried.outside))
+    (did_calls command w.carried.contents before.calls (called_for (inputs_of command) before) (all_calls command before))
 calls_as_named Starved command before after w = record {
   count = length w.first;
   few = (let parts : length (inputs_of command) ≡ length w.first + length w.rest = ap length w.named ∙ length-append w.first w.rest in omega arith);
@@ -171,6 +166,7 @@ read_cause (Unread file) command before after w h =
 read_cause (Denied file text) command before after w h = absurd (cc)
 read_cause Unwritten command before after w h = absurd (cc)
 read_cause (Unsaved file) command before after w h = absurd (cc)
+read_cause (Unheard place) command before after w h = absurd (cc)
 read_cause Starved command before after w h = absurd (cc)
 
 -- a refusal has its cause
@@ -189,7 +185,45 @@ refusal_cause (Denied file text) command before after w h =
     }
 refusal_cause Unwritten command before after w h = absurd (cc)
 refusal_cause (Unsaved file) command before after w h = absurd (cc)
+refusal_cause (Unheard place) command before after w h = absurd (cc)
 refusal_cause Starved command before after w h = absurd (cc)
+
+-- the file before the report was not written
+lost_first : (command : Command) (contents : List (List ℕ)) (file : List ℕ) (before after : Outside) → IsLostOf file (file_in (outcome_of command contents).output) (called_for (inputs_of command) before) after → IsLost command before after
+lost_first command contents file before after lost = record {
+  cause = subst (λ (n : ℕ). Rose n after.write_faults) (ap (λ (x : Outside). x.write_faults) (called_for-is (inputs_of command) before)) lost.cause;
+  output = at (outcome_of command contents).output (output-named command contents) lost;
+  report = ap (λ (x : Outside). x.got) lost.outside ∙ wrote_all-got lost.first (called_for (inputs_of command) before) ∙ ap (λ (x : Outside). x.got) (called_for-is (inputs_of command) before);
+}
+  where
+    at : (o : Option Output) → ((output : Output) → o ≡ Some output → output_of command ≡ Some output.file) → IsLostOf file (file_in o) (called_for (inputs_of command) before) after → IsSome (output_of command)
+    at None named lost = absurd (never_lost file [] _ after refl lost)
+    at (Some output) named lost = rw (named output refl) refl
+
+-- a file after the report was not written
+lost_later : (command : Command) (contents : List (List ℕ)) (file : List ℕ) (before after : Outside) → ReadsFiles before.files (inputs_of command) contents
+    → IsLostOf file (outcome_of command contents).later (told_all (outcome_of command contents) (called_for (inputs_of command) before)) after → IsLostAfter command before after
+lost_later command contents file before after read lost =
+    let told = told_outcome before.files command contents read in
+    let outcome = outcome_of command contents in
+    let read_from = called_for (inputs_of command) before in
+    let files : (told_all outcome read_from).files ≡ (told_all outcome before).files = wrote-from outcome.output read_from before (called_for-files (inputs_of command) before) in
+    let rose : Rose read_from.write_faults after.write_faults = lost_rose file outcome read_from after (inr lost) in
+    let got : (told_all outcome read_from).got ≡ (told_all outcome before).got =
+    ap (λ (g : Option (List ℕ)). grown g outcome.report) (wrote-got outcome.output read_from ∙ ap (λ (x : Outside). x.got) (called_for-is (inputs_of command) before) ∙ sym (wrote-got outcome.output before)) in
+    record {
+      cause = subst (λ (n : ℕ). Rose n after.write_faults) (ap (λ (x : Outside). x.write_faults) (called_for-is (inputs_of command) before)) rose;
+      contents = told.contents;
+      are = told.are;
+      first = lost.first;
+      output = lost.output;
+      rest = lost.rest;
+      split = ap (λ (o : Outcome). o.later) (sym told.outcome) ∙ lost.split;
+      report = ap (λ (x : Outside). x.got) lost.outside ∙ wrote_all-got lost.first (told_all outcome read_from) ∙ got ∙ ap (λ (o : Outcome). (told_all o before).got) told.outcome;
+      others = subst (λ (o : Outcome). OthersStay (wrote_all lost.first (told_all o before)).files lost.output.file after.files) told.outcome
+          (subst (λ (f : Option Files). OthersStay f lost.output.file after.files) (wrote_all-from lost.first (told_all outcome read_from) (told_all outcome before) files)
+          (subst (λ (name : List ℕ). OthersStay (wrote_all lost.first (told_all outcome read_from)).files name after.files) lost.named lost.others));
+    }
 
 -- a fault of a write has its cause
 write_cause : (e : Ending) (command : Command) (before after : Outside) → IsDone e command before after → status_of e ≡ WriteFault → IsWriteCause (Some command) before after
@@ -199,12 +233,20 @@ write_cause (Unread file) command before after w h = absurd (cc)
 write_cause (Denied file text) command before after w h = absurd (cc)
 write_cause Unwritten command before after w h =
     let told = told_outcome before.files command w.contents w.read in
-    inl (record { cause = w.cause; contents = told.contents; are = told.are; front = subst (λ (o : Outcome). GrewByPrefix before.got o.report after.got) told.outcome w.front })
-write_cause (Unsaved file) command before after w h = inr (record {
-  cause = w.cause;
-  output = rw (output-named command w.contents w.output w.made) refl;
-  report = ap (λ (x : Outside). x.got) w.outside ∙ ap (λ (x : Outside). x.got) (called_for-is (inputs_of command) before);
-})
+    inl (record {
+      cause = w.cause;
+      contents = told.contents;
+      are = told.are;
+      front = subst (λ (o : Outcome). GrewByPrefix before.got o.report after.got) told.outcome w.front;
+      files = ap (λ (x : Outside). x.files) w.outside
+          ∙ wrote-from (outcome_of command w.contents).output (called_for (inputs_of command) before) before (called_for-files (inputs_of command) before)
+          ∙ ap (λ (o : Outcome). (wrote o.output before).files) told.outcome;
+    })
+write_cause (Unsaved file) command before after w h = inr (⊎_elim
+    (λ first. inl (lost_first command w.contents file before after first))
+    (λ later. inr (lost_later command w.contents file before after w.read later))
+    w.lost)
+write_cause (Unheard place) command before after w h = absurd (cc)
 write_cause Starved command before after w h = absurd (cc)
 
 -- a call that is done has finished
@@ -215,7 +257,19 @@ done_is_finished (Unread file) h = absurd (cc)
 done_is_finished (Denied file text) h = absurd (cc)
 done_is_finished Unwritten h = absurd (cc)
 done_is_finished (Unsaved file) h = absurd (cc)
+done_is_finished (Unheard place) h = absurd (cc)
 done_is_finished Starved h = absurd (cc)
+
+-- a call with a fault of a UART was carried out
+pub unheard_finished : (e : Ending) (command : Command) (before after : Outside) → status_of e ≡ UartFault → IsDone e command before after → IsDone Finished command before after
+unheard_finished Finished command before after h w = absurd (cc)
+unheard_finished Misused command before after h w = absurd w
+unheard_finished (Unread file) command before after h w = absurd (cc)
+unheard_finished (Denied file text) command before after h w = absurd (cc)
+unheard_finished Unwritten command before after h w = absurd (cc)
+unheard_finished (Unsaved file) command before after h w = absurd (cc)
+unheard_finished (Unheard place) command before after h w = w.carried
+unheard_finished Starved command before after h w = absurd (cc)
 
 -- each status has its cause
 pub has_causes : (e : Ending) (command : Option Command) (before after : Outside) → IsWorked e command before after → HasCauses (status_of e) command before after
@@ -225,26 +279,29 @@ has_causes Misused None before after w = record {
   refused = λ h. absurd (cc);
   write_fault = λ h. absurd (cc);
   done = λ h. absurd (cc);
+  uart_fault = λ h. absurd (cc);
   calls = ap (λ (x : Outside). x.calls) w;
 }
 has_causes (Unread file) None before after w = absurd w
 has_causes (Denied file text) None before after w = absurd w
 has_causes Unwritten None before after w = absurd w
 has_causes (Unsaved file) None before after w = absurd w
+has_causes (Unheard place) None before after w = absurd w
 has_causes Starved None before after w = absurd w
 has_causes e (Some command) before after w = record {
   read_fault = read_cause e command before after w;
   refused = refusal_cause e command before after w;
   write_fault = write_cause e command before after w;
   done = λ h. faultless (subst (λ (e : Ending). IsDone e command before after) (done_is_finished e h) w);
+  uart_fault = λ h. faultless (unheard_finished e command before after h w);
   calls = calls_as_named e command before after w;
 }
   where
     faultless : IsDone Finished command before after → IsFaultless before after
     faultless w = record {
-      reads = ap (λ (x : Outside). x.read_faults) w.outside ∙ wrote-read_faults _ _ ∙ ap (λ (x : Outside). x.read_faults) (called_for-is (inputs_of command) before);
-      writes = ap (λ (x : Outside). x.write_faults) w.outside ∙ carried_writes command _ before;
-      report = ap (λ (x : Outside). x.faults) w.outside ∙ wrote-faults _ _ ∙ ap (λ (x : Outside). x.faults) (called_for-is (inputs_of command) before);
+      reads = ap (λ (x : Outside). x.read_faults) w.outside ∙ did-read_faults (outcome_of command w.contents) (called_for (inputs_of command) before) ∙ ap (λ (x : Outside). x.read_faults) (called_for-is (inputs_of command) before);
+      writes = ap (λ (x : Outside). x.write_faults) w.outside ∙ carried_writes command (outcome_of command w.contents) before;
+      report = ap (λ (x : Outside). x.faults) w.outside ∙ did-faults (outcome_of command w.contents) (called_for (inputs_of command) before) ∙ ap (λ (x : Outside). x.faults) (called_for-is (inputs_of command) before);
     }
 
 -- after these statuses the report has got nothing
@@ -256,6 +313,7 @@ quiet (Unread file) (Some command) before after w q = ap (λ (x : Outside). x.go
 quiet (Denied file text) (Some command) before after w q = denied-report file text command before after w
 quiet Unwritten (Some command) before after w q = absurd (loud WriteFault (λ h. cc) (λ h. cc) (λ h. cc) (λ h. cc) q)
 quiet (Unsaved file) (Some command) before after w q = absurd (loud WriteFault (λ h. cc) (λ h. cc) (λ h. cc) (λ h. cc) q)
+quiet (Unheard place) (Some command) before after w q = absurd (loud UartFault (λ h. cc) (λ h. cc) (λ h. cc) (λ h. cc) q)
 quiet Starved (Some command) before after w q = ap (λ (x : Outside). x.got) w.outside ∙ ap (λ (x : Outside). x.got) (called_for-is w.first before)
 
 -- a line goes out, or a front of it
@@ -283,16 +341,17 @@ carried_answer e denial command before after files w told ends =
     let here : (called_for (inputs_of command) before).files ≡ Some files = called_for-files (inputs_of command) before ∙ told in
     record {
       out = outcome.report;
-      kept = saved outcome.output files;
+      kept = saved_all outcome.later (saved outcome.output files);
       answer = ap (λ (r : Result (List (List ℕ)) (List ℕ)). answer_to_read command r files) are
-          ∙ ap (λ (d : Option Denial). answer_of (ending_by d) outcome.report (saved outcome.output files)) denied
-          ∙ ap (λ (e : Ending). answer_of e outcome.report (saved outcome.output files)) ends;
+          ∙ ap (λ (d : Option Denial). answer_of (ending_by d) outcome.report (saved_all outcome.later (saved outcome.output files))) denied
+          ∙ ap (λ (e : Ending). answer_of e outcome.report (saved_all outcome.later (saved outcome.output files))) ends;
       report = ap (λ (x : Outside). x.got) w.outside
-          ∙ ap (λ (g : Option (List ℕ)). grown g (outcome_of command w.contents).report) (wrote-got _ _ ∙ ap (λ (x : Outside). x.got) (called_for-is (inputs_of command) before))
+          ∙ did-got (outcome_of command w.contents) (called_for (inputs_of command) before)
+          ∙ ap (λ (g : Option (List ℕ)). grown g (outcome_of command w.contents).report) (ap (λ (x : Outside). x.got) (called_for-is (inputs_of command) before))
           ∙ ap (λ (o : Outcome). grown before.got o.report) is.outcome;
       files_are = ap (λ (x : Outside). x.files) w.outside
-          ∙ wrote-files (outcome_of command w.contents).output (called_for (inputs_of command) before) files here
-          ∙ ap (λ (o : Outcome). Some (saved o.output files)) is.outcome;
+          ∙ did-files (outcome_of command w.contents) (called_for (inputs_of command) before) files here
+          ∙ ap (λ (o : Outcome). Some (saved_all o.later (saved o.output files))) is.outcome;
     }
 
 -- a file that was not read is the first that is not there
@@ -309,8 +368,30 @@ unread_answer file command before after files w told none =
       files_are = ap (λ (x : Outside). x.files) w.outside ∙ called_for-files w.first before ∙ told;
     }
 
+-- an ending, in a world in which no UART fails
+abbrev pub heard : Ending → Ending
+heard Finished = Finished
+heard Misused = Misused
+heard (Unread file) = Unread file
+heard (Denied file text) = Denied file text
+heard Unwritten = Unwritten
+heard (Unsaved file) = Unsaved file
+heard (Unheard place) = Finished
+heard Starved = Starved
+
+-- where none failed, it is the ending
+heard_same : (e : Ending) → status_of e ≢ UartFault → heard e ≡ e
+heard_same Finished other = refl
+heard_same Misused other = refl
+heard_same (Unread file) other = refl
+heard_same (Denied file text) other = refl
+heard_same Unwritten other = refl
+heard_same (Unsaved file) other = refl
+heard_same (Unheard place) other = absurd (other refl)
+heard_same Starved other = refl
+
 -- in a world without faults the answer is that of the definition
-answer_is : (e : Ending) (command : Option Command) (before after : Outside) (files : Files) → IsWorked e command before after → before.files ≡ Some files → HasNoFault before after → status_of e ≢ NoMemory → IsAnswer e command before after files
+answer_is : (e : Ending) (command : Option Command) (before after : Outside) (files : Files) → IsWorked e command before after → before.files ≡ Some files → HasNoFault before after → status_of e ≢ NoMemory → IsAnswer (heard e) command before after files
 answer_is Misused None before after files w told none memory = record {
   out = [];
   kept = files;
@@ -323,13 +404,17 @@ answer_is (Unread file) None before after files w told none memory = absurd w
 answer_is (Denied file text) None before after files w told none memory = absurd w
 answer_is Unwritten None before after files w told none memory = absurd w
 answer_is (Unsaved file) None before after files w told none memory = absurd w
+answer_is (Unheard place) None before after files w told none memory = absurd w
 answer_is Starved None before after files w told none memory = absurd w
 answer_is Finished (Some command) before after files w told none memory = carried_answer Finished None command before after files w told refl
 answer_is Misused (Some command) before after files w told none memory = absurd w
 answer_is (Unread file) (Some command) before after files w told none memory = unread_answer file command before after files w told none
 answer_is (Denied file text) (Some command) before after files w told none memory = carried_answer (Denied file text) _ command before after files w told refl
 answer_is Unwritten (Some command) before after files w told none memory = absurd (none.report w.cause)
-answer_is (Unsaved file) (Some command) before after files w told none memory = absurd (none.writes w.cause)
+answer_is (Unsaved file) (Some command) before after files w told none memory =
+    let rose = lost_rose file (outcome_of command w.contents) (called_for (inputs_of command) before) after w.lost in
+    absurd (none.writes (subst (λ (n : ℕ). Rose n after.write_faults) (ap (λ (x : Outside). x.write_faults) (called_for-is (inputs_of command) before)) rose))
+answer_is (Unheard place) (Some command) before after files w told none memory = carried_answer Finished None command before after files w.carried told refl
 answer_is Starved (Some command) before after files w told none memory = absurd (memory refl)
 
 -- the answer of words is that of their command
@@ -340,16 +425,18 @@ answer-command words files = refl
 -- in a world without faults the answer is that of the definition
 pub answers : (e : Ending) (words : List (List ℕ)) (before after : Outside) (had : Option (List ℕ)) (faults : ℕ) (got : Option (List ℕ)) (faults_after : ℕ) → IsWorked e (command_of words) before after → IsSaid (complaint e) had faults got faults_after → Answers (status_of e) words before after had faults got faults_after
 answers e words before after had faults got faults_after w line = record {
-  answered = λ files told none memory.
+  answered = λ files told none memory well.
       let is = answer_is e (command_of words) before after files w told none memory in
-      sym (ap (λ (a : Answer). a.status) (answer-command words files ∙ is.answer));
+      sym (ap (λ (a : Answer). a.status) (answer-command words files ∙ is.answer) ∙ ap status_of (heard_same e well));
   report = λ files told none memory.
       let is = answer_is e (command_of words) before after files w told none memory in
       is.report ∙ sym (ap (λ (a : Answer). grown before.got a.out) (answer-command words files ∙ is.answer));
   files = λ files told none memory.
       let is = answer_is e (command_of words) before after files w told none memory in
       is.files_are ∙ sym (ap (λ (a : Answer). Some a.files) (answer-command words files ∙ is.answer));
-  error = λ files told none memory still.
+  error = λ files told none memory well still.
       let is = answer_is e (command_of words) before after files w told none memory in
-      ⊎_elim (λ whole. whole.0 ∙ sym (ap (λ (a : Answer). grown had a.err) (answer-command words files ∙ is.answer))) (λ cut. absurd (still cut.1)) line;
+      ⊎_elim
+      (λ whole. whole.0 ∙ ap (λ (x : Ending). grown had (complaint x)) (sym (heard_same e well)) ∙ sym (ap (λ (a : Answer). grown had a.err) (answer-command words files ∙ is.answer)))
+      (λ cut. absurd (still cut.1)) line;
 }

@@ -1,11 +1,11 @@
 -- What the work of a command comes to.
-use Rattle.std.proofs.Common.{◌≡◌, ℕ, ◌<◌, ◌≤◌, ◌⊎◌, ⊎_elim, true, false, ◌||◌, nat_lt, nat_eq, List, [], ◌∷◌, length, codes, Option, Some, None, Result, Ok, Err, refl, sym, ap, ◌∙◌, subst, arith}
+use Rattle.std.proofs.Common.{◌≡◌, ℕ, ◌<◌, ◌≤◌, ◌⊎◌, inr, ⊎_elim, true, false, ◌||◌, nat_lt, nat_eq, List, [], ◌∷◌, length, codes, Option, Some, None, Result, Ok, Err, refl, sym, ap, ◌∙◌, subst, arith}
 use Rattle.std.specs.String.{string_bytes}
 use Rattle.std.proofs.lemmas.Bool.Decides.{nat_tests}
 use Rattle.std.proofs.lemmas.List.{append-nil}
 use Rattle.xm_base.specs.declared.limits.TheConstants.{FILE_BYTES, IMAGE_BYTES}
 use Rattle.xm_outside.specs.Causes.{Rose}
-use Rattle.xm_outside.specs.Files.{Files, OthersStay, ReadsFile}
+use Rattle.xm_outside.specs.Files.{Files, ReadsFile}
 use Rattle.xm_outside.specs.Growth.{grown, grown-nothing, GrewByPrefix}
 use Rattle.xm_conf.specs.Configuration.{Conf}
 use Rattle.xm_conf.specs.Description.{described}
@@ -18,19 +18,21 @@ use Rattle.machine_model.specs.View.{System as Booted}
 use Rattle.loaded_system.specs.Bare.{IsImageLength, bare_system}
 use Rattle.loaded_system.specs.System.{System}
 use Rattle.xm_machine.specs.declared.run.Ran.{Ran}
+use Rattle.uart_board.specs.Views.{BoardView}
 use Rattle.xm_report.specs.Report.{ReportLine, texts}
 use Rattle.xm_report.specs.declared.output.WriteFault.{WriteFault}
 use Rattle.xm_container.specs.Reading.{unpacked}
 use Rattle.xm_container.specs.Texts.{box_fault_text}
 use Rattle.xm_container.specs.declared.fault.BoxFault.{BoxFault}
-use Rattle.xm_words.specs.Words.{Command, RunOption, Bare, Parse, Run, command_of, inputs_in, span_in}
+use Rattle.xm_words.specs.Words.{Command, PartFile, RunOption, Bare, Parse, Run, command_of, cores_in, span_in}
 use Rattle.xm_words.specs.RunLemmas.{span_within}
 use Rattle.xm_words.specs.Grammar.{CommandsAreSpelled}
 use Rattle.xm_words.specs.Seen.{seen, seen_options}
 use Rattle.xm_words.specs.declared.commands.Command as code
 use Rattle.xm_words.specs.declared.commands.Command.TheVariants as variant
-use Rattle.xm_commands.specs.Ending.{Ending, Finished, Misused, Unread, Denied, Unwritten, Unsaved, Starved, length_text}
-use Rattle.xm_commands.specs.Outcome.{Outcome, bare_outcome, first_long, inputs_of, made, outcome_of, output_of, ran, ran_with, refused, run_by, run_outcome, ticks_asked, told, unless_long, worked}
+use Rattle.xm_commands.specs.Boards.{EndsRun}
+use Rattle.xm_commands.specs.Ending.{Ending, Finished, Misused, Unread, Denied, Unwritten, Unsaved, Unheard, Starved, length_text}
+use Rattle.xm_commands.specs.Outcome.{Output, Outcome, bare_outcome, core_outputs, first_long, inputs_of, made, outcome_of, output_of, ran, ran_with, refused, run_by, run_outcome, ticks_asked, told, unless_long, worked}
 use Rattle.xm_commands.specs.Inputs.{inputs_for, no_inputs}
 use Rattle.xm_commands.specs.Parsing.{xmc_of}
 use Rattle.xm_commands.specs.Makes.{IsUnmade, IsUnmadeOf}
@@ -38,7 +40,7 @@ use Rattle.xm_commands.specs.Told.{HasTicks}
 use Rattle.xm_commands.specs.declared.unmade.Unmade.{Unmade}
 use Rattle.xm_commands.specs.declared.unmade.Unmade.TheVariants as unmade
 use Rattle.xm_commands.proofs.OutsideLemmas.{called_for-is, no_output, output-named}
-use Rattle.xm_commands.specs.Work.{Outside, AreNotRead, Comes, IsDone, IsNotRead, ReadsFiles, Reports, called, called_for, outside}
+use Rattle.xm_commands.specs.Work.{Outside, AreNotRead, AreNotSaved, Comes, IsDone, IsNotRead, ReadsFiles, Reports, SavesAll, called, called_for, outside, told_all}
 
 -- Runs.
 
@@ -57,15 +59,62 @@ reports_same : (system : Booted) (ticks : ℕ) → report_of (start system) tick
 unfolding report_of report start
 reports_same system ticks = refl
 
--- a run that reached its end
-pub finished : (r : Ran) (system : System) (inputs : List (List ℕ)) (ticks : ℕ) (new : Machine) (had got : Option (List ℕ)) → IsRun (Ok r) ticks (start (with_inputs system inputs)) new had got → ((ran ticks system inputs).denial ≡ None) × (got ≡ grown had (ran ticks system inputs).report)
+-- a run that reached its end told its report
+pub finished : (r : Ran) (cores : List PartFile) (system : System) (inputs : List (List ℕ)) (ticks : ℕ) (new : Machine) (had got : Option (List ℕ)) → IsRun (Ok r) ticks (start (with_inputs system inputs)) new had got → got ≡ grown had (ran ticks cores system inputs).report
 unfolding ran
-finished r system inputs ticks new had got is = (refl, is.report ∙ ap (λ (lines : List ReportLine). grown had (texts lines)) (reports_same (with_inputs system inputs) ticks))
+finished r cores system inputs ticks new had got is = is.report ∙ ap (λ (lines : List ReportLine). grown had (texts lines)) (reports_same (with_inputs system inputs) ticks)
 
 -- a run whose report was not taken whole
-pub unwritten : (fault : WriteFault) (system : System) (inputs : List (List ℕ)) (ticks : ℕ) (new : Machine) (had got : Option (List ℕ)) → IsRun (Err fault) ticks (start (with_inputs system inputs)) new had got → GrewByPrefix had (ran ticks system inputs).report got
+pub unwritten : (fault : WriteFault) (cores : List PartFile) (system : System) (inputs : List (List ℕ)) (ticks : ℕ) (new : Machine) (had got : Option (List ℕ)) (before now : ℕ) (files : Option Files) (reads writes calls : ℕ)
+    → IsRun (Err fault) ticks (start (with_inputs system inputs)) new had got → Rose before now
+    → Comes Unwritten (ran ticks cores system inputs) (outside files reads writes calls had before) (outside files reads writes calls got now)
 unfolding ran
-unwritten fault system inputs ticks new had got is = subst (λ (lines : List ReportLine). GrewByPrefix had (texts lines) got) (reports_same (with_inputs system inputs) ticks) is.report
+unwritten fault cores system inputs ticks new had got before now files reads writes calls is rose =
+    (rose, subst (λ (lines : List ReportLine). GrewByPrefix had (texts lines) got) (reports_same (with_inputs system inputs) ticks) is.report, refl)
+
+-- a run whose whole report went out, and then core files were written, or were not
+cores_saved : (lost : Option (List ℕ)) (r : Ran) (cores : List PartFile) (system : System) (inputs : List (List ℕ)) (ticks : ℕ) (new : Machine) (had got : Option (List ℕ)) (before now : ℕ) (files : Option Files) (reads writes calls : ℕ) (after : Outside)
+    → IsRun (Ok r) ticks (start (with_inputs system inputs)) new had got → now ≡ before → SavesAll lost (core_outputs new cores) (outside files reads writes calls got now) after
+    → SavesAll lost (ran ticks cores system inputs).later (told_all (ran ticks cores system inputs) (outside files reads writes calls had before)) after
+unfolding ran
+cores_saved lost r cores system inputs ticks new had got before now files reads writes calls after is same saves =
+    let told = finished r cores system inputs ticks new had got is in
+    let mid : outside files reads writes calls got now ≡ told_all (ran ticks cores system inputs) (outside files reads writes calls had before) = rw (told, same) refl in
+    let outputs : core_outputs new cores ≡ (ran ticks cores system inputs).later = ap (λ (g : Machine). core_outputs g cores) is.state in
+    subst (λ (x : Outside). SavesAll lost (ran ticks cores system inputs).later x after) mid (subst (λ (o : List Output). SavesAll lost o (outside files reads writes calls got now) after) outputs saves)
+
+-- where all were, what was run was carried out, and it ends as the board says
+pub ended_comes : (e : Ending) (board : BoardView) (r : Ran) (cores : List PartFile) (system : System) (inputs : List (List ℕ)) (ticks : ℕ) (new : Machine) (had got : Option (List ℕ)) (before now : ℕ) (files : Option Files) (reads writes calls : ℕ) (after : Outside)
+    → EndsRun e board → IsRun (Ok r) ticks (start (with_inputs system inputs)) new had got → now ≡ before → SavesAll None (core_outputs new cores) (outside files reads writes calls got now) after
+    → Comes e (ran ticks cores system inputs) (outside files reads writes calls had before) after
+unfolding ran
+ended_comes e board r cores system inputs ticks new had got before now files reads writes calls after ends is same saves =
+    by_end e ends (cores_saved None r cores system inputs ticks new had got before now files reads writes calls after is same saves)
+  where
+    by_end : (e : Ending) → EndsRun e board → SavesAll None (ran ticks cores system inputs).later (told_all (ran ticks cores system inputs) (outside files reads writes calls had before)) after
+        → Comes e (ran ticks cores system inputs) (outside files reads writes calls had before) after
+    by_end Finished ends s = (refl, s)
+    by_end Misused ends s = absurd ends
+    by_end (Unread file) ends s = absurd ends
+    by_end (Denied file text) ends s = absurd ends
+    by_end Unwritten ends s = absurd ends
+    by_end (Unsaved file) ends s = absurd ends
+    by_end (Unheard place) ends s = (refl, refl, s)
+    by_end Starved ends s = absurd ends
+
+-- where one was not
+pub unsaved_comes : (e : Ending) (r : Ran) (cores : List PartFile) (system : System) (inputs : List (List ℕ)) (ticks : ℕ) (new : Machine) (had got : Option (List ℕ)) (before now : ℕ) (files : Option Files) (reads writes calls : ℕ) (after : Outside)
+    → IsRun (Ok r) ticks (start (with_inputs system inputs)) new had got → now ≡ before → AreNotSaved e (core_outputs new cores) (outside files reads writes calls got now) after
+    → Comes e (ran ticks cores system inputs) (outside files reads writes calls had before) after
+unsaved_comes Finished r cores system inputs ticks new had got before now files reads writes calls after is same lost = absurd lost
+unsaved_comes Misused r cores system inputs ticks new had got before now files reads writes calls after is same lost = absurd lost
+unsaved_comes (Unread file) r cores system inputs ticks new had got before now files reads writes calls after is same lost = absurd lost
+unsaved_comes (Denied file text) r cores system inputs ticks new had got before now files reads writes calls after is same lost = absurd lost
+unsaved_comes Unwritten r cores system inputs ticks new had got before now files reads writes calls after is same lost = absurd lost
+unsaved_comes (Unsaved file) r cores system inputs ticks new had got before now files reads writes calls after is same lost =
+    inr (cores_saved (Some file) r cores system inputs ticks new had got before now files reads writes calls after is same lost)
+unsaved_comes (Unheard place) r cores system inputs ticks new had got before now files reads writes calls after is same lost = absurd lost
+unsaved_comes Starved r cores system inputs ticks new had got before now files reads writes calls after is same lost = absurd lost
 
 -- a configuration has a plan
 pub has_plan : (conf : Conf) → Fits (described conf) → 0 < length conf.plans
@@ -94,7 +143,7 @@ unfolding bare_outcome
 outcome-length file ticks bytes short wrong = one-short (Bare file ticks) file bytes refl short ∙ (let test = length_test (length bytes) wrong in rw test refl)
 
 -- a file that is an image
-pub outcome-image : (file : List ℕ) (ticks : ℕ) (bytes : List ℕ) → IsImageLength (length bytes) → outcome_of (Bare file ticks) (bytes ∷ []) ≡ ran ticks (bare_system bytes) (no_inputs 1)
+pub outcome-image : (file : List ℕ) (ticks : ℕ) (bytes : List ℕ) → IsImageLength (length bytes) → outcome_of (Bare file ticks) (bytes ∷ []) ≡ ran ticks [] (bare_system bytes) (no_inputs 1)
 unfolding bare_outcome
 outcome-image file ticks bytes is =
     let short : length bytes ≤ FILE_BYTES = omega (arith, is.most) in
@@ -112,7 +161,7 @@ outcome-short command contents none = ap (λ (long : Option (List ℕ)). unless_
 
 -- a container that is one
 pub outcome-unpacked : (file : List ℕ) (options : List RunOption) (bytes : List ℕ) (contents : List (List ℕ)) (system : System) → unpacked bytes ≡ Ok system
-    → run_outcome file options bytes contents ≡ ran_with file (ticks_asked (span_in options) system.conf) system (inputs_for (length system.conf.parts) (inputs_in options) contents)
+    → run_outcome file options bytes contents ≡ ran_with file (ticks_asked (span_in options) system.conf) (cores_in options) system (inputs_for (length system.conf.parts) options contents)
 unfolding run_outcome
 outcome-unpacked file options bytes contents system is = ap (run_by file options contents) is
 
@@ -144,13 +193,13 @@ fault_text_by (Ok system) = Ok []
 fault_text_by (Err fault) = Err (box_fault_text fault)
 
 -- and nothing is run
-pub unmade_runs : (e : Ending) (file : List ℕ) (options : List RunOption) (contents : List (List ℕ)) (why : Unmade) (read : Result System BoxFault) (had : Option (List ℕ)) (faults : ℕ) → IsUnmadeOf e file why → IsUnmade why (fault_text_by read)
-    → Reports e (run_by file options contents read) had faults had faults
-unmade_runs e file options contents (unmade.Refused text) (Ok system) had faults ends is = absurd (cc)
-unmade_runs e file options contents (unmade.Refused text) (Err fault) had faults ends is =
+pub unmade_runs : (e : Ending) (file : List ℕ) (options : List RunOption) (contents : List (List ℕ)) (why : Unmade) (read : Result System BoxFault) (before : Outside) → IsUnmadeOf e file why → IsUnmade why (fault_text_by read)
+    → Comes e (run_by file options contents read) before before
+unmade_runs e file options contents (unmade.Refused text) (Ok system) before ends is = absurd (cc)
+unmade_runs e file options contents (unmade.Refused text) (Err fault) before ends is =
     let same : box_fault_text fault ≡ string_bytes text = cc in
-    rw (ends, same) (refused_reports file _ had faults)
-unmade_runs e file options contents unmade.Memory read had faults ends is = rw ends (refl, refl)
+    rw (ends, same) (refused_comes file _ before)
+unmade_runs e file options contents unmade.Memory read before ends is = rw ends refl
 
 -- From what is done with files to what is done in all.
 
@@ -169,18 +218,8 @@ done_by Unwritten command contents before after read comes =
       front = subst (λ (g : Option (List ℕ)). GrewByPrefix g (outcome_of command contents).report after.got) (ap (λ (x : Outside). x.got) same) comes.1;
       outside = comes.2;
     }
-done_by (Unsaved other) command contents before after read comes =
-    let same = called_for-is (inputs_of command) before in
-    record {
-      contents = contents;
-      read = read;
-      output = comes.output;
-      named = comes.named;
-      made = comes.made;
-      cause = subst (λ (n : ℕ). Rose n after.write_faults) (ap (λ (x : Outside). x.write_faults) same) comes.cause;
-      others = subst (λ (told : Option Files). OthersStay told other after.files) (ap (λ (x : Outside). x.files) same) comes.others;
-      outside = comes.outside;
-    }
+done_by (Unsaved other) command contents before after read comes = record { contents = contents; read = read; lost = comes }
+done_by (Unheard place) command contents before after read comes = record { carried = record { contents = contents; read = read; denied = comes.1; outside = comes.2 }; run = comes.0 }
 done_by Starved command contents before after read comes = record { first = inputs_of command; rest = []; named = sym (append-nil (inputs_of command)); outside = comes }
 
 -- a command that reads one file did all of its work
@@ -195,6 +234,7 @@ not_all_read_done (Unread other) command before after not_read = not_read
 not_all_read_done (Denied other text) command before after not_read = absurd not_read
 not_all_read_done Unwritten command before after not_read = absurd not_read
 not_all_read_done (Unsaved other) command before after not_read = absurd not_read
+not_all_read_done (Unheard place) command before after not_read = absurd not_read
 not_all_read_done Starved command before after not_read = not_read
 
 -- what is done, seen from another state that is the same
@@ -217,17 +257,20 @@ not_read_done (Unread other) command file before after one not_read = record {
 not_read_done (Denied other text) command file before after one not_read = absurd not_read
 not_read_done Unwritten command file before after one not_read = absurd not_read
 not_read_done (Unsaved other) command file before after one not_read = absurd not_read
+not_read_done (Unheard place) command file before after one not_read = absurd not_read
 not_read_done Starved command file before after one not_read = record { first = file ∷ []; rest = []; named = one; outside = not_read }
 
 -- a report is all that is done, where no file is written
-pub comes_by_report : (e : Ending) (outcome : Outcome) (files : Option Files) (reads writes calls : ℕ) (had got : Option (List ℕ)) (faults now : ℕ) → outcome.output ≡ None → Reports e outcome had faults got now → Comes e outcome (outside files reads writes calls had faults) (outside files reads writes calls got now)
-comes_by_report Finished outcome files reads writes calls had got faults now none r = (r.0, rw (none, r.1, r.2) refl)
-comes_by_report Misused outcome files reads writes calls had got faults now none r = absurd r
-comes_by_report (Unread file) outcome files reads writes calls had got faults now none r = absurd r
-comes_by_report (Denied file text) outcome files reads writes calls had got faults now none r = (r.0, rw (none, r.1, r.2) refl)
-comes_by_report Unwritten outcome files reads writes calls had got faults now none r = (r.0, r.1, rw none refl)
-comes_by_report (Unsaved file) outcome files reads writes calls had got faults now none r = absurd r
-comes_by_report Starved outcome files reads writes calls had got faults now none r = rw (r.0, r.1) refl
+pub comes_by_report : (e : Ending) (outcome : Outcome) (files : Option Files) (reads writes calls : ℕ) (had got : Option (List ℕ)) (faults now : ℕ) → outcome.output ≡ None → outcome.later ≡ [] → Reports e outcome had faults got now
+    → Comes e outcome (outside files reads writes calls had faults) (outside files reads writes calls got now)
+comes_by_report Finished outcome files reads writes calls had got faults now none last r = (r.0, rw (none, last, r.1, r.2) refl)
+comes_by_report Misused outcome files reads writes calls had got faults now none last r = absurd r
+comes_by_report (Unread file) outcome files reads writes calls had got faults now none last r = absurd r
+comes_by_report (Denied file text) outcome files reads writes calls had got faults now none last r = (r.0, rw (none, last, r.1, r.2) refl)
+comes_by_report Unwritten outcome files reads writes calls had got faults now none last r = (r.0, r.1, rw none refl)
+comes_by_report (Unsaved file) outcome files reads writes calls had got faults now none last r = absurd r
+comes_by_report (Unheard place) outcome files reads writes calls had got faults now none last r = absurd r
+comes_by_report Starved outcome files reads writes calls had got faults now none last r = rw (r.0, r.1) refl
 
 -- Ticks.
 
@@ -240,4 +283,6 @@ has_ticks (variant.ReadImage image) words law e = tt
 has_ticks (variant.Pack configuration output images) words law e = tt
 has_ticks (variant.ListContainer container) words law e = tt
 has_ticks (variant.CheckContainer container) words law e = tt
+has_ticks (variant.MakePlan description) words law e = tt
+has_ticks (variant.CheckPlan description) words law e = tt
 has_ticks (variant.Run container options) words law e = span_within (seen_options options) ((law words (Run container.now (seen_options options))).0 (sym e)).1.1.each

@@ -13,10 +13,15 @@ abbrev pub ending_by : Option Denial → Ending
 ending_by None = Finished
 ending_by (Some denial) = Denied denial.file denial.text
 
--- the files after a command has written its own
+-- the files after a command has written the one before its report
 abbrev pub saved : Option Output → Files → Files
 saved None files = files
 saved (Some output) files = insert files output.file output.bytes
+
+-- the files after some more were written, one after another
+abbrev pub saved_all : List Output → Files → Files
+saved_all [] files = files
+saved_all (output ∷ outputs) files = saved_all outputs (insert files output.file output.bytes)
 
 -- an answer: the status, what goes to the report and to the error output, and the files as they stand afterwards
 pub record Answer : Type 0 where
@@ -42,7 +47,7 @@ read_all files (file ∷ others) = read_before file (get files file) (read_all f
 
 -- the answer of a command that comes to this
 abbrev pub answer_by : Outcome → Files → Answer
-answer_by outcome files = answer_of (ending_by outcome.denial) outcome.report (saved outcome.output files)
+answer_by outcome files = answer_of (ending_by outcome.denial) outcome.report (saved_all outcome.later (saved outcome.output files))
 
 -- the answer to a command, by what is read
 abbrev pub answer_to_read : Command → Result (List (List ℕ)) (List ℕ) → Files → Answer

@@ -1,7 +1,7 @@
 -- How a call ends: its status, and its line on the error output.
 use Rattle.std.specs.Prelude.{ℕ, List, [], ◌++◌, codes, decimal}
 use Rattle.xm_commands.specs.declared.status.Status.{Status}
-use Rattle.xm_commands.specs.declared.status.Status.TheVariants.{Done, Refused, Usage, ReadFault, WriteFault, NoMemory}
+use Rattle.xm_commands.specs.declared.status.Status.TheVariants.{Done, Refused, Usage, ReadFault, WriteFault, UartFault, NoMemory}
 
 -- how a call ends, with what its line on the error output names
 pub data Ending : Type 0 where
@@ -11,6 +11,7 @@ pub data Ending : Type 0 where
   Denied : (file text : List ℕ) → Ending
   Unwritten : Ending
   Unsaved : (file : List ℕ) → Ending
+  Unheard : (place : ℕ) → Ending
   Starved : Ending
 
 -- the status of an ending
@@ -21,6 +22,7 @@ status_of (Unread file) = ReadFault
 status_of (Denied file text) = Refused
 status_of Unwritten = WriteFault
 status_of (Unsaved file) = WriteFault
+status_of (Unheard place) = UartFault
 status_of Starved = NoMemory
 
 -- what stands behind the file's name in its line
@@ -35,6 +37,7 @@ complaint (Unread file) = codes "xm_run: " ++ file ++ behind_file (codes "cannot
 complaint (Denied file text) = codes "xm_run: " ++ file ++ behind_file text
 complaint Unwritten = codes "xm_run: report: cannot write\n"
 complaint (Unsaved file) = codes "xm_run: " ++ file ++ behind_file (codes "cannot write")
+complaint (Unheard place) = codes "xm_run: uart " ++ decimal place ++ codes ": failed\n"
 complaint Starved = codes "xm_run: no memory\n"
 
 -- the fault text of an image whose length is refused

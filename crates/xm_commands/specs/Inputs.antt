@@ -1,7 +1,7 @@
 -- The input words of partitions, by the files that a run is given for them.
 use Rattle.std.specs.Prelude.{ℕ, ◌%◌, nat_eq, nat_le, if◌then◌else◌, List, [], ◌∷◌, length, replicate, slice_set, Option, Some, None, Result, Ok, Err}
 use Rattle.whole_system.specs.Inputs.{words_in}
-use Rattle.xm_words.specs.Words.{PartFile}
+use Rattle.xm_words.specs.Words.{PartFile, RunOption, Length, ForPart, inputs_in}
 use Rattle.xm_commands.specs.Denial.{Denial}
 use Rattle.xm_commands.specs.Ending.{input_text, partition_text}
 use Rattle.xm_commands.specs.Packing.{denial}
@@ -10,10 +10,20 @@ use Rattle.xm_commands.specs.Packing.{denial}
 abbrev pub no_inputs : ℕ → List (List ℕ)
 no_inputs parts = replicate parts []
 
--- the first of the files whose partition is none of so many
-abbrev pub first_beyond : ℕ → List PartFile → Option PartFile
+-- the file that an option names, where its partition is none of so many
+abbrev pub named_beyond : ℕ → RunOption → Option PartFile
+named_beyond parts (Length span) = None
+named_beyond parts (ForPart kind named) = if nat_le parts named.part then Some named else None
+
+-- the first of these, where there is one, or else what comes after it
+abbrev pub or_later : Option PartFile → Option PartFile → Option PartFile
+or_later None later = later
+or_later (Some named) later = Some named
+
+-- the first of the files that options name whose partition is none of so many
+abbrev pub first_beyond : ℕ → List RunOption → Option PartFile
 first_beyond parts [] = None
-first_beyond parts (named ∷ files) = if nat_le parts named.part then Some named else first_beyond parts files
+first_beyond parts (option ∷ options) = or_later (named_beyond parts option) (first_beyond parts options)
 
 -- input words where each file gives its partition the words that its bytes spell; refused by the first of the files whose length is
 -- no multiple of 4
@@ -29,7 +39,7 @@ abbrev pub unless_beyond : Option PartFile → Result (List (List ℕ)) Denial �
 unless_beyond None inputs = inputs
 unless_beyond (Some named) inputs = Err (denial named.file (partition_text named.part))
 
--- the input words of so many partitions, by files with these contents: a file for a partition that is not there is refused before any
--- other, and each time it is the first in the order of the files that is refused
-unfoldable pub inputs_for : ℕ → List PartFile → List (List ℕ) → Result (List (List ℕ)) Denial
-inputs_for parts files contents = unless_beyond (first_beyond parts files) (inputs_with (no_inputs parts) files contents)
+-- the input words of so many partitions, by options whose inputs have these contents: a file for a partition that is not there is refused
+-- before any other, whatever it is to the run, and each time it is the first in the order of the options that is refused
+unfoldable pub inputs_for : ℕ → List RunOption → List (List ℕ) → Result (List (List ℕ)) Denial
+inputs_for parts options contents = unless_beyond (first_beyond parts options) (inputs_with (no_inputs parts) (inputs_in options) contents)

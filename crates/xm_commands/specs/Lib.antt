@@ -1,4 +1,6 @@
 pub mod Answer
+pub mod Boards
+pub mod Cores
 pub mod Denial
 pub mod Ending
 pub mod Imaging
@@ -7,6 +9,8 @@ pub mod Makes
 pub mod Outcome
 pub mod Packing
 pub mod Parsing
+pub mod Planning
+pub mod Separation
 pub mod Status
 pub mod Told
 pub mod Top

@@ -1,12 +1,13 @@
 -- What a call answers that makes a file out of another.
 use Rattle.std.specs.Prelude.{◌≡◌, ℕ, ⊤, List, Vec, Result, Ok, Err}
 use Rattle.std.specs.String.{string_bytes}
+use Rattle.xm_conf.specs.Configuration.{Conf}
 use Rattle.xm_commands.specs.Ending.{Ending, Denied, Starved}
 use Rattle.xm_commands.specs.declared.unmade.Unmade.{Unmade}
 use Rattle.xm_commands.specs.declared.unmade.Unmade.TheVariants.{Refused, Memory}
 
 -- nothing was made: the text is that of the refusal, or there was no memory
-abbrev pub IsUnmade : Unmade → Result (List ℕ) (List ℕ) → Type 0
+abbrev pub IsUnmade : {X : Type 0} → Unmade → Result X (List ℕ) → Type 0
 IsUnmade (Refused text) made = made ≡ Err (string_bytes text)
 IsUnmade Memory made = ⊤
 
@@ -19,6 +20,11 @@ IsUnmadeOf ending file Memory = ending ≡ Starved
 abbrev pub Makes : {A : Type 0} → Result (Vec ℕ A) Unmade → Result (List ℕ) (List ℕ) → Type 0
 Makes (Ok bytes) made = made ≡ Ok bytes.items
 Makes (Err why) made = IsUnmade why made
+
+-- the configuration is that of the definition, and so is the text of a refusal
+abbrev pub Describes : Result Conf Unmade → Result Conf (List ℕ) → Type 0
+Describes (Ok conf) described = described ≡ Ok conf
+Describes (Err why) described = IsUnmade why described
 
 -- the text is that of the definition, or there was no memory
 abbrev pub IsTold : Unmade → List ℕ → Type 0

@@ -1,17 +1,20 @@
 -- What the contents of the files that a command reads come to.
-use Rattle.std.specs.Prelude.{ℕ, ◌*◌, ◌==◌, if◌then◌else◌, nat_lt, ◌||◌, List, [], ◌∷◌, ◌++◌, length, drop, codes, decimal, slice_index_or, Option, Some, None, Result, Ok, Err}
+use Rattle.std.specs.Prelude.{ℕ, ◌*◌, ◌==◌, if◌then◌else◌, nat_lt, ◌||◌, List, [], ◌∷◌, ◌++◌, length, drop, codes, decimal, map, slice_index_or, Option, Some, None, Result, Ok, Err}
 use Rattle.xm_base.specs.declared.limits.TheConstants.{FILE_BYTES, IMAGE_BYTES, TICKS}
 use Rattle.xm_report.specs.Report.{texts}
 use Rattle.xm_conf.specs.Configuration.{Conf}
 use Rattle.cyclic_plans.specs.Slots.{frame_of}
+use Rattle.machine_model.specs.CoreFile.{core_file}
 use Rattle.machine_model.specs.Lines.{report}
-use Rattle.whole_system.specs.State.{with_inputs}
+use Rattle.machine_model.specs.Machine.{Machine, run, start}
+use Rattle.machine_model.specs.View.{System as Booted, view_of}
+use Rattle.whole_system.specs.State.{part_at, with_inputs}
 use Rattle.loaded_system.specs.Bare.{bare_system}
 use Rattle.loaded_system.specs.System.{System}
 use Rattle.xm_container.specs.Reading.{unpacked}
 use Rattle.xm_container.specs.Texts.{box_fault_text}
 use Rattle.xm_container.specs.declared.fault.BoxFault.{BoxFault}
-use Rattle.xm_words.specs.Words.{Command, RunOption, Bare, Parse, BuildImage, ReadImage, Pack, ListContainer, CheckContainer, Run, inputs_in, span_in}
+use Rattle.xm_words.specs.Words.{Command, PartFile, RunOption, Bare, Parse, BuildImage, ReadImage, Pack, ListContainer, CheckContainer, MakePlan, CheckPlan, Run, cores_in, inputs_in, span_in}
 use Rattle.xm_words.specs.declared.commands.Span.{Span}
 use Rattle.xm_words.specs.declared.commands.Span.TheVariants.{Frames, Ticks}
 use Rattle.xm_commands.specs.Denial.{Denial}
@@ -20,21 +23,30 @@ use Rattle.xm_commands.specs.Imaging.{container_lines_of, container_verdict_of, 
 use Rattle.xm_commands.specs.Inputs.{inputs_for, no_inputs}
 use Rattle.xm_commands.specs.Packing.{container_of, names_of}
 use Rattle.xm_commands.specs.Parsing.{xmc_of}
+use Rattle.xm_commands.specs.Planning.{plan_lines_of, verdicts_of}
 
 -- a file that is written
 pub record Output : Type 0 where
   pub file : List ℕ
   pub bytes : List ℕ
 
--- what a command comes to: its refusal, if there is one, the file that it writes, and what goes to the report
+-- a run: the system, with the input words of its partitions, and for how many ticks
+pub record Running : Type 0 where
+  pub system : Booted
+  pub ticks : ℕ
+
+-- what a command comes to: its refusal, if there is one, the file that it writes first, what goes to the report, the files that it writes after
+-- the report, in their order, and the run whose report that is
 pub record Outcome : Type 0 where
   pub denial : Option Denial
   pub output : Option Output
   pub report : List ℕ
+  pub later : List Output
+  pub run : Option Running
 
 -- a command that is refused so, and does nothing
 abbrev pub refused_by : Denial → Outcome
-refused_by denial = record { denial = Some denial; output = None; report = [] }
+refused_by denial = record { denial = Some denial; output = None; report = []; later = []; run = None }
 
 -- a command that is refused because of a file, and does nothing
 abbrev pub refused : List ℕ → List ℕ → Outcome
@@ -49,9 +61,11 @@ inputs_of (ReadImage image) = image ∷ []
 inputs_of (Pack configuration output images) = configuration ∷ names_of images
 inputs_of (ListContainer container) = container ∷ []
 inputs_of (CheckContainer container) = container ∷ []
+inputs_of (MakePlan description) = description ∷ []
+inputs_of (CheckPlan description) = description ∷ []
 inputs_of (Run container options) = container ∷ names_of (inputs_in options)
 
--- the file that a command writes
+-- the file that a command writes before its report
 abbrev pub output_of : Command → Option (List ℕ)
 output_of (Bare image ticks) = None
 output_of (Parse description output) = Some output
@@ -60,17 +74,46 @@ output_of (ReadImage image) = None
 output_of (Pack configuration output images) = Some output
 output_of (ListContainer container) = None
 output_of (CheckContainer container) = None
+output_of (MakePlan description) = None
+output_of (CheckPlan description) = None
 output_of (Run container options) = None
 
--- what a run of so many ticks comes to, of a system whose partitions have these input words
-unfoldable pub ran : ℕ → System → List (List ℕ) → Outcome
-ran ticks system inputs = record { denial = None; output = None; report = texts (report (with_inputs system inputs) ticks) }
+-- the files that a command writes after its report, in their order
+abbrev pub later_of : Command → List (List ℕ)
+later_of (Bare image ticks) = []
+later_of (Parse description output) = []
+later_of (BuildImage program output) = []
+later_of (ReadImage image) = []
+later_of (Pack configuration output images) = []
+later_of (ListContainer container) = []
+later_of (CheckContainer container) = []
+later_of (MakePlan description) = []
+later_of (CheckPlan description) = []
+later_of (Run container options) = names_of (cores_in options)
+
+-- the core file of a partition of a machine, under the name that is given for it
+abbrev pub core_output : Machine → PartFile → Output
+core_output g named = record { file = named.file; bytes = core_file (view_of g.system named.part) (part_at named.part g) }
+
+-- the core files of partitions of a machine, in the order of their names
+unfoldable pub core_outputs : Machine → List PartFile → List Output
+core_outputs g cores = map (core_output g) cores
+
+-- what a run of so many ticks comes to, of a system whose partitions have these input words, with these core files
+unfoldable pub ran : ℕ → List PartFile → System → List (List ℕ) → Outcome
+ran ticks cores system inputs = record {
+  denial = None;
+  output = None;
+  report = texts (report (with_inputs system inputs) ticks);
+  later = core_outputs (run (start (with_inputs system inputs)) ticks) cores;
+  run = Some (record { system = with_inputs system inputs; ticks = ticks });
+}
 
 -- what a raw image comes to, run for so many ticks without input words
 unfoldable pub bare_outcome : List ℕ → ℕ → List ℕ → Outcome
 bare_outcome file ticks image =
     if (length image == 0) || nat_lt IMAGE_BYTES (length image) then refused file (length_text (length image))
-    else ran ticks (bare_system image) (no_inputs 1)
+    else ran ticks [] (bare_system image) (no_inputs 1)
 
 -- how many ticks a run asks for, under a configuration: major frames are those of plan 0
 abbrev pub ticks_asked : Span → Conf → ℕ
@@ -78,18 +121,18 @@ ticks_asked (Frames count) conf = count * frame_of conf 0
 ticks_asked (Ticks count) conf = count
 
 -- what a run comes to, of a container's system with these input words: it is refused where it asks for more ticks than a run may have
-unfoldable pub ran_within : List ℕ → ℕ → System → List (List ℕ) → Outcome
-ran_within file asked system inputs = if nat_lt TICKS asked then refused file (ticks_text asked) else ran asked system inputs
+unfoldable pub ran_within : List ℕ → ℕ → List PartFile → System → List (List ℕ) → Outcome
+ran_within file asked cores system inputs = if nat_lt TICKS asked then refused file (ticks_text asked) else ran asked cores system inputs
 
 -- what a run comes to, of a container's system with input words, or the refusal of an input's file
-abbrev pub ran_with : List ℕ → ℕ → System → Result (List (List ℕ)) Denial → Outcome
-ran_with file asked system (Ok inputs) = ran_within file asked system inputs
-ran_with file asked system (Err refusal) = refused_by refusal
+abbrev pub ran_with : List ℕ → ℕ → List PartFile → System → Result (List (List ℕ)) Denial → Outcome
+ran_with file asked cores system (Ok inputs) = ran_within file asked cores system inputs
+ran_with file asked cores system (Err refusal) = refused_by refusal
 
 -- what a container comes to that is run with options and inputs with these contents, or the refusal of its file
 abbrev pub run_by : List ℕ → List RunOption → List (List ℕ) → Result System BoxFault → Outcome
 run_by file options contents (Ok system) =
-    ran_with file (ticks_asked (span_in options) system.conf) system (inputs_for (length system.conf.parts) (inputs_in options) contents)
+    ran_with file (ticks_asked (span_in options) system.conf) (cores_in options) system (inputs_for (length system.conf.parts) options contents)
 run_by file options contents (Err fault) = refused file (box_fault_text fault)
 
 -- what the container of a file with these bytes comes to, run with options and inputs with these contents
@@ -102,17 +145,17 @@ made_text length = codes "ok length=" ++ decimal length ++ codes "\n"
 
 -- what a file comes to out of which another is made: that file, or a refusal
 abbrev pub made : List ℕ → List ℕ → Result (List ℕ) (List ℕ) → Outcome
-made input output (Ok bytes) = record { denial = None; output = Some (record { file = output; bytes = bytes }); report = made_text (length bytes) }
+made input output (Ok bytes) = record { denial = None; output = Some (record { file = output; bytes = bytes }); report = made_text (length bytes); later = []; run = None }
 made input output (Err text) = refused input text
 
 -- what files come to that are packed: their container, or the refusal of one of them
 abbrev pub packed_to : List ℕ → Result (List ℕ) Denial → Outcome
-packed_to output (Ok bytes) = record { denial = None; output = Some (record { file = output; bytes = bytes }); report = made_text (length bytes) }
+packed_to output (Ok bytes) = record { denial = None; output = Some (record { file = output; bytes = bytes }); report = made_text (length bytes); later = []; run = None }
 packed_to output (Err denial) = refused_by denial
 
 -- what a file comes to that is told: its text, or a refusal
 abbrev pub told : List ℕ → Result (List ℕ) (List ℕ) → Outcome
-told file (Ok text) = record { denial = None; output = None; report = text }
+told file (Ok text) = record { denial = None; output = None; report = text; later = []; run = None }
 told file (Err text) = refused file text
 
 -- the content of the file of this number
@@ -128,6 +171,8 @@ worked (ReadImage image) contents = told image (image_lines_of (content 0 conten
 worked (Pack configuration output images) contents = packed_to output (container_of configuration (content 0 contents) images (drop 1 contents))
 worked (ListContainer container) contents = told container (container_lines_of (content 0 contents))
 worked (CheckContainer container) contents = told container (container_verdict_of (content 0 contents))
+worked (MakePlan description) contents = told description (plan_lines_of (content 0 contents))
+worked (CheckPlan description) contents = told description (verdicts_of (content 0 contents))
 worked (Run container options) contents = run_outcome container options (content 0 contents) (drop 1 contents)
 
 -- the first of the files that has more bytes than a file may have

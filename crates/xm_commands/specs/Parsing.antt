@@ -1,5 +1,6 @@
 -- What the text of a system description comes to.
 use Rattle.std.specs.Prelude.{ℕ, List, Option, Some, None, Result, Ok, Err}
+use Rattle.xm_conf.specs.Configuration.{Conf}
 use Rattle.bin_config.specs.Xmc.{xmc}
 use Rattle.xmcf_reader.specs.Faults.{draft_of, xmcf_fault}
 use Rattle.xmcf_reader.specs.Texts.{fault_text}
@@ -10,16 +11,25 @@ use Rattle.xmcf_check.specs.Texts.{check_fault_text}
 use Rattle.xmcf_check.specs.Verdict.{verdict_of}
 use Rattle.xmcf_check.specs.declared.fault.CheckFault.{CheckFault}
 
--- the binary configuration that a draft describes, or the text of the first broken rule
-abbrev pub xmc_by_verdict : Option CheckFault → List Entry → Result (List ℕ) (List ℕ)
-xmc_by_verdict None entries = Ok (xmc (description_of entries).conf)
-xmc_by_verdict (Some fault) entries = Err (check_fault_text fault)
+-- the configuration that a draft describes, or the text of the first broken rule
+abbrev pub conf_by_verdict : Option CheckFault → List Entry → Result Conf (List ℕ)
+conf_by_verdict None entries = Ok (description_of entries).conf
+conf_by_verdict (Some fault) entries = Err (check_fault_text fault)
 
--- the binary configuration of a text that was read, or the text of its first fault
-abbrev pub xmc_by_reading : Option ReadFault → List ℕ → Result (List ℕ) (List ℕ)
-xmc_by_reading None text = xmc_by_verdict (verdict_of (draft_of text)) (draft_of text)
-xmc_by_reading (Some fault) text = Err (fault_text fault)
+-- the configuration of a text that was read, or the text of its first fault
+abbrev pub conf_by_reading : Option ReadFault → List ℕ → Result Conf (List ℕ)
+conf_by_reading None text = conf_by_verdict (verdict_of (draft_of text)) (draft_of text)
+conf_by_reading (Some fault) text = Err (fault_text fault)
+
+-- the configuration that a text describes, or the text of its first fault
+unfoldable pub conf_of : List ℕ → Result Conf (List ℕ)
+conf_of text = conf_by_reading (xmcf_fault text) text
+
+-- what is made of a configuration, or the text of why there is none
+abbrev pub of_conf : (Conf → Result (List ℕ) (List ℕ)) → Result Conf (List ℕ) → Result (List ℕ) (List ℕ)
+of_conf make (Ok conf) = make conf
+of_conf make (Err text) = Err text
 
 -- the binary configuration that a text describes, or the text of its first fault
 unfoldable pub xmc_of : List ℕ → Result (List ℕ) (List ℕ)
-xmc_of text = xmc_by_reading (xmcf_fault text) text
+xmc_of text = of_conf (λ conf. Ok (xmc conf)) (conf_of text)

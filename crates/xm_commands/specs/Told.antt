@@ -1,5 +1,5 @@
 -- What the program's endings say.
-use Rattle.std.specs.Prelude.{◌≡◌, ℕ, ◌≤◌, ⊤, List, map, codes, Vec, Result, Ok, Err}
+use Rattle.std.specs.Prelude.{◌≡◌, ℕ, ◌≤◌, ⊤, List, map, codes, None, Vec, Result, Ok, Err}
 use Rattle.std.specs.String.{string_bytes}
 use Rattle.xm_base.specs.declared.limits.TheConstants.{FILE_BYTES, TICKS}
 use Rattle.xm_outside.specs.Files.{ReadsFile}
@@ -8,9 +8,10 @@ use Rattle.xm_words.specs.Seen.{seen_options}
 use Rattle.xm_words.specs.Words.{span_in}
 use Rattle.xm_words.specs.declared.commands.Command.{Command}
 use Rattle.xm_words.specs.declared.commands.Command.TheVariants as words
-use Rattle.xm_commands.specs.Ending.{Ending, Finished, Misused, Unread, Denied, Unwritten, Unsaved, Starved, input_text, length_text, partition_text, ticks_text}
+use Rattle.xm_commands.specs.Ending.{Ending, Finished, Misused, Unread, Denied, Unwritten, Unsaved, Unheard, Starved, input_text, length_text, partition_text, ticks_text}
 use Rattle.xm_commands.specs.Denial.{Denial}
-use Rattle.xm_commands.specs.Work.{Outside, AreNotRead, IsNotRead, ReadsFiles, called, called_for}
+use Rattle.xm_commands.specs.Outcome.{Output}
+use Rattle.xm_commands.specs.Work.{Outside, AreNotRead, AreNotSaved, IsNotRead, ReadsFiles, SavesAll, called, called_for}
 use Rattle.xm_commands.specs.declared.ending.Refusal.{Refusal}
 use Rattle.xm_commands.specs.declared.ending.Refusal.TheVariants.{TooLong, Length, Ticks, Partition, Input, Told}
 use Rattle.xm_commands.specs.declared.ending.Ending as code
@@ -33,6 +34,7 @@ ending_of (variant.Unread file) = Unread file.now
 ending_of (variant.Denied file why) = Denied file.now (refusal_text why)
 ending_of variant.Unwritten = Unwritten
 ending_of (variant.Unsaved file) = Unsaved file.now
+ending_of (variant.Unheard place) = Unheard place
 ending_of variant.Starved = Starved
 
 -- the ticks or major frames of a command are at most the limit
@@ -44,6 +46,8 @@ HasTicks (words.ReadImage image) = ⊤
 HasTicks (words.Pack configuration output images) = ⊤
 HasTicks (words.ListContainer container) = ⊤
 HasTicks (words.CheckContainer container) = ⊤
+HasTicks (words.MakePlan description) = ⊤
+HasTicks (words.CheckPlan description) = ⊤
 HasTicks (words.Run container options) = count_of (span_in (seen_options options)) ≤ TICKS
 
 -- a file was read, or the call ends without it
@@ -60,6 +64,11 @@ abbrev pub AreRead : {A B : Type 0} → Result (Vec (Vec ℕ A) B) code.Ending �
 AreRead (Ok contents) files before after = ReadsFiles before.files files (map bytes_of contents.items) × (after ≡ called_for files before)
 AreRead (Err ending) files before after = AreNotRead (ending_of ending) files before after
 
+-- files were written, or the call ends because one of them was not
+abbrev pub AreSaved : {T : Type 0} → Result T code.Ending → List Output → Outside → Outside → Type 0
+AreSaved (Ok _) outputs before after = SavesAll None outputs before after
+AreSaved (Err ending) outputs before after = AreNotSaved (ending_of ending) outputs before after
+
 -- the call ends by this refusal, or there was no memory
 abbrev pub IsDenied : {X : Type 0} → Ending → Result X Denial → Type 0
 IsDenied Finished made = ⊥
@@ -68,6 +77,7 @@ IsDenied (Unread file) made = ⊥
 IsDenied (Denied file text) made = made ≡ Err (record { file = file; text = text })
 IsDenied Unwritten made = ⊥
 IsDenied (Unsaved file) made = ⊥
+IsDenied (Unheard place) made = ⊥
 IsDenied Starved made = ⊤
 
 -- what was made is that of the definition, and so is the refusal by which the call ends

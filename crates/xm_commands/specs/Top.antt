@@ -1,15 +1,16 @@
 -- What the top call promises, each promise by a name.
-use Rattle.std.specs.Prelude.{◌≡◌, ◌≢◌, ℕ, zero, suc, ◌+◌, ◌≤◌, ◌⊎◌, List, ◌∷◌, ◌++◌, length, Option, Some, None, IsSome, Ok}
+use Rattle.std.specs.Prelude.{◌≡◌, ◌≢◌, ℕ, zero, suc, ◌+◌, ◌≤◌, ◌⊎◌, List, ◌∷◌, ◌++◌, [], length, Option, Some, None, IsSome, Ok}
+use Rattle.std.specs.FinMap.{get}
 use Rattle.xm_outside.specs.Causes.{Rose, counted}
 use Rattle.xm_outside.specs.Files.{Files, IsAbsent, OthersStay}
 use Rattle.xm_outside.specs.Growth.{grown, GrewByPrefix}
 use Rattle.xm_words.specs.Words.{Command}
 use Rattle.xm_commands.specs.Answer.{answer, read_all}
 use Rattle.xm_commands.specs.Ending.{Ending, complaint, status_of}
-use Rattle.xm_commands.specs.Outcome.{inputs_of, outcome_of, output_of}
-use Rattle.xm_commands.specs.Work.{Outside, IsWorked}
+use Rattle.xm_commands.specs.Outcome.{Output, inputs_of, later_of, outcome_of, output_of}
+use Rattle.xm_commands.specs.Work.{Outside, IsWorked, told_all, wrote, wrote_all}
 use Rattle.xm_commands.specs.declared.status.Status.{Status}
-use Rattle.xm_commands.specs.declared.status.Status.TheVariants.{Done, Refused, Usage, ReadFault, WriteFault, NoMemory}
+use Rattle.xm_commands.specs.declared.status.Status.TheVariants.{Done, Refused, Usage, ReadFault, WriteFault, UartFault, NoMemory}
 
 -- a line went out: all of it, or a front where the sink's own count of faults rose
 abbrev pub IsSaid : List ℕ → Option (List ℕ) → ℕ → Option (List ℕ) → ℕ → Type 0
@@ -30,16 +31,16 @@ pub record HasNoFault (before after : Outside) : Type 0 where
   pub report : Rose before.faults after.faults → ⊥
 
 -- in a world without faults the answer is that of the definition: where the store tells its files, no count
--- rose and memory is there
+-- rose and memory is there; the status and the line on the error output also need that no UART failed
 pub record Answers (status : Status) (words : List (List ℕ)) (before after : Outside) (had : Option (List ℕ)) (error_faults : ℕ) (got : Option (List ℕ)) (error_faults_after : ℕ) : Type 0 where
   -- the status
-  pub answered : (files : Files) → before.files ≡ Some files → HasNoFault before after → status ≢ NoMemory → status ≡ (answer words files).status
+  pub answered : (files : Files) → before.files ≡ Some files → HasNoFault before after → status ≢ NoMemory → status ≢ UartFault → status ≡ (answer words files).status
   -- the bytes in the report
   pub report : (files : Files) → before.files ≡ Some files → HasNoFault before after → status ≢ NoMemory → after.got ≡ grown before.got (answer words files).out
   -- the files
   pub files : (files : Files) → before.files ≡ Some files → HasNoFault before after → status ≢ NoMemory → after.files ≡ Some (answer words files).files
   -- the bytes on the error output, where its own count did not rise
-  pub error : (files : Files) → before.files ≡ Some files → HasNoFault before after → status ≢ NoMemory → (Rose error_faults error_faults_after → ⊥) → got ≡ grown had (answer words files).err
+  pub error : (files : Files) → before.files ≡ Some files → HasNoFault before after → status ≢ NoMemory → status ≢ UartFault → (Rose error_faults error_faults_after → ⊥) → got ≡ grown had (answer words files).err
 
 -- one of the files is this one
 pub record IsAmong (file : List ℕ) (files : List (List ℕ)) : Type 0 where
@@ -76,23 +77,36 @@ abbrev pub IsRefusal : Option Command → Outside → Outside → Type 0
 IsRefusal None before after = ⊥
 IsRefusal (Some command) before after = IsRefusedIn command before after
 
--- the report's sink failed, and has got a front of the report
+-- the report's sink failed, and has got a front of the report; the file that comes before it is written, and none after it
 pub record IsCut (command : Command) (before after : Outside) : Type 0 where
   pub cause : Rose before.faults after.faults
   pub contents : List (List ℕ)
   pub are : AreContents before.files command contents
   pub front : GrewByPrefix before.got (outcome_of command contents).report after.got
+  pub files : after.files ≡ (wrote (outcome_of command contents).output before).files
 
--- the store failed to write the command's file, and the report has got nothing
+-- the store failed to write the file that comes before the report, and the report has got nothing
 pub record IsLost (command : Command) (before after : Outside) : Type 0 where
   pub cause : Rose before.write_faults after.write_faults
   pub output : IsSome (output_of command)
   pub report : after.got ≡ before.got
 
--- the report or the command's file was not written
+-- the store failed to write a file that comes after the report: the report is whole, the files before that one are written, and all others stay
+pub record IsLostAfter (command : Command) (before after : Outside) : Type 0 where
+  pub cause : Rose before.write_faults after.write_faults
+  pub contents : List (List ℕ)
+  pub are : AreContents before.files command contents
+  pub first : List Output
+  pub output : Output
+  pub rest : List Output
+  pub split : (outcome_of command contents).later ≡ first ++ output ∷ rest
+  pub report : after.got ≡ (told_all (outcome_of command contents) before).got
+  pub others : OthersStay (wrote_all first (told_all (outcome_of command contents) before)).files output.file after.files
+
+-- the report or one of the command's files was not written
 abbrev pub IsWriteCause : Option Command → Outside → Outside → Type 0
 IsWriteCause None before after = ⊥
-IsWriteCause (Some command) before after = IsCut command before after ⊎ IsLost command before after
+IsWriteCause (Some command) before after = IsCut command before after ⊎ (IsLost command before after ⊎ IsLostAfter command before after)
 
 -- no count of faults moved
 pub record IsFaultless (before after : Outside) : Type 0 where
@@ -105,14 +119,18 @@ abbrev pub counted_by : ℕ → ℕ → ℕ
 counted_by zero n = n
 counted_by (suc k) n = counted_by k (counted n)
 
--- how many files are written
-abbrev pub output_count : Option (List ℕ) → ℕ
-output_count None = 0
-output_count (Some file) = 1
+-- a file's name, where there is one
+abbrev pub name_in : Option (List ℕ) → List (List ℕ)
+name_in None = []
+name_in (Some file) = file ∷ []
+
+-- the files that a command writes, in their order
+abbrev pub writes_of : Command → List (List ℕ)
+writes_of command = name_in (output_of command) ++ later_of command
 
 -- how many times the words of a command name a file
 abbrev pub named_count : Command → ℕ
-named_count command = length (inputs_of command) + output_count (output_of command)
+named_count command = length (inputs_of command) + length (writes_of command)
 
 -- there were so many calls of the store, at most one for each time that the words name a file
 pub record HasCalls (command : Command) (before after : ℕ) : Type 0 where
@@ -131,18 +149,35 @@ pub record HasCauses (status : Status) (command : Option Command) (before after 
   pub refused : status ≡ Refused → IsRefusal command before after
   pub write_fault : status ≡ WriteFault → IsWriteCause command before after
   pub done : status ≡ Done → IsFaultless before after
+  pub uart_fault : status ≡ UartFault → IsFaultless before after
   pub calls : CallsAsNamed command before after
 
 -- one of the statuses after which the report has got nothing, and no file was written
 abbrev pub IsQuiet : Status → Type 0
 IsQuiet status = (status ≡ Refused) ⊎ (status ≡ Usage) ⊎ (status ≡ ReadFault) ⊎ (status ≡ NoMemory)
 
--- every file but the one that is written is as before
-abbrev pub FilesStay : Option (List ℕ) → Option Files → Option Files → Type 0
-FilesStay None before after = after ≡ before
-FilesStay (Some file) before after = OthersStay before file after
+-- one of the statuses after which the command was carried out: its report and all of its files are written
+abbrev pub IsComplete : Status → Type 0
+IsComplete status = (status ≡ Done) ⊎ (status ≡ UartFault)
 
--- every file but the one that the words name to be written is as before
+-- a file is none of these
+abbrev pub IsNoneOf : List (List ℕ) → List ℕ → Type 0
+IsNoneOf [] other = Unit {0}
+IsNoneOf (file ∷ files) other = (other ≢ file) × IsNoneOf files other
+
+-- the files of which this holds are as before
+abbrev pub StayWhere : (List ℕ → Type 0) → Option Files → Option Files → Type 0
+StayWhere Stays None None = Unit {0}
+StayWhere Stays (Some old) (Some new) = (other : List ℕ) → Stays other → get new other ≡ get old other
+StayWhere Stays None (Some new) = ⊥
+StayWhere Stays (Some old) None = ⊥
+
+-- every file but these is as before
+abbrev pub FilesStay : List (List ℕ) → Option Files → Option Files → Type 0
+FilesStay [] before after = after ≡ before
+FilesStay (file ∷ files) before after = StayWhere (IsNoneOf (file ∷ files)) before after
+
+-- every file but those that the words name to be written is as before
 abbrev pub OtherFilesStay : Option Command → Option Files → Option Files → Type 0
 OtherFilesStay None before after = after ≡ before
-OtherFilesStay (Some command) before after = FilesStay (output_of command) before after
+OtherFilesStay (Some command) before after = FilesStay (writes_of command) before after

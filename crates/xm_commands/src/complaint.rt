@@ -24,6 +24,7 @@ pub(crate) fn complain<E: Sink>(err: &mut E, ending: &Ending<'_>) -> Result<(), 
         Ending::Denied { file, why } => deny(err, file, why),
         Ending::Unwritten => write_all(err, b"xm_run: report: cannot write\n"),
         Ending::Unsaved { file } => name_file(err, file, b": cannot write\n"),
+        Ending::Unheard { place } => name_uart(err, *place),
         Ending::Starved => write_all(err, b"xm_run: no memory\n"),
     }
 }
@@ -90,6 +91,26 @@ fn number_line(pen: &mut Pen, text: &[u8], number: u64)
     pen.text(text);
     pen.number(number);
     pen.text(b"\n");
+}
+
+// Writes the line of a UART that failed.
+fn name_uart<E: Sink>(err: &mut E, place: u8) -> Result<(), Failed>
+    ensures line { Writes result (E.got err.old) (codes "xm_run: uart " ++ decimal place ++ codes ": failed\n") (E.got err.new) }
+    ensures cause { HasCause result (E.faults err.old) (E.faults err.new) }
+{
+    let mut pen = Pen::new();
+    uart_line(&mut pen, place);
+    write_all(err, pen.bytes())
+}
+
+// Writes the line of a UART that failed into a pen.
+fn uart_line(pen: &mut Pen, place: u8)
+    requires empty { pen.old ≡ [] }
+    ensures { pen.new ≡ codes "xm_run: uart " ++ decimal place ++ codes ": failed\n" }
+{
+    pen.text(b"xm_run: uart ");
+    pen.number(u64::from(place));
+    pen.text(b": failed\n");
 }
 
 // Writes a line that names a file.

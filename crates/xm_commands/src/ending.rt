@@ -39,6 +39,8 @@ pub(crate) enum Ending<'a> {
     Unwritten,
     /// The file was not written.
     Unsaved { file: &'a str },
+    /// The command was carried out, but the UART at this place did not take what was said to it. It is the lowest such place.
+    Unheard { place: u8 },
     /// There was no memory.
     Starved,
 }
@@ -53,6 +55,7 @@ pub(crate) fn status(ending: &Ending<'_>) -> Status
         Ending::Unread { .. } => Status::ReadFault,
         Ending::Denied { .. } => Status::Refused,
         Ending::Unwritten | Ending::Unsaved { .. } => Status::WriteFault,
+        Ending::Unheard { .. } => Status::UartFault,
         Ending::Starved => Status::NoMemory,
     }
 }

@@ -1,50 +1,69 @@
 //! The input words of partitions, by the files that a run is given for them.
 
 ghost use Rattle.std.specs.Prelude.{◌≡◌, ◌∷◌, ◌<◌, ◌^◌, [], IfErr, IfOk, None, Ok, OnOk, length, map};
-ghost use Rattle.xm_commands.specs.Inputs.{first_beyond, inputs_for, inputs_with, no_inputs};
+ghost use Rattle.xm_commands.specs.Cores.{AreInside};
+ghost use Rattle.xm_commands.specs.Inputs.{first_beyond, inputs_for, inputs_with, no_inputs, named_beyond};
 ghost use Rattle.xm_commands.specs.Outcome.{first_long};
 ghost use Rattle.xm_commands.specs.Packing.{names_of};
 ghost use Rattle.xm_commands.specs.Told.{IsDenied, MakesOr, bytes_of, ending_of};
-ghost use Rattle.xm_words.specs.Seen.{seen_file, seen_files, seen_part_file};
+ghost use Rattle.xm_words.specs.Seen.{seen_file, seen_files, seen_option, seen_options, seen_part_file};
+ghost use Rattle.xm_words.specs.Words.{cores_in, inputs_in};
 
 use crate::ending::{Ending, Refusal};
 use std::alloc::Global;
 use xm_machine::{InputFault, Inputs};
-use xm_words::{PartFile, PartFiles};
+use xm_words::{PartFile, PartFiles, RunOption, RunOptions};
 
-/// The input words of so many partitions, by files none of which is too long; or the first refusal.
+/// The input words of so many partitions, by options of a run none of whose inputs is too long; or the first refusal.
 #[tactic(auto, unfolding(crate::specs::Inputs::inputs_for))]
 pub(crate) fn inputs_for<'a>(
     alloc: Global,
     parts: u8,
-    files: PartFiles<'a>,
+    options: RunOptions<'a>,
     contents: &[Vec<u8>],
 ) -> Result<Inputs, Ending<'a>>
-    requires { first_long (names_of (seen_files files)) (map bytes_of contents.now) ≡ None }
-    ensures value { MakesOr (λ inputs. inputs) result (inputs_for parts (seen_files files.entry) (map bytes_of contents.now)) }
+    requires { first_long (names_of (inputs_in (seen_options options))) (map bytes_of contents.now) ≡ None }
+    ensures value { MakesOr (λ inputs. inputs) result (inputs_for parts (seen_options options.entry) (map bytes_of contents.now)) }
     ensures count { IfOk result (λ inputs. length inputs ≡ parts) }
+    ensures cores { OnOk result (AreInside parts (cores_in (seen_options options.entry))) }
 {
-    match first_beyond(parts, files) {
+    match first_beyond(parts, options) {
         Some(named) => Err(Ending::Denied {
             file: named.file,
             why: Refusal::Partition { id: named.part },
         }),
-        None => read_inputs(alloc, parts, files, contents),
+        None => read_inputs(alloc, parts, options.inputs(), contents),
     }
 }
 
-// The first of the files whose partition is none of so many.
-fn first_beyond<'a>(parts: u8, files: PartFiles<'a>) -> Option<PartFile<'a>>
-    ensures value { seen_part_file result ≡ first_beyond parts (seen_files files.entry) }
+// The first of the files that options name whose partition is none of so many.
+fn first_beyond<'a>(parts: u8, options: RunOptions<'a>) -> Option<PartFile<'a>>
+    ensures value { seen_part_file result ≡ first_beyond parts (seen_options options.entry) }
 {
-    let mut rest = files;
+    let mut rest = options;
     while let Some((first, others)) = rest.split_first() {
-        if first.part >= parts {
-            return Some(first);
+        if let Some(named) = named_beyond(parts, first) {
+            return Some(named);
         }
         rest = others;
     }
     None
+}
+
+// The file that an option names, where its partition is none of so many.
+fn named_beyond(parts: u8, option: RunOption<'_>) -> Option<PartFile<'_>>
+    ensures value { seen_part_file result ≡ named_beyond parts (seen_option option.entry) }
+{
+    match option {
+        RunOption::Length(_) => None,
+        RunOption::ForPart(_, named) => {
+            if named.part >= parts {
+                Some(named)
+            } else {
+                None
+            }
+        }
+    }
 }
 
 // The input words of so many partitions, by files each of which is for one of them.
@@ -55,7 +74,7 @@ fn read_inputs<'a>(
     contents: &[Vec<u8>],
 ) -> Result<Inputs, Ending<'a>>
     requires short { first_long (names_of (seen_files files)) (map bytes_of contents.now) ≡ None }
-    requires inside { first_beyond parts (seen_files files) ≡ None }
+    requires inside { AreInside parts (seen_files files) }
     ensures value { MakesOr (λ inputs. inputs) result (inputs_with (no_inputs parts) (seen_files files.entry) (map bytes_of contents.now)) }
     ensures count { IfOk result (λ inputs. length inputs ≡ parts) }
 {

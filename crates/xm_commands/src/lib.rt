@@ -2,12 +2,14 @@
 #![tactic(auto)]
 
 mod complaint;
+mod cores;
 mod delivery;
 mod ending;
 mod imaging;
 mod inputs;
 mod packing;
 mod parsing;
+mod planning;
 mod reading;
 mod running;
 mod status;

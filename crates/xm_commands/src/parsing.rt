@@ -1,9 +1,9 @@
 //! A system description becomes a binary configuration.
 
 ghost use Rattle.std.specs.Prelude.{◌≡◌, ◌<◌, ◌^◌, [], ◌∷◌, Err, Ok, Some, length};
-ghost use Rattle.xm_commands.specs.Makes.{IsTold, Makes};
+ghost use Rattle.xm_commands.specs.Makes.{Describes, IsTold, Makes};
 ghost use Rattle.xm_commands.specs.Outcome.{outcome_of};
-ghost use Rattle.xm_commands.specs.Parsing.{xmc_by_verdict, xmc_of};
+ghost use Rattle.xm_commands.specs.Parsing.{conf_by_verdict, conf_of, xmc_of};
 ghost use Rattle.xm_commands.specs.Told.{ending_of};
 ghost use Rattle.xm_commands.specs.Work.{Comes, IsDone, outside};
 ghost use Rattle.xm_words.specs.Words.{Parse};
@@ -18,6 +18,7 @@ use crate::unmade::Unmade;
 use bin_config::write_xmc;
 use std::alloc::Global;
 use xm_base::FILE_BYTES;
+use xm_conf::Conf;
 use xm_outside::{Sink, Store};
 use xmcf_check::{CheckFault, check};
 use xmcf_reader::{Draft, ReadFault, read_xmcf};
@@ -68,21 +69,33 @@ fn make_xmc(alloc: Global, text: &[u8]) -> Result<Vec<u8>, Unmade>
     requires { length text.now < 2 ^ 32 }
     ensures { Makes result (xmc_of text.now) }
 {
-    match read_xmcf(alloc, text) {
-        Ok(draft) => spell(alloc, &draft),
-        Err(fault) => Err(unread(alloc, fault)),
-    }
-}
-
-// The binary configuration of a draft.
-fn spell(alloc: Global, draft: &Draft) -> Result<Vec<u8>, Unmade>
-    ensures { Makes result (xmc_by_verdict (verdict_of draft.now) draft.now) }
-{
-    match check(alloc, draft) {
+    match read_conf(alloc, text) {
         Ok(conf) => match write_xmc(alloc, &conf) {
             Ok(bytes) => Ok(bytes),
             Err(_) => Err(Unmade::Memory),
         },
+        Err(why) => Err(why),
+    }
+}
+
+/// The configuration of a system description.
+#[tactic(auto, unfolding(crate::specs::Parsing::conf_of))]
+pub(crate) fn read_conf(alloc: Global, text: &[u8]) -> Result<Conf, Unmade>
+    requires { length text.now < 2 ^ 32 }
+    ensures { Describes result (conf_of text.now) }
+{
+    match read_xmcf(alloc, text) {
+        Ok(draft) => checked(alloc, &draft),
+        Err(fault) => Err(unread(alloc, fault)),
+    }
+}
+
+// The configuration of a draft.
+fn checked(alloc: Global, draft: &Draft) -> Result<Conf, Unmade>
+    ensures { Describes result (conf_by_verdict (verdict_of draft.now) draft.now) }
+{
+    match check(alloc, draft) {
+        Ok(conf) => Ok(conf),
         Err(fault) => Err(unfit(alloc, fault)),
     }
 }

@@ -1,19 +1,26 @@
-//! A raw image is run, and its report goes out.
+//! A system is run, its report goes out, and core files of its partitions are written after it.
 
-ghost use Rattle.std.specs.Prelude.{◌≡◌, ◌≤◌, [], ◌∷◌, length};
+ghost use Rattle.std.specs.Prelude.{◌≡◌, ◌≤◌, [], ◌∷◌, Some, length};
 ghost use Rattle.xm_base.specs.declared.limits.TheConstants.{TICKS};
+ghost use Rattle.xm_commands.specs.Boards.{EndsRun, IsLeft, Leaves};
+ghost use Rattle.xm_commands.specs.Cores.{AreInside};
 ghost use Rattle.xm_commands.specs.Outcome.{outcome_of, ran};
 ghost use Rattle.xm_commands.specs.Told.{ending_of};
-ghost use Rattle.xm_commands.specs.Work.{IsDone, Reports, outside};
+ghost use Rattle.xm_commands.specs.Work.{Comes, IsDone, outside};
+ghost use Rattle.xm_words.specs.Seen.{seen_files};
 ghost use Rattle.xm_words.specs.Words.{Bare};
 
+use crate::cores::{core_room, write_cores};
 use crate::ending::{Ending, Refusal};
 use crate::reading::read_file;
+use machine_model::keeps_numbers;
 use std::alloc::Global;
+use uart_board::{Board, ViewBoard};
 use xm_base::FILE_BYTES;
 use xm_container::{BareFault, System, bare};
-use xm_machine::{Board, Inputs, Machine, WriteFault};
+use xm_machine::{Inputs, Machine, WriteFault};
 use xm_outside::{Sink, Store};
+use xm_words::PartFiles;
 
 /// Reads a raw image and runs it for so many ticks.
 pub(crate) fn run_file<'a, S: Store, O: Sink>(
@@ -25,27 +32,32 @@ pub(crate) fn run_file<'a, S: Store, O: Sink>(
     board: &mut Board,
 ) -> Ending<'a>
     requires { ticks ≤ TICKS }
-    ensures { IsDone (ending_of result) (Bare image.now ticks)
+    ensures done { IsDone (ending_of result) (Bare image.now ticks)
         (outside (S.files files.old) (S.read_faults files.old) (S.write_faults files.old) (S.calls files.old) (O.got out.old) (O.faults out.old))
         (outside (S.files files.new) (S.read_faults files.new) (S.write_faults files.new) (S.calls files.new) (O.got out.new) (O.faults out.new)) }
+    ensures board { IsLeft (ending_of result) (Some (Bare image.now ticks)) (S.files files.old) (⟦<Board as ViewBoard>⟧.board_view board.old) (⟦<Board as ViewBoard>⟧.board_view board.new) }
 {
     match read_file(alloc, image, files) {
-        Ok(bytes) => run_bytes(alloc, image, ticks, &bytes, out, board),
+        Ok(bytes) => run_bytes(alloc, image, ticks, &bytes, files, out, board),
         Err(ending) => ending,
     }
 }
 
 // Runs the bytes of an image's file, where their number is right.
-fn run_bytes<'a, O: Sink>(
+fn run_bytes<'a, S: Store, O: Sink>(
     alloc: Global,
     image: &'a str,
     ticks: u64,
     bytes: &[u8],
+    files: &mut S,
     out: &mut O,
     board: &mut Board,
 ) -> Ending<'a>
     requires { ticks ≤ TICKS }
-    ensures { Reports (ending_of result) (outcome_of (Bare image.now ticks) (bytes.now ∷ [])) (O.got out.old) (O.faults out.old) (O.got out.new) (O.faults out.new) }
+    ensures comes { Comes (ending_of result) (outcome_of (Bare image.now ticks) (bytes.now ∷ []))
+        (outside (S.files files.old) (S.read_faults files.old) (S.write_faults files.old) (S.calls files.old) (O.got out.old) (O.faults out.old))
+        (outside (S.files files.new) (S.read_faults files.new) (S.write_faults files.new) (S.calls files.new) (O.got out.new) (O.faults out.new)) }
+    ensures board { Leaves (ending_of result) (outcome_of (Bare image.now ticks) (bytes.now ∷ [])).run (⟦<Board as ViewBoard>⟧.board_view board.old) (⟦<Board as ViewBoard>⟧.board_view board.new) }
 {
     if bytes.len() > FILE_BYTES {
         return Ending::Denied {
@@ -55,7 +67,10 @@ fn run_bytes<'a, O: Sink>(
     }
     match bare(alloc, bytes) {
         Ok(system) => match Inputs::new(alloc, 1) {
-            Ok(inputs) => run_system(alloc, ticks, system, inputs, out, board),
+            Ok(inputs) => {
+                let cores = PartFiles::none();
+                run_system(alloc, ticks, cores, system, inputs, files, out, board)
+            }
             Err(_) => Ending::Starved,
         },
         Err(BareFault::Memory) => Ending::Starved,
@@ -66,24 +81,49 @@ fn run_bytes<'a, O: Sink>(
     }
 }
 
-/// Boots a system whose partitions have these input words, and runs it.
-pub(crate) fn run_system<'a, O: Sink>(
+/// Boots a system whose partitions have these input words and runs it; then core files of its partitions are written. All memory is
+/// taken before the run.
+pub(crate) fn run_system<'a, S: Store, O: Sink>(
     alloc: Global,
     ticks: u64,
+    cores: PartFiles<'a>,
     system: System,
     inputs: Inputs,
+    files: &mut S,
     out: &mut O,
     board: &mut Board,
 ) -> Ending<'a>
     requires most { ticks ≤ TICKS }
     requires given { length inputs ≡ length system.conf.parts }
-    ensures { Reports (ending_of result) (ran ticks system inputs) (O.got out.old) (O.faults out.old) (O.got out.new) (O.faults out.new) }
+    requires inside { AreInside (length system.conf.parts) (seen_files cores) }
+    ensures comes { Comes (ending_of result) (ran ticks (seen_files cores.entry) system inputs)
+        (outside (S.files files.old) (S.read_faults files.old) (S.write_faults files.old) (S.calls files.old) (O.got out.old) (O.faults out.old))
+        (outside (S.files files.new) (S.read_faults files.new) (S.write_faults files.new) (S.calls files.new) (O.got out.new) (O.faults out.new)) }
+    ensures board { Leaves (ending_of result) (ran ticks (seen_files cores.entry) system inputs).run (⟦<Board as ViewBoard>⟧.board_view board.old) (⟦<Board as ViewBoard>⟧.board_view board.new) }
 {
+    keeps_numbers();
     let Ok(mut machine) = Machine::boot(alloc, system, inputs) else {
         return Ending::Starved;
     };
+    let Ok(mut room) = core_room(alloc, &machine, cores) else {
+        return Ending::Starved;
+    };
+    board.begin();
     match machine.run(ticks, out, board) {
-        Ok(_) => Ending::Finished,
+        Ok(_) => match write_cores(&machine, cores, &mut room, files) {
+            Ok(()) => heard(board),
+            Err(ending) => ending,
+        },
         Err(WriteFault) => Ending::Unwritten,
+    }
+}
+
+// How a run ends all of whose writes are done: well, or with the lowest place of the board that is marked.
+fn heard<'a>(board: &Board) -> Ending<'a>
+    ensures { EndsRun (ending_of result) (⟦<Board as ViewBoard>⟧.board_view board.now) }
+{
+    match board.failed() {
+        Some(place) => Ending::Unheard { place },
+        None => Ending::Finished,
     }
 }

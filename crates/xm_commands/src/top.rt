@@ -1,8 +1,10 @@
 //! The top call: from words and files to a report and a status.
 
 ghost use Rattle.std.specs.Prelude.{◌≡◌, ◌≢◌, ◌↔◌, None};
+ghost use Rattle.xm_commands.specs.Boards.{IsMarked, IsPlayed};
 ghost use Rattle.xm_commands.specs.Ending.{Misused, complaint};
-ghost use Rattle.xm_commands.specs.Top.{Answers, HasCauses, IsExplained, IsQuiet, IsSaid, OtherFilesStay};
+ghost use Rattle.xm_commands.specs.Separation.{AreAlone};
+ghost use Rattle.xm_commands.specs.Top.{Answers, HasCauses, IsComplete, IsExplained, IsQuiet, IsSaid, OtherFilesStay};
 ghost use Rattle.xm_commands.specs.Work.{outside};
 ghost use Rattle.xm_words.specs.Words.{command_of};
 
@@ -10,13 +12,14 @@ use crate::complaint::complain;
 use crate::ending::{Ending, status};
 use crate::status::Status;
 use crate::work::work;
+use machine_model::{own_lines, same_core_file};
 use std::alloc::Global;
-use xm_machine::Board;
+use uart_board::{Board, ViewBoard};
 use xm_outside::{Sink, Store};
 use xm_words::Words;
 
 /// Does what the words say: the named files are read, what is made of them is written, the report goes to
-/// `out`, and each status but Done is told by one line on `err`.
+/// `out`, what partitions write to their consoles to the UARTs of the board, and each status but Done is told by one line on `err`.
 pub fn xm_main<S: Store, O: Sink, E: Sink>(
     alloc: Global,
     words: &Words,
@@ -40,7 +43,17 @@ pub fn xm_main<S: Store, O: Sink, E: Sink>(
         (outside (S.files files.old) (S.read_faults files.old) (S.write_faults files.old) (S.calls files.old) (O.got out.old) (O.faults out.old))
         (outside (S.files files.new) (S.read_faults files.new) (S.write_faults files.new) (S.calls files.new) (O.got out.new) (O.faults out.new)) }
     ensures usage { (result ≡ Status.Usage) ↔ (command_of words.now ≡ None) }
-    ensures no_uart { result ≢ Status.UartFault }
+
+    // The UARTs of the board got the console bytes of the run, and a place is marked exactly where its UART failed.
+    ensures played { IsPlayed result (command_of words.now) (S.files files.old) (E.got err.old) (E.faults err.old) (E.got err.new) (E.faults err.new)
+        (⟦<Board as ViewBoard>⟧.board_view board.old) (⟦<Board as ViewBoard>⟧.board_view board.new) }
+    ensures marked { result ≡ Status.UartFault → IsMarked (⟦<Board as ViewBoard>⟧.board_view board.new) }
+    ensures still { IsQuiet result → ⟦<Board as ViewBoard>⟧.board_view board.new ≡ ⟦<Board as ViewBoard>⟧.board_view board.old }
+
+    // After a run that is carried out, what went out and what was written shows of each partition what it is alone.
+    ensures alone { IsComplete result → AreAlone (command_of words.now)
+        (outside (S.files files.old) (S.read_faults files.old) (S.write_faults files.old) (S.calls files.old) (O.got out.old) (O.faults out.old))
+        (outside (S.files files.new) (S.read_faults files.new) (S.write_faults files.new) (S.calls files.new) (O.got out.new) (O.faults out.new)) }
 
     // What stands afterwards.
     ensures silent { result ≡ Status.Done → err.new ≡ err.old }
@@ -49,6 +62,8 @@ pub fn xm_main<S: Store, O: Sink, E: Sink>(
     ensures barren { IsQuiet result → S.files files.new ≡ S.files files.old }
     ensures writes { result ≢ Status.WriteFault → S.write_faults files.new ≡ S.write_faults files.old }
 {
+    own_lines();
+    same_core_file();
     let ending = work(alloc, words, files, out, board);
     // A fault of `err` changes no status.
     let _ = complain(err, &ending);

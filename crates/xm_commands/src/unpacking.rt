@@ -1,16 +1,18 @@
 //! A container is unpacked, and its system is run.
 
-ghost use Rattle.std.specs.Prelude.{◌≡◌, ◌≤◌, ◌∷◌, None, drop, length, map};
+ghost use Rattle.std.specs.Prelude.{◌≡◌, ◌≤◌, ◌∷◌, None, Some, drop, length, map};
 ghost use Rattle.xm_base.specs.declared.limits.TheConstants.{TICKS};
 ghost use Rattle.cyclic_plans.specs.Slots.{frame_of};
+ghost use Rattle.xm_commands.specs.Boards.{IsLeft, Leaves};
+ghost use Rattle.xm_commands.specs.Cores.{AreInside};
 ghost use Rattle.xm_commands.specs.Inputs.{inputs_for};
 ghost use Rattle.xm_commands.specs.Outcome.{content, first_long, outcome_of, ran_with, ran_within, run_outcome, ticks_asked};
 ghost use Rattle.xm_commands.specs.Packing.{names_of};
 ghost use Rattle.xm_commands.specs.Told.{bytes_of, ending_of};
-ghost use Rattle.xm_commands.specs.Work.{IsDone, Reports, outside};
+ghost use Rattle.xm_commands.specs.Work.{Comes, IsDone, outside};
 ghost use Rattle.xm_words.specs.Grammar.{count_of};
-ghost use Rattle.xm_words.specs.Seen.{seen_options};
-ghost use Rattle.xm_words.specs.Words.{Run, inputs_in, span_in};
+ghost use Rattle.xm_words.specs.Seen.{seen_files, seen_options};
+ghost use Rattle.xm_words.specs.Words.{Run, cores_in, inputs_in, span_in};
 
 use crate::delivery::unmade;
 use crate::ending::{Ending, Refusal};
@@ -19,12 +21,13 @@ use crate::inputs::inputs_for;
 use crate::reading::{first_long, read_files, split_contents};
 use crate::running::run_system;
 use std::alloc::Global;
+use uart_board::{Board, ViewBoard};
 use xm_base::TICKS;
 use xm_conf::Conf;
 use xm_container::{System, unpack};
-use xm_machine::{Board, Inputs};
+use xm_machine::Inputs;
 use xm_outside::{Sink, Store};
-use xm_words::{RunOptions, Span};
+use xm_words::{PartFiles, RunOptions, Span};
 
 /// Reads a container and the inputs of a run, and runs it.
 pub(crate) fn run_container<'a, S: Store, O: Sink>(
@@ -36,95 +39,120 @@ pub(crate) fn run_container<'a, S: Store, O: Sink>(
     board: &mut Board,
 ) -> Ending<'a>
     requires { count_of (span_in (seen_options options)) ≤ TICKS }
-    ensures { IsDone (ending_of result) (Run container.now (seen_options options.entry))
+    ensures done { IsDone (ending_of result) (Run container.now (seen_options options.entry))
         (outside (S.files files.old) (S.read_faults files.old) (S.write_faults files.old) (S.calls files.old) (O.got out.old) (O.faults out.old))
         (outside (S.files files.new) (S.read_faults files.new) (S.write_faults files.new) (S.calls files.new) (O.got out.new) (O.faults out.new)) }
+    ensures board { IsLeft (ending_of result) (Some (Run container.now (seen_options options.entry))) (S.files files.old) (⟦<Board as ViewBoard>⟧.board_view board.old) (⟦<Board as ViewBoard>⟧.board_view board.new) }
 {
     match read_files(alloc, container, options.inputs(), files) {
-        Ok(contents) => run_files(alloc, container, options, &contents, out, board),
+        Ok(contents) => run_files(alloc, container, options, &contents, files, out, board),
         Err(ending) => ending,
     }
 }
 
 // Runs a container with inputs, by the contents of their files.
-fn run_files<'a, O: Sink>(
+fn run_files<'a, S: Store, O: Sink>(
     alloc: Global,
     container: &'a str,
     options: RunOptions<'a>,
     contents: &[Vec<u8>],
+    files: &mut S,
     out: &mut O,
     board: &mut Board,
 ) -> Ending<'a>
     requires { count_of (span_in (seen_options options)) ≤ TICKS }
-    ensures { Reports (ending_of result) (outcome_of (Run container.now (seen_options options.entry)) (map bytes_of contents.now)) (O.got out.old) (O.faults out.old) (O.got out.new) (O.faults out.new) }
+    ensures comes { Comes (ending_of result) (outcome_of (Run container.now (seen_options options.entry)) (map bytes_of contents.now))
+        (outside (S.files files.old) (S.read_faults files.old) (S.write_faults files.old) (S.calls files.old) (O.got out.old) (O.faults out.old))
+        (outside (S.files files.new) (S.read_faults files.new) (S.write_faults files.new) (S.calls files.new) (O.got out.new) (O.faults out.new)) }
+    ensures board { Leaves (ending_of result) (outcome_of (Run container.now (seen_options options.entry)) (map bytes_of contents.now)).run (⟦<Board as ViewBoard>⟧.board_view board.old) (⟦<Board as ViewBoard>⟧.board_view board.new) }
 {
     match first_long(container, options.inputs(), contents) {
         Some(file) => Ending::Denied {
             file,
             why: Refusal::TooLong,
         },
-        None => run_packed(alloc, container, options, contents, out, board),
+        None => run_packed(alloc, container, options, contents, files, out, board),
     }
 }
 
 // Runs a container with inputs, where none of their files is too long.
-fn run_packed<'a, O: Sink>(
+fn run_packed<'a, S: Store, O: Sink>(
     alloc: Global,
     container: &'a str,
     options: RunOptions<'a>,
     contents: &[Vec<u8>],
+    files: &mut S,
     out: &mut O,
     board: &mut Board,
 ) -> Ending<'a>
     requires most { count_of (span_in (seen_options options)) ≤ TICKS }
     requires short { first_long (container.now ∷ names_of (inputs_in (seen_options options))) (map bytes_of contents.now) ≡ None }
-    ensures { Reports (ending_of result) (run_outcome container.now (seen_options options.entry) (content 0 (map bytes_of contents.now)) (drop 1 (map bytes_of contents.now)))
-        (O.got out.old) (O.faults out.old) (O.got out.new) (O.faults out.new) }
+    ensures comes { Comes (ending_of result) (run_outcome container.now (seen_options options.entry) (content 0 (map bytes_of contents.now)) (drop 1 (map bytes_of contents.now)))
+        (outside (S.files files.old) (S.read_faults files.old) (S.write_faults files.old) (S.calls files.old) (O.got out.old) (O.faults out.old))
+        (outside (S.files files.new) (S.read_faults files.new) (S.write_faults files.new) (S.calls files.new) (O.got out.new) (O.faults out.new)) }
+    ensures board { Leaves (ending_of result) (run_outcome container.now (seen_options options.entry) (content 0 (map bytes_of contents.now)) (drop 1 (map bytes_of contents.now))).run
+        (⟦<Board as ViewBoard>⟧.board_view board.old) (⟦<Board as ViewBoard>⟧.board_view board.new) }
 {
     let (bytes, inputs) = split_contents(contents);
     match unpack(alloc, bytes) {
-        Ok(system) => run_unpacked(alloc, container, options, system, inputs, out, board),
+        Ok(system) => run_unpacked(alloc, container, options, system, inputs, files, out, board),
         Err(fault) => unmade(container, no_container(alloc, fault)),
     }
 }
 
 // Runs the system of a container with inputs, by the contents of their files.
-fn run_unpacked<'a, O: Sink>(
+fn run_unpacked<'a, S: Store, O: Sink>(
     alloc: Global,
     container: &'a str,
     options: RunOptions<'a>,
     system: System,
     contents: &[Vec<u8>],
+    files: &mut S,
     out: &mut O,
     board: &mut Board,
 ) -> Ending<'a>
     requires most { count_of (span_in (seen_options options)) ≤ TICKS }
     requires short { first_long (names_of (inputs_in (seen_options options))) (map bytes_of contents.now) ≡ None }
-    ensures { Reports (ending_of result)
-        (ran_with container.now (ticks_asked (span_in (seen_options options.entry)) system.conf) system (inputs_for (length system.conf.parts) (inputs_in (seen_options options.entry)) (map bytes_of contents.now)))
-        (O.got out.old) (O.faults out.old) (O.got out.new) (O.faults out.new) }
+    ensures comes { Comes (ending_of result)
+        (ran_with container.now (ticks_asked (span_in (seen_options options.entry)) system.conf) (cores_in (seen_options options.entry)) system (inputs_for (length system.conf.parts) (seen_options options.entry) (map bytes_of contents.now)))
+        (outside (S.files files.old) (S.read_faults files.old) (S.write_faults files.old) (S.calls files.old) (O.got out.old) (O.faults out.old))
+        (outside (S.files files.new) (S.read_faults files.new) (S.write_faults files.new) (S.calls files.new) (O.got out.new) (O.faults out.new)) }
+    ensures board { Leaves (ending_of result)
+        (ran_with container.now (ticks_asked (span_in (seen_options options.entry)) system.conf) (cores_in (seen_options options.entry)) system (inputs_for (length system.conf.parts) (seen_options options.entry) (map bytes_of contents.now))).run
+        (⟦<Board as ViewBoard>⟧.board_view board.old) (⟦<Board as ViewBoard>⟧.board_view board.new) }
 {
     let parts = part_count(system.conf());
     let asked = ticks_asked(options.span(), system.conf());
-    match inputs_for(alloc, parts, options.inputs(), contents) {
-        Ok(inputs) => run_within(alloc, container, asked, system, inputs, out, board),
+    match inputs_for(alloc, parts, options, contents) {
+        Ok(inputs) => {
+            let cores = options.cores();
+            run_within(
+                alloc, container, asked, system, inputs, cores, files, out, board,
+            )
+        }
         Err(ending) => ending,
     }
 }
 
 // Runs a system for so many ticks, where a run may have them.
 #[tactic(auto, unfolding(crate::specs::Outcome::ran_within))]
-fn run_within<'a, O: Sink>(
+fn run_within<'a, S: Store, O: Sink>(
     alloc: Global,
     container: &'a str,
     asked: u64,
     system: System,
     inputs: Inputs,
+    cores: PartFiles<'a>,
+    files: &mut S,
     out: &mut O,
     board: &mut Board,
 ) -> Ending<'a>
-    requires { length inputs ≡ length system.conf.parts }
-    ensures { Reports (ending_of result) (ran_within container.now asked system inputs) (O.got out.old) (O.faults out.old) (O.got out.new) (O.faults out.new) }
+    requires given { length inputs ≡ length system.conf.parts }
+    requires inside { AreInside (length system.conf.parts) (seen_files cores) }
+    ensures comes { Comes (ending_of result) (ran_within container.now asked (seen_files cores.entry) system inputs)
+        (outside (S.files files.old) (S.read_faults files.old) (S.write_faults files.old) (S.calls files.old) (O.got out.old) (O.faults out.old))
+        (outside (S.files files.new) (S.read_faults files.new) (S.write_faults files.new) (S.calls files.new) (O.got out.new) (O.faults out.new)) }
+    ensures board { Leaves (ending_of result) (ran_within container.now asked (seen_files cores.entry) system inputs).run (⟦<Board as ViewBoard>⟧.board_view board.old) (⟦<Board as ViewBoard>⟧.board_view board.new) }
 {
     if asked > TICKS {
         return Ending::Denied {
@@ -132,7 +160,7 @@ fn run_within<'a, O: Sink>(
             why: Refusal::Ticks { asked },
         };
     }
-    run_system(alloc, asked, system, inputs, out, board)
+    run_system(alloc, asked, cores, system, inputs, files, out, board)
 }
 
 // How many partitions a configuration has.

@@ -1,6 +1,7 @@
 //! What the words say is done.
 
 ghost use Rattle.std.specs.Prelude.{Some};
+ghost use Rattle.xm_commands.specs.Boards.{IsLeft};
 ghost use Rattle.xm_commands.specs.Told.{ending_of, HasTicks};
 ghost use Rattle.xm_commands.specs.Work.{IsWorked, outside};
 ghost use Rattle.xm_words.specs.Seen.{seen};
@@ -10,10 +11,11 @@ use crate::ending::Ending;
 use crate::imaging::{build_image, check_container, list_container, read_image};
 use crate::packing::pack_files;
 use crate::parsing::parse;
+use crate::planning::{check_plan, make_plan};
 use crate::running::run_file;
 use crate::unpacking::run_container;
 use std::alloc::Global;
-use xm_machine::Board;
+use uart_board::{Board, ViewBoard};
 use xm_outside::{Sink, Store};
 use xm_words::{Command, Words, command, grammar};
 
@@ -25,9 +27,10 @@ pub(crate) fn work<'a, S: Store, O: Sink>(
     out: &mut O,
     board: &mut Board,
 ) -> Ending<'a>
-    ensures { IsWorked (ending_of result) (command_of words.now)
+    ensures worked { IsWorked (ending_of result) (command_of words.now)
         (outside (S.files files.old) (S.read_faults files.old) (S.write_faults files.old) (S.calls files.old) (O.got out.old) (O.faults out.old))
         (outside (S.files files.new) (S.read_faults files.new) (S.write_faults files.new) (S.calls files.new) (O.got out.new) (O.faults out.new)) }
+    ensures board { IsLeft (ending_of result) (command_of words.now) (S.files files.old) (⟦<Board as ViewBoard>⟧.board_view board.old) (⟦<Board as ViewBoard>⟧.board_view board.new) }
 {
     grammar();
     match command(words) {
@@ -45,9 +48,10 @@ fn carry_out<'a, S: Store, O: Sink>(
     board: &mut Board,
 ) -> Ending<'a>
     requires { HasTicks command }
-    ensures { IsWorked (ending_of result) (seen (Some command.entry))
+    ensures worked { IsWorked (ending_of result) (seen (Some command.entry))
         (outside (S.files files.old) (S.read_faults files.old) (S.write_faults files.old) (S.calls files.old) (O.got out.old) (O.faults out.old))
         (outside (S.files files.new) (S.read_faults files.new) (S.write_faults files.new) (S.calls files.new) (O.got out.new) (O.faults out.new)) }
+    ensures board { IsLeft (ending_of result) (seen (Some command.entry)) (S.files files.old) (⟦<Board as ViewBoard>⟧.board_view board.old) (⟦<Board as ViewBoard>⟧.board_view board.new) }
 {
     match command {
         Command::Bare { image, ticks } => run_file(alloc, image, ticks, files, out, board),
@@ -64,6 +68,8 @@ fn carry_out<'a, S: Store, O: Sink>(
         } => pack_files(alloc, configuration, output, images, files, out),
         Command::ListContainer { container } => list_container(alloc, container, files, out),
         Command::CheckContainer { container } => check_container(alloc, container, files, out),
+        Command::MakePlan { description } => make_plan(alloc, description, files, out),
+        Command::CheckPlan { description } => check_plan(alloc, description, files, out),
         Command::Run { container, options } => {
             run_container(alloc, container, options, files, out, board)
         }

@@ -8,9 +8,9 @@ ghost use Rattle.xm_words.specs.Texts.{texts_of};
 ghost use Rattle.xm_words.specs.Words.{command_of};
 
 use std::alloc::Global;
+use uart_board::Board;
 use xm_base::Memory;
 use xm_commands::{Status, xm_main};
-use xm_machine::Board;
 use xm_outside::{Sink, Store};
 use xm_words::Words;
 

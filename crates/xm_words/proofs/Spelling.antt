@@ -3,7 +3,7 @@ use Rattle.std.proofs.Common.{◌≡◌, ℕ, Bool, true, false, ◌&&◌, if◌
 use Rattle.std.specs.Str.{bytes_eq}
 use Rattle.std.proofs.lemmas.Bool.{and_parts}
 use Rattle.xm_words.specs.Grammar.{CommandsAreSpelled, IsFile, IsRight, words_of}
-use Rattle.xm_words.specs.Words.{Command, PartFile, RunOption, Bare, Parse, BuildImage, ReadImage, Pack, ListContainer, CheckContainer, Run, are_part_files, are_run_options, asked, bare_of, command_by_count, command_of, command_of_more, command_of_three, command_of_two, format_command, is_file, of_file, of_files, pack_command, part_files, run_of, run_options, ticks_of}
+use Rattle.xm_words.specs.Words.{Command, PartFile, RunOption, Bare, Parse, BuildImage, ReadImage, Pack, ListContainer, CheckContainer, MakePlan, CheckPlan, Run, are_part_files, are_run_options, asked, bare_of, command_by_count, command_of, command_of_more, command_of_three, command_of_two, format_command, is_file, of_file, of_files, pack_command, part_files, plan_command, run_of, run_options, ticks_of}
 use Rattle.xm_words.proofs.OptionLemmas.{reads_run_options, run_options_typed}
 use Rattle.xm_words.proofs.PartFileLemmas.{files_named, files_typed_right}
 use Rattle.xm_words.proofs.WordLemmas.{file_is, is_of_file, named, text_ticks, ticks_text}
@@ -79,16 +79,45 @@ pack_typed name verb file command is e =
     none : None ≡ Some command → Typed (name ∷ verb ∷ file ∷ []) command
     none h = absurd (let no : ⊥ = cc in no)
 
+-- what `plan` is asked for
+plan_typed : (name verb file : List ℕ) (command : Command) → name ≡ codes "plan" → plan_command verb file ≡ Some command → Typed (name ∷ verb ∷ file ∷ []) command
+unfolding plan_command
+plan_typed name verb file command is e =
+    ⊎_elim make (λ h. ⊎_elim check none (other (bytes_eq verb (codes "check")) (of_file CheckPlan file) None command h))
+    (other (bytes_eq verb (codes "make")) (of_file MakePlan file) (if bytes_eq verb (codes "check") then of_file CheckPlan file else None) command e)
+  where
+    make : ((bytes_eq verb (codes "make") ≡ true) × (of_file MakePlan file ≡ Some command)) → Typed (name ∷ verb ∷ file ∷ []) command
+    make h = (let verb_is = named verb (codes "make") h.0 in file_typed _ MakePlan file command (λ right. record { text = cc; right = right }) h.1)
+
+    check : ((bytes_eq verb (codes "check") ≡ true) × (of_file CheckPlan file ≡ Some command)) → Typed (name ∷ verb ∷ file ∷ []) command
+    check h = (let verb_is = named verb (codes "check") h.0 in file_typed _ CheckPlan file command (λ right. record { text = cc; right = right }) h.1)
+
+    none : None ≡ Some command → Typed (name ∷ verb ∷ file ∷ []) command
+    none h = absurd (let no : ⊥ = cc in no)
+
 -- what a name and two words ask for
 two_typed : (name first second : List ℕ) (command : Command) → command_of_two name first second ≡ Some command → Typed (name ∷ first ∷ second ∷ []) command
 unfolding command_of_two
 two_typed name first second command e =
-    ⊎_elim bare (λ h. ⊎_elim parse (λ h. ⊎_elim format (λ h. ⊎_elim pack none
-    (other (bytes_eq name (codes "xmpack")) (pack_command first second) None command h))
-    (other (bytes_eq name (codes "xmeformat")) (format_command first second) (if bytes_eq name (codes "xmpack") then pack_command first second else None) command h))
-    (other (bytes_eq name (codes "xmcparser")) (of_files Parse first second) (if bytes_eq name (codes "xmeformat") then format_command first second else if bytes_eq name (codes "xmpack") then pack_command first second else None) command h))
-    (other (bytes_eq name (codes "bare")) (bare_of (is_file first) first (ticks_of second)) (if bytes_eq name (codes "xmcparser") then of_files Parse first second else if bytes_eq name (codes "xmeformat") then format_command first second else if bytes_eq name (codes "xmpack") then pack_command first second else None) command e)
+    ⊎_elim bare (λ h. ⊎_elim parse (λ h. ⊎_elim format (λ h. ⊎_elim pack (λ h. ⊎_elim plan none
+    (other (bytes_eq name (codes "plan")) (plan_command first second) None command h))
+    (other (bytes_eq name (codes "xmpack")) (pack_command first second) else_plan command h))
+    (other (bytes_eq name (codes "xmeformat")) (format_command first second) else_pack command h))
+    (other (bytes_eq name (codes "xmcparser")) (of_files Parse first second) else_format command h))
+    (other (bytes_eq name (codes "bare")) (bare_of (is_file first) first (ticks_of second)) else_parse command e)
   where
+    else_plan : Option Command
+    else_plan = if bytes_eq name (codes "plan") then plan_command first second else None
+
+    else_pack : Option Command
+    else_pack = if bytes_eq name (codes "xmpack") then pack_command first second else else_plan
+
+    else_format : Option Command
+    else_format = if bytes_eq name (codes "xmeformat") then format_command first second else else_pack
+
+    else_parse : Option Command
+    else_parse = if bytes_eq name (codes "xmcparser") then of_files Parse first second else else_format
+
     bare : ((bytes_eq name (codes "bare") ≡ true) × (bare_of (is_file first) first (ticks_of second) ≡ Some command)) → Typed (name ∷ first ∷ second ∷ []) command
     bare h = bare_typed name first second command (named name (codes "bare") h.0) h.1
 
@@ -100,6 +129,9 @@ two_typed name first second command e =
 
     pack : ((bytes_eq name (codes "xmpack") ≡ true) × (pack_command first second ≡ Some command)) → Typed (name ∷ first ∷ second ∷ []) command
     pack h = pack_typed name first second command (named name (codes "xmpack") h.0) h.1
+
+    plan : ((bytes_eq name (codes "plan") ≡ true) × (plan_command first second ≡ Some command)) → Typed (name ∷ first ∷ second ∷ []) command
+    plan h = plan_typed name first second command (named name (codes "plan") h.0) h.1
 
     none : None ≡ Some command → Typed (name ∷ first ∷ second ∷ []) command
     none h = absurd (let no : ⊥ = cc in no)
@@ -186,7 +218,7 @@ reads_run container options right =
 
 -- what is typed for a command asks for it
 reads : (command : Command) → IsRight command → command_of (words_of command) ≡ Some command
-unfolding command_of command_by_count command_of_two command_of_three format_command pack_command
+unfolding command_of command_by_count command_of_two command_of_three format_command pack_command plan_command
 reads (Bare image ticks) right = rw (is_of_file image right.0, text_ticks (decimal ticks) ticks right.1 refl)
 reads (Parse description output) right = rw (is_of_file description right.0, is_of_file output right.1)
 reads (BuildImage program output) right = rw (is_of_file program right.0, is_of_file output right.1)
@@ -194,6 +226,8 @@ reads (ReadImage image) right = rw (is_of_file image right)
 reads (Pack configuration output images) right = reads_pack configuration output images right
 reads (ListContainer container) right = rw (is_of_file container right)
 reads (CheckContainer container) right = rw (is_of_file container right)
+reads (MakePlan description) right = rw (is_of_file description right)
+reads (CheckPlan description) right = rw (is_of_file description right)
 reads (Run container options) right = reads_run container options right
 
 -- words are a command exactly where they are what is typed for it

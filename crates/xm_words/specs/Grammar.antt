@@ -5,8 +5,8 @@ use Rattle.xm_base.specs.declared.limits.TheConstants.{TICKS}
 use Rattle.xm_words.specs.declared.commands.Span.{Span}
 use Rattle.xm_words.specs.declared.commands.Span.TheVariants.{Frames, Ticks}
 use Rattle.xm_words.specs.declared.run_options.FileKind.{FileKind}
-use Rattle.xm_words.specs.declared.run_options.FileKind.TheVariants.{Input}
-use Rattle.xm_words.specs.Words.{Command, PartFile, RunOption, Bare, Parse, BuildImage, ReadImage, Pack, ListContainer, CheckContainer, Run, Length, ForPart, command_of, files_in, spans_in, ticks_of}
+use Rattle.xm_words.specs.declared.run_options.FileKind.TheVariants.{Core, Input}
+use Rattle.xm_words.specs.Words.{Command, PartFile, RunOption, Bare, Parse, BuildImage, ReadImage, Pack, ListContainer, CheckContainer, MakePlan, CheckPlan, Run, Length, ForPart, command_of, files_in, spans_in, ticks_of}
 
 -- a word is so many ticks where it is their number in decimal, and they are not above the limit
 abbrev pub TicksAreDecimal : Type 0
@@ -34,6 +34,7 @@ count_of (Ticks count) = count
 -- the option that is typed for a file of a kind
 abbrev pub file_option_of : FileKind → List ℕ
 file_option_of Input = codes "--input"
+file_option_of Core = codes "--core"
 
 -- what is typed for an option of a run
 abbrev pub option_words : RunOption → List (List ℕ)
@@ -49,6 +50,8 @@ words_of (ReadImage image) = codes "xmeformat" ∷ codes "read" ∷ image ∷ []
 words_of (Pack configuration output images) = codes "xmpack" ∷ codes "build" ∷ configuration ∷ output ∷ map part_word images
 words_of (ListContainer container) = codes "xmpack" ∷ codes "list" ∷ container ∷ []
 words_of (CheckContainer container) = codes "xmpack" ∷ codes "check" ∷ container ∷ []
+words_of (MakePlan description) = codes "plan" ∷ codes "make" ∷ description ∷ []
+words_of (CheckPlan description) = codes "plan" ∷ codes "check" ∷ description ∷ []
 words_of (Run container options) = codes "run" ∷ container ∷ flat_map option_words options
 
 -- a file for a partition: the partition's number is at most 31, and the file is one
@@ -85,6 +88,8 @@ IsRight (ReadImage image) = IsFile image
 IsRight (Pack configuration output images) = IsFile configuration × IsFile output × ArePartFiles images
 IsRight (ListContainer container) = IsFile container
 IsRight (CheckContainer container) = IsFile container
+IsRight (MakePlan description) = IsFile description
+IsRight (CheckPlan description) = IsFile description
 IsRight (Run container options) = IsFile container × AreRunOptions options
 
 -- words are a command exactly where they are what is typed for it, and what they name is right

@@ -7,7 +7,7 @@ use Rattle.xm_base.specs.declared.limits.TheConstants.{TICKS}
 use Rattle.xm_words.specs.declared.commands.Span.{Span}
 use Rattle.xm_words.specs.declared.commands.Span.TheVariants.{Frames, Ticks}
 use Rattle.xm_words.specs.declared.run_options.FileKind.{FileKind}
-use Rattle.xm_words.specs.declared.run_options.FileKind.TheVariants.{Input}
+use Rattle.xm_words.specs.declared.run_options.FileKind.TheVariants.{Core, Input}
 
 -- a file for a partition
 pub record PartFile : Type 0 where
@@ -21,7 +21,8 @@ pub data RunOption : Type 0 where
 
 -- a command: a raw image runs for so many ticks; the binary configuration of a system description is made; the image of
 -- a program is made; an image is told; a configuration and the images of its partitions are packed into a container; a
--- container is told; a container is checked; a container runs with options
+-- container is told; a container is checked; a cyclic plan is made from the requirements of a system description; the
+-- plan of a system description is checked against its requirements; a container runs with options
 pub data Command : Type 0 where
   Bare : (image : List ℕ) (ticks : ℕ) → Command
   Parse : (description output : List ℕ) → Command
@@ -30,6 +31,8 @@ pub data Command : Type 0 where
   Pack : (configuration output : List ℕ) (images : List PartFile) → Command
   ListContainer : (container : List ℕ) → Command
   CheckContainer : (container : List ℕ) → Command
+  MakePlan : (description : List ℕ) → Command
+  CheckPlan : (description : List ℕ) → Command
   Run : (container : List ℕ) (options : List RunOption) → Command
 
 -- a decimal number: digits without a sign, and without a leading zero unless it is `0`
@@ -132,7 +135,10 @@ span_of option number =
 
 -- what a file is to its run, by its option
 unfoldable pub kind_of : List ℕ → Option FileKind
-kind_of option = if bytes_eq option (codes "--input") then Some Input else None
+kind_of option =
+    if bytes_eq option (codes "--input") then Some Input
+    else if bytes_eq option (codes "--core") then Some Core
+    else None
 
 -- an option with a file for a partition, where both are told
 abbrev pub option_for : Option FileKind → Option PartFile → Option RunOption
@@ -182,6 +188,7 @@ span_in options = first_span (spans_in options)
 -- the place of a kind among all kinds of files
 abbrev pub place_of : FileKind → ℕ
 place_of Input = 0
+place_of Core = 1
 
 -- the file of a kind for a partition that an option names
 abbrev pub file_by : FileKind → RunOption → Option PartFile
@@ -196,9 +203,13 @@ files_in kind options = filter_map (file_by kind) options
 abbrev pub inputs_in : List RunOption → List PartFile
 inputs_in options = files_in Input options
 
+-- the core files of partitions that options name, in their order
+abbrev pub cores_in : List RunOption → List PartFile
+cores_in options = files_in Core options
+
 -- whether each partition has one file of each kind at most
 abbrev pub are_kinds_apart : List RunOption → Bool
-are_kinds_apart options = are_apart (inputs_in options)
+are_kinds_apart options = are_apart (inputs_in options) && are_apart (cores_in options)
 
 -- whether words are options of a run: each is one, one says how long the run is, and each partition has one file of each kind at most
 unfoldable pub are_run_options : List (List ℕ) → Bool
@@ -227,6 +238,13 @@ pack_command verb file =
     else if bytes_eq verb (codes "check") then of_file CheckContainer file
     else None
 
+-- what `plan` is asked to do with a file
+unfoldable pub plan_command : List ℕ → List ℕ → Option Command
+plan_command verb file =
+    if bytes_eq verb (codes "make") then of_file MakePlan file
+    else if bytes_eq verb (codes "check") then of_file CheckPlan file
+    else None
+
 -- the command of a name and two words
 unfoldable pub command_of_two : List ℕ → List ℕ → List ℕ → Option Command
 command_of_two name first second =
@@ -234,6 +252,7 @@ command_of_two name first second =
     else if bytes_eq name (codes "xmcparser") then of_files Parse first second
     else if bytes_eq name (codes "xmeformat") then format_command first second
     else if bytes_eq name (codes "xmpack") then pack_command first second
+    else if bytes_eq name (codes "plan") then plan_command first second
     else None
 
 -- the command of a name and three words

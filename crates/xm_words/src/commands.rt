@@ -48,6 +48,14 @@ pub enum Command<'a> {
     CheckContainer {
         container: &'a str,
     },
+    /// Make a cyclic plan that meets the requirements of the system description in this file.
+    MakePlan {
+        description: &'a str,
+    },
+    /// Tell whether the plan of the system description in this file meets its requirements.
+    CheckPlan {
+        description: &'a str,
+    },
     /// Run the container in this file with these options.
     Run {
         container: &'a str,

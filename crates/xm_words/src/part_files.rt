@@ -43,6 +43,16 @@ impl<'a> PartFiles<'a> {
         }
     }
 
+    /// No files.
+    pub fn none() -> PartFiles<'a>
+        ensures value { seen_files result ≡ [] }
+    {
+        PartFiles {
+            option: None,
+            words: &[],
+        }
+    }
+
     /// The files of a kind that the options of a run name.
     pub(crate) fn of_options(kind: FileKind, words: &'a [String]) -> PartFiles<'a>
         ensures value { seen_files result ≡ files_in kind (run_options (texts_of words.now)) }

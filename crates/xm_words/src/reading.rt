@@ -3,7 +3,7 @@
 ghost use Rattle.std.specs.Prelude.{◌≡◌, ◌&&◌};
 ghost use Rattle.xm_words.specs.Seen.{seen};
 ghost use Rattle.xm_words.specs.Texts.{texts_of};
-ghost use Rattle.xm_words.specs.Words.{BuildImage, Pack, Parse, are_part_files, asked, bare_of, command_by_count, command_of, command_of_more, command_of_three, command_of_two, format_command, is_file, of_files, pack_command, part_files, run_of, ticks_of};
+ghost use Rattle.xm_words.specs.Words.{BuildImage, Pack, Parse, are_part_files, asked, bare_of, command_by_count, command_of, command_of_more, command_of_three, command_of_two, format_command, is_file, of_files, pack_command, part_files, plan_command, run_of, ticks_of};
 
 use crate::commands::Command;
 use crate::numbers::ticks;
@@ -56,6 +56,8 @@ fn command_of_two<'a>(name: &str, first: &'a str, second: &'a str) -> Option<Com
         format_command(first, second)
     } else if name == "xmpack" {
         pack_command(first, second)
+    } else if name == "plan" {
+        plan_command(first, second)
     } else {
         None
     }
@@ -181,6 +183,22 @@ fn pack_command<'a>(verb: &str, container: &'a str) -> Option<Command<'a>>
         Some(Command::ListContainer { container })
     } else if verb == "check" {
         Some(Command::CheckContainer { container })
+    } else {
+        None
+    }
+}
+
+/// What `plan` is asked to do with a file.
+#[tactic(auto, unfolding(crate::specs::Words::plan_command))]
+fn plan_command<'a>(verb: &str, description: &'a str) -> Option<Command<'a>>
+    ensures { seen result ≡ plan_command verb.now description.now }
+{
+    if !is_file(description) {
+        None
+    } else if verb == "make" {
+        Some(Command::MakePlan { description })
+    } else if verb == "check" {
+        Some(Command::CheckPlan { description })
     } else {
         None
     }

@@ -3,7 +3,7 @@
 ghost use Rattle.std.specs.Prelude.{◌≡◌, ◌∷◌, [], MatchOption, false, length, nat_eq, true};
 ghost use Rattle.xm_words.specs.Seen.{seen_file, seen_files, seen_option, seen_options, seen_part_file, seen_run_option};
 ghost use Rattle.xm_words.specs.Texts.{texts_of};
-ghost use Rattle.xm_words.specs.Words.{are_kinds_apart, are_options, are_run_options, file_by, files_in, inputs_in, kind_of, option_for, part_file_of, place_of, run_option_of, run_options, span_in, span_of, spans_in};
+ghost use Rattle.xm_words.specs.Words.{are_kinds_apart, are_options, are_run_options, cores_in, file_by, files_in, inputs_in, kind_of, option_for, part_file_of, place_of, run_option_of, run_options, span_in, span_of, spans_in};
 
 use crate::commands::Span;
 use crate::numbers::{frames, ticks};
@@ -12,8 +12,10 @@ use crate::part_files::{PartFile, PartFiles, part_file};
 /// What a file for a partition is to a run.
 #[derive(Clone, Copy, Debug, PartialEq, Eq)]
 pub enum FileKind {
-    /// The bytes that the partition reads from its console.
+    /// The input words of the partition.
     Input,
+    /// Where the partition's core file is written.
+    Core,
 }
 
 impl FileKind {
@@ -23,6 +25,7 @@ impl FileKind {
     {
         match self {
             FileKind::Input => 0,
+            FileKind::Core => 1,
         }
     }
 }
@@ -92,6 +95,13 @@ impl<'a> RunOptions<'a> {
         PartFiles::of_options(FileKind::Input, self.words)
     }
 
+    /// The core files of partitions in the order of their words.
+    pub fn cores(self) -> PartFiles<'a>
+        ensures value { seen_files result ≡ cores_in (seen_options self.entry) }
+    {
+        PartFiles::of_options(FileKind::Core, self.words)
+    }
+
     /// The first option and the others, or `None` where there is none.
     pub fn split_first(self) -> Option<(RunOption<'a>, RunOptions<'a>)>
         ensures value { MatchOption result (seen_options self.entry ≡ [])
@@ -135,7 +145,7 @@ impl<'a> RunOptions<'a> {
     fn are_kinds_apart(self) -> bool
         ensures value { result ≡ are_kinds_apart (seen_options self.entry) }
     {
-        self.inputs().are_apart()
+        self.inputs().are_apart() && self.cores().are_apart()
     }
 }
 
@@ -200,6 +210,8 @@ fn kind(option: &str) -> Option<FileKind>
 {
     if option == "--input" {
         Some(FileKind::Input)
+    } else if option == "--core" {
+        Some(FileKind::Core)
     } else {
         None
     }

@@ -1,6 +1,7 @@
 use Rattle.std.proofs.Common.{◌≡◌, map, drop, length, None}
 use Rattle.xm_words.specs.Seen.{seen_files}
-use Rattle.xm_commands.specs.Inputs.{first_beyond, inputs_with, no_inputs}
+use Rattle.xm_commands.specs.Cores.{AreInside}
+use Rattle.xm_commands.specs.Inputs.{inputs_with, no_inputs}
 use Rattle.xm_commands.specs.Outcome.{first_long}
 use Rattle.xm_commands.specs.Packing.{names_of}
 use Rattle.xm_commands.specs.Told.{bytes_of}
@@ -10,5 +11,5 @@ abbrev pub invariant-loop-bytes : goal.invariant-loop-bytes
 invariant-loop-bytes l =
     (inputs_with l.inputs (seen_files l.rest) (map bytes_of (drop l.bytes-index l.contents)) ≡ inputs_with (no_inputs l.fn.parts) (seen_files l.fn.files) (map bytes_of l.contents))
     × (first_long (names_of (seen_files l.rest)) (map bytes_of (drop l.bytes-index l.contents)) ≡ None)
-    × (first_beyond l.fn.parts (seen_files l.rest) ≡ None)
+    × AreInside l.fn.parts (seen_files l.rest)
     × (length l.inputs ≡ l.fn.parts)

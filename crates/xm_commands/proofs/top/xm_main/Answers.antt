@@ -2,21 +2,27 @@ use Rattle.std.proofs.Common.{refl}
 use Rattle.xm_words.specs.Words.{command_of}
 use Rattle.xm_commands.specs.Ending.{complaint}
 use Rattle.xm_commands.specs.Told.{ending_of}
-use Rattle.xm_commands.proofs.TopLemmas.{done_is_finished, usage_exactly, no_uart_fault, has_causes, quiet, said, answers, barren, files_stay, writes_stay}
+use Rattle.xm_commands.proofs.BoardLemmas.{marked, still}
+use Rattle.xm_commands.proofs.SeparationLemmas.{are_alone}
+use Rattle.xm_commands.proofs.TopLemmas.{done_is_finished, usage_exactly, has_causes, quiet, said, answers, barren, files_stay, writes_stay}
 use Rattle.xm_commands.proofs.top.xm_main.Goals as goal
 
 pub returns : goal.returns
 returns g c =
     let ending = ending_of c.work-ending.result in
     let command = command_of c.args.words.now in
-    let work = c.work-ending.ensures in
+    let work = c.work-ending.ensures.worked in
+    let left = c.work-ending.ensures.board in
     let line = said c.complain.result (complaint ending) _ _ _ _ c.complain.ensures.line c.complain.ensures.cause in
     rw c.status.ensures (record {
       answers = answers ending c.args.words.now _ _ _ _ _ _ work line;
       explained = record { ending = ending; answered = refl; line = line; cause = work };
       causes = has_causes ending command _ _ work;
       usage = usage_exactly ending command _ _ work;
-      no_uart = no_uart_fault ending;
+      played = record { ending = ending; answered = refl; line = line; left = left };
+      marked = λ fault. marked ending command _ (record { places = _; marks = _ }) (record { places = _; marks = _ }) left fault (usage_exactly ending command _ _ work).1;
+      still = still ending command _ (record { places = _; marks = _ }) (record { places = _; marks = _ }) left;
+      alone = λ complete. are_alone c.own_lines.ensures.law c.same_core_file.ensures.law ending command _ _ work complete;
       silent = λ done. c.complain.ensures.silent (done_is_finished ending done);
       quiet = quiet ending command _ _ work;
       files = files_stay ending command _ _ work;

@@ -3,17 +3,23 @@ use Rattle.xm_words.specs.Seen.{seen_options}
 use Rattle.xm_words.specs.Words.{Run}
 use Rattle.xm_commands.specs.Told.{bytes_of}
 use Rattle.xm_commands.proofs.OutsideLemmas.{outcome-long}
-use Rattle.xm_commands.proofs.WorkLemmas.{outcome-short, refused_reports}
+use Rattle.xm_commands.proofs.WorkLemmas.{outcome-short, refused_comes}
 use Rattle.xm_commands.proofs.unpacking.run_files.Goals as goal
 
-pub returns-in-Some : goal.returns-in-Some
-returns-in-Some g c =
+pub returns-in-Some-clause-comes : goal.returns-in-Some-clause-comes
+returns-in-Some-clause-comes g c =
     let command = Run c.args.container.now (seen_options c.args.options) in
     let long = rw c.inputs.ensures.value at c.in-Some.ensures.value in
-    rw (outcome-long command (map bytes_of c.args.contents.now) c.in-Some.file.now (sym long)) (refused_reports c.in-Some.file.now (codes "too-long") _ _)
+    rw (outcome-long command (map bytes_of c.args.contents.now) c.in-Some.file.now (sym long)) (refused_comes c.in-Some.file.now (codes "too-long") _)
 
-pub returns-in-None : goal.returns-in-None
-returns-in-None g c =
+pub returns-in-None-clause-comes : goal.returns-in-None-clause-comes
+returns-in-None-clause-comes g c =
     let command = Run c.args.container.now (seen_options c.args.options) in
     let short = rw c.inputs.ensures.value at c.in-None.ensures.value in
-    rw (outcome-short command (map bytes_of c.args.contents.now) (sym short)) c.run_packed.ensures
+    rw (outcome-short command (map bytes_of c.args.contents.now) (sym short)) c.run_packed.ensures.comes
+
+pub returns-in-None-clause-board : goal.returns-in-None-clause-board
+returns-in-None-clause-board g c =
+    let command = Run c.args.container.now (seen_options c.args.options) in
+    let short = rw c.inputs.ensures.value at c.in-None.ensures.value in
+    rw (outcome-short command (map bytes_of c.args.contents.now) (sym short)) c.run_packed.ensures.board

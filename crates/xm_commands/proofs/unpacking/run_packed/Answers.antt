@@ -4,6 +4,7 @@ use Rattle.xm_words.specs.Words.{inputs_in}
 use Rattle.xm_commands.specs.Outcome.{run_outcome}
 use Rattle.xm_commands.specs.Packing.{names_of}
 use Rattle.xm_commands.specs.Told.{bytes_of}
+use Rattle.xm_commands.proofs.BoardLemmas.{unmade_leaves}
 use Rattle.xm_commands.proofs.ImagingLemmas.{container_unmade}
 use Rattle.xm_commands.proofs.InputLemmas.{rest_short}
 use Rattle.xm_commands.proofs.WorkLemmas.{fault_text_by, outcome-unpacked, unmade_runs}
@@ -14,15 +15,24 @@ run_unpacked-requires-clause-short g c =
     rw c.split_contents.ensures.others
     (rest_short c.args.container.now (names_of (inputs_in (seen_options c.args.options))) (map bytes_of c.args.contents.now) c.requires.short)
 
-pub returns-in-Ok : goal.returns-in-Ok
-returns-in-Ok g c =
+pub returns-in-Ok-clause-comes : goal.returns-in-Ok-clause-comes
+returns-in-Ok-clause-comes g c =
     let exact = rw c.split_contents.ensures.first at c.in-Ok.ensures.exact in
-    let reports = rw c.split_contents.ensures.others at c.run_unpacked.ensures in
-    rw (outcome-unpacked c.args.container.now (seen_options c.args.options) _ _ c.in-Ok.system exact) reports
+    let comes = rw c.split_contents.ensures.others at c.run_unpacked.ensures.comes in
+    rw (outcome-unpacked c.args.container.now (seen_options c.args.options) _ _ c.in-Ok.system exact) comes
 
-pub returns-in-Err : goal.returns-in-Err
+pub returns-in-Err-clause-comes : goal.returns-in-Err-clause-comes
 unfolding run_outcome
-returns-in-Err g c =
+returns-in-Err-clause-comes g c =
     let exact = rw c.split_contents.ensures.first at c.in-Err.ensures.exact in
     let unmade = container_unmade fault_text_by (λ fault. refl) c.in-Err.fault _ c.no_container.result exact c.no_container.ensures.text c.no_container.ensures.memory in
-    unmade_runs _ c.args.container.now (seen_options c.args.options) _ c.no_container.result _ _ _ c.unmade.ensures unmade
+    unmade_runs _ c.args.container.now (seen_options c.args.options) _ c.no_container.result _ _ c.unmade.ensures unmade
+
+pub returns-in-Ok-clause-board : goal.returns-in-Ok-clause-board
+returns-in-Ok-clause-board g c =
+    let exact = rw c.split_contents.ensures.first at c.in-Ok.ensures.exact in
+    let leaves = rw c.split_contents.ensures.others at c.run_unpacked.ensures.board in
+    rw (outcome-unpacked c.args.container.now (seen_options c.args.options) _ _ c.in-Ok.system exact) leaves
+
+pub returns-in-Err-clause-board : goal.returns-in-Err-clause-board
+returns-in-Err-clause-board g c = unmade_leaves _ c.args.container.now c.no_container.result _ (record { places = _; marks = _ }) c.unmade.ensures

@@ -1,0 +1,13 @@
+use Rattle.std.proofs.Common.{refl}
+use Rattle.xm_words.specs.Words.{CheckPlan}
+use Rattle.xm_commands.specs.Planning.{verdicts_of}
+use Rattle.xm_commands.proofs.WorkLemmas.{one-long, one-short, refused_reports}
+use Rattle.xm_commands.proofs.planning.tell_verdicts.Goals as goal
+
+pub returns-then-text-gt-FILE_BYTES : goal.returns-then-text-gt-FILE_BYTES
+returns-then-text-gt-FILE_BYTES g c =
+    rw (one-long (CheckPlan c.args.description.now) c.args.description.now c.args.text.now refl c.if-text-gt-FILE_BYTES.true) (refused_reports c.args.description.now _ _ _)
+
+pub returns : goal.returns
+returns g c =
+    rw (one-short (CheckPlan c.args.description.now) c.args.description.now c.args.text.now refl c.if-text-gt-FILE_BYTES.false) (c.tell.ensures (verdicts_of c.args.text.now) c.verdicts.ensures)

@@ -1,0 +1,15 @@
+-- The core files that a run writes.
+use Rattle.std.specs.Prelude.{ℕ, ◌<◌, ◌≤◌, List, [], ◌∷◌}
+use Rattle.core_files.specs.Length.{core_length_of}
+use Rattle.machine_model.specs.View.{System, view_of}
+use Rattle.xm_words.specs.Words.{PartFile}
+
+-- each of the files is for one of so many partitions
+abbrev pub AreInside : ℕ → List PartFile → Type 0
+AreInside parts [] = Unit {0}
+AreInside parts (named ∷ files) = (named.part < parts) × AreInside parts files
+
+-- the core file of each of these partitions has at most so many bytes
+abbrev pub FitInto : System → ℕ → List PartFile → Type 0
+FitInto system most [] = Unit {0}
+FitInto system most (named ∷ files) = (core_length_of (view_of system named.part) ≤ most) × FitInto system most files
