@@ -6,7 +6,7 @@ use anyhow::{Context, Result};
 use toml::Value;
 
 // The keys of a case.
-const KEYS: [&str; 17] = [
+const KEYS: [&str; 18] = [
     "shows",
     "call",
     "words",
@@ -17,6 +17,7 @@ const KEYS: [&str; 17] = [
     "usage",
     "out",
     "out_begins",
+    "out_md5",
     "refused",
     "of_file",
     "err",

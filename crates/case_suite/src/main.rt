@@ -5,6 +5,7 @@
 mod case;
 mod entry;
 mod making;
+mod random;
 mod recipe;
 mod tally;
 mod ticking;
@@ -28,16 +29,18 @@ use verdict::Verdict;
 const WORKED: &str = "worked.toml";
 
 // The files of cases, in the order in which they are done.
-const BOOKS: [&str; 21] = [
+const BOOKS: [&str; 26] = [
     "differing.toml",
     "raw_images.toml",
     "descriptions.toml",
     "rules.toml",
+    "plans.toml",
     "programs.toml",
     "containers.toml",
     "binary_configurations.toml",
     "images.toml",
     "container_files.toml",
+    "damaged_files.toml",
     "runs.toml",
     "machines.toml",
     "calls.toml",
@@ -46,6 +49,9 @@ const BOOKS: [&str; 21] = [
     "health.toml",
     "resets.toml",
     "between.toml",
+    "wild_calls.toml",
+    "random_guests.toml",
+    "systems.toml",
     "outside.toml",
     "words.toml",
     "texts.toml",

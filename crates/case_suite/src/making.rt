@@ -1,6 +1,7 @@
 //! The bytes of files, as their recipes say.
 
 use crate::entry::{Entry, number_of, pair_of, text_of};
+use crate::random::random_memory;
 use crate::recipe::{Recipe, Source};
 use anyhow::{Context, Result, bail};
 use std::alloc::Global;
@@ -136,10 +137,10 @@ fn of_hex(alloc: Global, digits: &str) -> Result<Vec<u8>> {
 
 // A program file of one header, which loads words from behind the headers and enters them.
 fn program_file(alloc: Global, program: Entry<'_>) -> Result<Vec<u8>> {
-    program.has_only(&["start", "words"])?;
+    program.has_only(&["start", "words", "seed", "count"])?;
     let start = program.text("start")?.context("no start")?;
     let start = u32::from_str_radix(start, 16)?;
-    let words = of_hex(alloc, program.text("words")?.context("no words")?)?;
+    let words = program_words(alloc, program, start)?;
     let size = u32::try_from(words.len())?;
     let header = [1, 84, start, start, size, size, 7, 4];
     let mut bytes = Vec::new(alloc);
@@ -150,6 +151,17 @@ fn program_file(alloc: Global, program: Entry<'_>) -> Result<Vec<u8>> {
     }
     bytes.extend_from_slice(&words)?;
     Ok(bytes)
+}
+
+// The words of a program: as they are written, or so many random ones.
+fn program_words(alloc: Global, program: Entry<'_>, start: u32) -> Result<Vec<u8>> {
+    match program.number("seed")? {
+        Some(seed) => {
+            let count = program.number("count")?.context("no count")?;
+            random_memory(alloc, start, u32::try_from(seed)?, u32::try_from(count)?)
+        }
+        None => of_hex(alloc, program.text("words")?.context("no words")?),
+    }
 }
 
 // A text with another part in the place of the first occurrence of one.

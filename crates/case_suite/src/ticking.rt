@@ -8,9 +8,10 @@ use crate::entry::{Entry, entry_of};
 use anyhow::{Context, Result, bail};
 use std::alloc::Global;
 use toml::Value;
+use uart_board::Board;
 use xm_base::{FILE_BYTES, Mode, TICKS};
 use xm_container::{System, unpack};
-use xm_machine::{Board, Inputs, Line, Machine, WriteFault, put_line};
+use xm_machine::{Inputs, Line, Machine, WriteFault, put_line};
 use xm_outside::{MemStore, Sink};
 use xm_words::{Command, PartFile, PartFiles, Span, Words, command};
 
@@ -34,17 +35,37 @@ pub(crate) fn is_ticked<O: Sink>(
         return Ok(false);
     };
     let mut machine = booted(alloc, container, options.inputs(), files)?;
-    let ticks = ticks_in(&machine, options.span())?;
+    tick_run(&mut machine, options.span(), resets, out)
+}
+
+// Does a run of a booted machine tick by tick, where it is short enough, and answers whether it is.
+fn tick_run<O: Sink>(
+    machine: &mut Machine,
+    span: Span,
+    resets: &[Value],
+    out: &mut O,
+) -> Result<bool> {
+    let ticks = ticks_in(machine, span)?;
     if ticks > MOST_TICKS {
         return Ok(false);
     }
-    put_front(&machine, ticks, out)?;
-    for reset in resets {
-        do_reset(&mut machine, ticks, entry_of(reset)?, out)?;
-    }
-    do_ticks(&mut machine, ticks, out)?;
-    put_end(&machine, out).ok().context(NOT_TAKEN)?;
+    put_run(machine, ticks, resets, out)?;
     Ok(true)
+}
+
+// Does so many ticks, with the resets between them, and writes the report.
+fn put_run<O: Sink>(
+    machine: &mut Machine,
+    ticks: u64,
+    resets: &[Value],
+    out: &mut O,
+) -> Result<()> {
+    put_front(machine, ticks, out)?;
+    for reset in resets {
+        do_reset(machine, ticks, entry_of(reset)?, out)?;
+    }
+    do_ticks(machine, ticks, out)?;
+    put_end(machine, out).ok().context(NOT_TAKEN)
 }
 
 // The machine of a container and its input words.

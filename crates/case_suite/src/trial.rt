@@ -12,8 +12,8 @@ use anyhow::{Context, Result, bail};
 use std::alloc::Global;
 use std::fs::Files;
 use toml::{Table, Value};
+use uart_board::Board;
 use xm_commands::{Status, xm_main};
-use xm_machine::Board;
 use xm_outside::{MemSink, MemStore, Sink};
 use xm_words::Words;
 

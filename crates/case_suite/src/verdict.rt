@@ -2,6 +2,7 @@
 
 use crate::entry::Entry;
 use anyhow::Result;
+use md5::{Digest, Md5};
 use std::alloc::Global;
 use xm_commands::Status;
 
@@ -47,8 +48,12 @@ impl Verdict {
         Ok(())
     }
 
-    /// Compares a report, or how it begins.
+    /// Compares a report, or its digest, or how it begins.
     pub(crate) fn report(&mut self, what: &str, case: Entry<'_>, got: &[u8]) -> Result<()> {
+        if let Some(digest) = case.text("out_md5")? {
+            let found = hex::encode(self.alloc, Md5::digest(got))?;
+            return self.text(what, digest.as_bytes(), found.as_bytes());
+        }
         match case.text("out_begins")? {
             Some(prefix) if got.starts_with(prefix.as_bytes()) => Ok(()),
             Some(prefix) => self.text(what, prefix.as_bytes(), got),

@@ -25,6 +25,7 @@ fn named(name: &str) -> Result<Status> {
         "Usage" => Ok(Status::Usage),
         "ReadFault" => Ok(Status::ReadFault),
         "WriteFault" => Ok(Status::WriteFault),
+        "UartFault" => Ok(Status::UartFault),
         "NoMemory" => Ok(Status::NoMemory),
         _ => bail!("{name} is no status"),
     }

@@ -7,9 +7,10 @@ use anyhow::{Context, Result, bail};
 use loaded_system::bare;
 use std::alloc::Global;
 use std::fs;
+use uart_board::Board;
 use xm_base::TICKS;
 use xm_commands::{Status, xm_main};
-use xm_machine::{Board, Inputs, Machine};
+use xm_machine::{Inputs, Machine};
 use xm_outside::{MemStore, OutSink, Sink};
 use xm_words::Words;
 

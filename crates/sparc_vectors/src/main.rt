@@ -18,8 +18,9 @@ use std::fs;
 use tally::Tallies;
 
 // The files, and what each says of its lines. A line that begins with # says what stands there.
-const FILES: [(&str, Claim); 7] = [
+const FILES: [(&str, Claim); 8] = [
     ("words.txt", Claim::Decodes),
+    ("selectors.txt", Claim::Decodes),
     ("least.txt", Claim::Encodes),
     ("worked.txt", Claim::Holds),
     ("windows.txt", Claim::Holds),

@@ -1,4 +1,4 @@
-use Rattle.std.proofs.Common.{◌≡◌, ◌<◌, ◌≤◌, All, length, ℕ, ap, arith}
+use Rattle.std.proofs.Common.{length, ap, arith}
 use Rattle.machine_model.specs.Machine.{Machine}
 use Rattle.case_suite.proofs.LogLemmas.{all_short}
 use Rattle.case_suite.proofs.ticking.are_logs_short.Goals as goal
