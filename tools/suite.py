@@ -15,6 +15,7 @@ SOURCES = ("hex", "text", "data", "of", "program")
 
 sys.path.insert(0, str(ROOT / "examples/model"))
 from box import ACTIONS, EVENTS, QUEUING, SOURCE, Part  # noqa: E402
+from random_guests import content_of  # noqa: E402
 
 
 class Case:
@@ -28,8 +29,9 @@ class Case:
 
 
 def program_file(program):
-    """A program file of one header, which loads words from behind the headers and enters them."""
-    start, words = int(program["start"], 16), bytes.fromhex(program["words"])
+    """A program file of one header, which loads words from behind the headers and enters them; they may be random ones."""
+    start = int(program["start"], 16)
+    words = content_of(start, program["seed"], program["count"]) if "seed" in program else bytes.fromhex(program["words"])
     front = struct.pack(">6I", 0x7F454C46, 0x01020100, 0, 0, 0x00020002, 1)
     table = struct.pack(">7I", start, 52, 0, 0, 0x00340020, 0x00010000, 0)
     return front + table + struct.pack(">8I", 1, 84, start, start, len(words), len(words), 7, 4) + words
