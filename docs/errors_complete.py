@@ -2,7 +2,8 @@
 """Says which text that the program can print on standard error has no row in docs/ERRORS.md, and which row
 no text of the code has. Ends with 1 where there is one of either, else with 0.
 
-The texts are those of crates/xm_commands/src/complaint.rt and of each `Display` of a type named ..Fault in a crate.
+The texts are those of crates/xm_commands/src/complaint.rt, those that another file of that crate makes itself, and those
+of each `Display` of a type named ..Fault in a crate.
 A row is a line of a table whose first column has the text as code, behind a paragraph that begins with
 `Texts of` and the type; values are one word each. The variant `Memory` is left out: want of memory is told by the program as `no memory`.
 """
@@ -18,7 +19,7 @@ def spelled(text):
     """A text with `_` for each value: that of the code has {names}, that of the document words."""
     text = re.sub(r"\{\w*\}", "_", text)
     text = re.sub(r"=\w+", "=_", text)
-    return re.sub(r" [A-Z]\d?$", " _", text.strip())
+    return re.sub(r" [A-Z]\d?(?=:|$)", " _", text.strip())
 
 
 def fault_texts():
@@ -39,12 +40,24 @@ def fault_texts():
 
 
 def complaint_texts():
-    """The texts of the program's own lines; a number stands behind a text that ends with `=`."""
+    """The texts of the program's own lines; a number stands behind a text that ends with `=`, or with a blank
+    where the next text goes on."""
     source = (ROOT / "crates/xm_commands/src" / COMPLAINTS).read_text(encoding="utf-8")
+    begun = ""
     for text in re.findall(r'b"([^"]*)"', source):
-        text = text.replace("\\n", "").removeprefix("xm_run: ").removeprefix(": ")
-        if text:
+        text = begun + text.replace("\\n", "").removeprefix("xm_run: ")
+        text = text.removeprefix(": ")
+        begun = text + "_" if text.endswith(" ") else ""
+        if text and not begun:
             yield COMPLAINTS, spelled(re.sub(r"=$", "=_", text))
+
+
+def made_texts():
+    """The texts that the files of the commands make themselves, and not by a fault's `Display`."""
+    for path in sorted(ROOT.glob("crates/xm_commands/src/*.rt")):
+        for text in re.findall(r'format!\(in alloc; "([^"]*)"\)', path.read_text(encoding="utf-8")):
+            if not re.fullmatch(r"\{\w+\}", text):
+                yield path.name, spelled(text)
 
 
 def rows():
@@ -64,7 +77,7 @@ def rows():
 
 
 def main():
-    told = set(fault_texts()) | set(complaint_texts())
+    told = set(fault_texts()) | set(complaint_texts()) | set(made_texts())
     written = set(rows())
     for name, text in sorted(told - written):
         print(f"no row: {name}: {text}")

@@ -1,0 +1,139 @@
+#!/usr/bin/env python3
+"""Says which public call or type of a library has no row in docs/PROOFS.md, and which call of a row there is not. Ends with 1
+where there is one of either, else with 0.
+
+A call is a `pub fn` that `src/lib.rt` exports, by itself or as a method of an exported type or trait. Its row is a line of a
+table below a heading that names the crate, whose second column has the call as code, `name` or `Type::name`; after
+`Type::name` other methods of the type stand by their names alone. A type has such a row, or one below `Plain types`. What
+has no clause stands below `What no clause says`.
+"""
+import re
+import sys
+from pathlib import Path
+
+ROOT = Path(__file__).resolve().parent.parent
+PLAIN = "Plain types"
+NO_CLAUSE = "What no clause says"
+
+
+def libraries():
+    for line in (ROOT / "crates.txt").read_text(encoding="utf-8").splitlines():
+        found = re.match(r"(\w+)[^:]*:", line)
+        if found and (ROOT / "crates" / found[1] / "src/lib.rt").exists():
+            yield found[1]
+
+
+def without_comments(text):
+    return re.sub(r"//.*", "", text)
+
+
+def exported(crate):
+    """The names that the library exports of its own, each with the file where it stands."""
+    folder = ROOT / "crates" / crate / "src"
+    text = without_comments((folder / "lib.rt").read_text(encoding="utf-8"))
+    for use in re.findall(r"^pub use ([^;]*);", text, re.M):
+        found = re.fullmatch(r"([\w:]+)::(?:\{(.*)\}|(\w+))", use.strip(), re.S)
+        module = found[1].removeprefix("crate::").replace("::", "/")
+        names = [name.strip() for name in (found[2] or found[3]).split(",") if name.strip()]
+        for file in (folder / f"{module}.rt", folder / module / "mod.rt"):
+            if file.exists():
+                yield from ((name, file) for name in names)
+    yield from ((name, folder / "lib.rt") for name in re.findall(r"^pub (?:fn|struct|enum|trait) (\w+)", text, re.M))
+
+
+def blocks(text, head):
+    """The blocks that a line of the left margin begins and a `}` there ends."""
+    return re.findall(rf"^{head}[^\n]*\{{\n(.*?)^\}}", text, re.M | re.S)
+
+
+def methods(crate, name, file):
+    """The public calls of a type or trait, wherever in the crate its blocks stand."""
+    found = []
+    for path in sorted((ROOT / "crates" / crate / "src").rglob("*.rt")):
+        text = without_comments(path.read_text(encoding="utf-8"))
+        for block in blocks(text, rf"impl(?:<[^>]*>)? {name}\b(?:<[^>]*>)? "):
+            found += re.findall(r"^    pub fn (\w+)", block, re.M)
+    text = without_comments(file.read_text(encoding="utf-8"))
+    for block in blocks(text, rf"pub trait {name}\b"):
+        found += re.findall(r"^    fn (\w+)", block, re.M)
+    return found
+
+
+def calls(crate):
+    """Each call as a pair of its type or None, and its name; and each type, with None for the name."""
+    for name, file in exported(crate):
+        text = without_comments(file.read_text(encoding="utf-8"))
+        if re.search(rf"^pub (?:const )?fn {name}\b", text, re.M):
+            yield None, name
+        elif re.search(rf"^pub (?:struct|enum|trait) {name}\b", text, re.M):
+            yield name, None
+            yield from ((name, method) for method in methods(crate, name, file))
+
+
+def sections():
+    """The lines of each section, by the crates that its heading names or else by the heading itself."""
+    lines, named = {}, []
+    for line in (ROOT / "docs/PROOFS.md").read_text(encoding="utf-8").splitlines():
+        if line.startswith("#"):
+            title = line.lstrip("# ")
+            crates = re.findall(r"`(\w+)`", title)
+            named = crates or (named if line.startswith("###") else [title])
+        else:
+            for name in named:
+                lines.setdefault(name, []).append(line)
+    return lines
+
+
+def codes(text):
+    return re.findall(r"`([^`]*)`", text)
+
+
+def second_cells(lines):
+    for line in lines:
+        cells = re.split(r"(?<!\\)\|", line)
+        if line.startswith("|") and len(cells) > 3:
+            yield cells[2]
+
+
+def named_in(lines):
+    """The calls that the rows name, each as its type or None and its name."""
+    found = set()
+    for cell in second_cells(lines):
+        kind = None
+        for code in codes(cell):
+            kind, name = code.rsplit("::", 1) if "::" in code else (kind, code)
+            found |= {(kind, name), (None, name), (kind, None)}
+    return found
+
+
+def missing():
+    lines = sections()
+    elsewhere = {code for name in (PLAIN, NO_CLAUSE) for line in lines[name] for code in codes(line)}
+    for crate in libraries():
+        named = named_in(lines.get(crate, []))
+        for kind, name in calls(crate):
+            text = "::".join(filter(None, (kind, name)))
+            if not {(kind, name), (None, text)} & named and text not in elsewhere:
+                yield f"{crate}: {text} has no row"
+
+
+def strangers():
+    """The methods that a row names as `Type::name` and that no crate has."""
+    files = sorted((ROOT / "crates").glob("*/src/**/*.rt"))
+    source = "\n".join(without_comments(file.read_text(encoding="utf-8")) for file in files)
+    rows = second_cells(line for lines in sections().values() for line in lines)
+    for code in sorted({code for cell in rows for code in codes(cell) if re.fullmatch(r"[A-Z]\w*::\w+", code)}):
+        kind, name = code.split("::")
+        found = blocks(source, rf"(?:impl|pub trait)\b[^\n]*\b{kind}\b")
+        if not any(re.search(rf"^    (?:pub )?fn {name}\b", block, re.M) for block in found):
+            yield f"there is no {code}"
+
+
+def main():
+    lines = [*missing(), *strangers()]
+    print("".join(line + "\n" for line in lines) + f"{len(lines)} differences")
+    return 1 if lines else 0
+
+
+if __name__ == "__main__":
+    sys.exit(main())
