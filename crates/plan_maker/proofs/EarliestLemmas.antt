@@ -4,8 +4,9 @@ use Rattle.std.specs.Prelude.{nat_lt, IfSome}
 use Rattle.std.specs.Option.{option_map}
 use Rattle.std.proofs.lemmas.Bool.Decides.{nat_tests}
 use Rattle.plan_maker.specs.Course.{earliest, sooner}
-use Rattle.plan_maker.specs.Turns.{spent}
+use Rattle.plan_maker.specs.Turns.{first_due, sooner_due, spent, due_of}
 use Rattle.plan_maker.specs.declared.jobs.Job.{Job}
+use Rattle.plan_maker.specs.declared.jobs.Due.{Due}
 use Rattle.plan_maker.proofs.EachLemmas.{Each}
 
 -- the job is one of the jobs
@@ -161,6 +162,27 @@ first_spent part ticks best (k ∷ rest) keeps =
 pub earliest_spent : (part ticks : ℕ) (jobs : List Job) → Each (Keeps part ticks) jobs → earliest (map (spent part ticks) jobs) ≡ option_map (spent part ticks) (earliest jobs)
 unfolding earliest
 earliest_spent part ticks jobs keeps = first_spent part ticks None jobs keeps
+
+due_sooner : (best : Option Job) (k : Job) → sooner_due (option_map due_of best) k ≡ option_map due_of (sooner best k)
+due_sooner None k = at (nat_lt 0 k.left)
+  where
+    at : (b : Bool) → cond b (Some (due_of k)) None ≡ option_map due_of (cond b (Some k) None)
+    at true = refl
+    at false = refl
+due_sooner (Some best) k = at (nat_lt 0 k.left && nat_lt k.end best.end)
+  where
+    at : (b : Bool) → cond b (Some (due_of k)) (Some (due_of best)) ≡ option_map due_of (cond b (Some k) (Some best))
+    at true = refl
+    at false = refl
+
+due_first : (best : Option Job) (jobs : List Job) → fold sooner_due (option_map due_of best) jobs ≡ option_map due_of (fold sooner best jobs)
+due_first best [] = refl
+due_first best (k ∷ rest) = ap (λ (b : Option Due). fold sooner_due b rest) (due_sooner best k) ∙ due_first (sooner best k) rest
+
+-- what is due first is that of the job that goes first
+pub first_is : (jobs : List Job) → first_due jobs ≡ option_map due_of (earliest jobs)
+unfolding first_due earliest
+first_is jobs = due_first None jobs
 
 -- the jobs are of partitions from a number on, in the order of their numbers
 abbrev pub Rising : ℕ → List Job → Type 0

@@ -8,5 +8,6 @@ pub mod PeriodLemmas
 pub mod PlanLemmas
 pub mod ServedLemmas
 pub mod SharedLemmas
+pub mod SpentLemmas
 pub mod TimeLemmas
 pub mod TurnLemmas

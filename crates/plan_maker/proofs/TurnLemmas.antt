@@ -1,22 +1,24 @@
 -- A turn is all the ticks from one change to the next.
 use Rattle.std.proofs.Common.{◌≡◌, ℕ, zero, suc, ◌+◌, ◌-◌, ◌^◌, ◌<◌, ◌≤◌, ◌==◌, Bool, true, false, cond, min, List, [], ◌∷◌, ◌++◌, length, map, Option, Some, None, ap, sym, ◌∙◌, subst, refl, arith, add-one}
 use Rattle.std.specs.Option.{option_map}
-use Rattle.std.specs.Prelude.{All, IfSome}
+use Rattle.std.specs.Prelude.{IfSome}
 use Rattle.std.proofs.lemmas.Bool.Decides.{nat_tests}
 use Rattle.xm_conf.specs.declared.plan.Slot.{Slot}
 use Rattle.xm_conf.specs.Rules.{longest}
 use Rattle.plan_maker.specs.Course.{Course, after_tick, continues, course_of, earliest, job_at, jobs_at, run_after, run_slot, slots_so_far, tick_done, window_start, with_run}
 use Rattle.plan_maker.specs.Needed.{ArePossible, IsPossible}
 use Rattle.plan_maker.specs.Planned.{frame_slots}
-use Rattle.plan_maker.specs.Turns.{HaveRoom, IsGoing, IsMoment, Moment, begun, next_end, passed, ran, ran_until, renewed, running, spent, turned}
+use Rattle.plan_maker.specs.Turns.{HaveRoom, IsGoing, IsMoment, Moment, begun, come, given, next_end, passed, ran, ran_until, renewed, running, spent, spent_first, due_of, turned}
 use Rattle.plan_maker.specs.declared.jobs.Job.{Job}
 use Rattle.plan_maker.specs.declared.jobs.Requirement.{Requirement}
+use Rattle.plan_maker.specs.declared.jobs.Due.{Due}
 use Rattle.plan_maker.proofs.CourseLemmas.{laid_few, last_ends}
-use Rattle.plan_maker.proofs.EachLemmas.{Each, all_from_each, each_from_all, each_image, each_then}
-use Rattle.plan_maker.proofs.EarliestLemmas.{IsAlone, Keeps, earliest_one, earliest_spent, earliest_wants, one_alone, spent_end}
+use Rattle.plan_maker.proofs.EachLemmas.{Each, all_from_each, each_image, each_then}
+use Rattle.plan_maker.proofs.EarliestLemmas.{IsAlone, Keeps, Rising, earliest_one, earliest_spent, earliest_wants, first_is, one_alone, spent_end}
 use Rattle.plan_maker.proofs.JobLemmas.{job_numbers, jobs_first, spent_by}
 use Rattle.plan_maker.proofs.LoadLemmas.{IsAhead}
 use Rattle.plan_maker.proofs.ServedLemmas.{course_laid, each_possible, jobs_ahead, jobs_in, jobs_rising, next_jobs, possible_period}
+use Rattle.plan_maker.proofs.SpentLemmas.{end_spent, spent_rising}
 use Rattle.plan_maker.proofs.TimeLemmas.{window_holds}
 
 -- a run and one tick more are a longer run
@@ -169,14 +171,65 @@ end_after tick frame (job ∷ rest) before ahead = let here : tick < job.end = a
 
 -- a moment of the plan after another one
 pub record IsNext (rs : List Requirement) (frame : ℕ) (before after : Moment) : Type 0 where
-  pub moment : IsMoment rs after
+  pub moment : IsMoment frame rs after
   pub later : before.tick < after.tick
   pub inside : after.tick ≤ frame
 
+moment_of : (frame : ℕ) (rs : List Requirement) (tick : ℕ) (course : Course) (jobs : List Job) (end : ℕ) → IsAt rs tick course jobs → end ≡ next_end frame jobs
+    → IsMoment frame rs (record { tick = tick; jobs = jobs; course = course; end = end })
+moment_of frame rs tick course jobs end at ends =
+    record { course = sym at.course_is; jobs = sym at.jobs_are ∙ ap (λ (course : Course). jobs_at rs tick course) at.course_is; ends = ends }
+
+come_tick : (frame tick : ℕ) (moment : Moment) → (come frame tick moment).tick ≡ tick
+come_tick frame tick moment = at (tick == moment.end) refl
+  where
+    at : (b : Bool) → (tick == moment.end) ≡ b → (let m : Moment = cond b (passed frame moment) (record moment { tick = tick }) in m).tick ≡ tick
+    at true is = grind (arith, nat_tests)
+    at false is = refl
+
+-- ticks in which a job runs, up to the next end, lead to a moment of the plan
+ran_moment : (low frame : ℕ) (rs : List Requirement) (moment : Moment) (part ticks : ℕ) → Rising low moment.jobs → moment.end ≡ next_end frame moment.jobs → moment.tick + ticks ≤ moment.end
+    → RanTo rs moment.tick moment.course moment.jobs part ticks → IsMoment frame rs (ran frame part ticks moment)
+ran_moment low frame rs moment part ticks rising ends inside ran_to = at (moment.tick + ticks == moment.end) refl
+  where
+    course : Course
+    course = with_run part moment.tick ticks moment.course
+
+    first : map (spent part ticks) moment.jobs ≡ spent_first part ticks moment.jobs
+    first = sym (spent_rising low part ticks moment.jobs rising)
+
+    before : Each (λ job. moment.end ≤ job.end) moment.jobs
+    before = rw ends (end_before frame moment.jobs)
+
+    still : moment.tick + ticks < moment.end → Each (λ job. moment.tick + ticks < job.end) (map (spent part ticks) moment.jobs)
+    still less =
+        each_image (λ job. moment.tick + ticks < job.end) (spent part ticks) moment.jobs
+        (each_then (λ job. moment.end ≤ job.end) (λ job. moment.tick + ticks < (spent part ticks job).end) moment.jobs (λ job b. rw (spent_end part ticks job) (omega arith)) before)
+
+    at : (b : Bool) → (moment.tick + ticks == moment.end) ≡ b
+        → IsMoment frame rs (cond b (passed frame (given part ticks moment)) (record { tick = moment.tick + ticks; jobs = spent_first part ticks moment.jobs; course = course; end = moment.end }))
+    at true is =
+        let number : moment.tick + ticks ≡ moment.end = grind (arith, nat_tests) in
+        let there : IsAt rs moment.end course (map (renewed moment.end) (map (spent part ticks) moment.jobs)) =
+        subst (λ (n : ℕ). IsAt rs n course (map (renewed n) (map (spent part ticks) moment.jobs))) number ran_to in
+        let own : IsAt rs moment.end course (map (renewed moment.end) (spent_first part ticks moment.jobs)) =
+        subst (λ (js : List Job). IsAt rs moment.end course (map (renewed moment.end) js)) first there in
+        moment_of frame rs moment.end course (map (renewed moment.end) (spent_first part ticks moment.jobs)) (next_end frame (map (renewed moment.end) (spent_first part ticks moment.jobs))) own refl
+    at false is =
+        let less : moment.tick + ticks < moment.end = grind (arith, nat_tests) in
+        let there : IsAt rs (moment.tick + ticks) course (map (spent part ticks) moment.jobs) =
+        subst (λ (js : List Job). IsAt rs (moment.tick + ticks) course js) (renew_none (moment.tick + ticks) (map (spent part ticks) moment.jobs) (still less)) ran_to in
+        let own : IsAt rs (moment.tick + ticks) course (spent_first part ticks moment.jobs) =
+        subst (λ (js : List Job). IsAt rs (moment.tick + ticks) course js) first there in
+        let end : moment.end ≡ next_end frame (spent_first part ticks moment.jobs) =
+        ends ∙ sym (end_spent frame part ticks moment.jobs) ∙ ap (λ (js : List Job). next_end frame js) first in
+        moment_of frame rs (moment.tick + ticks) course (spent_first part ticks moment.jobs) moment.end own end
+
 -- a turn leads to a later moment of the plan
-pub turned_next : (low frame : ℕ) (rs : List Requirement) (moment : Moment) → ArePossible low rs → IsMoment rs moment → moment.tick < frame → IsNext rs frame moment (turned frame moment)
+pub turned_next : (low frame : ℕ) (rs : List Requirement) (moment : Moment) → ArePossible low rs → IsMoment frame rs moment → moment.tick < frame → IsNext rs frame moment (turned frame moment)
 unfolding turned
-turned_next low frame rs moment possible is before = at (earliest moment.jobs) refl
+turned_next low frame rs moment possible is before =
+    subst (λ (turn : Option Due). IsNext rs frame moment (ran_until frame turn moment)) (sym (first_is moment.jobs)) (at (earliest moment.jobs) refl)
   where
     here : IsAt rs moment.tick moment.course moment.jobs
     here = record { course_is = sym is.course; jobs_are = ap (λ (course : Course). jobs_at rs moment.tick course) (sym is.course) ∙ sym is.jobs }
@@ -184,70 +237,58 @@ turned_next low frame rs moment possible is before = at (earliest moment.jobs) r
     ahead : Each (λ job. moment.tick < job.end) moment.jobs
     ahead = rw is.jobs (each_then (IsAhead moment.tick) (λ job. moment.tick < job.end) (jobs_at rs moment.tick moment.course) (λ job a. a.end) (jobs_ahead moment.tick moment.course rs (each_possible low rs possible)))
 
-    moment_of : (tick : ℕ) (course : Course) (jobs : List Job) → IsAt rs tick course jobs → IsMoment rs (record { tick = tick; jobs = jobs; course = course })
-    moment_of tick course jobs at = record { course = sym at.course_is; jobs = sym at.jobs_are ∙ ap (λ (course : Course). jobs_at rs tick course) at.course_is }
+    rising : Rising low moment.jobs
+    rising = rw is.jobs (jobs_rising low moment.tick moment.course rs possible)
 
-    passes : (end : ℕ) → moment.tick < end → end ≤ frame → Each (λ job. end ≤ job.end) moment.jobs → earliest moment.jobs ≡ None → IsNext rs frame moment (passed end moment)
-    passes end later inside ends none =
-        let number : moment.tick + (end - moment.tick) ≡ end = omega arith in
-        let idle = idle_ticks low rs moment.tick (end - moment.tick) moment.course moment.jobs possible here none ahead
-        (each_then (λ job. end ≤ job.end) (λ job. moment.tick + (end - moment.tick) ≤ job.end) moment.jobs (λ job e. omega arith) ends) in
-        let at_end : IsAt rs end moment.course (map (renewed end) moment.jobs) = subst (λ (n : ℕ). IsAt rs n moment.course (map (renewed n) moment.jobs)) number idle in
-        record { moment = moment_of end moment.course (map (renewed end) moment.jobs) at_end; later = later; inside = inside }
+    later : moment.tick < moment.end
+    later = rw is.ends (end_after moment.tick frame moment.jobs before ahead)
 
-    runs : (count : ℕ) (turn : Job) → suc count ≤ turn.left → moment.tick + suc count ≤ frame → Each (λ job. moment.tick + suc count ≤ job.end) moment.jobs → earliest moment.jobs ≡ Some turn
-        → IsNext rs frame moment (ran turn.requirement.part (suc count) moment)
-    runs count turn enough inside ends first =
-        let alone : Each (IsAlone turn) moment.jobs =
-        one_alone low moment.jobs turn (rw is.jobs (jobs_rising low moment.tick moment.course rs possible)) (earliest_one moment.jobs turn first) in
-        let ran_to : RanTo rs moment.tick moment.course moment.jobs turn.requirement.part (suc count) =
-        run_ticks low rs moment.tick count moment.course moment.jobs turn possible here first alone enough ends in
+    inside : moment.end ≤ frame
+    inside = rw is.ends (end_most frame moment.jobs)
+
+    ends : Each (λ job. moment.end ≤ job.end) moment.jobs
+    ends = rw is.ends (end_before frame moment.jobs)
+
+    passes : earliest moment.jobs ≡ None → IsNext rs frame moment (passed frame moment)
+    passes none =
+        let number : moment.tick + (moment.end - moment.tick) ≡ moment.end = omega (arith, later) in
+        let idle = idle_ticks low rs moment.tick (moment.end - moment.tick) moment.course moment.jobs possible here none ahead
+        (each_then (λ job. moment.end ≤ job.end) (λ job. moment.tick + (moment.end - moment.tick) ≤ job.end) moment.jobs (λ job e. omega (arith, later)) ends) in
+        let at_end : IsAt rs moment.end moment.course (map (renewed moment.end) moment.jobs) = subst (λ (n : ℕ). IsAt rs n moment.course (map (renewed n) moment.jobs)) number idle in
         record {
-          moment = moment_of (moment.tick + suc count) (with_run turn.requirement.part moment.tick (suc count) moment.course) (map (renewed (moment.tick + suc count)) (map (spent turn.requirement.part (suc count)) moment.jobs)) ran_to;
-          later = omega arith;
+          moment = moment_of frame rs moment.end moment.course (map (renewed moment.end) moment.jobs) (next_end frame (map (renewed moment.end) moment.jobs)) at_end refl;
+          later = later;
           inside = inside;
         }
 
-    runs_for : (ticks : ℕ) (turn : Job) → 0 < ticks → ticks ≤ turn.left → moment.tick + ticks ≤ frame → Each (λ job. moment.tick + ticks ≤ job.end) moment.jobs → earliest moment.jobs ≡ Some turn
-        → IsNext rs frame moment (ran turn.requirement.part ticks moment)
-    runs_for zero turn some enough inside ends first = absurd (omega arith)
-    runs_for (suc count) turn some enough inside ends first = runs count turn enough inside ends first
+    runs : (count : ℕ) (turn : Job) → suc count ≤ turn.left → moment.tick + suc count ≤ moment.end → earliest moment.jobs ≡ Some turn
+        → IsNext rs frame moment (ran frame turn.requirement.part (suc count) moment)
+    runs count turn enough within first =
+        let part = turn.requirement.part in
+        let ran_to : RanTo rs moment.tick moment.course moment.jobs part (suc count) =
+        run_ticks low rs moment.tick count moment.course moment.jobs turn possible here first (one_alone low moment.jobs turn rising (earliest_one moment.jobs turn first)) enough
+        (each_then (λ job. moment.end ≤ job.end) (λ job. moment.tick + suc count ≤ job.end) moment.jobs (λ job e. omega arith) ends) in
+        let tick : (ran frame part (suc count) moment).tick ≡ moment.tick + suc count = come_tick frame (moment.tick + suc count) (given part (suc count) moment) in
+        record {
+          moment = ran_moment low frame rs moment part (suc count) rising is.ends within ran_to;
+          later = subst (λ (n : ℕ). moment.tick < n) (sym tick) (omega arith);
+          inside = subst (λ (n : ℕ). n ≤ frame) (sym tick) (omega (arith, inside));
+        }
 
-    at : (turn : Option Job) → earliest moment.jobs ≡ turn → IsNext rs frame moment (ran_until (next_end frame moment.jobs) turn moment)
-    at None none = passes (next_end frame moment.jobs) (end_after moment.tick frame moment.jobs before ahead) (end_most frame moment.jobs) (end_before frame moment.jobs) none
+    runs_for : (ticks : ℕ) (turn : Job) → 0 < ticks → ticks ≤ turn.left → moment.tick + ticks ≤ moment.end → earliest moment.jobs ≡ Some turn
+        → IsNext rs frame moment (ran frame turn.requirement.part ticks moment)
+    runs_for zero turn some enough within first = absurd (omega arith)
+    runs_for (suc count) turn some enough within first = runs count turn enough within first
+
+    at : (turn : Option Job) → earliest moment.jobs ≡ turn → IsNext rs frame moment (ran_until frame (option_map due_of turn) moment)
+    at None none = passes none
     at (Some turn) first =
-        let end = next_end frame moment.jobs in
-        let later : moment.tick < end = end_after moment.tick frame moment.jobs before ahead in
-        let inside : end ≤ frame = end_most frame moment.jobs in
         let wants : 0 < turn.left = earliest_wants moment.jobs turn first in
-        runs_for (running end moment.tick turn) turn (omega arith) (omega arith) (omega arith)
-        (each_then (λ job. end ≤ job.end) (λ job. moment.tick + running end moment.tick turn ≤ job.end) moment.jobs (λ job e. omega arith) (end_before frame moment.jobs)) first
+        runs_for (running moment.end moment.tick (due_of turn)) turn (omega (arith, later)) (omega arith) (omega (arith, later)) first
 
 -- the first moment
-pub begun_moment : (rs : List Requirement) → IsMoment rs (begun rs)
-begun_moment rs = record { course = refl; jobs = sym (jobs_first rs) }
-
--- a moment before the end of a frame is before the next end
-pub going_end : (frame : ℕ) (moment : Moment) → IsGoing frame moment → moment.tick ≤ next_end frame moment.jobs
-going_end frame moment going =
-    let after : moment.tick < next_end frame moment.jobs =
-    end_after moment.tick frame moment.jobs going.before (each_from_all (λ job. moment.tick < job.end) moment.jobs going.ahead) in
-    omega arith
-
-spent_fits : (part ticks : ℕ) (job : Job) → job.end + job.requirement.period < 2 ^ 32 → (spent part ticks job).end + (spent part ticks job).requirement.period < 2 ^ 32
-spent_fits part ticks job fits = at (job.requirement.part == part)
-  where
-    at : (b : Bool) → (let k : Job = cond b (record job { left = job.left - ticks }) job in k).end + (let k : Job = cond b (record job { left = job.left - ticks }) job in k).requirement.period < 2 ^ 32
-    at true = fits
-    at false = fits
-
--- jobs that spent ticks have room where they had it
-pub spent_room : (part ticks : ℕ) (jobs : List Job) → HaveRoom jobs → HaveRoom (map (spent part ticks) jobs)
-spent_room part ticks jobs room =
-    all_from_each (λ job. job.end + job.requirement.period < 2 ^ 32) (map (spent part ticks) jobs)
-    (each_image (λ job. job.end + job.requirement.period < 2 ^ 32) (spent part ticks) jobs
-    (each_then (λ job. job.end + job.requirement.period < 2 ^ 32) (λ job. (spent part ticks job).end + (spent part ticks job).requirement.period < 2 ^ 32) jobs (spent_fits part ticks)
-    (each_from_all (λ job. job.end + job.requirement.period < 2 ^ 32) jobs room)))
+pub begun_moment : (frame : ℕ) (rs : List Requirement) → IsMoment frame rs (begun frame rs)
+begun_moment frame rs = record { course = refl; jobs = sym (jobs_first rs); ends = refl }
 
 -- the last slot has room for more ticks
 pub last_room : (last : Option Slot) (tick ticks : ℕ) → IfSome last (λ slot. slot.start + slot.duration ≤ tick) → tick + ticks < 2 ^ 32 → IfSome last (λ slot. slot.start + slot.duration + ticks < 2 ^ 32)
@@ -259,11 +300,10 @@ unfolding longest
 room_for start period early most = omega arith
 
 -- a moment of the plan before the end of a frame
-pub moment_going : (low frame : ℕ) (rs : List Requirement) (moment : Moment) → ArePossible low rs → IsMoment rs moment → frame ≤ 1000000 → moment.tick < frame → IsGoing frame moment
+pub moment_going : (low frame : ℕ) (rs : List Requirement) (moment : Moment) → ArePossible low rs → IsMoment frame rs moment → frame ≤ 1000000 → moment.tick < frame → IsGoing moment
 moment_going low frame rs moment possible is short before = record {
-  before = before;
-  ahead = subst (λ (jobs : List Job). All (λ job. moment.tick < job.end) jobs) (sym is.jobs) (all_from_each (λ job. moment.tick < job.end) (jobs_at rs moment.tick moment.course)
-      (each_then (IsAhead moment.tick) (λ job. moment.tick < job.end) (jobs_at rs moment.tick moment.course) (λ job a. a.end) (jobs_ahead moment.tick moment.course rs (each_possible low rs possible))));
+  before = rw is.ends (end_after moment.tick frame moment.jobs before
+      (rw is.jobs (each_then (IsAhead moment.tick) (λ job. moment.tick < job.end) (jobs_at rs moment.tick moment.course) (λ job a. a.end) (jobs_ahead moment.tick moment.course rs (each_possible low rs possible)))));
   room = record {
     ends = subst (λ (jobs : List Job). HaveRoom jobs) (sym is.jobs) (all_from_each (λ job. job.end + job.requirement.period < 2 ^ 32) (jobs_at rs moment.tick moment.course)
         (each_image (λ job. job.end + job.requirement.period < 2 ^ 32) (job_at moment.tick (slots_so_far moment.course)) rs
@@ -280,7 +320,7 @@ moment_going low frame rs moment possible is short before = record {
         rw (job_numbers moment.tick (slots_so_far moment.course) r) (room_for (window_start moment.tick r.period) r.period (omega arith) most)
 
 -- at the end of a frame the slots are all that it has
-pub frame_done : (rs : List Requirement) (frame : ℕ) (moment : Moment) → IsMoment rs moment → moment.tick ≡ frame → slots_so_far moment.course ≡ frame_slots rs frame
+pub frame_done : (rs : List Requirement) (frame : ℕ) (moment : Moment) → IsMoment frame rs moment → moment.tick ≡ frame → slots_so_far moment.course ≡ frame_slots rs frame
 unfolding frame_slots
 frame_done rs frame moment is ends = ap (λ (course : Course). slots_so_far course) is.course ∙ ap (λ (tick : ℕ). slots_so_far (course_of rs tick)) ends
 

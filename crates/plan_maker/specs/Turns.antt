@@ -1,14 +1,17 @@
 -- How a plan is made in turns: from a tick on to the next one in which something changes.
-use Rattle.std.specs.Prelude.{◌≡◌, ℕ, ◌+◌, ◌-◌, ◌^◌, ◌<◌, ◌≤◌, ◌==◌, if◌then◌else◌, List, map, fold, min, All, Option, Some, None, IfSome}
-use Rattle.plan_maker.specs.Course.{Course, at_rest, course_of, earliest, jobs_at, with_run}
+use Rattle.std.specs.Prelude.{◌≡◌, ℕ, ◌+◌, ◌-◌, ◌^◌, ◌<◌, ◌≤◌, ◌==◌, ◌&&◌, nat_lt, if◌then◌else◌, List, [], ◌∷◌, map, fold, min, All, Option, Some, None, IfSome}
+use Rattle.plan_maker.specs.Course.{Course, at_rest, course_of, jobs_at, with_run}
 use Rattle.plan_maker.specs.declared.jobs.Job.{Job}
 use Rattle.plan_maker.specs.declared.jobs.Requirement.{Requirement}
+use Rattle.plan_maker.specs.declared.jobs.Due.{Due}
 
--- how far a plan has been made: the next tick, the jobs in it, and the slots before it
+-- how far a plan has been made: the next tick, the jobs in it, the slots before it, and the tick at which the next window
+-- ends, or the frame
 pub record Moment : Type 0 where
   pub tick : ℕ
   pub jobs : List Job
   pub course : Course
+  pub end : ℕ
 
 -- a job after a partition had so many ticks
 abbrev pub spent : ℕ → ℕ → Job → Job
@@ -21,6 +24,19 @@ renewed tick job =
     then record job { left = job.requirement.duration; end = job.end + job.requirement.period }
     else job
 
+-- what is due to a job's partition in its current window
+abbrev pub due_of : Job → Due
+due_of job = record { part = job.requirement.part; left = job.left; end = job.end }
+
+-- of what goes first and the next job, what goes first
+abbrev pub sooner_due : Option Due → Job → Option Due
+sooner_due None job = if nat_lt 0 job.left then Some (due_of job) else None
+sooner_due (Some best) job = if nat_lt 0 job.left && nat_lt job.end best.end then Some (due_of job) else Some best
+
+-- what is due to the job that goes first, where one has ticks to get
+unfoldable pub first_due : List Job → Option Due
+first_due jobs = fold sooner_due None jobs
+
 -- the tick at which the next window ends, or the frame
 abbrev pub next_end : ℕ → List Job → ℕ
 next_end frame jobs = fold min frame (map (λ job. job.end) jobs)
@@ -30,39 +46,60 @@ abbrev pub first_job : Requirement → Job
 first_job requirement = record { requirement = requirement; left = requirement.duration; end = requirement.period }
 
 -- the first tick
-abbrev pub begun : List Requirement → Moment
-begun requirements = record { tick = 0; jobs = map first_job requirements; course = at_rest }
+abbrev pub begun : ℕ → List Requirement → Moment
+begun frame requirements =
+    record { tick = 0; jobs = map first_job requirements; course = at_rest; end = next_end frame (map first_job requirements) }
 
--- a moment in a later tick, where no window ends before it
+-- a moment in the tick at which the next window ends
 abbrev pub passed : ℕ → Moment → Moment
-passed tick moment = record { tick = tick; jobs = map (renewed tick) moment.jobs; course = moment.course }
+passed frame moment = record {
+  tick = moment.end;
+  jobs = map (renewed moment.end) moment.jobs;
+  course = moment.course;
+  end = next_end frame (map (renewed moment.end) moment.jobs);
+}
+
+-- a moment in a later tick, up to the one at which the next window ends
+abbrev pub come : ℕ → ℕ → Moment → Moment
+come frame tick moment = if tick == moment.end then passed frame moment else record moment { tick = tick }
+
+-- jobs of which the first one of a partition had so many ticks
+abbrev pub spent_first : ℕ → ℕ → List Job → List Job
+spent_first part ticks [] = []
+spent_first part ticks (job ∷ rest) =
+    if job.requirement.part == part then record job { left = job.left - ticks } ∷ rest else job ∷ spent_first part ticks rest
 
 -- a moment in which a partition has the next ticks
 abbrev pub given : ℕ → ℕ → Moment → Moment
-given part ticks moment =
-    record { tick = moment.tick; jobs = map (spent part ticks) moment.jobs; course = with_run part moment.tick ticks moment.course }
+given part ticks moment = record {
+  tick = moment.tick;
+  jobs = spent_first part ticks moment.jobs;
+  course = with_run part moment.tick ticks moment.course;
+  end = moment.end;
+}
 
 -- a moment after a partition ran for so many ticks
-abbrev pub ran : ℕ → ℕ → Moment → Moment
-ran part ticks moment = passed (moment.tick + ticks) (given part ticks moment)
+abbrev pub ran : ℕ → ℕ → ℕ → Moment → Moment
+ran frame part ticks moment = come frame (moment.tick + ticks) (given part ticks moment)
 
 -- the ticks for which a job runs until an end: all that it has left, or those up to the end
-abbrev pub running : ℕ → ℕ → Job → ℕ
-running end tick job = min job.left (end - tick)
+abbrev pub running : ℕ → ℕ → Due → ℕ
+running end tick due = min due.left (end - tick)
 
--- a moment after a job ran until an end, or none
-abbrev pub ran_until : ℕ → Option Job → Moment → Moment
-ran_until end None moment = passed end moment
-ran_until end (Some job) moment = ran job.requirement.part (running end moment.tick job) moment
+-- a moment after a job ran until the next window ends, or none
+abbrev pub ran_until : ℕ → Option Due → Moment → Moment
+ran_until frame None moment = passed frame moment
+ran_until frame (Some due) moment = ran frame due.part (running moment.end moment.tick due) moment
 
 -- the next moment in which something changes
 unfoldable pub turned : ℕ → Moment → Moment
-turned frame moment = ran_until (next_end frame moment.jobs) (earliest moment.jobs) moment
+turned frame moment = ran_until frame (first_due moment.jobs) moment
 
--- a moment of the plan of requirements: the jobs and the slots are those of its tick
-pub record IsMoment (requirements : List Requirement) (moment : Moment) : Type 0 where
+-- a moment of the plan of requirements: the jobs, the slots and the next end are those of its tick
+pub record IsMoment (frame : ℕ) (requirements : List Requirement) (moment : Moment) : Type 0 where
   pub course : moment.course ≡ course_of requirements moment.tick
   pub jobs : moment.jobs ≡ jobs_at requirements moment.tick moment.course
+  pub ends : moment.end ≡ next_end frame moment.jobs
 
 -- the next windows of jobs end below the greatest number
 abbrev pub HaveRoom : List Job → Type 0
@@ -74,7 +111,6 @@ pub record HasRoom (moment : Moment) : Type 0 where
   pub last : IfSome moment.course.last (λ slot. slot.start + slot.duration ≤ moment.tick)
 
 -- a moment before the end of a frame
-pub record IsGoing (frame : ℕ) (moment : Moment) : Type 0 where
-  pub before : moment.tick < frame
-  pub ahead : All (λ job. moment.tick < job.end) moment.jobs
+pub record IsGoing (moment : Moment) : Type 0 where
+  pub before : moment.tick < moment.end
   pub room : HasRoom moment

@@ -1,8 +1,7 @@
 //! Requirements, and what is left of each in its current window.
 
 ghost use Rattle.std.specs.Prelude.{◌≡◌, ◌+◌, ◌^◌, ◌<◌, All, map, fold, min};
-ghost use Rattle.plan_maker.specs.Course.{earliest, sooner};
-ghost use Rattle.plan_maker.specs.Turns.{spent, renewed, next_end};
+ghost use Rattle.plan_maker.specs.Turns.{first_due, next_end, renewed, sooner_due, spent_first, due_of};
 
 /// What a partition requires: so many ticks in each period.
 #[derive(Clone, Copy, Debug, PartialEq, Eq)]
@@ -26,10 +25,21 @@ pub struct Job {
     pub end: u32,
 }
 
-/// The job that goes first, or `None` where no job has ticks to get.
-#[tactic(auto, unfolding(crate::specs::Course::earliest))]
-pub(crate) fn earliest(jobs: &[Job]) -> Option<Job>
-    ensures { result ≡ earliest jobs.now }
+/// What is due to a partition in its current window.
+#[derive(Clone, Copy, Debug, PartialEq, Eq)]
+pub struct Due {
+    /// The partition's number.
+    pub part: u8,
+    /// The ticks that it has not had yet.
+    pub left: u32,
+    /// The tick with which its next window begins.
+    pub end: u32,
+}
+
+/// What is due to the job that goes first, or `None` where no job has ticks to get.
+#[tactic(auto, unfolding(crate::specs::Turns::first_due))]
+pub(crate) fn first_due(jobs: &[Job]) -> Option<Due>
+    ensures { result ≡ first_due jobs.now }
 {
     let mut best = None;
     for job in jobs {
@@ -38,19 +48,36 @@ pub(crate) fn earliest(jobs: &[Job]) -> Option<Job>
     best
 }
 
-/// Of the job that goes first and the next one, the one that goes first.
-fn sooner(best: Option<Job>, job: Job) -> Option<Job>
-    ensures { result ≡ sooner best job }
+/// Of what goes first and the next job, what goes first.
+fn sooner(best: Option<Due>, job: Job) -> Option<Due>
+    ensures { result ≡ sooner_due best job }
 {
     match best {
-        None => { if job.left > 0 { Some(job) } else { None } }
+        None => {
+            if job.left > 0 {
+                Some(due_of(job))
+            } else {
+                None
+            }
+        }
         Some(best) => {
             if job.left > 0 && job.end < best.end {
-                Some(job)
+                Some(due_of(job))
             } else {
                 Some(best)
             }
         }
+    }
+}
+
+/// What is due to a job's partition.
+fn due_of(job: Job) -> Due
+    ensures { result ≡ due_of job }
+{
+    Due {
+        part: job.requirement.part,
+        left: job.left,
+        end: job.end,
     }
 }
 
@@ -61,26 +88,15 @@ pub(crate) fn next_end(frame: u32, jobs: &[Job]) -> u32
     jobs.iter().map(|job| job.end).fold(frame, u32::min)
 }
 
-/// A partition has so many ticks.
+/// The first job of a partition has so many ticks.
 pub(crate) fn spend(jobs: &mut [Job], part: u8, ticks: u32)
-    ensures { jobs.new ≡ map (spent part ticks) jobs.old }
+    ensures { jobs.new ≡ spent_first part ticks jobs.old }
 {
     for job in jobs.iter_mut() {
-        *job = spent(*job, part, ticks);
-    }
-}
-
-/// A job after its partition, or another one, had so many ticks.
-fn spent(job: Job, part: u8, ticks: u32) -> Job
-    ensures { result ≡ spent part ticks job }
-{
-    if job.requirement.part != part {
-        return job;
-    }
-    Job {
-        requirement: job.requirement,
-        left: job.left.saturating_sub(ticks),
-        end: job.end,
+        if job.requirement.part == part {
+            job.left = job.left.saturating_sub(ticks);
+            return;
+        }
     }
 }
 

@@ -107,7 +107,7 @@ fn frame_slots(alloc: Global, requirements: &[Requirement], frame: u32) -> Resul
     ensures value { IfOk result (λ slots. slots.items ≡ frame_slots requirements.now frame) }
     ensures few { IfOk result (λ slots. length slots.items ≤ frame) }
 {
-    let mut moment = Moment::first(alloc, requirements)?;
+    let mut moment = Moment::first(alloc, frame, requirements)?;
     while moment.tick() < frame {
         moment.turn(frame)?;
     }

@@ -1,20 +1,22 @@
 //! A plan that is being made, from one change to the next.
 
 ghost use Rattle.std.specs.Prelude.{◌≡◌, ◌+◌, ◌^◌, ◌<◌, ◌≤◌, IfOk, IfSome, OnOk, map};
-ghost use Rattle.plan_maker.specs.Turns.{HasRoom, HaveRoom, IsGoing, begun, first_job, given, passed, ran, running, turned};
+ghost use Rattle.plan_maker.specs.Turns.{HasRoom, HaveRoom, IsGoing, begun, come, first_job, given, passed, ran, running, turned};
 
 use crate::course::Course;
-use crate::jobs::{Job, Requirement, earliest, next_end, renew, spend};
+use crate::jobs::{Due, Job, Requirement, first_due, next_end, renew, spend};
 use std::alloc::Global;
 use std::marker::Model;
 use xm_base::Memory;
 
-/// How far a plan has been made: the next tick, the jobs in it, and the slots before it.
+/// How far a plan has been made: the next tick, the jobs in it, the slots before it, and the tick at which the next window
+/// ends, or the frame.
 #[derive(Debug, Drop)]
 pub struct Moment {
     tick: u32,
     jobs: Vec<Job>,
     course: Course,
+    end: u32,
 }
 
 impl Model for Moment {
@@ -22,18 +24,25 @@ impl Model for Moment {
 
     ghost Value = { plain.Moment };
 
-    ghost view = { λ moment. record { tick = moment.tick; jobs = moment.jobs.items; course = moment.course } };
+    ghost view = { λ moment. record { tick = moment.tick; jobs = moment.jobs.items; course = moment.course; end = moment.end } };
 }
 
 impl Moment {
     /// The first tick, with the first window of each requirement.
-    pub(crate) fn first(alloc: Global, requirements: &[Requirement]) -> Result<Moment, Memory>
-        ensures { IfOk result (λ moment. moment ≡ begun requirements.now) }
+    pub(crate) fn first(
+        alloc: Global,
+        frame: u32,
+        requirements: &[Requirement],
+    ) -> Result<Moment, Memory>
+        ensures { IfOk result (λ moment. moment ≡ begun frame requirements.now) }
     {
+        let jobs = first_jobs(alloc, requirements)?;
+        let end = next_end(frame, &jobs);
         Ok(Moment {
             tick: 0,
-            jobs: first_jobs(alloc, requirements)?,
+            jobs,
             course: Course::new(alloc),
+            end,
         })
     }
 
@@ -52,46 +61,59 @@ impl Moment {
             tick: _,
             jobs: _,
             course,
+            end: _,
         } = self;
         course
     }
 
     /// Goes on to the next change: a job has had its ticks, or a window or the frame ends.
-    #[tactic(auto, using(crate::proofs::TurnLemmas::going_end), unfolding(crate::specs::Turns::turned))]
+    #[tactic(auto, unfolding(crate::specs::Turns::turned))]
     pub(crate) fn turn(&mut self, frame: u32) -> Result<(), Memory>
-        requires { IsGoing frame self.old }
+        requires { IsGoing self.old }
         ensures { OnOk result (self.new ≡ turned frame self.old) }
     {
-        let end = next_end(frame, &self.jobs);
-        match earliest(&self.jobs) {
+        match first_due(&self.jobs) {
             None => {
-                self.pass(end);
+                self.pass(frame);
                 Ok(())
             }
-            Some(job) => self.run(job, end),
+            Some(due) => self.run(frame, due),
         }
     }
 
-    /// Nothing runs until a window or the frame ends.
-    fn pass(&mut self, end: u32)
+    /// Nothing runs until the next window or the frame ends, and the windows that end then begin again.
+    fn pass(&mut self, frame: u32)
         requires { HaveRoom self.old.jobs }
-        ensures { self.new ≡ passed end self.old }
+        ensures { self.new ≡ passed frame self.old }
     {
-        self.tick = end;
-        renew(&mut self.jobs, end);
+        self.tick = self.end;
+        renew(&mut self.jobs, self.tick);
+        self.end = next_end(frame, &self.jobs);
     }
 
     /// A job runs until it has had its ticks, or until a window or the frame ends.
-    #[tactic(auto, using(crate::proofs::TurnLemmas::spent_room, crate::proofs::TurnLemmas::last_room))]
-    fn run(&mut self, job: Job, end: u32) -> Result<(), Memory>
+    #[tactic(auto, using(crate::proofs::SpentLemmas::spent_room, crate::proofs::TurnLemmas::last_room))]
+    fn run(&mut self, frame: u32, due: Due) -> Result<(), Memory>
         requires room { HasRoom self.old }
-        requires before { self.old.tick ≤ end }
-        ensures { OnOk result (self.new ≡ ran job.requirement.part (running end self.old.tick job) self.old) }
+        requires before { self.old.tick ≤ self.old.end }
+        ensures { OnOk result (self.new ≡ ran frame due.part (running self.old.end self.old.tick due) self.old) }
     {
-        let ticks = job.left.min(end - self.tick);
-        self.give(job.requirement.part, ticks)?;
-        self.pass(self.tick + ticks);
+        let ticks = due.left.min(self.end - self.tick);
+        self.give(due.part, ticks)?;
+        self.come(frame, self.tick + ticks);
         Ok(())
+    }
+
+    /// Goes on to a tick up to the one at which the next window or the frame ends.
+    fn come(&mut self, frame: u32, tick: u32)
+        requires { HaveRoom self.old.jobs }
+        ensures { self.new ≡ come frame tick self.old }
+    {
+        if tick == self.end {
+            self.pass(frame);
+        } else {
+            self.tick = tick;
+        }
     }
 
     /// A partition has the next ticks.

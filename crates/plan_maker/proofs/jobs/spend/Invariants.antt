@@ -1,7 +1,9 @@
--- The jobs so far have spent their ticks.
-use Rattle.std.proofs.Common.{◌≡◌, ◌++◌, drop, map, take}
-use Rattle.plan_maker.specs.Turns.{spent}
+-- No job so far is of the partition.
+use Rattle.std.proofs.Common.{◌≡◌, ◌++◌, drop, take}
+use Rattle.plan_maker.specs.Turns.{spent_first}
 use Rattle.plan_maker.proofs.jobs.spend.Given as goal
 
 abbrev pub invariant-loop-job : goal.invariant-loop-job
-invariant-loop-job l = l.jobs ≡ map (spent l.part l.ticks) (take l.job-index l.initial.jobs) ++ drop l.job-index l.initial.jobs
+invariant-loop-job l =
+    (l.jobs ≡ l.initial.jobs)
+    × (spent_first l.part l.ticks l.initial.jobs ≡ take l.job-index l.initial.jobs ++ spent_first l.part l.ticks (drop l.job-index l.initial.jobs))

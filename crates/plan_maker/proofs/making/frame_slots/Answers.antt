@@ -8,8 +8,8 @@ use Rattle.plan_maker.proofs.making.frame_slots.Goals as goal
 
 pub loop-moment-init : goal.loop-moment-init
 loop-moment-init c =
-    subst (λ (moment : Moment). IsMoment c.args.requirements.now moment × (moment.tick ≤ c.args.frame)) (sym c.in_ok-moment.ensures)
-    (begun_moment c.args.requirements.now, omega arith)
+    subst (λ (moment : Moment). IsMoment c.args.frame c.args.requirements.now moment × (moment.tick ≤ c.args.frame)) (sym c.in_ok-moment.ensures)
+    (begun_moment c.args.frame c.args.requirements.now, omega arith)
 
 pub turn-requires : goal.turn-requires
 turn-requires c =
@@ -18,7 +18,7 @@ turn-requires c =
 pub loop-moment-preserved : goal.loop-moment-preserved
 loop-moment-preserved c =
     let next = turned_next 0 c.args.frame c.args.requirements.now c.loop-moment.moment c.requires.possible c.loop-moment.invariant.0 (omega arith) in
-    subst (λ (moment : Moment). IsMoment c.args.requirements.now moment × (moment.tick ≤ c.args.frame)) (sym c.in_ok-turn.ensures) (next.moment, next.inside)
+    subst (λ (moment : Moment). IsMoment c.args.frame c.args.requirements.now moment × (moment.tick ≤ c.args.frame)) (sym c.in_ok-turn.ensures) (next.moment, next.inside)
 
 pub loop-moment-smaller : goal.loop-moment-smaller
 loop-moment-smaller c =
