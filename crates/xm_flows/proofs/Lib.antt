@@ -1,0 +1,13 @@
+pub mod ActLemmas
+pub mod EndLemmas
+pub mod PairLemmas
+pub mod HeardLemmas
+pub mod TurnLemmas
+pub mod ClockLemmas
+pub mod TickLemmas
+pub mod AgreeLemmas
+pub mod RunLemmas
+pub mod CalmLemmas
+pub mod MaskLemmas
+pub mod ClosureLemmas
+pub mod RoundLemmas

@@ -1,0 +1,5 @@
+use Rattle.xm_flows.proofs.ActLemmas.{acts_by_right}
+use Rattle.xm_flows.proofs.law.acts_by_right.Goals as goal
+
+pub returns : goal.returns
+returns c = record { law = acts_by_right }

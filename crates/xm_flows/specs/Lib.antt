@@ -1,0 +1,6 @@
+pub mod Groups
+pub mod Alike
+pub mod Steering
+pub mod Rights
+pub mod Laws
+pub mod Masks
