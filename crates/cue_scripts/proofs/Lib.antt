@@ -1,0 +1,13 @@
+mod AgainLemmas
+mod CountLemmas
+mod EntriesLemmas
+mod FieldLemmas
+mod FileAgainLemmas
+mod FileTakeLemmas
+mod NameLemmas
+mod RunLemmas
+mod ScriptLemmas
+mod TakeLemmas
+mod TakePartLemmas
+mod WholeAgainLemmas
+mod WholeTakeLemmas

@@ -1,0 +1,96 @@
+-- What is read of a cue stands there, and others may tell it.
+use Rattle.std.proofs.Common.{◌≡◌, ℕ, zero, suc, ◌^◌, ◌<◌, ◌≤◌, Bool, true, false, List, [], ◌∷◌, ◌++◌, length, Option, Some, None, Result, Ok, Err, refl, sym, ap, subst, ◌∙◌, arith}
+use Rattle.std.specs.Prelude.{nat_le, ◌&&◌, ◌==◌, is_some, is_none, if◌then◌else◌}
+use Rattle.std.specs.Int.{w8, w16, w32, to_be_bytes}
+use Rattle.std.proofs.lemmas.Bool.{eqb-false, eqb-true}
+use Rattle.std.proofs.lemmas.Bool.Decides.{nat_tests}
+use Rattle.xm_base.specs.Bytes.{AreBytes}
+use Rattle.xm_base.specs.Cursor.{Place, ahead}
+use Rattle.xm_base.specs.declared.partition.Mode.{Mode}
+use Rattle.xm_base.specs.declared.partition.Mode.TheVariants as mode
+use Rattle.xm_base.specs.declared.partition.Order.{Order}
+use Rattle.xm_conf.specs.Configuration.{Conf}
+use Rattle.xef_images.specs.FieldLemmas.{Takes, takes_both, wide16, wide32}
+use Rattle.xef_images.specs.StepLemmas.{stepped, ok_is}
+use Rattle.xef_images.specs.Steps.{◌>>=◌}
+use Rattle.machine_model.specs.Cue.{Away, Cue, Mine, Slot}
+use Rattle.machine_model.specs.Told.{AllHalted, AllReset, NoEvent, NotKept, OwnPuts, OwnStill, OwnTakes, OwnTraffic, Sight, Unseen, WholeEvent, Words}
+use Rattle.cue_scripts.specs.Entries.{is_away}
+use Rattle.cue_scripts.specs.Script.{CanHear, CanSee, IsOrder, gives_queue, is_length, is_shown, most_heard}
+use Rattle.cue_scripts.specs.Spelling.{event_byte, order_text, reset_byte, sight_text, slot_byte, traffic_text}
+use Rattle.cue_scripts.specs.Reading.{bytes_at, event_at, event_of_byte, is_event, is_heard, is_sight, listed_at, message_at, number_at, order_at, order_of_kind, put_at, reset_at, sight_at, sight_of_kind, signal_at, slot_at, slot_of_byte, take_at, traffic_at, traffic_of_kind, words_at}
+use Rattle.cue_scripts.specs.declared.fault.ScriptFault.TheVariants.{Field}
+use Rattle.cue_scripts.proofs.FieldLemmas.{AreBytes-front, begins, bytes_take, listed_takes, number_takes}
+
+-- a number is this one
+pub is_this : (n m : ℕ) → (n == m) ≡ true → n ≡ m
+is_this n m e = eqb-true n m e
+
+-- a number is another one
+pub is_not : (n m : ℕ) → (n == m) ≡ false → n ≡ m → ⊥
+is_not n m e = eqb-false n m e
+
+-- of the numbers up to 2 it is the one that is left
+pub two : (n : ℕ) → nat_le n 2 ≡ true → (n == 0) ≡ false → (n == 1) ≡ false → n ≡ 2
+two n few f0 f1 = grind (arith, nat_tests, few, f0, f1)
+
+-- a slot that is read stands there
+pub slot_takes : (place : Place) (mine : Slot) (after : Place) → AreBytes (ahead place) → slot_at place ≡ Ok (mine, after) → Takes place (slot_byte mine ∷ []) after
+unfolding slot_at
+slot_takes place mine after each e =
+    let k = begins (λ byte. nat_le byte 2) (λ byte behind. Ok (slot_of_byte byte, behind)) place (mine, after) each e in
+    let P : Slot × Place → Type 0 = λ x. Takes place (slot_byte x.0 ∷ []) x.1 in
+    subst P (ok_is (slot_of_byte k.kind, k.behind) (mine, after) k.led) (rw (slot_spelled k.kind k.passes) at k.first)
+  where
+    by : (n : ℕ) (a b : Bool) → (n == 0) ≡ a → (n == 2) ≡ b → nat_le n 2 ≡ true → n ≡ slot_byte (if a then Away else Mine b)
+    by n true b none other few = eqb-true n 0 none
+    by n false true none other few = eqb-true n 2 other
+    by n false false none other few = grind (arith, nat_tests, few, none, other)
+
+    slot_spelled : (n : ℕ) → nat_le n 2 ≡ true → n ∷ [] ≡ slot_byte (slot_of_byte n) ∷ []
+    slot_spelled n few = ap (λ b. b ∷ []) (by n (n == 0) (n == 2) refl refl few)
+
+-- a message that is read behind its kind stands there
+pub put_takes : (conf : Conf) (p : ℕ) (place behind : Place) (traffic : OwnTraffic) (after : Place) → Takes place (1 ∷ []) behind → put_at conf p behind ≡ Ok (traffic, after)
+    → Takes place (traffic_text traffic) after × CanHear conf p traffic
+unfolding put_at message_at traffic_text
+put_takes conf p place behind traffic after kind e =
+    let n = begins (λ name. is_some (most_heard conf p name)) (λ name later. message_at (most_heard conf p name) name later) behind (traffic, after) kind.rest e in
+    let most = most_heard conf p n.kind in
+    let c = stepped (listed_at w16 (is_length most) n.behind) (λ count. bytes_at count.0 count.1 >>= λ bytes. Ok (OwnPuts n.kind bytes.0, bytes.1)) (traffic, after) n.led in
+    let t = listed_takes w16 (2 ^ 16) wide16 (is_length most) n.behind c.value.0 c.value.1 n.first.rest c.is in
+    let b = stepped (bytes_at c.value.0 c.value.1) (λ bytes. Ok (OwnPuts n.kind bytes.0, bytes.1)) (traffic, after) c.led in
+    let u = bytes_take c.value.0 c.value.1 b.value.0 b.value.1 t.0.rest b.is in
+    let P : OwnTraffic × Place → Type 0 = λ x. Takes place (traffic_text x.0) x.1 × CanHear conf p x.0 in
+    let sized : Takes n.behind (to_be_bytes w16 (length b.value.0)) c.value.1 = rw u.1 t.0 in
+    subst P {x = (OwnPuts n.kind b.value.0, b.value.1)} (ok_is (OwnPuts n.kind b.value.0, b.value.1) (traffic, after) b.led) (
+      takes_both place (1 ∷ []) behind (n.kind ∷ to_be_bytes w16 (length b.value.0) ++ b.value.0) b.value.1 kind
+          (takes_both behind (n.kind ∷ []) n.behind (to_be_bytes w16 (length b.value.0) ++ b.value.0) b.value.1 n.first
+          (takes_both n.behind (to_be_bytes w16 (length b.value.0)) c.value.1 b.value.0 b.value.1 sized u.0)),
+      record {
+        called = n.small;
+        fits = rw u.1 t.2;
+        short = rw u.1 t.1;
+        spelled = AreBytes-front b.value.0 (ahead b.value.1) (rw u.0.parts at t.0.rest);
+      },
+    )
+
+-- a message that was taken, read behind its kind, stands there
+pub take_takes : (conf : Conf) (p : ℕ) (place behind : Place) (traffic : OwnTraffic) (after : Place) → Takes place (2 ∷ []) behind → take_at conf p behind ≡ Ok (traffic, after)
+    → Takes place (traffic_text traffic) after × CanHear conf p traffic
+unfolding take_at traffic_text
+take_takes conf p place behind traffic after kind e =
+    let n = begins (gives_queue conf p) (λ name later. Ok (OwnTakes name, later)) behind (traffic, after) kind.rest e in
+    let P : OwnTraffic × Place → Type 0 = λ x. Takes place (traffic_text x.0) x.1 × CanHear conf p x.0 in
+    subst P {x = (OwnTakes n.kind, n.behind)} (ok_is (OwnTakes n.kind, n.behind) (traffic, after) n.led) (
+      takes_both place (2 ∷ []) behind (n.kind ∷ []) n.behind kind n.first,
+      (n.small, n.passes),
+    )
+
+-- no signal is read
+pub no_signal : (place : Place) (traffic : OwnTraffic) (after : Place) → signal_at place ≡ Ok (traffic, after) → ⊥
+unfolding signal_at
+no_signal place traffic after e =
+    let s = stepped (number_at w8 place) (λ number. Err (Field place.at)) (traffic, after) e in
+    let led = s.led in
+    absurd cc

@@ -1,0 +1,27 @@
+-- What a reader of a script answers, against what reading gives.
+use Rattle.std.specs.Prelude.{◌≡◌, Result, Ok, Err}
+use Rattle.xm_base.specs.Cursor.{Place}
+use Rattle.cue_scripts.specs.Reading.{Read}
+use Rattle.cue_scripts.specs.declared.fault.ScriptFault.{ScriptFault}
+use Rattle.cue_scripts.specs.declared.fault.ScriptFault.TheVariants as fault
+
+-- the fault is what reading gives, unless there was no memory; a script is never found too long or untakable when it is read
+abbrev pub Fails : {Y : Type 0} → ScriptFault → Result Y ScriptFault → Type 0
+Fails fault.Memory read = Unit {0}
+Fails fault.Magic read = read ≡ Err fault.Magic
+Fails (fault.Version found) read = read ≡ Err (fault.Version found)
+Fails (fault.Short at) read = read ≡ Err (fault.Short at)
+Fails (fault.Trailing at) read = read ≡ Err (fault.Trailing at)
+Fails (fault.Field at) read = read ≡ Err (fault.Field at)
+Fails (fault.Length found) read = ⊥
+Fails (fault.Cue tick) read = ⊥
+
+-- what was answered is what reading gives, unless there was no memory
+abbrev pub Gives : {X Y : Type 0} → (X → Y) → Result X ScriptFault → Result Y ScriptFault → Type 0
+Gives view (Ok value) read = read ≡ Ok (view value)
+Gives view (Err fault) read = Fails fault read
+
+-- the same for a cursor, which stands behind what was read
+abbrev pub GivesAt : {X Y : Type 0} → (X → Y) → Result X ScriptFault → Place → Read Y → Type 0
+GivesAt view (Ok value) place read = read ≡ Ok (view value, place)
+GivesAt view (Err fault) place read = Fails fault read

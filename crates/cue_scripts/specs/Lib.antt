@@ -1,0 +1,9 @@
+pub mod Entries
+pub mod Gives
+pub mod Kept
+pub mod Laws
+pub mod Reading
+pub mod Script
+pub mod Spelling
+pub mod Texts
+pub mod Values

@@ -1,0 +1,60 @@
+-- What the entries of a script that is kept are as values.
+use Rattle.std.specs.Prelude.{List, map}
+use Rattle.xm_base.specs.declared.partition.Mode.TheVariants as mode
+use Rattle.machine_model.specs.Cue.{Away, Cue, Mine, Slot}
+use Rattle.machine_model.specs.Told.{AllHalted, AllReset, NoEvent, NotKept, OwnPuts, OwnStill, OwnTakes, OwnTraffic, Sight, Unseen, WholeEvent, Words}
+use Rattle.cue_scripts.specs.Entries.{Alike, Entry, Other}
+use Rattle.cue_scripts.specs.declared.cue.ScriptCue as code_cue
+use Rattle.cue_scripts.specs.declared.cue.ScriptSlot.{ScriptSlot}
+use Rattle.cue_scripts.specs.declared.cue.ScriptSlot.TheVariants as slot
+use Rattle.cue_scripts.specs.declared.cue.ScriptTraffic.{ScriptTraffic}
+use Rattle.cue_scripts.specs.declared.cue.ScriptTraffic.TheVariants as traffic
+use Rattle.cue_scripts.specs.declared.cue.ScriptEvent.{ScriptEvent}
+use Rattle.cue_scripts.specs.declared.cue.ScriptEvent.TheVariants as event
+use Rattle.cue_scripts.specs.declared.cue.ScriptSight.{ScriptSight}
+use Rattle.cue_scripts.specs.declared.cue.ScriptSight.TheVariants as sight
+use Rattle.cue_scripts.specs.declared.cue.ScriptEntry.{ScriptEntry}
+use Rattle.cue_scripts.specs.declared.cue.ScriptEntry.TheVariants as entry
+
+-- whose slot it is
+abbrev pub slot_value : ScriptSlot → Slot
+slot_value slot.Away = Away
+slot_value (slot.Mine first) = Mine first
+
+-- the traffic of others
+abbrev pub traffic_value : ScriptTraffic → OwnTraffic
+traffic_value traffic.Nothing = OwnStill
+traffic_value (traffic.Put chan bytes) = OwnPuts chan bytes.items
+traffic_value (traffic.Take chan) = OwnTakes chan
+
+-- the hypervisor event
+abbrev pub event_value : ScriptEvent → WholeEvent
+event_value event.Nothing = NoEvent
+event_value event.Cold = AllReset mode.Cold
+event_value event.Warm = AllReset mode.Warm
+event_value event.Halt = AllHalted
+
+-- what was shown
+abbrev pub sight_value : ScriptSight → Sight
+sight_value sight.Nothing = Unseen
+sight_value sight.NotKept = NotKept
+sight_value (sight.Words bytes) = Words bytes.items
+
+-- a cue
+abbrev pub cue_value : code_cue.ScriptCue → Cue
+cue_value cue = record {
+  mine = slot_value cue.mine;
+  traffic = traffic_value cue.traffic;
+  order = cue.order;
+  whole = event_value cue.whole;
+  seen = sight_value cue.seen;
+}
+
+-- an entry
+abbrev pub entry_value : ScriptEntry → Entry
+entry_value (entry.Alike own count) = Alike own count
+entry_value (entry.Other cue) = Other (cue_value cue)
+
+-- entries
+abbrev pub entry_values : List ScriptEntry → List Entry
+entry_values entries = map entry_value entries

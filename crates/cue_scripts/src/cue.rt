@@ -1,0 +1,150 @@
+//! What a partition is told in a tick, as a script keeps it.
+
+ghost use Rattle.std.specs.Prelude.{◌≡◌};
+ghost use Rattle.cue_scripts.specs.Entries.{count_of, is_no_event, is_still, is_unseen, own_of, plain_kind, running_in};
+ghost use Rattle.cue_scripts.specs.Values.{cue_value, entry_value, event_value, sight_value, slot_value, traffic_value};
+
+use xm_base::Order;
+
+/// Whose slot a tick is in, as the partition sees it.
+#[derive(Clone, Copy, Debug, PartialEq, Eq)]
+pub enum ScriptSlot {
+    /// Not its own.
+    Away,
+    /// Its own, which begins with this tick or did before.
+    Mine { first: bool },
+}
+
+/// What others did to a channel of the partition, which goes by the partition's name for it: its lowest port on the channel.
+#[derive(Debug, Drop)]
+pub enum ScriptTraffic {
+    /// Nothing.
+    Nothing,
+    /// A message was put.
+    Put { chan: u8, bytes: Vec<u8> },
+    /// The first message was taken.
+    Take { chan: u8 },
+}
+
+/// What was done to the whole system.
+#[derive(Clone, Copy, Debug, PartialEq, Eq)]
+pub enum ScriptEvent {
+    /// Nothing.
+    Nothing,
+    /// A cold reset.
+    Cold,
+    /// A warm reset.
+    Warm,
+    /// It halted.
+    Halt,
+}
+
+/// What an observing call of the partition was shown.
+#[derive(Debug, Drop)]
+pub enum ScriptSight {
+    /// Nothing.
+    Nothing,
+    /// That an entry is not kept.
+    NotKept,
+    /// These bytes.
+    Words(Vec<u8>),
+}
+
+/// All that one partition is told of the others in a tick.
+#[derive(Debug, Drop)]
+pub struct ScriptCue {
+    pub mine: ScriptSlot,
+    pub traffic: ScriptTraffic,
+    /// The order that another partition gave it.
+    pub order: Option<Order>,
+    pub whole: ScriptEvent,
+    pub seen: ScriptSight,
+}
+
+/// An entry of a script.
+#[derive(Debug, Drop)]
+pub enum ScriptEntry {
+    /// So many cues with nothing but whose slot it is: the partition's own, which began before, or not.
+    Alike { own: bool, count: u32 },
+    /// Another cue.
+    Other(ScriptCue),
+}
+
+impl ScriptEntry {
+    /// How many cues it has.
+    pub fn count(&self) -> u32
+        ensures { result ≡ count_of (entry_value self.now) }
+    {
+        match self {
+            ScriptEntry::Alike { count, .. } => *count,
+            ScriptEntry::Other(_) => 1,
+        }
+    }
+
+    /// Whose running slot it repeats, where its cues have nothing else.
+    pub(crate) fn own(&self) -> Option<bool>
+        ensures { result ≡ own_of (entry_value self.now) }
+    {
+        match self {
+            ScriptEntry::Alike { own, .. } => Some(*own),
+            ScriptEntry::Other(_) => None,
+        }
+    }
+}
+
+/// Whether a cue has nothing but whose running slot it is.
+#[tactic(auto, unfolding(crate::specs::Entries::plain_kind, crate::specs::Entries::is_bare))]
+pub(crate) fn plain_kind(cue: &ScriptCue) -> Option<bool>
+    ensures { result ≡ plain_kind (cue_value cue.now) }
+{
+    if is_still(&cue.traffic)
+        && cue.order.is_none()
+        && is_no_event(cue.whole)
+        && is_unseen(&cue.seen)
+    {
+        running_in(cue.mine)
+    } else {
+        None
+    }
+}
+
+/// Whether nothing was put or taken.
+fn is_still(traffic: &ScriptTraffic) -> bool
+    ensures { result ≡ is_still (traffic_value traffic.now) }
+{
+    match traffic {
+        ScriptTraffic::Nothing => true,
+        ScriptTraffic::Put { .. } | ScriptTraffic::Take { .. } => false,
+    }
+}
+
+/// Whether nothing was done to the whole system.
+fn is_no_event(event: ScriptEvent) -> bool
+    ensures { result ≡ is_no_event (event_value event) }
+{
+    match event {
+        ScriptEvent::Nothing => true,
+        ScriptEvent::Cold | ScriptEvent::Warm | ScriptEvent::Halt => false,
+    }
+}
+
+/// Whether nothing was shown.
+fn is_unseen(seen: &ScriptSight) -> bool
+    ensures { result ≡ is_unseen (sight_value seen.now) }
+{
+    match seen {
+        ScriptSight::Nothing => true,
+        ScriptSight::NotKept | ScriptSight::Words(_) => false,
+    }
+}
+
+/// Whose running slot it is; none where a slot of the partition's own begins.
+fn running_in(slot: ScriptSlot) -> Option<bool>
+    ensures { result ≡ running_in (slot_value slot) }
+{
+    match slot {
+        ScriptSlot::Away => Some(false),
+        ScriptSlot::Mine { first: false } => Some(true),
+        ScriptSlot::Mine { first: true } => None,
+    }
+}

@@ -1,0 +1,18 @@
+//! Laws on scripts.
+
+ghost use Rattle.cue_scripts.specs.Laws.{NoneIsPrefix, ReadIsWritten, WrittenIsRead};
+
+/// A script that was written is read back.
+pub fn written_is_read()
+    ensures { WrittenIsRead }
+{}
+
+/// What is read of bytes is what they spell.
+pub fn read_is_written()
+    ensures { ReadIsWritten }
+{}
+
+/// No script of a partition is a proper prefix of another.
+pub fn none_is_prefix()
+    ensures { NoneIsPrefix }
+{}

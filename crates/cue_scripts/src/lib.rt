@@ -1,0 +1,20 @@
+//! The script of a partition: all that others told it in a run, in a file of one spelling, both ways.
+#![tactic(auto)]
+
+mod channels;
+mod cue;
+mod fault;
+mod law;
+mod put;
+mod reading;
+mod script;
+#[cfg(test)]
+mod tests;
+mod writing;
+
+pub use cue::{ScriptCue, ScriptEntry, ScriptEvent, ScriptSight, ScriptSlot, ScriptTraffic};
+pub use fault::ScriptFault;
+pub use law::{none_is_prefix, read_is_written, written_is_read};
+pub use reading::read_script;
+pub use script::Script;
+pub use writing::build_script;
