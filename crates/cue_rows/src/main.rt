@@ -1,0 +1,79 @@
+//! Prints what the partitions of the systems of its data folder are told, tick by tick.
+#![tactic(auto)]
+
+mod told;
+
+ghost use Rattle.std.specs.Prelude.{◌≡◌, IfOk, length};
+
+use anyhow::{Context, Result, bail};
+use std::alloc::Global;
+use std::fs::{File, Files};
+use std::io::Read;
+use told::put_cue;
+use uart_board::Board;
+use xm_base::TICKS;
+use xm_container::{System, unpack};
+use xm_machine::{Inputs, Machine};
+use xm_outside::SureSink;
+
+const NO_MEMORY: &str = "there is no memory";
+
+fn main(rt: HostRuntime) -> Result<()> {
+    show(&rt, rt.alloc(), "reset.box", 4)?;
+    show(&rt, rt.alloc(), "queue.box", 50)
+}
+
+// Does so many ticks of a container's system, and prints what each partition was told in each.
+fn show(rt: &(impl Files + Print), alloc: Global, name: &str, ticks: u64) -> Result<()> {
+    println!(rt; "{name}")?;
+    let mut machine = booted(rt, alloc, name)?;
+    for tick in 0..ticks {
+        show_tick(rt, tick, &mut machine)?;
+    }
+    Ok(())
+}
+
+// Does a tick, and prints what each partition was told in it.
+fn show_tick(rt: &impl Print, tick: u64, machine: &mut Machine) -> Result<()> {
+    if machine.done() >= TICKS {
+        bail!("there are too many ticks");
+    }
+    let told = machine.tick(&mut SureSink::new(), &mut Board::new());
+    told.ok().context("a tick was not done")?;
+    put_cues(rt, tick, machine)
+}
+
+// Prints what each partition was told in this tick, the machine's last one.
+fn put_cues(rt: &impl Print, tick: u64, machine: &Machine) -> Result<()> {
+    for p in 0..machine.sys().count() {
+        print!(rt; "tick {tick} P{p} ")?;
+        put_cue(rt, &machine.cue(p))?;
+    }
+    Ok(())
+}
+
+// The machine of a container, without input words.
+fn booted(rt: &impl Files, alloc: Global, name: &str) -> Result<Machine> {
+    let bytes = read_data(rt, alloc, name).context("there is no container")?;
+    let Ok(system) = unpack(alloc, &bytes) else {
+        bail!("{name} is no container");
+    };
+    let inputs = Inputs::new(alloc, count(&system)).ok().context(NO_MEMORY)?;
+    let machine = Machine::boot(alloc, system, inputs);
+    machine.ok().context(NO_MEMORY)
+}
+
+// How many partitions a system has.
+#[tactic(auto, unfolding(xm_conf::specs::Description::described))]
+fn count(system: &System) -> u8
+    ensures { result ≡ length system.now.conf.parts }
+{
+    system.conf().raw().parts.len() as u8
+}
+
+// The bytes of a file of the data folder.
+fn read_data(rt: &impl Files, alloc: Global, name: &str) -> Result<Vec<u8>> {
+    let mut bytes = Vec::new(alloc);
+    File::open(rt, name)?.read_to_end(&mut bytes)?;
+    Ok(bytes)
+}
