@@ -29,12 +29,13 @@ use verdict::Verdict;
 const WORKED: &str = "worked.toml";
 
 // The files of cases, in the order in which they are done.
-const BOOKS: [&str; 26] = [
+const BOOKS: [&str; 27] = [
     "differing.toml",
     "raw_images.toml",
     "descriptions.toml",
     "rules.toml",
     "plans.toml",
+    "groups.toml",
     "programs.toml",
     "containers.toml",
     "binary_configurations.toml",

@@ -1,6 +1,6 @@
 -- What commands leave of the board of UARTs.
-use Rattle.std.proofs.Common.{◌≡◌, ℕ, List, Option, Some, None, Result, Ok, Err, refl, sym, subst, ap}
-use Rattle.std.specs.Prelude.{IsNone, IsSome}
+use Rattle.std.proofs.Common.{◌≡◌, ℕ, ◌<◌, List, length, take, Option, Some, None, Result, Ok, Err, refl, sym, subst, ap, ◌∙◌}
+use Rattle.std.specs.Prelude.{IsSome}
 use Rattle.machine_model.specs.Lines.{console}
 use Rattle.machine_model.specs.Machine.{Machine, start}
 use Rattle.loaded_system.specs.System.{System}
@@ -10,22 +10,24 @@ use Rattle.whole_system.specs.State.{with_inputs}
 use Rattle.xm_machine.specs.Heard.{IsRunHeard}
 use Rattle.xm_machine.specs.Outcome.{IsRun}
 use Rattle.xm_machine.specs.declared.run.Ran.{Ran}
+use Rattle.xm_report.specs.Report.{ReportLine, texts}
 use Rattle.xm_report.specs.declared.output.WriteFault.{WriteFault}
 use Rattle.xm_outside.specs.Files.{Files}
-use Rattle.xm_words.specs.Words.{Command, PartFile, Parse, BuildImage, ReadImage, Pack, ListContainer, CheckContainer, MakePlan, CheckPlan}
-use Rattle.xm_commands.specs.Boards.{EndsRun, HasLeft, IsLeft, IsMarked, IsRunTo, Leaves}
+use Rattle.xm_outside.specs.Growth.{grown}
+use Rattle.xm_words.specs.Words.{Command, PartFile, Parse, BuildImage, ReadImage, Pack, ListContainer, CheckContainer, MakePlan, CheckPlan, TellGroups}
+use Rattle.xm_commands.specs.Boards.{EndsRun, IsLeft, IsMarked, IsRunTo, Leaves}
 use Rattle.xm_commands.specs.Denial.{Denial}
 use Rattle.xm_commands.specs.Ending.{Ending, Finished, Misused, Unread, Denied, Unwritten, Unsaved, Unheard, Starved, status_of}
 use Rattle.xm_commands.specs.Makes.{IsUnmadeOf}
-use Rattle.xm_commands.specs.Outcome.{Outcome, Output, Running, first_long, inputs_of, made, outcome_of, packed_to, ran, told, unless_long, worked}
+use Rattle.xm_commands.specs.Outcome.{Output, Running, first_long, inputs_of, made, outcome_of, packed_to, ran, told, unless_long, worked}
 use Rattle.xm_commands.specs.Top.{IsQuiet}
 use Rattle.xm_commands.specs.Work.{AreNotRead, AreNotSaved, IsDone, IsNotRead, Outside, ReadsFiles}
-use Rattle.xm_commands.specs.declared.status.Status.{Status}
 use Rattle.xm_commands.specs.declared.status.Status.TheVariants as status
 use Rattle.xm_commands.specs.declared.status.Status.TheVariants.{Done, Usage, UartFault}
 use Rattle.xm_commands.specs.declared.unmade.Unmade.{Unmade}
 use Rattle.xm_commands.specs.declared.unmade.Unmade.TheVariants as unmade
 use Rattle.xm_commands.proofs.TopLemmas.{loud}
+use Rattle.xm_commands.proofs.WorkLemmas.{reports_same}
 
 -- what is run
 abbrev running : ℕ → System → List (List ℕ) → Running
@@ -41,11 +43,11 @@ whole r system inputs ticks new had got before mid after is begins heard =
 -- one all of whose writes are done
 pub left_ended : (e : Ending) (r : Ran) (cores : List PartFile) (system : System) (inputs : List (List ℕ)) (ticks : ℕ) (new : Machine) (had got : Option (List ℕ)) (before mid after : BoardView)
     → EndsRun e after → IsRun (Ok r) ticks (start (with_inputs system inputs)) new had got → mid ≡ begun before → IsRunHeard (start (with_inputs system inputs)) new mid after
-    → Leaves e (ran ticks cores system inputs).run before after
+    → Leaves e (ran ticks cores system inputs).run had got before after
 unfolding ran
 left_ended e r cores system inputs ticks new had got before mid after ends is begins heard = by_end e ends (whole r system inputs ticks new had got before mid after is begins heard)
   where
-    by_end : (e : Ending) → EndsRun e after → IsRunTo ticks (running ticks system inputs) before after → Leaves e (ran ticks cores system inputs).run before after
+    by_end : (e : Ending) → EndsRun e after → IsRunTo ticks (running ticks system inputs) before after → Leaves e (ran ticks cores system inputs).run had got before after
     by_end Finished ends to = record { heard = to; well = ends }
     by_end Misused ends to = absurd ends
     by_end (Unread file) ends to = absurd ends
@@ -58,11 +60,11 @@ left_ended e r cores system inputs ticks new had got before mid after ends is be
 -- one of whose core files was not written
 pub left_unsaved : (e : Ending) (outputs : List Output) (from to : Outside) (r : Ran) (cores : List PartFile) (system : System) (inputs : List (List ℕ)) (ticks : ℕ) (new : Machine) (had got : Option (List ℕ)) (before mid after : BoardView)
     → AreNotSaved e outputs from to → IsRun (Ok r) ticks (start (with_inputs system inputs)) new had got → mid ≡ begun before → IsRunHeard (start (with_inputs system inputs)) new mid after
-    → Leaves e (ran ticks cores system inputs).run before after
+    → Leaves e (ran ticks cores system inputs).run had got before after
 unfolding ran
 left_unsaved e outputs from to r cores system inputs ticks new had got before mid after lost is begins heard = by_end e lost (whole r system inputs ticks new had got before mid after is begins heard)
   where
-    by_end : (e : Ending) → AreNotSaved e outputs from to → IsRunTo ticks (running ticks system inputs) before after → Leaves e (ran ticks cores system inputs).run before after
+    by_end : (e : Ending) → AreNotSaved e outputs from to → IsRunTo ticks (running ticks system inputs) before after → Leaves e (ran ticks cores system inputs).run had got before after
     by_end Finished lost run_to = absurd lost
     by_end Misused lost run_to = absurd lost
     by_end (Unread file) lost run_to = absurd lost
@@ -75,63 +77,70 @@ left_unsaved e outputs from to r cores system inputs ticks new had got before mi
 -- a run whose report was cut
 pub left_cut : (fault : WriteFault) (cores : List PartFile) (system : System) (inputs : List (List ℕ)) (ticks : ℕ) (new : Machine) (had got : Option (List ℕ)) (before mid after : BoardView)
     → IsRun (Err fault) ticks (start (with_inputs system inputs)) new had got → mid ≡ begun before → IsRunHeard (start (with_inputs system inputs)) new mid after
-    → Leaves Unwritten (ran ticks cores system inputs).run before after
+    → Leaves Unwritten (ran ticks cores system inputs).run had got before after
 unfolding ran
 left_cut fault cores system inputs ticks new had got before mid after is begins heard = record {
+  front = record {
+    count = is.report.count;
+    short = subst (λ (lines : List ReportLine). is.report.count < length (texts lines)) (reports_same (with_inputs system inputs) ticks) is.report.short;
+    grew = is.report.grew ∙ ap (λ (lines : List ReportLine). grown had (take is.report.count (texts lines))) (reports_same (with_inputs system inputs) ticks);
+  };
   ticks = is.ticks;
   within = is.within;
+  whole = is.whole;
+  cut = is.cut;
   heard = subst (λ (board : BoardView). IsHeard (console (start (with_inputs system inputs)) is.ticks) board after) begins (heard is.ticks is.state);
 }
 
 -- where nothing was made, the board is left as it was
-pub unmade_leaves : (e : Ending) (file : List ℕ) (why : Unmade) (run : Option Running) (board : BoardView) → IsUnmadeOf e file why → Leaves e run board board
-unmade_leaves e file (unmade.Refused text) run board ends = rw ends refl
-unmade_leaves e file unmade.Memory run board ends = rw ends refl
+pub unmade_leaves : (e : Ending) (file : List ℕ) (why : Unmade) (run : Option Running) (had got : Option (List ℕ)) (board : BoardView) → IsUnmadeOf e file why → Leaves e run had got board board
+unmade_leaves e file (unmade.Refused text) run had got board ends = rw ends refl
+unmade_leaves e file unmade.Memory run had got board ends = rw ends refl
 
 -- a command whose files were read
-pub left_by : (e : Ending) (command : Command) (files : Option Files) (contents : List (List ℕ)) (before after : BoardView) → ReadsFiles files (inputs_of command) contents
-    → Leaves e (outcome_of command contents).run before after → IsLeft e (Some command) files before after
-left_by Finished command files contents before after read leaves = record { contents = contents; read = read; leaves = leaves }
-left_by Misused command files contents before after read leaves = leaves
-left_by (Unread file) command files contents before after read leaves = leaves
-left_by (Denied file text) command files contents before after read leaves = leaves
-left_by Unwritten command files contents before after read leaves = record { contents = contents; read = read; leaves = leaves }
-left_by (Unsaved file) command files contents before after read leaves = record { contents = contents; read = read; leaves = leaves }
-left_by (Unheard place) command files contents before after read leaves = record { contents = contents; read = read; leaves = leaves }
-left_by Starved command files contents before after read leaves = leaves
+pub left_by : (e : Ending) (command : Command) (files : Option Files) (contents : List (List ℕ)) (had got : Option (List ℕ)) (before after : BoardView) → ReadsFiles files (inputs_of command) contents
+    → Leaves e (outcome_of command contents).run had got before after → IsLeft e (Some command) files had got before after
+left_by Finished command files contents had got before after read leaves = record { contents = contents; read = read; leaves = leaves }
+left_by Misused command files contents had got before after read leaves = leaves
+left_by (Unread file) command files contents had got before after read leaves = leaves
+left_by (Denied file text) command files contents had got before after read leaves = leaves
+left_by Unwritten command files contents had got before after read leaves = record { contents = contents; read = read; leaves = leaves }
+left_by (Unsaved file) command files contents had got before after read leaves = record { contents = contents; read = read; leaves = leaves }
+left_by (Unheard place) command files contents had got before after read leaves = record { contents = contents; read = read; leaves = leaves }
+left_by Starved command files contents had got before after read leaves = leaves
 
 -- one whose one file was not read, or whose files were not all read
-pub left_unread : (e : Ending) (command : Command) (file : List ℕ) (files : Option Files) (before after : Outside) (board : BoardView) → IsNotRead e file before after → IsLeft e (Some command) files board board
-left_unread Finished command file files before after board not_read = absurd not_read
-left_unread Misused command file files before after board not_read = absurd not_read
-left_unread (Unread other) command file files before after board not_read = refl
-left_unread (Denied other text) command file files before after board not_read = absurd not_read
-left_unread Unwritten command file files before after board not_read = absurd not_read
-left_unread (Unsaved other) command file files before after board not_read = absurd not_read
-left_unread (Unheard place) command file files before after board not_read = absurd not_read
-left_unread Starved command file files before after board not_read = refl
+pub left_unread : (e : Ending) (command : Command) (file : List ℕ) (files : Option Files) (before after : Outside) (had got : Option (List ℕ)) (board : BoardView) → IsNotRead e file before after → IsLeft e (Some command) files had got board board
+left_unread Finished command file files before after had got board not_read = absurd not_read
+left_unread Misused command file files before after had got board not_read = absurd not_read
+left_unread (Unread other) command file files before after had got board not_read = refl
+left_unread (Denied other text) command file files before after had got board not_read = absurd not_read
+left_unread Unwritten command file files before after had got board not_read = absurd not_read
+left_unread (Unsaved other) command file files before after had got board not_read = absurd not_read
+left_unread (Unheard place) command file files before after had got board not_read = absurd not_read
+left_unread Starved command file files before after had got board not_read = refl
 
-pub left_not_all_read : (e : Ending) (command : Command) (names : List (List ℕ)) (files : Option Files) (before after : Outside) (board : BoardView) → AreNotRead e names before after → IsLeft e (Some command) files board board
-left_not_all_read Finished command names files before after board not_read = absurd not_read
-left_not_all_read Misused command names files before after board not_read = absurd not_read
-left_not_all_read (Unread other) command names files before after board not_read = refl
-left_not_all_read (Denied other text) command names files before after board not_read = absurd not_read
-left_not_all_read Unwritten command names files before after board not_read = absurd not_read
-left_not_all_read (Unsaved other) command names files before after board not_read = absurd not_read
-left_not_all_read (Unheard place) command names files before after board not_read = absurd not_read
-left_not_all_read Starved command names files before after board not_read = refl
+pub left_not_all_read : (e : Ending) (command : Command) (names : List (List ℕ)) (files : Option Files) (before after : Outside) (had got : Option (List ℕ)) (board : BoardView) → AreNotRead e names before after → IsLeft e (Some command) files had got board board
+left_not_all_read Finished command names files before after had got board not_read = absurd not_read
+left_not_all_read Misused command names files before after had got board not_read = absurd not_read
+left_not_all_read (Unread other) command names files before after had got board not_read = refl
+left_not_all_read (Denied other text) command names files before after had got board not_read = absurd not_read
+left_not_all_read Unwritten command names files before after had got board not_read = absurd not_read
+left_not_all_read (Unsaved other) command names files before after had got board not_read = absurd not_read
+left_not_all_read (Unheard place) command names files before after had got board not_read = absurd not_read
+left_not_all_read Starved command names files before after had got board not_read = refl
 
 -- a command that runs nothing
-pub left_still : (e : Ending) (command : Command) (before after : Outside) (board : BoardView) → ((contents : List (List ℕ)) → (outcome_of command contents).run ≡ None)
-    → IsDone e command before after → IsLeft e (Some command) before.files board board
-left_still Finished command before after board none w = record { contents = w.contents; read = w.read; leaves = subst (λ (run : Option Running). Leaves Finished run board board) (sym (none w.contents)) refl }
-left_still Misused command before after board none w = absurd w
-left_still (Unread file) command before after board none w = refl
-left_still (Denied file text) command before after board none w = refl
-left_still Unwritten command before after board none w = record { contents = w.contents; read = w.read; leaves = subst (λ (run : Option Running). Leaves Unwritten run board board) (sym (none w.contents)) refl }
-left_still (Unsaved file) command before after board none w = record { contents = w.contents; read = w.read; leaves = subst (λ (run : Option Running). Leaves (Unsaved file) run board board) (sym (none w.contents)) refl }
-left_still (Unheard place) command before after board none w = absurd (let some : IsSome {T = Running} None = subst (λ (run : Option Running). IsSome run) (none w.carried.contents) w.run in cc)
-left_still Starved command before after board none w = refl
+pub left_still : (e : Ending) (command : Command) (before after : Outside) (had got : Option (List ℕ)) (board : BoardView) → ((contents : List (List ℕ)) → (outcome_of command contents).run ≡ None)
+    → IsDone e command before after → IsLeft e (Some command) before.files had got board board
+left_still Finished command before after had got board none w = record { contents = w.contents; read = w.read; leaves = subst (λ (run : Option Running). Leaves Finished run had got board board) (sym (none w.contents)) refl }
+left_still Misused command before after had got board none w = absurd w
+left_still (Unread file) command before after had got board none w = refl
+left_still (Denied file text) command before after had got board none w = refl
+left_still Unwritten command before after had got board none w = record { contents = w.contents; read = w.read; leaves = subst (λ (run : Option Running). Leaves Unwritten run had got board board) (sym (none w.contents)) refl }
+left_still (Unsaved file) command before after had got board none w = record { contents = w.contents; read = w.read; leaves = subst (λ (run : Option Running). Leaves (Unsaved file) run had got board board) (sym (none w.contents)) refl }
+left_still (Unheard place) command before after had got board none w = absurd (let some : IsSome {T = Running} None = subst (λ (run : Option Running). IsSome run) (none w.carried.contents) w.run in cc)
+left_still Starved command before after had got board none w = refl
 
 -- these do
 no_run : (command : Command) (contents : List (List ℕ)) → (worked command contents).run ≡ None → (outcome_of command contents).run ≡ None
@@ -178,32 +187,35 @@ make_plan_runs description contents = no_run (MakePlan description) contents (to
 pub check_plan_runs : (description : List ℕ) (contents : List (List ℕ)) → (outcome_of (CheckPlan description) contents).run ≡ None
 check_plan_runs description contents = no_run (CheckPlan description) contents (told_runs description _)
 
+pub tell_groups_runs : (description : List ℕ) (contents : List (List ℕ)) → (outcome_of (TellGroups description) contents).run ≡ None
+tell_groups_runs description contents = no_run (TellGroups description) contents (told_runs description _)
+
 -- What the top call says of it.
 
 -- a fault of a UART has left a mark
-pub marked : (e : Ending) (command : Option Command) (files : Option Files) (before after : BoardView) → IsLeft e command files before after → status_of e ≡ UartFault → (command ≡ None → status_of e ≡ Usage) → IsMarked after
-marked Finished command files before after left h usage = absurd (cc)
-marked Misused command files before after left h usage = absurd (cc)
-marked (Unread file) command files before after left h usage = absurd (cc)
-marked (Denied file text) command files before after left h usage = absurd (cc)
-marked Unwritten command files before after left h usage = absurd (cc)
-marked (Unsaved file) command files before after left h usage = absurd (cc)
-marked (Unheard place) None files before after left h usage = absurd (let wrong : UartFault ≡ Usage = usage refl in cc)
-marked (Unheard place) (Some command) files before after left h usage = by (outcome_of command left.contents).run left.leaves
+pub marked : (e : Ending) (command : Option Command) (files : Option Files) (had got : Option (List ℕ)) (before after : BoardView) → IsLeft e command files had got before after → status_of e ≡ UartFault → (command ≡ None → status_of e ≡ Usage) → IsMarked after
+marked Finished command files had got before after left h usage = absurd (cc)
+marked Misused command files had got before after left h usage = absurd (cc)
+marked (Unread file) command files had got before after left h usage = absurd (cc)
+marked (Denied file text) command files had got before after left h usage = absurd (cc)
+marked Unwritten command files had got before after left h usage = absurd (cc)
+marked (Unsaved file) command files had got before after left h usage = absurd (cc)
+marked (Unheard place) None files had got before after left h usage = absurd (let wrong : UartFault ≡ Usage = usage refl in cc)
+marked (Unheard place) (Some command) files had got before after left h usage = by (outcome_of command left.contents).run left.leaves
   where
-    by : (run : Option Running) → Leaves (Unheard place) run before after → IsMarked after
+    by : (run : Option Running) → Leaves (Unheard place) run had got before after → IsMarked after
     by None leaves = absurd leaves
     by (Some run) leaves = record { place = place; marked = leaves.marked.marked }
-marked Starved command files before after left h usage = absurd (cc)
+marked Starved command files had got before after left h usage = absurd (cc)
 
 -- a quiet call has left the board
-pub still : (e : Ending) (command : Option Command) (files : Option Files) (before after : BoardView) → IsLeft e command files before after → IsQuiet (status_of e) → after ≡ before
-still e None files before after left q = left
-still Finished (Some command) files before after left q = absurd (loud Done (λ h. cc) (λ h. cc) (λ h. cc) (λ h. cc) q)
-still Misused (Some command) files before after left q = left
-still (Unread file) (Some command) files before after left q = left
-still (Denied file text) (Some command) files before after left q = left
-still Unwritten (Some command) files before after left q = absurd (loud status.WriteFault (λ h. cc) (λ h. cc) (λ h. cc) (λ h. cc) q)
-still (Unsaved file) (Some command) files before after left q = absurd (loud status.WriteFault (λ h. cc) (λ h. cc) (λ h. cc) (λ h. cc) q)
-still (Unheard place) (Some command) files before after left q = absurd (loud UartFault (λ h. cc) (λ h. cc) (λ h. cc) (λ h. cc) q)
-still Starved (Some command) files before after left q = left
+pub still : (e : Ending) (command : Option Command) (files : Option Files) (had got : Option (List ℕ)) (before after : BoardView) → IsLeft e command files had got before after → IsQuiet (status_of e) → after ≡ before
+still e None files had got before after left q = left
+still Finished (Some command) files had got before after left q = absurd (loud Done (λ h. cc) (λ h. cc) (λ h. cc) (λ h. cc) q)
+still Misused (Some command) files had got before after left q = left
+still (Unread file) (Some command) files had got before after left q = left
+still (Denied file text) (Some command) files had got before after left q = left
+still Unwritten (Some command) files had got before after left q = absurd (loud status.WriteFault (λ h. cc) (λ h. cc) (λ h. cc) (λ h. cc) q)
+still (Unsaved file) (Some command) files had got before after left q = absurd (loud status.WriteFault (λ h. cc) (λ h. cc) (λ h. cc) (λ h. cc) q)
+still (Unheard place) (Some command) files had got before after left q = absurd (loud UartFault (λ h. cc) (λ h. cc) (λ h. cc) (λ h. cc) q)
+still Starved (Some command) files had got before after left q = left

@@ -7,6 +7,8 @@ pub mod PackingLemmas
 pub mod ParsingLemmas
 pub mod PlanningLemmas
 pub mod SeparationLemmas
+pub mod TellingLemmas
 pub mod TopLemmas
 pub mod WorkLemmas
 pub mod WrittenLemmas
+pub mod GroupingLemmas

@@ -12,13 +12,14 @@ use Rattle.xm_base.specs.Options.{on}
 use Rattle.xm_base.specs.declared.limits.TheConstants.{FILE_BYTES, IMAGE_BYTES, TICKS}
 use Rattle.xm_outside.specs.Causes.{counted}
 use Rattle.xm_outside.specs.Files.{Files, OthersStay, stored}
-use Rattle.xm_words.specs.Words.{Command, PartFile, RunOption, Bare, Parse, BuildImage, ReadImage, Pack, ListContainer, CheckContainer, MakePlan, CheckPlan, Run, cores_in}
+use Rattle.xm_words.specs.Words.{Command, PartFile, RunOption, Bare, Parse, BuildImage, ReadImage, Pack, ListContainer, CheckContainer, MakePlan, CheckPlan, TellGroups, Run, cores_in}
 use Rattle.xm_container.specs.Reading.{unpacked}
 use Rattle.xm_container.specs.declared.fault.BoxFault.{BoxFault}
 use Rattle.xm_commands.specs.Answer.{read_all, read_before, saved}
 use Rattle.loaded_system.specs.Bare.{bare_system}
 use Rattle.loaded_system.specs.System.{System}
 use Rattle.xm_commands.specs.Ending.{length_text, ticks_text}
+use Rattle.xm_commands.specs.Grouping.{groups_of}
 use Rattle.xm_commands.specs.Imaging.{container_lines_of, container_verdict_of, image_lines_of, xef_of}
 use Rattle.xm_commands.specs.Inputs.{no_inputs}
 use Rattle.xm_commands.specs.Packing.{container_of}
@@ -159,6 +160,7 @@ output-named command contents output is = at command (first_long (inputs_of comm
     at (CheckContainer container) None e = absurd (told-output container (container_verdict_of (content 0 contents)) output e)
     at (MakePlan description) None e = absurd (told-output description (plan_lines_of (content 0 contents)) output e)
     at (CheckPlan description) None e = absurd (told-output description (verdicts_of (content 0 contents)) output e)
+    at (TellGroups description) None e = absurd (told-output description (groups_of (content 0 contents)) output e)
     at (Run container options) None e = absurd (run-output container options (content 0 contents) (drop 1 contents) output e)
 
 -- a refusal is the one that is told
@@ -238,6 +240,7 @@ outcome-denied command contents denial is = at command (first_long (inputs_of co
     at (CheckContainer container) None e = told-denied container (container_verdict_of (content 0 contents)) denial e
     at (MakePlan description) None e = told-denied description (plan_lines_of (content 0 contents)) denial e
     at (CheckPlan description) None e = told-denied description (verdicts_of (content 0 contents)) denial e
+    at (TellGroups description) None e = told-denied description (groups_of (content 0 contents)) denial e
     at (Run container options) None e = run-denied container options (content 0 contents) (drop 1 contents) denial e
 
 -- What is read.

@@ -1,31 +1,37 @@
 -- What a run shows of each partition, out of the laws of own lines and of core files.
-use Rattle.std.proofs.Common.{◌≡◌, ℕ, ⊎_elim, Bool, true, false, nat_lt, ◌==◌, ◌||◌, if◌then◌else◌, List, [], ◌∷◌, length, map, drop, Option, Some, None, Result, Ok, Err, refl, sym, ap, ◌∙◌, subst}
-use Rattle.std.specs.Prelude.{slice_get}
+use Rattle.std.proofs.Common.{◌≡◌, ℕ, ◌+◌, ◌-◌, ◌<◌, ◌≤◌, inl, inr, ⊎_elim, Bool, true, false, nat_lt, ◌==◌, ◌||◌, if◌then◌else◌, List, [], ◌∷◌, ◌++◌, length, map, drop, take, Option, Some, None, Result, Ok, Err, refl, sym, ap, ◌∙◌, subst, arith, length-append}
+use Rattle.std.specs.Prelude.{IsSome, slice_get}
+use Rattle.std.proofs.Math.Seq.{take-append-add}
+use Rattle.std.proofs.lemmas.Bool.{cases_lt}
+use Rattle.std.proofs.lemmas.List.{take-append-le}
+use Rattle.std.proofs.lemmas.List.Elements.{filter-append}
 use Rattle.std.proofs.lemmas.Option.{get_or_from_slice_get}
 use Rattle.xm_base.specs.Options.{on}
 use Rattle.xm_base.specs.declared.limits.TheConstants.{IMAGE_BYTES, TICKS}
-use Rattle.xm_outside.specs.Growth.{grown}
-use Rattle.xm_report.specs.Report.{texts}
+use Rattle.xm_outside.specs.Files.{Files, OthersStay}
+use Rattle.xm_outside.specs.Growth.{GrewByPrefix, grown, grown-nothing, grown_grown}
+use Rattle.xm_report.specs.Report.{ReportLine, text_of, texts}
 use Rattle.loaded_system.specs.Bare.{bare_system}
 use Rattle.loaded_system.specs.System.{System as Loaded}
 use Rattle.xm_container.specs.Reading.{unpacked}
 use Rattle.xm_container.specs.declared.fault.BoxFault.{BoxFault}
 use Rattle.machine_model.specs.CoreFile.{core_file}
 use Rattle.machine_model.specs.Laws.{OwnLines, SameCoreFile, core_file_of}
-use Rattle.machine_model.specs.Lines.{report}
+use Rattle.machine_model.specs.Lists.{is_number}
+use Rattle.machine_model.specs.Lines.{own, report, tag_of}
 use Rattle.machine_model.specs.Machine.{Machine, booted_part, run, start}
 use Rattle.machine_model.specs.Partition.{PartitionState}
 use Rattle.machine_model.specs.View.{System, view_of}
 use Rattle.whole_system.specs.State.{part_at, with_inputs}
-use Rattle.xm_words.specs.Words.{Command, PartFile, RunOption, Bare, Parse, BuildImage, ReadImage, Pack, ListContainer, CheckContainer, MakePlan, CheckPlan, Run, cores_in, inputs_in, span_in}
+use Rattle.xm_words.specs.Words.{Command, PartFile, RunOption, Bare, Parse, BuildImage, ReadImage, Pack, ListContainer, CheckContainer, MakePlan, CheckPlan, TellGroups, Run, cores_in, inputs_in, span_in}
 use Rattle.xm_commands.specs.Cores.{AreInside}
 use Rattle.xm_commands.specs.Denial.{Denial}
 use Rattle.xm_commands.specs.Ending.{Ending, length_text, status_of, ticks_text}
 use Rattle.xm_commands.specs.Inputs.{first_beyond, inputs_for, inputs_with, no_inputs, unless_beyond}
-use Rattle.xm_commands.specs.Outcome.{Output, Outcome, bare_outcome, content, core_output, core_outputs, first_long, inputs_of, outcome_of, ran, ran_with, ran_within, refused, run_by, run_outcome, ticks_asked, unless_long, worked}
-use Rattle.xm_commands.specs.Separation.{AreAlone, CommandAlone, ContainerAlone, ShowsAlone, alone_output}
-use Rattle.xm_commands.specs.Top.{AreContents, IsComplete}
-use Rattle.xm_commands.specs.Work.{Outside, IsCarriedOut, IsWorked, called_for, did, told_all, wrote_all}
+use Rattle.xm_commands.specs.Outcome.{Output, Outcome, bare_outcome, content, core_output, core_outputs, first_long, inputs_of, outcome_of, ran, ran_with, ran_within, refused, refused_by, run_by, run_outcome, ticks_asked, unless_long, worked}
+use Rattle.xm_commands.specs.Separation.{AreAlone, CommandAlone, ContainerAlone, PrintsAlone, ShowsAlone, ShowsFront, ShowsPart, ShowsSome, alone_output}
+use Rattle.xm_commands.specs.Top.{AreContents, IsComplete, IsCut, IsLost, IsLostAfter, IsWriteCause}
+use Rattle.xm_commands.specs.Work.{Outside, IsCarriedOut, IsWorked, called_for, did, told_all, wrote, wrote_all}
 use Rattle.xm_commands.proofs.CoreLemmas.{cores_inside}
 use Rattle.xm_commands.proofs.OutsideLemmas.{called_for-is, told_outcome}
 use Rattle.xm_commands.proofs.TopLemmas.{done_is_finished, unheard_finished}
@@ -55,50 +61,205 @@ same_cores law system ticks (named ∷ cores) inside =
     ap (λ (o : Output). o ∷ map (core_output (run (start system) ticks)) cores) one
     ∙ ap (λ (os : List Output). alone_output system ticks named ∷ os) (same_cores law system ticks cores inside.1)
 
+-- What was done, by what a command comes to.
+
+-- all of it
+abbrev IsAllOf : Outside → Outside → Outcome → Type 0
+IsAllOf read_from after outcome = (outcome.denial ≡ None) × (after ≡ did outcome read_from)
+
+-- a front of the report, behind the file that comes first
+abbrev IsFrontOf : Outside → Outside → Outcome → Type 0
+IsFrontOf before after outcome = GrewByPrefix before.got outcome.report after.got × (after.files ≡ (wrote outcome.output before).files)
+
+-- all but a file after the report, and those behind it
+record IsSomeOf (before after : Outside) (outcome : Outcome) : Type 0 where
+  first : List Output
+  output : Output
+  rest : List Output
+  split : outcome.later ≡ first ++ output ∷ rest
+  report : after.got ≡ (told_all outcome before).got
+  others : OthersStay (wrote_all first (told_all outcome before)).files output.file after.files
+
+-- none of these is done by a command that is refused
+never_all : (read_from after : Outside) (denial : Denial) → IsAllOf read_from after (refused_by denial) → ⊥
+never_all read_from after denial is = (let none : Some denial ≡ None = is.0 in cc)
+
+never_front : (before after : Outside) (denial : Denial) → IsFrontOf before after (refused_by denial) → ⊥
+never_front before after denial is = (let short : is.0.count < 0 = is.0.short in absurd (omega (arith, short)))
+
+never_some : (before after : Outside) (denial : Denial) → IsSomeOf before after (refused_by denial) → ⊥
+never_some before after denial is =
+    let count : 0 ≡ length is.first + length (is.output ∷ is.rest) = ap length is.split ∙ length-append is.first (is.output ∷ is.rest) in
+    absurd (omega (arith, count))
+
+-- The report that was cut.
+
+own_append : (p : ℕ) (xs ys : List ReportLine) → own p (xs ++ ys) ≡ own p xs ++ own p ys
+unfolding own
+own_append p xs ys = filter-append (λ line. is_number (tag_of line) p) xs ys
+
+-- of all lines the first went out, and a front of the next one
+record AreCutIn (all : List ReportLine) (had got : Option (List ℕ)) : Type 0 where
+  lines : List ReportLine
+  next : ReportLine
+  rest : List ReportLine
+  split : lines ++ next ∷ rest ≡ all
+  front : GrewByPrefix (grown had (texts lines)) (text_of next) got
+
+-- where the first of them went out
+behind_first : (line : ReportLine) (others : List ReportLine) (had got : Option (List ℕ)) → AreCutIn others (grown had (text_of line)) got → AreCutIn (line ∷ others) had got
+behind_first line others had got cut = record {
+  lines = line ∷ cut.lines;
+  next = cut.next;
+  rest = cut.rest;
+  split = ap (λ (ls : List ReportLine). line ∷ ls) cut.split;
+  front = subst (λ (g : Option (List ℕ)). GrewByPrefix g (text_of cut.next) got) (grown_grown had (text_of line) (texts cut.lines)) cut.front;
+}
+
+are_cut : (all : List ReportLine) (had got : Option (List ℕ)) → GrewByPrefix had (texts all) got → AreCutIn all had got
+are_cut [] had got p = (let short : p.count < 0 = p.short in absurd (omega (arith, short)))
+are_cut (line ∷ others) had got p = ⊎_elim here (later (are_cut others (grown had (text_of line)) got)) (cases_lt p.count (length (text_of line)))
+  where
+    here : p.count < length (text_of line) → AreCutIn (line ∷ others) had got
+    here short = record {
+      lines = [];
+      next = line;
+      rest = others;
+      split = refl;
+      front = record {
+        count = p.count;
+        short = short;
+        grew = (let bound : p.count ≤ length (text_of line) = omega (arith, short) in
+            p.grew ∙ ap (grown had) (take-append-le p.count (text_of line) (texts others) bound) ∙ ap (λ (g : Option (List ℕ)). grown g (take p.count (text_of line))) (sym (grown-nothing had)));
+      };
+    }
+
+    later : (GrewByPrefix (grown had (text_of line)) (texts others) got → AreCutIn others (grown had (text_of line)) got) → length (text_of line) ≤ p.count → AreCutIn (line ∷ others) had got
+    later cut past =
+        let count : p.count ≡ length (text_of line) + (p.count - length (text_of line)) = omega (arith, past) in
+        let all : p.count < length (text_of line) + length (texts others) = subst (λ (n : ℕ). p.count < n) (length-append (text_of line) (texts others)) p.short in
+        behind_first line others had got (cut (record {
+          count = p.count - length (text_of line);
+          short = omega (arith, all, count);
+          grew = p.grew ∙ ap (λ (n : ℕ). grown had (take n (text_of line ++ texts others))) count
+              ∙ ap (grown had) (take-append-add (text_of line) (texts others) (p.count - length (text_of line)))
+              ∙ sym (grown_grown had (text_of line) (take (p.count - length (text_of line)) (texts others)));
+        }))
+
+-- The core files that were written.
+
+-- of files with these names the first are those of the first names
+record AreNamed (f : PartFile → Output) (names : List PartFile) (first : List Output) (output : Output) : Type 0 where
+  before : List PartFile
+  named : PartFile
+  behind : List PartFile
+  split : before ++ named ∷ behind ≡ names
+  first_are : first ≡ map f before
+  output_is : output ≡ f named
+
+behind_named : (f : PartFile → Output) (name : PartFile) (o : Output) (names : List PartFile) (first : List Output) (output : Output) → f name ≡ o → AreNamed f names first output → AreNamed f (name ∷ names) (o ∷ first) output
+behind_named f name o names first output same found = record {
+  before = name ∷ found.before;
+  named = found.named;
+  behind = found.behind;
+  split = ap (λ (ns : List PartFile). name ∷ ns) found.split;
+  first_are = ap (λ (x : Output). x ∷ first) (sym same) ∙ ap (λ (xs : List Output). f name ∷ xs) found.first_are;
+  output_is = found.output_is;
+}
+
+are_named : (f : PartFile → Output) (names : List PartFile) (first : List Output) (output : Output) (rest : List Output) → map f names ≡ first ++ output ∷ rest → AreNamed f names first output
+are_named f [] [] output rest is = absurd (cc)
+are_named f [] (o ∷ first) output rest is = absurd (cc)
+are_named f (name ∷ names) [] output rest is = (let same : f name ≡ output = cc in record { before = []; named = name; behind = names; split = refl; first_are = refl; output_is = sym same })
+are_named f (name ∷ names) (o ∷ first) output rest is =
+    let same : f name ≡ o = cc in
+    behind_named f name o names first output same (are_named f names first output rest (let others : map f names ≡ first ++ output ∷ rest = cc in others))
+
 -- A run.
+
+-- whose whole report went out
+prints_run : OwnLines → (system : System) (ticks : ℕ) (before after : Outside) → after.got ≡ grown before.got (texts (report system ticks)) → PrintsAlone system ticks before after
+prints_run law system ticks before after got = record { lines = report system ticks; report = got; own = λ p there. law system p ticks there }
 
 -- what a run comes to
 shows_run : OwnLines → SameCoreFile → (system : Loaded) (inputs : List (List ℕ)) (ticks : ℕ) (cores : List PartFile) (before read_from after : Outside) → AreInside (length system.conf.parts) cores
-    → read_from.files ≡ before.files → read_from.got ≡ before.got → after ≡ did (ran ticks cores system inputs) read_from → ShowsAlone (with_inputs system inputs) ticks cores before after
+    → read_from.files ≡ before.files → read_from.got ≡ before.got → IsAllOf read_from after (ran ticks cores system inputs) → ShowsAlone (with_inputs system inputs) ticks cores before after
 unfolding ran
 shows_run lines_law core_law system inputs ticks cores before read_from after inside files got is = record {
-  lines = report (with_inputs system inputs) ticks;
-  report = ap (λ (x : Outside). x.got) is ∙ did-got (ran ticks cores system inputs) read_from ∙ ap (λ (g : Option (List ℕ)). grown g (texts (report (with_inputs system inputs) ticks))) got;
-  own = λ p there. lines_law (with_inputs system inputs) p ticks there;
-  written = ap (λ (x : Outside). x.files) is
+  printed = prints_run lines_law (with_inputs system inputs) ticks before after
+      (ap (λ (x : Outside). x.got) is.1 ∙ did-got (ran ticks cores system inputs) read_from ∙ ap (λ (g : Option (List ℕ)). grown g (texts (report (with_inputs system inputs) ticks))) got);
+  written = ap (λ (x : Outside). x.files) is.1
       ∙ ap (λ (os : List Output). (wrote_all os (told_all (ran ticks cores system inputs) read_from)).files) (same_cores core_law (with_inputs system inputs) ticks cores inside)
       ∙ wrote_all-from (map (alone_output (with_inputs system inputs) ticks) cores) (told_all (ran ticks cores system inputs) read_from) before files;
 }
 
--- Files that are not refused.
+-- where its report was cut
+shows_front : OwnLines → (system : Loaded) (inputs : List (List ℕ)) (ticks : ℕ) (cores : List PartFile) (before after : Outside)
+    → IsFrontOf before after (ran ticks cores system inputs) → ShowsFront (with_inputs system inputs) ticks cores before after
+unfolding ran
+shows_front law system inputs ticks cores before after is =
+    let cut = are_cut (report (with_inputs system inputs) ticks) before.got after.got is.0 in
+    record {
+      lines = cut.lines;
+      next = cut.next;
+      rest = cut.rest;
+      split = cut.split;
+      front = cut.front;
+      own = λ p there. sym (own_append p cut.lines (cut.next ∷ cut.rest)) ∙ ap (own p) cut.split ∙ law (with_inputs system inputs) p ticks there;
+      files = is.1;
+    }
+
+-- where a core file was not written
+shows_some : OwnLines → SameCoreFile → (system : Loaded) (inputs : List (List ℕ)) (ticks : ℕ) (cores : List PartFile) (before after : Outside) → AreInside (length system.conf.parts) cores
+    → IsSomeOf before after (ran ticks cores system inputs) → ShowsSome (with_inputs system inputs) ticks cores before after
+unfolding ran
+shows_some lines_law core_law system inputs ticks cores before after inside is =
+    let booted = with_inputs system inputs in
+    let told = told_all (ran ticks cores system inputs) before in
+    let of_names : map (alone_output booted ticks) cores ≡ is.first ++ is.output ∷ is.rest = sym (same_cores core_law booted ticks cores inside) ∙ is.split in
+    let found = are_named (alone_output booted ticks) cores is.first is.output is.rest of_names in
+    let of_parts : OthersStay (wrote_all (map (alone_output booted ticks) found.before) told).files is.output.file after.files =
+    subst (λ (os : List Output). OthersStay (wrote_all os told).files is.output.file after.files) found.first_are is.others in
+    let of_before : OthersStay (wrote_all (map (alone_output booted ticks) found.before) before).files is.output.file after.files =
+    subst (λ (fs : Option Files). OthersStay fs is.output.file after.files) (wrote_all-from (map (alone_output booted ticks) found.before) told before refl) of_parts in
+    record {
+      printed = prints_run lines_law booted ticks before after is.report;
+      first = found.before;
+      lost = found.named;
+      rest = found.behind;
+      split = found.split;
+      others = subst (λ (o : Output). OthersStay (wrote_all (map (alone_output booted ticks) found.before) before).files o.file after.files) found.output_is of_before;
+    }
+
+-- Commands that are not refused, by what was done.
 
 -- none of the files is too long
-not_long : (long : Option (List ℕ)) (outcome : Outcome) → (unless_long long outcome).denial ≡ None → unless_long long outcome ≡ outcome
-not_long None outcome none = refl
-not_long (Some file) outcome none = absurd (cc)
-
-outcome_worked : (command : Command) (contents : List (List ℕ)) → (outcome_of command contents).denial ≡ None → outcome_of command contents ≡ worked command contents
+worked_by : {R : Type 0} (Did : Outcome → Type 0) (command : Command) (contents : List (List ℕ)) → ((denial : Denial) → Did (refused_by denial) → ⊥) → (Did (worked command contents) → R) → Did (outcome_of command contents) → R
 unfolding outcome_of
-outcome_worked command contents none = not_long (first_long (inputs_of command) contents) (worked command contents) none
+worked_by {R} Did command contents never ran_so is = at (first_long (inputs_of command) contents) is
+  where
+    at : (long : Option (List ℕ)) → Did (unless_long long (worked command contents)) → R
+    at None done = ran_so done
+    at (Some file) done = absurd (never _ done)
 
 -- an image that was run
-bare_ran : (file : List ℕ) (ticks : ℕ) (image : List ℕ) → (bare_outcome file ticks image).denial ≡ None → bare_outcome file ticks image ≡ ran ticks [] (bare_system image) (no_inputs 1)
+bare_by : {R : Type 0} (Did : Outcome → Type 0) (file : List ℕ) (ticks : ℕ) (image : List ℕ) → ((denial : Denial) → Did (refused_by denial) → ⊥) → (Did (ran ticks [] (bare_system image) (no_inputs 1)) → R) → Did (bare_outcome file ticks image) → R
 unfolding bare_outcome
-bare_ran file ticks image none = at ((length image == 0) || nat_lt IMAGE_BYTES (length image)) none
+bare_by {R} Did file ticks image never ran_so is = at ((length image == 0) || nat_lt IMAGE_BYTES (length image)) is
   where
-    at : (t : Bool) → (if t then refused file (length_text (length image)) else ran ticks [] (bare_system image) (no_inputs 1)).denial ≡ None
-        → (if t then refused file (length_text (length image)) else ran ticks [] (bare_system image) (no_inputs 1)) ≡ ran ticks [] (bare_system image) (no_inputs 1)
-    at true e = absurd (cc)
-    at false e = refl
+    at : (t : Bool) → Did (if t then refused file (length_text (length image)) else ran ticks [] (bare_system image) (no_inputs 1)) → R
+    at true done = absurd (never _ done)
+    at false done = ran_so done
 
 -- a run that is not too long
-within_ran : (file : List ℕ) (asked : ℕ) (cores : List PartFile) (system : Loaded) (inputs : List (List ℕ)) → (ran_within file asked cores system inputs).denial ≡ None → ran_within file asked cores system inputs ≡ ran asked cores system inputs
+within_by : {R : Type 0} (Did : Outcome → Type 0) (file : List ℕ) (asked : ℕ) (cores : List PartFile) (system : Loaded) (inputs : List (List ℕ)) → ((denial : Denial) → Did (refused_by denial) → ⊥)
+    → (Did (ran asked cores system inputs) → R) → Did (ran_within file asked cores system inputs) → R
 unfolding ran_within
-within_ran file asked cores system inputs none = at (nat_lt TICKS asked) none
+within_by {R} Did file asked cores system inputs never ran_so is = at (nat_lt TICKS asked) is
   where
-    at : (t : Bool) → (if t then refused file (ticks_text asked) else ran asked cores system inputs).denial ≡ None → (if t then refused file (ticks_text asked) else ran asked cores system inputs) ≡ ran asked cores system inputs
-    at true e = absurd (cc)
-    at false e = refl
+    at : (t : Bool) → Did (if t then refused file (ticks_text asked) else ran asked cores system inputs) → R
+    at true done = absurd (never _ done)
+    at false done = ran_so done
 
 -- where input words are given, no option's partition is beyond those that there are
 given_inside : (parts : ℕ) (options : List RunOption) (contents inputs : List (List ℕ)) → inputs_for parts options contents ≡ Ok inputs → AreInside parts (cores_in options)
@@ -109,71 +270,106 @@ given_inside parts options contents inputs given = at (first_beyond parts option
     at None is e = cores_inside parts options is
     at (Some named) is e = absurd (cc)
 
+-- what was done with a run shows this
+abbrev RunShows : (Outcome → Type 0) → (System → ℕ → List PartFile → Outside → Outside → Type 0) → Outside → Outside → Type 0
+RunShows Did Shows before after =
+    (system : Loaded) (inputs : List (List ℕ)) (ticks : ℕ) (cores : List PartFile) → AreInside (length system.conf.parts) cores → Did (ran ticks cores system inputs) → Shows (with_inputs system inputs) ticks cores before after
+
 -- a container that was run
-container_ran : OwnLines → SameCoreFile → (container : List ℕ) (options : List RunOption) (contents : List (List ℕ)) (before read_from after : Outside) → AreContents before.files (Run container options) contents
-    → read_from.files ≡ before.files → read_from.got ≡ before.got → (run_outcome container options (content 0 contents) (drop 1 contents)).denial ≡ None
-    → after ≡ did (run_outcome container options (content 0 contents) (drop 1 contents)) read_from → ContainerAlone container options before after
+container_by : (Did : Outcome → Type 0) (Shows : System → ℕ → List PartFile → Outside → Outside → Type 0) (container : List ℕ) (options : List RunOption) (contents : List (List ℕ)) (before after : Outside)
+    → AreContents before.files (Run container options) contents → ((denial : Denial) → Did (refused_by denial) → ⊥) → RunShows Did Shows before after
+    → Did (run_outcome container options (content 0 contents) (drop 1 contents)) → ContainerAlone Shows container options before after
 unfolding run_outcome
-container_ran lines_law core_law container options contents before read_from after are files got none is = at (unpacked (content 0 contents)) refl none is
+container_by Did Shows container options contents before after are never shows is = at (unpacked (content 0 contents)) refl is
   where
     given : (system : Loaded) → unpacked (content 0 contents) ≡ Ok system → (read : Result (List (List ℕ)) Denial) → inputs_for (length system.conf.parts) options (drop 1 contents) ≡ read
-        → (ran_with container (ticks_asked (span_in options) system.conf) (cores_in options) system read).denial ≡ None
-        → after ≡ did (ran_with container (ticks_asked (span_in options) system.conf) (cores_in options) system read) read_from → ContainerAlone container options before after
-    given system unpacks (Ok inputs) reads e done =
-        let ran_is = within_ran container (ticks_asked (span_in options) system.conf) (cores_in options) system inputs e in
-        record {
-          contents = contents;
-          are = are;
-          system = system;
-          unpacks = unpacks;
-          inputs = inputs;
-          given = reads;
-          shows = shows_run lines_law core_law system inputs (ticks_asked (span_in options) system.conf) (cores_in options) before read_from after
-              (given_inside (length system.conf.parts) options (drop 1 contents) inputs reads) files got (done ∙ ap (λ (o : Outcome). did o read_from) ran_is);
-        }
-    given system unpacks (Err refusal) reads e done = absurd (cc)
+        → Did (ran_with container (ticks_asked (span_in options) system.conf) (cores_in options) system read) → ContainerAlone Shows container options before after
+    given system unpacks (Ok inputs) reads done = record {
+      contents = contents;
+      are = are;
+      system = system;
+      unpacks = unpacks;
+      inputs = inputs;
+      given = reads;
+      shows = within_by Did container (ticks_asked (span_in options) system.conf) (cores_in options) system inputs never
+          (shows system inputs (ticks_asked (span_in options) system.conf) (cores_in options) (given_inside (length system.conf.parts) options (drop 1 contents) inputs reads)) done;
+    }
+    given system unpacks (Err refusal) reads done = absurd (never _ done)
 
-    at : (read : Result Loaded BoxFault) → unpacked (content 0 contents) ≡ read → (run_by container options (drop 1 contents) read).denial ≡ None → after ≡ did (run_by container options (drop 1 contents) read) read_from
-        → ContainerAlone container options before after
-    at (Ok system) unpacks e done = given system unpacks (inputs_for (length system.conf.parts) options (drop 1 contents)) refl e done
-    at (Err fault) unpacks e done = absurd (cc)
+    at : (read : Result Loaded BoxFault) → unpacked (content 0 contents) ≡ read → Did (run_by container options (drop 1 contents) read) → ContainerAlone Shows container options before after
+    at (Ok system) unpacks done = given system unpacks (inputs_for (length system.conf.parts) options (drop 1 contents)) refl done
+    at (Err fault) unpacks done = absurd (never _ done)
 
--- What a command shows.
-
-shows_command : OwnLines → SameCoreFile → (command : Command) (contents : List (List ℕ)) (before read_from after : Outside) → AreContents before.files command contents
-    → read_from.files ≡ before.files → read_from.got ≡ before.got → (worked command contents).denial ≡ None → after ≡ did (worked command contents) read_from → CommandAlone command before after
-shows_command lines_law core_law (Bare image ticks) contents before read_from after are files got none is = record {
+-- what a command shows
+command_by : (Did : Outcome → Type 0) (Shows : System → ℕ → List PartFile → Outside → Outside → Type 0) (command : Command) (contents : List (List ℕ)) (before after : Outside)
+    → AreContents before.files command contents → ((denial : Denial) → Did (refused_by denial) → ⊥) → RunShows Did Shows before after → Did (worked command contents) → CommandAlone Shows command before after
+command_by Did Shows (Bare image ticks) contents before after are never shows is = record {
   contents = contents;
   are = are;
-  shows = shows_run lines_law core_law (bare_system (content 0 contents)) (no_inputs 1) ticks [] before read_from after tt files got
-      (is ∙ ap (λ (o : Outcome). did o read_from) (bare_ran image ticks (content 0 contents) none));
+  shows = bare_by Did image ticks (content 0 contents) never (shows (bare_system (content 0 contents)) (no_inputs 1) ticks [] tt) is;
 }
-shows_command lines_law core_law (Parse description output) contents before read_from after are files got none is = tt
-shows_command lines_law core_law (BuildImage program output) contents before read_from after are files got none is = tt
-shows_command lines_law core_law (ReadImage image) contents before read_from after are files got none is = tt
-shows_command lines_law core_law (Pack configuration output images) contents before read_from after are files got none is = tt
-shows_command lines_law core_law (ListContainer container) contents before read_from after are files got none is = tt
-shows_command lines_law core_law (CheckContainer container) contents before read_from after are files got none is = tt
-shows_command lines_law core_law (MakePlan description) contents before read_from after are files got none is = tt
-shows_command lines_law core_law (CheckPlan description) contents before read_from after are files got none is = tt
-shows_command lines_law core_law (Run container options) contents before read_from after are files got none is =
-    container_ran lines_law core_law container options contents before read_from after are files got none is
+command_by Did Shows (Parse description output) contents before after are never shows is = tt
+command_by Did Shows (BuildImage program output) contents before after are never shows is = tt
+command_by Did Shows (ReadImage image) contents before after are never shows is = tt
+command_by Did Shows (Pack configuration output images) contents before after are never shows is = tt
+command_by Did Shows (ListContainer container) contents before after are never shows is = tt
+command_by Did Shows (CheckContainer container) contents before after are never shows is = tt
+command_by Did Shows (MakePlan description) contents before after are never shows is = tt
+command_by Did Shows (CheckPlan description) contents before after are never shows is = tt
+command_by Did Shows (TellGroups description) contents before after are never shows is = tt
+command_by Did Shows (Run container options) contents before after are never shows is = container_by Did Shows container options contents before after are never shows is
 
-carried_alone : OwnLines → SameCoreFile → (command : Command) (before after : Outside) → IsCarriedOut None command before after → CommandAlone command before after
+outcome_by : (Did : Outcome → Type 0) (Shows : System → ℕ → List PartFile → Outside → Outside → Type 0) (command : Command) (contents : List (List ℕ)) (before after : Outside)
+    → AreContents before.files command contents → ((denial : Denial) → Did (refused_by denial) → ⊥) → RunShows Did Shows before after → Did (outcome_of command contents) → CommandAlone Shows command before after
+outcome_by Did Shows command contents before after are never shows is = worked_by Did command contents never (command_by Did Shows command contents before after are never shows) is
+
+-- Where the command was carried out.
+
+carried_alone : OwnLines → SameCoreFile → (command : Command) (before after : Outside) → IsCarriedOut None command before after → CommandAlone ShowsAlone command before after
 carried_alone lines_law core_law command before after w =
     let told = told_outcome before.files command w.contents w.read in
-    let denied : (outcome_of command told.contents).denial ≡ None = ap (λ (o : Outcome). o.denial) (sym told.outcome) ∙ w.denied in
-    let works : outcome_of command told.contents ≡ worked command told.contents = outcome_worked command told.contents denied in
     let read_from = called_for (inputs_of command) before in
-    shows_command lines_law core_law command told.contents before read_from after told.are
-    (ap (λ (x : Outside). x.files) (called_for-is (inputs_of command) before)) (ap (λ (x : Outside). x.got) (called_for-is (inputs_of command) before))
-    (ap (λ (o : Outcome). o.denial) (sym works) ∙ denied)
-    (w.outside ∙ ap (λ (o : Outcome). did o read_from) (told.outcome ∙ works))
+    let files : read_from.files ≡ before.files = ap (λ (x : Outside). x.files) (called_for-is (inputs_of command) before) in
+    let got : read_from.got ≡ before.got = ap (λ (x : Outside). x.got) (called_for-is (inputs_of command) before) in
+    outcome_by (IsAllOf read_from after) ShowsAlone command told.contents before after told.are (never_all read_from after)
+    (λ system inputs ticks cores inside done. shows_run lines_law core_law system inputs ticks cores before read_from after inside files got done)
+    (subst (IsAllOf read_from after) told.outcome (w.denied, w.outside))
 
--- where the command was carried out
-pub are_alone : OwnLines → SameCoreFile → (e : Ending) (command : Option Command) (before after : Outside) → IsWorked e command before after → IsComplete (status_of e) → AreAlone command before after
+pub are_alone : OwnLines → SameCoreFile → (e : Ending) (command : Option Command) (before after : Outside) → IsWorked e command before after → IsComplete (status_of e) → AreAlone ShowsAlone command before after
 are_alone lines_law core_law e None before after w complete = tt
 are_alone lines_law core_law e (Some command) before after w complete =
     let carried : IsCarriedOut None command before after =
     ⊎_elim (λ done. subst (λ (e : Ending). IsWorked e (Some command) before after) (done_is_finished e done) w) (λ fault. unheard_finished e command before after fault w) complete in
     carried_alone lines_law core_law command before after carried
+
+-- Where its report or one of its files was not written.
+
+front_alone : OwnLines → (command : Command) (before after : Outside) → IsCut command before after → CommandAlone ShowsPart command before after
+front_alone law command before after w =
+    outcome_by (IsFrontOf before after) ShowsPart command w.contents before after w.are (never_front before after)
+    (λ system inputs ticks cores inside done. inl (shows_front law system inputs ticks cores before after done)) (w.front, w.files)
+
+some_alone : OwnLines → SameCoreFile → (command : Command) (before after : Outside) → IsLostAfter command before after → CommandAlone ShowsPart command before after
+some_alone lines_law core_law command before after w =
+    outcome_by (IsSomeOf before after) ShowsPart command w.contents before after w.are (never_some before after)
+    (λ system inputs ticks cores inside done. inr (shows_some lines_law core_law system inputs ticks cores before after inside done))
+    (record { first = w.first; output = w.output; rest = w.rest; split = w.split; report = w.report; others = w.others })
+
+-- a command that writes a file before its report runs nothing
+lost_alone : (command : Command) (before after : Outside) → IsLost command before after → CommandAlone ShowsPart command before after
+lost_alone (Bare image ticks) before after w = absurd (let some : IsSome {T = List ℕ} None = w.output in cc)
+lost_alone (Parse description output) before after w = tt
+lost_alone (BuildImage program output) before after w = tt
+lost_alone (ReadImage image) before after w = tt
+lost_alone (Pack configuration output images) before after w = tt
+lost_alone (ListContainer container) before after w = tt
+lost_alone (CheckContainer container) before after w = tt
+lost_alone (MakePlan description) before after w = tt
+lost_alone (CheckPlan description) before after w = tt
+lost_alone (TellGroups description) before after w = tt
+lost_alone (Run container options) before after w = absurd (let some : IsSome {T = List ℕ} None = w.output in cc)
+
+pub are_part : OwnLines → SameCoreFile → (command : Option Command) (before after : Outside) → IsWriteCause command before after → AreAlone ShowsPart command before after
+are_part lines_law core_law None before after w = tt
+are_part lines_law core_law (Some command) before after w =
+    ⊎_elim (front_alone lines_law command before after) (λ lost. ⊎_elim (lost_alone command before after) (some_alone lines_law core_law command before after) lost) w

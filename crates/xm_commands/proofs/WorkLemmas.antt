@@ -55,7 +55,7 @@ unfolding start
 started-halted system = refl
 
 -- the report of a run from the start is that of the system
-reports_same : (system : Booted) (ticks : ℕ) → report_of (start system) ticks ≡ report system ticks
+pub reports_same : (system : Booted) (ticks : ℕ) → report_of (start system) ticks ≡ report system ticks
 unfolding report_of report start
 reports_same system ticks = refl
 
@@ -285,4 +285,5 @@ has_ticks (variant.ListContainer container) words law e = tt
 has_ticks (variant.CheckContainer container) words law e = tt
 has_ticks (variant.MakePlan description) words law e = tt
 has_ticks (variant.CheckPlan description) words law e = tt
+has_ticks (variant.TellGroups description) words law e = tt
 has_ticks (variant.Run container options) words law e = span_within (seen_options options) ((law words (Run container.now (seen_options options))).0 (sym e)).1.1.each

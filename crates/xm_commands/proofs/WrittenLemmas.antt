@@ -11,10 +11,11 @@ use Rattle.xm_container.specs.declared.fault.BoxFault.{BoxFault}
 use Rattle.loaded_system.specs.Bare.{bare_system}
 use Rattle.loaded_system.specs.System.{System}
 use Rattle.machine_model.specs.Machine.{Machine}
-use Rattle.xm_words.specs.Words.{Command, PartFile, RunOption, Bare, Parse, BuildImage, ReadImage, Pack, ListContainer, CheckContainer, MakePlan, CheckPlan, Run, cores_in}
+use Rattle.xm_words.specs.Words.{Command, PartFile, RunOption, Bare, Parse, BuildImage, ReadImage, Pack, ListContainer, CheckContainer, MakePlan, CheckPlan, TellGroups, Run, cores_in}
 use Rattle.xm_commands.specs.Answer.{saved, saved_all}
 use Rattle.xm_commands.specs.Denial.{Denial}
 use Rattle.xm_commands.specs.Ending.{length_text, ticks_text}
+use Rattle.xm_commands.specs.Grouping.{groups_of}
 use Rattle.xm_commands.specs.Imaging.{container_lines_of, container_verdict_of, image_lines_of, xef_of}
 use Rattle.xm_commands.specs.Inputs.{no_inputs}
 use Rattle.xm_commands.specs.Outcome.{Output, Outcome, bare_outcome, content, core_outputs, first_long, inputs_of, later_of, made, outcome_of, output_of, packed_to, ran, ran_with, ran_within, refused, run_by, run_outcome, told, unless_long, worked}
@@ -222,6 +223,7 @@ later-named command contents = at command (first_long (inputs_of command) conten
     at (CheckContainer container) None = inr (told-later container (container_verdict_of (content 0 contents)))
     at (MakePlan description) None = inr (told-later description (plan_lines_of (content 0 contents)))
     at (CheckPlan description) None = inr (told-later description (verdicts_of (content 0 contents)))
+    at (TellGroups description) None = inr (told-later description (groups_of (content 0 contents)))
     at (Run container options) None = run-later container options (content 0 contents) (drop 1 contents)
 
 -- a command whose words name none of them has none

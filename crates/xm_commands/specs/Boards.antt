@@ -1,10 +1,13 @@
 -- What a command makes of the board of UARTs, by how it ends.
-use Rattle.std.specs.Prelude.{◌≡◌, ℕ, ◌<◌, ◌≤◌, List, Option, Some, None, IsNone, IsSome}
-use Rattle.machine_model.specs.Lines.{console}
+use Rattle.std.specs.Prelude.{◌≡◌, ℕ, ◌<◌, ◌≤◌, List, length, Option, Some, None, IsNone, IsSome}
+use Rattle.machine_model.specs.Lines.{console, report}
 use Rattle.machine_model.specs.Machine.{start}
 use Rattle.uart_board.specs.Heard.{IsHeard}
 use Rattle.uart_board.specs.Views.{BoardView, begun, mark_at}
+use Rattle.xm_machine.specs.Outcome.{report_to}
 use Rattle.xm_outside.specs.Files.{Files}
+use Rattle.xm_outside.specs.Growth.{GrewByPrefix}
+use Rattle.xm_report.specs.Report.{texts}
 use Rattle.xm_words.specs.Words.{Command}
 use Rattle.xm_commands.specs.Ending.{Ending, Finished, Misused, Unread, Denied, Unwritten, Unsaved, Unheard, Starved, complaint, status_of}
 use Rattle.xm_commands.specs.Outcome.{Running, inputs_of, outcome_of}
@@ -35,10 +38,14 @@ pub record IsRunMarked (place : ℕ) (run : Running) (before after : BoardView) 
   pub heard : IsRunTo run.ticks run before after
   pub marked : IsLowestMark place after
 
--- those of its ticks up to the one in which the report was cut
-pub record IsRunCut (run : Running) (before after : BoardView) : Type 0 where
+-- those of its ticks up to the one in which the report was cut: the sink of the report took all lines of the ticks before that one, and not
+-- all that it has with those of that one. Where only lines of the end are missing, these are all ticks of the run
+pub record IsRunCut (run : Running) (had got : Option (List ℕ)) (before after : BoardView) : Type 0 where
+  pub front : GrewByPrefix had (texts (report run.system run.ticks)) got
   pub ticks : ℕ
   pub within : ticks ≤ run.ticks
+  pub whole : (earlier : ℕ) → earlier < ticks → length (texts (report_to (start run.system) run.ticks earlier)) ≤ front.count
+  pub cut : ticks < run.ticks → front.count < length (texts (report_to (start run.system) run.ticks ticks))
   pub heard : IsRunTo ticks run before after
 
 -- a run all of whose writes are done ends so: well where no place has a mark, else with the lowest that has one
@@ -54,44 +61,44 @@ EndsRun Starved board = ⊥
 
 -- a call that ended so leaves this of the board: a command that runs nothing, and a call that ended before its first tick, leave it
 -- as it was; where a file was not written after a run, the run had reached its end
-abbrev pub Leaves : Ending → Option Running → BoardView → BoardView → Type 0
-Leaves Finished None before after = after ≡ before
-Leaves Finished (Some run) before after = IsRunWell run before after
-Leaves Misused run before after = after ≡ before
-Leaves (Unread file) run before after = after ≡ before
-Leaves (Denied file text) run before after = after ≡ before
-Leaves Unwritten None before after = after ≡ before
-Leaves Unwritten (Some run) before after = IsRunCut run before after
-Leaves (Unsaved file) None before after = after ≡ before
-Leaves (Unsaved file) (Some run) before after = IsRunTo run.ticks run before after
-Leaves (Unheard place) None before after = ⊥
-Leaves (Unheard place) (Some run) before after = IsRunMarked place run before after
-Leaves Starved run before after = after ≡ before
+abbrev pub Leaves : Ending → Option Running → Option (List ℕ) → Option (List ℕ) → BoardView → BoardView → Type 0
+Leaves Finished None had got before after = after ≡ before
+Leaves Finished (Some run) had got before after = IsRunWell run before after
+Leaves Misused run had got before after = after ≡ before
+Leaves (Unread file) run had got before after = after ≡ before
+Leaves (Denied file text) run had got before after = after ≡ before
+Leaves Unwritten None had got before after = after ≡ before
+Leaves Unwritten (Some run) had got before after = IsRunCut run had got before after
+Leaves (Unsaved file) None had got before after = after ≡ before
+Leaves (Unsaved file) (Some run) had got before after = IsRunTo run.ticks run before after
+Leaves (Unheard place) None had got before after = ⊥
+Leaves (Unheard place) (Some run) had got before after = IsRunMarked place run before after
+Leaves Starved run had got before after = after ≡ before
 
 -- the files of a command were read, and what they come to left this of the board
-pub record HasLeft (ending : Ending) (command : Command) (files : Option Files) (before after : BoardView) : Type 0 where
+pub record HasLeft (ending : Ending) (command : Command) (files : Option Files) (had got : Option (List ℕ)) (before after : BoardView) : Type 0 where
   pub contents : List (List ℕ)
   pub read : ReadsFiles files (inputs_of command) contents
-  pub leaves : Leaves ending (outcome_of command contents).run before after
+  pub leaves : Leaves ending (outcome_of command contents).run had got before after
 
--- what a call leaves of the board, by its command and its ending
-abbrev pub IsLeft : Ending → Option Command → Option Files → BoardView → BoardView → Type 0
-IsLeft ending None files before after = after ≡ before
-IsLeft Finished (Some command) files before after = HasLeft Finished command files before after
-IsLeft Misused (Some command) files before after = after ≡ before
-IsLeft (Unread file) (Some command) files before after = after ≡ before
-IsLeft (Denied file text) (Some command) files before after = after ≡ before
-IsLeft Unwritten (Some command) files before after = HasLeft Unwritten command files before after
-IsLeft (Unsaved file) (Some command) files before after = HasLeft (Unsaved file) command files before after
-IsLeft (Unheard place) (Some command) files before after = HasLeft (Unheard place) command files before after
-IsLeft Starved (Some command) files before after = after ≡ before
+-- what a call leaves of the board, by its command and its ending, and by what the sink of the report had and has got
+abbrev pub IsLeft : Ending → Option Command → Option Files → Option (List ℕ) → Option (List ℕ) → BoardView → BoardView → Type 0
+IsLeft ending None files had got before after = after ≡ before
+IsLeft Finished (Some command) files had got before after = HasLeft Finished command files had got before after
+IsLeft Misused (Some command) files had got before after = after ≡ before
+IsLeft (Unread file) (Some command) files had got before after = after ≡ before
+IsLeft (Denied file text) (Some command) files had got before after = after ≡ before
+IsLeft Unwritten (Some command) files had got before after = HasLeft Unwritten command files had got before after
+IsLeft (Unsaved file) (Some command) files had got before after = HasLeft (Unsaved file) command files had got before after
+IsLeft (Unheard place) (Some command) files had got before after = HasLeft (Unheard place) command files had got before after
+IsLeft Starved (Some command) files had got before after = after ≡ before
 
 -- the call is explained by an ending: the status and the line on the error output are its own, and so is what it leaves of the board
-pub record IsPlayed (status : Status) (command : Option Command) (files : Option Files) (had : Option (List ℕ)) (error_faults : ℕ) (got : Option (List ℕ)) (error_faults_after : ℕ) (before after : BoardView) : Type 0 where
+pub record IsPlayed (status : Status) (command : Option Command) (files : Option Files) (had got : Option (List ℕ)) (error_had : Option (List ℕ)) (error_faults : ℕ) (error_got : Option (List ℕ)) (error_faults_after : ℕ) (before after : BoardView) : Type 0 where
   pub ending : Ending
   pub answered : status ≡ status_of ending
-  pub line : IsSaid (complaint ending) had error_faults got error_faults_after
-  pub left : IsLeft ending command files before after
+  pub line : IsSaid (complaint ending) error_had error_faults error_got error_faults_after
+  pub left : IsLeft ending command files had got before after
 
 -- some place has a mark
 pub record IsMarked (board : BoardView) : Type 0 where

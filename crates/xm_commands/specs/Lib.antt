@@ -3,6 +3,7 @@ pub mod Boards
 pub mod Cores
 pub mod Denial
 pub mod Ending
+pub mod Grouping
 pub mod Imaging
 pub mod Inputs
 pub mod Makes
@@ -12,6 +13,7 @@ pub mod Parsing
 pub mod Planning
 pub mod Separation
 pub mod Status
+pub mod Telling
 pub mod Told
 pub mod Top
 pub mod Work

@@ -14,11 +14,12 @@ use Rattle.loaded_system.specs.System.{System}
 use Rattle.xm_container.specs.Reading.{unpacked}
 use Rattle.xm_container.specs.Texts.{box_fault_text}
 use Rattle.xm_container.specs.declared.fault.BoxFault.{BoxFault}
-use Rattle.xm_words.specs.Words.{Command, PartFile, RunOption, Bare, Parse, BuildImage, ReadImage, Pack, ListContainer, CheckContainer, MakePlan, CheckPlan, Run, cores_in, inputs_in, span_in}
+use Rattle.xm_words.specs.Words.{Command, PartFile, RunOption, Bare, Parse, BuildImage, ReadImage, Pack, ListContainer, CheckContainer, MakePlan, CheckPlan, TellGroups, Run, cores_in, inputs_in, span_in}
 use Rattle.xm_words.specs.declared.commands.Span.{Span}
 use Rattle.xm_words.specs.declared.commands.Span.TheVariants.{Frames, Ticks}
 use Rattle.xm_commands.specs.Denial.{Denial}
 use Rattle.xm_commands.specs.Ending.{length_text, ticks_text}
+use Rattle.xm_commands.specs.Grouping.{groups_of}
 use Rattle.xm_commands.specs.Imaging.{container_lines_of, container_verdict_of, image_lines_of, xef_of}
 use Rattle.xm_commands.specs.Inputs.{inputs_for, no_inputs}
 use Rattle.xm_commands.specs.Packing.{container_of, names_of}
@@ -63,6 +64,7 @@ inputs_of (ListContainer container) = container ∷ []
 inputs_of (CheckContainer container) = container ∷ []
 inputs_of (MakePlan description) = description ∷ []
 inputs_of (CheckPlan description) = description ∷ []
+inputs_of (TellGroups description) = description ∷ []
 inputs_of (Run container options) = container ∷ names_of (inputs_in options)
 
 -- the file that a command writes before its report
@@ -76,6 +78,7 @@ output_of (ListContainer container) = None
 output_of (CheckContainer container) = None
 output_of (MakePlan description) = None
 output_of (CheckPlan description) = None
+output_of (TellGroups description) = None
 output_of (Run container options) = None
 
 -- the files that a command writes after its report, in their order
@@ -89,6 +92,7 @@ later_of (ListContainer container) = []
 later_of (CheckContainer container) = []
 later_of (MakePlan description) = []
 later_of (CheckPlan description) = []
+later_of (TellGroups description) = []
 later_of (Run container options) = names_of (cores_in options)
 
 -- the core file of a partition of a machine, under the name that is given for it
@@ -173,6 +177,7 @@ worked (ListContainer container) contents = told container (container_lines_of (
 worked (CheckContainer container) contents = told container (container_verdict_of (content 0 contents))
 worked (MakePlan description) contents = told description (plan_lines_of (content 0 contents))
 worked (CheckPlan description) contents = told description (verdicts_of (content 0 contents))
+worked (TellGroups description) contents = told description (groups_of (content 0 contents))
 worked (Run container options) contents = run_outcome container options (content 0 contents) (drop 1 contents)
 
 -- the first of the files that has more bytes than a file may have

@@ -1,18 +1,19 @@
 -- What a run shows of each partition: what it is alone, under what it was told.
-use Rattle.std.specs.Prelude.{◌≡◌, ℕ, ◌<◌, List, [], ◌∷◌, ◌++◌, length, drop, map, Option, Some, None, Ok}
-use Rattle.xm_outside.specs.Growth.{grown}
-use Rattle.xm_report.specs.Report.{ReportLine, texts}
+use Rattle.std.specs.Prelude.{◌≡◌, ℕ, ◌<◌, ◌⊎◌, List, [], ◌∷◌, ◌++◌, length, drop, map, Option, Some, None, Ok}
+use Rattle.xm_outside.specs.Files.{OthersStay}
+use Rattle.xm_outside.specs.Growth.{GrewByPrefix, grown}
+use Rattle.xm_report.specs.Report.{ReportLine, text_of, texts}
 use Rattle.loaded_system.specs.Bare.{bare_system}
 use Rattle.loaded_system.specs.System as loaded
 use Rattle.xm_container.specs.Reading.{unpacked}
 use Rattle.machine_model.specs.Alone.{Alone, alone_from, alone_lines, alone_start}
 use Rattle.machine_model.specs.CoreFile.{core_file}
 use Rattle.machine_model.specs.Cue.{script}
-use Rattle.machine_model.specs.Lines.{end_line, own}
+use Rattle.machine_model.specs.Lines.{end_line, own, report}
 use Rattle.machine_model.specs.Machine.{start}
 use Rattle.machine_model.specs.View.{System, view_of}
 use Rattle.whole_system.specs.State.{with_inputs}
-use Rattle.xm_words.specs.Words.{Command, PartFile, RunOption, Bare, Parse, BuildImage, ReadImage, Pack, ListContainer, CheckContainer, MakePlan, CheckPlan, Run, cores_in, span_in}
+use Rattle.xm_words.specs.Words.{Command, PartFile, RunOption, Bare, Parse, BuildImage, ReadImage, Pack, ListContainer, CheckContainer, MakePlan, CheckPlan, TellGroups, Run, cores_in, span_in}
 use Rattle.xm_commands.specs.Inputs.{inputs_for, no_inputs}
 use Rattle.xm_commands.specs.Outcome.{Output, content, ticks_asked}
 use Rattle.xm_commands.specs.Top.{AreContents}
@@ -31,44 +32,74 @@ alone_report system p ticks =
 abbrev pub alone_output : System → ℕ → PartFile → Output
 alone_output system ticks named = record { file = named.file; bytes = core_file (view_of system named.part) (alone_after system named.part ticks).state }
 
--- a run of so many ticks, with these core files. The bytes that went out are lines; of these each partition's own are the lines of that
--- partition alone. The core files that were written, in this order, are those of the partitions alone; no other file has changed
-pub record ShowsAlone (system : System) (ticks : ℕ) (cores : List PartFile) (before after : Outside) : Type 0 where
+-- what a run of so many ticks prints, where all of it went out: lines, of which each partition's own are those of that partition alone
+pub record PrintsAlone (system : System) (ticks : ℕ) (before after : Outside) : Type 0 where
   pub lines : List ReportLine
   pub report : after.got ≡ grown before.got (texts lines)
   pub own : (p : ℕ) → p < length system.conf.parts → own p lines ≡ alone_report system p ticks
+
+-- a run of so many ticks, with these core files: its whole report went out, and the core files that were written, in this order, are those of
+-- the partitions alone; no other file has changed
+pub record ShowsAlone (system : System) (ticks : ℕ) (cores : List PartFile) (before after : Outside) : Type 0 where
+  pub printed : PrintsAlone system ticks before after
   pub written : after.files ≡ (wrote_all (map (alone_output system ticks) cores) before).files
 
--- a raw image was run
-pub record BareAlone (image : List ℕ) (ticks : ℕ) (before after : Outside) : Type 0 where
+-- the same run, where its report was cut: what went out is the first lines of it, and a front of the next line. Of these lines each partition's
+-- own are the first of those of that partition alone, and the rest of them did not go out. No file has changed
+pub record ShowsFront (system : System) (ticks : ℕ) (cores : List PartFile) (before after : Outside) : Type 0 where
+  pub lines : List ReportLine
+  pub next : ReportLine
+  pub rest : List ReportLine
+  pub split : lines ++ next ∷ rest ≡ report system ticks
+  pub front : GrewByPrefix (grown before.got (texts lines)) (text_of next) after.got
+  pub own : (p : ℕ) → p < length system.conf.parts → own p lines ++ own p (next ∷ rest) ≡ alone_report system p ticks
+  pub files : after.files ≡ before.files
+
+-- the same run, where a core file was not written: its whole report went out, and the core files before that one are those of the partitions
+-- alone; no file beside these has changed
+pub record ShowsSome (system : System) (ticks : ℕ) (cores : List PartFile) (before after : Outside) : Type 0 where
+  pub printed : PrintsAlone system ticks before after
+  pub first : List PartFile
+  pub lost : PartFile
+  pub rest : List PartFile
+  pub split : first ++ lost ∷ rest ≡ cores
+  pub others : OthersStay (wrote_all (map (alone_output system ticks) first) before).files lost.file after.files
+
+-- the same run, where its report or a core file was not written
+abbrev pub ShowsPart : System → ℕ → List PartFile → Outside → Outside → Type 0
+ShowsPart system ticks cores before after = ShowsFront system ticks cores before after ⊎ ShowsSome system ticks cores before after
+
+-- a raw image was run, and the run shows this
+pub record BareAlone (Shows : System → ℕ → List PartFile → Outside → Outside → Type 0) (image : List ℕ) (ticks : ℕ) (before after : Outside) : Type 0 where
   pub contents : List (List ℕ)
   pub are : AreContents before.files (Bare image ticks) contents
-  pub shows : ShowsAlone (with_inputs (bare_system (content 0 contents)) (no_inputs 1)) ticks [] before after
+  pub shows : Shows (with_inputs (bare_system (content 0 contents)) (no_inputs 1)) ticks [] before after
 
--- a container was run, with input words for its partitions
-pub record ContainerAlone (container : List ℕ) (options : List RunOption) (before after : Outside) : Type 0 where
+-- a container was run, with input words for its partitions, and the run shows this
+pub record ContainerAlone (Shows : System → ℕ → List PartFile → Outside → Outside → Type 0) (container : List ℕ) (options : List RunOption) (before after : Outside) : Type 0 where
   pub contents : List (List ℕ)
   pub are : AreContents before.files (Run container options) contents
   pub system : loaded.System
   pub unpacks : unpacked (content 0 contents) ≡ Ok system
   pub inputs : List (List ℕ)
   pub given : inputs_for (length system.conf.parts) options (drop 1 contents) ≡ Ok inputs
-  pub shows : ShowsAlone (with_inputs system inputs) (ticks_asked (span_in options) system.conf) (cores_in options) before after
+  pub shows : Shows (with_inputs system inputs) (ticks_asked (span_in options) system.conf) (cores_in options) before after
 
 -- what a command shows of partitions; those that run no system show nothing
-abbrev pub CommandAlone : Command → Outside → Outside → Type 0
-CommandAlone (Bare image ticks) before after = BareAlone image ticks before after
-CommandAlone (Parse description output) before after = Unit {0}
-CommandAlone (BuildImage program output) before after = Unit {0}
-CommandAlone (ReadImage image) before after = Unit {0}
-CommandAlone (Pack configuration output images) before after = Unit {0}
-CommandAlone (ListContainer container) before after = Unit {0}
-CommandAlone (CheckContainer container) before after = Unit {0}
-CommandAlone (MakePlan description) before after = Unit {0}
-CommandAlone (CheckPlan description) before after = Unit {0}
-CommandAlone (Run container options) before after = ContainerAlone container options before after
+abbrev pub CommandAlone : (System → ℕ → List PartFile → Outside → Outside → Type 0) → Command → Outside → Outside → Type 0
+CommandAlone Shows (Bare image ticks) before after = BareAlone Shows image ticks before after
+CommandAlone Shows (Parse description output) before after = Unit {0}
+CommandAlone Shows (BuildImage program output) before after = Unit {0}
+CommandAlone Shows (ReadImage image) before after = Unit {0}
+CommandAlone Shows (Pack configuration output images) before after = Unit {0}
+CommandAlone Shows (ListContainer container) before after = Unit {0}
+CommandAlone Shows (CheckContainer container) before after = Unit {0}
+CommandAlone Shows (MakePlan description) before after = Unit {0}
+CommandAlone Shows (CheckPlan description) before after = Unit {0}
+CommandAlone Shows (TellGroups description) before after = Unit {0}
+CommandAlone Shows (Run container options) before after = ContainerAlone Shows container options before after
 
 -- what words show that are a command
-abbrev pub AreAlone : Option Command → Outside → Outside → Type 0
-AreAlone None before after = Unit {0}
-AreAlone (Some command) before after = CommandAlone command before after
+abbrev pub AreAlone : (System → ℕ → List PartFile → Outside → Outside → Type 0) → Option Command → Outside → Outside → Type 0
+AreAlone Shows None before after = Unit {0}
+AreAlone Shows (Some command) before after = CommandAlone Shows command before after

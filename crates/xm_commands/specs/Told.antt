@@ -48,6 +48,7 @@ HasTicks (words.ListContainer container) = ⊤
 HasTicks (words.CheckContainer container) = ⊤
 HasTicks (words.MakePlan description) = ⊤
 HasTicks (words.CheckPlan description) = ⊤
+HasTicks (words.TellGroups description) = ⊤
 HasTicks (words.Run container options) = count_of (span_in (seen_options options)) ≤ TICKS
 
 -- a file was read, or the call ends without it

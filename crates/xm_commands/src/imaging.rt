@@ -1,4 +1,4 @@
-//! Programs become images, and images and containers are told.
+//! Programs become images, and what is told of images and containers.
 
 ghost use Rattle.std.specs.Prelude.{◌≡◌, [], ◌∷◌, IfErr, IfOk, length};
 ghost use Rattle.xef_images.specs.Texts.{elf_fault_text, xef_fault_text};
@@ -7,10 +7,10 @@ ghost use Rattle.xm_commands.specs.Imaging.{checked_text, container_lines_of, co
 ghost use Rattle.xm_commands.specs.Makes.{IsTold, Makes};
 ghost use Rattle.xm_commands.specs.Outcome.{outcome_of};
 ghost use Rattle.xm_commands.specs.Told.{ending_of};
-ghost use Rattle.xm_commands.specs.Work.{Comes, IsDone, Reports, outside};
-ghost use Rattle.xm_words.specs.Words.{BuildImage, CheckContainer, ListContainer, ReadImage};
+ghost use Rattle.xm_commands.specs.Work.{Comes, IsDone, outside};
+ghost use Rattle.xm_words.specs.Words.{BuildImage};
 
-use crate::delivery::{deliver, tell};
+use crate::delivery::deliver;
 use crate::ending::{Ending, Refusal};
 use crate::reading::read_file;
 use crate::unmade::Unmade;
@@ -61,106 +61,6 @@ fn build_bytes<'a, S: Store, O: Sink>(
     deliver(program, output, make_xef(alloc, bytes), files, out)
 }
 
-/// Reads an image, and tells it.
-pub(crate) fn read_image<'a, S: Store, O: Sink>(
-    alloc: Global,
-    image: &'a str,
-    files: &mut S,
-    out: &mut O,
-) -> Ending<'a>
-    ensures { IsDone (ending_of result) (ReadImage image.now)
-        (outside (S.files files.old) (S.read_faults files.old) (S.write_faults files.old) (S.calls files.old) (O.got out.old) (O.faults out.old))
-        (outside (S.files files.new) (S.read_faults files.new) (S.write_faults files.new) (S.calls files.new) (O.got out.new) (O.faults out.new)) }
-{
-    match read_file(alloc, image, files) {
-        Ok(bytes) => tell_image(alloc, image, &bytes, out),
-        Err(ending) => ending,
-    }
-}
-
-// Tells the image of a file that is not too long.
-fn tell_image<'a, O: Sink>(alloc: Global, image: &'a str, bytes: &[u8], out: &mut O) -> Ending<'a>
-    ensures { Reports (ending_of result) (outcome_of (ReadImage image.now) (bytes.now ∷ [])) (O.got out.old) (O.faults out.old) (O.got out.new) (O.faults out.new) }
-{
-    if bytes.len() > FILE_BYTES {
-        return Ending::Denied {
-            file: image,
-            why: Refusal::TooLong,
-        };
-    }
-    tell(image, image_lines(alloc, bytes), out)
-}
-
-/// Reads a container, and tells it.
-pub(crate) fn list_container<'a, S: Store, O: Sink>(
-    alloc: Global,
-    container: &'a str,
-    files: &mut S,
-    out: &mut O,
-) -> Ending<'a>
-    ensures { IsDone (ending_of result) (ListContainer container.now)
-        (outside (S.files files.old) (S.read_faults files.old) (S.write_faults files.old) (S.calls files.old) (O.got out.old) (O.faults out.old))
-        (outside (S.files files.new) (S.read_faults files.new) (S.write_faults files.new) (S.calls files.new) (O.got out.new) (O.faults out.new)) }
-{
-    match read_file(alloc, container, files) {
-        Ok(bytes) => tell_container(alloc, container, &bytes, out),
-        Err(ending) => ending,
-    }
-}
-
-// Tells the container of a file that is not too long.
-fn tell_container<'a, O: Sink>(
-    alloc: Global,
-    container: &'a str,
-    bytes: &[u8],
-    out: &mut O,
-) -> Ending<'a>
-    ensures { Reports (ending_of result) (outcome_of (ListContainer container.now) (bytes.now ∷ [])) (O.got out.old) (O.faults out.old) (O.got out.new) (O.faults out.new) }
-{
-    if bytes.len() > FILE_BYTES {
-        return Ending::Denied {
-            file: container,
-            why: Refusal::TooLong,
-        };
-    }
-    tell(container, container_lines(alloc, bytes), out)
-}
-
-/// Reads a container, and tells that it is one.
-pub(crate) fn check_container<'a, S: Store, O: Sink>(
-    alloc: Global,
-    container: &'a str,
-    files: &mut S,
-    out: &mut O,
-) -> Ending<'a>
-    ensures { IsDone (ending_of result) (CheckContainer container.now)
-        (outside (S.files files.old) (S.read_faults files.old) (S.write_faults files.old) (S.calls files.old) (O.got out.old) (O.faults out.old))
-        (outside (S.files files.new) (S.read_faults files.new) (S.write_faults files.new) (S.calls files.new) (O.got out.new) (O.faults out.new)) }
-{
-    match read_file(alloc, container, files) {
-        Ok(bytes) => tell_verdict(alloc, container, &bytes, out),
-        Err(ending) => ending,
-    }
-}
-
-// Tells that a file that is not too long is a container.
-fn tell_verdict<'a, O: Sink>(
-    alloc: Global,
-    container: &'a str,
-    bytes: &[u8],
-    out: &mut O,
-) -> Ending<'a>
-    ensures { Reports (ending_of result) (outcome_of (CheckContainer container.now) (bytes.now ∷ [])) (O.got out.old) (O.faults out.old) (O.got out.new) (O.faults out.new) }
-{
-    if bytes.len() > FILE_BYTES {
-        return Ending::Denied {
-            file: container,
-            why: Refusal::TooLong,
-        };
-    }
-    tell(container, container_verdict(alloc, bytes), out)
-}
-
 // The image's file of a program.
 #[tactic(auto, unfolding(crate::specs::Imaging::xef_of))]
 fn make_xef(alloc: Global, program: &[u8]) -> Result<Vec<u8>, Unmade>
@@ -175,9 +75,9 @@ fn make_xef(alloc: Global, program: &[u8]) -> Result<Vec<u8>, Unmade>
     }
 }
 
-// The lines that tell the image of a file.
+/// The lines that tell the image of a file.
 #[tactic(auto, unfolding(crate::specs::Imaging::image_lines_of))]
-fn image_lines(alloc: Global, file: &[u8]) -> Result<Vec<u8>, Unmade>
+pub(crate) fn image_lines(alloc: Global, file: &[u8]) -> Result<Vec<u8>, Unmade>
     ensures { Makes result (image_lines_of file.now) }
 {
     match read_xef(alloc, file) {
@@ -189,9 +89,9 @@ fn image_lines(alloc: Global, file: &[u8]) -> Result<Vec<u8>, Unmade>
     }
 }
 
-// The lines that tell the container of a file.
+/// The lines that tell the container of a file.
 #[tactic(auto, unfolding(crate::specs::Imaging::container_lines_of))]
-fn container_lines(alloc: Global, file: &[u8]) -> Result<Vec<u8>, Unmade>
+pub(crate) fn container_lines(alloc: Global, file: &[u8]) -> Result<Vec<u8>, Unmade>
     ensures { Makes result (container_lines_of file.now) }
 {
     match unpack(alloc, file) {
@@ -203,9 +103,9 @@ fn container_lines(alloc: Global, file: &[u8]) -> Result<Vec<u8>, Unmade>
     }
 }
 
-// What is printed of the container of a file.
+/// What is printed of the container of a file.
 #[tactic(auto, unfolding(crate::specs::Imaging::container_verdict_of))]
-fn container_verdict(alloc: Global, file: &[u8]) -> Result<Vec<u8>, Unmade>
+pub(crate) fn container_verdict(alloc: Global, file: &[u8]) -> Result<Vec<u8>, Unmade>
     ensures { Makes result (container_verdict_of file.now) }
 {
     match unpack(alloc, file) {

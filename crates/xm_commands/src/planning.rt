@@ -1,104 +1,26 @@
 //! Plans are made from the requirements of a system description, and its own plan is checked against them.
 
-ghost use Rattle.std.specs.Prelude.{◌≡◌, ◌++◌, ◌<◌, ◌≤◌, ◌^◌, [], ◌∷◌, All, IfErr, IfOk, IfSome, OnOk, length};
+ghost use Rattle.std.specs.Prelude.{◌≡◌, ◌++◌, ◌<◌, ◌≤◌, ◌^◌, [], All, IfErr, IfOk, IfSome, OnOk, length};
 ghost use Rattle.plan_maker.specs.Texts.{plan_fault_text};
 ghost use Rattle.xm_conf.specs.Along.{each};
 ghost use Rattle.xm_conf.specs.Fits.{InFrame, InTurn, IsNeed, IsTime};
 ghost use Rattle.xm_commands.specs.Makes.{IsTold, Makes};
-ghost use Rattle.xm_commands.specs.Outcome.{outcome_of};
 ghost use Rattle.xm_commands.specs.Planning.{first_plan, frame_line, frame_text, met_by, met_line, part_line, plan_lines_for, plan_lines_of, plan_text, slot_line, verdicts_by, verdicts_for, verdicts_of};
-ghost use Rattle.xm_commands.specs.Told.{ending_of};
-ghost use Rattle.xm_commands.specs.Work.{IsDone, Reports, outside};
-ghost use Rattle.xm_words.specs.Words.{CheckPlan, MakePlan};
 
-use crate::delivery::tell;
-use crate::ending::{Ending, Refusal};
 use crate::parsing::read_conf;
-use crate::reading::read_file;
 use crate::unmade::Unmade;
 use plan_maker::{Met, PlanFault, make, met};
 use std::alloc::Global;
-use xm_base::{FILE_BYTES, Memory, PartId};
+use xm_base::{Memory, PartId};
 use xm_conf::{Conf, Need, Part, Plan, Slot};
-use xm_outside::{Sink, Store};
 use xm_report::Pen;
 
 /// The longest frame of a plan that is checked.
 const LONGEST_CHECKED: u32 = 1_000_000;
 
-/// Reads a system description, and tells the plan that its requirements make.
-pub(crate) fn make_plan<'a, S: Store, O: Sink>(
-    alloc: Global,
-    description: &'a str,
-    files: &mut S,
-    out: &mut O,
-) -> Ending<'a>
-    ensures { IsDone (ending_of result) (MakePlan description.now)
-        (outside (S.files files.old) (S.read_faults files.old) (S.write_faults files.old) (S.calls files.old) (O.got out.old) (O.faults out.old))
-        (outside (S.files files.new) (S.read_faults files.new) (S.write_faults files.new) (S.calls files.new) (O.got out.new) (O.faults out.new)) }
-{
-    match read_file(alloc, description, files) {
-        Ok(text) => tell_plan(alloc, description, &text, out),
-        Err(ending) => ending,
-    }
-}
-
-// Tells the plan of a text that is not too long.
-fn tell_plan<'a, O: Sink>(
-    alloc: Global,
-    description: &'a str,
-    text: &[u8],
-    out: &mut O,
-) -> Ending<'a>
-    ensures { Reports (ending_of result) (outcome_of (MakePlan description.now) (text.now ∷ [])) (O.got out.old) (O.faults out.old) (O.got out.new) (O.faults out.new) }
-{
-    if text.len() > FILE_BYTES {
-        return Ending::Denied {
-            file: description,
-            why: Refusal::TooLong,
-        };
-    }
-    tell(description, plan_lines(alloc, text), out)
-}
-
-/// Reads a system description, and tells whether its plan meets its requirements.
-pub(crate) fn check_plan<'a, S: Store, O: Sink>(
-    alloc: Global,
-    description: &'a str,
-    files: &mut S,
-    out: &mut O,
-) -> Ending<'a>
-    ensures { IsDone (ending_of result) (CheckPlan description.now)
-        (outside (S.files files.old) (S.read_faults files.old) (S.write_faults files.old) (S.calls files.old) (O.got out.old) (O.faults out.old))
-        (outside (S.files files.new) (S.read_faults files.new) (S.write_faults files.new) (S.calls files.new) (O.got out.new) (O.faults out.new)) }
-{
-    match read_file(alloc, description, files) {
-        Ok(text) => tell_verdicts(alloc, description, &text, out),
-        Err(ending) => ending,
-    }
-}
-
-// Tells how the plan of a text that is not too long stands to its requirements.
-fn tell_verdicts<'a, O: Sink>(
-    alloc: Global,
-    description: &'a str,
-    text: &[u8],
-    out: &mut O,
-) -> Ending<'a>
-    ensures { Reports (ending_of result) (outcome_of (CheckPlan description.now) (text.now ∷ [])) (O.got out.old) (O.faults out.old) (O.got out.new) (O.faults out.new) }
-{
-    if text.len() > FILE_BYTES {
-        return Ending::Denied {
-            file: description,
-            why: Refusal::TooLong,
-        };
-    }
-    tell(description, verdicts(alloc, text), out)
-}
-
-// The lines of the plan that a text's requirements make.
+/// The lines of the plan that a text's requirements make.
 #[tactic(auto, unfolding(crate::specs::Planning::plan_lines_of))]
-fn plan_lines(alloc: Global, text: &[u8]) -> Result<Vec<u8>, Unmade>
+pub(crate) fn plan_lines(alloc: Global, text: &[u8]) -> Result<Vec<u8>, Unmade>
     requires { length text.now < 2 ^ 32 }
     ensures { Makes result (plan_lines_of text.now) }
 {
@@ -214,9 +136,9 @@ fn no_plan(alloc: Global, fault: PlanFault) -> Unmade
     }
 }
 
-// The lines of the partitions of a text under its plan.
+/// The lines of the partitions of a text under its plan.
 #[tactic(auto, unfolding(crate::specs::Planning::verdicts_of))]
-fn verdicts(alloc: Global, text: &[u8]) -> Result<Vec<u8>, Unmade>
+pub(crate) fn verdicts(alloc: Global, text: &[u8]) -> Result<Vec<u8>, Unmade>
     requires { length text.now < 2 ^ 32 }
     ensures { Makes result (verdicts_of text.now) }
 {

@@ -35,7 +35,7 @@ pub(crate) fn run_file<'a, S: Store, O: Sink>(
     ensures done { IsDone (ending_of result) (Bare image.now ticks)
         (outside (S.files files.old) (S.read_faults files.old) (S.write_faults files.old) (S.calls files.old) (O.got out.old) (O.faults out.old))
         (outside (S.files files.new) (S.read_faults files.new) (S.write_faults files.new) (S.calls files.new) (O.got out.new) (O.faults out.new)) }
-    ensures board { IsLeft (ending_of result) (Some (Bare image.now ticks)) (S.files files.old) (⟦<Board as ViewBoard>⟧.board_view board.old) (⟦<Board as ViewBoard>⟧.board_view board.new) }
+    ensures board { IsLeft (ending_of result) (Some (Bare image.now ticks)) (S.files files.old) (O.got out.old) (O.got out.new) (⟦<Board as ViewBoard>⟧.board_view board.old) (⟦<Board as ViewBoard>⟧.board_view board.new) }
 {
     match read_file(alloc, image, files) {
         Ok(bytes) => run_bytes(alloc, image, ticks, &bytes, files, out, board),
@@ -57,7 +57,7 @@ fn run_bytes<'a, S: Store, O: Sink>(
     ensures comes { Comes (ending_of result) (outcome_of (Bare image.now ticks) (bytes.now ∷ []))
         (outside (S.files files.old) (S.read_faults files.old) (S.write_faults files.old) (S.calls files.old) (O.got out.old) (O.faults out.old))
         (outside (S.files files.new) (S.read_faults files.new) (S.write_faults files.new) (S.calls files.new) (O.got out.new) (O.faults out.new)) }
-    ensures board { Leaves (ending_of result) (outcome_of (Bare image.now ticks) (bytes.now ∷ [])).run (⟦<Board as ViewBoard>⟧.board_view board.old) (⟦<Board as ViewBoard>⟧.board_view board.new) }
+    ensures board { Leaves (ending_of result) (outcome_of (Bare image.now ticks) (bytes.now ∷ [])).run (O.got out.old) (O.got out.new) (⟦<Board as ViewBoard>⟧.board_view board.old) (⟦<Board as ViewBoard>⟧.board_view board.new) }
 {
     if bytes.len() > FILE_BYTES {
         return Ending::Denied {
@@ -99,7 +99,7 @@ pub(crate) fn run_system<'a, S: Store, O: Sink>(
     ensures comes { Comes (ending_of result) (ran ticks (seen_files cores.entry) system inputs)
         (outside (S.files files.old) (S.read_faults files.old) (S.write_faults files.old) (S.calls files.old) (O.got out.old) (O.faults out.old))
         (outside (S.files files.new) (S.read_faults files.new) (S.write_faults files.new) (S.calls files.new) (O.got out.new) (O.faults out.new)) }
-    ensures board { Leaves (ending_of result) (ran ticks (seen_files cores.entry) system inputs).run (⟦<Board as ViewBoard>⟧.board_view board.old) (⟦<Board as ViewBoard>⟧.board_view board.new) }
+    ensures board { Leaves (ending_of result) (ran ticks (seen_files cores.entry) system inputs).run (O.got out.old) (O.got out.new) (⟦<Board as ViewBoard>⟧.board_view board.old) (⟦<Board as ViewBoard>⟧.board_view board.new) }
 {
     keeps_numbers();
     let Ok(mut machine) = Machine::boot(alloc, system, inputs) else {

@@ -3,7 +3,7 @@
 ghost use Rattle.std.specs.Prelude.{◌≡◌, ◌≢◌, ◌↔◌, None};
 ghost use Rattle.xm_commands.specs.Boards.{IsMarked, IsPlayed};
 ghost use Rattle.xm_commands.specs.Ending.{Misused, complaint};
-ghost use Rattle.xm_commands.specs.Separation.{AreAlone};
+ghost use Rattle.xm_commands.specs.Separation.{AreAlone, ShowsAlone, ShowsPart};
 ghost use Rattle.xm_commands.specs.Top.{Answers, HasCauses, IsComplete, IsExplained, IsQuiet, IsSaid, OtherFilesStay};
 ghost use Rattle.xm_commands.specs.Work.{outside};
 ghost use Rattle.xm_words.specs.Words.{command_of};
@@ -45,13 +45,17 @@ pub fn xm_main<S: Store, O: Sink, E: Sink>(
     ensures usage { (result ≡ Status.Usage) ↔ (command_of words.now ≡ None) }
 
     // The UARTs of the board got the console bytes of the run, and a place is marked exactly where its UART failed.
-    ensures played { IsPlayed result (command_of words.now) (S.files files.old) (E.got err.old) (E.faults err.old) (E.got err.new) (E.faults err.new)
+    ensures played { IsPlayed result (command_of words.now) (S.files files.old) (O.got out.old) (O.got out.new) (E.got err.old) (E.faults err.old) (E.got err.new) (E.faults err.new)
         (⟦<Board as ViewBoard>⟧.board_view board.old) (⟦<Board as ViewBoard>⟧.board_view board.new) }
     ensures marked { result ≡ Status.UartFault → IsMarked (⟦<Board as ViewBoard>⟧.board_view board.new) }
     ensures still { IsQuiet result → ⟦<Board as ViewBoard>⟧.board_view board.new ≡ ⟦<Board as ViewBoard>⟧.board_view board.old }
 
-    // After a run that is carried out, what went out and what was written shows of each partition what it is alone.
-    ensures alone { IsComplete result → AreAlone (command_of words.now)
+    // After a run that is carried out, what went out and what was written shows of each partition what it is alone; so does what there is of
+    // it where the report or a core file was not written.
+    ensures alone { IsComplete result → AreAlone ShowsAlone (command_of words.now)
+        (outside (S.files files.old) (S.read_faults files.old) (S.write_faults files.old) (S.calls files.old) (O.got out.old) (O.faults out.old))
+        (outside (S.files files.new) (S.read_faults files.new) (S.write_faults files.new) (S.calls files.new) (O.got out.new) (O.faults out.new)) }
+    ensures part { result ≡ Status.WriteFault → AreAlone ShowsPart (command_of words.now)
         (outside (S.files files.old) (S.read_faults files.old) (S.write_faults files.old) (S.calls files.old) (O.got out.old) (O.faults out.old))
         (outside (S.files files.new) (S.read_faults files.new) (S.write_faults files.new) (S.calls files.new) (O.got out.new) (O.faults out.new)) }
 

@@ -42,7 +42,7 @@ pub(crate) fn run_container<'a, S: Store, O: Sink>(
     ensures done { IsDone (ending_of result) (Run container.now (seen_options options.entry))
         (outside (S.files files.old) (S.read_faults files.old) (S.write_faults files.old) (S.calls files.old) (O.got out.old) (O.faults out.old))
         (outside (S.files files.new) (S.read_faults files.new) (S.write_faults files.new) (S.calls files.new) (O.got out.new) (O.faults out.new)) }
-    ensures board { IsLeft (ending_of result) (Some (Run container.now (seen_options options.entry))) (S.files files.old) (⟦<Board as ViewBoard>⟧.board_view board.old) (⟦<Board as ViewBoard>⟧.board_view board.new) }
+    ensures board { IsLeft (ending_of result) (Some (Run container.now (seen_options options.entry))) (S.files files.old) (O.got out.old) (O.got out.new) (⟦<Board as ViewBoard>⟧.board_view board.old) (⟦<Board as ViewBoard>⟧.board_view board.new) }
 {
     match read_files(alloc, container, options.inputs(), files) {
         Ok(contents) => run_files(alloc, container, options, &contents, files, out, board),
@@ -64,7 +64,7 @@ fn run_files<'a, S: Store, O: Sink>(
     ensures comes { Comes (ending_of result) (outcome_of (Run container.now (seen_options options.entry)) (map bytes_of contents.now))
         (outside (S.files files.old) (S.read_faults files.old) (S.write_faults files.old) (S.calls files.old) (O.got out.old) (O.faults out.old))
         (outside (S.files files.new) (S.read_faults files.new) (S.write_faults files.new) (S.calls files.new) (O.got out.new) (O.faults out.new)) }
-    ensures board { Leaves (ending_of result) (outcome_of (Run container.now (seen_options options.entry)) (map bytes_of contents.now)).run (⟦<Board as ViewBoard>⟧.board_view board.old) (⟦<Board as ViewBoard>⟧.board_view board.new) }
+    ensures board { Leaves (ending_of result) (outcome_of (Run container.now (seen_options options.entry)) (map bytes_of contents.now)).run (O.got out.old) (O.got out.new) (⟦<Board as ViewBoard>⟧.board_view board.old) (⟦<Board as ViewBoard>⟧.board_view board.new) }
 {
     match first_long(container, options.inputs(), contents) {
         Some(file) => Ending::Denied {
@@ -90,7 +90,7 @@ fn run_packed<'a, S: Store, O: Sink>(
     ensures comes { Comes (ending_of result) (run_outcome container.now (seen_options options.entry) (content 0 (map bytes_of contents.now)) (drop 1 (map bytes_of contents.now)))
         (outside (S.files files.old) (S.read_faults files.old) (S.write_faults files.old) (S.calls files.old) (O.got out.old) (O.faults out.old))
         (outside (S.files files.new) (S.read_faults files.new) (S.write_faults files.new) (S.calls files.new) (O.got out.new) (O.faults out.new)) }
-    ensures board { Leaves (ending_of result) (run_outcome container.now (seen_options options.entry) (content 0 (map bytes_of contents.now)) (drop 1 (map bytes_of contents.now))).run
+    ensures board { Leaves (ending_of result) (run_outcome container.now (seen_options options.entry) (content 0 (map bytes_of contents.now)) (drop 1 (map bytes_of contents.now))).run (O.got out.old) (O.got out.new)
         (⟦<Board as ViewBoard>⟧.board_view board.old) (⟦<Board as ViewBoard>⟧.board_view board.new) }
 {
     let (bytes, inputs) = split_contents(contents);
@@ -118,7 +118,7 @@ fn run_unpacked<'a, S: Store, O: Sink>(
         (outside (S.files files.old) (S.read_faults files.old) (S.write_faults files.old) (S.calls files.old) (O.got out.old) (O.faults out.old))
         (outside (S.files files.new) (S.read_faults files.new) (S.write_faults files.new) (S.calls files.new) (O.got out.new) (O.faults out.new)) }
     ensures board { Leaves (ending_of result)
-        (ran_with container.now (ticks_asked (span_in (seen_options options.entry)) system.conf) (cores_in (seen_options options.entry)) system (inputs_for (length system.conf.parts) (seen_options options.entry) (map bytes_of contents.now))).run
+        (ran_with container.now (ticks_asked (span_in (seen_options options.entry)) system.conf) (cores_in (seen_options options.entry)) system (inputs_for (length system.conf.parts) (seen_options options.entry) (map bytes_of contents.now))).run (O.got out.old) (O.got out.new)
         (⟦<Board as ViewBoard>⟧.board_view board.old) (⟦<Board as ViewBoard>⟧.board_view board.new) }
 {
     let parts = part_count(system.conf());
@@ -152,7 +152,7 @@ fn run_within<'a, S: Store, O: Sink>(
     ensures comes { Comes (ending_of result) (ran_within container.now asked (seen_files cores.entry) system inputs)
         (outside (S.files files.old) (S.read_faults files.old) (S.write_faults files.old) (S.calls files.old) (O.got out.old) (O.faults out.old))
         (outside (S.files files.new) (S.read_faults files.new) (S.write_faults files.new) (S.calls files.new) (O.got out.new) (O.faults out.new)) }
-    ensures board { Leaves (ending_of result) (ran_within container.now asked (seen_files cores.entry) system inputs).run (⟦<Board as ViewBoard>⟧.board_view board.old) (⟦<Board as ViewBoard>⟧.board_view board.new) }
+    ensures board { Leaves (ending_of result) (ran_within container.now asked (seen_files cores.entry) system inputs).run (O.got out.old) (O.got out.new) (⟦<Board as ViewBoard>⟧.board_view board.old) (⟦<Board as ViewBoard>⟧.board_view board.new) }
 {
     if asked > TICKS {
         return Ending::Denied {

@@ -8,11 +8,11 @@ ghost use Rattle.xm_words.specs.Seen.{seen};
 ghost use Rattle.xm_words.specs.Words.{command_of};
 
 use crate::ending::Ending;
-use crate::imaging::{build_image, check_container, list_container, read_image};
+use crate::imaging::build_image;
 use crate::packing::pack_files;
 use crate::parsing::parse;
-use crate::planning::{check_plan, make_plan};
 use crate::running::run_file;
+use crate::telling::{Telling, tell_file};
 use crate::unpacking::run_container;
 use std::alloc::Global;
 use uart_board::{Board, ViewBoard};
@@ -30,7 +30,7 @@ pub(crate) fn work<'a, S: Store, O: Sink>(
     ensures worked { IsWorked (ending_of result) (command_of words.now)
         (outside (S.files files.old) (S.read_faults files.old) (S.write_faults files.old) (S.calls files.old) (O.got out.old) (O.faults out.old))
         (outside (S.files files.new) (S.read_faults files.new) (S.write_faults files.new) (S.calls files.new) (O.got out.new) (O.faults out.new)) }
-    ensures board { IsLeft (ending_of result) (command_of words.now) (S.files files.old) (⟦<Board as ViewBoard>⟧.board_view board.old) (⟦<Board as ViewBoard>⟧.board_view board.new) }
+    ensures board { IsLeft (ending_of result) (command_of words.now) (S.files files.old) (O.got out.old) (O.got out.new) (⟦<Board as ViewBoard>⟧.board_view board.old) (⟦<Board as ViewBoard>⟧.board_view board.new) }
 {
     grammar();
     match command(words) {
@@ -51,7 +51,7 @@ fn carry_out<'a, S: Store, O: Sink>(
     ensures worked { IsWorked (ending_of result) (seen (Some command.entry))
         (outside (S.files files.old) (S.read_faults files.old) (S.write_faults files.old) (S.calls files.old) (O.got out.old) (O.faults out.old))
         (outside (S.files files.new) (S.read_faults files.new) (S.write_faults files.new) (S.calls files.new) (O.got out.new) (O.faults out.new)) }
-    ensures board { IsLeft (ending_of result) (seen (Some command.entry)) (S.files files.old) (⟦<Board as ViewBoard>⟧.board_view board.old) (⟦<Board as ViewBoard>⟧.board_view board.new) }
+    ensures board { IsLeft (ending_of result) (seen (Some command.entry)) (S.files files.old) (O.got out.old) (O.got out.new) (⟦<Board as ViewBoard>⟧.board_view board.old) (⟦<Board as ViewBoard>⟧.board_view board.new) }
 {
     match command {
         Command::Bare { image, ticks } => run_file(alloc, image, ticks, files, out, board),
@@ -60,16 +60,47 @@ fn carry_out<'a, S: Store, O: Sink>(
             output,
         } => parse(alloc, description, output, files, out),
         Command::BuildImage { program, output } => build_image(alloc, program, output, files, out),
-        Command::ReadImage { image } => read_image(alloc, image, files, out),
+        Command::ReadImage { image } => tell_file(alloc, Telling::Image, image, files, out),
         Command::Pack {
             configuration,
             output,
             images,
         } => pack_files(alloc, configuration, output, images, files, out),
-        Command::ListContainer { container } => list_container(alloc, container, files, out),
-        Command::CheckContainer { container } => check_container(alloc, container, files, out),
-        Command::MakePlan { description } => make_plan(alloc, description, files, out),
-        Command::CheckPlan { description } => check_plan(alloc, description, files, out),
+        Command::ListContainer { container } => tell_file(
+            alloc,
+            Telling::Container,
+            container,
+            files,
+            out,
+        ),
+        Command::CheckContainer { container } => tell_file(
+            alloc,
+            Telling::Verdict,
+            container,
+            files,
+            out,
+        ),
+        Command::MakePlan { description } => tell_file(
+            alloc,
+            Telling::Plan,
+            description,
+            files,
+            out,
+        ),
+        Command::CheckPlan { description } => tell_file(
+            alloc,
+            Telling::Verdicts,
+            description,
+            files,
+            out,
+        ),
+        Command::TellGroups { description } => tell_file(
+            alloc,
+            Telling::Groups,
+            description,
+            files,
+            out,
+        ),
         Command::Run { container, options } => {
             run_container(alloc, container, options, files, out, board)
         }

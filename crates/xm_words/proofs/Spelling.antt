@@ -3,7 +3,7 @@ use Rattle.std.proofs.Common.{◌≡◌, ℕ, Bool, true, false, ◌&&◌, if◌
 use Rattle.std.specs.Str.{bytes_eq}
 use Rattle.std.proofs.lemmas.Bool.{and_parts}
 use Rattle.xm_words.specs.Grammar.{CommandsAreSpelled, IsFile, IsRight, words_of}
-use Rattle.xm_words.specs.Words.{Command, PartFile, RunOption, Bare, Parse, BuildImage, ReadImage, Pack, ListContainer, CheckContainer, MakePlan, CheckPlan, Run, are_part_files, are_run_options, asked, bare_of, command_by_count, command_of, command_of_more, command_of_three, command_of_two, format_command, is_file, of_file, of_files, pack_command, part_files, plan_command, run_of, run_options, ticks_of}
+use Rattle.xm_words.specs.Words.{Command, PartFile, RunOption, Bare, Parse, BuildImage, ReadImage, Pack, ListContainer, CheckContainer, MakePlan, CheckPlan, TellGroups, Run, are_part_files, are_run_options, asked, bare_of, command_by_count, command_of, command_of_more, command_of_one, command_of_three, command_of_two, format_command, is_file, of_file, of_files, pack_command, part_files, plan_command, run_of, run_options, ticks_of}
 use Rattle.xm_words.proofs.OptionLemmas.{reads_run_options, run_options_typed}
 use Rattle.xm_words.proofs.PartFileLemmas.{files_named, files_typed_right}
 use Rattle.xm_words.proofs.WordLemmas.{file_is, is_of_file, named, text_ticks, ticks_text}
@@ -93,6 +93,17 @@ plan_typed name verb file command is e =
     check h = (let verb_is = named verb (codes "check") h.0 in file_typed _ CheckPlan file command (λ right. record { text = cc; right = right }) h.1)
 
     none : None ≡ Some command → Typed (name ∷ verb ∷ file ∷ []) command
+    none h = absurd (let no : ⊥ = cc in no)
+
+-- what a name and one word ask for
+one_typed : (name first : List ℕ) (command : Command) → command_of_one name first ≡ Some command → Typed (name ∷ first ∷ []) command
+unfolding command_of_one
+one_typed name first command e = ⊎_elim flows none (other (bytes_eq name (codes "flows")) (of_file TellGroups first) None command e)
+  where
+    flows : ((bytes_eq name (codes "flows") ≡ true) × (of_file TellGroups first ≡ Some command)) → Typed (name ∷ first ∷ []) command
+    flows h = (let name_is = named name (codes "flows") h.0 in file_typed _ TellGroups first command (λ right. record { text = cc; right = right }) h.1)
+
+    none : None ≡ Some command → Typed (name ∷ first ∷ []) command
     none h = absurd (let no : ⊥ = cc in no)
 
 -- what a name and two words ask for
@@ -187,7 +198,7 @@ more_typed name verb configuration output images command e =
 -- what a name and words whose number is fixed ask for, or those of images
 counted_typed : (name first : List ℕ) (rest : List (List ℕ)) (command : Command) → command_by_count name first rest ≡ Some command → Typed (name ∷ first ∷ rest) command
 unfolding command_by_count
-counted_typed name first [] command e = absurd (let no : ⊥ = cc in no)
+counted_typed name first [] command e = one_typed name first command e
 counted_typed name first (second ∷ []) command e = two_typed name first second command e
 counted_typed name first (second ∷ third ∷ []) command e = three_typed name first second third command e
 counted_typed name first (second ∷ third ∷ fourth ∷ rest) command e = more_typed name first second third (fourth ∷ rest) command e
@@ -218,7 +229,7 @@ reads_run container options right =
 
 -- what is typed for a command asks for it
 reads : (command : Command) → IsRight command → command_of (words_of command) ≡ Some command
-unfolding command_of command_by_count command_of_two command_of_three format_command pack_command plan_command
+unfolding command_of command_by_count command_of_one command_of_two command_of_three format_command pack_command plan_command
 reads (Bare image ticks) right = rw (is_of_file image right.0, text_ticks (decimal ticks) ticks right.1 refl)
 reads (Parse description output) right = rw (is_of_file description right.0, is_of_file output right.1)
 reads (BuildImage program output) right = rw (is_of_file program right.0, is_of_file output right.1)
@@ -228,6 +239,7 @@ reads (ListContainer container) right = rw (is_of_file container right)
 reads (CheckContainer container) right = rw (is_of_file container right)
 reads (MakePlan description) right = rw (is_of_file description right)
 reads (CheckPlan description) right = rw (is_of_file description right)
+reads (TellGroups description) right = rw (is_of_file description right)
 reads (Run container options) right = reads_run container options right
 
 -- words are a command exactly where they are what is typed for it

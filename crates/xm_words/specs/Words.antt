@@ -22,7 +22,8 @@ pub data RunOption : Type 0 where
 -- a command: a raw image runs for so many ticks; the binary configuration of a system description is made; the image of
 -- a program is made; an image is told; a configuration and the images of its partitions are packed into a container; a
 -- container is told; a container is checked; a cyclic plan is made from the requirements of a system description; the
--- plan of a system description is checked against its requirements; a container runs with options
+-- plan of a system description is checked against its requirements; the groups of the partitions of a system description are
+-- told; a container runs with options
 pub data Command : Type 0 where
   Bare : (image : List ℕ) (ticks : ℕ) → Command
   Parse : (description output : List ℕ) → Command
@@ -33,6 +34,7 @@ pub data Command : Type 0 where
   CheckContainer : (container : List ℕ) → Command
   MakePlan : (description : List ℕ) → Command
   CheckPlan : (description : List ℕ) → Command
+  TellGroups : (description : List ℕ) → Command
   Run : (container : List ℕ) (options : List RunOption) → Command
 
 -- a decimal number: digits without a sign, and without a leading zero unless it is `0`
@@ -245,6 +247,10 @@ plan_command verb file =
     else if bytes_eq verb (codes "check") then of_file CheckPlan file
     else None
 
+-- the command of a name and one word
+unfoldable pub command_of_one : List ℕ → List ℕ → Option Command
+command_of_one name first = if bytes_eq name (codes "flows") then of_file TellGroups first else None
+
 -- the command of a name and two words
 unfoldable pub command_of_two : List ℕ → List ℕ → List ℕ → Option Command
 command_of_two name first second =
@@ -269,7 +275,7 @@ command_of_more name verb configuration output images =
 
 -- the command of a name and words whose number is fixed, or those of images
 unfoldable pub command_by_count : List ℕ → List ℕ → List (List ℕ) → Option Command
-command_by_count name first [] = None
+command_by_count name first [] = command_of_one name first
 command_by_count name first (second ∷ []) = command_of_two name first second
 command_by_count name first (second ∷ third ∷ []) = command_of_three name first second third
 command_by_count name first (second ∷ third ∷ fourth ∷ rest) = command_of_more name first second third (fourth ∷ rest)

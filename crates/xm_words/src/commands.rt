@@ -56,6 +56,10 @@ pub enum Command<'a> {
     CheckPlan {
         description: &'a str,
     },
+    /// Tell the group of each partition of the system description in this file.
+    TellGroups {
+        description: &'a str,
+    },
     /// Run the container in this file with these options.
     Run {
         container: &'a str,

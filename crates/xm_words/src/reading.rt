@@ -3,7 +3,7 @@
 ghost use Rattle.std.specs.Prelude.{◌≡◌, ◌&&◌};
 ghost use Rattle.xm_words.specs.Seen.{seen};
 ghost use Rattle.xm_words.specs.Texts.{texts_of};
-ghost use Rattle.xm_words.specs.Words.{BuildImage, Pack, Parse, are_part_files, asked, bare_of, command_by_count, command_of, command_of_more, command_of_three, command_of_two, format_command, is_file, of_files, pack_command, part_files, plan_command, run_of, ticks_of};
+ghost use Rattle.xm_words.specs.Words.{BuildImage, Pack, Parse, are_part_files, asked, bare_of, command_by_count, command_of, command_of_more, command_of_one, command_of_three, command_of_two, format_command, is_file, of_files, pack_command, part_files, plan_command, run_of, ticks_of};
 
 use crate::commands::Command;
 use crate::numbers::ticks;
@@ -34,12 +34,24 @@ fn command_by_count<'a>(name: &str, first: &'a str, rest: &'a [String]) -> Optio
     ensures { seen result ≡ command_by_count name.now first.now (texts_of rest.now) }
 {
     match rest {
-        [] => None,
+        [] => command_of_one(name, first),
         [second] => command_of_two(name, first, second.as_str()),
         [second, third] => command_of_three(name, first, second.as_str(), third.as_str()),
         [configuration, output, images @ ..] => {
             command_of_more(name, first, configuration.as_str(), output.as_str(), images)
         }
+    }
+}
+
+/// The command of a name and one word.
+#[tactic(auto, unfolding(crate::specs::Words::command_of_one))]
+fn command_of_one<'a>(name: &str, first: &'a str) -> Option<Command<'a>>
+    ensures { seen result ≡ command_of_one name.now first.now }
+{
+    if name == "flows" && is_file(first) {
+        Some(Command::TellGroups { description: first })
+    } else {
+        None
     }
 }
 

@@ -24,8 +24,8 @@ pub returns-in-Ok-clause-board : goal.returns-in-Ok-clause-board
 returns-in-Ok-clause-board g c =
     let read = c.in-Ok.ensures (g.O.Sink.got c.args.out.now) (g.O.Sink.faults c.args.out.now) in
     let leaves = rw c.deref.ensures.value at c.run_bytes.ensures.board in
-    left_by (ending_of c.run_bytes.result) (Bare c.args.image.now c.args.ticks) _ (c.in-Ok.bytes.items ∷ []) (record { places = _; marks = _ }) (record { places = _; marks = _ }) (read.0, tt) leaves
+    left_by (ending_of c.run_bytes.result) (Bare c.args.image.now c.args.ticks) _ (c.in-Ok.bytes.items ∷ []) _ _ (record { places = _; marks = _ }) (record { places = _; marks = _ }) (read.0, tt) leaves
 
 pub returns-in-Err-clause-board : goal.returns-in-Err-clause-board
 returns-in-Err-clause-board g c =
-    left_unread (ending_of c.in-Err.ending) (Bare c.args.image.now c.args.ticks) c.args.image.now _ _ _ (record { places = _; marks = _ }) (c.in-Err.ensures (g.O.Sink.got c.args.out.now) (g.O.Sink.faults c.args.out.now))
+    left_unread (ending_of c.in-Err.ending) (Bare c.args.image.now c.args.ticks) c.args.image.now _ _ _ _ _ (record { places = _; marks = _ }) (c.in-Err.ensures (g.O.Sink.got c.args.out.now) (g.O.Sink.faults c.args.out.now))

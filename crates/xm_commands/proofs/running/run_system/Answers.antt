@@ -1,5 +1,5 @@
 use Rattle.std.proofs.Common.{◌∙◌, ap}
-use Rattle.machine_model.specs.Machine.{Machine, run}
+use Rattle.machine_model.specs.Machine.{Machine}
 use Rattle.whole_system.specs.State.{with_inputs}
 use Rattle.xm_words.specs.Seen.{seen_files}
 use Rattle.xm_commands.specs.Told.{ending_of}

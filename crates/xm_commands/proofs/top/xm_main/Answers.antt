@@ -3,7 +3,7 @@ use Rattle.xm_words.specs.Words.{command_of}
 use Rattle.xm_commands.specs.Ending.{complaint}
 use Rattle.xm_commands.specs.Told.{ending_of}
 use Rattle.xm_commands.proofs.BoardLemmas.{marked, still}
-use Rattle.xm_commands.proofs.SeparationLemmas.{are_alone}
+use Rattle.xm_commands.proofs.SeparationLemmas.{are_alone, are_part}
 use Rattle.xm_commands.proofs.TopLemmas.{done_is_finished, usage_exactly, has_causes, quiet, said, answers, barren, files_stay, writes_stay}
 use Rattle.xm_commands.proofs.top.xm_main.Goals as goal
 
@@ -20,9 +20,10 @@ returns g c =
       causes = has_causes ending command _ _ work;
       usage = usage_exactly ending command _ _ work;
       played = record { ending = ending; answered = refl; line = line; left = left };
-      marked = λ fault. marked ending command _ (record { places = _; marks = _ }) (record { places = _; marks = _ }) left fault (usage_exactly ending command _ _ work).1;
-      still = still ending command _ (record { places = _; marks = _ }) (record { places = _; marks = _ }) left;
+      marked = λ fault. marked ending command _ _ _ (record { places = _; marks = _ }) (record { places = _; marks = _ }) left fault (usage_exactly ending command _ _ work).1;
+      still = still ending command _ _ _ (record { places = _; marks = _ }) (record { places = _; marks = _ }) left;
       alone = λ complete. are_alone c.own_lines.ensures.law c.same_core_file.ensures.law ending command _ _ work complete;
+      part = λ fault. are_part c.own_lines.ensures.law c.same_core_file.ensures.law command _ _ ((has_causes ending command _ _ work).write_fault fault);
       silent = λ done. c.complain.ensures.silent (done_is_finished ending done);
       quiet = quiet ending command _ _ work;
       files = files_stay ending command _ _ work;

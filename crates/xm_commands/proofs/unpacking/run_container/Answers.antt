@@ -24,9 +24,9 @@ pub returns-in-Ok-clause-board : goal.returns-in-Ok-clause-board
 returns-in-Ok-clause-board g c =
     let read = rw c.inputs.ensures.value at c.in-Ok.ensures (g.O.Sink.got c.args.out.now) (g.O.Sink.faults c.args.out.now) in
     let leaves = rw c.deref.ensures.value at c.run_files.ensures.board in
-    left_by (ending_of c.run_files.result) (Run c.args.container.now (seen_options c.args.options)) _ (map bytes_of c.in-Ok.contents.items) (record { places = _; marks = _ }) (record { places = _; marks = _ }) read.0 leaves
+    left_by (ending_of c.run_files.result) (Run c.args.container.now (seen_options c.args.options)) _ (map bytes_of c.in-Ok.contents.items) _ _ (record { places = _; marks = _ }) (record { places = _; marks = _ }) read.0 leaves
 
 pub returns-in-Err-clause-board : goal.returns-in-Err-clause-board
 returns-in-Err-clause-board g c =
     let not_read = rw c.inputs.ensures.value at c.in-Err.ensures (g.O.Sink.got c.args.out.now) (g.O.Sink.faults c.args.out.now) in
-    left_not_all_read (ending_of c.in-Err.ending) (Run c.args.container.now (seen_options c.args.options)) _ _ _ _ (record { places = _; marks = _ }) not_read
+    left_not_all_read (ending_of c.in-Err.ending) (Run c.args.container.now (seen_options c.args.options)) _ _ _ _ _ _ (record { places = _; marks = _ }) not_read

@@ -35,4 +35,4 @@ returns-in-Ok-clause-board g c =
     rw (outcome-unpacked c.args.container.now (seen_options c.args.options) _ _ c.in-Ok.system exact) leaves
 
 pub returns-in-Err-clause-board : goal.returns-in-Err-clause-board
-returns-in-Err-clause-board g c = unmade_leaves _ c.args.container.now c.no_container.result _ (record { places = _; marks = _ }) c.unmade.ensures
+returns-in-Err-clause-board g c = unmade_leaves _ c.args.container.now c.no_container.result _ _ _ (record { places = _; marks = _ }) c.unmade.ensures
