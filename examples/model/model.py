@@ -4,7 +4,8 @@
 usage: model.py BOX --ticks N [--input P=FILE ..] [--core P=FILE ..]
        model.py BOX --frames N [--input P=FILE ..] [--core P=FILE ..]
 
-It reads a container, runs its partitions one tick after the other, and prints the report.
+It reads a container, runs its partitions one tick after the other, and prints the report. What is written to the consoles of
+UART N goes to uartN.out.
 """
 import struct
 import sys
@@ -775,8 +776,8 @@ def read_words(words):
     return words[0], length, files, [(int(number), name) for number, name in order]
 
 
-def run_words(words, folder=Path(), resets=()):
-    """The report of a run with resets between its ticks, and the core files by their names."""
+def prepared(words, folder):
+    """The machine of a run, how many ticks it is to do, and the core files to write, as partitions and names."""
     box, (unit, count), files, order = read_words(words)
     try:
         system = read_container((folder / box).read_bytes())
@@ -794,14 +795,30 @@ def run_words(words, folder=Path(), resets=()):
     ticks = count * system.plans[0].frame if unit == "--frames" else count
     if ticks > MOST_TICKS:
         raise Refusal(f"{box}: ticks asked={ticks}")
-    machine = Machine(system, inputs)
+    return Machine(system, inputs), ticks, files["--core"]
+
+
+def run_words(words, folder=Path(), resets=()):
+    """The report of a run with resets between its ticks, and the core files by their names."""
+    machine, ticks, cores = prepared(words, folder)
     report = machine.run(ticks, resets)
-    return report, {name: machine.core_file(number) for number, name in files["--core"].items()}
+    return report, {name: machine.core_file(number) for number, name in cores.items()}
+
+
+def run_in(words, folder):
+    """The report of a run; the core files and the files of the UARTs are written to the folder."""
+    machine, ticks, cores = prepared(words, folder)
+    report = machine.run(ticks)
+    files = {name: machine.core_file(number) for number, name in cores.items()}
+    files |= {f"uart{place}.out": content for place, content in enumerate(machine.uarts) if content}
+    for name, content in files.items():
+        (folder / name).write_bytes(content)
+    return report
 
 
 def main():
     try:
-        report, cores = run_words(sys.argv[1:])
+        report = run_in(sys.argv[1:], Path())
     except Usage:
         print("model: usage", file=sys.stderr)
         return 2
@@ -809,8 +826,6 @@ def main():
         print(f"model: {refusal}", file=sys.stderr)
         return 1
     sys.stdout.write(report)
-    for name, content in cores.items():
-        Path(name).write_bytes(content)
     return 0
 
 

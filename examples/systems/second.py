@@ -22,7 +22,7 @@ from box import (  # noqa: E402
     ACTIONS, DEFAULT_ACTIONS, DESTINATION, EVENTS, QUEUING, SAMPLING, SOURCE, Area, Channel, Image, Part, Plan, Port,
     Segment, Slot, System, configuration, container, image_file, read_configuration, read_image,
 )
-from model import run_words  # noqa: E402
+from model import run_in  # noqa: E402
 
 UNITS = {"us": 1, "ms": 1000, "s": 1000000, "B": 1, "KB": 1 << 10, "MB": 1 << 20}
 KINDS = {"sampling": SAMPLING, "queuing": QUEUING}
@@ -119,7 +119,7 @@ def main(words):
         case ["xmpack", "build", config, out, *images]:
             return written(out, packed(config, images))
         case ["run", *rest]:
-            return run_words(rest)[0]
+            return run_in(rest, Path())
     sys.exit(__doc__)
 
 
