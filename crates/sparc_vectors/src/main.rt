@@ -5,6 +5,7 @@ mod call;
 mod claim;
 mod contents;
 mod memory;
+mod page;
 mod state;
 mod tally;
 mod trial;
@@ -14,13 +15,13 @@ mod words;
 use anyhow::Result;
 use claim::{Claim, judge};
 use memory::VectorMemory;
+use page::try_page;
 use std::fs;
 use tally::Tallies;
 
 // The files, and what each says of its lines. A line that begins with # says what stands there.
-const FILES: [(&str, Claim); 8] = [
+const FILES: [(&str, Claim); 7] = [
     ("words.txt", Claim::Decodes),
-    ("selectors.txt", Claim::Decodes),
     ("least.txt", Claim::Encodes),
     ("worked.txt", Claim::Holds),
     ("windows.txt", Claim::Holds),
@@ -29,12 +30,17 @@ const FILES: [(&str, Claim); 8] = [
     ("instructions.txt", Claim::Holds),
 ];
 
+// The page, whose tables are compared with the decoder.
+const PAGE: &str = "INSTRUCTIONS.md";
+
 fn main(rt: HostRuntime) -> Result<()> {
     let mut memory = VectorMemory::new(rt.alloc())?;
     for (file, claim) in FILES {
         try_file(&rt, file, claim, &mut memory)?;
     }
-    Ok(())
+    println!(rt; "{PAGE}:")?;
+    let page = fs::read_to_string(&rt, PAGE)?;
+    try_page(&rt, page.as_str())
 }
 
 // Tries each line of a file, and prints what came of it.
