@@ -1,8 +1,9 @@
 -- What is kept after ticks tells each partition the last cue of its script of them.
-use Rattle.std.proofs.Common.{◌≡◌, ℕ, zero, suc, ◌+◌, ◌-◌, ◌<◌, ◌≤◌, Bool, true, false, List, refl, sym, ap, ◌∙◌, arith}
+use Rattle.std.proofs.Common.{◌≡◌, ℕ, zero, suc, ◌+◌, ◌-◌, ◌<◌, ◌≤◌, Bool, true, false, List, Option, Result, Ok, Err, refl, sym, ap, ◌∙◌, arith}
 use Rattle.std.proofs.Math.Nat.{suc-add, zero-add}
 use Rattle.xm_conf.specs.Configuration.{Conf}
 use Rattle.xm_report.specs.Report.{ReportLine}
+use Rattle.xm_report.specs.declared.output.WriteFault.{WriteFault}
 use Rattle.machine_model.specs.Cue.{Cue, cue, script, script_unless}
 use Rattle.machine_model.specs.Facts.{KeepsNumbers, RunsKeepNumbers}
 use Rattle.machine_model.specs.Machine.{Machine, run, step}
@@ -13,7 +14,9 @@ use Rattle.xm_machine.specs.Cues.{AreCued, AreCuedUpTo, KeepsLast, KeepsUpTo, la
 use Rattle.xm_machine.specs.Kept.{Kept, kept_after, kept_cue, kept_of, kept_unless}
 use Rattle.xm_machine.specs.Machine.{Meaning}
 use Rattle.xm_machine.specs.Span.{IsSpanDone}
+use Rattle.xm_machine.specs.Stretch.{AreStepped, KeepsStepped, stepped_by}
 use Rattle.xm_machine.specs.declared.slot.Span.{Span}
+use Rattle.xm_machine.specs.declared.stretch.Stepped.{Stepped}
 use Rattle.xm_machine.proofs.CueLemmas.{kept_cues}
 use Rattle.xm_machine.proofs.GoingLemmas.{state_on}
 use Rattle.xm_machine.proofs.KeptLemmas.{ran_on, run_halted, ticks_exact}
@@ -32,7 +35,7 @@ kept_last zero g before runs = kept_runs 0 g before runs
 kept_last (suc count) g before runs = kept_runs (suc count) g before (ran_on (suc count) g runs) ∙ kept_last count (step g) (kept_of g) runs
 
 -- ticks, and more of them
-kept_add : (j k : ℕ) (g : Machine) (before : Kept) → kept_after g (j + k) before ≡ kept_after (run g j) k (kept_after g j before)
+pub kept_add : (j k : ℕ) (g : Machine) (before : Kept) → kept_after g (j + k) before ≡ kept_after (run g j) k (kept_after g j before)
 kept_add zero k g before = ap (λ n. kept_after g n before) (zero-add k)
 kept_add (suc j) k g before = ap (λ n. kept_after g n before) (suc-add j k) ∙ at g.halted refl (kept_add j k (step g) (kept_of g))
   where
@@ -56,6 +59,30 @@ keeps_span span most old new got before kept done kept_is =
       state = ap (λ (s : SysState). s.machine) done.state;
       kept = kept_is ∙ sym (kept_last (span.ticks - 1) old.machine before done.running) ∙ ap (λ n. kept_after old.machine n before) some;
     }
+
+-- and so are all of them
+pub keeps_ticks : (span : Span) (most : ℕ) (old new : SysState) (got : List ReportLine) (before kept : Kept) → IsSpanDone span most old new got
+    → kept ≡ kept_of (run old.machine (span.ticks - 1)) → kept ≡ kept_after old.machine span.ticks before
+keeps_ticks span most old new got before kept done kept_is =
+    let some : suc (span.ticks - 1) ≡ span.ticks = omega (arith, done.some) in
+    kept_is ∙ sym (kept_last (span.ticks - 1) old.machine before done.running) ∙ ap (λ n. kept_after old.machine n before) some
+
+-- and so are those whose lines may have been cut off
+pub keeps_so : (told : Result ℕ WriteFault) (ends : Bool) (span : Span) (most : ℕ) (old new : SysState) (got : List ReportLine) (before kept : Kept) → IsSpanDone span most old new got
+    → kept ≡ kept_of (run old.machine (span.ticks - 1)) → KeepsStepped (stepped_by told span.ticks ends) most (record { state = old.machine; kept = before }) (record { state = new.machine; kept = kept })
+keeps_so (Ok lines) ends span most old new got before kept done is = keeps_ticks span most old new got before kept done is
+keeps_so (Err fault) ends span most old new got before kept done is = keeps_span span most old new got before kept done is
+
+-- the last tick of those of a stretch is kept
+pub keeps_stepped : (stepped : Stepped) (most : ℕ) (old new : Meaning) (had got : Option (List ℕ)) → AreStepped stepped most old.state new.state had got
+    → new.kept ≡ kept_after old.state stepped.ticks old.kept → KeepsLast most old new
+keeps_stepped stepped most old new had got are kept = record {
+  done = are.step.done;
+  some = are.step.some;
+  within = are.step.within;
+  state = are.step.are.state;
+  kept = kept ∙ ap (λ n. kept_after old.state n old.kept) (sym are.ticks);
+}
 
 -- a run goes on
 pub keeps_on : (asked most : ℕ) (g mid new : Meaning) → (goes : KeepsUpTo asked g mid) → KeepsLast most mid new → goes.done + most ≤ asked → KeepsUpTo asked g new

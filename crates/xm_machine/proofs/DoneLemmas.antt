@@ -17,6 +17,7 @@ use Rattle.machine_model.specs.Laws.{ActsWithinBounds}
 use Rattle.machine_model.specs.Lines.{lines, step_lines}
 use Rattle.machine_model.specs.Lists.{is_number}
 use Rattle.machine_model.specs.LocalTick.{bounded, local_tick, with_interrupts, worked, worked_if}
+use Rattle.machine_model.specs.Machine as machine
 use Rattle.machine_model.specs.Machine.{Machine, Turn, booted_part, copies, run, sight, turn_of}
 use Rattle.machine_model.specs.Partition.{PartitionState, is_halted, rested}
 use Rattle.machine_model.specs.Told as told
@@ -24,7 +25,7 @@ use Rattle.machine_model.specs.Told.{Act, Directed, OwnPuts, OwnStill, OwnTakes,
 use Rattle.machine_model.specs.Traffic.{Puts, Still, Takes, Traffic, after_message, heard_as, heard_from, hearing, interrupted}
 use Rattle.guest_memory.specs.Loading.{areas_of}
 use Rattle.machine_model.specs.View.{PartitionView, System, name_of, part_of, view_of}
-use Rattle.slot_runs.specs.Calm.{turn_after}
+use Rattle.slot_runs.specs.Calm.{GoneCalm, turn_after}
 use Rattle.slot_runs.specs.Meeting.{HasGone, first_after, gone_on}
 use Rattle.slot_runs.specs.NextLaws.{IsNextTick, IsTickOf, MetTick, next_work}
 use Rattle.slot_runs.specs.PassLaws.{IsInPasses, IsPassedNext, PassedNext, TickInPasses}
@@ -32,11 +33,13 @@ use Rattle.slot_runs.specs.Passes.{rest_but, traded, traffic_in, with_part, work
 use Rattle.slot_runs.specs.SpanLaws.{IsAwake, its_areas, met}
 use Rattle.slot_runs.specs.Undisturbed.{IsUndisturbed, UndisturbedNext, gone_parts, next_instruction}
 use Rattle.xm_machine.specs.Kept.{kept_by, kept_of}
+use Rattle.xm_machine.specs.Quiet.{AreQuiet, ends_in, ends_stretch}
 use Rattle.xm_machine.specs.Span.{AreDoneFrom}
 use Rattle.xm_machine.specs.Work.{IsUponOne, IsWorked, TellsAlone, act_of, console_told, ended_by, ending_lines}
 use Rattle.xm_machine.specs.declared.beyond.Beyond.{Beyond}
 use Rattle.xm_machine.specs.declared.beyond.Beyond.TheVariants as beyond
 use Rattle.xm_machine.proofs.KeepingLemmas.{IsNoted, same_order, worked_kept}
+use Rattle.xm_machine.proofs.QuietLemmas.{acts_so, quiet_gone, same_end}
 use Rattle.xm_machine.proofs.SlotLemmas.{at_next, its_before, within_bounds}
 use Rattle.xm_machine.proofs.TickLemmas.{tick_lines, tick_state}
 use Rattle.xm_machine.proofs.ListLemmas.{each_at}
@@ -134,13 +137,13 @@ directed_one act reach m is one =
 
 -- ticks of which the last had this work, which was done and ended
 passed_done : RunsKeepNumbers → (g m : Machine) (p done most : ℕ) (first : Bool) (work : Worked) (a_note : Note) (reach : Beyond) (old mid new : SysState) (got all : List ReportLine)
-    → m ≡ run g done → m.halted ≡ false → m.ticks ≡ g.ticks + done → lines g done ≡ [] → p < length m.parts → done < most
+    → m ≡ run g done → m.halted ≡ false → m.ticks ≡ g.ticks + done → lines g done ≡ [] → AreQuiet (done + 1) g → p < length m.parts → done < most
     → run g (suc done) ≡ worked_through p work m → lines g (suc done) ≡ worked_lines p work m
     → turn_after done (turn_of g) ≡ Some (record { part = p; first = first }) → IsTickOf m p first work → bounded (view_of m.system p) work.act ≡ work.act
     → IsNoted m p work a_note → IsWorked p work a_note reach (with_machine m old) mid got → TellsAlone a_note reach
     → new ≡ with_machine (ended_by (act_of reach) p mid.machine) mid → all ≡ got ++ ending_lines (act_of reach) mid.machine → length all ≤ 24
     → AreDoneFrom (record { ticks = done + 1; part = p; worked = true; note = a_note; reach = reach }) most g old new all
-passed_done keeps g m p done most first work a_note reach old mid new got all m_is runs ticks silent below fewer state its_lines turns tick bounds noted worked alone ended told_lines few =
+passed_done keeps g m p done most first work a_note reach old mid new got all m_is runs ticks silent quiet below fewer state its_lines turns tick bounds noted worked alone ended told_lines few =
     let one : done + 1 ≡ suc done = omega arith in
     let its_state : new ≡ with_machine (run g (done + 1)) old =
     tick_state p work a_note reach (with_machine m old) mid new got worked ended ∙ ap (λ (x : Machine). with_machine x old) (sym state ∙ ap (run g) (sym one)) in
@@ -150,6 +153,8 @@ passed_done keeps g m p done most first work a_note reach old mid new got all m_
     ap (λ (x : SysState). console_told a_note (memory_of p x.machine)) ended
     ∙ ap (λ (x : SysState). console_told a_note (memory_of p (ended_by (act_of reach) p x.machine))) worked.state
     ∙ told_after a_note reach p (traffic_in m p work.act) work.after m below alone in
+    let its_end : ends_in (run g done) ≡ ends_stretch (act_of reach) =
+    ap ends_in (sym m_is) ∙ acts_so m work.act (ap machine.act_of tick.local ∙ bounds) ∙ same_end work.act ∙ ap ends_stretch worked.act in
     let its_kept : kept_of (run g done) ≡ kept_by (turn_after done (turn_of g)) true a_note reach (memory_of p new.machine) =
     ap kept_of (sym m_is) ∙ worked_kept m p first work a_note reach tick bounds worked.act noted
     ∙ ap (λ t. kept_by t true a_note reach work.after.memory) (sym turns)
@@ -171,6 +176,8 @@ passed_done keeps g m p done most first work a_note reach old mid new got all m_
       readable = subst (λ (x : Machine). CanBeTold a_note (areas_in p x)) (sym (ap (λ (x : SysState). x.machine) its_state))
           (same_areas (run g (done + 1)) m (many.system ∙ sym before.system ∙ sym (ap (λ (x : Machine). x.system) m_is)) worked.readable);
       kept = subst (λ (n : ℕ). kept_of (run g n) ≡ kept_by (turn_after n (turn_of g)) true a_note reach (memory_of p new.machine)) (less done) its_kept;
+      quiet = quiet;
+      ends = subst (λ (n : ℕ). ends_in (run g n) ≡ ends_stretch (act_of reach)) (less done) its_end;
     }
   where
     less : (n : ℕ) → n ≡ n + 1 - 1
@@ -180,14 +187,14 @@ passed_done keeps g m p done most first work a_note reach old mid new got all m_
     same_areas x y same readable = subst (λ (s : System). CanBeTold a_note (areas_of (part_of s.conf p))) (sym same) readable
 
 -- ticks in which the partition of the slot went, and one in which its instruction trapped or called
-pub next_done : RunsKeepNumbers → ActsWithinBounds → UndisturbedNext → PassedNext
+pub next_done : RunsKeepNumbers → ActsWithinBounds → GoneCalm → UndisturbedNext → PassedNext
     → (g : Machine) (p : ℕ) (first : Bool) (ps : PartitionState) (done most : ℕ) (a_note : Note) (reach : Beyond) (old mid new : SysState) (got all : List ReportLine)
     → IsUndisturbed g p first ps done → HasGone done (view_of g.system p) (met g first ps) → p < length g.parts → done < most
     → IsNoted (run g done) p (next_instruction (run g done) p (gone_on done (its_areas g p) (met g first ps))) a_note
     → IsWorked p (next_instruction (run g done) p (gone_on done (its_areas g p) (met g first ps))) a_note reach (with_machine (run g done) old) mid got → TellsAlone a_note reach
     → new ≡ with_machine (ended_by (act_of reach) p mid.machine) mid → all ≡ got ++ ending_lines (act_of reach) mid.machine → length all ≤ 24
     → AreDoneFrom (record { ticks = done + 1; part = p; worked = true; note = a_note; reach = reach }) most g old new all
-next_done keeps bounds undisturbed passes g p first ps done most a_note reach old mid new got all is gone below fewer noted worked alone ended told_lines few =
+next_done keeps bounds calms undisturbed passes g p first ps done most a_note reach old mid new got all is gone below fewer noted worked alone ended told_lines few =
     let next : IsNextTick g done (gone_parts done g p first ps) p (first_after done first) (next_instruction (run g done) p (gone_on done (its_areas g p) (met g first ps))) =
     undisturbed g p first ps done is gone in
     let at = at_next g p first ps done (next_instruction (run g done) p (gone_on done (its_areas g p) (met g first ps))) is next in
@@ -199,7 +206,7 @@ next_done keeps bounds undisturbed passes g p first ps done most a_note reach ol
     (within_bounds bounds (run g done) p (first_after done first) (its_before done ps (gone_on done (its_areas g p) (met g first ps))) (gone_on done (its_areas g p) (met g first ps)) at)
     (directed_one (next_instruction (run g done) p (gone_on done (its_areas g p) (met g first ps))).act reach (run g done) worked.act worked.one) in
     passed_done keeps g (run g done) p done most (first_after done first) (next_instruction (run g done) p (gone_on done (its_areas g p) (met g first ps))) a_note reach old mid new got all refl
-    (ap (λ (x : Machine). x.halted) next.before.state ∙ is.span.running) (ap (λ (x : Machine). x.ticks) next.before.state) next.before.lines there fewer passed.state passed.lines
+    (ap (λ (x : Machine). x.halted) next.before.state ∙ is.span.running) (ap (λ (x : Machine). x.ticks) next.before.state) next.before.lines (quiet_gone calms g p first ps done is gone) there fewer passed.state passed.lines
     (ap (turn_after done) is.goes.slot.turn) next.tick
     (within_bounds bounds (run g done) p (first_after done first) (its_before done ps (gone_on done (its_areas g p) (met g first ps))) (gone_on done (its_areas g p) (met g first ps)) at)
     noted worked alone ended told_lines few
@@ -228,5 +235,5 @@ met_done keeps bounds meets passes g p first ps most a_note reach old mid new go
     let passed : IsInPasses g p (next_work g p (met g first ps)) =
     passes g p first (next_work g p (met g first ps)) runs below (meets g p first ps runs is) (awake_bounds bounds g p first ps is)
     (directed_one (next_work g p (met g first ps)).act reach g worked.act worked.one) in
-    passed_done keeps g g p 0 most first (next_work g p (met g first ps)) a_note reach old mid new got all refl runs (omega arith) refl below some passed.state
+    passed_done keeps g g p 0 most first (next_work g p (met g first ps)) a_note reach old mid new got all refl runs (omega arith) refl (λ k below_last. absurd (omega (arith, below_last))) below some passed.state
     (append-nil (step_lines g) ∙ passed.lines) (ap (turn_after 0) is.slot.turn) (meets g p first ps runs is) (awake_bounds bounds g p first ps is) noted worked alone ended told_lines few

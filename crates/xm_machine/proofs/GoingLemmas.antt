@@ -1,6 +1,6 @@
 -- Runs of the machine by parts: how one goes on, is cut off by its sink, or ends as the hypervisor halts.
 use Rattle.std.proofs.Common.{◌≡◌, ⊎_elim, ℕ, zero, suc, ◌+◌, ◌-◌, ◌*◌, ◌<◌, ◌≤◌, Bool, false, true, List, [], ◌++◌, length, Option, Result, Ok, Err, refl, sym, ap, ◌∙◌, subst, arith, length-append}
-use Rattle.std.specs.Prelude.{not}
+use Rattle.std.specs.Prelude.{IfOk, not}
 use Rattle.std.proofs.lemmas.Bool.{cases_lt}
 use Rattle.std.proofs.lemmas.List.{append-nil}
 use Rattle.xm_outside.specs.Growth.{grown, grown-nothing, grown_grown, GrewByPrefix}
@@ -13,9 +13,12 @@ use Rattle.whole_system.specs.State.{SysState}
 use Rattle.slot_runs.specs.RunLemmas.{lines_add, run_add}
 use Rattle.xm_machine.proofs.FrontLemmas.{front_of_all}
 use Rattle.xm_machine.proofs.KeptLemmas.{run_halted, step_halted, ticks_exact, ticks_least}
-use Rattle.xm_machine.specs.Outcome.{IsTick}
+use Rattle.xm_machine.specs.Outcome.{HasWriteCause, IsTick}
+use Rattle.xm_machine.specs.Quiet.{ends_stretch}
 use Rattle.xm_machine.specs.Span.{IsSpanDone, console_lines}
-use Rattle.xm_machine.specs.Steps.{AreRun, IsStep, IsStepCut, Steps, Tells}
+use Rattle.xm_machine.specs.Steps.{AreCut, AreRun, IsStep, IsStepCut, Tells}
+use Rattle.xm_machine.specs.Stretch.{AreStepped, IsStretchCut, Steps, stepped_by}
+use Rattle.xm_machine.specs.Work.{act_of}
 use Rattle.xm_machine.specs.declared.slot.Span.{Span}
 
 -- the lines of a run, and of more ticks
@@ -54,32 +57,61 @@ halted_tick g had halts = record {
 }
 
 -- ticks of a span were done, and what they told was put out
-pub step_told : (result : Result ℕ WriteFault) (span : Span) (most : ℕ) (old new : SysState) (after : List ReportLine) (had got : Option (List ℕ)) → IsSpanDone span most old new after
-    → Tells result (console_lines span old.machine new.machine ++ after) had got → Steps result most old.machine new.machine had got
-step_told (Ok count) span most old new after had got done tells = record {
-  done = span.ticks;
-  some = done.some;
-  within = done.within;
-  are = record {
-    state = ap (λ (s : SysState). s.machine) done.state;
-    count = tells.0 ∙ ap length (sym done.lines);
-    report = tells.1 ∙ ap (λ (l : List ReportLine). grown had (texts l)) (sym done.lines);
+pub step_told : (told : ℕ) (ends : Bool) (span : Span) (most : ℕ) (old new : SysState) (after : List ReportLine) (had got : Option (List ℕ)) → IsSpanDone span most old new after
+    → ends ≡ ends_stretch (act_of span.reach) → Tells (Ok told) (console_lines span old.machine new.machine ++ after) had got
+    → AreStepped (record { ticks = span.ticks; lines = told; ends = ends }) most old.machine new.machine had got
+step_told told ends span most old new after had got done ends_is tells = record {
+  step = record {
+    done = span.ticks;
+    some = done.some;
+    within = done.within;
+    are = record {
+      state = ap (λ (s : SysState). s.machine) done.state;
+      count = tells.0 ∙ ap length (sym done.lines);
+      report = tells.1 ∙ ap (λ (l : List ReportLine). grown had (texts l)) (sym done.lines);
+    };
   };
+  ticks = refl;
+  quiet = done.quiet;
+  ends = done.ends ∙ sym ends_is;
 }
-step_told (Err fault) span most old new after had got done cut =
+
+-- and what they told was not all put out
+pub step_cut : (span : Span) (most : ℕ) (old new : SysState) (after : List ReportLine) (had got : Option (List ℕ)) → IsSpanDone span most old new after
+    → GrewByPrefix had (texts (console_lines span old.machine new.machine ++ after)) got → IsStretchCut most old.machine new.machine had got
+step_cut span most old new after had got done cut =
     let front : GrewByPrefix had (texts (lines old.machine span.ticks)) got = subst (λ (l : List ReportLine). GrewByPrefix had (texts l) got) (sym done.lines) cut in
     let none : length (texts (lines old.machine (span.ticks - 1))) ≡ 0 = ap (λ (l : List ReportLine). length (texts l)) done.silent in
     record {
-      done = span.ticks;
-      some = done.some;
-      within = done.within;
-      are = record {
-        state = ap (λ (s : SysState). s.machine) done.state;
-        report = front;
-        whole = λ k below. omega (arith, none, lines_grow old.machine k (span.ticks - 1) (omega (arith, below)));
-        cut = front.short;
+      cut = record {
+        done = span.ticks;
+        some = done.some;
+        within = done.within;
+        are = record {
+          state = ap (λ (s : SysState). s.machine) done.state;
+          report = front;
+          whole = λ k below. omega (arith, none, lines_grow old.machine k (span.ticks - 1) (omega (arith, below)));
+          cut = front.short;
+        };
       };
+      quiet = done.quiet;
     }
+
+-- and both
+pub step_so : (told : Result ℕ WriteFault) (ends : Bool) (span : Span) (most : ℕ) (old new : SysState) (after : List ReportLine) (had got : Option (List ℕ)) → IsSpanDone span most old new after
+    → ends ≡ ends_stretch (act_of span.reach) → Tells told (console_lines span old.machine new.machine ++ after) had got
+    → Steps (stepped_by told span.ticks ends) most old.machine new.machine had got
+step_so (Ok lines) ends span most old new after had got done is tells = step_told lines ends span most old new after had got done is tells
+step_so (Err fault) ends span most old new after had got done is tells = step_cut span most old new after had got done tells
+
+-- they told few lines, and the sink's count has the cause that it has
+pub few_so : (told : Result ℕ WriteFault) (ticks : ℕ) (ends : Bool) → IfOk told (λ lines. lines ≤ 25) → IfOk (stepped_by told ticks ends) (λ s. s.lines ≤ 25)
+few_so (Ok lines) ticks ends few = few
+few_so (Err fault) ticks ends few = tt
+
+pub cause_so : (told : Result ℕ WriteFault) (ticks : ℕ) (ends : Bool) (before now : ℕ) → HasWriteCause told before now → HasWriteCause (stepped_by told ticks ends) before now
+cause_so (Ok lines) ticks ends before now cause = cause
+cause_so (Err fault) ticks ends before now cause = cause
 
 -- a run is on its way: so many of its ticks at most were done, and each told a few lines
 pub record Goes (told ticks : ℕ) (old new : Machine) (had got : Option (List ℕ)) : Type 0 where
@@ -106,52 +138,60 @@ pub counted : (told ticks : ℕ) (old new : Machine) (had got : Option (List ℕ
 counted told ticks old new had got goes runs =
     ap (λ (m : Machine). m.ticks) goes.are.state ∙ ticks_exact goes.done old (sym (ap (λ (m : Machine). m.halted) goes.are.state) ∙ runs)
 
+-- ticks that were done, and more of them
+pub run_on : (g mid new : Machine) (told count done more : ℕ) (had before got : Option (List ℕ)) → AreRun done told g mid had before → AreRun more count mid new before got → AreRun (done + more) (told + count) g new had got
+run_on g mid new told count done more had before got are then = record {
+  state = state_on g mid new done more are.state then.state;
+  count = omega (arith, are.count, then.count, ap length (lines_add g done more), length-append (lines g done) (lines (run g done) more), ap (λ (m : Machine). length (lines m more)) are.state);
+  report = then.report ∙ ap (λ (m : Option (List ℕ)). grown m (texts (lines mid more))) are.report
+      ∙ grown_grown had (texts (lines g done)) (texts (lines mid more)) ∙ ap (grown had) (sym (texts_add g mid done more are.state));
+}
+
+-- and more, of which the last was cut off
+pub cut_on : (g mid new : Machine) (told done more : ℕ) (had before got : Option (List ℕ)) → AreRun done told g mid had before → AreCut more mid new before got → AreCut (done + more) g new had got
+cut_on g mid new told done more had before got are then =
+    let both : texts (lines g (done + more)) ≡ texts (lines g done) ++ texts (lines mid more) = texts_add g mid done more are.state in
+    let front : GrewByPrefix had (texts (lines g (done + more))) got =
+    front_of_all had before got (texts (lines g done)) (texts (lines mid more)) [] (texts (lines g (done + more)))
+    (both ∙ sym (append-nil (texts (lines g done) ++ texts (lines mid more)))) are.report then.report in
+    record {
+      state = state_on g mid new done more are.state then.state;
+      report = front;
+      whole = λ j below. ⊎_elim (earlier j) (later j below) (cases_lt j done);
+      cut = front.short;
+    }
+  where
+    earlier : (j : ℕ) → j < done → length (texts (lines g j)) ≤ length (texts (lines g done)) + then.report.count
+    earlier j less = omega (arith, lines_grow g j done (omega arith))
+
+    later : (j : ℕ) → j < done + more → done ≤ j → length (texts (lines g j)) ≤ length (texts (lines g done)) + then.report.count
+    later j below from =
+        let rest : j ≡ done + (j - done) = omega arith in
+        omega (
+          arith,
+          ap (λ (n : ℕ). length (texts (lines g n))) rest,
+          ap length (texts_add g mid done (j - done) are.state),
+          length-append (texts (lines g done)) (texts (lines mid (j - done))),
+          then.whole (j - done) (omega arith),
+        )
+
 -- it goes on
-pub goes_on : (g mid new : Machine) (told count most ticks : ℕ) (had before got : Option (List ℕ)) → (goes : Goes told ticks g mid had before) → IsStep count most mid new before got → count ≤ 25 → goes.done + most ≤ ticks → Goes (told + count) ticks g new had got
+pub goes_on : (g mid new : Machine) (told count most ticks : ℕ) (had before got : Option (List ℕ)) → (goes : Goes told ticks g mid had before) → (step : IsStep count most mid new before got) → count ≤ 25 * step.done → goes.done + most ≤ ticks → Goes (told + count) ticks g new had got
 goes_on g mid new told count most ticks had before got goes step few room = record {
   done = goes.done + step.done;
   within = omega (arith, step.within, room);
-  few = omega (arith, goes.few, few, step.some);
-  are = record {
-    state = state_on g mid new goes.done step.done goes.are.state step.are.state;
-    count = omega (arith, goes.are.count, step.are.count, ap length (lines_add g goes.done step.done), length-append (lines g goes.done) (lines (run g goes.done) step.done), ap (λ (m : Machine). length (lines m step.done)) goes.are.state);
-    report = step.are.report ∙ ap (λ (m : Option (List ℕ)). grown m (texts (lines mid step.done))) goes.are.report
-        ∙ grown_grown had (texts (lines g goes.done)) (texts (lines mid step.done)) ∙ ap (grown had) (sym (texts_add g mid goes.done step.done goes.are.state));
-  };
+  few = omega (arith, goes.few, few);
+  are = run_on g mid new told count goes.done step.done had before got goes.are step.are;
 }
 
 -- it is cut off
 pub goes_cut : (g mid new : Machine) (told most ticks : ℕ) (had before got : Option (List ℕ)) → (goes : Goes told ticks g mid had before) → IsStepCut most mid new before got → goes.done + most ≤ ticks → IsStepCut ticks g new had got
-goes_cut g mid new told most ticks had before got goes step room =
-    let both : texts (lines g (goes.done + step.done)) ≡ texts (lines g goes.done) ++ texts (lines mid step.done) = texts_add g mid goes.done step.done goes.are.state in
-    let front : GrewByPrefix had (texts (lines g (goes.done + step.done))) got =
-    front_of_all had before got (texts (lines g goes.done)) (texts (lines mid step.done)) [] (texts (lines g (goes.done + step.done)))
-    (both ∙ sym (append-nil (texts (lines g goes.done) ++ texts (lines mid step.done)))) goes.are.report step.are.report in
-    record {
-      done = goes.done + step.done;
-      some = omega (arith, step.some);
-      within = omega (arith, step.within, room);
-      are = record {
-        state = state_on g mid new goes.done step.done goes.are.state step.are.state;
-        report = front;
-        whole = λ j below. ⊎_elim (earlier j) (later j below) (cases_lt j goes.done);
-        cut = front.short;
-      };
-    }
-  where
-    earlier : (j : ℕ) → j < goes.done → length (texts (lines g j)) ≤ length (texts (lines g goes.done)) + step.are.report.count
-    earlier j less = omega (arith, lines_grow g j goes.done (omega arith))
-
-    later : (j : ℕ) → j < goes.done + step.done → goes.done ≤ j → length (texts (lines g j)) ≤ length (texts (lines g goes.done)) + step.are.report.count
-    later j below from =
-        let rest : j ≡ goes.done + (j - goes.done) = omega arith in
-        omega (
-          arith,
-          ap (λ (n : ℕ). length (texts (lines g n))) rest,
-          ap length (texts_add g mid goes.done (j - goes.done) goes.are.state),
-          length-append (texts (lines g goes.done)) (texts (lines mid (j - goes.done))),
-          step.are.whole (j - goes.done) (omega arith),
-        )
+goes_cut g mid new told most ticks had before got goes step room = record {
+  done = goes.done + step.done;
+  some = omega (arith, step.some);
+  within = omega (arith, step.within, room);
+  are = cut_on g mid new told goes.done step.done had before got goes.are step.are;
+}
 
 -- a run after which the hypervisor has halted is one of more ticks, too
 halted_run : (g new : Machine) (done ticks told : ℕ) (had got : Option (List ℕ)) → AreRun done told g new had got → new.halted ≡ true → done ≤ ticks → AreRun ticks told g new had got

@@ -18,12 +18,14 @@ pub mod NameLemmas
 pub mod NotedLemmas
 pub mod OutLemmas
 pub mod PassLemmas
+pub mod QuietLemmas
 pub mod ReachLemmas
 pub mod ServedLemmas
 pub mod SightLemmas
 pub mod SlotLemmas
 pub mod SpanLemmas
 pub mod StepsLemmas
+pub mod StretchLemmas
 pub mod TakeLemmas
 pub mod TickLemmas
 pub mod TurnedLemmas

@@ -33,6 +33,7 @@ use Rattle.xm_machine.specs.declared.beyond.Beyond.TheVariants as beyond
 use Rattle.xm_machine.specs.declared.slot.Span.{Span}
 use Rattle.xm_machine.proofs.KeepingLemmas.{calm_kept}
 use Rattle.xm_machine.proofs.ListLemmas.{each_at, each_length}
+use Rattle.xm_machine.proofs.QuietLemmas.{calm_goes, earlier_bound}
 use Rattle.xm_machine.proofs.WorkLemmas.{put_there}
 
 -- so many ticks of partition p in which no call told anything
@@ -43,11 +44,16 @@ quiet_span ticks p worked reach = record { ticks = ticks; part = p; worked = wor
 few_lines : (had all : List ReportLine) → had ≡ [] → length all ≤ length had + 1 → length all ≤ 24
 few_lines had all none most = omega (arith, ap length none, most)
 
+-- each of so many ticks reaches beyond no partition, and nobody is shown anything
+abbrev pub AreCalm : ℕ → Machine → Bool → Type 0
+AreCalm ticks g works = (k : ℕ) → k < ticks → IsCalm g k works
+
 -- ticks that leave these partitions, and tell at most that a plan starts
 quiet_done : RunsKeepNumbers → (g : Machine) (ticks most p : ℕ) (works : Bool) (parts : List PartitionState) (old new : SysState) (all : List ReportLine)
-    → 0 < ticks → ticks ≤ most → p < length g.parts → IsQuietSpan g (ticks - 1) parts → IsCalm g (ticks - 1) works
+    → 0 < ticks → ticks ≤ most → p < length g.parts → IsQuietSpan g (ticks - 1) parts → AreCalm ticks g works
     → new ≡ with_machine (after_span (ticks - 1) parts g) old → all ≡ plan_line (ticks - 1) g → length all ≤ 24 → AreDoneFrom (quiet_span ticks p works beyond.Nothing) most g old new all
-quiet_done keeps g ticks most p works parts old new all some within below quiet calm new_is all_is few =
+quiet_done keeps g ticks most p works parts old new all some within below quiet calms new_is all_is few =
+    let calm : IsCalm g (ticks - 1) works = calms (ticks - 1) (omega (arith, some)) in
     let one : suc (ticks - 1) ≡ ticks = omega (arith, some) in
     let its_state : new ≡ with_machine (run g ticks) old = new_is ∙ ap (λ (x : Machine). with_machine x old) (sym quiet.state ∙ ap (run g) one) in
     let many : IsAsMany g (run g ticks) = keeps g ticks in
@@ -62,6 +68,8 @@ quiet_done keeps g ticks most p works parts old new all some within below quiet 
       part = omega (arith, ap (λ (x : SysState). length x.machine.parts) its_state, many.parts, below);
       readable = tt;
       kept = calm_kept g (ticks - 1) works (memory_of p new.machine) calm;
+      quiet = λ k below_last. calm_goes g k works (calms k (omega (arith, below_last)));
+      ends = calm_goes g (ticks - 1) works calm;
     }
 
 -- ticks of a slot or gap in which all rest
@@ -75,7 +83,7 @@ wait_done resting calms left all_rest keeps most last old mid new had all span n
     let within : IsSpan old.machine (most - 1) = left old.machine most (most - 1) runs frame stretch (omega (arith, some)) in
     subst (λ (s : Span). AreDoneFrom s most old.machine old new all) (sym span_is)
     (quiet_done keeps old.machine most most 0 false (all_rested (most - 1) old.machine) old new all some (omega arith) there (resting old.machine (most - 1) within nobodys)
-    (calms old.machine (most - 1) within nobodys)
+    (λ k below. calms old.machine k (left old.machine most k runs frame stretch below) nobodys)
     (new_is
     ∙ ap (λ (x : SysState). with_machine (after_span (most - 1) x.machine.parts x.machine) x) mid_is
     ∙ ap (λ (t : ℕ). with_machine (after_span (most - 1) (rest_but None t old.machine).parts old.machine) old) last_is
@@ -85,7 +93,7 @@ wait_done resting calms left all_rest keeps most last old mid new had all span n
 
 -- ticks of a slot in which its partition comes to this state, and all others rest
 pub slot_done : OthersRest → RunsKeepNumbers → (g : Machine) (p ticks most : ℕ) (x : PartitionState) (old mid new : SysState) (had all : List ReportLine) (span : Span)
-    → 0 < ticks → ticks ≤ most → p < length g.parts → IsQuietSpan g (ticks - 1) (others_rested (ticks - 1) p x g) → IsCalm g (ticks - 1) true → had ≡ [] → mid ≡ with_machine (with_part p x g) old
+    → 0 < ticks → ticks ≤ most → p < length g.parts → IsQuietSpan g (ticks - 1) (others_rested (ticks - 1) p x g) → AreCalm ticks g true → had ≡ [] → mid ≡ with_machine (with_part p x g) old
     → new ≡ with_machine (after_span (ticks - 1) (rest_but (Some p) (mid.machine.time + ticks - 1) mid.machine).parts mid.machine) mid
     → all ≡ had ++ plan_line (ticks - 1) mid.machine → length all ≤ length had + 1 → span ≡ quiet_span ticks p true beyond.Nothing → AreDoneFrom span most g old new all
 slot_done others keeps g p ticks most x old mid new had all span some within below quiet calm none mid_is new_is all_is few span_is =
@@ -107,7 +115,8 @@ pub idle_done : UndisturbedIdle → IdleCalm → LeftAreSpan → OthersRest → 
 idle_done idles calms left others keeps g p ticks most ps old new had all span is some within calm none new_is all_is few span_is =
     let its_span : IsSpan g (ticks - 1) = left g most (ticks - 1) is.running is.frame is.stretch (omega (arith, some, within)) in
     slot_done others keeps g p ticks most (with_interrupts g.time false ps) old old new had all span some within is.there
-    (idles g p ps (ticks - 1) its_span is.slot is.idle is.none far) (calms g p ps (ticks - 1) its_span is.slot is.idle is.none far) none is.met new_is all_is few span_is
+    (idles g p ps (ticks - 1) its_span is.slot is.idle is.none far)
+    (λ k below. calms g p ps k (left g most k is.running is.frame is.stretch (omega (arith, below, within))) is.slot is.idle is.none (earlier_bound k (ticks - 1) _ (omega (arith, below)) far)) none is.met new_is all_is few span_is
   where
     far : NoneFallsDue g.time (ticks - 1) false (with_interrupts g.time false ps).clocks
     far = subst (λ (x : PartitionState). NoneFallsDue g.time (ticks - 1) false x.clocks) (put_there p (with_interrupts g.time false ps) g old old is.there is.met)

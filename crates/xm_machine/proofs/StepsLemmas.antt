@@ -1,6 +1,6 @@
 -- Instructions of the partition of a slot, out of what its steps came to.
 use Rattle.std.proofs.Common.{◌≡◌, ℕ, suc, ◌+◌, ◌<◌, ◌≤◌, Bool, true, List, [], ◌++◌, length, Option, None, Some, refl, sym, ap, subst, ◌∙◌, arith}
-use Rattle.std.specs.Prelude.{◌-◌, ◌%◌, ◌^◌, IfSome}
+use Rattle.std.specs.Prelude.{◌-◌, ◌%◌, ◌^◌}
 use Rattle.std.proofs.lemmas.List.{get_or-set_same, length-set, set-set}
 use Rattle.guest_bus.specs.Memory.{Area, Memory}
 use Rattle.whole_system.specs.State.{SysState, areas_in, with_machine}
@@ -16,7 +16,7 @@ use Rattle.machine_model.specs.LocalTick.{turned_state}
 use Rattle.machine_model.specs.Machine.{Machine, booted_part, run}
 use Rattle.machine_model.specs.Partition.{PartitionState, areas_of}
 use Rattle.machine_model.specs.View.{view_of}
-use Rattle.slot_runs.specs.Calm.{GoneCalm, IsCalm}
+use Rattle.slot_runs.specs.Calm.{GoneCalm}
 use Rattle.slot_runs.specs.GoingOn.{LeftAreSpan}
 use Rattle.slot_runs.specs.Meeting.{HasGone, NoDelivery, gone_on}
 use Rattle.slot_runs.specs.PassLaws.{OthersRest}
@@ -29,18 +29,14 @@ use Rattle.xm_machine.specs.Span.{AreDoneFrom, HasTurned, IsMet, counted_on}
 use Rattle.xm_machine.specs.declared.beyond.Beyond.TheVariants as beyond
 use Rattle.xm_machine.specs.declared.slot.Span.{Span}
 use Rattle.xm_machine.proofs.InstructionLemmas.{call_goes_on}
-use Rattle.xm_machine.proofs.SpanLemmas.{quiet_span, slot_done}
+use Rattle.xm_machine.proofs.QuietLemmas.{earlier_bound, earlier_gone}
+use Rattle.xm_machine.proofs.SpanLemmas.{AreCalm, quiet_span, slot_done}
 use Rattle.xm_machine.proofs.WorkLemmas.{put_there}
 
 -- the areas of a partition's memory
 areas_same : (p : ℕ) (g : Machine) → areas_in p g ≡ its_areas g p
 unfolding areas_of view_of
 areas_same p g = refl
-
--- timers that do not fall due up to a tick do not up to an earlier one
-earlier_bound : (j k : ℕ) (o : Option ℕ) → j ≤ k → IfSome o (λ ticks. k < ticks) → IfSome o (λ ticks. j < ticks)
-earlier_bound j k None within bound = bound
-earlier_bound j k (Some ticks) within bound = omega (arith, within, bound)
 
 -- the steps of a partition were done and counted
 pub record AreSteps (p went : ℕ) (core : Registers) (memory : Memory) (old mid new : SysState) : Type 0 where
@@ -110,12 +106,14 @@ module _ (g : Machine) (p : ℕ) (first : Bool) (ps : PartitionState) (most : �
       let quiet : IsQuietSpan g (went - 1) (others_rested (went - 1) p (gone_on went (its_areas g p) (met g first ps)) g) =
       subst (λ (n : ℕ). IsQuietSpan g (went - 1) (others_rested (went - 1) p (gone_on n (its_areas g p) (met g first ps)) g)) one
       (ticks g p first ps (went - 1) undisturbed (subst (λ (n : ℕ). HasGone n (view_of g.system p) (met g first ps)) (sym one) has_gone)) in
-      let calm_last : IsCalm g (went - 1) true = calms g p first ps (went - 1) undisturbed (subst (λ (n : ℕ). HasGone n (view_of g.system p) (met g first ps)) (sym one) has_gone) in
+      let all_calm : AreCalm went g true =
+      λ k below. calms g p first ps k (undisturbed_to left within k undelivered calm (omega (arith, same, below)) (omega (arith, same, below, bound)))
+      (earlier_gone (suc k) went (view_of g.system p) (met g first ps) (omega (arith, below)) has_gone) in
       let its_core : core ≡ (stepped went (its_areas g p) (met g first ps).core (met g first ps).memory).core =
       carried (λ areas x. core ≡ (stepped went areas x.core x.memory).core) gone.1 in
       let its_memory : memory ≡ (stepped went (its_areas g p) (met g first ps).core (met g first ps).memory).memory =
       carried (λ areas x. memory ≡ (stepped went areas x.core x.memory).memory) gone.2 in
-      slot_done others keeps g p went most (gone_on went (its_areas g p) (met g first ps)) old counted new had all span (omega (arith, same, some)) (omega (arith, same, bound)) is.there quiet calm_last none
+      slot_done others keeps g p went most (gone_on went (its_areas g p) (met g first ps)) old counted new had all span (omega (arith, same, some)) (omega (arith, same, bound)) is.there quiet all_calm none
       (behind_steps went core memory mid counted steps
       ∙ ap (λ (c : Registers). with_machine (with_part p (counted_on went (with_turned c memory (met g first ps))) g) old) its_core
       ∙ ap (λ (m : Memory). with_machine (with_part p (counted_on went (with_turned (stepped went (its_areas g p) (met g first ps).core (met g first ps).memory).core m (met g first ps))) g) old) its_memory)
@@ -171,6 +169,8 @@ done_before span most p went g old mid counted new all counted_is mid_is done = 
   readable = done.readable;
   kept = done.kept;
   running = done.running;
+  quiet = done.quiet;
+  ends = done.ends;
 }
 
 -- after an instruction that called the program goes on

@@ -153,6 +153,8 @@ done_from span most g h old sys new all is done = record {
   readable = done.readable;
   kept = done.kept;
   running = done.running;
+  quiet = done.quiet;
+  ends = done.ends;
 }
 
 -- a partition that goes on is met so

@@ -20,6 +20,7 @@ use Rattle.machine_model.specs.Partition.{PartitionState, areas_of}
 use Rattle.machine_model.specs.Told.{Act}
 use Rattle.machine_model.specs.Traffic.{told_as}
 use Rattle.machine_model.specs.View.{System, named, view_of}
+use Rattle.slot_runs.specs.Calm.{GoneCalm}
 use Rattle.slot_runs.specs.Meeting.{first_after, gone_on}
 use Rattle.slot_runs.specs.NextLaws.{IsNextTick, MetTick, next_work}
 use Rattle.slot_runs.specs.PassLaws.{OthersRest, PassedNext, TickInPasses}
@@ -47,13 +48,13 @@ abbrev turned_to : System → ℕ → PartitionState → PartitionState
 turned_to system p s = turned_state (settled (areas_of (view_of system p)) s.core s.memory) s
 
 -- ticks of which the last was that of an instruction that trapped
-pub trap_done : OthersRest → UndisturbedNext → PassedNext → ActsWithinBounds → RunsKeepNumbers
+pub trap_done : OthersRest → GoneCalm → UndisturbedNext → PassedNext → ActsWithinBounds → RunsKeepNumbers
     → (g : Machine) (p : ℕ) (first : Bool) (ps : PartitionState) (went most pc type : ℕ) (reach : Beyond) (old mid after new : SysState) (got all : List ReportLine) (span : Span)
     → HasTurned (Trap type) g p first ps went most pc old → mid ≡ with_machine (behind p went old.machine) old
     → IsWorked p (event_handled (view_of mid.machine.system p) mid.machine.time (event_of_type type) pc (Some type) (clocked (part_at p mid.machine))) note.Nothing reach mid after got
     → new ≡ with_machine (ended_by (act_of reach) p after.machine) after → all ≡ got ++ ending_lines (act_of reach) after.machine → length all ≤ 24
     → span ≡ quiet_span (went + 1) p true reach → AreDoneFrom span most g old new all
-trap_done others nexts passes bounds keeps g p first ps went most pc type reach old mid after new got all span has mid_is worked ended told_lines few span_is =
+trap_done others calms nexts passes bounds keeps g p first ps went most pc type reach old mid after new got all span has mid_is worked ended told_lines few span_is =
     let s : PartitionState = gone_to went g p first ps in
     let same : (run g went).system ≡ g.system = (keeps g went).system in
     let below : p < length (run g went).parts = omega (arith, (keeps g went).parts, has.there) in
@@ -69,20 +70,20 @@ trap_done others nexts passes bounds keeps g p first ps went most pc type reach 
       seen = trap_sight (run g went) p type (first_after went first) (its_before went ps s) s (at_next g p first ps went (next_instruction (run g went) p s) has.is next) came;
     } in
     subst (λ (x : Span). AreDoneFrom x most g old new all) (sym span_is)
-    (next_done keeps bounds nexts passes g p first ps went most note.Nothing reach old after new got all has.is has.gone has.there has.fewer noted
+    (next_done keeps bounds calms nexts passes g p first ps went most note.Nothing reach old after new got all has.is has.gone has.there has.fewer noted
     (worked_on p (turned_to g.system p s) _ (next_instruction (run g went) p s) note.Nothing reach (run g went) old mid after got its_mid
     work worked)
     tt ended told_lines few)
 
 -- ticks of which the last was that of an instruction that called
-pub call_done : OthersRest → UndisturbedNext → PassedNext → ActsWithinBounds → RunsKeepNumbers
+pub call_done : OthersRest → GoneCalm → UndisturbedNext → PassedNext → ActsWithinBounds → RunsKeepNumbers
     → (g : Machine) (p : ℕ) (first : Bool) (ps : PartitionState) (went most pc : ℕ) (a_note : Note) (reach : Beyond) (old mid after new : SysState) (got all : List ReportLine)
     → HasTurned Call g p first ps went most pc old → mid ≡ with_machine (behind p went old.machine) old
     → IsWorked p (called (caller_at p pc (part_at p mid.machine).core.pc mid)) a_note reach mid after got → TellsAlone a_note reach
     → IsToldBy p (caller_at p pc (part_at p mid.machine).core.pc mid).sight (called (caller_at p pc (part_at p mid.machine).core.pc mid)) a_note mid
     → new ≡ with_machine (ended_by (act_of reach) p after.machine) after → all ≡ got ++ ending_lines (act_of reach) after.machine → length all ≤ 24
     → AreDoneFrom (record { ticks = went + 1; part = p; worked = true; note = a_note; reach = reach }) most g old new all
-call_done others nexts passes bounds keeps g p first ps went most pc a_note reach old mid after new got all has mid_is worked alone tells ended told_lines few =
+call_done others calms nexts passes bounds keeps g p first ps went most pc a_note reach old mid after new got all has mid_is worked alone tells ended told_lines few =
     let s : PartitionState = gone_to went g p first ps in
     let same : (run g went).system ≡ g.system = (keeps g went).system in
     let below : p < length (run g went).parts = omega (arith, (keeps g went).parts, has.there) in
@@ -100,7 +101,7 @@ call_done others nexts passes bounds keeps g p first ps went most pc a_note reac
       seen = call_sight (run g went) p pc (part_at p mid.machine).core.pc (first_after went first) (its_before went ps s) s (turned_to g.system p s) old mid below its_mid at came turned_is
           ∙ tells.seen ∙ ap (λ (w : Worked). sight_by a_note w.after.memory) work;
     } in
-    next_done keeps bounds nexts passes g p first ps went most a_note reach old after new got all has.is has.gone has.there has.fewer noted
+    next_done keeps bounds calms nexts passes g p first ps went most a_note reach old after new got all has.is has.gone has.there has.fewer noted
     (worked_on p (turned_to g.system p s) _ (next_instruction (run g went) p s) a_note reach (run g went) old mid after got its_mid
     work worked)
     alone ended told_lines few

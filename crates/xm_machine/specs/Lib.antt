@@ -5,6 +5,8 @@ pub mod Heard
 pub mod Kept
 pub mod Machine
 pub mod Outcome
+pub mod Quiet
 pub mod Span
 pub mod Steps
+pub mod Stretch
 pub mod Work

@@ -25,7 +25,8 @@ use Rattle.slot_runs.specs.SpanLaws.{IsAwake, its_areas, met}
 use Rattle.slot_runs.specs.Spans.{IsSlotOf, IsStretch}
 use Rattle.slot_runs.specs.Undisturbed.{IsUndisturbed}
 use Rattle.xm_machine.specs.Kept.{kept_by, kept_of}
-use Rattle.xm_machine.specs.Work.{console_told}
+use Rattle.xm_machine.specs.Quiet.{AreQuiet, ends_in, ends_stretch}
+use Rattle.xm_machine.specs.Work.{act_of, console_told}
 use Rattle.xm_machine.specs.declared.slot.Span.{Span}
 
 -- the line of bytes for the console of the last of the ticks of a span
@@ -39,7 +40,7 @@ IsKept span old new =
     ≡ kept_by (turn_after (span.ticks - 1) (turn_of old)) span.worked span.note span.reach (memory_of span.part new)
 
 -- ticks of the machine were done, in the last of which the hypervisor may have halted; only the last has lines, which are these, but for
--- one of bytes for the console
+-- one of bytes for the console, and only the last may have an act that ends a stretch
 pub record IsSpanDone (span : Span) (most : ℕ) (old new : SysState) (got : List ReportLine) : Type 0 where
   pub some : 0 < span.ticks
   pub within : span.ticks ≤ most
@@ -51,6 +52,8 @@ pub record IsSpanDone (span : Span) (most : ℕ) (old new : SysState) (got : Lis
   pub part : span.part < length new.machine.parts
   pub readable : CanBeTold span.note (areas_in span.part new.machine)
   pub kept : IsKept span old.machine new.machine
+  pub quiet : AreQuiet span.ticks old.machine
+  pub ends : ends_in (run old.machine (span.ticks - 1)) ≡ ends_stretch (act_of span.reach)
 
 -- the same, of a machine that stands before the system's
 pub record AreDoneFrom (span : Span) (most : ℕ) (g : Machine) (old new : SysState) (got : List ReportLine) : Type 0 where
@@ -64,6 +67,8 @@ pub record AreDoneFrom (span : Span) (most : ℕ) (g : Machine) (old new : SysSt
   pub part : span.part < length new.machine.parts
   pub readable : CanBeTold span.note (areas_in span.part new.machine)
   pub kept : IsKept span g new.machine
+  pub quiet : AreQuiet span.ticks g
+  pub ends : ends_in (run g (span.ticks - 1)) ≡ ends_stretch (act_of span.reach)
 
 -- what ticks of a slot of partition p need, so many at most
 pub record CanTake (p most : ℕ) (sys : SysState) : Type 0 where

@@ -37,10 +37,6 @@ pub record IsStepCut (most : ℕ) (old new : Machine) (had got : Option (List �
   pub within : done ≤ most
   pub are : AreCut done old new had got
 
-abbrev pub Steps : Result ℕ WriteFault → ℕ → Machine → Machine → Option (List ℕ) → Option (List ℕ) → Type 0
-Steps (Ok told) most old new had got = IsStep told most old new had got
-Steps (Err _) most old new had got = IsStepCut most old new had got
-
 -- so many ticks
 abbrev pub RunsTicks : Result ℕ WriteFault → ℕ → Machine → Machine → Option (List ℕ) → Option (List ℕ) → Type 0
 RunsTicks (Ok told) ticks old new had got = AreRun ticks told old new had got

@@ -14,6 +14,7 @@ mod report;
 mod rest;
 mod run;
 mod slot;
+mod stretch;
 mod work;
 
 pub use cue::{Cue, Mine, Sight, Traffic, WholeCue};

@@ -14,12 +14,14 @@ ghost use Rattle.slot_runs.specs.Passes.{evented, part_at, with_part};
 ghost use Rattle.uart_board.specs.Heard.{IsHeard};
 ghost use Rattle.xm_machine.specs.Alone.{AreAlone, AreBootedAlone, RunsAlone};
 ghost use Rattle.xm_machine.specs.CueValues.{cue_value};
-ghost use Rattle.xm_machine.specs.Cues.{AreCued, KeepsLast, KeepsTicks, RunsCued, told_to};
+ghost use Rattle.xm_machine.specs.Cues.{AreCued, KeepsTicks, RunsCued, told_to};
 ghost use Rattle.xm_machine.specs.Heard.{IsRunHeard};
 ghost use Rattle.xm_machine.specs.Kept.{no_kept};
 ghost use Rattle.xm_machine.specs.Machine.{IsCounted};
 ghost use Rattle.xm_machine.specs.Outcome.{HasWriteCause, IsRun, IsTick, first_line, last_line};
-ghost use Rattle.xm_machine.specs.Steps.{RunsTicks, Steps, Tells};
+ghost use Rattle.xm_machine.specs.Steps.{RunsTicks, Tells};
+ghost use Rattle.xm_machine.specs.Stretch.{AreWhole, KeepsStepped, Steps, Stretches, StretchesAlone, StretchesCued, left_of};
+ghost use Rattle.xm_ports.specs.Channels.{shapes_of};
 ghost use Rattle.xm_report.specs.Report.{line_of};
 
 use crate::cue::Cue;
@@ -27,7 +29,8 @@ use crate::kept::Kept;
 use crate::lines::Lines;
 use crate::report::{end_parts, tell};
 use crate::run::Ran;
-use crate::slot::{here, run_span};
+use crate::slot::{here, run_span, ticks_left};
+use crate::stretch::{Stepped, ends_stretch, stepped_by};
 use crate::{ending, order};
 use core_files::{core_into, core_length};
 use cyclic_plans::PlanClock;
@@ -42,6 +45,7 @@ use std::marker::Model;
 use uart_board::{Board, ViewBoard};
 use xm_base::{Memory, Mode, PartId, TICKS};
 use xm_outside::Sink;
+use xm_ports::Channels;
 use xm_report::{Line, WriteFault, put_line};
 
 /// A machine that was booted.
@@ -91,6 +95,14 @@ impl Machine {
         &self.sys
     }
 
+    /// The channels, with what they hold.
+    pub fn channels(&self) -> &Channels
+        ensures contents { result.now.contents ≡ self.now.state.channels }
+        ensures shapes { result.now.shapes ≡ shapes_of self.now.state.system.conf }
+    {
+        self.sys.channels()
+    }
+
     /// How many ticks were done. The one in which the hypervisor halts is not counted.
     pub fn done(&self) -> u64
         ensures done { result ≡ self.now.state.ticks }
@@ -132,6 +144,33 @@ impl Machine {
             self.step(1, out, board)?;
         }
         Ok(())
+    }
+
+    /// Ticks of the slot or gap that it is, at most so many, up to and with the first whose partition reaches beyond itself by more than a
+    /// message that it puts or takes. Tells how many they were, with the one in which the hypervisor halts. Their lines go out, and their
+    /// console bytes go to their UARTs. After `WriteFault` the tick in hand was done whole, its bytes were said, and no later one was begun.
+    pub fn stretch<O: Sink>(
+        &mut self,
+        most: u64,
+        out: &mut O,
+        board: &mut Board,
+    ) -> Result<u64, WriteFault>
+        requires running { self.old.state.halted ≡ false }
+        requires some { 0 < most }
+        requires most { self.old.state.ticks + most ≤ TICKS }
+        ensures stretch { Stretches result most self.old.state self.new.state (O.got out.old) (O.got out.new) }
+        ensures alone { StretchesAlone result most self.old.state self.new.state }
+        ensures cues { StretchesCued result most self.old self.new }
+        ensures heard { IsRunHeard self.old.state self.new.state (⟦<Board as ViewBoard>⟧.board_view board.old) (⟦<Board as ViewBoard>⟧.board_view board.new) }
+        ensures cause { HasWriteCause result (O.faults out.old) (O.faults out.new) }
+        ensures counters { IsCounted self.new.state }
+    {
+        all_ticks();
+        keeps_numbers();
+        match self.run_stretch(most, out, board) {
+            Ok(stepped) => Ok(stepped.ticks),
+            Err(fault) => Err(fault),
+        }
     }
 
     /// The run of so many ticks, with its whole report: the first line, the ticks' lines and the lines of the end. Console bytes go to their
@@ -207,19 +246,19 @@ impl Machine {
         self.sys.set_now(0);
     }
 
-    // Ticks of one slot or gap, at most so many, whose lines go out, and whose console bytes to their UARTs. Tells how many lines that was.
+    // Ticks of a stretch, at most so many, up to the first that has lines, which go out, and whose console bytes go to their UARTs.
     fn step<O: Sink>(
         &mut self,
         most: u64,
         out: &mut O,
         board: &mut Board,
-    ) -> Result<u64, WriteFault>
+    ) -> Result<Stepped, WriteFault>
         requires running { self.old.state.halted ≡ false }
         requires some { 0 < most }
         requires most { self.old.state.ticks + most ≤ TICKS }
         ensures step { Steps result most self.old.state self.new.state (O.got out.old) (O.got out.new) }
-        ensures kept { KeepsLast most self.old self.new }
-        ensures few { IfOk result (λ told. told ≤ 25) }
+        ensures kept { KeepsStepped result most self.old self.new }
+        ensures few { IfOk result (λ stepped. stepped.lines ≤ 25) }
         ensures cause { HasWriteCause result (O.faults out.old) (O.faults out.new) }
         ensures heard { IsRunHeard self.old.state self.new.state (⟦<Board as ViewBoard>⟧.board_view board.old) (⟦<Board as ViewBoard>⟧.board_view board.new) }
         ensures counters { IsCounted self.new.state }
@@ -235,15 +274,53 @@ impl Machine {
         let span = run_span(&mut self.sys, &mut self.lines, slot, most);
         self.kept.keep(&self.sys, slot, &span);
         let last = begun + span.ticks - 1;
-        tell(
-            &self.sys,
-            last,
-            span.part,
-            span.note,
-            &self.lines,
-            out,
-            board,
+        let ticks = span.ticks;
+        let ends = ends_stretch(span.reach);
+        stepped_by(
+            tell(
+                &self.sys,
+                last,
+                span.part,
+                span.note,
+                &self.lines,
+                out,
+                board,
+            ),
+            ticks,
+            ends,
         )
+    }
+
+    // All ticks of a stretch, so many at most.
+    fn run_stretch<O: Sink>(
+        &mut self,
+        most: u64,
+        out: &mut O,
+        board: &mut Board,
+    ) -> Result<Stepped, WriteFault>
+        requires running { self.old.state.halted ≡ false }
+        requires some { 0 < most }
+        requires most { self.old.state.ticks + most ≤ TICKS }
+        ensures steps { Steps result (left_of most self.old.state) self.old.state self.new.state (O.got out.old) (O.got out.new) }
+        ensures whole { AreWhole result (left_of most self.old.state) }
+        ensures kept { KeepsStepped result (left_of most self.old.state) self.old self.new }
+        ensures few { IfOk result (λ stepped. stepped.lines ≤ 25 * stepped.ticks) }
+        ensures cause { HasWriteCause result (O.faults out.old) (O.faults out.new) }
+        ensures heard { IsRunHeard self.old.state self.new.state (⟦<Board as ViewBoard>⟧.board_view board.old) (⟦<Board as ViewBoard>⟧.board_view board.new) }
+        ensures counters { IsCounted self.new.state }
+    {
+        keeps_numbers();
+        let left = most.min(ticks_left(&self.sys));
+        let mut ticks = 0;
+        let mut lines = 0;
+        let mut ends = false;
+        while !ends && ticks < left {
+            let next = self.step(left - ticks, out, board)?;
+            ticks += next.ticks;
+            lines += next.lines;
+            ends = next.ends;
+        }
+        Ok(Stepped { ticks, lines, ends })
     }
 
     // Ticks up to so many in all, or to the one in which the hypervisor halts, and how many lines they told.
@@ -267,7 +344,8 @@ impl Machine {
         let mut told = 0;
         while !self.sys.halted() && self.sys.ticks() < ticks {
             let left = ticks - self.sys.ticks();
-            told += self.step(left, out, board)?;
+            let next = self.run_stretch(left, out, board)?;
+            told += next.lines;
         }
         Ok(told)
     }

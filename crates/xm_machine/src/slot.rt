@@ -1,7 +1,7 @@
 //! The ticks of one slot or gap.
 
 ghost use Rattle.std.specs.Prelude.{◌≡◌, ℕ, ◌+◌, ◌-◌, ◌%◌, ◌^◌, ◌<◌, ◌≤◌, ◌++◌, Bool, true, false, if◌then◌else◌, [], IfSome, None, Some, length};
-ghost use Rattle.cyclic_plans.specs.PlanClock.{IsInFrame, here, moment, slot_at};
+ghost use Rattle.cyclic_plans.specs.PlanClock.{IsInFrame, here, moment, slot_at, ticks_left};
 ghost use Rattle.cyclic_plans.specs.Slots.{IsHere, frame_of, slots_of};
 ghost use Rattle.whole_system.specs.State.{with_machine};
 ghost use Rattle.machine_model.specs.LocalTick.{goes_on, with_interrupts};
@@ -96,9 +96,10 @@ pub(crate) fn here(sys: &Sys) -> Option<Here>
     sys.plan_clock().here(sys.conf(), sys.now())
 }
 
-// How many ticks are left to the end of the slot or gap at hand.
-fn ticks_left(sys: &Sys) -> u64
+/// How many ticks are left of the slot or gap that it is, with the next.
+pub(crate) fn ticks_left(sys: &Sys) -> u64
     requires { IsInFrame sys.now.machine.system.conf sys.now.machine.clock sys.now.machine.time }
+    ensures value { result ≡ ticks_left sys.now.machine.system.conf sys.now.machine.clock sys.now.machine.time }
     ensures alike { (ticks : ℕ) → ticks < result → slot_at sys.now.machine.system.conf sys.now.machine.clock (sys.now.machine.time + ticks) ≡ slot_at sys.now.machine.system.conf sys.now.machine.clock sys.now.machine.time }
     ensures within { sys.now.machine.time + result ≤ sys.now.machine.clock.frame_start + frame_of sys.now.machine.system.conf sys.now.machine.clock.plan }
     ensures some { 0 < result }
@@ -338,6 +339,7 @@ fn trap_after(sys: &mut Sys, lines: &mut Lines, p: PartId, tt: u8, went: u64, pc
     ensures done { (g : Machine) (first : Bool) (ps : PartitionState) (most : ℕ) → HasTurned (Turn.Trap tt) g p first ps went most pc sys.old → AreDoneFrom result most g sys.old sys.new lines.new }
 {
     undisturbed_ticks();
+    calm_ticks();
     tick_in_passes();
     acts_within_bounds();
     keeps_numbers();
@@ -356,6 +358,7 @@ fn call_after(sys: &mut Sys, lines: &mut Lines, p: PartId, went: u64, pc: u32) -
     ensures done { (g : Machine) (first : Bool) (ps : PartitionState) (most : ℕ) → HasTurned Turn.Call g p first ps went most pc sys.old → AreDoneFrom result most g sys.old sys.new lines.new }
 {
     undisturbed_ticks();
+    calm_ticks();
     tick_in_passes();
     acts_within_bounds();
     keeps_numbers();

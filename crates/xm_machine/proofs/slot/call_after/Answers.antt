@@ -28,7 +28,7 @@ end_tick-requires-clause-frame c =
 pub returns : goal.returns
 returns c = record {
   done = λ g first ps most is.
-      call_done c.tick_in_passes.ensures.others c.undisturbed_ticks.ensures.next c.tick_in_passes.ensures.next c.acts_within_bounds.ensures.law c.keeps_numbers.ensures.runs
+      call_done c.tick_in_passes.ensures.others c.calm_ticks.ensures.gone c.undisturbed_ticks.ensures.next c.tick_in_passes.ensures.next c.acts_within_bounds.ensures.law c.keeps_numbers.ensures.runs
       g c.args.p first ps c.args.went most c.args.pc c.call-note.result.0 c.call-note.result.1 c.args.sys.now c.stand_behind.new.sys c.call-note.new.sys c.end_tick.new.sys c.call-note.new.lines c.end_tick.new.lines
       is c.stand_behind.ensures c.call-note.ensures.worked c.call-note.ensures.alone c.call-note.ensures.noted c.end_tick.ensures.state c.end_tick.ensures.lines c.end_tick.ensures.few;
 }

@@ -19,7 +19,7 @@ end_tick-requires-clause-frame c =
 pub returns : goal.returns
 returns c = record {
   done = λ g first ps most is.
-      trap_done c.tick_in_passes.ensures.others c.undisturbed_ticks.ensures.next c.tick_in_passes.ensures.next c.acts_within_bounds.ensures.law c.keeps_numbers.ensures.runs
+      trap_done c.tick_in_passes.ensures.others c.calm_ticks.ensures.gone c.undisturbed_ticks.ensures.next c.tick_in_passes.ensures.next c.acts_within_bounds.ensures.law c.keeps_numbers.ensures.runs
       g c.args.p first ps c.args.went most c.args.pc c.args.tt c.meet_trap-reach.result c.args.sys.now c.stand_behind.new.sys c.meet_trap-reach.new.sys c.end_tick.new.sys c.meet_trap-reach.new.lines c.end_tick.new.lines c.quiet.result
       is c.stand_behind.ensures c.meet_trap-reach.ensures.worked c.end_tick.ensures.state c.end_tick.ensures.lines c.end_tick.ensures.few c.quiet.ensures;
 }

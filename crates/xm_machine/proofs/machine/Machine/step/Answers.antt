@@ -1,5 +1,5 @@
-use Rattle.xm_machine.proofs.CuedLemmas.{keeps_span}
-use Rattle.xm_machine.proofs.GoingLemmas.{step_told}
+use Rattle.xm_machine.proofs.CuedLemmas.{keeps_so}
+use Rattle.xm_machine.proofs.GoingLemmas.{cause_so, few_so, step_so}
 use Rattle.xm_machine.proofs.HeardLemmas.{span_heard}
 use Rattle.xm_machine.proofs.KeptLemmas.{kept_ticks}
 use Rattle.xm_machine.proofs.NotedLemmas.{few_noted, span_kept}
@@ -15,8 +15,15 @@ invariant_of-self g c =
 pub returns-clause-step : goal.returns-clause-step
 returns-clause-step g c =
     let told = rw c.ticks-begun.ensures.value at c.tell.ensures.told in
-    rw (← c.self.view_is) (step_told c.tell.result c.run_span-span.result c.args.most c.self.inside.sys c.run_span-span.new.sys c.run_span-span.new.lines
-    (g.O.Sink.got c.args.out.now) (g.O.Sink.got c.tell.new.out) c.run_span-span.ensures.done told)
+    rw (c.stepped_by.ensures, ← c.self.view_is) (step_so c.tell.result c.ends_stretch-ends.result c.run_span-span.result c.args.most c.self.inside.sys c.run_span-span.new.sys c.run_span-span.new.lines
+    (g.O.Sink.got c.args.out.now) (g.O.Sink.got c.tell.new.out) c.run_span-span.ensures.done c.ends_stretch-ends.ensures told)
+
+pub returns-clause-few : goal.returns-clause-few
+returns-clause-few g c = rw (c.stepped_by.ensures) (few_so c.tell.result c.run_span-span.result.ticks c.ends_stretch-ends.result c.tell.ensures.few)
+
+pub returns-clause-cause : goal.returns-clause-cause
+returns-clause-cause g c =
+    rw (c.stepped_by.ensures) (cause_so c.tell.result c.run_span-span.result.ticks c.ends_stretch-ends.result (g.O.Sink.faults c.args.out.now) (g.O.Sink.faults c.tell.new.out) c.tell.ensures.cause)
 
 pub returns-clause-counters : goal.returns-clause-counters
 returns-clause-counters g c =
@@ -40,5 +47,5 @@ keep-requires-clause-few g c =
 
 pub returns-clause-kept : goal.returns-clause-kept
 returns-clause-kept g c =
-    rw (← c.self.view_is) (keeps_span c.run_span-span.result c.args.most c.self.inside.sys c.run_span-span.new.sys c.run_span-span.new.lines c.self.inside.kept c.keep.new.self c.run_span-span.ensures.done
+    rw (c.stepped_by.ensures, ← c.self.view_is) (keeps_so c.tell.result c.ends_stretch-ends.result c.run_span-span.result c.args.most c.self.inside.sys c.run_span-span.new.sys c.run_span-span.new.lines c.self.inside.kept c.keep.new.self c.run_span-span.ensures.done
     (span_kept c.run_span-span.result c.args.most c.self.inside.sys c.run_span-span.new.sys c.run_span-span.new.lines c.here-slot.result c.keep.new.self c.here-slot.ensures.value c.run_span-span.ensures.done c.keep.ensures))

@@ -1,7 +1,7 @@
 use Rattle.std.proofs.Common.{ap, sym, ◌∙◌}
 use Rattle.xm_machine.specs.Machine.{Meaning}
 use Rattle.xm_machine.proofs.AloneLemmas.{cut_tick_alone, halted_tick_alone, tick_alone}
-use Rattle.xm_machine.proofs.CuedLemmas.{halted_cued, tick_cued}
+use Rattle.xm_machine.proofs.CuedLemmas.{halted_cued, keeps_stepped, tick_cued}
 use Rattle.xm_machine.proofs.GoingLemmas.{halted_tick}
 use Rattle.xm_machine.proofs.HeardLemmas.{halted_heard, tick_heard}
 use Rattle.xm_machine.proofs.machine.Machine.tick.Goals as goal
@@ -18,11 +18,11 @@ returns-else-not-halted-clause-alone g c =
 
 pub returns-in_err-step-clause-alone : goal.returns-in_err-step-clause-alone
 returns-in_err-step-clause-alone g c =
-    cut_tick_alone c.all_ticks.ensures.law c.args.self.now.state c.step.new.self.state (g.O.Sink.got c.args.out.now) (g.O.Sink.got c.step.new.out) c.in_err-step.ensures.step
+    cut_tick_alone c.all_ticks.ensures.law c.args.self.now.state c.step.new.self.state (g.O.Sink.got c.args.out.now) (g.O.Sink.got c.step.new.out) c.in_err-step.ensures.step.cut
 
 pub returns-in_ok-step-clause-alone : goal.returns-in_ok-step-clause-alone
 returns-in_ok-step-clause-alone g c =
-    tick_alone c.all_ticks.ensures.law c.in_ok-step.field-0 c.args.self.now.state c.step.new.self.state (g.O.Sink.got c.args.out.now) (g.O.Sink.got c.step.new.out) c.in_ok-step.ensures.step
+    tick_alone c.all_ticks.ensures.law c.in_ok-step.field-0.lines c.args.self.now.state c.step.new.self.state (g.O.Sink.got c.args.out.now) (g.O.Sink.got c.step.new.out) c.in_ok-step.ensures.step.step
 
 pub returns-else-not-halted-clause-heard : goal.returns-else-not-halted-clause-heard
 returns-else-not-halted-clause-heard g c =
@@ -31,12 +31,12 @@ returns-else-not-halted-clause-heard g c =
 
 pub returns-in_err-step-clause-heard : goal.returns-in_err-step-clause-heard
 returns-in_err-step-clause-heard g c =
-    let step = c.in_err-step.ensures.step in
+    let step = c.in_err-step.ensures.step.cut in
     tick_heard c.args.self.now.state c.step.new.self.state step.done (record { places = _; marks = _ }) (record { places = _; marks = _ }) step.some step.within step.are.state c.in_err-step.ensures.heard
 
 pub returns-in_ok-step-clause-heard : goal.returns-in_ok-step-clause-heard
 returns-in_ok-step-clause-heard g c =
-    let step = c.in_ok-step.ensures.step in
+    let step = c.in_ok-step.ensures.step.step in
     tick_heard c.args.self.now.state c.step.new.self.state step.done (record { places = _; marks = _ }) (record { places = _; marks = _ }) step.some step.within step.are.state c.in_ok-step.ensures.heard
 
 pub returns-else-not-halted-clause-cues : goal.returns-else-not-halted-clause-cues
@@ -45,8 +45,9 @@ returns-else-not-halted-clause-cues g c =
 
 pub returns-in_err-step-clause-cues : goal.returns-in_err-step-clause-cues
 returns-in_err-step-clause-cues g c =
-    tick_cued c.keeps_numbers.ensures.ticks c.keeps_numbers.ensures.runs c.args.self.now c.step.new.self c.step.ensures.kept
+    tick_cued c.keeps_numbers.ensures.ticks c.keeps_numbers.ensures.runs c.args.self.now c.step.new.self c.in_err-step.ensures.kept
 
 pub returns-in_ok-step-clause-cues : goal.returns-in_ok-step-clause-cues
 returns-in_ok-step-clause-cues g c =
-    tick_cued c.keeps_numbers.ensures.ticks c.keeps_numbers.ensures.runs c.args.self.now c.step.new.self c.step.ensures.kept
+    tick_cued c.keeps_numbers.ensures.ticks c.keeps_numbers.ensures.runs c.args.self.now c.step.new.self
+    (keeps_stepped c.in_ok-step.field-0 1 c.args.self.now c.step.new.self (g.O.Sink.got c.args.out.now) (g.O.Sink.got c.step.new.out) c.in_ok-step.ensures.step c.in_ok-step.ensures.kept)

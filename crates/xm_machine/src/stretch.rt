@@ -1,0 +1,57 @@
+//! Stretches: ticks of one slot or gap, up to the first that reaches beyond its partition by more than a message.
+
+ghost use Rattle.std.specs.Prelude.{◌≡◌};
+ghost use Rattle.machine_model.specs.Health.{done_to_all};
+ghost use Rattle.xm_machine.specs.Quiet.{ends_stretch};
+ghost use Rattle.xm_machine.specs.Stretch.{stepped_by};
+ghost use Rattle.xm_machine.specs.Work.{act_of};
+
+use crate::beyond::Beyond;
+use health_monitor::Whole;
+use xm_report::WriteFault;
+
+/// Ticks of a stretch that were done.
+#[derive(Clone, Copy, Debug, PartialEq, Eq)]
+pub(crate) struct Stepped {
+    /// How many there were.
+    pub(crate) ticks: u64,
+    /// The lines that they told.
+    pub(crate) lines: u64,
+    /// Whether the act of the last ends the stretch.
+    pub(crate) ends: bool,
+}
+
+/// What ticks of a stretch come to: their lines went out, and so many they were, or they were cut off.
+pub(crate) fn stepped_by(
+    told: Result<u64, WriteFault>,
+    ticks: u64,
+    ends: bool,
+) -> Result<Stepped, WriteFault>
+    ensures { result ≡ stepped_by told ticks ends }
+{
+    match told {
+        Ok(lines) => Ok(Stepped { ticks, lines, ends }),
+        Err(fault) => Err(fault),
+    }
+}
+
+/// Whether an act that reaches beyond its partition so ends a stretch.
+pub(crate) fn ends_stretch(reach: Beyond) -> bool
+    ensures { result ≡ ends_stretch (act_of reach) }
+{
+    match reach {
+        Beyond::Nothing => false,
+        Beyond::Order { .. } | Beyond::Plan { .. } => true,
+        Beyond::Whole(event) => is_event(event),
+    }
+}
+
+// Whether something is done to the whole system.
+fn is_event(event: Whole) -> bool
+    ensures { result ≡ ends_stretch (done_to_all event) }
+{
+    match event {
+        Whole::Nothing => false,
+        Whole::Maintenance | Whole::Reset(_) | Whole::Halt => true,
+    }
+}
