@@ -150,7 +150,6 @@ pub fn raise_event(sys: &mut Sys, site: CallSite) -> Served
     let event = Act::Event {
         event: Event::PartitionError,
         word,
-        undone: false,
     };
     act(sys, site, event, 0)
 }

@@ -236,7 +236,6 @@ fn undo(sys: &mut Sys, site: CallSite) -> Served
         act: Act::Event {
             event: Event::MemProtection,
             word: site.pc,
-            undone: true,
         },
     }
 }

@@ -1,5 +1,5 @@
 -- The made ports as the bits of a number.
-use Rattle.std.proofs.Common.{◌≡◌, ℕ, zero, suc, ◌+◌, ◌-◌, ◌*◌, ◌^◌, ◌<◌, ◌≤◌, Bool, true, false, List, [], ◌∷◌, length, drop, get_or, ap, sym, subst, refl, arith, pow-suc}
+use Rattle.std.proofs.Common.{◌≡◌, ℕ, zero, suc, ◌+◌, ◌-◌, ◌*◌, ◌^◌, ◌<◌, ◌≤◌, Bool, true, false, List, [], ◌∷◌, length, drop, get_or, ap, sym, subst, arith, pow-suc}
 use Rattle.std.proofs.lemmas.List.{drop_more}
 use Rattle.machine_model.specs.CoreFile.{bits_of}
 use Rattle.machine_model.specs.Structures.{flag}

@@ -128,7 +128,7 @@ untraded_act (act.Whole whole.Nothing) = refl
 untraded_act (act.Whole (whole.Reset mode)) = refl
 untraded_act (act.Whole whole.Halt) = refl
 untraded_act (act.Whole whole.Maintenance) = refl
-untraded_act (act.Event event word undone) = refl
+untraded_act (act.Event event word) = refl
 
 -- and none under any names of channels
 pub still_act : (conf : Conf) (p : ℕ) (act : Act) → told_as (named conf p) (own_traffic (upshot_of act)) ≡ Still
@@ -139,7 +139,7 @@ still_act conf p (act.Whole whole.Nothing) = refl
 still_act conf p (act.Whole (whole.Reset mode)) = refl
 still_act conf p (act.Whole whole.Halt) = refl
 still_act conf p (act.Whole whole.Maintenance) = refl
-still_act conf p (act.Event event word undone) = refl
+still_act conf p (act.Event event word) = refl
 
 -- bytes that the caller is shown
 pub served_shown : (site : CallSite) (sys new : SysState) (address value : ℕ) (bytes : List ℕ) (act : Act) → is_room (caller_of site sys) address (length bytes) ≡ true → IsUponOne act sys

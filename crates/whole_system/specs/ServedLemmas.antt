@@ -24,7 +24,7 @@ upon_before act.Nothing old mid same one = tt
 upon_before (act.Upon id order) old mid same one = subst (λ (count : ℕ). id < count) same one
 upon_before (act.Ask plan) old mid same one = tt
 upon_before (act.Whole event) old mid same one = tt
-upon_before (act.Event event word undone) old mid same one = tt
+upon_before (act.Event event word) old mid same one = tt
 
 -- a call that is served after a change of its caller alone is served as a whole
 served_after : (p : ℕ) (sight : Sight) (s : Served) (answer : code.Served) (old mid new : SysState) (ps : PartitionState)

@@ -102,7 +102,7 @@ upshot_of act.Nothing = Acts told.Nothing
 upshot_of (act.Upon id order) = Acts (told.Upon id order)
 upshot_of (act.Ask plan) = Acts (told.Plans (told.Asked plan))
 upshot_of (act.Whole event) = Acts (done_to_all event)
-upshot_of (act.Event event word undone) = Meets event word
+upshot_of (act.Event event word) = Meets event word
 
 -- an order that is told is one upon a partition that there is
 abbrev pub IsUponOne : code_act.Act → SysState → Type 0
@@ -110,7 +110,7 @@ IsUponOne act.Nothing sys = Unit {0}
 IsUponOne (act.Upon id order) sys = id < length sys.machine.parts
 IsUponOne (act.Ask plan) sys = Unit {0}
 IsUponOne (act.Whole event) sys = Unit {0}
-IsUponOne (act.Event event word undone) sys = Unit {0}
+IsUponOne (act.Event event word) sys = Unit {0}
 
 -- an upshot but for its traffic, which is done and told by the note
 abbrev pub without_traffic : Act → Act

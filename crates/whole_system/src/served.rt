@@ -30,22 +30,13 @@ pub enum Act {
     /// Not at all.
     Nothing,
     /// An order upon a partition, which may be the caller.
-    Upon {
-        id: PartId,
-        order: Order,
-    },
+    Upon { id: PartId, order: Order },
     /// A plan is asked for.
-    Ask {
-        plan: u8,
-    },
+    Ask { plan: u8 },
     /// An event of the whole system.
     Whole(Whole),
-    /// A health event of the caller, with its word. Where the call is `undone`, the caller is at it again.
-    Event {
-        event: Event,
-        word: u32,
-        undone: bool,
-    },
+    /// A health event of the caller, with its word.
+    Event { event: Event, word: u32 },
 }
 
 /// What a hypercall came to.

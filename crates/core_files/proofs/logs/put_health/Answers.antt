@@ -1,4 +1,3 @@
-use Rattle.machine_model.specs.Structures.{health_bytes}
 use Rattle.core_files.proofs.WritingLemmas.{then_written}
 use Rattle.core_files.proofs.logs.put_health.Goals as goal
 

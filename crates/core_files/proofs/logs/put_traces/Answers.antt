@@ -1,4 +1,3 @@
-use Rattle.machine_model.specs.Structures.{trace_bytes}
 use Rattle.core_files.proofs.WritingLemmas.{then_written}
 use Rattle.core_files.proofs.logs.put_traces.Goals as goal
 

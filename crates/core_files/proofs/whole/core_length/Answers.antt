@@ -1,4 +1,4 @@
-use Rattle.std.proofs.Common.{◌≡◌, ap, arith, sym, ◌+◌, ◌∙◌}
+use Rattle.std.proofs.Common.{◌≡◌, ap, sym, ◌+◌, ◌∙◌}
 use Rattle.std.specs.List.{sum_by}
 use Rattle.machine_model.specs.View.{part_of, view_of}
 use Rattle.whole_system.specs.State.{part_at}
