@@ -9,6 +9,7 @@ pub mod GoingLemmas
 pub mod HealthLemmas
 pub mod HeardLemmas
 pub mod HereLemmas
+pub mod IdleTimerLemmas
 pub mod InstructionLemmas
 pub mod KeepingLemmas
 pub mod KeptLemmas

@@ -7,6 +7,7 @@ ghost use Rattle.machine_model.specs.Partition.{rested};
 ghost use Rattle.slot_runs.specs.Passes.{part_at, rest_but, with_part};
 
 use hypercalls::Sys;
+use virt_clocks::{Clock, Timer};
 use xm_base::{PartId, State};
 
 /// The interrupt of the hardware timer.
@@ -33,9 +34,28 @@ fn is_working(working: Option<PartId>, p: PartId) -> bool
     }
 }
 
-// A partition rests: only its hardware timer is looked at, and not where it has halted.
-#[tactic(auto, unfolding(machine_model::specs::Partition::rested, machine_model::specs::Partition::hardware_looked_at))]
+// A partition rests: only its hardware timer is looked at, where it is armed.
 fn rest_one(sys: &mut Sys, p: PartId, time: u64)
+    requires { p < length sys.old.machine.parts }
+    ensures { sys.new ≡ with_machine (with_part p (rested time (part_at p sys.old.machine)) sys.old.machine) sys.old }
+{
+    match hardware_timer(sys, p) {
+        Some(_) => look_at_timer(sys, p, time),
+        None => {}
+    }
+}
+
+// The timer of a partition on the hardware clock, where it is armed.
+fn hardware_timer(sys: &Sys, p: PartId) -> Option<Timer>
+    requires { p < length sys.now.machine.parts }
+    ensures { result ≡ (part_at p sys.now.machine).clocks.hardware_timer }
+{
+    sys.part(p).clocks.timer(Clock::Hw)
+}
+
+// A partition's hardware timer is looked at, unless it has halted.
+#[tactic(auto, unfolding(machine_model::specs::Partition::rested, machine_model::specs::Partition::hardware_looked_at))]
+fn look_at_timer(sys: &mut Sys, p: PartId, time: u64)
     requires { p < length sys.old.machine.parts }
     ensures { sys.new ≡ with_machine (with_part p (rested time (part_at p sys.old.machine)) sys.old.machine) sys.old }
 {
