@@ -231,7 +231,7 @@ fn put_end<O: Sink>(machine: &Machine, out: &mut O) -> Result<(), WriteFault> {
             state: part.state,
             resets: part.resets,
             exec: part.clocks.exec(),
-            pc: part.core.pc,
+            pc: part.core.pc(),
         };
         put_line(out, &line)?;
     }

@@ -18,9 +18,11 @@ ghost use Rattle.machine_model.specs.ProcessorCalls.{
   write_console,
 };
 ghost use Rattle.machine_model.specs.Told.{Unseen};
+ghost use Rattle.sparc_step.specs.Registers.{with_icc};
 ghost use Rattle.whole_system.specs.Serving.{IsCaller, IsServed, MayRead, caller_of};
 ghost use Rattle.whole_system.specs.State.{words_of};
 
+use sparc_step::{Core, Processor};
 use virt_traps::IretFault;
 use whole_system::answering::{
     A, B, INVALID_PARAMETER, NOT_AVAILABLE, OUT_0, answer, argument, refused_if, room, text, write,
@@ -171,10 +173,29 @@ pub fn set_psr(sys: &mut Sys, site: CallSite) -> Served
 {
     let psr = argument(sys, site, A);
     let own = sys.part_mut(site.part);
-    own.core.icc = icc_of(psr);
+    set_icc(&mut own.core, icc_of(psr));
     own.virt.enabled = enabled_of(psr);
     own.core.set(OUT_0, 0);
     DONE
+}
+
+// Sets the condition codes.
+fn set_icc(processor: &mut Processor, icc: u8)
+    requires { icc < 16 }
+    ensures { processor.new ≡ with_icc processor.old icc }
+{
+    let mut core = processor.core();
+    put_icc(&mut core, icc);
+    *processor = Processor::of(&core);
+}
+
+// The same on registers that are not at hand.
+#[tactic(auto, unfolding(sparc_step::specs::Registers::with_icc))]
+fn put_icc(core: &mut Core, icc: u8)
+    requires { icc < 16 }
+    ensures { core.new ≡ with_icc core.old icc }
+{
+    core.icc = icc;
 }
 
 // The condition codes of a PSR.
@@ -220,6 +241,27 @@ pub fn flush_regwin(sys: &mut Sys, site: CallSite) -> Served
     }
 }
 
+// Goes to these program counters.
+fn go_to(processor: &mut Processor, pc: u32, npc: u32)
+    requires pc { pc % 4 ≡ 0 }
+    requires npc { npc % 4 ≡ 0 }
+    ensures { processor.new ≡ record processor.old { pc = pc; npc = npc } }
+{
+    let mut core = processor.core();
+    put_counters(&mut core, pc, npc);
+    *processor = Processor::of(&core);
+}
+
+// The same on registers that are not at hand.
+fn put_counters(core: &mut Core, pc: u32, npc: u32)
+    requires pc { pc % 4 ≡ 0 }
+    requires npc { npc % 4 ≡ 0 }
+    ensures { core.new ≡ record core.old { pc = pc; npc = npc } }
+{
+    core.pc = pc;
+    core.npc = npc;
+}
+
 // Undoes a call that met a stack fault: the program is at it again.
 #[tactic(auto, unfolding(whole_system::specs::Serving::caller_of))]
 fn undo(sys: &mut Sys, site: CallSite) -> Served
@@ -229,8 +271,7 @@ fn undo(sys: &mut Sys, site: CallSite) -> Served
     ensures { IsServed site.part Unseen (undone (caller_of site sys.old) (caller_of site sys.old).state) result sys.old sys.new }
 {
     let own = sys.part_mut(site.part);
-    own.core.pc = site.pc;
-    own.core.npc = site.npc;
+    go_to(&mut own.core, site.pc, site.npc);
     Served {
         note: Note::Nothing,
         act: Act::Event {

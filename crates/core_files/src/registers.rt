@@ -17,7 +17,7 @@ pub(crate) fn put_registers(into: &mut [u8], at: usize, sys: &Sys, p: PartId) ->
     ensures place { result ≡ at + 544 }
     ensures room { length into.new ≡ length into.old }
 {
-    let core = &sys.part(p).core;
+    let core = sys.part(p).core.core();
     let at = put_words(into, at, &core.globals);
     put_words(into, at, &core.windows)
 }
@@ -42,6 +42,6 @@ pub(crate) fn look_at_registers(sys: &Sys, p: PartId)
     ensures globals { length (part_at p sys.now.machine).core.globals ≡ 8 }
     ensures windows { length (part_at p sys.now.machine).core.windows ≡ 128 }
 {
-    let core = &sys.part(p).core;
+    let core = sys.part(p).core.core();
     let _register = core.get(0);
 }

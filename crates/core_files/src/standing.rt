@@ -44,7 +44,7 @@ pub(crate) fn processor(sys: &Sys, p: PartId) -> Structure
     ensures value { result ≡ processor_bytes (part_at p sys.now.machine) }
     ensures size { length result ≡ 28 }
 {
-    let core = &sys.part(p).core;
+    let core = sys.part(p).core.core();
     let virt = &sys.part(p).virt;
     let mut bytes = Structure::new();
     bytes.word(core.pc);

@@ -4,7 +4,7 @@ ghost use Rattle.std.specs.Prelude.{◌≡◌, ◌%◌, IfOk};
 ghost use Rattle.whole_system.specs.State.{booted_own};
 
 use health_monitor::HealthEntry;
-use sparc_step::Core;
+use sparc_step::{Core, Processor};
 use std::alloc::Global;
 use std::marker::Model;
 use virt_clocks::Clocks;
@@ -16,7 +16,8 @@ use xm_traces::{Ring, TraceEntry};
 /// The state of a partition, but for its memory and its input words, which belong to the system.
 #[derive(Debug, Drop)]
 pub struct PartState {
-    pub core: Core,
+    /// The registers, as they are at hand for many instructions.
+    pub core: Processor,
     pub virt: Virt,
     pub clocks: Clocks,
     pub state: State,
@@ -59,7 +60,7 @@ impl PartState {
         ensures { IfOk result (λ own. own ≡ booted_own entry) }
     {
         Ok(PartState {
-            core: Core::start(entry),
+            core: Processor::of(&Core::start(entry)),
             virt: Virt::new(),
             clocks: Clocks::new(),
             state: State::Ready,

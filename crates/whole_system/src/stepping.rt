@@ -13,21 +13,31 @@ use crate::gone::Gone;
 use guest_bus::Bus;
 use guest_memory::Ram;
 use sparc_step::{Core, Processor, Turn};
-use virt_traps::{IretFault, StackFault, Virt, deliver, iret, settle, settle_at_hand, spill};
+use virt_traps::{IretFault, StackFault, Virt, deliver, iret, settle_at_hand, spill};
 use xm_base::PartId;
 
+// Selects a partition, unless it is selected already.
+fn select(ram: &mut Ram, p: PartId)
+    requires { p < length ram.old.areas }
+    ensures value { ram.new ≡ with_selected p ram.old }
+{
+    if ram.selected() != p {
+        ram.select(p);
+    }
+}
+
 /// One step of partition `p`, with the window that it needs.
-pub(crate) fn settle_part(core: &mut Core, ram: &mut Ram, p: PartId) -> Turn
+pub(crate) fn settle_part(core: &mut Processor, ram: &mut Ram, p: PartId) -> Turn
     requires { p < length ram.old.areas }
     ensures turn { result ≡ (settled (areas_at p ram.old) core.old (map_at p ram.old)).turn }
     ensures core { core.new ≡ (settled (areas_at p ram.old) core.old (map_at p ram.old)).core }
     ensures memory { ram.new ≡ with_selected p (with_map p (settled (areas_at p ram.old) core.old (map_at p ram.old)).memory ram.old) }
     ensures called { result ≡ Turn.Call → GoesOn core.old core.new }
 {
-    ram.select(p);
+    select(ram, p);
     // It is selected before and behind the step.
     let _before = ram.selected();
-    let turn = settle(core, ram);
+    let turn = settle_at_hand(core, ram);
     let _behind = ram.selected();
     turn
 }
@@ -35,7 +45,7 @@ pub(crate) fn settle_part(core: &mut Core, ram: &mut Ram, p: PartId) -> Turn
 /// Delivers a trap of a type to partition `p`.
 pub(crate) fn deliver_part(
     virt: &mut Virt,
-    core: &mut Core,
+    core: &mut Processor,
     ram: &mut Ram,
     p: PartId,
     tt: u8,
@@ -47,18 +57,39 @@ pub(crate) fn deliver_part(
     ensures memory { ram.new ≡ with_selected p (with_map p (delivered (areas_at p ram.old) virt.old core.old (map_at p ram.old) tt).memory ram.old) }
     ensures unchanged { OnErr result ((virt.new ≡ virt.old) × (core.new ≡ core.old) × (map_at p ram.new ≡ map_at p ram.old)) }
 {
-    ram.select(p);
+    select(ram, p);
     // It is selected before and behind the delivery.
     let _before = ram.selected();
-    let answer = deliver(virt, core, ram, tt);
+    let answer = deliver_at_hand(virt, core, ram, tt);
     let _behind = ram.selected();
+    answer
+}
+
+// Delivers a trap of a type, to registers at hand.
+fn deliver_at_hand<B: Bus>(
+    virt: &mut Virt,
+    processor: &mut Processor,
+    bus: &mut B,
+    tt: u8,
+) -> Result<(), StackFault>
+    ensures answer { result ≡ (delivered (B.areas bus.old) virt.old processor.old (B.memory bus.old) tt).answer }
+    ensures traps { virt.new ≡ (delivered (B.areas bus.old) virt.old processor.old (B.memory bus.old) tt).traps }
+    ensures core { processor.new ≡ (delivered (B.areas bus.old) virt.old processor.old (B.memory bus.old) tt).core }
+    ensures memory { B.memory bus.new ≡ (delivered (B.areas bus.old) virt.old processor.old (B.memory bus.old) tt).memory }
+    ensures unchanged { OnErr result ((virt.new ≡ virt.old) × (processor.new ≡ processor.old) × (B.memory bus.new ≡ B.memory bus.old)) }
+    ensures areas { B.areas bus.new ≡ B.areas bus.old }
+    ensures others { B.others bus.new ≡ B.others bus.old }
+{
+    let mut core = processor.core();
+    let answer = deliver(virt, &mut core, bus, tt);
+    *processor = Processor::of(&core);
     answer
 }
 
 /// Returns from a trap of partition `p`.
 pub(crate) fn return_part(
     virt: &mut Virt,
-    core: &mut Core,
+    core: &mut Processor,
     ram: &mut Ram,
     p: PartId,
 ) -> Result<(), IretFault>
@@ -69,26 +100,58 @@ pub(crate) fn return_part(
     ensures memory { ram.new ≡ with_selected p ram.old }
     ensures unchanged { OnErr result ((virt.new ≡ virt.old) × (core.new ≡ core.old)) }
 {
-    ram.select(p);
+    select(ram, p);
     // It is selected before and behind the return.
     let _before = ram.selected();
-    let answer = iret(virt, core, ram);
+    let answer = return_at_hand(virt, core, ram);
     let _behind = ram.selected();
     answer
 }
 
+// Returns from a trap, with registers at hand.
+fn return_at_hand<B: Bus>(
+    virt: &mut Virt,
+    processor: &mut Processor,
+    bus: &mut B,
+) -> Result<(), IretFault>
+    ensures answer { result ≡ (returned (B.areas bus.old) virt.old processor.old (B.memory bus.old)).answer }
+    ensures traps { virt.new ≡ (returned (B.areas bus.old) virt.old processor.old (B.memory bus.old)).traps }
+    ensures core { processor.new ≡ (returned (B.areas bus.old) virt.old processor.old (B.memory bus.old)).core }
+    ensures memory { B.memory bus.new ≡ B.memory bus.old }
+    ensures unchanged { OnErr result ((virt.new ≡ virt.old) × (processor.new ≡ processor.old)) }
+    ensures areas { B.areas bus.new ≡ B.areas bus.old }
+    ensures others { B.others bus.new ≡ B.others bus.old }
+{
+    let mut core = processor.core();
+    let answer = iret(virt, &mut core, bus);
+    *processor = Processor::of(&core);
+    answer
+}
+
 /// Spills the windows of partition `p`, all but the current one.
-pub(crate) fn flush_part(core: &mut Core, ram: &mut Ram, p: PartId) -> Result<(), StackFault>
+pub(crate) fn flush_part(core: &mut Processor, ram: &mut Ram, p: PartId) -> Result<(), StackFault>
     requires { p < length ram.old.areas }
     ensures answer { result ≡ (flushed 8 (areas_at p ram.old) (made core.old (map_at p ram.old))).answer }
     ensures core { core.new ≡ (flushed 8 (areas_at p ram.old) (made core.old (map_at p ram.old))).core }
     ensures memory { ram.new ≡ with_selected p (with_map p (flushed 8 (areas_at p ram.old) (made core.old (map_at p ram.old))).memory ram.old) }
 {
-    ram.select(p);
+    select(ram, p);
     // It is selected before and behind the spills.
     let _before = ram.selected();
-    let answer = flush(core, ram);
+    let answer = flush_at_hand(core, ram);
     let _behind = ram.selected();
+    answer
+}
+
+// Spills windows until all but the current one are, of registers at hand.
+fn flush_at_hand<B: Bus>(processor: &mut Processor, bus: &mut B) -> Result<(), StackFault>
+    ensures moved { IsMoved result processor.new (B.memory bus.new) (flushed 8 (B.areas bus.old) (made processor.old (B.memory bus.old))) }
+    ensures areas { B.areas bus.new ≡ B.areas bus.old }
+    ensures others { B.others bus.new ≡ B.others bus.old }
+{
+    let mut core = processor.core();
+    let answer = flush(&mut core, bus);
+    *processor = Processor::of(&core);
     answer
 }
 
@@ -108,7 +171,7 @@ fn flush<B: Bus>(core: &mut Core, bus: &mut B) -> Result<(), StackFault>
 }
 
 /// Steps of partition `p`, at most so many, up to the first that does more than go.
-pub(crate) fn step_part(core: &mut Core, ram: &mut Ram, p: PartId, most: u64) -> Gone
+pub(crate) fn step_part(core: &mut Processor, ram: &mut Ram, p: PartId, most: u64) -> Gone
     requires { p < length ram.old.areas }
     ensures went { (stepped result.went (areas_at p ram.old) core.old (map_at p ram.old)).turn ≡ Turn.Went }
     ensures gone { IsGone result.turn result.went most (areas_at p ram.old) (stepped result.went (areas_at p ram.old) core.old (map_at p ram.old)) core.new (map_at p ram.new) }
@@ -116,7 +179,7 @@ pub(crate) fn step_part(core: &mut Core, ram: &mut Ram, p: PartId, most: u64) ->
     ensures aligned { result.pc % 4 ≡ 0 }
     ensures others { ram.new ≡ with_selected p (with_map p (map_at p ram.new) ram.old) }
 {
-    ram.select(p);
+    select(ram, p);
     // It is selected before and behind the steps.
     let _before = ram.selected();
     let gone = go(core, ram, most);
@@ -124,10 +187,9 @@ pub(crate) fn step_part(core: &mut Core, ram: &mut Ram, p: PartId, most: u64) ->
     gone
 }
 
-// The same over any memory. It stands by itself, so that the compiler has all of its registers for the loop; the registers at
-// hand are a local of it.
+// The same over any memory. It stands by itself, so that the compiler has all host registers for the loop.
 #[inline(never)]
-fn go<B: Bus>(core: &mut Core, bus: &mut B, most: u64) -> Gone
+fn go<B: Bus>(core: &mut Processor, bus: &mut B, most: u64) -> Gone
     ensures went { (stepped result.went (B.areas bus.old) core.old (B.memory bus.old)).turn ≡ Turn.Went }
     ensures gone { IsGone result.turn result.went most (B.areas bus.old) (stepped result.went (B.areas bus.old) core.old (B.memory bus.old)) core.new (B.memory bus.new) }
     ensures at { result.pc ≡ (stepped result.went (B.areas bus.old) core.old (B.memory bus.old)).core.pc }
@@ -135,10 +197,7 @@ fn go<B: Bus>(core: &mut Core, bus: &mut B, most: u64) -> Gone
     ensures areas { B.areas bus.new ≡ B.areas bus.old }
     ensures others { B.others bus.new ≡ B.others bus.old }
 {
-    let mut own = Processor::of(core);
-    let gone = go_at_hand(&mut own, bus, most);
-    *core = own.core();
-    gone
+    go_at_hand(core, bus, most)
 }
 
 // The same with the registers at hand.

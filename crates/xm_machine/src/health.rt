@@ -15,7 +15,7 @@ use crate::lines::Lines;
 use crate::order::obey;
 use health_monitor::{Effect, HealthEntry, Own, Whole, action_of, effect, is_logged};
 use hypercalls::Sys;
-use sparc_step::Core;
+use sparc_step::{Core, Processor};
 use virt_traps::StackFault;
 use xm_base::{Order, PartId};
 use xm_conf::{Action, Event};
@@ -131,8 +131,17 @@ fn pass_over(sys: &mut Sys, p: PartId, event: Event, effect: Effect)
 }
 
 // Goes on to the next instruction.
+fn advance(processor: &mut Processor)
+    ensures { processor.new ≡ advanced processor.old }
+{
+    let mut core = processor.core();
+    go_on(&mut core);
+    *processor = Processor::of(&core);
+}
+
+// The same on registers that are not at hand.
 #[tactic(auto, unfolding(sparc_step::specs::Registers::advanced))]
-fn advance(core: &mut Core)
+fn go_on(core: &mut Core)
     ensures { core.new ≡ advanced core.old }
 {
     core.pc = core.npc;
@@ -229,5 +238,5 @@ pub(crate) fn program_counter(sys: &Sys, p: PartId) -> u32
     ensures value { result ≡ (part_at p sys.now.machine).core.pc }
     ensures aligned { result % 4 ≡ 0 }
 {
-    sys.part(p).core.pc
+    sys.part(p).core.pc()
 }

@@ -10,7 +10,7 @@ ghost use Rattle.xm_machine.specs.Work.{IsDone};
 
 use crate::lines::Lines;
 use hypercalls::Sys;
-use sparc_step::Core;
+use sparc_step::{Core, Processor};
 use virt_clocks::Clocks;
 use virt_traps::Virt;
 use xm_base::{Mode, Order, PartId, State};
@@ -115,7 +115,7 @@ fn restart(sys: &mut Sys, p: PartId, mode: Mode, status: u32)
 {
     let entry = sys.image(p).entry();
     let own = sys.part_mut(p);
-    own.core = Core::start(entry);
+    own.core = Processor::of(&Core::start(entry));
     own.virt = Virt::new();
     own.clocks = Clocks::new();
     own.state = State::Ready;

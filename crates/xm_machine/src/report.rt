@@ -160,6 +160,6 @@ fn end_line(sys: &Sys, p: PartId) -> Line<'static>
         state: part.state,
         resets: part.resets,
         exec: part.clocks.exec(),
-        pc: part.core.pc,
+        pc: part.core.pc(),
     }
 }
