@@ -19,6 +19,7 @@ pub mod NameLemmas
 pub mod NotedLemmas
 pub mod OutLemmas
 pub mod PassLemmas
+pub mod PlaceLemmas
 pub mod QuietLemmas
 pub mod ReachLemmas
 pub mod ServedLemmas

@@ -5,6 +5,7 @@ pub mod Heard
 pub mod Kept
 pub mod Machine
 pub mod Outcome
+pub mod Place
 pub mod Quiet
 pub mod Span
 pub mod Steps

@@ -71,6 +71,14 @@ impl Kept {
         })
     }
 
+    /// The number of the slot that the last tick was in; in a gap and before the first tick, any.
+    pub(crate) fn slot_number(&self) -> u8 {
+        match self.slot {
+            Some(slot) => slot.slot,
+            None => 0,
+        }
+    }
+
     /// Keeps the last tick of a span that began in this slot. The bytes that its note names still stand in its partition's memory.
     pub(crate) fn keep(&mut self, sys: &Sys, slot: Option<Here>, span: &Span)
         requires partition { span.now.part < length sys.now.machine.parts }

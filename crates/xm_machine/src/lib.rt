@@ -10,6 +10,7 @@ mod law;
 mod lines;
 mod machine;
 mod order;
+mod place;
 mod report;
 mod rest;
 mod run;

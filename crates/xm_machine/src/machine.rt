@@ -24,12 +24,14 @@ ghost use Rattle.xm_machine.specs.Stretch.{AreWhole, KeepsStepped, Steps, Stretc
 ghost use Rattle.xm_ports.specs.Channels.{shapes_of};
 ghost use Rattle.xm_report.specs.Report.{line_of};
 
+use crate::beyond::Beyond;
 use crate::cue::Cue;
 use crate::kept::Kept;
 use crate::lines::Lines;
+use crate::place::place_of;
 use crate::report::{end_parts, tell};
 use crate::run::Ran;
-use crate::slot::{here, run_span, ticks_left};
+use crate::slot::{Span, run_span};
 use crate::stretch::{Stepped, ends_stretch, stepped_by};
 use crate::{ending, order};
 use core_files::{core_into, core_length};
@@ -270,9 +272,10 @@ impl Machine {
         tells_few_bytes();
         self.lines.clear();
         let begun = self.sys.ticks();
-        let slot = here(&self.sys);
-        let span = run_span(&mut self.sys, &mut self.lines, slot, most);
-        self.kept.keep(&self.sys, slot, &span);
+        let place = place_of(&self.sys, self.kept.slot_number());
+        let mut span = Span::quiet(0, 0, false, Beyond::Nothing);
+        run_span(&mut self.sys, &mut self.lines, &mut span, place, most);
+        self.kept.keep(&self.sys, place.slot, &span);
         let last = begun + span.ticks - 1;
         let ticks = span.ticks;
         let ends = ends_stretch(span.reach);
@@ -310,7 +313,8 @@ impl Machine {
         ensures counters { IsCounted self.new.state }
     {
         keeps_numbers();
-        let left = most.min(ticks_left(&self.sys));
+        let place = place_of(&self.sys, self.kept.slot_number());
+        let left = most.min(place.left);
         let mut ticks = 0;
         let mut lines = 0;
         let mut ends = false;

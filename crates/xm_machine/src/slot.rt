@@ -1,8 +1,7 @@
 //! The ticks of one slot or gap.
 
 ghost use Rattle.std.specs.Prelude.{◌≡◌, ℕ, ◌+◌, ◌-◌, ◌%◌, ◌^◌, ◌<◌, ◌≤◌, ◌++◌, Bool, true, false, if◌then◌else◌, [], IfSome, None, Some, length};
-ghost use Rattle.cyclic_plans.specs.PlanClock.{IsInFrame, here, moment, slot_at, ticks_left};
-ghost use Rattle.cyclic_plans.specs.Slots.{IsHere, frame_of, slots_of};
+ghost use Rattle.cyclic_plans.specs.PlanClock.{IsInFrame};
 ghost use Rattle.whole_system.specs.State.{with_machine};
 ghost use Rattle.machine_model.specs.LocalTick.{goes_on, with_interrupts};
 ghost use Rattle.machine_model.specs.Machine.{Machine};
@@ -14,11 +13,13 @@ ghost use Rattle.slot_runs.specs.Spans.{IsSlotOf, IsStretch, after_span, plan_li
 ghost use Rattle.slot_runs.specs.Undisturbed.{NoneFallsDue};
 ghost use Rattle.virt_traps.specs.Virtual.{due};
 ghost use Rattle.xm_machine.specs.Machine.{IsMachine};
+ghost use Rattle.xm_machine.specs.Place.{IsPlace};
 ghost use Rattle.xm_machine.specs.Span.{AreDoneFrom, CanTake, CanTakeAfter, HasTurned, IsIdle, IsMet, IsSpanDone, NoneDue, behind, counted_on};
 
 use crate::beyond::Beyond;
 use crate::ending::{end_tick, end_ticks};
 use crate::lines::Lines;
+use crate::place::Place;
 use crate::rest::rest;
 use crate::work::{call, meet_trap, take_interrupt};
 use cyclic_plans::Here;
@@ -54,8 +55,8 @@ pub(crate) struct Span {
 }
 
 impl Span {
-    // So many ticks in which no call told anything, with how the last reached beyond its partition.
-    fn quiet(ticks: u64, part: PartId, worked: bool, reach: Beyond) -> Span
+    /// So many ticks in which no call told anything, with how the last reached beyond its partition.
+    pub(crate) fn quiet(ticks: u64, part: PartId, worked: bool, reach: Beyond) -> Span
         ensures { result ≡ record { ticks = ticks; part = part; worked = worked; note = Note.Nothing; reach = reach } }
     {
         Span {
@@ -70,55 +71,34 @@ impl Span {
 
 /// The ticks of the slot or gap that it is, at most so many, up to the first in which more is done than instructions that go. Their lines
 /// are those of the last.
-pub(crate) fn run_span(sys: &mut Sys, lines: &mut Lines, slot: Option<Here>, most: u64) -> Span
+pub(crate) fn run_span(sys: &mut Sys, lines: &mut Lines, span: &mut Span, place: Place, most: u64)
     requires machine { IsMachine sys.old }
-    requires slot { slot ≡ here sys.old.machine.system.conf sys.old.machine.clock sys.old.machine.time }
-    requires covers { IfSome slot (IsHere (moment sys.old.machine.clock sys.old.machine.time) (slots_of sys.old.machine.system.conf sys.old.machine.clock.plan)) }
+    requires place { IsPlace place sys.old.machine }
     requires running { sys.old.machine.halted ≡ false }
     requires some { 0 < most }
     requires ticks { sys.old.machine.ticks + most ≤ 4000000000 }
     requires empty { lines.old ≡ [] }
-    ensures done { IsSpanDone result most sys.old sys.new lines.new }
+    ensures done { IsSpanDone span.new most sys.old sys.new lines.new }
 {
-    let most = most.min(ticks_left(sys));
-    match slot {
-        Some(slot) => run_slot(sys, lines, slot, most),
-        None => wait(sys, lines, most),
+    let most = most.min(place.left);
+    match place.slot {
+        Some(slot) => run_slot(sys, lines, span, slot, most),
+        None => wait(sys, lines, span, most),
     }
 }
 
-/// Whose slot it is, or `None` in a gap.
-pub(crate) fn here(sys: &Sys) -> Option<Here>
-    requires { IsInFrame sys.now.machine.system.conf sys.now.machine.clock sys.now.machine.time }
-    ensures value { result ≡ here sys.now.machine.system.conf sys.now.machine.clock sys.now.machine.time }
-    ensures covers { IfSome result (IsHere (moment sys.now.machine.clock sys.now.machine.time) (slots_of sys.now.machine.system.conf sys.now.machine.clock.plan)) }
-{
-    sys.plan_clock().here(sys.conf(), sys.now())
-}
-
-/// How many ticks are left of the slot or gap that it is, with the next.
-pub(crate) fn ticks_left(sys: &Sys) -> u64
-    requires { IsInFrame sys.now.machine.system.conf sys.now.machine.clock sys.now.machine.time }
-    ensures value { result ≡ ticks_left sys.now.machine.system.conf sys.now.machine.clock sys.now.machine.time }
-    ensures alike { (ticks : ℕ) → ticks < result → slot_at sys.now.machine.system.conf sys.now.machine.clock (sys.now.machine.time + ticks) ≡ slot_at sys.now.machine.system.conf sys.now.machine.clock sys.now.machine.time }
-    ensures within { sys.now.machine.time + result ≤ sys.now.machine.clock.frame_start + frame_of sys.now.machine.system.conf sys.now.machine.clock.plan }
-    ensures some { 0 < result }
-{
-    sys.plan_clock().ticks_left(sys.conf(), sys.now())
-}
-
 // Ticks of a partition's slot.
-fn run_slot(sys: &mut Sys, lines: &mut Lines, slot: Here, most: u64) -> Span
+fn run_slot(sys: &mut Sys, lines: &mut Lines, span: &mut Span, slot: Here, most: u64)
     requires take { CanTake slot.part most sys.old }
     requires slot { IsSlotOf sys.old.machine slot.part slot.first (part_at slot.part sys.old.machine) }
     requires stretch { IsStretch sys.old.machine most }
     requires empty { lines.old ≡ [] }
-    ensures done { AreDoneFrom result most sys.old.machine sys.old sys.new lines.new }
+    ensures done { AreDoneFrom span.new most sys.old.machine sys.old sys.new lines.new }
 {
     if takes_turns(sys, slot.part) {
-        take_slot(sys, lines, slot.part, slot.first, most)
+        take_slot(sys, lines, span, slot.part, slot.first, most)
     } else {
-        wait(sys, lines, most)
+        wait(sys, lines, span, most)
     }
 }
 
@@ -134,7 +114,7 @@ fn takes_turns(sys: &Sys, p: PartId) -> bool
 }
 
 // So many ticks in which all partitions rest.
-fn wait(sys: &mut Sys, lines: &mut Lines, most: u64) -> Span
+fn wait(sys: &mut Sys, lines: &mut Lines, span: &mut Span, most: u64)
     requires nobodys { IsNobodys sys.old.machine }
     requires stretch { IsStretch sys.old.machine most }
     requires running { sys.old.machine.halted ≡ false }
@@ -144,7 +124,7 @@ fn wait(sys: &mut Sys, lines: &mut Lines, most: u64) -> Span
     requires time { sys.old.machine.time ≤ sys.old.machine.ticks }
     requires frame { IsInFrame sys.old.machine.system.conf sys.old.machine.clock sys.old.machine.time }
     requires empty { lines.old ≡ [] }
-    ensures done { AreDoneFrom result most sys.old.machine sys.old sys.new lines.new }
+    ensures done { AreDoneFrom span.new most sys.old.machine sys.old sys.new lines.new }
 {
     resting_ticks();
     calm_ticks();
@@ -154,25 +134,25 @@ fn wait(sys: &mut Sys, lines: &mut Lines, most: u64) -> Span
     let last = sys.now() + most - 1;
     rest(sys, None, last);
     end_ticks(sys, lines, most);
-    Span::quiet(most, 0, false, Beyond::Nothing)
+    *span = Span::quiet(most, 0, false, Beyond::Nothing);
 }
 
 // Ticks of a partition that takes its turn: the interrupts of the first come, and may wake it.
-fn take_slot(sys: &mut Sys, lines: &mut Lines, p: PartId, first: bool, most: u64) -> Span
+fn take_slot(sys: &mut Sys, lines: &mut Lines, span: &mut Span, p: PartId, first: bool, most: u64)
     requires take { CanTake p most sys.old }
     requires slot { IsSlotOf sys.old.machine p first (part_at p sys.old.machine) }
     requires turns { takes_turns (part_at p sys.old.machine).state ≡ true }
     requires stretch { IsStretch sys.old.machine most }
     requires empty { lines.old ≡ [] }
-    ensures done { AreDoneFrom result most sys.old.machine sys.old sys.new lines.new }
+    ensures done { AreDoneFrom span.new most sys.old.machine sys.old sys.new lines.new }
 {
     next_deadline_is_least();
     meet(sys, p, first);
     if goes_on(sys, p, first) {
         wake(sys, p);
-        go_on(sys, lines, p, most)
+        go_on(sys, lines, span, p, most)
     } else {
-        stay_idle(sys, lines, p, most)
+        stay_idle(sys, lines, span, p, most)
     }
 }
 
@@ -229,11 +209,11 @@ fn ticks_undisturbed(sys: &Sys, p: PartId, running: bool, most: u64) -> u64
 }
 
 // Ticks of an idle partition that nothing wakes.
-fn stay_idle(sys: &mut Sys, lines: &mut Lines, p: PartId, most: u64) -> Span
+fn stay_idle(sys: &mut Sys, lines: &mut Lines, span: &mut Span, p: PartId, most: u64)
     requires take { CanTake p most sys.old }
     requires timers { NoneDue sys.old.machine.time (part_at p sys.old.machine).clocks }
     requires empty { lines.old ≡ [] }
-    ensures done { (g : Machine) (ps : PartitionState) → IsIdle g p ps most sys.old → AreDoneFrom result most g sys.old sys.new lines.new }
+    ensures done { (g : Machine) (ps : PartitionState) → IsIdle g p ps most sys.old → AreDoneFrom span.new most g sys.old sys.new lines.new }
 {
     undisturbed_ticks();
     calm_ticks();
@@ -241,11 +221,11 @@ fn stay_idle(sys: &mut Sys, lines: &mut Lines, p: PartId, most: u64) -> Span
     tick_in_passes();
     keeps_numbers();
     let ticks = ticks_undisturbed(sys, p, false, most);
-    pass(sys, lines, p, ticks)
+    pass(sys, lines, span, p, ticks);
 }
 
 // So many ticks of the slot of partition `p` with nothing to tell but that a plan starts: all others rest.
-fn pass(sys: &mut Sys, lines: &mut Lines, p: PartId, ticks: u64) -> Span
+fn pass(sys: &mut Sys, lines: &mut Lines, span: &mut Span, p: PartId, ticks: u64)
     requires some { 0 < ticks }
     requires time { sys.old.machine.time + ticks < 2 ^ 64 }
     requires ticks { sys.old.machine.ticks + ticks < 2 ^ 64 }
@@ -254,24 +234,24 @@ fn pass(sys: &mut Sys, lines: &mut Lines, p: PartId, ticks: u64) -> Span
     ensures state { sys.new ≡ with_machine (after_span (ticks - 1) (rest_but (Some p) (sys.old.machine.time + ticks - 1) sys.old.machine).parts sys.old.machine) sys.old }
     ensures lines { lines.new ≡ lines.old ++ plan_line (ticks - 1) sys.old.machine }
     ensures few { length lines.new ≤ length lines.old + 1 }
-    ensures span { result ≡ record { ticks = ticks; part = p; worked = true; note = Note.Nothing; reach = Beyond.Nothing } }
+    ensures span { span.new ≡ record { ticks = ticks; part = p; worked = true; note = Note.Nothing; reach = Beyond.Nothing } }
 {
     let last = sys.now() + ticks - 1;
     rest(sys, Some(p), last);
     end_ticks(sys, lines, ticks);
-    Span::quiet(ticks, p, true, Beyond::Nothing)
+    *span = Span::quiet(ticks, p, true, Beyond::Nothing);
 }
 
 // Ticks of a partition that goes on: it takes an interrupt, or executes instructions.
-fn go_on(sys: &mut Sys, lines: &mut Lines, p: PartId, most: u64) -> Span
+fn go_on(sys: &mut Sys, lines: &mut Lines, span: &mut Span, p: PartId, most: u64)
     requires take { CanTake p most sys.old }
     requires timers { NoneDue sys.old.machine.time (part_at p sys.old.machine).clocks }
     requires empty { lines.old ≡ [] }
-    ensures done { (g : Machine) (first : Bool) (ps : PartitionState) → IsMet g p first ps most sys.old → AreDoneFrom result most g sys.old sys.new lines.new }
+    ensures done { (g : Machine) (first : Bool) (ps : PartitionState) → IsMet g p first ps most sys.old → AreDoneFrom span.new most g sys.old sys.new lines.new }
 {
     match interrupt(sys, p) {
-        Some(n) => deliver(sys, lines, p, n),
-        None => execute(sys, lines, p, most),
+        Some(n) => deliver(sys, lines, span, p, n),
+        None => execute(sys, lines, span, p, most),
     }
 }
 
@@ -286,11 +266,11 @@ fn interrupt(sys: &Sys, p: PartId) -> Option<u8>
 }
 
 // A tick in which a partition takes an interrupt.
-fn deliver(sys: &mut Sys, lines: &mut Lines, p: PartId, n: u8) -> Span
+fn deliver(sys: &mut Sys, lines: &mut Lines, span: &mut Span, p: PartId, n: u8)
     requires take { CanTake p 1 sys.old }
     requires interrupt { n < 32 }
     requires empty { lines.old ≡ [] }
-    ensures done { (g : Machine) (first : Bool) (ps : PartitionState) (most : ℕ) → IsMet g p first ps most sys.old → 0 < most → (part_at p sys.old.machine).traps.enabled ≡ true → due (part_at p sys.old.machine).traps ≡ Some n → AreDoneFrom result most g sys.old sys.new lines.new }
+    ensures done { (g : Machine) (first : Bool) (ps : PartitionState) (most : ℕ) → IsMet g p first ps most sys.old → 0 < most → (part_at p sys.old.machine).traps.enabled ≡ true → due (part_at p sys.old.machine).traps ≡ Some n → AreDoneFrom span.new most g sys.old sys.new lines.new }
 {
     next_tick();
     tick_in_passes();
@@ -298,15 +278,15 @@ fn deliver(sys: &mut Sys, lines: &mut Lines, p: PartId, n: u8) -> Span
     keeps_numbers();
     take_interrupt(sys, lines, p, n);
     end_tick(sys, lines, p, Beyond::Nothing);
-    Span::quiet(1, p, true, Beyond::Nothing)
+    *span = Span::quiet(1, p, true, Beyond::Nothing);
 }
 
 // Instructions of a partition, one a tick, up to the first that does more than go.
-fn execute(sys: &mut Sys, lines: &mut Lines, p: PartId, most: u64) -> Span
+fn execute(sys: &mut Sys, lines: &mut Lines, span: &mut Span, p: PartId, most: u64)
     requires take { CanTake p most sys.old }
     requires timers { NoneDue sys.old.machine.time (part_at p sys.old.machine).clocks }
     requires empty { lines.old ≡ [] }
-    ensures done { (g : Machine) (first : Bool) (ps : PartitionState) → IsMet g p first ps most sys.old → NoDelivery (part_at p sys.old.machine).traps → AreDoneFrom result most g sys.old sys.new lines.new }
+    ensures done { (g : Machine) (first : Bool) (ps : PartitionState) → IsMet g p first ps most sys.old → NoDelivery (part_at p sys.old.machine).traps → AreDoneFrom span.new most g sys.old sys.new lines.new }
 {
     undisturbed_ticks();
     calm_ticks();
@@ -317,9 +297,9 @@ fn execute(sys: &mut Sys, lines: &mut Lines, p: PartId, most: u64) -> Span
     let gone = sys.step_many(p, most);
     count_on(sys, p, gone.went);
     match gone.turn {
-        Turn::Went => pass(sys, lines, p, gone.went),
-        Turn::Trap(tt) => trap_after(sys, lines, p, tt, gone.went, gone.pc),
-        Turn::Call => call_after(sys, lines, p, gone.went, gone.pc),
+        Turn::Went => pass(sys, lines, span, p, gone.went),
+        Turn::Trap(tt) => trap_after(sys, lines, span, p, tt, gone.went, gone.pc),
+        Turn::Call => call_after(sys, lines, span, p, gone.went, gone.pc),
     }
 }
 
@@ -333,10 +313,18 @@ fn count_on(sys: &mut Sys, p: PartId, ticks: u64)
 }
 
 // The tick of an instruction that trapped, after so many in which the partition only went.
-fn trap_after(sys: &mut Sys, lines: &mut Lines, p: PartId, tt: u8, went: u64, pc: u32) -> Span
+fn trap_after(
+    sys: &mut Sys,
+    lines: &mut Lines,
+    span: &mut Span,
+    p: PartId,
+    tt: u8,
+    went: u64,
+    pc: u32,
+)
     requires take { CanTakeAfter p went sys.old }
     requires empty { lines.old ≡ [] }
-    ensures done { (g : Machine) (first : Bool) (ps : PartitionState) (most : ℕ) → HasTurned (Turn.Trap tt) g p first ps went most pc sys.old → AreDoneFrom result most g sys.old sys.new lines.new }
+    ensures done { (g : Machine) (first : Bool) (ps : PartitionState) (most : ℕ) → HasTurned (Turn.Trap tt) g p first ps went most pc sys.old → AreDoneFrom span.new most g sys.old sys.new lines.new }
 {
     undisturbed_ticks();
     calm_ticks();
@@ -346,16 +334,16 @@ fn trap_after(sys: &mut Sys, lines: &mut Lines, p: PartId, tt: u8, went: u64, pc
     stand_behind(sys, p, went);
     let reach = meet_trap(sys, lines, p, tt, pc);
     end_tick(sys, lines, p, reach);
-    Span::quiet(went + 1, p, true, reach)
+    *span = Span::quiet(went + 1, p, true, reach);
 }
 
 // The tick of an instruction that called, after so many in which the partition only went.
-fn call_after(sys: &mut Sys, lines: &mut Lines, p: PartId, went: u64, pc: u32) -> Span
+fn call_after(sys: &mut Sys, lines: &mut Lines, span: &mut Span, p: PartId, went: u64, pc: u32)
     requires take { CanTakeAfter p went sys.old }
     requires pc { pc % 4 ≡ 0 }
     requires next { (part_at p sys.old.machine).core.npc ≡ ((part_at p sys.old.machine).core.pc + 4) % 2 ^ 32 }
     requires empty { lines.old ≡ [] }
-    ensures done { (g : Machine) (first : Bool) (ps : PartitionState) (most : ℕ) → HasTurned Turn.Call g p first ps went most pc sys.old → AreDoneFrom result most g sys.old sys.new lines.new }
+    ensures done { (g : Machine) (first : Bool) (ps : PartitionState) (most : ℕ) → HasTurned Turn.Call g p first ps went most pc sys.old → AreDoneFrom span.new most g sys.old sys.new lines.new }
 {
     undisturbed_ticks();
     calm_ticks();
@@ -365,13 +353,13 @@ fn call_after(sys: &mut Sys, lines: &mut Lines, p: PartId, went: u64, pc: u32) -
     stand_behind(sys, p, went);
     let (note, reach) = call(sys, lines, p, pc);
     end_tick(sys, lines, p, reach);
-    Span {
+    *span = Span {
         ticks: went + 1,
         part: p,
         worked: true,
         note,
         reach,
-    }
+    };
 }
 
 // The system as it stands behind so many ticks in which the partition only went: all others have rested.

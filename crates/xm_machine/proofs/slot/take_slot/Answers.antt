@@ -25,14 +25,14 @@ pub returns-then-goes_on : goal.returns-then-goes_on
 returns-then-goes_on c =
     let awake = woken c.args.p c.args.first c.args.sys.now c.meet.new.sys c.wake.new.sys c.requires.take.partition c.meet.ensures c.wake.ensures in
     record {
-      done = done_from c.go_on.result c.args.most c.args.sys.now.machine _ c.args.sys.now c.wake.new.sys c.go_on.new.sys c.go_on.new.lines awake
+      done = done_from c.go_on.new.span c.args.most c.args.sys.now.machine _ c.args.sys.now c.wake.new.sys c.go_on.new.sys c.go_on.new.lines awake
           (c.go_on.ensures.done c.args.sys.now.machine c.args.first _
           (is_met c.args.p c.args.most c.args.first c.args.sys.now c.meet.new.sys c.wake.new.sys c.requires.take c.requires.slot c.requires.stretch c.meet.ensures (sym c.goes_on.ensures ∙ c.if-goes_on.true) awake));
     }
 
 pub returns-else-goes_on : goal.returns-else-goes_on
 returns-else-goes_on c = record {
-  done = done_from c.stay_idle.result c.args.most c.args.sys.now.machine _ c.args.sys.now c.meet.new.sys c.stay_idle.new.sys c.stay_idle.new.lines c.meet.ensures
+  done = done_from c.stay_idle.new.span c.args.most c.args.sys.now.machine _ c.args.sys.now c.meet.new.sys c.stay_idle.new.sys c.stay_idle.new.lines c.meet.ensures
       (c.stay_idle.ensures.done c.args.sys.now.machine _
       (is_idle c.args.p c.args.most c.args.first c.args.sys.now c.meet.new.sys c.requires.take c.requires.slot c.requires.stretch c.meet.ensures c.requires.turns (sym c.goes_on.ensures ∙ c.if-goes_on.false)));
 }

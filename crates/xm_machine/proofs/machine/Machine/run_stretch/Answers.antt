@@ -39,8 +39,8 @@ loop-ends-preserved g c =
 pub returns-in_err-next-clause-steps : goal.returns-in_err-next-clause-steps
 returns-in_err-next-clause-steps g c =
     let p = err_from_is_err_and c.from_residual.result c.from_residual.ensures.1 in
-    let left = left_is c.args.most c.min-left.result c.ticks_left.result c.args.self.now.state c.min-left.ensures
-    (c.ticks_left.ensures.value ∙ ap (λ (m : Meaning). ticks_left m.state.system.conf m.state.clock m.state.time) c.self.view_is) in
+    let left = left_is c.args.most c.min-left.result c.place_of-place.result.left c.args.self.now.state c.min-left.ensures
+    (c.place_of-place.ensures.left ∙ ap (λ (m : Meaning). ticks_left m.state.system.conf m.state.clock m.state.time) c.self.view_is) in
     rw (p.1) (subst (λ (most : ℕ). IsStretchCut most c.args.self.now.state c.step.new.self.state (g.O.Sink.got c.args.out.now) (g.O.Sink.got c.step.new.out)) left
     (stretch_cut c.loop-ends.ticks c.loop-ends.lines c.loop-ends.ends c.min-left.result c.args.self.now c.loop-ends.self c.step.new.self
     (g.O.Sink.got c.args.out.now) (g.O.Sink.got c.loop-ends.out) (g.O.Sink.got c.step.new.out) c.loop-ends.invariant.goes c.loop-ends-test.true c.in_err-next.ensures.step))
@@ -48,8 +48,8 @@ returns-in_err-next-clause-steps g c =
 pub returns-in_err-next-clause-kept : goal.returns-in_err-next-clause-kept
 returns-in_err-next-clause-kept g c =
     let p = err_from_is_err_and c.from_residual.result c.from_residual.ensures.1 in
-    let left = left_is c.args.most c.min-left.result c.ticks_left.result c.args.self.now.state c.min-left.ensures
-    (c.ticks_left.ensures.value ∙ ap (λ (m : Meaning). ticks_left m.state.system.conf m.state.clock m.state.time) c.self.view_is) in
+    let left = left_is c.args.most c.min-left.result c.place_of-place.result.left c.args.self.now.state c.min-left.ensures
+    (c.place_of-place.ensures.left ∙ ap (λ (m : Meaning). ticks_left m.state.system.conf m.state.clock m.state.time) c.self.view_is) in
     rw (p.1) (subst (λ (most : ℕ). KeepsLast most c.args.self.now c.step.new.self) left
     (stretch_cut_kept c.loop-ends.ticks c.loop-ends.lines c.loop-ends.ends c.min-left.result c.args.self.now c.loop-ends.self c.step.new.self
     (g.O.Sink.got c.args.out.now) (g.O.Sink.got c.loop-ends.out) c.loop-ends.invariant.goes c.in_err-next.ensures.kept))
@@ -73,28 +73,28 @@ step-requires-clause-most g c =
       goes.within,
       c.requires.most,
       c.min-left.ensures,
-      min-le_left c.args.most c.ticks_left.result,
+      min-le_left c.args.most c.place_of-place.result.left,
     )
 
 pub returns-after-loop-ends-clause-steps : goal.returns-after-loop-ends-clause-steps
 returns-after-loop-ends-clause-steps g c =
     let goes = c.loop-ends.invariant.goes in
-    let left = left_is c.args.most c.min-left.result c.ticks_left.result c.args.self.now.state c.min-left.ensures
-    (c.ticks_left.ensures.value ∙ ap (λ (m : Meaning). ticks_left m.state.system.conf m.state.clock m.state.time) c.self.view_is) in
+    let left = left_is c.args.most c.min-left.result c.place_of-place.result.left c.args.self.now.state c.min-left.ensures
+    (c.place_of-place.ensures.left ∙ ap (λ (m : Meaning). ticks_left m.state.system.conf m.state.clock m.state.time) c.self.view_is) in
     subst (λ (most : ℕ). AreStepped (record { ticks = c.loop-ends.ticks; lines = c.loop-ends.lines; ends = c.loop-ends.ends }) most c.args.self.now.state c.loop-ends.self.state (g.O.Sink.got c.args.out.now) (g.O.Sink.got c.loop-ends.out)) left
     (stretch_out c.loop-ends.ticks c.loop-ends.lines c.loop-ends.ends c.min-left.result c.args.self.now c.loop-ends.self (g.O.Sink.got c.args.out.now) (g.O.Sink.got c.loop-ends.out) goes (goes.some c.loop-ends-test.false))
 
 pub returns-else-ticks-left-clause-steps : goal.returns-else-ticks-left-clause-steps
 returns-else-ticks-left-clause-steps g c =
     let goes = c.loop-ends.invariant.goes in
-    let left = left_is c.args.most c.min-left.result c.ticks_left.result c.args.self.now.state c.min-left.ensures
-    (c.ticks_left.ensures.value ∙ ap (λ (m : Meaning). ticks_left m.state.system.conf m.state.clock m.state.time) c.self.view_is) in
-    let some = some_left c.args.most c.min-left.result c.ticks_left.result c.min-left.ensures c.requires.some c.ticks_left.ensures.some in
+    let left = left_is c.args.most c.min-left.result c.place_of-place.result.left c.args.self.now.state c.min-left.ensures
+    (c.place_of-place.ensures.left ∙ ap (λ (m : Meaning). ticks_left m.state.system.conf m.state.clock m.state.time) c.self.view_is) in
+    let some = some_left c.args.most c.min-left.result c.place_of-place.result.left c.min-left.ensures c.requires.some c.place_of-place.ensures.some in
     subst (λ (most : ℕ). AreStepped (record { ticks = c.loop-ends.ticks; lines = c.loop-ends.lines; ends = c.loop-ends.ends }) most c.args.self.now.state c.loop-ends.self.state (g.O.Sink.got c.args.out.now) (g.O.Sink.got c.loop-ends.out)) left
     (stretch_out c.loop-ends.ticks c.loop-ends.lines c.loop-ends.ends c.min-left.result c.args.self.now c.loop-ends.self (g.O.Sink.got c.args.out.now) (g.O.Sink.got c.loop-ends.out) goes (omega (arith, some, c.if-ticks-left.false)))
 
 pub returns-else-ticks-left-clause-whole : goal.returns-else-ticks-left-clause-whole
 returns-else-ticks-left-clause-whole g c =
-    let left = left_is c.args.most c.min-left.result c.ticks_left.result c.args.self.now.state c.min-left.ensures
-    (c.ticks_left.ensures.value ∙ ap (λ (m : Meaning). ticks_left m.state.system.conf m.state.clock m.state.time) c.self.view_is) in
+    let left = left_is c.args.most c.min-left.result c.place_of-place.result.left c.args.self.now.state c.min-left.ensures
+    (c.place_of-place.ensures.left ∙ ap (λ (m : Meaning). ticks_left m.state.system.conf m.state.clock m.state.time) c.self.view_is) in
     λ goes_on. omega (arith, left, c.if-ticks-left.false, c.loop-ends.invariant.goes.within)
