@@ -15,6 +15,7 @@ pub mod KeepingLemmas
 pub mod KeptLemmas
 pub mod ListLemmas
 pub mod MildLemmas
+pub mod LaterLemmas
 pub mod NameLemmas
 pub mod NotedLemmas
 pub mod OutLemmas

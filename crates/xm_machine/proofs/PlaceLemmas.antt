@@ -75,11 +75,11 @@ left_found conf clock now number s is =
 runs_on : (m k : ℕ) (s : Slot) → covers m s ≡ true → k < s.start + s.duration - m → covers (m + k) s ≡ true
 runs_on m k s runs below = grind (arith, nat_tests)
 
-runs_now : (m : ℕ) (s : Slot) → covers m s ≡ true → (s.start ≤ m) × (m < s.start + s.duration)
+pub runs_now : (m : ℕ) (s : Slot) → covers m s ≡ true → (s.start ≤ m) × (m < s.start + s.duration)
 runs_now m s runs = (grind (arith, nat_tests), grind (arith, nat_tests))
 
 -- it is told so
-told_so : (m number : ℕ) (slots : List Slot) (s : Slot) → slice_get slots number ≡ Some s → covers m s ≡ true → IsHere m slots (here_in m (number, s))
+pub told_so : (m number : ℕ) (slots : List Slot) (s : Slot) → slice_get slots number ≡ Some s → covers m s ≡ true → IsHere m slots (here_in m (number, s))
 told_so m number slots s is runs = rw is (record { part = refl; covers = runs_now m s runs; first = (λ first. grind (arith, nat_tests), λ first. grind (arith, nat_tests)) })
 
 -- and it ends in its frame
@@ -97,17 +97,20 @@ in_place g number s fits in_frame is runs =
     let begun = in_frame.begun in
     let now = runs_now (moment g.clock g.time) s runs in
     record {
-      slot = sym (here_found g.system.conf g.clock g.time number s (found plan (moment g.clock g.time) runs));
-      covers = told_so (moment g.clock g.time) number (slots_of g.system.conf g.clock.plan) s is runs;
-      left = left_found g.system.conf g.clock g.time number s (found plan (moment g.clock g.time) runs);
-      stretch = record {
-        alike = λ k below.
-            let there : moment g.clock (g.time + k) ≡ moment g.clock g.time + k = omega (arith, begun) in
-            slot_found g.system.conf g.clock (g.time + k) number s (found plan (moment g.clock (g.time + k)) (ap (λ m. covers m s) there ∙ runs_on (moment g.clock g.time) k s runs below))
-            ∙ sym (slot_found g.system.conf g.clock g.time number s (found plan (moment g.clock g.time) runs));
-        within = let ends = ends_inside (frame_of g.system.conf g.clock.plan) number (slots_of g.system.conf g.clock.plan) s plan.inside is in omega (arith, ends, begun, now.0, now.1);
+      at = record {
+        slot = sym (here_found g.system.conf g.clock g.time number s (found plan (moment g.clock g.time) runs));
+        covers = told_so (moment g.clock g.time) number (slots_of g.system.conf g.clock.plan) s is runs;
+        stretch = record {
+          alike = λ k below.
+              let there : moment g.clock (g.time + k) ≡ moment g.clock g.time + k = omega (arith, begun) in
+              slot_found g.system.conf g.clock (g.time + k) number s (found plan (moment g.clock (g.time + k)) (ap (λ m. covers m s) there ∙ runs_on (moment g.clock g.time) k s runs below))
+              ∙ sym (slot_found g.system.conf g.clock g.time number s (found plan (moment g.clock g.time) runs));
+          within = let ends = ends_inside (frame_of g.system.conf g.clock.plan) number (slots_of g.system.conf g.clock.plan) s plan.inside is in omega (arith, ends, begun, now.0, now.1);
+        };
+        begun = begun;
+        some = omega (arith, now.0, now.1);
       };
-      some = omega (arith, now.0, now.1);
+      left = left_found g.system.conf g.clock g.time number s (found plan (moment g.clock g.time) runs);
     }
   where
     found : IsPlan g.system.conf g.clock.plan → (m : ℕ) → covers m s ≡ true → slot_from m 0 (slots_of g.system.conf g.clock.plan) ≡ Some (number, s)

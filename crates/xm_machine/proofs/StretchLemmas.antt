@@ -41,17 +41,17 @@ unfolding step after happened happened_by ends_in
 step_runs g runs goes = ap (λ (b : Bool). (step_unless b g).halted) runs ∙ no_halt (machine.act_of (local g)) goes
 
 -- none of so many ticks has an act that ends a stretch
-abbrev AllQuiet : ℕ → Machine → Type 0
+abbrev pub AllQuiet : ℕ → Machine → Type 0
 AllQuiet count g = (k : ℕ) → k < count → ends_in (run g k) ≡ false
 
-quiet_runs : (count : ℕ) (g : Machine) → g.halted ≡ false → AllQuiet count g → (run g count).halted ≡ false
+pub quiet_runs : (count : ℕ) (g : Machine) → g.halted ≡ false → AllQuiet count g → (run g count).halted ≡ false
 quiet_runs zero g runs goes = runs
 quiet_runs (suc count) g runs goes =
     ap (λ (m : Machine). m.halted) (run_more g count)
     ∙ step_runs (run g count) (quiet_runs count g runs (λ k below. goes k (omega (arith, below)))) (goes count (omega arith))
 
 -- quiet ticks of which the last has none either
-all_quiet : (count : ℕ) (g : Machine) → AreQuiet count g → (0 < count → ends_in (run g (count - 1)) ≡ false) → AllQuiet count g
+pub all_quiet : (count : ℕ) (g : Machine) → AreQuiet count g → (0 < count → ends_in (run g (count - 1)) ≡ false) → AllQuiet count g
 all_quiet count g quiet last k below =
     ⊎_elim (λ less. quiet k less) (λ from. ap (λ (n : ℕ). ends_in (run g n)) (the_last from) ∙ last (omega (arith, below))) (cases_lt (k + 1) count)
   where

@@ -23,8 +23,29 @@ use hypercalls::Sys;
 use xm_base::{Mode, PartId};
 use xm_report::{Line, Move};
 
-/// Ends a tick in which partition `p` worked.
+/// Ends a tick in which partition `p` worked. What reaches beyond no partition, as nearly all does, goes the short way.
+#[inline(always)]
 pub(crate) fn end_tick(sys: &mut Sys, lines: &mut Lines, p: PartId, reach: Beyond)
+    requires time { sys.old.machine.time + 1 < 2 ^ 64 }
+    requires ticks { sys.old.machine.ticks + 1 < 2 ^ 64 }
+    requires frame { IsInFrame sys.old.machine.system.conf sys.old.machine.clock sys.old.machine.time }
+    requires one { IsUponOne reach sys.old.machine }
+    requires room { length lines.old ≤ 4 }
+    ensures state { sys.new ≡ with_machine (ended_by (act_of reach) p sys.old.machine) sys.old }
+    ensures lines { lines.new ≡ lines.old ++ ending_lines (act_of reach) sys.old.machine }
+    ensures few { length lines.new ≤ 24 }
+{
+    match reach {
+        Beyond::Nothing => end_plainly(sys, lines, p),
+        Beyond::Order { .. } | Beyond::Plan { .. } | Beyond::Whole(_) => end_beyond(
+            sys, lines, p, reach,
+        ),
+    }
+}
+
+// The same, whatever its reach.
+#[inline(never)]
+fn end_beyond(sys: &mut Sys, lines: &mut Lines, p: PartId, reach: Beyond)
     requires time { sys.old.machine.time + 1 < 2 ^ 64 }
     requires ticks { sys.old.machine.ticks + 1 < 2 ^ 64 }
     requires frame { IsInFrame sys.old.machine.system.conf sys.old.machine.clock sys.old.machine.time }

@@ -1,6 +1,6 @@
 //! What a machine keeps of its last tick, and what each partition was told in it.
 
-ghost use Rattle.std.specs.Prelude.{◌≡◌, ◌-◌, ◌<◌, ◌≤◌, IfOk, length, take, true};
+ghost use Rattle.std.specs.Prelude.{◌≡◌, ◌+◌, ◌-◌, ◌<◌, ◌≤◌, [], IfOk, false, length, take, true};
 ghost use Rattle.guest_bus.specs.Memory.{all_from, bytes_at, is_readable};
 ghost use Rattle.machine_model.specs.Machine.{turn_here};
 ghost use Rattle.slot_runs.specs.Calm.{turn_after};
@@ -9,18 +9,26 @@ ghost use Rattle.whole_system.specs.Serving.{CanBeTold};
 ghost use Rattle.whole_system.specs.State.{areas_in, memory_of};
 ghost use Rattle.xm_machine.specs.CueValues.{cue_value};
 ghost use Rattle.xm_machine.specs.Kept.{bytes_noted, kept_by, kept_cue, no_kept};
+ghost use Rattle.xm_machine.specs.Machine.{IsMachine};
+ghost use Rattle.xm_machine.specs.Place.{IsAt};
+ghost use Rattle.xm_machine.specs.Span.{IsSpanDone};
 
 use crate::beyond::Beyond;
 use crate::cue::{
     Cue, Sight, Traffic, is_slot_of, mine_of, order_for, sight_of, traffic_heard, whole_of,
 };
-use crate::slot::Span;
+use crate::lines::Lines;
+use crate::place::Place;
+use crate::slot::{Span, run_span};
 use cyclic_plans::Here;
 use hypercalls::{Note, Sys};
+use machine_model::{
+    keeps_facts, keeps_hardware_clock, keeps_numbers, keeps_plans, tells_few_bytes,
+};
 use std::alloc::Global;
 use std::marker::Model;
 use whole_system::read_memory;
-use xm_base::{Memory, PartId};
+use xm_base::{Memory, PartId, TICKS};
 use xm_conf::Conf;
 
 /// How many bytes a message has at most. What a partition is shown has fewer.
@@ -31,12 +39,8 @@ const MESSAGE_BYTES: usize = 4096;
 pub(crate) struct Kept {
     /// The slot that the tick was in.
     slot: Option<Here>,
-    /// Whether the partition of the slot worked in it.
-    worked: bool,
-    /// What its call told.
-    note: Note,
-    /// How its work reached beyond it.
-    reach: Beyond,
+    /// The ticks of which it was the last.
+    span: Span,
     /// Room for the bytes that the note named.
     bytes: Vec<u8>,
     /// How many they are.
@@ -51,7 +55,7 @@ impl Model for Kept {
 
     ghost Value = { plain.Kept };
 
-    ghost view = { λ k. kept_with (turn_here k.slot) k.worked k.note k.reach (take k.size k.bytes.items) };
+    ghost view = { λ k. kept_with (turn_here k.slot) k.span.worked k.span.note k.span.reach (take k.size k.bytes.items) };
 
     ghost invariant = { λ k. (length k.bytes.items ≡ 4096) × (k.size ≤ 4096) };
 }
@@ -63,9 +67,7 @@ impl Kept {
     {
         Ok(Kept {
             slot: None,
-            worked: false,
-            note: Note::Nothing,
-            reach: Beyond::Nothing,
+            span: Span::quiet(0, 0, false, Beyond::Nothing),
             bytes: room(alloc, MESSAGE_BYTES)?,
             size: 0,
         })
@@ -79,19 +81,27 @@ impl Kept {
         }
     }
 
-    /// Keeps the last tick of a span that began in this slot. The bytes that its note names still stand in its partition's memory.
-    pub(crate) fn keep(&mut self, sys: &Sys, slot: Option<Here>, span: &Span)
-        requires partition { span.now.part < length sys.now.machine.parts }
-        requires readable { CanBeTold span.now.note (areas_in span.now.part sys.now.machine) }
-        requires few { length (bytes_noted span.now.note (memory_of span.now.part sys.now.machine)) ≤ 4096 }
-        requires some { 0 < span.now.ticks }
-        ensures { self.new ≡ kept_by (turn_after (span.now.ticks - 1) (turn_here slot)) span.now.worked span.now.note span.now.reach (memory_of span.now.part sys.now.machine) }
+    /// Ticks of the slot or gap at this place, at most so many, up to the first in which more is done than instructions that go. The last
+    /// of them is kept. The bytes that its note names still stand in its partition's memory.
+    pub(crate) fn run(&mut self, sys: &mut Sys, lines: &mut Lines, place: Place, most: u64) -> Span
+        requires machine { IsMachine sys.old }
+        requires place { IsAt place sys.old.machine }
+        requires running { sys.old.machine.halted ≡ false }
+        requires some { 0 < most }
+        requires ticks { sys.old.machine.ticks + most ≤ TICKS }
+        requires empty { lines.old ≡ [] }
+        ensures done { IsSpanDone result most sys.old sys.new lines.new }
+        ensures kept { self.new ≡ kept_by (turn_after (result.ticks - 1) (turn_here place.slot)) result.worked result.note result.reach (memory_of result.part sys.new.machine) }
     {
-        self.slot = slot_after(span.ticks - 1, slot);
-        self.worked = span.worked;
-        self.note = span.note;
-        self.reach = span.reach;
-        self.size = read_noted(sys, span.part, span.note, &mut self.bytes);
+        keeps_facts();
+        keeps_hardware_clock();
+        keeps_numbers();
+        keeps_plans();
+        tells_few_bytes();
+        run_span(sys, lines, &mut self.span, place, most);
+        self.slot = slot_after(self.span.ticks - 1, place.slot);
+        self.size = read_noted(sys, self.span.part, self.span.note, &mut self.bytes);
+        self.span
     }
 
     /// What partition `p` was told.
@@ -104,15 +114,15 @@ impl Kept {
         let own = is_slot_of(self.slot, p);
         Cue {
             mine: mine_of(self.slot, p),
-            traffic: if own && self.worked {
+            traffic: if own && self.span.worked {
                 Traffic::Nothing
             } else {
-                traffic_heard(conf, p, self.note, bytes)
+                traffic_heard(conf, p, self.span.note, bytes)
             },
-            order: order_for(self.reach, p),
-            whole: whole_of(self.reach),
+            order: order_for(self.span.reach, p),
+            whole: whole_of(self.span.reach),
             seen: if own {
-                sight_of(self.note, bytes)
+                sight_of(self.span.note, bytes)
             } else {
                 Sight::Nothing
             },

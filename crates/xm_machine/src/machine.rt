@@ -19,19 +19,18 @@ ghost use Rattle.xm_machine.specs.Heard.{IsRunHeard};
 ghost use Rattle.xm_machine.specs.Kept.{no_kept};
 ghost use Rattle.xm_machine.specs.Machine.{IsCounted};
 ghost use Rattle.xm_machine.specs.Outcome.{HasWriteCause, IsRun, IsTick, first_line, last_line};
+ghost use Rattle.xm_machine.specs.Place.{IsAt};
 ghost use Rattle.xm_machine.specs.Steps.{RunsTicks, Tells};
 ghost use Rattle.xm_machine.specs.Stretch.{AreWhole, KeepsStepped, Steps, Stretches, StretchesAlone, StretchesCued, left_of};
 ghost use Rattle.xm_ports.specs.Channels.{shapes_of};
 ghost use Rattle.xm_report.specs.Report.{line_of};
 
-use crate::beyond::Beyond;
 use crate::cue::Cue;
 use crate::kept::Kept;
 use crate::lines::Lines;
-use crate::place::place_of;
+use crate::place::{Place, later, place_of};
 use crate::report::{end_parts, tell};
 use crate::run::Ran;
-use crate::slot::{Span, run_span};
 use crate::stretch::{Stepped, ends_stretch, stepped_by};
 use crate::{ending, order};
 use core_files::{core_into, core_length};
@@ -40,7 +39,7 @@ use hypercalls::{Inputs, Sys};
 use loaded_system::System;
 use machine_model::{
     all_ticks, boots_alone, keeps_facts, keeps_hardware_clock, keeps_numbers, keeps_plans,
-    own_lines, tells_few_bytes,
+    own_lines,
 };
 use std::alloc::Global;
 use std::marker::Model;
@@ -265,17 +264,36 @@ impl Machine {
         ensures heard { IsRunHeard self.old.state self.new.state (⟦<Board as ViewBoard>⟧.board_view board.old) (⟦<Board as ViewBoard>⟧.board_view board.new) }
         ensures counters { IsCounted self.new.state }
     {
+        let place = place_of(&self.sys, self.kept.slot_number());
+        self.step_at(place, most, out, board)
+    }
+
+    // The same, at this place in the plan.
+    fn step_at<O: Sink>(
+        &mut self,
+        place: Place,
+        most: u64,
+        out: &mut O,
+        board: &mut Board,
+    ) -> Result<Stepped, WriteFault>
+        requires place { IsAt place self.old.state }
+        requires running { self.old.state.halted ≡ false }
+        requires some { 0 < most }
+        requires most { self.old.state.ticks + most ≤ TICKS }
+        ensures step { Steps result most self.old.state self.new.state (O.got out.old) (O.got out.new) }
+        ensures kept { KeepsStepped result most self.old self.new }
+        ensures few { IfOk result (λ stepped. stepped.lines ≤ 25) }
+        ensures cause { HasWriteCause result (O.faults out.old) (O.faults out.new) }
+        ensures heard { IsRunHeard self.old.state self.new.state (⟦<Board as ViewBoard>⟧.board_view board.old) (⟦<Board as ViewBoard>⟧.board_view board.new) }
+        ensures counters { IsCounted self.new.state }
+    {
         keeps_facts();
         keeps_hardware_clock();
         keeps_numbers();
         keeps_plans();
-        tells_few_bytes();
         self.lines.clear();
         let begun = self.sys.ticks();
-        let place = place_of(&self.sys, self.kept.slot_number());
-        let mut span = Span::quiet(0, 0, false, Beyond::Nothing);
-        run_span(&mut self.sys, &mut self.lines, &mut span, place, most);
-        self.kept.keep(&self.sys, place.slot, &span);
+        let span = self.kept.run(&mut self.sys, &mut self.lines, place, most);
         let last = begun + span.ticks - 1;
         let ticks = span.ticks;
         let ends = ends_stretch(span.reach);
@@ -313,13 +331,14 @@ impl Machine {
         ensures counters { IsCounted self.new.state }
     {
         keeps_numbers();
-        let place = place_of(&self.sys, self.kept.slot_number());
+        let mut place = place_of(&self.sys, self.kept.slot_number());
         let left = most.min(place.left);
         let mut ticks = 0;
         let mut lines = 0;
         let mut ends = false;
         while !ends && ticks < left {
-            let next = self.step(left - ticks, out, board)?;
+            let next = self.step_at(place, left - ticks, out, board)?;
+            place = later(place, next.ticks);
             ticks += next.ticks;
             lines += next.lines;
             ends = next.ends;

@@ -4,7 +4,7 @@ ghost use Rattle.std.specs.Prelude.{◌≡◌, ℕ, ◌+◌, ◌<◌, ◌≤◌,
 ghost use Rattle.cyclic_plans.specs.PlanClock.{IsInFrame, here, moment, slot_at, ticks_left};
 ghost use Rattle.cyclic_plans.specs.Slots.{IsHere, frame_of, slots_of};
 ghost use Rattle.xm_machine.specs.Machine.{IsMachine};
-ghost use Rattle.xm_machine.specs.Place.{IsPlace, place_in, place_numbered};
+ghost use Rattle.xm_machine.specs.Place.{IsPlace, past, place_after, place_in, place_numbered};
 
 use cyclic_plans::Here;
 use hypercalls::Sys;
@@ -26,6 +26,31 @@ pub(crate) fn place_of(sys: &Sys, number: u8) -> Place
     match near(sys, number) {
         Some(place) => place,
         None => search(sys),
+    }
+}
+
+/// The place so many ticks later, in the same slot or gap.
+pub(crate) fn later(place: Place, ticks: u64) -> Place
+    ensures { result ≡ place_after ticks place }
+{
+    let slot = match place.slot {
+        Some(slot) => Some(past(slot)),
+        None => None,
+    };
+    Place {
+        slot,
+        left: place.left.saturating_sub(ticks),
+    }
+}
+
+// What is told of a slot past its first tick.
+fn past(slot: Here) -> Here
+    ensures { result ≡ past slot }
+{
+    Here {
+        slot: slot.slot,
+        part: slot.part,
+        first: false,
     }
 }
 

@@ -13,7 +13,7 @@ ghost use Rattle.slot_runs.specs.Spans.{IsSlotOf, IsStretch, after_span, plan_li
 ghost use Rattle.slot_runs.specs.Undisturbed.{NoneFallsDue};
 ghost use Rattle.virt_traps.specs.Virtual.{due};
 ghost use Rattle.xm_machine.specs.Machine.{IsMachine};
-ghost use Rattle.xm_machine.specs.Place.{IsPlace};
+ghost use Rattle.xm_machine.specs.Place.{IsAt};
 ghost use Rattle.xm_machine.specs.Span.{AreDoneFrom, CanTake, CanTakeAfter, HasTurned, IsIdle, IsMet, IsSpanDone, NoneDue, behind, counted_on};
 
 use crate::beyond::Beyond;
@@ -40,7 +40,7 @@ const EXECUTION_TIMER: u8 = 1;
 const SLOT_START: u8 = 5;
 
 /// Ticks of one slot or gap that were done, of which only the last may have lines.
-#[derive(Debug, Drop)]
+#[derive(Clone, Copy, Debug)]
 pub(crate) struct Span {
     /// How many there were, with the last.
     pub(crate) ticks: u64,
@@ -73,7 +73,7 @@ impl Span {
 /// are those of the last.
 pub(crate) fn run_span(sys: &mut Sys, lines: &mut Lines, span: &mut Span, place: Place, most: u64)
     requires machine { IsMachine sys.old }
-    requires place { IsPlace place sys.old.machine }
+    requires place { IsAt place sys.old.machine }
     requires running { sys.old.machine.halted ≡ false }
     requires some { 0 < most }
     requires ticks { sys.old.machine.ticks + most ≤ 4000000000 }

@@ -1,11 +1,13 @@
 use Rattle.std.proofs.Common.{◌∙◌, ap, arith, refl, subst, ℕ}
-use Rattle.std.proofs.Math.Nat.{min-le_left}
+use Rattle.std.proofs.Math.Nat.{min-le_left, min-le_right}
 use Rattle.std.proofs.lemmas.Result.{err_from_is_err_and}
 use Rattle.cyclic_plans.specs.PlanClock.{ticks_left}
 use Rattle.xm_machine.specs.Cues.{KeepsLast}
 use Rattle.xm_machine.specs.Machine.{IsCounted, Meaning}
+use Rattle.xm_machine.specs.Place.{IsAt}
 use Rattle.xm_machine.specs.Stretch.{AreStepped, IsStretchCut}
 use Rattle.xm_machine.proofs.HeardLemmas.{heard_on, none_heard}
+use Rattle.xm_machine.proofs.LaterLemmas.{place_on}
 use Rattle.xm_machine.proofs.StretchLemmas.{left_is, some_left, stretch_begins, stretch_counted, stretch_cut, stretch_cut_kept, stretch_on, stretch_out, stretch_runs}
 use Rattle.xm_machine.proofs.machine.Machine.run_stretch.Goals as goal
 
@@ -15,10 +17,12 @@ loop-ends-init g c = record {
   faults = refl;
   heard = none_heard c.keeps_numbers.ensures.runs c.args.self.now.state (record { places = _; marks = _ });
   counted = subst (λ (m : Meaning). IsCounted m.state) c.self.view_is c.self.invariant.counted;
+  place = λ goes some. subst (λ (m : Meaning). IsAt c.place_of-place.result m.state) c.self.view_is c.place_of-place.ensures.at;
+  room = omega (arith, c.min-left.ensures, min-le_right c.args.most c.place_of-place.result.left);
 }
 
-pub step-requires-clause-running : goal.step-requires-clause-running
-step-requires-clause-running g c =
+pub step_at-requires-clause-running : goal.step_at-requires-clause-running
+step_at-requires-clause-running g c =
     stretch_runs c.loop-ends.ticks c.loop-ends.lines c.loop-ends.ends c.min-left.result c.args.self.now c.loop-ends.self (g.O.Sink.got c.args.out.now) (g.O.Sink.got c.loop-ends.out)
     c.loop-ends.invariant.goes c.loop-ends-test.true c.requires.running
 
@@ -27,13 +31,19 @@ loop-ends-preserved g c =
     let are = c.in_ok-next.ensures.step in
     let goes = c.loop-ends.invariant.goes in
     record {
-      goes = stretch_on c.loop-ends.ticks c.loop-ends.lines c.loop-ends.ends c.min-left.result c.in_ok-next.next c.args.self.now c.loop-ends.self c.step.new.self
-          (g.O.Sink.got c.args.out.now) (g.O.Sink.got c.loop-ends.out) (g.O.Sink.got c.step.new.out) goes c.loop-ends-test.true are c.in_ok-next.ensures.few c.in_ok-next.ensures.kept;
+      goes = stretch_on c.loop-ends.ticks c.loop-ends.lines c.loop-ends.ends c.min-left.result c.in_ok-next.next c.args.self.now c.loop-ends.self c.step_at.new.self
+          (g.O.Sink.got c.args.out.now) (g.O.Sink.got c.loop-ends.out) (g.O.Sink.got c.step_at.new.out) goes c.loop-ends-test.true are c.in_ok-next.ensures.few c.in_ok-next.ensures.kept;
       faults = c.in_ok-next.ensures.cause ∙ c.loop-ends.invariant.faults;
-      heard = heard_on c.keeps_numbers.ensures.runs c.args.self.now.state c.loop-ends.self.state c.step.new.self.state c.loop-ends.ticks are.step.done
+      heard = heard_on c.keeps_numbers.ensures.runs c.args.self.now.state c.loop-ends.self.state c.step_at.new.self.state c.loop-ends.ticks are.step.done
           (record { places = _; marks = _ }) (record { places = _; marks = _ }) (record { places = _; marks = _ })
           goes.are.state are.step.are.state c.loop-ends.invariant.heard c.in_ok-next.ensures.heard;
       counted = c.in_ok-next.ensures.counters;
+      place = λ goes_on fewer. rw c.later-place.ensures
+          (place_on c.keeps_numbers.ensures.runs c.in_ok-next.next c.loop-ends.place _ c.loop-ends.self.state c.step_at.new.self.state (g.O.Sink.got c.loop-ends.out) (g.O.Sink.got c.step_at.new.out)
+          (c.loop-ends.invariant.place c.loop-ends-test.true c.if-ticks-left.true) are
+          (stretch_runs c.loop-ends.ticks c.loop-ends.lines c.loop-ends.ends c.min-left.result c.args.self.now c.loop-ends.self (g.O.Sink.got c.args.out.now) (g.O.Sink.got c.loop-ends.out)
+          goes c.loop-ends-test.true c.requires.running) goes_on (omega (arith, fewer, c.loop-ends.invariant.room)));
+      room = rw c.later-place.ensures (omega (arith, c.loop-ends.invariant.room));
     }
 
 pub returns-in_err-next-clause-steps : goal.returns-in_err-next-clause-steps
@@ -41,29 +51,29 @@ returns-in_err-next-clause-steps g c =
     let p = err_from_is_err_and c.from_residual.result c.from_residual.ensures.1 in
     let left = left_is c.args.most c.min-left.result c.place_of-place.result.left c.args.self.now.state c.min-left.ensures
     (c.place_of-place.ensures.left ∙ ap (λ (m : Meaning). ticks_left m.state.system.conf m.state.clock m.state.time) c.self.view_is) in
-    rw (p.1) (subst (λ (most : ℕ). IsStretchCut most c.args.self.now.state c.step.new.self.state (g.O.Sink.got c.args.out.now) (g.O.Sink.got c.step.new.out)) left
-    (stretch_cut c.loop-ends.ticks c.loop-ends.lines c.loop-ends.ends c.min-left.result c.args.self.now c.loop-ends.self c.step.new.self
-    (g.O.Sink.got c.args.out.now) (g.O.Sink.got c.loop-ends.out) (g.O.Sink.got c.step.new.out) c.loop-ends.invariant.goes c.loop-ends-test.true c.in_err-next.ensures.step))
+    rw (p.1) (subst (λ (most : ℕ). IsStretchCut most c.args.self.now.state c.step_at.new.self.state (g.O.Sink.got c.args.out.now) (g.O.Sink.got c.step_at.new.out)) left
+    (stretch_cut c.loop-ends.ticks c.loop-ends.lines c.loop-ends.ends c.min-left.result c.args.self.now c.loop-ends.self c.step_at.new.self
+    (g.O.Sink.got c.args.out.now) (g.O.Sink.got c.loop-ends.out) (g.O.Sink.got c.step_at.new.out) c.loop-ends.invariant.goes c.loop-ends-test.true c.in_err-next.ensures.step))
 
 pub returns-in_err-next-clause-kept : goal.returns-in_err-next-clause-kept
 returns-in_err-next-clause-kept g c =
     let p = err_from_is_err_and c.from_residual.result c.from_residual.ensures.1 in
     let left = left_is c.args.most c.min-left.result c.place_of-place.result.left c.args.self.now.state c.min-left.ensures
     (c.place_of-place.ensures.left ∙ ap (λ (m : Meaning). ticks_left m.state.system.conf m.state.clock m.state.time) c.self.view_is) in
-    rw (p.1) (subst (λ (most : ℕ). KeepsLast most c.args.self.now c.step.new.self) left
-    (stretch_cut_kept c.loop-ends.ticks c.loop-ends.lines c.loop-ends.ends c.min-left.result c.args.self.now c.loop-ends.self c.step.new.self
+    rw (p.1) (subst (λ (most : ℕ). KeepsLast most c.args.self.now c.step_at.new.self) left
+    (stretch_cut_kept c.loop-ends.ticks c.loop-ends.lines c.loop-ends.ends c.min-left.result c.args.self.now c.loop-ends.self c.step_at.new.self
     (g.O.Sink.got c.args.out.now) (g.O.Sink.got c.loop-ends.out) c.loop-ends.invariant.goes c.in_err-next.ensures.kept))
 
 pub returns-in_err-next-clause-heard : goal.returns-in_err-next-clause-heard
 returns-in_err-next-clause-heard g c =
     let goes = c.loop-ends.invariant.goes in
     let next = c.in_err-next.ensures.step in
-    heard_on c.keeps_numbers.ensures.runs c.args.self.now.state c.loop-ends.self.state c.step.new.self.state c.loop-ends.ticks next.cut.done
+    heard_on c.keeps_numbers.ensures.runs c.args.self.now.state c.loop-ends.self.state c.step_at.new.self.state c.loop-ends.ticks next.cut.done
     (record { places = _; marks = _ }) (record { places = _; marks = _ }) (record { places = _; marks = _ })
     goes.are.state next.cut.are.state c.loop-ends.invariant.heard c.in_err-next.ensures.heard
 
-pub step-requires-clause-most : goal.step-requires-clause-most
-step-requires-clause-most g c =
+pub step_at-requires-clause-most : goal.step_at-requires-clause-most
+step_at-requires-clause-most g c =
     let goes = c.loop-ends.invariant.goes in
     let runs = stretch_runs c.loop-ends.ticks c.loop-ends.lines c.loop-ends.ends c.min-left.result c.args.self.now c.loop-ends.self (g.O.Sink.got c.args.out.now) (g.O.Sink.got c.loop-ends.out)
     goes c.loop-ends-test.true c.requires.running in
@@ -89,7 +99,7 @@ returns-else-ticks-left-clause-steps g c =
     let goes = c.loop-ends.invariant.goes in
     let left = left_is c.args.most c.min-left.result c.place_of-place.result.left c.args.self.now.state c.min-left.ensures
     (c.place_of-place.ensures.left ∙ ap (λ (m : Meaning). ticks_left m.state.system.conf m.state.clock m.state.time) c.self.view_is) in
-    let some = some_left c.args.most c.min-left.result c.place_of-place.result.left c.min-left.ensures c.requires.some c.place_of-place.ensures.some in
+    let some = some_left c.args.most c.min-left.result c.place_of-place.result.left c.min-left.ensures c.requires.some c.place_of-place.ensures.at.some in
     subst (λ (most : ℕ). AreStepped (record { ticks = c.loop-ends.ticks; lines = c.loop-ends.lines; ends = c.loop-ends.ends }) most c.args.self.now.state c.loop-ends.self.state (g.O.Sink.got c.args.out.now) (g.O.Sink.got c.loop-ends.out)) left
     (stretch_out c.loop-ends.ticks c.loop-ends.lines c.loop-ends.ends c.min-left.result c.args.self.now c.loop-ends.self (g.O.Sink.got c.args.out.now) (g.O.Sink.got c.loop-ends.out) goes (omega (arith, some, c.if-ticks-left.false)))
 
@@ -98,3 +108,6 @@ returns-else-ticks-left-clause-whole g c =
     let left = left_is c.args.most c.min-left.result c.place_of-place.result.left c.args.self.now.state c.min-left.ensures
     (c.place_of-place.ensures.left ∙ ap (λ (m : Meaning). ticks_left m.state.system.conf m.state.clock m.state.time) c.self.view_is) in
     λ goes_on. omega (arith, left, c.if-ticks-left.false, c.loop-ends.invariant.goes.within)
+
+pub step_at-requires-clause-place : goal.step_at-requires-clause-place
+step_at-requires-clause-place g c = c.loop-ends.invariant.place c.loop-ends-test.true c.if-ticks-left.true

@@ -3,7 +3,7 @@ use Rattle.machine_model.specs.Partition.{ordered}
 use Rattle.machine_model.specs.View.{view_of}
 use Rattle.slot_runs.specs.Passes.{part_at}
 use Rattle.xm_machine.proofs.EndLemmas.{order_then}
-use Rattle.xm_machine.proofs.ending.end_tick.Goals as goal
+use Rattle.xm_machine.proofs.ending.end_beyond.Goals as goal
 
 pub returns-in-Order-clause-lines : goal.returns-in-Order-clause-lines
 returns-in-Order-clause-lines c =
