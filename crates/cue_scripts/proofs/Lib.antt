@@ -11,3 +11,4 @@ mod TakeLemmas
 mod TakePartLemmas
 mod WholeAgainLemmas
 mod WholeTakeLemmas
+mod WriterLemmas

@@ -7,3 +7,4 @@ pub mod Script
 pub mod Spelling
 pub mod Texts
 pub mod Values
+pub mod Written

@@ -8,8 +8,10 @@ mod law;
 mod put;
 mod reading;
 mod script;
+mod sizes;
 #[cfg(test)]
 mod tests;
+mod writer;
 mod writing;
 
 pub use cue::{ScriptCue, ScriptEntry, ScriptEvent, ScriptSight, ScriptSlot, ScriptTraffic};
@@ -17,4 +19,5 @@ pub use fault::ScriptFault;
 pub use law::{none_is_prefix, read_is_written, written_is_read};
 pub use reading::read_script;
 pub use script::Script;
+pub use writer::ScriptWriter;
 pub use writing::build_script;

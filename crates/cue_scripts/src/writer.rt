@@ -1,0 +1,158 @@
+//! The writing of a script cue by cue.
+
+ghost use Rattle.std.specs.Prelude.{◌≡◌, ◌<◌, ◌++◌, [], ◌∷◌, List, OnOk};
+ghost use Rattle.machine_model.specs.Cue.{Cue};
+ghost use Rattle.cue_scripts.specs.Entries.{Other};
+ghost use Rattle.cue_scripts.specs.Kept.{HasCueRanges};
+ghost use Rattle.cue_scripts.specs.Spelling.{script_text};
+ghost use Rattle.cue_scripts.specs.Values.{cue_value};
+ghost use Rattle.cue_scripts.specs.Written.{IsFile, IsWithin, IsWritten, closed, is_open, nothing_written, repeated, with_cue, with_entry};
+
+use crate::cue::{ScriptCue, plain_kind};
+use crate::fault::ScriptFault;
+use crate::sizes::other_length;
+use crate::writing::{put_alike, put_head, put_other};
+use std::alloc::Global;
+use std::marker::Model;
+use xm_base::{FILE_BYTES, Memory, PartId, TICKS};
+
+/// The bytes of the head of a script.
+const HEAD_BYTES: u64 = 15;
+
+/// The bytes of an entry that repeats a plain cue.
+const ALIKE_BYTES: u64 = 5;
+
+/// A script that is written cue by cue. Its text is kept as far as a file may have it, and its size is counted to the end.
+#[derive(Debug, Drop)]
+pub struct ScriptWriter {
+    // The text of the entries that are whole.
+    text: Vec<u8>,
+    size: u64,
+    // Which plain cue is repeated last, and how often.
+    own: Option<bool>,
+    count: u32,
+    cues: u32,
+}
+
+impl Model for ScriptWriter {
+    ghost use Rattle.cue_scripts.specs.Written.{IsWithin, Written};
+
+    ghost Value = { Written };
+
+    ghost view = { λ w. record { text = w.text.items; size = w.size; own = w.own; count = w.count; cues = w.cues } };
+
+    ghost invariant = { λ w. IsWithin 0 (record { text = w.text.items; size = w.size; own = w.own; count = w.count; cues = w.cues }) };
+}
+
+impl ScriptWriter {
+    /// A script without a cue.
+    pub fn new(alloc: Global) -> ScriptWriter
+        ensures value { result ≡ nothing_written }
+        ensures written { IsWritten [] result }
+    {
+        ScriptWriter {
+            text: Vec::new(alloc),
+            size: 0,
+            own: None,
+            count: 0,
+            cues: 0,
+        }
+    }
+
+    /// How many cues are written.
+    pub fn cues(&self) -> u32
+        ensures { result ≡ self.now.cues }
+    {
+        self.cues
+    }
+
+    /// Writes one cue more.
+    #[tactic(auto, unfolding(crate::specs::Written::with_cue))]
+    pub fn add(&mut self, cue: &ScriptCue) -> Result<(), Memory>
+        requires ranges { HasCueRanges (cue_value cue.now) }
+        requires few { self.old.cues < TICKS }
+        ensures value { OnOk result (self.new ≡ with_cue (cue_value cue.now) self.old) }
+        ensures written { (cues : List Cue) → IsWritten cues self.old → OnOk result (IsWritten (cues ++ cue_value cue.now ∷ []) self.new) }
+    {
+        self.cues += 1;
+        match plain_kind(cue) {
+            Some(own) => self.repeat(own),
+            None => self.put(cue),
+        }
+    }
+
+    /// The file of the script of partition `p` with the cues that are written, where it is not too long for a file.
+    pub fn finish(mut self, alloc: Global, p: PartId) -> Result<Vec<u8>, ScriptFault>
+        ensures { (cues : List Cue) → IsWritten cues self → IsFile (λ file. file.items) (script_text p cues) result }
+    {
+        self.close()?;
+        let found = HEAD_BYTES + self.size;
+        if found > FILE_BYTES as u64 {
+            return Err(ScriptFault::Length { found });
+        }
+        let mut file = Vec::new(alloc);
+        put_head(&mut file, p, self.cues)?;
+        file.extend_from_slice(&self.text)?;
+        Ok(file)
+    }
+
+    // Repeats a plain cue.
+    #[tactic(auto, unfolding(crate::specs::Written::repeated))]
+    fn repeat(&mut self, own: bool) -> Result<(), Memory>
+        requires { IsWithin 1 self.old }
+        ensures { OnOk result (self.new ≡ repeated own self.old) }
+    {
+        if is_open(self.own, own) {
+            self.count += 1;
+        } else {
+            self.close()?;
+            self.own = Some(own);
+            self.count = 1;
+        }
+        Ok(())
+    }
+
+    // Puts another cue.
+    #[tactic(auto, unfolding(crate::specs::Written::with_entry))]
+    fn put(&mut self, cue: &ScriptCue) -> Result<(), Memory>
+        requires ranges { HasCueRanges (cue_value cue.now) }
+        requires within { IsWithin 1 self.old }
+        ensures { OnOk result (self.new ≡ with_entry (Other (cue_value cue.now)) (closed self.old)) }
+    {
+        self.close()?;
+        self.size += other_length(cue);
+        if self.size <= FILE_BYTES as u64 {
+            put_other(&mut self.text, cue)?;
+        }
+        Ok(())
+    }
+
+    // Puts the entry of the plain cue that is repeated, where there is one.
+    #[tactic(auto, unfolding(crate::specs::Written::closed, crate::specs::Written::with_entry))]
+    fn close(&mut self) -> Result<(), Memory>
+        ensures value { OnOk result (self.new ≡ closed self.old) }
+        ensures within { IsWithin 1 self.old → OnOk result (IsWithin 1 self.new) }
+    {
+        let Some(own) = self.own else {
+            return Ok(());
+        };
+        let count = self.count;
+        self.own = None;
+        self.count = 0;
+        self.size += ALIKE_BYTES;
+        if self.size <= FILE_BYTES as u64 {
+            put_alike(&mut self.text, own, count)?;
+        }
+        Ok(())
+    }
+}
+
+// Whether a plain cue is the one that is repeated.
+fn is_open(last: Option<bool>, own: bool) -> bool
+    ensures { result ≡ is_open last own }
+{
+    match last {
+        Some(last) => last == own,
+        None => false,
+    }
+}
