@@ -1,0 +1,70 @@
+-- What a partition is told in one tick.
+use Rattle.std.proofs.Common.{◌≡◌, ℕ, Bool, true, false, List, [], ◌∷◌, length, IfOk, Option, Some, None, Result, Ok, Err, refl, sym, ap, subst, arith}
+use Rattle.machine_model.specs.Cue.{Cue, cue, cue_in, script, script_unless, unless_own}
+use Rattle.machine_model.specs.Lengths.{PutsAtMost, ShowsAtMost}
+use Rattle.loaded_system.specs.System.{System}
+use Rattle.machine_model.specs.Facts.{BootsComplete}
+use Rattle.machine_model.specs.Machine.{Machine, happened, sight, start}
+use Rattle.machine_model.specs.View.{System as Booted}
+use Rattle.whole_system.specs.State.{with_inputs}
+use Rattle.machine_model.specs.Told.{NotKept, OwnTraffic, Sight, Unseen, Words}
+use Rattle.machine_model.specs.Traffic.{Puts, Still, Takes, Traffic, heard_as, own_puts_at, own_takes_at}
+use Rattle.cue_scripts.specs.Kept.{HasCueRanges, HasSightRange, HasTrafficRange}
+use Rattle.cue_scripts.specs.Values.{cue_value}
+use Rattle.cue_scripts.specs.declared.cue.ScriptCue.{ScriptCue}
+use Rattle.xm_machine.specs.Cues.{last_or}
+
+-- a message of at most 4096 bytes has a length of two bytes, under whichever name
+few_heard : (name_of : ℕ → Option ℕ) (traffic : Traffic) → PutsAtMost 4096 traffic → HasTrafficRange (heard_as name_of traffic)
+few_heard name_of Still few = tt
+few_heard name_of (Puts channel bytes) few = put (name_of channel)
+  where
+    put : (name : Option ℕ) → HasTrafficRange (own_puts_at name bytes)
+    put None = tt
+    put (Some name) = omega (arith, few)
+few_heard name_of (Takes channel) few = taken (name_of channel)
+  where
+    taken : (name : Option ℕ) → HasTrafficRange (own_takes_at name)
+    taken None = tt
+    taken (Some name) = tt
+
+few_told : (own : Bool) (traffic : OwnTraffic) → HasTrafficRange traffic → HasTrafficRange (unless_own own traffic)
+few_told true traffic few = tt
+few_told false traffic few = few
+
+few_seen : (seen : Sight) → ShowsAtMost 24 seen → HasSightRange seen
+few_seen Unseen few = tt
+few_seen NotKept few = tt
+few_seen (Words bytes) few = omega (arith, few)
+
+-- the lengths in what a partition is told in a tick are in the ranges of their fields
+pub few_cued : (g : Machine) (p : ℕ) → PutsAtMost 4096 (happened g).traffic → ShowsAtMost 24 (sight g p) → HasCueRanges (cue g p)
+unfolding cue cue_in
+few_cued g p puts shows = record { traffic = few_told _ _ (few_heard _ (happened g).traffic puts); seen = few_seen (sight g p) shows }
+
+-- the script of one tick
+pub script_one : (g : Machine) (p : ℕ) → g.halted ≡ false → script g p 1 ≡ cue g p ∷ []
+script_one g p runs = ap (λ b. script_unless b (cue g p) []) runs
+
+-- so what it is told last is its cue
+pub cue_told : (g : Machine) (p : ℕ) (before : Cue) → g.halted ≡ false → last_or before (script g p 1) ≡ cue g p
+cue_told g p before runs = ap (last_or before) (script_one g p runs)
+
+-- the cue that was kept is the one that is told
+pub cue_kept : {E : Type 0} (result : Result ScriptCue E) (told given : Cue) → IfOk result (λ own. cue_value own ≡ told) → told ≡ given → IfOk result (λ own. cue_value own ≡ given)
+cue_kept result told given kept same = subst (λ cue. IfOk result (λ own. cue_value own ≡ cue)) same kept
+
+-- so it is in the ranges of its fields
+pub ranges_kept : {E : Type 0} (result : Result ScriptCue E) (given : Cue) → IfOk result (λ own. cue_value own ≡ given) → HasCueRanges given → IfOk result (λ own. HasCueRanges (cue_value own))
+ranges_kept (Ok own) given same has = subst HasCueRanges (sym same) has
+ranges_kept (Err fault) given same has = tt
+
+-- a machine boots with no tick done
+pub started-ticks : (system : Booted) → (start system).ticks ≡ 0
+unfolding start
+started-ticks system = refl
+
+-- and with the partitions of its configuration
+pub started-parts : BootsComplete → (system : System) (inputs : List (List ℕ)) → length (start (with_inputs system inputs)).parts ≡ length system.conf.parts
+unfolding start
+started-parts law system inputs = (law (with_inputs system inputs)).parts

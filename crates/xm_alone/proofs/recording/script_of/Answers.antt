@@ -1,0 +1,19 @@
+use Rattle.std.proofs.Common.{◌∙◌, ap, arith, length, subst}
+use Rattle.machine_model.specs.Cue.{script}
+use Rattle.machine_model.specs.Machine.{Machine, start}
+use Rattle.whole_system.specs.State.{with_inputs}
+use Rattle.cue_scripts.specs.Written.{IsWritten}
+use Rattle.xm_alone.proofs.TickLemmas.{started-parts, started-ticks}
+use Rattle.xm_alone.proofs.recording.script_of.Goals as goal
+
+pub written-requires-clause-partition : goal.written-requires-clause-partition
+written-requires-clause-partition c =
+    omega (arith, c.requires.partition, ap (λ (g : Machine). length g.parts) c.in_ok-machine.ensures.state, started-parts c.keeps_numbers.ensures.boots c.args.system c.args.inputs)
+
+pub written-requires-clause-fresh : goal.written-requires-clause-fresh
+written-requires-clause-fresh c = ap (λ (g : Machine). g.ticks) c.in_ok-machine.ensures.state ∙ started-ticks (with_inputs c.args.system c.args.inputs)
+
+pub returns : goal.returns
+returns c =
+    c.finish.ensures (script (start (with_inputs c.args.system c.args.inputs)) c.args.p c.args.ticks)
+    (subst (λ (g : Machine). IsWritten (script g c.args.p c.args.ticks) c.in_ok-writer.writer) c.in_ok-machine.ensures.state c.in_ok-writer.ensures)

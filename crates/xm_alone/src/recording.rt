@@ -1,0 +1,97 @@
+//! The script of a partition in a run.
+
+ghost use Rattle.std.specs.Prelude.{◌≡◌, ◌<◌, ◌≤◌, IfOk, false, length};
+ghost use Rattle.cue_scripts.specs.Kept.{HasCueRanges};
+ghost use Rattle.cue_scripts.specs.Spelling.{script_text};
+ghost use Rattle.cue_scripts.specs.Values as kept;
+ghost use Rattle.cue_scripts.specs.Written.{IsFile, IsWritten};
+ghost use Rattle.machine_model.specs.Cue.{cue, script};
+ghost use Rattle.machine_model.specs.Machine.{run, start};
+ghost use Rattle.whole_system.specs.State.{with_inputs};
+
+use crate::told::kept_cue;
+use cue_scripts::{ScriptCue, ScriptFault, ScriptWriter};
+use loaded_system::System;
+use machine_model::{keeps_numbers, tells_few_bytes};
+use std::alloc::Global;
+use uart_board::Board;
+use xm_base::{Memory, PartId, TICKS};
+use xm_machine::{Inputs, Machine};
+use xm_outside::SureSink;
+
+/// The file of all that partition `p` is told in a run of so many ticks. A machine of its own does the run, and its lines and console
+/// bytes go nowhere.
+pub fn script_of(
+    alloc: Global,
+    system: System,
+    inputs: Inputs,
+    p: PartId,
+    ticks: u64,
+) -> Result<Vec<u8>, ScriptFault>
+    requires partition { p < length system.conf.parts }
+    requires inputs { length inputs ≡ length system.conf.parts }
+    requires most { ticks ≤ TICKS }
+    ensures { IsFile (λ file. file.items) (script_text p (script (start (with_inputs system inputs)) p ticks)) result }
+{
+    keeps_numbers();
+    let mut machine = Machine::boot(alloc, system, inputs)?;
+    let writer = written(alloc, &mut machine, p, ticks)?;
+    writer.finish(alloc, p)
+}
+
+/// What partition `p` of a machine is told in so many ticks, written cue by cue.
+fn written(
+    alloc: Global,
+    machine: &mut Machine,
+    p: PartId,
+    ticks: u64,
+) -> Result<ScriptWriter, Memory>
+    requires partition { p < length machine.old.state.parts }
+    requires fresh { machine.old.state.ticks ≡ 0 }
+    requires most { ticks ≤ TICKS }
+    ensures { IfOk result (IsWritten (script machine.old.state p ticks)) }
+{
+    keeps_numbers();
+    let mut board = Board::new();
+    let mut writer = ScriptWriter::new(alloc);
+    let mut done = 0;
+    while done < ticks {
+        if machine.halted() {
+            return Ok(writer);
+        }
+        let cue = told_in(alloc, machine, p, &mut board)?;
+        writer.add(&cue)?;
+        done += 1;
+    }
+    Ok(writer)
+}
+
+/// Does one tick of a machine, and tells what partition `p` is told in it.
+fn told_in(
+    alloc: Global,
+    machine: &mut Machine,
+    p: PartId,
+    board: &mut Board,
+) -> Result<ScriptCue, Memory>
+    requires partition { p < length machine.old.state.parts }
+    requires running { machine.old.state.halted ≡ false }
+    requires more { machine.old.state.ticks < TICKS }
+    ensures state { machine.new.state ≡ run machine.old.state 1 }
+    ensures cue { IfOk result (λ told. kept.cue_value told ≡ cue machine.old.state p) }
+    ensures ranges { IfOk result (λ told. HasCueRanges (kept.cue_value told)) }
+{
+    keeps_numbers();
+    has_ranges(machine, p);
+    // The sink takes all bytes, so that there is no fault.
+    let _ = machine.tick(&mut SureSink::new(), board);
+    kept_cue(alloc, machine.cue(p))
+}
+
+/// Shows that what a machine tells partition `p` in its next tick is in the ranges of its fields.
+fn has_ranges(machine: &Machine, p: PartId)
+    ensures { HasCueRanges (cue machine.now.state p) }
+{
+    tells_few_bytes();
+    let _counted = machine.done();
+    let _fits = machine.sys().conf().raw();
+}

@@ -1,0 +1,70 @@
+//! What a partition is told, kept for a script.
+
+ghost use Rattle.std.specs.Prelude.{◌≡◌, IfOk};
+ghost use Rattle.cue_scripts.specs.Values as kept;
+ghost use Rattle.xm_machine.specs.CueValues.{cue_value, sight_value, slot_value, traffic_value, whole_value};
+
+use cue_scripts::{ScriptCue, ScriptEvent, ScriptSight, ScriptSlot, ScriptTraffic};
+use std::alloc::Global;
+use xm_base::Memory;
+use xm_machine::{Cue, Mine, Sight, Traffic, WholeCue};
+
+/// A cue with bytes of its own.
+pub(crate) fn kept_cue(alloc: Global, cue: Cue<'_>) -> Result<ScriptCue, Memory>
+    ensures { IfOk result (λ own. kept.cue_value own ≡ cue_value cue.entry) }
+{
+    Ok(ScriptCue {
+        mine: kept_slot(cue.mine),
+        traffic: kept_traffic(alloc, cue.traffic)?,
+        order: cue.order,
+        whole: kept_event(cue.whole),
+        seen: kept_sight(alloc, cue.seen)?,
+    })
+}
+
+/// Whose slot it is.
+fn kept_slot(mine: Mine) -> ScriptSlot
+    ensures { kept.slot_value result ≡ slot_value mine }
+{
+    match mine {
+        Mine::Away => ScriptSlot::Away,
+        Mine::Mine { first } => ScriptSlot::Mine { first },
+    }
+}
+
+/// The traffic of others.
+fn kept_traffic(alloc: Global, traffic: Traffic<'_>) -> Result<ScriptTraffic, Memory>
+    ensures { IfOk result (λ own. kept.traffic_value own ≡ traffic_value traffic.entry) }
+{
+    match traffic {
+        Traffic::Nothing => Ok(ScriptTraffic::Nothing),
+        Traffic::Put { chan, bytes } => Ok(ScriptTraffic::Put {
+            chan,
+            bytes: Vec::from_slice(alloc, bytes)?,
+        }),
+        Traffic::Take { chan } => Ok(ScriptTraffic::Take { chan }),
+    }
+}
+
+/// The hypervisor event.
+fn kept_event(whole: WholeCue) -> ScriptEvent
+    ensures { kept.event_value result ≡ whole_value whole }
+{
+    match whole {
+        WholeCue::Nothing => ScriptEvent::Nothing,
+        WholeCue::Cold => ScriptEvent::Cold,
+        WholeCue::Warm => ScriptEvent::Warm,
+        WholeCue::Halt => ScriptEvent::Halt,
+    }
+}
+
+/// What was shown.
+fn kept_sight(alloc: Global, seen: Sight<'_>) -> Result<ScriptSight, Memory>
+    ensures { IfOk result (λ own. kept.sight_value own ≡ sight_value seen.entry) }
+{
+    match seen {
+        Sight::Nothing => Ok(ScriptSight::Nothing),
+        Sight::NotKept => Ok(ScriptSight::NotKept),
+        Sight::Words(bytes) => Ok(ScriptSight::Words(Vec::from_slice(alloc, bytes)?)),
+    }
+}
