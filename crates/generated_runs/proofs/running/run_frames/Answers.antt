@@ -1,0 +1,10 @@
+use Rattle.generated_runs.specs.Told.{run_length}
+use Rattle.generated_runs.proofs.RunLemmas.{never_rose}
+use Rattle.generated_runs.proofs.running.run_frames.Goals as goal
+
+pub unreachable-requires : goal.unreachable-requires
+unreachable-requires c = never_rose c.in_default.ensures.cause
+
+pub returns : goal.returns
+unfolding run_length
+returns c = c.in-Ok.ensures.run

@@ -1,0 +1,77 @@
+//! The run of a generated system.
+
+ghost use Rattle.std.specs.Prelude.{◌≡◌, false, IfOk, None, Ok, length};
+ghost use Rattle.generated_runs.specs.Told.{generated_text, run_length, told_of};
+ghost use Rattle.generated_system.specs.Generated.{conf_of, generated};
+ghost use Rattle.xm_container.specs.Box.{box_text};
+ghost use Rattle.xm_container.specs.Reading.{unpacked};
+ghost use Rattle.xm_machine.specs.Outcome.{IsWholeRun};
+
+use crate::counting::{exec_in, waiting_in};
+use crate::text::two_lines;
+use generated_system::{container_of, system_in};
+use machine_model::keeps_numbers;
+use std::alloc::Global;
+use uart_board::Board;
+use xm_base::Memory;
+use xm_machine::{Inputs, Machine, Ran};
+use xm_outside::SureSink;
+
+/// How many partitions a generated system has.
+const PARTS: u8 = 16;
+
+/// How many ticks its run has: 1000 frames.
+const RUN_TICKS: u64 = 16_000_000;
+
+/// Generates a system out of a number, packs it, unpacks the container, runs it, and tells of the run in two lines.
+pub fn run_lines(alloc: Global, number: u32) -> Result<Vec<u8>, Memory>
+    ensures text { IfOk result (λ text. text.items ≡ generated_text number) }
+{
+    let container = container_of(alloc, number)?;
+    run_container(alloc, number, &container)
+}
+
+// The two lines of the run of a number's container.
+fn run_container(alloc: Global, number: u32, container: &[u8]) -> Result<Vec<u8>, Memory>
+    requires text { container.now ≡ box_text (generated number) }
+    requires read { unpacked container.now ≡ Ok (generated number) }
+    ensures { IfOk result (λ text. text.items ≡ generated_text number) }
+{
+    keeps_numbers();
+    let system = system_in(alloc, container)?;
+    let inputs = Inputs::new(alloc, PARTS)?;
+    let mut machine = Machine::boot(alloc, system, inputs)?;
+    let ran = run_frames(&mut machine);
+    lines_of(alloc, number, container, ran.lines, &machine)
+}
+
+// The run, over an output that takes all and a board without UARTs.
+fn run_frames(machine: &mut Machine) -> Ran
+    requires fresh { machine.old.state.ticks ≡ 0 }
+    requires running { machine.old.state.halted ≡ false }
+    ensures { IsWholeRun result run_length machine.old.state machine.new.state None None }
+{
+    let Ok(ran) = machine.run(RUN_TICKS, &mut SureSink::new(), &mut Board::new()) else {
+        unreachable!();
+    };
+    ran
+}
+
+// The two lines of a machine that has run and whose report has so many lines.
+#[tactic(auto, unfolding(crate::specs::Told::told_of))]
+fn lines_of(
+    alloc: Global,
+    number: u32,
+    container: &[u8],
+    lines: u64,
+    machine: &Machine,
+) -> Result<Vec<u8>, Memory>
+    requires conf { machine.now.state.system.conf ≡ conf_of number }
+    requires channels { length machine.now.state.channels ≡ 8 }
+    ensures { IfOk result (λ text. text.items ≡ told_of number (length container.now) lines machine.now.state) }
+{
+    let ticks = machine.done();
+    let exec = exec_in(machine);
+    let waiting = waiting_in(machine.channels());
+    two_lines(alloc, number, container.len(), ticks, exec, lines, waiting)
+}
