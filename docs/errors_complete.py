@@ -2,8 +2,8 @@
 """Says which text that the program can print on standard error has no row in docs/ERRORS.md, and which row
 no text of the code has. Ends with 1 where there is one of either, else with 0.
 
-The texts are those of crates/xm_commands/src/complaint.rt, those that another file of that crate makes itself, and those
-of each `Display` of a type named ..Fault in a crate.
+The texts are those of crates/xm_commands/src/complaint.rt, those that another file of that crate or of
+file_maker makes itself, and those of each `Display` of a type named ..Fault in a crate.
 A row is a line of a table whose first column has the text as code, behind a paragraph that begins with
 `Texts of` and the type; values are one word each. The variant `Memory` is left out: want of memory is told by the program as `no memory`.
 """
@@ -13,6 +13,7 @@ from pathlib import Path
 
 ROOT = Path(__file__).resolve().parent.parent
 COMPLAINTS = "complaint.rt"
+MAKERS = ("xm_commands", "file_maker")
 
 
 def spelled(text):
@@ -54,7 +55,7 @@ def complaint_texts():
 
 def made_texts():
     """The texts that the files of the commands make themselves, and not by a fault's `Display`."""
-    for path in sorted(ROOT.glob("crates/xm_commands/src/*.rt")):
+    for path in sorted(path for crate in MAKERS for path in ROOT.glob(f"crates/{crate}/src/*.rt")):
         for text in re.findall(r'format!\(in alloc; "([^"]*)"\)', path.read_text(encoding="utf-8")):
             if not re.fullmatch(r"\{\w+\}", text):
                 yield path.name, spelled(text)

@@ -1,6 +1,7 @@
 -- What commands leave of the board of UARTs.
-use Rattle.std.proofs.Common.{◌≡◌, ℕ, ◌<◌, List, length, take, Option, Some, None, Result, Ok, Err, refl, sym, subst, ap, ◌∙◌}
+use Rattle.std.proofs.Common.{◌≡◌, ℕ, ◌<◌, List, [], length, take, Option, Some, None, Result, Ok, Err, refl, sym, subst, ap, ◌∙◌}
 use Rattle.std.specs.Prelude.{IsSome}
+use Rattle.generated_runs.specs.Told.{generated_text}
 use Rattle.machine_model.specs.Lines.{console}
 use Rattle.machine_model.specs.Machine.{Machine, start}
 use Rattle.loaded_system.specs.System.{System}
@@ -14,7 +15,7 @@ use Rattle.xm_report.specs.Report.{ReportLine, texts}
 use Rattle.xm_report.specs.declared.output.WriteFault.{WriteFault}
 use Rattle.xm_outside.specs.Files.{Files}
 use Rattle.xm_outside.specs.Growth.{grown}
-use Rattle.xm_words.specs.Words.{Command, PartFile, Parse, BuildImage, ReadImage, Pack, ListContainer, CheckContainer, MakePlan, CheckPlan, TellGroups}
+use Rattle.xm_words.specs.Words.{Command, PartFile, Parse, BuildImage, ReadImage, Pack, ListContainer, CheckContainer, MakePlan, CheckPlan, TellGroups, Generate}
 use Rattle.xm_commands.specs.Boards.{EndsRun, IsLeft, IsMarked, IsRunTo, Leaves}
 use Rattle.xm_commands.specs.Denial.{Denial}
 use Rattle.xm_commands.specs.Ending.{Ending, Finished, Misused, Unread, Denied, Unwritten, Unsaved, Unheard, Starved, status_of}
@@ -24,8 +25,8 @@ use Rattle.xm_commands.specs.Top.{IsQuiet}
 use Rattle.xm_commands.specs.Work.{AreNotRead, AreNotSaved, IsDone, IsNotRead, Outside, ReadsFiles}
 use Rattle.xm_commands.specs.declared.status.Status.TheVariants as status
 use Rattle.xm_commands.specs.declared.status.Status.TheVariants.{Done, Usage, UartFault}
-use Rattle.xm_commands.specs.declared.unmade.Unmade.{Unmade}
-use Rattle.xm_commands.specs.declared.unmade.Unmade.TheVariants as unmade
+use Rattle.file_maker.specs.declared.unmade.Unmade.{Unmade}
+use Rattle.file_maker.specs.declared.unmade.Unmade.TheVariants as unmade
 use Rattle.xm_commands.proofs.TopLemmas.{loud}
 use Rattle.xm_commands.proofs.WorkLemmas.{reports_same}
 
@@ -41,13 +42,13 @@ whole r system inputs ticks new had got before mid after is begins heard =
     subst (λ (board : BoardView). IsHeard (console (start (with_inputs system inputs)) ticks) board after) begins (heard ticks is.state)
 
 -- one all of whose writes are done
-pub left_ended : (e : Ending) (r : Ran) (cores : List PartFile) (system : System) (inputs : List (List ℕ)) (ticks : ℕ) (new : Machine) (had got : Option (List ℕ)) (before mid after : BoardView)
+pub left_ended : (e : Ending) (r : Ran) (cores : List PartFile) (scripts : List Output) (system : System) (inputs : List (List ℕ)) (ticks : ℕ) (new : Machine) (had got : Option (List ℕ)) (before mid after : BoardView)
     → EndsRun e after → IsRun (Ok r) ticks (start (with_inputs system inputs)) new had got → mid ≡ begun before → IsRunHeard (start (with_inputs system inputs)) new mid after
-    → Leaves e (ran ticks cores system inputs).run had got before after
+    → Leaves e (ran ticks cores scripts system inputs).run had got before after
 unfolding ran
-left_ended e r cores system inputs ticks new had got before mid after ends is begins heard = by_end e ends (whole r system inputs ticks new had got before mid after is begins heard)
+left_ended e r cores scripts system inputs ticks new had got before mid after ends is begins heard = by_end e ends (whole r system inputs ticks new had got before mid after is begins heard)
   where
-    by_end : (e : Ending) → EndsRun e after → IsRunTo ticks (running ticks system inputs) before after → Leaves e (ran ticks cores system inputs).run had got before after
+    by_end : (e : Ending) → EndsRun e after → IsRunTo ticks (running ticks system inputs) before after → Leaves e (ran ticks cores scripts system inputs).run had got before after
     by_end Finished ends to = record { heard = to; well = ends }
     by_end Misused ends to = absurd ends
     by_end (Unread file) ends to = absurd ends
@@ -57,14 +58,14 @@ left_ended e r cores system inputs ticks new had got before mid after ends is be
     by_end (Unheard place) ends to = record { heard = to; marked = ends }
     by_end Starved ends to = absurd ends
 
--- one of whose core files was not written
-pub left_unsaved : (e : Ending) (outputs : List Output) (from to : Outside) (r : Ran) (cores : List PartFile) (system : System) (inputs : List (List ℕ)) (ticks : ℕ) (new : Machine) (had got : Option (List ℕ)) (before mid after : BoardView)
+-- one of whose core files and scripts was not written
+pub left_unsaved : (e : Ending) (outputs : List Output) (from to : Outside) (r : Ran) (cores : List PartFile) (scripts : List Output) (system : System) (inputs : List (List ℕ)) (ticks : ℕ) (new : Machine) (had got : Option (List ℕ)) (before mid after : BoardView)
     → AreNotSaved e outputs from to → IsRun (Ok r) ticks (start (with_inputs system inputs)) new had got → mid ≡ begun before → IsRunHeard (start (with_inputs system inputs)) new mid after
-    → Leaves e (ran ticks cores system inputs).run had got before after
+    → Leaves e (ran ticks cores scripts system inputs).run had got before after
 unfolding ran
-left_unsaved e outputs from to r cores system inputs ticks new had got before mid after lost is begins heard = by_end e lost (whole r system inputs ticks new had got before mid after is begins heard)
+left_unsaved e outputs from to r cores scripts system inputs ticks new had got before mid after lost is begins heard = by_end e lost (whole r system inputs ticks new had got before mid after is begins heard)
   where
-    by_end : (e : Ending) → AreNotSaved e outputs from to → IsRunTo ticks (running ticks system inputs) before after → Leaves e (ran ticks cores system inputs).run had got before after
+    by_end : (e : Ending) → AreNotSaved e outputs from to → IsRunTo ticks (running ticks system inputs) before after → Leaves e (ran ticks cores scripts system inputs).run had got before after
     by_end Finished lost run_to = absurd lost
     by_end Misused lost run_to = absurd lost
     by_end (Unread file) lost run_to = absurd lost
@@ -75,11 +76,11 @@ left_unsaved e outputs from to r cores system inputs ticks new had got before mi
     by_end Starved lost run_to = absurd lost
 
 -- a run whose report was cut
-pub left_cut : (fault : WriteFault) (cores : List PartFile) (system : System) (inputs : List (List ℕ)) (ticks : ℕ) (new : Machine) (had got : Option (List ℕ)) (before mid after : BoardView)
+pub left_cut : (fault : WriteFault) (cores : List PartFile) (scripts : List Output) (system : System) (inputs : List (List ℕ)) (ticks : ℕ) (new : Machine) (had got : Option (List ℕ)) (before mid after : BoardView)
     → IsRun (Err fault) ticks (start (with_inputs system inputs)) new had got → mid ≡ begun before → IsRunHeard (start (with_inputs system inputs)) new mid after
-    → Leaves Unwritten (ran ticks cores system inputs).run had got before after
+    → Leaves Unwritten (ran ticks cores scripts system inputs).run had got before after
 unfolding ran
-left_cut fault cores system inputs ticks new had got before mid after is begins heard = record {
+left_cut fault cores scripts system inputs ticks new had got before mid after is begins heard = record {
   front = record {
     count = is.report.count;
     short = subst (λ (lines : List ReportLine). is.report.count < length (texts lines)) (reports_same (with_inputs system inputs) ticks) is.report.short;
@@ -189,6 +190,9 @@ check_plan_runs description contents = no_run (CheckPlan description) contents (
 
 pub tell_groups_runs : (description : List ℕ) (contents : List (List ℕ)) → (outcome_of (TellGroups description) contents).run ≡ None
 tell_groups_runs description contents = no_run (TellGroups description) contents (told_runs description _)
+
+pub generate_runs : (number : ℕ) (contents : List (List ℕ)) → (outcome_of (Generate number) contents).run ≡ None
+generate_runs number contents = no_run (Generate number) contents (told_runs [] (Ok (generated_text number)))
 
 -- What the top call says of it.
 

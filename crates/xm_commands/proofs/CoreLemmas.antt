@@ -10,9 +10,9 @@ use Rattle.machine_model.specs.Facts.{BootsComplete, RunsKeepNumbers}
 use Rattle.machine_model.specs.Machine.{Machine, run, start}
 use Rattle.machine_model.specs.View.{System as Booted, view_of}
 use Rattle.whole_system.specs.State.{with_inputs}
-use Rattle.xm_words.specs.Words.{PartFile, RunOption, Length, ForPart, asked, cores_in, files_in, inputs_in, place_of}
+use Rattle.xm_words.specs.Words.{PartFile, RunOption, Length, ForPart, asked, cores_in, files_in, inputs_in, place_of, scripts_in}
 use Rattle.xm_words.specs.declared.run_options.FileKind.{FileKind}
-use Rattle.xm_words.specs.declared.run_options.FileKind.TheVariants.{Core, Input}
+use Rattle.xm_words.specs.declared.run_options.FileKind.TheVariants.{Core, Input, Script}
 use Rattle.xm_commands.specs.Cores.{AreInside, FitInto}
 use Rattle.xm_commands.specs.Inputs.{first_beyond, or_later}
 use Rattle.xm_commands.specs.Outcome.{Output, core_output, core_outputs}
@@ -34,12 +34,15 @@ options_inside parts kind (ForPart other named ∷ options) none = at (nat_le pa
     at true is e rest = absurd (cc)
     at false is e rest = one (grind (arith, nat_tests)) (rest e) (place_of other == place_of kind)
 
--- the inputs and the core files of options are for such partitions
+-- the inputs, the core files and the scripts of options are for such partitions
 pub inputs_inside : (parts : ℕ) (options : List RunOption) → first_beyond parts options ≡ None → AreInside parts (inputs_in options)
 inputs_inside parts options none = options_inside parts Input options none
 
 pub cores_inside : (parts : ℕ) (options : List RunOption) → first_beyond parts options ≡ None → AreInside parts (cores_in options)
 cores_inside parts options none = options_inside parts Core options none
+
+pub scripts_inside : (parts : ℕ) (options : List RunOption) → first_beyond parts options ≡ None → AreInside parts (scripts_in options)
+scripts_inside parts options none = options_inside parts Script options none
 
 -- what holds anyhow holds where a result is good
 pub always_ok : {T E P : Type 0} (r : Result T E) → P → OnOk r P
@@ -84,7 +87,7 @@ pub fits_none : (system : Booted) (most : ℕ) (rest : List PartFile) → rest �
 fits_none system most rest none = subst (FitInto system most) (sym none) tt
 
 -- files that are written after one that was
-saves_after : (lost : Option (List ℕ)) (output : Output) (outputs : List Output) (before after : Outside) → SavesAll lost outputs (wrote (Some output) before) after → SavesAll lost (output ∷ outputs) before after
+pub saves_after : (lost : Option (List ℕ)) (output : Output) (outputs : List Output) (before after : Outside) → SavesAll lost outputs (wrote (Some output) before) after → SavesAll lost (output ∷ outputs) before after
 saves_after None output outputs before after s = s
 saves_after (Some file) output outputs before after s = record {
   first = output ∷ s.first;

@@ -1,14 +1,12 @@
 pub mod BoardLemmas
 pub mod CoreLemmas
-pub mod ImagingLemmas
 pub mod InputLemmas
 pub mod OutsideLemmas
 pub mod PackingLemmas
-pub mod ParsingLemmas
-pub mod PlanningLemmas
+pub mod ScriptLemmas
 pub mod SeparationLemmas
 pub mod TellingLemmas
 pub mod TopLemmas
 pub mod WorkLemmas
 pub mod WrittenLemmas
-pub mod GroupingLemmas
+pub mod GeneratingLemmas

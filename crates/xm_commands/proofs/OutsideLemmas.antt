@@ -8,25 +8,27 @@ use Rattle.std.specs.FinMap.{get, insert, get-insert, slice_cmp-IsAntisymmetric,
 use Rattle.std.specs.Ordering.{nat_cmp, is_eq}
 use Rattle.std.specs.declared.cmp.Ordering.{Ordering}
 use Rattle.std.specs.declared.cmp.Ordering.TheVariants.{Less, Equal, Greater}
+use Rattle.generated_runs.specs.Told.{generated_text}
 use Rattle.xm_base.specs.Options.{on}
 use Rattle.xm_base.specs.declared.limits.TheConstants.{FILE_BYTES, IMAGE_BYTES, TICKS}
 use Rattle.xm_outside.specs.Causes.{counted}
 use Rattle.xm_outside.specs.Files.{Files, OthersStay, stored}
-use Rattle.xm_words.specs.Words.{Command, PartFile, RunOption, Bare, Parse, BuildImage, ReadImage, Pack, ListContainer, CheckContainer, MakePlan, CheckPlan, TellGroups, Run, cores_in}
+use Rattle.xm_words.specs.Words.{Command, PartFile, RunOption, Bare, Parse, BuildImage, ReadImage, Pack, ListContainer, CheckContainer, MakePlan, CheckPlan, TellGroups, Generate, Run, cores_in, scripts_in, span_in}
 use Rattle.xm_container.specs.Reading.{unpacked}
 use Rattle.xm_container.specs.declared.fault.BoxFault.{BoxFault}
 use Rattle.xm_commands.specs.Answer.{read_all, read_before, saved}
 use Rattle.loaded_system.specs.Bare.{bare_system}
 use Rattle.loaded_system.specs.System.{System}
+use Rattle.whole_system.specs.State.{with_inputs}
 use Rattle.xm_commands.specs.Ending.{length_text, ticks_text}
-use Rattle.xm_commands.specs.Grouping.{groups_of}
-use Rattle.xm_commands.specs.Imaging.{container_lines_of, container_verdict_of, image_lines_of, xef_of}
+use Rattle.file_maker.specs.Grouping.{groups_of}
+use Rattle.file_maker.specs.Imaging.{container_lines_of, container_verdict_of, image_lines_of, xef_of}
 use Rattle.xm_commands.specs.Inputs.{no_inputs}
 use Rattle.xm_commands.specs.Packing.{container_of}
-use Rattle.xm_commands.specs.Parsing.{xmc_of}
-use Rattle.xm_commands.specs.Planning.{plan_lines_of, verdicts_of}
+use Rattle.file_maker.specs.Parsing.{xmc_of}
+use Rattle.file_maker.specs.Planning.{plan_lines_of, verdicts_of}
 use Rattle.xm_commands.specs.Denial.{Denial}
-use Rattle.xm_commands.specs.Outcome.{Output, bare_outcome, content, first_long, made, packed_to, ran, ran_with, ran_within, refused, refused_by, run_by, run_outcome, told, inputs_of, outcome_of, output_of, unless_long, worked}
+use Rattle.xm_commands.specs.Outcome.{Output, bare_outcome, content, first_long, made, packed_to, ran, ran_for, ran_scripted, ran_with, ran_within, refused, refused_by, run_by, run_outcome, told, inputs_of, outcome_of, output_of, scripts_for, ticks_asked, unless_long, worked}
 use Rattle.xm_commands.specs.Top.{AreContents, counted_by}
 use Rattle.xm_commands.specs.Work.{Outside, ReadsFiles, called, called_for, wrote}
 
@@ -103,32 +105,40 @@ told-output file (Ok text) output e = cc
 told-output file (Err text) output e = cc
 
 -- a run of a system writes no file
-ran-output : (ticks : ℕ) (cores : List PartFile) (system : System) (inputs : List (List ℕ)) (output : Output) → (ran ticks cores system inputs).output ≡ Some output → ⊥
+ran-output : (ticks : ℕ) (cores : List PartFile) (scripts : List Output) (system : System) (inputs : List (List ℕ)) (output : Output) → (ran ticks cores scripts system inputs).output ≡ Some output → ⊥
 unfolding ran
-ran-output ticks cores system inputs output e = cc
+ran-output ticks cores scripts system inputs output e = cc
 
 -- a run of an image writes no file
 bare-output : (file : List ℕ) (ticks : ℕ) (image : List ℕ) (output : Output) → (bare_outcome file ticks image).output ≡ Some output → ⊥
 unfolding bare_outcome
 bare-output file ticks image output e = at ((length image == 0) || nat_lt IMAGE_BYTES (length image)) e
   where
-    at : (t : Bool) → (if t then refused file (length_text (length image)) else ran ticks [] (bare_system image) (no_inputs 1)).output ≡ Some output → ⊥
+    at : (t : Bool) → (if t then refused file (length_text (length image)) else ran ticks [] [] (bare_system image) (no_inputs 1)).output ≡ Some output → ⊥
     at true e = cc
-    at false e = ran-output ticks [] (bare_system image) (no_inputs 1) output e
+    at false e = ran-output ticks [] [] (bare_system image) (no_inputs 1) output e
+
+-- a run whose scripts may be too long writes no file
+scripted-output : (ticks : ℕ) (cores : List PartFile) (system : System) (inputs : List (List ℕ)) (scripts : Result (List Output) Denial) (output : Output) → (ran_scripted ticks cores system inputs scripts).output ≡ Some output → ⊥
+scripted-output ticks cores system inputs (Ok scripts) output e = ran-output ticks cores scripts system inputs output e
+scripted-output ticks cores system inputs (Err refusal) output e = cc
 
 -- a run that may be too long writes no file
-within-output : (file : List ℕ) (asked : ℕ) (cores : List PartFile) (system : System) (inputs : List (List ℕ)) (output : Output) → (ran_within file asked cores system inputs).output ≡ Some output → ⊥
+within-output : (file : List ℕ) (options : List RunOption) (system : System) (inputs : List (List ℕ)) (output : Output) → (ran_within file options system inputs).output ≡ Some output → ⊥
 unfolding ran_within
-within-output file asked cores system inputs output e = at (nat_lt TICKS asked) e
+within-output file options system inputs output e = at (ticks_asked (span_in options) system.conf) e
   where
-    at : (t : Bool) → (if t then refused file (ticks_text asked) else ran asked cores system inputs).output ≡ Some output → ⊥
-    at true e = cc
-    at false e = ran-output asked cores system inputs output e
+    by : (asked : ℕ) (t : Bool) (scripts : Result (List Output) Denial) → (if t then refused file (ticks_text asked) else ran_scripted asked (cores_in options) system inputs scripts).output ≡ Some output → ⊥
+    by asked true scripts e = cc
+    by asked false scripts e = scripted-output asked (cores_in options) system inputs scripts output e
+
+    at : (asked : ℕ) → (ran_for file asked options system inputs).output ≡ Some output → ⊥
+    at asked e = by asked (nat_lt TICKS asked) (scripts_for (with_inputs system inputs) asked (scripts_in options)) e
 
 -- a run whose inputs may be refused writes no file
-with-output : (file : List ℕ) (asked : ℕ) (cores : List PartFile) (system : System) (read : Result (List (List ℕ)) Denial) (output : Output) → (ran_with file asked cores system read).output ≡ Some output → ⊥
-with-output file asked cores system (Ok inputs) output e = within-output file asked cores system inputs output e
-with-output file asked cores system (Err refusal) output e = cc
+with-output : (file : List ℕ) (options : List RunOption) (system : System) (read : Result (List (List ℕ)) Denial) (output : Output) → (ran_with file options system read).output ≡ Some output → ⊥
+with-output file options system (Ok inputs) output e = within-output file options system inputs output e
+with-output file options system (Err refusal) output e = cc
 
 -- a run of a container writes no file
 run-output : (file : List ℕ) (options : List RunOption) (bytes : List ℕ) (contents : List (List ℕ)) (output : Output) → (run_outcome file options bytes contents).output ≡ Some output → ⊥
@@ -136,7 +146,7 @@ unfolding run_outcome
 run-output file options bytes contents output e = at (unpacked bytes) e
   where
     at : (read : Result System BoxFault) → (run_by file options contents read).output ≡ Some output → ⊥
-    at (Ok system) e = with-output file _ (cores_in options) system _ output e
+    at (Ok system) e = with-output file options system _ output e
     at (Err fault) e = cc
 
 -- a file that is too long is refused
@@ -161,6 +171,7 @@ output-named command contents output is = at command (first_long (inputs_of comm
     at (MakePlan description) None e = absurd (told-output description (plan_lines_of (content 0 contents)) output e)
     at (CheckPlan description) None e = absurd (told-output description (verdicts_of (content 0 contents)) output e)
     at (TellGroups description) None e = absurd (told-output description (groups_of (content 0 contents)) output e)
+    at (Generate number) None e = absurd (told-output [] (Ok (generated_text number)) output e)
     at (Run container options) None e = absurd (run-output container options (content 0 contents) (drop 1 contents) output e)
 
 -- a refusal is the one that is told
@@ -183,32 +194,40 @@ told-denied file (Ok text) denial e = absurd (cc)
 told-denied file (Err text) denial e = same_refusal _ denial e
 
 -- a run of a system is not refused
-ran-denied : (ticks : ℕ) (cores : List PartFile) (system : System) (inputs : List (List ℕ)) (denial : Denial) → (ran ticks cores system inputs).denial ≡ Some denial → ⊥
+ran-denied : (ticks : ℕ) (cores : List PartFile) (scripts : List Output) (system : System) (inputs : List (List ℕ)) (denial : Denial) → (ran ticks cores scripts system inputs).denial ≡ Some denial → ⊥
 unfolding ran
-ran-denied ticks cores system inputs denial e = cc
+ran-denied ticks cores scripts system inputs denial e = cc
 
 -- a run of an image is refused so, or not at all
 bare-denied : (file : List ℕ) (ticks : ℕ) (image : List ℕ) (denial : Denial) → (bare_outcome file ticks image).denial ≡ Some denial → bare_outcome file ticks image ≡ refused_by denial
 unfolding bare_outcome
 bare-denied file ticks image denial e = at ((length image == 0) || nat_lt IMAGE_BYTES (length image)) e
   where
-    at : (t : Bool) → (if t then refused file (length_text (length image)) else ran ticks [] (bare_system image) (no_inputs 1)).denial ≡ Some denial → (if t then refused file (length_text (length image)) else ran ticks [] (bare_system image) (no_inputs 1)) ≡ refused_by denial
+    at : (t : Bool) → (if t then refused file (length_text (length image)) else ran ticks [] [] (bare_system image) (no_inputs 1)).denial ≡ Some denial → (if t then refused file (length_text (length image)) else ran ticks [] [] (bare_system image) (no_inputs 1)) ≡ refused_by denial
     at true e = same_refusal _ denial e
-    at false e = absurd (ran-denied ticks [] (bare_system image) (no_inputs 1) denial e)
+    at false e = absurd (ran-denied ticks [] [] (bare_system image) (no_inputs 1) denial e)
 
--- and so is a run that may be too long
-within-denied : (file : List ℕ) (asked : ℕ) (cores : List PartFile) (system : System) (inputs : List (List ℕ)) (denial : Denial) → (ran_within file asked cores system inputs).denial ≡ Some denial → ran_within file asked cores system inputs ≡ refused_by denial
+-- and so is a run whose scripts may be too long
+scripted-denied : (ticks : ℕ) (cores : List PartFile) (system : System) (inputs : List (List ℕ)) (scripts : Result (List Output) Denial) (denial : Denial) → (ran_scripted ticks cores system inputs scripts).denial ≡ Some denial → ran_scripted ticks cores system inputs scripts ≡ refused_by denial
+scripted-denied ticks cores system inputs (Ok scripts) denial e = absurd (ran-denied ticks cores scripts system inputs denial e)
+scripted-denied ticks cores system inputs (Err refusal) denial e = same_refusal refusal denial e
+
+-- and a run that may be too long
+within-denied : (file : List ℕ) (options : List RunOption) (system : System) (inputs : List (List ℕ)) (denial : Denial) → (ran_within file options system inputs).denial ≡ Some denial → ran_within file options system inputs ≡ refused_by denial
 unfolding ran_within
-within-denied file asked cores system inputs denial e = at (nat_lt TICKS asked) e
+within-denied file options system inputs denial e = at (ticks_asked (span_in options) system.conf) e
   where
-    at : (t : Bool) → (if t then refused file (ticks_text asked) else ran asked cores system inputs).denial ≡ Some denial → (if t then refused file (ticks_text asked) else ran asked cores system inputs) ≡ refused_by denial
-    at true e = same_refusal _ denial e
-    at false e = absurd (ran-denied asked cores system inputs denial e)
+    by : (asked : ℕ) (t : Bool) (scripts : Result (List Output) Denial) → (if t then refused file (ticks_text asked) else ran_scripted asked (cores_in options) system inputs scripts).denial ≡ Some denial → (if t then refused file (ticks_text asked) else ran_scripted asked (cores_in options) system inputs scripts) ≡ refused_by denial
+    by asked true scripts e = same_refusal _ denial e
+    by asked false scripts e = scripted-denied asked (cores_in options) system inputs scripts denial e
+
+    at : (asked : ℕ) → (ran_for file asked options system inputs).denial ≡ Some denial → ran_for file asked options system inputs ≡ refused_by denial
+    at asked e = by asked (nat_lt TICKS asked) (scripts_for (with_inputs system inputs) asked (scripts_in options)) e
 
 -- and a run whose inputs may be refused
-with-denied : (file : List ℕ) (asked : ℕ) (cores : List PartFile) (system : System) (read : Result (List (List ℕ)) Denial) (denial : Denial) → (ran_with file asked cores system read).denial ≡ Some denial → ran_with file asked cores system read ≡ refused_by denial
-with-denied file asked cores system (Ok inputs) denial e = within-denied file asked cores system inputs denial e
-with-denied file asked cores system (Err refusal) denial e = same_refusal refusal denial e
+with-denied : (file : List ℕ) (options : List RunOption) (system : System) (read : Result (List (List ℕ)) Denial) (denial : Denial) → (ran_with file options system read).denial ≡ Some denial → ran_with file options system read ≡ refused_by denial
+with-denied file options system (Ok inputs) denial e = within-denied file options system inputs denial e
+with-denied file options system (Err refusal) denial e = same_refusal refusal denial e
 
 -- and a run of a container
 run-denied : (file : List ℕ) (options : List RunOption) (bytes : List ℕ) (contents : List (List ℕ)) (denial : Denial) → (run_outcome file options bytes contents).denial ≡ Some denial → run_outcome file options bytes contents ≡ refused_by denial
@@ -216,7 +235,7 @@ unfolding run_outcome
 run-denied file options bytes contents denial e = at (unpacked bytes) e
   where
     at : (read : Result System BoxFault) → (run_by file options contents read).denial ≡ Some denial → run_by file options contents read ≡ refused_by denial
-    at (Ok system) e = with-denied file _ (cores_in options) system _ denial e
+    at (Ok system) e = with-denied file options system _ denial e
     at (Err fault) e = same_refusal _ denial e
 
 -- where there is no file, none is written
@@ -241,6 +260,7 @@ outcome-denied command contents denial is = at command (first_long (inputs_of co
     at (MakePlan description) None e = told-denied description (plan_lines_of (content 0 contents)) denial e
     at (CheckPlan description) None e = told-denied description (verdicts_of (content 0 contents)) denial e
     at (TellGroups description) None e = told-denied description (groups_of (content 0 contents)) denial e
+    at (Generate number) None e = told-denied [] (Ok (generated_text number)) denial e
     at (Run container options) None e = run-denied container options (content 0 contents) (drop 1 contents) denial e
 
 -- What is read.

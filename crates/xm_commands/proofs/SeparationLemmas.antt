@@ -23,13 +23,13 @@ use Rattle.machine_model.specs.Machine.{Machine, booted_part, run, start}
 use Rattle.machine_model.specs.Partition.{PartitionState}
 use Rattle.machine_model.specs.View.{System, view_of}
 use Rattle.whole_system.specs.State.{part_at, with_inputs}
-use Rattle.xm_words.specs.Words.{Command, PartFile, RunOption, Bare, Parse, BuildImage, ReadImage, Pack, ListContainer, CheckContainer, MakePlan, CheckPlan, TellGroups, Run, cores_in, inputs_in, span_in}
+use Rattle.xm_words.specs.Words.{Command, PartFile, RunOption, Bare, Parse, BuildImage, ReadImage, Pack, ListContainer, CheckContainer, MakePlan, CheckPlan, TellGroups, Generate, Run, cores_in, inputs_in, span_in, scripts_in}
 use Rattle.xm_commands.specs.Cores.{AreInside}
 use Rattle.xm_commands.specs.Denial.{Denial}
 use Rattle.xm_commands.specs.Ending.{Ending, length_text, status_of, ticks_text}
 use Rattle.xm_commands.specs.Inputs.{first_beyond, inputs_for, inputs_with, no_inputs, unless_beyond}
-use Rattle.xm_commands.specs.Outcome.{Output, Outcome, bare_outcome, content, core_output, core_outputs, first_long, inputs_of, outcome_of, ran, ran_with, ran_within, refused, refused_by, run_by, run_outcome, ticks_asked, unless_long, worked}
-use Rattle.xm_commands.specs.Separation.{AreAlone, CommandAlone, ContainerAlone, PrintsAlone, ShowsAlone, ShowsFront, ShowsPart, ShowsSome, alone_output}
+use Rattle.xm_commands.specs.Outcome.{Output, Outcome, bare_outcome, content, core_output, core_outputs, first_long, inputs_of, outcome_of, ran, ran_scripted, ran_with, ran_within, refused, refused_by, run_by, run_outcome, script_before, script_denial, script_output, scripts_for, ticks_asked, unless_denied, unless_long, worked}
+use Rattle.xm_commands.specs.Separation.{AreAlone, CommandAlone, ContainerAlone, PrintsAlone, ShowsAlone, ShowsFront, ShowsPart, ShowsSome, alone_output, alone_outputs}
 use Rattle.xm_commands.specs.Top.{AreContents, IsComplete, IsCut, IsLost, IsLostAfter, IsWriteCause}
 use Rattle.xm_commands.specs.Work.{Outside, IsCarriedOut, IsWorked, called_for, did, told_all, wrote, wrote_all}
 use Rattle.xm_commands.proofs.CoreLemmas.{cores_inside}
@@ -60,6 +60,29 @@ same_cores law system ticks (named ∷ cores) inside =
     ap (λ (bytes : List ℕ). record { file = named.file; bytes = bytes }) (core_there (run (start system) ticks) named.part _ (law system named.part ticks inside.0)) in
     ap (λ (o : Output). o ∷ map (core_output (run (start system) ticks)) cores) one
     ∙ ap (λ (os : List Output). alone_output system ticks named ∷ os) (same_cores law system ticks cores inside.1)
+
+-- and scripts stand behind them
+same_later : SameCoreFile → (system : System) (ticks : ℕ) (cores scripts : List PartFile) → AreInside (length system.conf.parts) cores
+    → core_outputs (run (start system) ticks) cores ++ map (script_output system ticks) scripts ≡ alone_outputs system ticks cores scripts
+same_later law system ticks cores scripts inside = ap (λ (os : List Output). os ++ map (script_output system ticks) scripts) (same_cores law system ticks cores inside)
+
+-- what a run comes to whose scripts are not too long
+abbrev ran_to : ℕ → List PartFile → List PartFile → Loaded → List (List ℕ) → Outcome
+ran_to ticks cores scripts system inputs = ran ticks cores (map (script_output (with_inputs system inputs) ticks) scripts) system inputs
+
+-- where none is refused they are what the partitions were told
+scripts_are : (system : System) (ticks : ℕ) (names : List PartFile) (outputs : List Output) → scripts_for system ticks names ≡ Ok outputs → outputs ≡ map (script_output system ticks) names
+scripts_are system ticks [] outputs made = (let none : [] ≡ outputs = cc in sym none)
+scripts_are system ticks (named ∷ names) outputs made = at (script_denial system ticks named) (scripts_for system ticks names) refl (scripts_are system ticks names) made
+  where
+    at : (refusal : Option Denial) (later : Result (List Output) Denial) → scripts_for system ticks names ≡ later
+        → ((others : List Output) → scripts_for system ticks names ≡ Ok others → others ≡ map (script_output system ticks) names)
+        → unless_denied refusal (script_before (script_output system ticks named) later) ≡ Ok outputs → outputs ≡ map (script_output system ticks) (named ∷ names)
+    at (Some refusal) later are rest e = absurd (cc)
+    at None (Err refusal) are rest e = absurd (cc)
+    at None (Ok others) are rest e =
+        let all : script_output system ticks named ∷ others ≡ outputs = cc in
+        sym all ∙ ap (λ (os : List Output). script_output system ticks named ∷ os) (rest others are)
 
 -- What was done, by what a command comes to.
 
@@ -146,35 +169,6 @@ are_cut (line ∷ others) had got p = ⊎_elim here (later (are_cut others (grow
               ∙ sym (grown_grown had (text_of line) (take (p.count - length (text_of line)) (texts others)));
         }))
 
--- The core files that were written.
-
--- of files with these names the first are those of the first names
-record AreNamed (f : PartFile → Output) (names : List PartFile) (first : List Output) (output : Output) : Type 0 where
-  before : List PartFile
-  named : PartFile
-  behind : List PartFile
-  split : before ++ named ∷ behind ≡ names
-  first_are : first ≡ map f before
-  output_is : output ≡ f named
-
-behind_named : (f : PartFile → Output) (name : PartFile) (o : Output) (names : List PartFile) (first : List Output) (output : Output) → f name ≡ o → AreNamed f names first output → AreNamed f (name ∷ names) (o ∷ first) output
-behind_named f name o names first output same found = record {
-  before = name ∷ found.before;
-  named = found.named;
-  behind = found.behind;
-  split = ap (λ (ns : List PartFile). name ∷ ns) found.split;
-  first_are = ap (λ (x : Output). x ∷ first) (sym same) ∙ ap (λ (xs : List Output). f name ∷ xs) found.first_are;
-  output_is = found.output_is;
-}
-
-are_named : (f : PartFile → Output) (names : List PartFile) (first : List Output) (output : Output) (rest : List Output) → map f names ≡ first ++ output ∷ rest → AreNamed f names first output
-are_named f [] [] output rest is = absurd (cc)
-are_named f [] (o ∷ first) output rest is = absurd (cc)
-are_named f (name ∷ names) [] output rest is = (let same : f name ≡ output = cc in record { before = []; named = name; behind = names; split = refl; first_are = refl; output_is = sym same })
-are_named f (name ∷ names) (o ∷ first) output rest is =
-    let same : f name ≡ o = cc in
-    behind_named f name o names first output same (are_named f names first output rest (let others : map f names ≡ first ++ output ∷ rest = cc in others))
-
 -- A run.
 
 -- whose whole report went out
@@ -182,22 +176,22 @@ prints_run : OwnLines → (system : System) (ticks : ℕ) (before after : Outsid
 prints_run law system ticks before after got = record { lines = report system ticks; report = got; own = λ p there. law system p ticks there }
 
 -- what a run comes to
-shows_run : OwnLines → SameCoreFile → (system : Loaded) (inputs : List (List ℕ)) (ticks : ℕ) (cores : List PartFile) (before read_from after : Outside) → AreInside (length system.conf.parts) cores
-    → read_from.files ≡ before.files → read_from.got ≡ before.got → IsAllOf read_from after (ran ticks cores system inputs) → ShowsAlone (with_inputs system inputs) ticks cores before after
+shows_run : OwnLines → SameCoreFile → (system : Loaded) (inputs : List (List ℕ)) (ticks : ℕ) (cores scripts : List PartFile) (before read_from after : Outside) → AreInside (length system.conf.parts) cores
+    → read_from.files ≡ before.files → read_from.got ≡ before.got → IsAllOf read_from after (ran_to ticks cores scripts system inputs) → ShowsAlone (with_inputs system inputs) ticks cores scripts before after
 unfolding ran
-shows_run lines_law core_law system inputs ticks cores before read_from after inside files got is = record {
+shows_run lines_law core_law system inputs ticks cores scripts before read_from after inside files got is = record {
   printed = prints_run lines_law (with_inputs system inputs) ticks before after
-      (ap (λ (x : Outside). x.got) is.1 ∙ did-got (ran ticks cores system inputs) read_from ∙ ap (λ (g : Option (List ℕ)). grown g (texts (report (with_inputs system inputs) ticks))) got);
+      (ap (λ (x : Outside). x.got) is.1 ∙ did-got (ran_to ticks cores scripts system inputs) read_from ∙ ap (λ (g : Option (List ℕ)). grown g (texts (report (with_inputs system inputs) ticks))) got);
   written = ap (λ (x : Outside). x.files) is.1
-      ∙ ap (λ (os : List Output). (wrote_all os (told_all (ran ticks cores system inputs) read_from)).files) (same_cores core_law (with_inputs system inputs) ticks cores inside)
-      ∙ wrote_all-from (map (alone_output (with_inputs system inputs) ticks) cores) (told_all (ran ticks cores system inputs) read_from) before files;
+      ∙ ap (λ (os : List Output). (wrote_all os (told_all (ran_to ticks cores scripts system inputs) read_from)).files) (same_later core_law (with_inputs system inputs) ticks cores scripts inside)
+      ∙ wrote_all-from (alone_outputs (with_inputs system inputs) ticks cores scripts) (told_all (ran_to ticks cores scripts system inputs) read_from) before files;
 }
 
 -- where its report was cut
-shows_front : OwnLines → (system : Loaded) (inputs : List (List ℕ)) (ticks : ℕ) (cores : List PartFile) (before after : Outside)
-    → IsFrontOf before after (ran ticks cores system inputs) → ShowsFront (with_inputs system inputs) ticks cores before after
+shows_front : OwnLines → (system : Loaded) (inputs : List (List ℕ)) (ticks : ℕ) (cores scripts : List PartFile) (before after : Outside)
+    → IsFrontOf before after (ran_to ticks cores scripts system inputs) → ShowsFront (with_inputs system inputs) ticks cores scripts before after
 unfolding ran
-shows_front law system inputs ticks cores before after is =
+shows_front law system inputs ticks cores scripts before after is =
     let cut = are_cut (report (with_inputs system inputs) ticks) before.got after.got is.0 in
     record {
       lines = cut.lines;
@@ -209,26 +203,20 @@ shows_front law system inputs ticks cores before after is =
       files = is.1;
     }
 
--- where a core file was not written
-shows_some : OwnLines → SameCoreFile → (system : Loaded) (inputs : List (List ℕ)) (ticks : ℕ) (cores : List PartFile) (before after : Outside) → AreInside (length system.conf.parts) cores
-    → IsSomeOf before after (ran ticks cores system inputs) → ShowsSome (with_inputs system inputs) ticks cores before after
+-- where a core file or a script was not written
+shows_some : OwnLines → SameCoreFile → (system : Loaded) (inputs : List (List ℕ)) (ticks : ℕ) (cores scripts : List PartFile) (before after : Outside) → AreInside (length system.conf.parts) cores
+    → IsSomeOf before after (ran_to ticks cores scripts system inputs) → ShowsSome (with_inputs system inputs) ticks cores scripts before after
 unfolding ran
-shows_some lines_law core_law system inputs ticks cores before after inside is =
+shows_some lines_law core_law system inputs ticks cores scripts before after inside is =
     let booted = with_inputs system inputs in
-    let told = told_all (ran ticks cores system inputs) before in
-    let of_names : map (alone_output booted ticks) cores ≡ is.first ++ is.output ∷ is.rest = sym (same_cores core_law booted ticks cores inside) ∙ is.split in
-    let found = are_named (alone_output booted ticks) cores is.first is.output is.rest of_names in
-    let of_parts : OthersStay (wrote_all (map (alone_output booted ticks) found.before) told).files is.output.file after.files =
-    subst (λ (os : List Output). OthersStay (wrote_all os told).files is.output.file after.files) found.first_are is.others in
-    let of_before : OthersStay (wrote_all (map (alone_output booted ticks) found.before) before).files is.output.file after.files =
-    subst (λ (fs : Option Files). OthersStay fs is.output.file after.files) (wrote_all-from (map (alone_output booted ticks) found.before) told before refl) of_parts in
+    let told = told_all (ran_to ticks cores scripts system inputs) before in
     record {
       printed = prints_run lines_law booted ticks before after is.report;
-      first = found.before;
-      lost = found.named;
-      rest = found.behind;
-      split = found.split;
-      others = subst (λ (o : Output). OthersStay (wrote_all (map (alone_output booted ticks) found.before) before).files o.file after.files) found.output_is of_before;
+      first = is.first;
+      lost = is.output;
+      rest = is.rest;
+      split = sym is.split ∙ same_later core_law booted ticks cores scripts inside;
+      others = subst (λ (fs : Option Files). OthersStay fs is.output.file after.files) (wrote_all-from is.first told before refl) is.others;
     }
 
 -- Commands that are not refused, by what was done.
@@ -243,23 +231,35 @@ worked_by {R} Did command contents never ran_so is = at (first_long (inputs_of c
     at (Some file) done = absurd (never _ done)
 
 -- an image that was run
-bare_by : {R : Type 0} (Did : Outcome → Type 0) (file : List ℕ) (ticks : ℕ) (image : List ℕ) → ((denial : Denial) → Did (refused_by denial) → ⊥) → (Did (ran ticks [] (bare_system image) (no_inputs 1)) → R) → Did (bare_outcome file ticks image) → R
+bare_by : {R : Type 0} (Did : Outcome → Type 0) (file : List ℕ) (ticks : ℕ) (image : List ℕ) → ((denial : Denial) → Did (refused_by denial) → ⊥) → (Did (ran ticks [] [] (bare_system image) (no_inputs 1)) → R) → Did (bare_outcome file ticks image) → R
 unfolding bare_outcome
 bare_by {R} Did file ticks image never ran_so is = at ((length image == 0) || nat_lt IMAGE_BYTES (length image)) is
   where
-    at : (t : Bool) → Did (if t then refused file (length_text (length image)) else ran ticks [] (bare_system image) (no_inputs 1)) → R
+    at : (t : Bool) → Did (if t then refused file (length_text (length image)) else ran ticks [] [] (bare_system image) (no_inputs 1)) → R
     at true done = absurd (never _ done)
     at false done = ran_so done
 
--- a run that is not too long
-within_by : {R : Type 0} (Did : Outcome → Type 0) (file : List ℕ) (asked : ℕ) (cores : List PartFile) (system : Loaded) (inputs : List (List ℕ)) → ((denial : Denial) → Did (refused_by denial) → ⊥)
-    → (Did (ran asked cores system inputs) → R) → Did (ran_within file asked cores system inputs) → R
-unfolding ran_within
-within_by {R} Did file asked cores system inputs never ran_so is = at (nat_lt TICKS asked) is
+-- a run none of whose scripts is too long
+scripted_by : {R : Type 0} (Did : Outcome → Type 0) (ticks : ℕ) (cores scripts : List PartFile) (system : Loaded) (inputs : List (List ℕ)) → ((denial : Denial) → Did (refused_by denial) → ⊥)
+    → (Did (ran_to ticks cores scripts system inputs) → R) → Did (ran_scripted ticks cores system inputs (scripts_for (with_inputs system inputs) ticks scripts)) → R
+scripted_by {R} Did ticks cores scripts system inputs never ran_so is = at (scripts_for (with_inputs system inputs) ticks scripts) refl is
   where
-    at : (t : Bool) → Did (if t then refused file (ticks_text asked) else ran asked cores system inputs) → R
+    at : (made : Result (List Output) Denial) → scripts_for (with_inputs system inputs) ticks scripts ≡ made → Did (ran_scripted ticks cores system inputs made) → R
+    at (Ok outputs) are done = ran_so (subst (λ (os : List Output). Did (ran ticks cores os system inputs)) (scripts_are (with_inputs system inputs) ticks scripts outputs are) done)
+    at (Err refusal) are done = absurd (never _ done)
+
+-- a run that is not too long
+within_by : {R : Type 0} (Did : Outcome → Type 0) (file : List ℕ) (options : List RunOption) (system : Loaded) (inputs : List (List ℕ)) → ((denial : Denial) → Did (refused_by denial) → ⊥)
+    → (Did (ran_to (ticks_asked (span_in options) system.conf) (cores_in options) (scripts_in options) system inputs) → R) → Did (ran_within file options system inputs) → R
+unfolding ran_within
+within_by {R} Did file options system inputs never ran_so is = at (nat_lt TICKS asked) is
+  where
+    asked : ℕ
+    asked = ticks_asked (span_in options) system.conf
+
+    at : (t : Bool) → Did (if t then refused file (ticks_text asked) else ran_scripted asked (cores_in options) system inputs (scripts_for (with_inputs system inputs) asked (scripts_in options))) → R
     at true done = absurd (never _ done)
-    at false done = ran_so done
+    at false done = scripted_by Did asked (cores_in options) (scripts_in options) system inputs never ran_so done
 
 -- where input words are given, no option's partition is beyond those that there are
 given_inside : (parts : ℕ) (options : List RunOption) (contents inputs : List (List ℕ)) → inputs_for parts options contents ≡ Ok inputs → AreInside parts (cores_in options)
@@ -271,19 +271,20 @@ given_inside parts options contents inputs given = at (first_beyond parts option
     at (Some named) is e = absurd (cc)
 
 -- what was done with a run shows this
-abbrev RunShows : (Outcome → Type 0) → (System → ℕ → List PartFile → Outside → Outside → Type 0) → Outside → Outside → Type 0
+abbrev RunShows : (Outcome → Type 0) → (System → ℕ → List PartFile → List PartFile → Outside → Outside → Type 0) → Outside → Outside → Type 0
 RunShows Did Shows before after =
-    (system : Loaded) (inputs : List (List ℕ)) (ticks : ℕ) (cores : List PartFile) → AreInside (length system.conf.parts) cores → Did (ran ticks cores system inputs) → Shows (with_inputs system inputs) ticks cores before after
+    (system : Loaded) (inputs : List (List ℕ)) (ticks : ℕ) (cores scripts : List PartFile) → AreInside (length system.conf.parts) cores → Did (ran_to ticks cores scripts system inputs)
+    → Shows (with_inputs system inputs) ticks cores scripts before after
 
 -- a container that was run
-container_by : (Did : Outcome → Type 0) (Shows : System → ℕ → List PartFile → Outside → Outside → Type 0) (container : List ℕ) (options : List RunOption) (contents : List (List ℕ)) (before after : Outside)
+container_by : (Did : Outcome → Type 0) (Shows : System → ℕ → List PartFile → List PartFile → Outside → Outside → Type 0) (container : List ℕ) (options : List RunOption) (contents : List (List ℕ)) (before after : Outside)
     → AreContents before.files (Run container options) contents → ((denial : Denial) → Did (refused_by denial) → ⊥) → RunShows Did Shows before after
     → Did (run_outcome container options (content 0 contents) (drop 1 contents)) → ContainerAlone Shows container options before after
 unfolding run_outcome
 container_by Did Shows container options contents before after are never shows is = at (unpacked (content 0 contents)) refl is
   where
     given : (system : Loaded) → unpacked (content 0 contents) ≡ Ok system → (read : Result (List (List ℕ)) Denial) → inputs_for (length system.conf.parts) options (drop 1 contents) ≡ read
-        → Did (ran_with container (ticks_asked (span_in options) system.conf) (cores_in options) system read) → ContainerAlone Shows container options before after
+        → Did (ran_with container options system read) → ContainerAlone Shows container options before after
     given system unpacks (Ok inputs) reads done = record {
       contents = contents;
       are = are;
@@ -291,8 +292,8 @@ container_by Did Shows container options contents before after are never shows i
       unpacks = unpacks;
       inputs = inputs;
       given = reads;
-      shows = within_by Did container (ticks_asked (span_in options) system.conf) (cores_in options) system inputs never
-          (shows system inputs (ticks_asked (span_in options) system.conf) (cores_in options) (given_inside (length system.conf.parts) options (drop 1 contents) inputs reads)) done;
+      shows = within_by Did container options system inputs never
+          (shows system inputs (ticks_asked (span_in options) system.conf) (cores_in options) (scripts_in options) (given_inside (length system.conf.parts) options (drop 1 contents) inputs reads)) done;
     }
     given system unpacks (Err refusal) reads done = absurd (never _ done)
 
@@ -301,12 +302,12 @@ container_by Did Shows container options contents before after are never shows i
     at (Err fault) unpacks done = absurd (never _ done)
 
 -- what a command shows
-command_by : (Did : Outcome → Type 0) (Shows : System → ℕ → List PartFile → Outside → Outside → Type 0) (command : Command) (contents : List (List ℕ)) (before after : Outside)
+command_by : (Did : Outcome → Type 0) (Shows : System → ℕ → List PartFile → List PartFile → Outside → Outside → Type 0) (command : Command) (contents : List (List ℕ)) (before after : Outside)
     → AreContents before.files command contents → ((denial : Denial) → Did (refused_by denial) → ⊥) → RunShows Did Shows before after → Did (worked command contents) → CommandAlone Shows command before after
 command_by Did Shows (Bare image ticks) contents before after are never shows is = record {
   contents = contents;
   are = are;
-  shows = bare_by Did image ticks (content 0 contents) never (shows (bare_system (content 0 contents)) (no_inputs 1) ticks [] tt) is;
+  shows = bare_by Did image ticks (content 0 contents) never (shows (bare_system (content 0 contents)) (no_inputs 1) ticks [] [] tt) is;
 }
 command_by Did Shows (Parse description output) contents before after are never shows is = tt
 command_by Did Shows (BuildImage program output) contents before after are never shows is = tt
@@ -317,9 +318,10 @@ command_by Did Shows (CheckContainer container) contents before after are never 
 command_by Did Shows (MakePlan description) contents before after are never shows is = tt
 command_by Did Shows (CheckPlan description) contents before after are never shows is = tt
 command_by Did Shows (TellGroups description) contents before after are never shows is = tt
+command_by Did Shows (Generate number) contents before after are never shows is = tt
 command_by Did Shows (Run container options) contents before after are never shows is = container_by Did Shows container options contents before after are never shows is
 
-outcome_by : (Did : Outcome → Type 0) (Shows : System → ℕ → List PartFile → Outside → Outside → Type 0) (command : Command) (contents : List (List ℕ)) (before after : Outside)
+outcome_by : (Did : Outcome → Type 0) (Shows : System → ℕ → List PartFile → List PartFile → Outside → Outside → Type 0) (command : Command) (contents : List (List ℕ)) (before after : Outside)
     → AreContents before.files command contents → ((denial : Denial) → Did (refused_by denial) → ⊥) → RunShows Did Shows before after → Did (outcome_of command contents) → CommandAlone Shows command before after
 outcome_by Did Shows command contents before after are never shows is = worked_by Did command contents never (command_by Did Shows command contents before after are never shows) is
 
@@ -332,7 +334,7 @@ carried_alone lines_law core_law command before after w =
     let files : read_from.files ≡ before.files = ap (λ (x : Outside). x.files) (called_for-is (inputs_of command) before) in
     let got : read_from.got ≡ before.got = ap (λ (x : Outside). x.got) (called_for-is (inputs_of command) before) in
     outcome_by (IsAllOf read_from after) ShowsAlone command told.contents before after told.are (never_all read_from after)
-    (λ system inputs ticks cores inside done. shows_run lines_law core_law system inputs ticks cores before read_from after inside files got done)
+    (λ system inputs ticks cores scripts inside done. shows_run lines_law core_law system inputs ticks cores scripts before read_from after inside files got done)
     (subst (IsAllOf read_from after) told.outcome (w.denied, w.outside))
 
 pub are_alone : OwnLines → SameCoreFile → (e : Ending) (command : Option Command) (before after : Outside) → IsWorked e command before after → IsComplete (status_of e) → AreAlone ShowsAlone command before after
@@ -347,12 +349,12 @@ are_alone lines_law core_law e (Some command) before after w complete =
 front_alone : OwnLines → (command : Command) (before after : Outside) → IsCut command before after → CommandAlone ShowsPart command before after
 front_alone law command before after w =
     outcome_by (IsFrontOf before after) ShowsPart command w.contents before after w.are (never_front before after)
-    (λ system inputs ticks cores inside done. inl (shows_front law system inputs ticks cores before after done)) (w.front, w.files)
+    (λ system inputs ticks cores scripts inside done. inl (shows_front law system inputs ticks cores scripts before after done)) (w.front, w.files)
 
 some_alone : OwnLines → SameCoreFile → (command : Command) (before after : Outside) → IsLostAfter command before after → CommandAlone ShowsPart command before after
 some_alone lines_law core_law command before after w =
     outcome_by (IsSomeOf before after) ShowsPart command w.contents before after w.are (never_some before after)
-    (λ system inputs ticks cores inside done. inr (shows_some lines_law core_law system inputs ticks cores before after inside done))
+    (λ system inputs ticks cores scripts inside done. inr (shows_some lines_law core_law system inputs ticks cores scripts before after inside done))
     (record { first = w.first; output = w.output; rest = w.rest; split = w.split; report = w.report; others = w.others })
 
 -- a command that writes a file before its report runs nothing
@@ -367,6 +369,7 @@ lost_alone (CheckContainer container) before after w = tt
 lost_alone (MakePlan description) before after w = tt
 lost_alone (CheckPlan description) before after w = tt
 lost_alone (TellGroups description) before after w = tt
+lost_alone (Generate number) before after w = tt
 lost_alone (Run container options) before after w = absurd (let some : IsSome {T = List ℕ} None = w.output in cc)
 
 pub are_part : OwnLines → SameCoreFile → (command : Option Command) (before after : Outside) → IsWriteCause command before after → AreAlone ShowsPart command before after

@@ -1,9 +1,10 @@
 -- The commands that tell a file read it alone, and write none.
 use Rattle.std.proofs.Common.{◌≡◌, ℕ, List, [], ◌∷◌, None, refl}
 use Rattle.xm_commands.specs.Outcome.{inputs_of, later_of, output_of, told, worked}
-use Rattle.xm_commands.specs.Telling.{command_telling, text_telling}
-use Rattle.xm_commands.specs.declared.telling.Telling.{Telling}
-use Rattle.xm_commands.specs.declared.telling.Telling.TheVariants.{Image, Container, Verdict, Plan, Verdicts, Groups}
+use Rattle.file_maker.specs.Telling.{text_telling}
+use Rattle.xm_commands.specs.Telling.{command_telling}
+use Rattle.file_maker.specs.declared.telling.Telling.{Telling}
+use Rattle.file_maker.specs.declared.telling.Telling.TheVariants.{Image, Container, Verdict, Plan, Verdicts, Groups}
 
 pub one_told : (what : Telling) (file : List ℕ) → inputs_of (command_telling what file) ≡ file ∷ []
 one_told Image file = refl

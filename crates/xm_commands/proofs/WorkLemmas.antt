@@ -1,5 +1,5 @@
 -- What the work of a command comes to.
-use Rattle.std.proofs.Common.{◌≡◌, ℕ, ◌<◌, ◌≤◌, ◌⊎◌, inr, ⊎_elim, true, false, ◌||◌, nat_lt, nat_eq, List, [], ◌∷◌, length, codes, Option, Some, None, Result, Ok, Err, refl, sym, ap, ◌∙◌, subst, arith}
+use Rattle.std.proofs.Common.{◌≡◌, ℕ, ◌<◌, ◌≤◌, ◌⊎◌, inr, ⊎_elim, true, false, ◌||◌, nat_lt, nat_eq, List, [], ◌∷◌, ◌++◌, length, codes, Option, Some, None, Result, Ok, Err, refl, sym, ap, ◌∙◌, subst, arith}
 use Rattle.std.specs.String.{string_bytes}
 use Rattle.std.proofs.lemmas.Bool.Decides.{nat_tests}
 use Rattle.std.proofs.lemmas.List.{append-nil}
@@ -24,7 +24,7 @@ use Rattle.xm_report.specs.declared.output.WriteFault.{WriteFault}
 use Rattle.xm_container.specs.Reading.{unpacked}
 use Rattle.xm_container.specs.Texts.{box_fault_text}
 use Rattle.xm_container.specs.declared.fault.BoxFault.{BoxFault}
-use Rattle.xm_words.specs.Words.{Command, PartFile, RunOption, Bare, Parse, Run, command_of, cores_in, span_in}
+use Rattle.xm_words.specs.Words.{Command, PartFile, RunOption, Bare, Parse, Run, command_of}
 use Rattle.xm_words.specs.RunLemmas.{span_within}
 use Rattle.xm_words.specs.Grammar.{CommandsAreSpelled}
 use Rattle.xm_words.specs.Seen.{seen, seen_options}
@@ -32,13 +32,14 @@ use Rattle.xm_words.specs.declared.commands.Command as code
 use Rattle.xm_words.specs.declared.commands.Command.TheVariants as variant
 use Rattle.xm_commands.specs.Boards.{EndsRun}
 use Rattle.xm_commands.specs.Ending.{Ending, Finished, Misused, Unread, Denied, Unwritten, Unsaved, Unheard, Starved, length_text}
-use Rattle.xm_commands.specs.Outcome.{Output, Outcome, bare_outcome, core_outputs, first_long, inputs_of, made, outcome_of, output_of, ran, ran_with, refused, run_by, run_outcome, ticks_asked, told, unless_long, worked}
+use Rattle.xm_commands.specs.Outcome.{Output, Outcome, bare_outcome, core_outputs, first_long, inputs_of, made, outcome_of, output_of, ran, ran_with, refused, run_by, run_outcome, told, unless_long, worked}
 use Rattle.xm_commands.specs.Inputs.{inputs_for, no_inputs}
-use Rattle.xm_commands.specs.Parsing.{xmc_of}
-use Rattle.xm_commands.specs.Makes.{IsUnmade, IsUnmadeOf}
+use Rattle.file_maker.specs.Parsing.{xmc_of}
+use Rattle.file_maker.specs.Makes.{IsUnmade}
+use Rattle.xm_commands.specs.Makes.{IsUnmadeOf}
 use Rattle.xm_commands.specs.Told.{HasTicks}
-use Rattle.xm_commands.specs.declared.unmade.Unmade.{Unmade}
-use Rattle.xm_commands.specs.declared.unmade.Unmade.TheVariants as unmade
+use Rattle.file_maker.specs.declared.unmade.Unmade.{Unmade}
+use Rattle.file_maker.specs.declared.unmade.Unmade.TheVariants as unmade
 use Rattle.xm_commands.proofs.OutsideLemmas.{called_for-is, no_output, output-named}
 use Rattle.xm_commands.specs.Work.{Outside, AreNotRead, AreNotSaved, Comes, IsDone, IsNotRead, ReadsFiles, Reports, SavesAll, called, called_for, outside, told_all}
 
@@ -60,39 +61,39 @@ unfolding report_of report start
 reports_same system ticks = refl
 
 -- a run that reached its end told its report
-pub finished : (r : Ran) (cores : List PartFile) (system : System) (inputs : List (List ℕ)) (ticks : ℕ) (new : Machine) (had got : Option (List ℕ)) → IsRun (Ok r) ticks (start (with_inputs system inputs)) new had got → got ≡ grown had (ran ticks cores system inputs).report
+pub finished : (r : Ran) (cores : List PartFile) (scripts : List Output) (system : System) (inputs : List (List ℕ)) (ticks : ℕ) (new : Machine) (had got : Option (List ℕ)) → IsRun (Ok r) ticks (start (with_inputs system inputs)) new had got → got ≡ grown had (ran ticks cores scripts system inputs).report
 unfolding ran
-finished r cores system inputs ticks new had got is = is.report ∙ ap (λ (lines : List ReportLine). grown had (texts lines)) (reports_same (with_inputs system inputs) ticks)
+finished r cores scripts system inputs ticks new had got is = is.report ∙ ap (λ (lines : List ReportLine). grown had (texts lines)) (reports_same (with_inputs system inputs) ticks)
 
 -- a run whose report was not taken whole
-pub unwritten : (fault : WriteFault) (cores : List PartFile) (system : System) (inputs : List (List ℕ)) (ticks : ℕ) (new : Machine) (had got : Option (List ℕ)) (before now : ℕ) (files : Option Files) (reads writes calls : ℕ)
+pub unwritten : (fault : WriteFault) (cores : List PartFile) (scripts : List Output) (system : System) (inputs : List (List ℕ)) (ticks : ℕ) (new : Machine) (had got : Option (List ℕ)) (before now : ℕ) (files : Option Files) (reads writes calls : ℕ)
     → IsRun (Err fault) ticks (start (with_inputs system inputs)) new had got → Rose before now
-    → Comes Unwritten (ran ticks cores system inputs) (outside files reads writes calls had before) (outside files reads writes calls got now)
+    → Comes Unwritten (ran ticks cores scripts system inputs) (outside files reads writes calls had before) (outside files reads writes calls got now)
 unfolding ran
-unwritten fault cores system inputs ticks new had got before now files reads writes calls is rose =
+unwritten fault cores scripts system inputs ticks new had got before now files reads writes calls is rose =
     (rose, subst (λ (lines : List ReportLine). GrewByPrefix had (texts lines) got) (reports_same (with_inputs system inputs) ticks) is.report, refl)
 
--- a run whose whole report went out, and then core files were written, or were not
-cores_saved : (lost : Option (List ℕ)) (r : Ran) (cores : List PartFile) (system : System) (inputs : List (List ℕ)) (ticks : ℕ) (new : Machine) (had got : Option (List ℕ)) (before now : ℕ) (files : Option Files) (reads writes calls : ℕ) (after : Outside)
-    → IsRun (Ok r) ticks (start (with_inputs system inputs)) new had got → now ≡ before → SavesAll lost (core_outputs new cores) (outside files reads writes calls got now) after
-    → SavesAll lost (ran ticks cores system inputs).later (told_all (ran ticks cores system inputs) (outside files reads writes calls had before)) after
+-- a run whose whole report went out, and then core files and scripts were written, or were not
+cores_saved : (lost : Option (List ℕ)) (r : Ran) (cores : List PartFile) (scripts : List Output) (system : System) (inputs : List (List ℕ)) (ticks : ℕ) (new : Machine) (had got : Option (List ℕ)) (before now : ℕ) (files : Option Files) (reads writes calls : ℕ) (after : Outside)
+    → IsRun (Ok r) ticks (start (with_inputs system inputs)) new had got → now ≡ before → SavesAll lost (core_outputs new cores ++ scripts) (outside files reads writes calls got now) after
+    → SavesAll lost (ran ticks cores scripts system inputs).later (told_all (ran ticks cores scripts system inputs) (outside files reads writes calls had before)) after
 unfolding ran
-cores_saved lost r cores system inputs ticks new had got before now files reads writes calls after is same saves =
-    let told = finished r cores system inputs ticks new had got is in
-    let mid : outside files reads writes calls got now ≡ told_all (ran ticks cores system inputs) (outside files reads writes calls had before) = rw (told, same) refl in
-    let outputs : core_outputs new cores ≡ (ran ticks cores system inputs).later = ap (λ (g : Machine). core_outputs g cores) is.state in
-    subst (λ (x : Outside). SavesAll lost (ran ticks cores system inputs).later x after) mid (subst (λ (o : List Output). SavesAll lost o (outside files reads writes calls got now) after) outputs saves)
+cores_saved lost r cores scripts system inputs ticks new had got before now files reads writes calls after is same saves =
+    let told = finished r cores scripts system inputs ticks new had got is in
+    let mid : outside files reads writes calls got now ≡ told_all (ran ticks cores scripts system inputs) (outside files reads writes calls had before) = rw (told, same) refl in
+    let outputs : core_outputs new cores ++ scripts ≡ (ran ticks cores scripts system inputs).later = ap (λ (g : Machine). core_outputs g cores ++ scripts) is.state in
+    subst (λ (x : Outside). SavesAll lost (ran ticks cores scripts system inputs).later x after) mid (subst (λ (o : List Output). SavesAll lost o (outside files reads writes calls got now) after) outputs saves)
 
 -- where all were, what was run was carried out, and it ends as the board says
-pub ended_comes : (e : Ending) (board : BoardView) (r : Ran) (cores : List PartFile) (system : System) (inputs : List (List ℕ)) (ticks : ℕ) (new : Machine) (had got : Option (List ℕ)) (before now : ℕ) (files : Option Files) (reads writes calls : ℕ) (after : Outside)
-    → EndsRun e board → IsRun (Ok r) ticks (start (with_inputs system inputs)) new had got → now ≡ before → SavesAll None (core_outputs new cores) (outside files reads writes calls got now) after
-    → Comes e (ran ticks cores system inputs) (outside files reads writes calls had before) after
+pub ended_comes : (e : Ending) (board : BoardView) (r : Ran) (cores : List PartFile) (scripts : List Output) (system : System) (inputs : List (List ℕ)) (ticks : ℕ) (new : Machine) (had got : Option (List ℕ)) (before now : ℕ) (files : Option Files) (reads writes calls : ℕ) (after : Outside)
+    → EndsRun e board → IsRun (Ok r) ticks (start (with_inputs system inputs)) new had got → now ≡ before → SavesAll None (core_outputs new cores ++ scripts) (outside files reads writes calls got now) after
+    → Comes e (ran ticks cores scripts system inputs) (outside files reads writes calls had before) after
 unfolding ran
-ended_comes e board r cores system inputs ticks new had got before now files reads writes calls after ends is same saves =
-    by_end e ends (cores_saved None r cores system inputs ticks new had got before now files reads writes calls after is same saves)
+ended_comes e board r cores scripts system inputs ticks new had got before now files reads writes calls after ends is same saves =
+    by_end e ends (cores_saved None r cores scripts system inputs ticks new had got before now files reads writes calls after is same saves)
   where
-    by_end : (e : Ending) → EndsRun e board → SavesAll None (ran ticks cores system inputs).later (told_all (ran ticks cores system inputs) (outside files reads writes calls had before)) after
-        → Comes e (ran ticks cores system inputs) (outside files reads writes calls had before) after
+    by_end : (e : Ending) → EndsRun e board → SavesAll None (ran ticks cores scripts system inputs).later (told_all (ran ticks cores scripts system inputs) (outside files reads writes calls had before)) after
+        → Comes e (ran ticks cores scripts system inputs) (outside files reads writes calls had before) after
     by_end Finished ends s = (refl, s)
     by_end Misused ends s = absurd ends
     by_end (Unread file) ends s = absurd ends
@@ -103,18 +104,18 @@ ended_comes e board r cores system inputs ticks new had got before now files rea
     by_end Starved ends s = absurd ends
 
 -- where one was not
-pub unsaved_comes : (e : Ending) (r : Ran) (cores : List PartFile) (system : System) (inputs : List (List ℕ)) (ticks : ℕ) (new : Machine) (had got : Option (List ℕ)) (before now : ℕ) (files : Option Files) (reads writes calls : ℕ) (after : Outside)
-    → IsRun (Ok r) ticks (start (with_inputs system inputs)) new had got → now ≡ before → AreNotSaved e (core_outputs new cores) (outside files reads writes calls got now) after
-    → Comes e (ran ticks cores system inputs) (outside files reads writes calls had before) after
-unsaved_comes Finished r cores system inputs ticks new had got before now files reads writes calls after is same lost = absurd lost
-unsaved_comes Misused r cores system inputs ticks new had got before now files reads writes calls after is same lost = absurd lost
-unsaved_comes (Unread file) r cores system inputs ticks new had got before now files reads writes calls after is same lost = absurd lost
-unsaved_comes (Denied file text) r cores system inputs ticks new had got before now files reads writes calls after is same lost = absurd lost
-unsaved_comes Unwritten r cores system inputs ticks new had got before now files reads writes calls after is same lost = absurd lost
-unsaved_comes (Unsaved file) r cores system inputs ticks new had got before now files reads writes calls after is same lost =
-    inr (cores_saved (Some file) r cores system inputs ticks new had got before now files reads writes calls after is same lost)
-unsaved_comes (Unheard place) r cores system inputs ticks new had got before now files reads writes calls after is same lost = absurd lost
-unsaved_comes Starved r cores system inputs ticks new had got before now files reads writes calls after is same lost = absurd lost
+pub unsaved_comes : (e : Ending) (r : Ran) (cores : List PartFile) (scripts : List Output) (system : System) (inputs : List (List ℕ)) (ticks : ℕ) (new : Machine) (had got : Option (List ℕ)) (before now : ℕ) (files : Option Files) (reads writes calls : ℕ) (after : Outside)
+    → IsRun (Ok r) ticks (start (with_inputs system inputs)) new had got → now ≡ before → AreNotSaved e (core_outputs new cores ++ scripts) (outside files reads writes calls got now) after
+    → Comes e (ran ticks cores scripts system inputs) (outside files reads writes calls had before) after
+unsaved_comes Finished r cores scripts system inputs ticks new had got before now files reads writes calls after is same lost = absurd lost
+unsaved_comes Misused r cores scripts system inputs ticks new had got before now files reads writes calls after is same lost = absurd lost
+unsaved_comes (Unread file) r cores scripts system inputs ticks new had got before now files reads writes calls after is same lost = absurd lost
+unsaved_comes (Denied file text) r cores scripts system inputs ticks new had got before now files reads writes calls after is same lost = absurd lost
+unsaved_comes Unwritten r cores scripts system inputs ticks new had got before now files reads writes calls after is same lost = absurd lost
+unsaved_comes (Unsaved file) r cores scripts system inputs ticks new had got before now files reads writes calls after is same lost =
+    inr (cores_saved (Some file) r cores scripts system inputs ticks new had got before now files reads writes calls after is same lost)
+unsaved_comes (Unheard place) r cores scripts system inputs ticks new had got before now files reads writes calls after is same lost = absurd lost
+unsaved_comes Starved r cores scripts system inputs ticks new had got before now files reads writes calls after is same lost = absurd lost
 
 -- a configuration has a plan
 pub has_plan : (conf : Conf) → Fits (described conf) → 0 < length conf.plans
@@ -143,7 +144,7 @@ unfolding bare_outcome
 outcome-length file ticks bytes short wrong = one-short (Bare file ticks) file bytes refl short ∙ (let test = length_test (length bytes) wrong in rw test refl)
 
 -- a file that is an image
-pub outcome-image : (file : List ℕ) (ticks : ℕ) (bytes : List ℕ) → IsImageLength (length bytes) → outcome_of (Bare file ticks) (bytes ∷ []) ≡ ran ticks [] (bare_system bytes) (no_inputs 1)
+pub outcome-image : (file : List ℕ) (ticks : ℕ) (bytes : List ℕ) → IsImageLength (length bytes) → outcome_of (Bare file ticks) (bytes ∷ []) ≡ ran ticks [] [] (bare_system bytes) (no_inputs 1)
 unfolding bare_outcome
 outcome-image file ticks bytes is =
     let short : length bytes ≤ FILE_BYTES = omega (arith, is.most) in
@@ -161,7 +162,7 @@ outcome-short command contents none = ap (λ (long : Option (List ℕ)). unless_
 
 -- a container that is one
 pub outcome-unpacked : (file : List ℕ) (options : List RunOption) (bytes : List ℕ) (contents : List (List ℕ)) (system : System) → unpacked bytes ≡ Ok system
-    → run_outcome file options bytes contents ≡ ran_with file (ticks_asked (span_in options) system.conf) (cores_in options) system (inputs_for (length system.conf.parts) options contents)
+    → run_outcome file options bytes contents ≡ ran_with file options system (inputs_for (length system.conf.parts) options contents)
 unfolding run_outcome
 outcome-unpacked file options bytes contents system is = ap (run_by file options contents) is
 
@@ -286,4 +287,5 @@ has_ticks (variant.CheckContainer container) words law e = tt
 has_ticks (variant.MakePlan description) words law e = tt
 has_ticks (variant.CheckPlan description) words law e = tt
 has_ticks (variant.TellGroups description) words law e = tt
+has_ticks (variant.Generate number) words law e = tt
 has_ticks (variant.Run container options) words law e = span_within (seen_options options) ((law words (Run container.now (seen_options options))).0 (sym e)).1.1.each

@@ -10,18 +10,21 @@ use Rattle.xm_container.specs.Reading.{unpacked}
 use Rattle.xm_container.specs.declared.fault.BoxFault.{BoxFault}
 use Rattle.loaded_system.specs.Bare.{bare_system}
 use Rattle.loaded_system.specs.System.{System}
+use Rattle.generated_runs.specs.Told.{generated_text}
 use Rattle.machine_model.specs.Machine.{Machine}
-use Rattle.xm_words.specs.Words.{Command, PartFile, RunOption, Bare, Parse, BuildImage, ReadImage, Pack, ListContainer, CheckContainer, MakePlan, CheckPlan, TellGroups, Run, cores_in}
+use Rattle.machine_model.specs.View.{System as Booted}
+use Rattle.whole_system.specs.State.{with_inputs}
+use Rattle.xm_words.specs.Words.{Command, PartFile, RunOption, Bare, Parse, BuildImage, ReadImage, Pack, ListContainer, CheckContainer, MakePlan, CheckPlan, TellGroups, Generate, Run, cores_in, scripts_in, span_in}
 use Rattle.xm_commands.specs.Answer.{saved, saved_all}
 use Rattle.xm_commands.specs.Denial.{Denial}
 use Rattle.xm_commands.specs.Ending.{length_text, ticks_text}
-use Rattle.xm_commands.specs.Grouping.{groups_of}
-use Rattle.xm_commands.specs.Imaging.{container_lines_of, container_verdict_of, image_lines_of, xef_of}
+use Rattle.file_maker.specs.Grouping.{groups_of}
+use Rattle.file_maker.specs.Imaging.{container_lines_of, container_verdict_of, image_lines_of, xef_of}
 use Rattle.xm_commands.specs.Inputs.{no_inputs}
-use Rattle.xm_commands.specs.Outcome.{Output, Outcome, bare_outcome, content, core_outputs, first_long, inputs_of, later_of, made, outcome_of, output_of, packed_to, ran, ran_with, ran_within, refused, run_by, run_outcome, told, unless_long, worked}
+use Rattle.xm_commands.specs.Outcome.{Output, Outcome, bare_outcome, content, core_outputs, first_long, inputs_of, later_of, made, outcome_of, output_of, packed_to, ran, ran_for, ran_scripted, ran_with, ran_within, refused, run_by, run_outcome, script_before, script_denial, script_output, scripts_for, ticks_asked, told, unless_denied, unless_long, worked}
 use Rattle.xm_commands.specs.Packing.{container_of, names_of}
-use Rattle.xm_commands.specs.Parsing.{xmc_of}
-use Rattle.xm_commands.specs.Planning.{plan_lines_of, verdicts_of}
+use Rattle.file_maker.specs.Parsing.{xmc_of}
+use Rattle.file_maker.specs.Planning.{plan_lines_of, verdicts_of}
 use Rattle.xm_commands.specs.Top.{FilesStay, HasCalls, IsNoneOf, StayWhere, counted_by, name_in, writes_of}
 use Rattle.xm_commands.specs.Work.{Outside, IsLostOf, IsNotSaved, did, file_in, told_all, wrote, wrote_all}
 use Rattle.xm_commands.proofs.OutsideLemmas.{counted-counted_by, others_stored, output-named, wrote-faults, wrote-files, wrote-got, wrote-read_faults, wrote-write_faults}
@@ -138,6 +141,11 @@ files_of outputs = map (λ (output : Output). output.file) outputs
 abbrev AreNamed : List (List ℕ) → List Output → Type 0
 AreNamed names outputs = (files_of outputs ≡ names) ⊎ (outputs ≡ [])
 
+-- files that were made are those that are named
+abbrev IsNamed : List (List ℕ) → Result (List Output) Denial → Type 0
+IsNamed names (Ok outputs) = files_of outputs ≡ names
+IsNamed names (Err refusal) = Unit {0}
+
 -- so they are no more
 named_few : (names : List (List ℕ)) (outputs : List Output) → AreNamed names outputs → length outputs ≤ length names
 named_few names outputs are = ⊎_elim
@@ -163,36 +171,63 @@ unfolding core_outputs
 core_outputs-files g [] = refl
 core_outputs-files g (named ∷ cores) = ap (λ (files : List (List ℕ)). named.file ∷ files) (core_outputs-files g cores)
 
-ran-later : (ticks : ℕ) (cores : List PartFile) (system : System) (inputs : List (List ℕ)) → AreNamed (names_of cores) (ran ticks cores system inputs).later
+-- and so are scripts, or one is refused
+scripts_named : (system : Booted) (ticks : ℕ) (names : List PartFile) → IsNamed (names_of names) (scripts_for system ticks names)
+scripts_named system ticks [] = refl
+scripts_named system ticks (named ∷ names) = at (script_denial system ticks named) (scripts_for system ticks names) (scripts_named system ticks names)
+  where
+    at : (refusal : Option Denial) (later : Result (List Output) Denial) → IsNamed (names_of names) later
+        → IsNamed (named.file ∷ names_of names) (unless_denied refusal (script_before (script_output system ticks named) later))
+    at (Some refusal) later are = tt
+    at None (Ok outputs) are = ap (λ (files : List (List ℕ)). named.file ∷ files) are
+    at None (Err refusal) are = tt
+
+ran-later : (ticks : ℕ) (cores : List PartFile) (scripts : List Output) (names : List (List ℕ)) (system : System) (inputs : List (List ℕ)) → files_of scripts ≡ names
+    → AreNamed (names_of cores ++ names) (ran ticks cores scripts system inputs).later
 unfolding ran
-ran-later ticks cores system inputs = inl (core_outputs-files _ cores)
+ran-later ticks cores scripts names system inputs are =
+    inl (map-append (λ (output : Output). output.file) (core_outputs _ cores) scripts ∙ ap (λ (files : List (List ℕ)). files ++ files_of scripts) (core_outputs-files _ cores)
+    ∙ ap (λ (files : List (List ℕ)). names_of cores ++ files) are)
 
 bare-later : (file : List ℕ) (ticks : ℕ) (image : List ℕ) → AreNamed [] (bare_outcome file ticks image).later
 unfolding bare_outcome
 bare-later file ticks image = at ((length image == 0) || nat_lt IMAGE_BYTES (length image))
   where
-    at : (t : Bool) → AreNamed [] (if t then refused file (length_text (length image)) else ran ticks [] (bare_system image) (no_inputs 1)).later
+    at : (t : Bool) → AreNamed [] (if t then refused file (length_text (length image)) else ran ticks [] [] (bare_system image) (no_inputs 1)).later
     at true = inr refl
-    at false = ran-later ticks [] (bare_system image) (no_inputs 1)
+    at false = ran-later ticks [] [] [] (bare_system image) (no_inputs 1) refl
 
-within-later : (file : List ℕ) (asked : ℕ) (cores : List PartFile) (system : System) (inputs : List (List ℕ)) → AreNamed (names_of cores) (ran_within file asked cores system inputs).later
+-- the names of the core files and the scripts of a run
+abbrev run_names : List RunOption → List (List ℕ)
+run_names options = names_of (cores_in options) ++ names_of (scripts_in options)
+
+scripted-later : (ticks : ℕ) (options : List RunOption) (system : System) (inputs : List (List ℕ)) (scripts : Result (List Output) Denial) → IsNamed (names_of (scripts_in options)) scripts
+    → AreNamed (run_names options) (ran_scripted ticks (cores_in options) system inputs scripts).later
+scripted-later ticks options system inputs (Ok scripts) are = ran-later ticks (cores_in options) scripts (names_of (scripts_in options)) system inputs are
+scripted-later ticks options system inputs (Err refusal) are = inr refl
+
+within-later : (file : List ℕ) (options : List RunOption) (system : System) (inputs : List (List ℕ)) → AreNamed (run_names options) (ran_within file options system inputs).later
 unfolding ran_within
-within-later file asked cores system inputs = at (nat_lt TICKS asked)
+within-later file options system inputs = at (ticks_asked (span_in options) system.conf)
   where
-    at : (t : Bool) → AreNamed (names_of cores) (if t then refused file (ticks_text asked) else ran asked cores system inputs).later
-    at true = inr refl
-    at false = ran-later asked cores system inputs
+    by : (asked : ℕ) (t : Bool) (scripts : Result (List Output) Denial) → IsNamed (names_of (scripts_in options)) scripts
+        → AreNamed (run_names options) (if t then refused file (ticks_text asked) else ran_scripted asked (cores_in options) system inputs scripts).later
+    by asked true scripts are = inr refl
+    by asked false scripts are = scripted-later asked options system inputs scripts are
 
-with-later : (file : List ℕ) (asked : ℕ) (cores : List PartFile) (system : System) (read : Result (List (List ℕ)) Denial) → AreNamed (names_of cores) (ran_with file asked cores system read).later
-with-later file asked cores system (Ok inputs) = within-later file asked cores system inputs
-with-later file asked cores system (Err refusal) = inr refl
+    at : (asked : ℕ) → AreNamed (run_names options) (ran_for file asked options system inputs).later
+    at asked = by asked (nat_lt TICKS asked) _ (scripts_named (with_inputs system inputs) asked (scripts_in options))
 
-run-later : (file : List ℕ) (options : List RunOption) (bytes : List ℕ) (contents : List (List ℕ)) → AreNamed (names_of (cores_in options)) (run_outcome file options bytes contents).later
+with-later : (file : List ℕ) (options : List RunOption) (system : System) (read : Result (List (List ℕ)) Denial) → AreNamed (run_names options) (ran_with file options system read).later
+with-later file options system (Ok inputs) = within-later file options system inputs
+with-later file options system (Err refusal) = inr refl
+
+run-later : (file : List ℕ) (options : List RunOption) (bytes : List ℕ) (contents : List (List ℕ)) → AreNamed (run_names options) (run_outcome file options bytes contents).later
 unfolding run_outcome
 run-later file options bytes contents = at (unpacked bytes)
   where
-    at : (read : Result System BoxFault) → AreNamed (names_of (cores_in options)) (run_by file options contents read).later
-    at (Ok system) = with-later file _ (cores_in options) system _
+    at : (read : Result System BoxFault) → AreNamed (run_names options) (run_by file options contents read).later
+    at (Ok system) = with-later file options system _
     at (Err fault) = inr refl
 
 made-later : (input file : List ℕ) (made_of : Result (List ℕ) (List ℕ)) → (made input file made_of).later ≡ []
@@ -224,6 +259,7 @@ later-named command contents = at command (first_long (inputs_of command) conten
     at (MakePlan description) None = inr (told-later description (plan_lines_of (content 0 contents)))
     at (CheckPlan description) None = inr (told-later description (verdicts_of (content 0 contents)))
     at (TellGroups description) None = inr (told-later description (groups_of (content 0 contents)))
+    at (Generate number) None = inr (told-later [] (Ok (generated_text number)))
     at (Run container options) None = run-later container options (content 0 contents) (drop 1 contents)
 
 -- a command whose words name none of them has none

@@ -3,14 +3,11 @@ pub mod Boards
 pub mod Cores
 pub mod Denial
 pub mod Ending
-pub mod Grouping
-pub mod Imaging
 pub mod Inputs
 pub mod Makes
 pub mod Outcome
 pub mod Packing
-pub mod Parsing
-pub mod Planning
+pub mod Scripts
 pub mod Separation
 pub mod Status
 pub mod Telling

@@ -1,32 +1,11 @@
--- What a call answers that makes a file out of another.
-use Rattle.std.specs.Prelude.{◌≡◌, ℕ, ⊤, List, Vec, Result, Ok, Err}
+-- How a call ends that made nothing of a file.
+use Rattle.std.specs.Prelude.{◌≡◌, ℕ, List}
 use Rattle.std.specs.String.{string_bytes}
-use Rattle.xm_conf.specs.Configuration.{Conf}
+use Rattle.file_maker.specs.declared.unmade.Unmade.{Unmade}
+use Rattle.file_maker.specs.declared.unmade.Unmade.TheVariants.{Refused, Memory}
 use Rattle.xm_commands.specs.Ending.{Ending, Denied, Starved}
-use Rattle.xm_commands.specs.declared.unmade.Unmade.{Unmade}
-use Rattle.xm_commands.specs.declared.unmade.Unmade.TheVariants.{Refused, Memory}
-
--- nothing was made: the text is that of the refusal, or there was no memory
-abbrev pub IsUnmade : {X : Type 0} → Unmade → Result X (List ℕ) → Type 0
-IsUnmade (Refused text) made = made ≡ Err (string_bytes text)
-IsUnmade Memory made = ⊤
 
 -- how a call ends that made nothing of a file
 abbrev pub IsUnmadeOf : Ending → List ℕ → Unmade → Type 0
 IsUnmadeOf ending file (Refused text) = ending ≡ Denied file (string_bytes text)
 IsUnmadeOf ending file Memory = ending ≡ Starved
-
--- the bytes are those of the definition, and so is the text of a refusal
-abbrev pub Makes : {A : Type 0} → Result (Vec ℕ A) Unmade → Result (List ℕ) (List ℕ) → Type 0
-Makes (Ok bytes) made = made ≡ Ok bytes.items
-Makes (Err why) made = IsUnmade why made
-
--- the configuration is that of the definition, and so is the text of a refusal
-abbrev pub Describes : Result Conf Unmade → Result Conf (List ℕ) → Type 0
-Describes (Ok conf) described = described ≡ Ok conf
-Describes (Err why) described = IsUnmade why described
-
--- the text is that of the definition, or there was no memory
-abbrev pub IsTold : Unmade → List ℕ → Type 0
-IsTold (Refused text) told = string_bytes text ≡ told
-IsTold Memory told = ⊤

@@ -5,26 +5,29 @@ use Rattle.xm_report.specs.Report.{texts}
 use Rattle.xm_conf.specs.Configuration.{Conf}
 use Rattle.cyclic_plans.specs.Slots.{frame_of}
 use Rattle.machine_model.specs.CoreFile.{core_file}
+use Rattle.machine_model.specs.Cue.{script}
 use Rattle.machine_model.specs.Lines.{report}
 use Rattle.machine_model.specs.Machine.{Machine, run, start}
 use Rattle.machine_model.specs.View.{System as Booted, view_of}
+use Rattle.generated_runs.specs.Told.{generated_text}
 use Rattle.whole_system.specs.State.{part_at, with_inputs}
+use Rattle.cue_scripts.specs.Spelling.{script_text}
 use Rattle.loaded_system.specs.Bare.{bare_system}
 use Rattle.loaded_system.specs.System.{System}
 use Rattle.xm_container.specs.Reading.{unpacked}
 use Rattle.xm_container.specs.Texts.{box_fault_text}
 use Rattle.xm_container.specs.declared.fault.BoxFault.{BoxFault}
-use Rattle.xm_words.specs.Words.{Command, PartFile, RunOption, Bare, Parse, BuildImage, ReadImage, Pack, ListContainer, CheckContainer, MakePlan, CheckPlan, TellGroups, Run, cores_in, inputs_in, span_in}
+use Rattle.xm_words.specs.Words.{Command, PartFile, RunOption, Bare, Parse, BuildImage, ReadImage, Pack, ListContainer, CheckContainer, MakePlan, CheckPlan, TellGroups, Generate, Run, cores_in, inputs_in, span_in, scripts_in}
 use Rattle.xm_words.specs.declared.commands.Span.{Span}
 use Rattle.xm_words.specs.declared.commands.Span.TheVariants.{Frames, Ticks}
 use Rattle.xm_commands.specs.Denial.{Denial}
-use Rattle.xm_commands.specs.Ending.{length_text, ticks_text}
-use Rattle.xm_commands.specs.Grouping.{groups_of}
-use Rattle.xm_commands.specs.Imaging.{container_lines_of, container_verdict_of, image_lines_of, xef_of}
+use Rattle.xm_commands.specs.Ending.{length_text, long_text, ticks_text}
+use Rattle.file_maker.specs.Grouping.{groups_of}
+use Rattle.file_maker.specs.Imaging.{container_lines_of, container_verdict_of, image_lines_of, xef_of}
 use Rattle.xm_commands.specs.Inputs.{inputs_for, no_inputs}
-use Rattle.xm_commands.specs.Packing.{container_of, names_of}
-use Rattle.xm_commands.specs.Parsing.{xmc_of}
-use Rattle.xm_commands.specs.Planning.{plan_lines_of, verdicts_of}
+use Rattle.xm_commands.specs.Packing.{container_of, denial, names_of}
+use Rattle.file_maker.specs.Parsing.{xmc_of}
+use Rattle.file_maker.specs.Planning.{plan_lines_of, verdicts_of}
 
 -- a file that is written
 pub record Output : Type 0 where
@@ -65,6 +68,7 @@ inputs_of (CheckContainer container) = container ∷ []
 inputs_of (MakePlan description) = description ∷ []
 inputs_of (CheckPlan description) = description ∷ []
 inputs_of (TellGroups description) = description ∷ []
+inputs_of (Generate number) = []
 inputs_of (Run container options) = container ∷ names_of (inputs_in options)
 
 -- the file that a command writes before its report
@@ -79,6 +83,7 @@ output_of (CheckContainer container) = None
 output_of (MakePlan description) = None
 output_of (CheckPlan description) = None
 output_of (TellGroups description) = None
+output_of (Generate number) = None
 output_of (Run container options) = None
 
 -- the files that a command writes after its report, in their order
@@ -93,7 +98,8 @@ later_of (CheckContainer container) = []
 later_of (MakePlan description) = []
 later_of (CheckPlan description) = []
 later_of (TellGroups description) = []
-later_of (Run container options) = names_of (cores_in options)
+later_of (Generate number) = []
+later_of (Run container options) = names_of (cores_in options) ++ names_of (scripts_in options)
 
 -- the core file of a partition of a machine, under the name that is given for it
 abbrev pub core_output : Machine → PartFile → Output
@@ -103,13 +109,43 @@ core_output g named = record { file = named.file; bytes = core_file (view_of g.s
 unfoldable pub core_outputs : Machine → List PartFile → List Output
 core_outputs g cores = map (core_output g) cores
 
--- what a run of so many ticks comes to, of a system whose partitions have these input words, with these core files
-unfoldable pub ran : ℕ → List PartFile → System → List (List ℕ) → Outcome
-ran ticks cores system inputs = record {
+-- the script of a partition: all that it is told in so many ticks from the boot of its system on
+abbrev pub script_bytes : Booted → ℕ → ℕ → List ℕ
+script_bytes system ticks p = script_text p (script (start system) p ticks)
+
+-- under the name that is given for it
+abbrev pub script_output : Booted → ℕ → PartFile → Output
+script_output system ticks named = record { file = named.file; bytes = script_bytes system ticks named.part }
+
+-- the refusal of a script that has more bytes than a file may have
+abbrev pub script_denial : Booted → ℕ → PartFile → Option Denial
+script_denial system ticks named =
+    if nat_lt FILE_BYTES (length (script_bytes system ticks named.part)) then Some (denial named.file (long_text (length (script_bytes system ticks named.part))))
+    else None
+
+-- the first refusal of scripts in the order of their names, or else what comes of them
+abbrev pub unless_denied : Option Denial → Result (List Output) Denial → Result (List Output) Denial
+unless_denied None outputs = outputs
+unless_denied (Some refusal) outputs = Err refusal
+
+-- a script before others
+abbrev pub script_before : Output → Result (List Output) Denial → Result (List Output) Denial
+script_before output (Ok outputs) = Ok (output ∷ outputs)
+script_before output (Err refusal) = Err refusal
+
+-- the scripts of partitions in the order of their names, or the refusal of the first that is too long for a file
+abbrev pub scripts_for : Booted → ℕ → List PartFile → Result (List Output) Denial
+scripts_for system ticks [] = Ok []
+scripts_for system ticks (named ∷ scripts) =
+    unless_denied (script_denial system ticks named) (script_before (script_output system ticks named) (scripts_for system ticks scripts))
+
+-- what a run of so many ticks comes to, of a system whose partitions have these input words, with these core files, and with scripts behind them
+unfoldable pub ran : ℕ → List PartFile → List Output → System → List (List ℕ) → Outcome
+ran ticks cores scripts system inputs = record {
   denial = None;
   output = None;
   report = texts (report (with_inputs system inputs) ticks);
-  later = core_outputs (run (start (with_inputs system inputs)) ticks) cores;
+  later = core_outputs (run (start (with_inputs system inputs)) ticks) cores ++ scripts;
   run = Some (record { system = with_inputs system inputs; ticks = ticks });
 }
 
@@ -117,26 +153,37 @@ ran ticks cores system inputs = record {
 unfoldable pub bare_outcome : List ℕ → ℕ → List ℕ → Outcome
 bare_outcome file ticks image =
     if (length image == 0) || nat_lt IMAGE_BYTES (length image) then refused file (length_text (length image))
-    else ran ticks [] (bare_system image) (no_inputs 1)
+    else ran ticks [] [] (bare_system image) (no_inputs 1)
 
 -- how many ticks a run asks for, under a configuration: major frames are those of plan 0
 abbrev pub ticks_asked : Span → Conf → ℕ
 ticks_asked (Frames count) conf = count * frame_of conf 0
 ticks_asked (Ticks count) conf = count
 
--- what a run comes to, of a container's system with these input words: it is refused where it asks for more ticks than a run may have
-unfoldable pub ran_within : List ℕ → ℕ → List PartFile → System → List (List ℕ) → Outcome
-ran_within file asked cores system inputs = if nat_lt TICKS asked then refused file (ticks_text asked) else ran asked cores system inputs
+-- what a run comes to with scripts, or the refusal of one of them
+abbrev pub ran_scripted : ℕ → List PartFile → System → List (List ℕ) → Result (List Output) Denial → Outcome
+ran_scripted ticks cores system inputs (Ok scripts) = ran ticks cores scripts system inputs
+ran_scripted ticks cores system inputs (Err refusal) = refused_by refusal
+
+-- what a run comes to, of a container's system with these input words: it is refused where it asks for more ticks than a run may have, and
+-- where a script of it is too long
+abbrev pub ran_for : List ℕ → ℕ → List RunOption → System → List (List ℕ) → Outcome
+ran_for file asked options system inputs =
+    if nat_lt TICKS asked then refused file (ticks_text asked)
+    else ran_scripted asked (cores_in options) system inputs (scripts_for (with_inputs system inputs) asked (scripts_in options))
+
+unfoldable pub ran_within : List ℕ → List RunOption → System → List (List ℕ) → Outcome
+ran_within file options system inputs = ran_for file (ticks_asked (span_in options) system.conf) options system inputs
 
 -- what a run comes to, of a container's system with input words, or the refusal of an input's file
-abbrev pub ran_with : List ℕ → ℕ → List PartFile → System → Result (List (List ℕ)) Denial → Outcome
-ran_with file asked cores system (Ok inputs) = ran_within file asked cores system inputs
-ran_with file asked cores system (Err refusal) = refused_by refusal
+abbrev pub ran_with : List ℕ → List RunOption → System → Result (List (List ℕ)) Denial → Outcome
+ran_with file options system (Ok inputs) = ran_within file options system inputs
+ran_with file options system (Err refusal) = refused_by refusal
 
 -- what a container comes to that is run with options and inputs with these contents, or the refusal of its file
 abbrev pub run_by : List ℕ → List RunOption → List (List ℕ) → Result System BoxFault → Outcome
 run_by file options contents (Ok system) =
-    ran_with file (ticks_asked (span_in options) system.conf) (cores_in options) system (inputs_for (length system.conf.parts) options contents)
+    ran_with file options system (inputs_for (length system.conf.parts) options contents)
 run_by file options contents (Err fault) = refused file (box_fault_text fault)
 
 -- what the container of a file with these bytes comes to, run with options and inputs with these contents
@@ -178,6 +225,7 @@ worked (CheckContainer container) contents = told container (container_verdict_o
 worked (MakePlan description) contents = told description (plan_lines_of (content 0 contents))
 worked (CheckPlan description) contents = told description (verdicts_of (content 0 contents))
 worked (TellGroups description) contents = told description (groups_of (content 0 contents))
+worked (Generate number) contents = told [] (Ok (generated_text number))
 worked (Run container options) contents = run_outcome container options (content 0 contents) (drop 1 contents)
 
 -- the first of the files that has more bytes than a file may have

@@ -13,9 +13,9 @@ use Rattle.machine_model.specs.Lines.{end_line, own, report}
 use Rattle.machine_model.specs.Machine.{start}
 use Rattle.machine_model.specs.View.{System, view_of}
 use Rattle.whole_system.specs.State.{with_inputs}
-use Rattle.xm_words.specs.Words.{Command, PartFile, RunOption, Bare, Parse, BuildImage, ReadImage, Pack, ListContainer, CheckContainer, MakePlan, CheckPlan, TellGroups, Run, cores_in, span_in}
+use Rattle.xm_words.specs.Words.{Command, PartFile, RunOption, Bare, Parse, BuildImage, ReadImage, Pack, ListContainer, CheckContainer, MakePlan, CheckPlan, TellGroups, Generate, Run, cores_in, span_in, scripts_in}
 use Rattle.xm_commands.specs.Inputs.{inputs_for, no_inputs}
-use Rattle.xm_commands.specs.Outcome.{Output, content, ticks_asked}
+use Rattle.xm_commands.specs.Outcome.{Output, content, script_output, ticks_asked}
 use Rattle.xm_commands.specs.Top.{AreContents}
 use Rattle.xm_commands.specs.Work.{Outside, wrote_all}
 
@@ -38,15 +38,19 @@ pub record PrintsAlone (system : System) (ticks : ℕ) (before after : Outside) 
   pub report : after.got ≡ grown before.got (texts lines)
   pub own : (p : ℕ) → p < length system.conf.parts → own p lines ≡ alone_report system p ticks
 
--- a run of so many ticks, with these core files: its whole report went out, and the core files that were written, in this order, are those of
--- the partitions alone; no other file has changed
-pub record ShowsAlone (system : System) (ticks : ℕ) (cores : List PartFile) (before after : Outside) : Type 0 where
+-- the core files of partitions alone, and scripts behind them
+abbrev pub alone_outputs : System → ℕ → List PartFile → List PartFile → List Output
+alone_outputs system ticks cores scripts = map (alone_output system ticks) cores ++ map (script_output system ticks) scripts
+
+-- a run of so many ticks, with these core files and scripts: its whole report went out, and the core files that were written, in this order, are
+-- those of the partitions alone, and the scripts behind them are what the partitions were told; no other file has changed
+pub record ShowsAlone (system : System) (ticks : ℕ) (cores scripts : List PartFile) (before after : Outside) : Type 0 where
   pub printed : PrintsAlone system ticks before after
-  pub written : after.files ≡ (wrote_all (map (alone_output system ticks) cores) before).files
+  pub written : after.files ≡ (wrote_all (alone_outputs system ticks cores scripts) before).files
 
 -- the same run, where its report was cut: what went out is the first lines of it, and a front of the next line. Of these lines each partition's
 -- own are the first of those of that partition alone, and the rest of them did not go out. No file has changed
-pub record ShowsFront (system : System) (ticks : ℕ) (cores : List PartFile) (before after : Outside) : Type 0 where
+pub record ShowsFront (system : System) (ticks : ℕ) (cores scripts : List PartFile) (before after : Outside) : Type 0 where
   pub lines : List ReportLine
   pub next : ReportLine
   pub rest : List ReportLine
@@ -55,38 +59,38 @@ pub record ShowsFront (system : System) (ticks : ℕ) (cores : List PartFile) (b
   pub own : (p : ℕ) → p < length system.conf.parts → own p lines ++ own p (next ∷ rest) ≡ alone_report system p ticks
   pub files : after.files ≡ before.files
 
--- the same run, where a core file was not written: its whole report went out, and the core files before that one are those of the partitions
--- alone; no file beside these has changed
-pub record ShowsSome (system : System) (ticks : ℕ) (cores : List PartFile) (before after : Outside) : Type 0 where
+-- the same run, where one of these files was not written: its whole report went out, and the files before that one were written, so all core
+-- files where it is a script; no file beside these has changed
+pub record ShowsSome (system : System) (ticks : ℕ) (cores scripts : List PartFile) (before after : Outside) : Type 0 where
   pub printed : PrintsAlone system ticks before after
-  pub first : List PartFile
-  pub lost : PartFile
-  pub rest : List PartFile
-  pub split : first ++ lost ∷ rest ≡ cores
-  pub others : OthersStay (wrote_all (map (alone_output system ticks) first) before).files lost.file after.files
+  pub first : List Output
+  pub lost : Output
+  pub rest : List Output
+  pub split : first ++ lost ∷ rest ≡ alone_outputs system ticks cores scripts
+  pub others : OthersStay (wrote_all first before).files lost.file after.files
 
--- the same run, where its report or a core file was not written
-abbrev pub ShowsPart : System → ℕ → List PartFile → Outside → Outside → Type 0
-ShowsPart system ticks cores before after = ShowsFront system ticks cores before after ⊎ ShowsSome system ticks cores before after
+-- the same run, where its report or one of its files was not written
+abbrev pub ShowsPart : System → ℕ → List PartFile → List PartFile → Outside → Outside → Type 0
+ShowsPart system ticks cores scripts before after = ShowsFront system ticks cores scripts before after ⊎ ShowsSome system ticks cores scripts before after
 
 -- a raw image was run, and the run shows this
-pub record BareAlone (Shows : System → ℕ → List PartFile → Outside → Outside → Type 0) (image : List ℕ) (ticks : ℕ) (before after : Outside) : Type 0 where
+pub record BareAlone (Shows : System → ℕ → List PartFile → List PartFile → Outside → Outside → Type 0) (image : List ℕ) (ticks : ℕ) (before after : Outside) : Type 0 where
   pub contents : List (List ℕ)
   pub are : AreContents before.files (Bare image ticks) contents
-  pub shows : Shows (with_inputs (bare_system (content 0 contents)) (no_inputs 1)) ticks [] before after
+  pub shows : Shows (with_inputs (bare_system (content 0 contents)) (no_inputs 1)) ticks [] [] before after
 
 -- a container was run, with input words for its partitions, and the run shows this
-pub record ContainerAlone (Shows : System → ℕ → List PartFile → Outside → Outside → Type 0) (container : List ℕ) (options : List RunOption) (before after : Outside) : Type 0 where
+pub record ContainerAlone (Shows : System → ℕ → List PartFile → List PartFile → Outside → Outside → Type 0) (container : List ℕ) (options : List RunOption) (before after : Outside) : Type 0 where
   pub contents : List (List ℕ)
   pub are : AreContents before.files (Run container options) contents
   pub system : loaded.System
   pub unpacks : unpacked (content 0 contents) ≡ Ok system
   pub inputs : List (List ℕ)
   pub given : inputs_for (length system.conf.parts) options (drop 1 contents) ≡ Ok inputs
-  pub shows : Shows (with_inputs system inputs) (ticks_asked (span_in options) system.conf) (cores_in options) before after
+  pub shows : Shows (with_inputs system inputs) (ticks_asked (span_in options) system.conf) (cores_in options) (scripts_in options) before after
 
--- what a command shows of partitions; those that run no system show nothing
-abbrev pub CommandAlone : (System → ℕ → List PartFile → Outside → Outside → Type 0) → Command → Outside → Outside → Type 0
+-- what a command shows of partitions; those that print no report of a run show nothing
+abbrev pub CommandAlone : (System → ℕ → List PartFile → List PartFile → Outside → Outside → Type 0) → Command → Outside → Outside → Type 0
 CommandAlone Shows (Bare image ticks) before after = BareAlone Shows image ticks before after
 CommandAlone Shows (Parse description output) before after = Unit {0}
 CommandAlone Shows (BuildImage program output) before after = Unit {0}
@@ -97,9 +101,10 @@ CommandAlone Shows (CheckContainer container) before after = Unit {0}
 CommandAlone Shows (MakePlan description) before after = Unit {0}
 CommandAlone Shows (CheckPlan description) before after = Unit {0}
 CommandAlone Shows (TellGroups description) before after = Unit {0}
+CommandAlone Shows (Generate number) before after = Unit {0}
 CommandAlone Shows (Run container options) before after = ContainerAlone Shows container options before after
 
 -- what words show that are a command
-abbrev pub AreAlone : (System → ℕ → List PartFile → Outside → Outside → Type 0) → Option Command → Outside → Outside → Type 0
+abbrev pub AreAlone : (System → ℕ → List PartFile → List PartFile → Outside → Outside → Type 0) → Option Command → Outside → Outside → Type 0
 AreAlone Shows None before after = Unit {0}
 AreAlone Shows (Some command) before after = CommandAlone Shows command before after

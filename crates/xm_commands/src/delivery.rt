@@ -4,13 +4,14 @@ ghost use Rattle.std.specs.Prelude.{◌≡◌, ℕ, List, [], length, Ok, Result
 ghost use Rattle.xm_outside.specs.Causes.{HasCause};
 ghost use Rattle.xm_outside.specs.Growth.{Writes};
 ghost use Rattle.xm_commands.specs.Denial.{Denial};
-ghost use Rattle.xm_commands.specs.Makes.{IsUnmadeOf, Makes};
+ghost use Rattle.file_maker.specs.Makes.{Makes};
+ghost use Rattle.xm_commands.specs.Makes.{IsUnmadeOf};
 ghost use Rattle.xm_commands.specs.Outcome.{made, made_text, packed_to, told};
 ghost use Rattle.xm_commands.specs.Told.{MakesOr, bytes_of, ending_of};
 ghost use Rattle.xm_commands.specs.Work.{Comes, Reports, outside};
 
 use crate::ending::{Ending, Refusal};
-use crate::unmade::Unmade;
+use file_maker::Unmade;
 use xm_outside::{Failed, Sink, Store, write_all};
 use xm_report::Pen;
 

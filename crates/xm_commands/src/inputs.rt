@@ -7,7 +7,7 @@ ghost use Rattle.xm_commands.specs.Outcome.{first_long};
 ghost use Rattle.xm_commands.specs.Packing.{names_of};
 ghost use Rattle.xm_commands.specs.Told.{IsDenied, MakesOr, bytes_of, ending_of};
 ghost use Rattle.xm_words.specs.Seen.{seen_file, seen_files, seen_option, seen_options, seen_part_file};
-ghost use Rattle.xm_words.specs.Words.{cores_in, inputs_in};
+ghost use Rattle.xm_words.specs.Words.{cores_in, inputs_in, scripts_in};
 
 use crate::ending::{Ending, Refusal};
 use std::alloc::Global;
@@ -26,6 +26,7 @@ pub(crate) fn inputs_for<'a>(
     ensures value { MakesOr (λ inputs. inputs) result (inputs_for parts (seen_options options.entry) (map bytes_of contents.now)) }
     ensures count { IfOk result (λ inputs. length inputs ≡ parts) }
     ensures cores { OnOk result (AreInside parts (cores_in (seen_options options.entry))) }
+    ensures scripts { OnOk result (AreInside parts (scripts_in (seen_options options.entry))) }
 {
     match first_beyond(parts, options) {
         Some(named) => Err(Ending::Denied {

@@ -1,18 +1,21 @@
-//! A system is run, its report goes out, and core files of its partitions are written after it.
+//! A system is run, its report goes out, and core files and scripts of its partitions are written after it.
 
-ghost use Rattle.std.specs.Prelude.{◌≡◌, ◌≤◌, [], ◌∷◌, Some, length};
+ghost use Rattle.std.specs.Prelude.{◌≡◌, ◌≤◌, [], ◌∷◌, Some, length, map};
 ghost use Rattle.xm_base.specs.declared.limits.TheConstants.{TICKS};
 ghost use Rattle.xm_commands.specs.Boards.{EndsRun, IsLeft, Leaves};
 ghost use Rattle.xm_commands.specs.Cores.{AreInside};
 ghost use Rattle.xm_commands.specs.Outcome.{outcome_of, ran};
+ghost use Rattle.xm_commands.specs.Scripts.{made_output};
 ghost use Rattle.xm_commands.specs.Told.{ending_of};
 ghost use Rattle.xm_commands.specs.Work.{Comes, IsDone, outside};
 ghost use Rattle.xm_words.specs.Seen.{seen_files};
 ghost use Rattle.xm_words.specs.Words.{Bare};
 
-use crate::cores::{core_room, write_cores};
+use crate::cores::core_room;
 use crate::ending::{Ending, Refusal};
+use crate::later::write_later;
 use crate::reading::read_file;
+use crate::scripts::MadeScript;
 use machine_model::keeps_numbers;
 use std::alloc::Global;
 use uart_board::{Board, ViewBoard};
@@ -69,7 +72,10 @@ fn run_bytes<'a, S: Store, O: Sink>(
         Ok(system) => match Inputs::new(alloc, 1) {
             Ok(inputs) => {
                 let cores = PartFiles::none();
-                run_system(alloc, ticks, cores, system, inputs, files, out, board)
+                let scripts = Vec::new(alloc);
+                run_system(
+                    alloc, ticks, cores, &scripts, system, inputs, files, out, board,
+                )
             }
             Err(_) => Ending::Starved,
         },
@@ -81,12 +87,13 @@ fn run_bytes<'a, S: Store, O: Sink>(
     }
 }
 
-/// Boots a system whose partitions have these input words and runs it; then core files of its partitions are written. All memory is
-/// taken before the run.
+/// Boots a system whose partitions have these input words and runs it; then core files of its partitions are written, and these scripts
+/// behind them. All memory is taken before the run.
 pub(crate) fn run_system<'a, S: Store, O: Sink>(
     alloc: Global,
     ticks: u64,
     cores: PartFiles<'a>,
+    scripts: &[MadeScript<'a>],
     system: System,
     inputs: Inputs,
     files: &mut S,
@@ -96,10 +103,10 @@ pub(crate) fn run_system<'a, S: Store, O: Sink>(
     requires most { ticks ≤ TICKS }
     requires given { length inputs ≡ length system.conf.parts }
     requires inside { AreInside (length system.conf.parts) (seen_files cores) }
-    ensures comes { Comes (ending_of result) (ran ticks (seen_files cores.entry) system inputs)
+    ensures comes { Comes (ending_of result) (ran ticks (seen_files cores.entry) (map made_output scripts.now) system inputs)
         (outside (S.files files.old) (S.read_faults files.old) (S.write_faults files.old) (S.calls files.old) (O.got out.old) (O.faults out.old))
         (outside (S.files files.new) (S.read_faults files.new) (S.write_faults files.new) (S.calls files.new) (O.got out.new) (O.faults out.new)) }
-    ensures board { Leaves (ending_of result) (ran ticks (seen_files cores.entry) system inputs).run (O.got out.old) (O.got out.new) (⟦<Board as ViewBoard>⟧.board_view board.old) (⟦<Board as ViewBoard>⟧.board_view board.new) }
+    ensures board { Leaves (ending_of result) (ran ticks (seen_files cores.entry) (map made_output scripts.now) system inputs).run (O.got out.old) (O.got out.new) (⟦<Board as ViewBoard>⟧.board_view board.old) (⟦<Board as ViewBoard>⟧.board_view board.new) }
 {
     keeps_numbers();
     let Ok(mut machine) = Machine::boot(alloc, system, inputs) else {
@@ -110,7 +117,7 @@ pub(crate) fn run_system<'a, S: Store, O: Sink>(
     };
     board.begin();
     match machine.run(ticks, out, board) {
-        Ok(_) => match write_cores(&machine, cores, &mut room, files) {
+        Ok(_) => match write_later(&machine, cores, scripts, &mut room, files) {
             Ok(()) => heard(board),
             Err(ending) => ending,
         },

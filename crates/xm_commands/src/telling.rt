@@ -1,39 +1,19 @@
 //! A file is told: an image, a container, or the plan or the groups of a system description.
 
-ghost use Rattle.std.specs.Prelude.{[], ◌∷◌, ◌<◌, ◌^◌, length};
-ghost use Rattle.xm_commands.specs.Makes.{Makes};
+ghost use Rattle.std.specs.Prelude.{[], ◌∷◌};
 ghost use Rattle.xm_commands.specs.Outcome.{outcome_of};
-ghost use Rattle.xm_commands.specs.Telling.{command_telling, text_telling};
+ghost use Rattle.file_maker.specs.Telling.{text_telling};
+ghost use Rattle.xm_commands.specs.Telling.{command_telling};
 ghost use Rattle.xm_commands.specs.Told.{ending_of};
 ghost use Rattle.xm_commands.specs.Work.{IsDone, Reports, outside};
 
 use crate::delivery::tell;
 use crate::ending::{Ending, Refusal};
-use crate::grouping::groups;
-use crate::imaging::{container_lines, container_verdict, image_lines};
-use crate::planning::{plan_lines, verdicts};
 use crate::reading::read_file;
-use crate::unmade::Unmade;
+use file_maker::{Telling, text_telling};
 use std::alloc::Global;
 use xm_base::FILE_BYTES;
 use xm_outside::{Sink, Store};
-
-/// What is told of a file.
-#[derive(Clone, Copy, Debug, PartialEq, Eq)]
-pub enum Telling {
-    /// The image.
-    Image,
-    /// The container.
-    Container,
-    /// That it is a container.
-    Verdict,
-    /// The plan that the requirements of a system description make.
-    Plan,
-    /// How its own plan stands to them.
-    Verdicts,
-    /// The group of each partition of a system description.
-    Groups,
-}
 
 /// Reads a file, and tells this of it.
 pub(crate) fn tell_file<'a, S: Store, O: Sink>(
@@ -70,19 +50,4 @@ fn tell_bytes<'a, O: Sink>(
         };
     }
     tell(file, text_telling(alloc, what, bytes), out)
-}
-
-// The text that tells this of a file.
-fn text_telling(alloc: Global, what: Telling, bytes: &[u8]) -> Result<Vec<u8>, Unmade>
-    requires { length bytes.now < 2 ^ 32 }
-    ensures { Makes result (text_telling what bytes.now) }
-{
-    match what {
-        Telling::Image => image_lines(alloc, bytes),
-        Telling::Container => container_lines(alloc, bytes),
-        Telling::Verdict => container_verdict(alloc, bytes),
-        Telling::Plan => plan_lines(alloc, bytes),
-        Telling::Verdicts => verdicts(alloc, bytes),
-        Telling::Groups => groups(alloc, bytes),
-    }
 }

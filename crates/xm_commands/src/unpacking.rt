@@ -1,8 +1,9 @@
 //! A container is unpacked, and its system is run.
 
-ghost use Rattle.std.specs.Prelude.{◌≡◌, ◌≤◌, ◌∷◌, None, Some, drop, length, map};
+ghost use Rattle.std.specs.Prelude.{◌≡◌, ◌≤◌, ◌∷◌, None, Ok, Some, drop, length, map};
 ghost use Rattle.xm_base.specs.declared.limits.TheConstants.{TICKS};
 ghost use Rattle.cyclic_plans.specs.Slots.{frame_of};
+ghost use Rattle.xm_container.specs.Reading.{unpacked};
 ghost use Rattle.xm_commands.specs.Boards.{IsLeft, Leaves};
 ghost use Rattle.xm_commands.specs.Cores.{AreInside};
 ghost use Rattle.xm_commands.specs.Inputs.{inputs_for};
@@ -11,15 +12,16 @@ ghost use Rattle.xm_commands.specs.Packing.{names_of};
 ghost use Rattle.xm_commands.specs.Told.{bytes_of, ending_of};
 ghost use Rattle.xm_commands.specs.Work.{Comes, IsDone, outside};
 ghost use Rattle.xm_words.specs.Grammar.{count_of};
-ghost use Rattle.xm_words.specs.Seen.{seen_files, seen_options};
-ghost use Rattle.xm_words.specs.Words.{Run, cores_in, inputs_in, span_in};
+ghost use Rattle.xm_words.specs.Seen.{seen_options};
+ghost use Rattle.xm_words.specs.Words.{Run, cores_in, inputs_in, scripts_in, span_in};
 
 use crate::delivery::unmade;
 use crate::ending::{Ending, Refusal};
-use crate::imaging::no_container;
 use crate::inputs::inputs_for;
 use crate::reading::{first_long, read_files, split_contents};
 use crate::running::run_system;
+use crate::scripts::make_scripts;
+use file_maker::no_container;
 use std::alloc::Global;
 use uart_board::{Board, ViewBoard};
 use xm_base::TICKS;
@@ -27,7 +29,7 @@ use xm_conf::Conf;
 use xm_container::{System, unpack};
 use xm_machine::Inputs;
 use xm_outside::{Sink, Store};
-use xm_words::{PartFiles, RunOptions, Span};
+use xm_words::{RunOptions, Span};
 
 /// Reads a container and the inputs of a run, and runs it.
 pub(crate) fn run_container<'a, S: Store, O: Sink>(
@@ -93,9 +95,11 @@ fn run_packed<'a, S: Store, O: Sink>(
     ensures board { Leaves (ending_of result) (run_outcome container.now (seen_options options.entry) (content 0 (map bytes_of contents.now)) (drop 1 (map bytes_of contents.now))).run (O.got out.old) (O.got out.new)
         (⟦<Board as ViewBoard>⟧.board_view board.old) (⟦<Board as ViewBoard>⟧.board_view board.new) }
 {
-    let (bytes, inputs) = split_contents(contents);
+    let (bytes, _) = split_contents(contents);
     match unpack(alloc, bytes) {
-        Ok(system) => run_unpacked(alloc, container, options, system, inputs, files, out, board),
+        Ok(system) => run_unpacked(
+            alloc, container, options, system, contents, files, out, board,
+        ),
         Err(fault) => unmade(container, no_container(alloc, fault)),
     }
 }
@@ -112,60 +116,68 @@ fn run_unpacked<'a, S: Store, O: Sink>(
     board: &mut Board,
 ) -> Ending<'a>
     requires most { count_of (span_in (seen_options options)) ≤ TICKS }
-    requires short { first_long (names_of (inputs_in (seen_options options))) (map bytes_of contents.now) ≡ None }
+    requires short { first_long (names_of (inputs_in (seen_options options))) (drop 1 (map bytes_of contents.now)) ≡ None }
+    requires same { unpacked (content 0 (map bytes_of contents.now)) ≡ Ok system }
     ensures comes { Comes (ending_of result)
-        (ran_with container.now (ticks_asked (span_in (seen_options options.entry)) system.conf) (cores_in (seen_options options.entry)) system (inputs_for (length system.conf.parts) (seen_options options.entry) (map bytes_of contents.now)))
+        (ran_with container.now (seen_options options.entry) system (inputs_for (length system.conf.parts) (seen_options options.entry) (drop 1 (map bytes_of contents.now))))
         (outside (S.files files.old) (S.read_faults files.old) (S.write_faults files.old) (S.calls files.old) (O.got out.old) (O.faults out.old))
         (outside (S.files files.new) (S.read_faults files.new) (S.write_faults files.new) (S.calls files.new) (O.got out.new) (O.faults out.new)) }
     ensures board { Leaves (ending_of result)
-        (ran_with container.now (ticks_asked (span_in (seen_options options.entry)) system.conf) (cores_in (seen_options options.entry)) system (inputs_for (length system.conf.parts) (seen_options options.entry) (map bytes_of contents.now))).run (O.got out.old) (O.got out.new)
-        (⟦<Board as ViewBoard>⟧.board_view board.old) (⟦<Board as ViewBoard>⟧.board_view board.new) }
+        (ran_with container.now (seen_options options.entry) system (inputs_for (length system.conf.parts) (seen_options options.entry) (drop 1 (map bytes_of contents.now)))).run (O.got out.old) (O.got out.new) (⟦<Board as ViewBoard>⟧.board_view board.old) (⟦<Board as ViewBoard>⟧.board_view board.new) }
 {
-    let parts = part_count(system.conf());
-    let asked = ticks_asked(options.span(), system.conf());
-    match inputs_for(alloc, parts, options, contents) {
-        Ok(inputs) => {
-            let cores = options.cores();
-            run_within(
-                alloc, container, asked, system, inputs, cores, files, out, board,
-            )
-        }
+    let (_, words) = split_contents(contents);
+    match inputs_for(alloc, part_count(system.conf()), options, words) {
+        Ok(inputs) => run_within(
+            alloc, container, options, system, inputs, contents, files, out, board,
+        ),
         Err(ending) => ending,
     }
 }
 
-// Runs a system for so many ticks, where a run may have them.
+// Runs a system for as many ticks as options ask for, where a run may have them.
 #[tactic(auto, unfolding(crate::specs::Outcome::ran_within))]
 fn run_within<'a, S: Store, O: Sink>(
     alloc: Global,
     container: &'a str,
-    asked: u64,
+    options: RunOptions<'a>,
     system: System,
     inputs: Inputs,
-    cores: PartFiles<'a>,
+    contents: &[Vec<u8>],
     files: &mut S,
     out: &mut O,
     board: &mut Board,
 ) -> Ending<'a>
+    requires most { count_of (span_in (seen_options options)) ≤ TICKS }
+    requires short { first_long (names_of (inputs_in (seen_options options))) (drop 1 (map bytes_of contents.now)) ≡ None }
+    requires same { unpacked (content 0 (map bytes_of contents.now)) ≡ Ok system }
+    requires inputs { inputs_for (length system.conf.parts) (seen_options options) (drop 1 (map bytes_of contents.now)) ≡ Ok inputs }
     requires given { length inputs ≡ length system.conf.parts }
-    requires inside { AreInside (length system.conf.parts) (seen_files cores) }
-    ensures comes { Comes (ending_of result) (ran_within container.now asked (seen_files cores.entry) system inputs)
+    requires cores { AreInside (length system.conf.parts) (cores_in (seen_options options)) }
+    requires scripts { AreInside (length system.conf.parts) (scripts_in (seen_options options)) }
+    ensures comes { Comes (ending_of result) (ran_within container.now (seen_options options.entry) system inputs)
         (outside (S.files files.old) (S.read_faults files.old) (S.write_faults files.old) (S.calls files.old) (O.got out.old) (O.faults out.old))
         (outside (S.files files.new) (S.read_faults files.new) (S.write_faults files.new) (S.calls files.new) (O.got out.new) (O.faults out.new)) }
-    ensures board { Leaves (ending_of result) (ran_within container.now asked (seen_files cores.entry) system inputs).run (O.got out.old) (O.got out.new) (⟦<Board as ViewBoard>⟧.board_view board.old) (⟦<Board as ViewBoard>⟧.board_view board.new) }
+    ensures board { Leaves (ending_of result) (ran_within container.now (seen_options options.entry) system inputs).run (O.got out.old) (O.got out.new) (⟦<Board as ViewBoard>⟧.board_view board.old) (⟦<Board as ViewBoard>⟧.board_view board.new) }
 {
+    let asked = ticks_asked(options.span(), system.conf());
     if asked > TICKS {
         return Ending::Denied {
             file: container,
             why: Refusal::Ticks { asked },
         };
     }
-    run_system(alloc, asked, cores, system, inputs, files, out, board)
+    let cores = options.cores();
+    match make_scripts(alloc, asked, options, contents, &system) {
+        Ok(scripts) => run_system(
+            alloc, asked, cores, &scripts, system, inputs, files, out, board,
+        ),
+        Err(ending) => ending,
+    }
 }
 
-// How many partitions a configuration has.
+/// How many partitions a configuration has.
 #[tactic(auto, unfolding(xm_conf::specs::Description::described))]
-fn part_count(conf: &Conf) -> u8
+pub(crate) fn part_count(conf: &Conf) -> u8
     ensures { result ≡ length conf.now.parts }
 {
     conf.raw().parts.len() as u8

@@ -8,12 +8,14 @@ ghost use Rattle.xm_words.specs.Seen.{seen};
 ghost use Rattle.xm_words.specs.Words.{command_of};
 
 use crate::ending::Ending;
+use crate::generating::generate;
 use crate::imaging::build_image;
 use crate::packing::pack_files;
 use crate::parsing::parse;
 use crate::running::run_file;
-use crate::telling::{Telling, tell_file};
+use crate::telling::tell_file;
 use crate::unpacking::run_container;
+use file_maker::Telling;
 use std::alloc::Global;
 use uart_board::{Board, ViewBoard};
 use xm_outside::{Sink, Store};
@@ -101,6 +103,7 @@ fn carry_out<'a, S: Store, O: Sink>(
             files,
             out,
         ),
+        Command::Generate { number } => generate(alloc, number, out),
         Command::Run { container, options } => {
             run_container(alloc, container, options, files, out, board)
         }

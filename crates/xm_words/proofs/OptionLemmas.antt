@@ -9,10 +9,10 @@ use Rattle.xm_base.specs.declared.limits.TheConstants.{TICKS}
 use Rattle.xm_words.specs.declared.commands.Span.{Span}
 use Rattle.xm_words.specs.declared.commands.Span.TheVariants.{Frames, Ticks}
 use Rattle.xm_words.specs.declared.run_options.FileKind.{FileKind}
-use Rattle.xm_words.specs.declared.run_options.FileKind.TheVariants.{Core, Input}
+use Rattle.xm_words.specs.declared.run_options.FileKind.TheVariants.{Core, Input, Script}
 use Rattle.xm_words.specs.Grammar.{AreApart, AreRunOptions, IsRunOption, count_of, file_option_of, option_of, option_words, part_word}
 use Rattle.xm_words.specs.Texts.{texts_of}
-use Rattle.xm_words.specs.Words.{PartFile, RunOption, Length, ForPart, are_apart, are_kinds_apart, are_options, are_run_options, before_others, cores_in, files_in, inputs_in, kind_of, option_by, option_for, part_file_of, run_option_of, run_options, span_of, spanned, spans_in, ticks_of}
+use Rattle.xm_words.specs.Words.{PartFile, RunOption, Length, ForPart, are_apart, are_kinds_apart, are_options, are_run_options, before_others, cores_in, files_in, inputs_in, scripts_in, kind_of, option_by, option_for, part_file_of, run_option_of, run_options, span_of, spanned, spans_in, ticks_of}
 use Rattle.xm_words.proofs.PartFileLemmas.{apart_pairs, named_word, pairs_apart, word_named}
 use Rattle.xm_words.proofs.WordLemmas.{named, text_ticks, ticks_text}
 
@@ -50,12 +50,14 @@ kind_as option made kind typed e = (let same : made ≡ kind = cc in subst (λ (
 -- the option in front of a file
 kind_typed : (option : List ℕ) (kind : FileKind) → kind_of option ≡ Some kind → option ≡ file_option_of kind
 unfolding kind_of
-kind_typed option kind e = at (bytes_eq option (codes "--input")) (bytes_eq option (codes "--core")) refl refl e
+kind_typed option kind e = at (bytes_eq option (codes "--input")) (bytes_eq option (codes "--core")) (bytes_eq option (codes "--script")) refl refl refl e
   where
-    at : (input core : Bool) → bytes_eq option (codes "--input") ≡ input → bytes_eq option (codes "--core") ≡ core → (if input then Some Input else if core then Some Core else None) ≡ Some kind → option ≡ file_option_of kind
-    at true core is other e = kind_as option Input kind (named option (codes "--input") is) e
-    at false true is other e = kind_as option Core kind (named option (codes "--core") other) e
-    at false false is other e = absurd (let no : ⊥ = cc in no)
+    at : (input core script : Bool) → bytes_eq option (codes "--input") ≡ input → bytes_eq option (codes "--core") ≡ core → bytes_eq option (codes "--script") ≡ script
+        → (if input then Some Input else if core then Some Core else if script then Some Script else None) ≡ Some kind → option ≡ file_option_of kind
+    at true core script is other last e = kind_as option Input kind (named option (codes "--input") is) e
+    at false true script is other last e = kind_as option Core kind (named option (codes "--core") other) e
+    at false false true is other last e = kind_as option Script kind (named option (codes "--script") last) e
+    at false false false is other last e = absurd (let no : ⊥ = cc in no)
 
 -- two words are what is typed for an option, and that is right
 record TypedOption (option word : List ℕ) (made : RunOption) : Type 0 where
@@ -110,13 +112,22 @@ few_options (option ∷ word ∷ words) few = absurd (omega arith)
 
 -- options whose files are apart, kind by kind
 kinds_apart : (options : List RunOption) → are_kinds_apart options ≡ true → (kind : FileKind) → AreApart (files_in kind options)
-kinds_apart options apart Input = apart_pairs (inputs_in options) (and_parts (are_apart (inputs_in options)) (are_apart (cores_in options)) apart).0
-kinds_apart options apart Core = apart_pairs (cores_in options) (and_parts (are_apart (inputs_in options)) (are_apart (cores_in options)) apart).1
+kinds_apart options apart kind =
+    let all = and_parts (are_apart (inputs_in options) && are_apart (cores_in options)) (are_apart (scripts_in options)) apart in
+    let two = and_parts (are_apart (inputs_in options)) (are_apart (cores_in options)) all.0 in
+    of two.0 two.1 all.1 kind
+  where
+    of : are_apart (inputs_in options) ≡ true → are_apart (cores_in options) ≡ true → are_apart (scripts_in options) ≡ true → (kind : FileKind) → AreApart (files_in kind options)
+    of inputs cores scripts Input = apart_pairs (inputs_in options) inputs
+    of inputs cores scripts Core = apart_pairs (cores_in options) cores
+    of inputs cores scripts Script = apart_pairs (scripts_in options) scripts
 
 -- and the test of such options
 apart_kinds : (options : List RunOption) → ((kind : FileKind) → AreApart (files_in kind options)) → are_kinds_apart options ≡ true
 apart_kinds options apart =
-    and_from (are_apart (inputs_in options)) (are_apart (cores_in options)) (pairs_apart (inputs_in options) (apart Input)) (pairs_apart (cores_in options) (apart Core))
+    and_from (are_apart (inputs_in options) && are_apart (cores_in options)) (are_apart (scripts_in options))
+    (and_from (are_apart (inputs_in options)) (are_apart (cores_in options)) (pairs_apart (inputs_in options) (apart Input)) (pairs_apart (cores_in options) (apart Core)))
+    (pairs_apart (scripts_in options) (apart Script))
 
 -- words that are the options of a run are typed so
 pub run_options_typed : (words : List (List ℕ)) → are_run_options words ≡ true → (words ≡ flat_map option_words (run_options words)) × AreRunOptions (run_options words)
@@ -138,6 +149,7 @@ reads_file : (kind : FileKind) (file : PartFile) → IsRunOption (ForPart kind f
 unfolding run_option_of span_of kind_of
 reads_file Input file right = rw (named_word file right) refl
 reads_file Core file right = rw (named_word file right) refl
+reads_file Script file right = rw (named_word file right) refl
 
 -- what is typed for a length is so read
 reads_length : (span : Span) → count_of span ≤ TICKS → run_option_of (option_of span) (decimal (count_of span)) ≡ Some (Length span)

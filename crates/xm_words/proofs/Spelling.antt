@@ -3,10 +3,10 @@ use Rattle.std.proofs.Common.{◌≡◌, ℕ, Bool, true, false, ◌&&◌, if◌
 use Rattle.std.specs.Str.{bytes_eq}
 use Rattle.std.proofs.lemmas.Bool.{and_parts}
 use Rattle.xm_words.specs.Grammar.{CommandsAreSpelled, IsFile, IsRight, words_of}
-use Rattle.xm_words.specs.Words.{Command, PartFile, RunOption, Bare, Parse, BuildImage, ReadImage, Pack, ListContainer, CheckContainer, MakePlan, CheckPlan, TellGroups, Run, are_part_files, are_run_options, asked, bare_of, command_by_count, command_of, command_of_more, command_of_one, command_of_three, command_of_two, format_command, is_file, of_file, of_files, pack_command, part_files, plan_command, run_of, run_options, ticks_of}
+use Rattle.xm_words.specs.Words.{Command, PartFile, RunOption, Bare, Parse, BuildImage, ReadImage, Pack, ListContainer, CheckContainer, MakePlan, CheckPlan, TellGroups, Generate, Run, are_part_files, are_run_options, asked, bare_of, command_by_count, command_of, command_of_more, command_of_one, command_of_three, command_of_two, format_command, generate_for, is_file, of_file, of_files, pack_command, part_files, plan_command, run_of, run_options, seed_of, ticks_of}
 use Rattle.xm_words.proofs.OptionLemmas.{reads_run_options, run_options_typed}
 use Rattle.xm_words.proofs.PartFileLemmas.{files_named, files_typed_right}
-use Rattle.xm_words.proofs.WordLemmas.{file_is, is_of_file, named, text_ticks, ticks_text}
+use Rattle.xm_words.proofs.WordLemmas.{file_is, is_of_file, named, seed_text, text_seed, text_ticks, ticks_text}
 
 -- words are what is typed for a command, and what they name is right
 pub record Typed (words : List (List ℕ)) (command : Command) : Type 0 where
@@ -95,13 +95,29 @@ plan_typed name verb file command is e =
     none : None ≡ Some command → Typed (name ∷ verb ∷ file ∷ []) command
     none h = absurd (let no : ⊥ = cc in no)
 
+-- a system that is generated
+seed_typed : (name word : List ℕ) (command : Command) → name ≡ codes "gen" → generate_for (seed_of word) ≡ Some command → Typed (name ∷ word ∷ []) command
+seed_typed name word command is e = at (seed_of word) refl e
+  where
+    at : (seed : Option ℕ) → seed_of word ≡ seed → generate_for seed ≡ Some command → Typed (name ∷ word ∷ []) command
+    at (Some n) count e =
+        let text = seed_text word n count in
+        let word_is : word ≡ decimal n = text.1 in
+        typed_as _ (Generate n) command (record { text = cc; right = text.0 }) e
+    at None count e = absurd (let no : ⊥ = cc in no)
+
 -- what a name and one word ask for
 one_typed : (name first : List ℕ) (command : Command) → command_of_one name first ≡ Some command → Typed (name ∷ first ∷ []) command
 unfolding command_of_one
-one_typed name first command e = ⊎_elim flows none (other (bytes_eq name (codes "flows")) (of_file TellGroups first) None command e)
+one_typed name first command e =
+    ⊎_elim flows (λ h. ⊎_elim seed none (other (bytes_eq name (codes "gen")) (generate_for (seed_of first)) None command h))
+    (other (bytes_eq name (codes "flows")) (of_file TellGroups first) (if bytes_eq name (codes "gen") then generate_for (seed_of first) else None) command e)
   where
     flows : ((bytes_eq name (codes "flows") ≡ true) × (of_file TellGroups first ≡ Some command)) → Typed (name ∷ first ∷ []) command
     flows h = (let name_is = named name (codes "flows") h.0 in file_typed _ TellGroups first command (λ right. record { text = cc; right = right }) h.1)
+
+    seed : ((bytes_eq name (codes "gen") ≡ true) × (generate_for (seed_of first) ≡ Some command)) → Typed (name ∷ first ∷ []) command
+    seed h = seed_typed name first command (named name (codes "gen") h.0) h.1
 
     none : None ≡ Some command → Typed (name ∷ first ∷ []) command
     none h = absurd (let no : ⊥ = cc in no)
@@ -240,6 +256,7 @@ reads (CheckContainer container) right = rw (is_of_file container right)
 reads (MakePlan description) right = rw (is_of_file description right)
 reads (CheckPlan description) right = rw (is_of_file description right)
 reads (TellGroups description) right = rw (is_of_file description right)
+reads (Generate number) right = rw (text_seed (decimal number) number right refl) refl
 reads (Run container options) right = reads_run container options right
 
 -- words are a command exactly where they are what is typed for it

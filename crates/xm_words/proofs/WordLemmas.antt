@@ -9,7 +9,7 @@ use Rattle.std.proofs.lemmas.Slice.Eq.{bytes_eq-Decides, starts_is}
 use Rattle.std.proofs.lemmas.Fmt.{digits_decimal, digits_value-decimal, decimal-digits_value, decimal_nonempty, decimal_digit, first_decimal}
 use Rattle.xm_base.specs.declared.limits.TheConstants.{TICKS}
 use Rattle.xm_words.specs.Grammar.{IsFile, TicksAreDecimal}
-use Rattle.xm_words.specs.Words.{is_file, is_number, number_of, ticks_of}
+use Rattle.xm_words.specs.Words.{is_file, is_number, number_of, seed_of, ticks_of}
 use Rattle.xm_words.proofs.NumberLemmas.{numerals, number_digits, number_plain, plain_number, spelled, unspelled, above}
 
 -- the text of a number begins with a zero only where it is `0`
@@ -51,6 +51,13 @@ ticks_text word n spells = number_text TICKS word n (omega arith) spells
 -- the text of a number that is not above the limit spells so many ticks
 pub text_ticks : (word : List ℕ) (n : ℕ) → n ≤ TICKS → word ≡ decimal n → ticks_of word ≡ Some n
 text_ticks word n small text = text_number TICKS word n (omega arith) small text
+
+-- a word that spells the number that a system is generated out of is its text
+pub seed_text : (word : List ℕ) (n : ℕ) → seed_of word ≡ Some n → (n ≤ 4294967295) × (word ≡ decimal n)
+seed_text word n spells = number_text 4294967295 word n (omega arith) spells
+
+pub text_seed : (word : List ℕ) (n : ℕ) → n ≤ 4294967295 → word ≡ decimal n → seed_of word ≡ Some n
+text_seed word n small text = text_number 4294967295 word n (omega arith) small text
 
 -- a word is so many ticks exactly where it is their text
 pub ticks_decimal : TicksAreDecimal

@@ -5,8 +5,8 @@ use Rattle.xm_base.specs.declared.limits.TheConstants.{TICKS}
 use Rattle.xm_words.specs.declared.commands.Span.{Span}
 use Rattle.xm_words.specs.declared.commands.Span.TheVariants.{Frames, Ticks}
 use Rattle.xm_words.specs.declared.run_options.FileKind.{FileKind}
-use Rattle.xm_words.specs.declared.run_options.FileKind.TheVariants.{Core, Input}
-use Rattle.xm_words.specs.Words.{Command, PartFile, RunOption, Bare, Parse, BuildImage, ReadImage, Pack, ListContainer, CheckContainer, MakePlan, CheckPlan, TellGroups, Run, Length, ForPart, command_of, files_in, spans_in, ticks_of}
+use Rattle.xm_words.specs.declared.run_options.FileKind.TheVariants.{Core, Input, Script}
+use Rattle.xm_words.specs.Words.{Command, PartFile, RunOption, Bare, Parse, BuildImage, ReadImage, Pack, ListContainer, CheckContainer, MakePlan, CheckPlan, TellGroups, Generate, Run, Length, ForPart, command_of, files_in, spans_in, ticks_of}
 
 -- a word is so many ticks where it is their number in decimal, and they are not above the limit
 abbrev pub TicksAreDecimal : Type 0
@@ -35,6 +35,7 @@ count_of (Ticks count) = count
 abbrev pub file_option_of : FileKind → List ℕ
 file_option_of Input = codes "--input"
 file_option_of Core = codes "--core"
+file_option_of Script = codes "--script"
 
 -- what is typed for an option of a run
 abbrev pub option_words : RunOption → List (List ℕ)
@@ -53,6 +54,7 @@ words_of (CheckContainer container) = codes "xmpack" ∷ codes "check" ∷ conta
 words_of (MakePlan description) = codes "plan" ∷ codes "make" ∷ description ∷ []
 words_of (CheckPlan description) = codes "plan" ∷ codes "check" ∷ description ∷ []
 words_of (TellGroups description) = codes "flows" ∷ description ∷ []
+words_of (Generate number) = codes "gen" ∷ decimal number ∷ []
 words_of (Run container options) = codes "run" ∷ container ∷ flat_map option_words options
 
 -- a file for a partition: the partition's number is at most 31, and the file is one
@@ -92,6 +94,7 @@ IsRight (CheckContainer container) = IsFile container
 IsRight (MakePlan description) = IsFile description
 IsRight (CheckPlan description) = IsFile description
 IsRight (TellGroups description) = IsFile description
+IsRight (Generate number) = number ≤ 4294967295
 IsRight (Run container options) = IsFile container × AreRunOptions options
 
 -- words are a command exactly where they are what is typed for it, and what they name is right

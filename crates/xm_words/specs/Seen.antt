@@ -1,7 +1,7 @@
 -- What the program's commands say.
 use Rattle.std.specs.Prelude.{ℕ, List, Option, Some, None}
 use Rattle.xm_words.specs.Texts.{texts_of}
-use Rattle.xm_words.specs.Words.{Command, PartFile, RunOption, Bare, Parse, BuildImage, ReadImage, Pack, ListContainer, CheckContainer, MakePlan, CheckPlan, TellGroups, Run, Length, ForPart, files_in, part_files, run_options}
+use Rattle.xm_words.specs.Words.{Command, PartFile, RunOption, Bare, Parse, BuildImage, ReadImage, Pack, ListContainer, CheckContainer, MakePlan, CheckPlan, TellGroups, Generate, Run, Length, ForPart, files_in, part_files, run_options}
 use Rattle.xm_words.specs.declared.commands.Command as code
 use Rattle.xm_words.specs.declared.commands.Command.TheVariants as variant
 use Rattle.xm_words.specs.declared.part_files.PartFile as file
@@ -55,6 +55,7 @@ seen_command (variant.CheckContainer container) = CheckContainer container.now
 seen_command (variant.MakePlan description) = MakePlan description.now
 seen_command (variant.CheckPlan description) = CheckPlan description.now
 seen_command (variant.TellGroups description) = TellGroups description.now
+seen_command (variant.Generate number) = Generate number
 seen_command (variant.Run container options) = Run container.now (seen_options options)
 
 -- what a command of the program says, where there is one

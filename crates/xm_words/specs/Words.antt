@@ -7,7 +7,7 @@ use Rattle.xm_base.specs.declared.limits.TheConstants.{TICKS}
 use Rattle.xm_words.specs.declared.commands.Span.{Span}
 use Rattle.xm_words.specs.declared.commands.Span.TheVariants.{Frames, Ticks}
 use Rattle.xm_words.specs.declared.run_options.FileKind.{FileKind}
-use Rattle.xm_words.specs.declared.run_options.FileKind.TheVariants.{Core, Input}
+use Rattle.xm_words.specs.declared.run_options.FileKind.TheVariants.{Core, Input, Script}
 
 -- a file for a partition
 pub record PartFile : Type 0 where
@@ -23,7 +23,7 @@ pub data RunOption : Type 0 where
 -- a program is made; an image is told; a configuration and the images of its partitions are packed into a container; a
 -- container is told; a container is checked; a cyclic plan is made from the requirements of a system description; the
 -- plan of a system description is checked against its requirements; the groups of the partitions of a system description are
--- told; a container runs with options
+-- told; a system is generated out of a number, and runs; a container runs with options
 pub data Command : Type 0 where
   Bare : (image : List ℕ) (ticks : ℕ) → Command
   Parse : (description output : List ℕ) → Command
@@ -35,6 +35,7 @@ pub data Command : Type 0 where
   MakePlan : (description : List ℕ) → Command
   CheckPlan : (description : List ℕ) → Command
   TellGroups : (description : List ℕ) → Command
+  Generate : (number : ℕ) → Command
   Run : (container : List ℕ) (options : List RunOption) → Command
 
 -- a decimal number: digits without a sign, and without a leading zero unless it is `0`
@@ -140,6 +141,7 @@ unfoldable pub kind_of : List ℕ → Option FileKind
 kind_of option =
     if bytes_eq option (codes "--input") then Some Input
     else if bytes_eq option (codes "--core") then Some Core
+    else if bytes_eq option (codes "--script") then Some Script
     else None
 
 -- an option with a file for a partition, where both are told
@@ -191,6 +193,7 @@ span_in options = first_span (spans_in options)
 abbrev pub place_of : FileKind → ℕ
 place_of Input = 0
 place_of Core = 1
+place_of Script = 2
 
 -- the file of a kind for a partition that an option names
 abbrev pub file_by : FileKind → RunOption → Option PartFile
@@ -209,9 +212,13 @@ inputs_in options = files_in Input options
 abbrev pub cores_in : List RunOption → List PartFile
 cores_in options = files_in Core options
 
+-- the scripts of partitions that options name, in their order
+abbrev pub scripts_in : List RunOption → List PartFile
+scripts_in options = files_in Script options
+
 -- whether each partition has one file of each kind at most
 abbrev pub are_kinds_apart : List RunOption → Bool
-are_kinds_apart options = are_apart (inputs_in options) && are_apart (cores_in options)
+are_kinds_apart options = are_apart (inputs_in options) && are_apart (cores_in options) && are_apart (scripts_in options)
 
 -- whether words are options of a run: each is one, one says how long the run is, and each partition has one file of each kind at most
 unfoldable pub are_run_options : List (List ℕ) → Bool
@@ -247,9 +254,21 @@ plan_command verb file =
     else if bytes_eq verb (codes "check") then of_file CheckPlan file
     else None
 
+-- the number that a system is generated out of
+abbrev pub seed_of : List ℕ → Option ℕ
+seed_of word = number_of 4294967295 word
+
+-- a system is generated, where there is a number
+abbrev pub generate_for : Option ℕ → Option Command
+generate_for None = None
+generate_for (Some number) = Some (Generate number)
+
 -- the command of a name and one word
 unfoldable pub command_of_one : List ℕ → List ℕ → Option Command
-command_of_one name first = if bytes_eq name (codes "flows") then of_file TellGroups first else None
+command_of_one name first =
+    if bytes_eq name (codes "flows") then of_file TellGroups first
+    else if bytes_eq name (codes "gen") then generate_for (seed_of first)
+    else None
 
 -- the command of a name and two words
 unfoldable pub command_of_two : List ℕ → List ℕ → List ℕ → Option Command

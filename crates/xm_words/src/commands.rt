@@ -60,6 +60,10 @@ pub enum Command<'a> {
     TellGroups {
         description: &'a str,
     },
+    /// Generate a system out of this number, and run it.
+    Generate {
+        number: u32,
+    },
     /// Run the container in this file with these options.
     Run {
         container: &'a str,

@@ -1,12 +1,15 @@
 //! The numbers that words spell.
 
 ghost use Rattle.std.specs.Prelude.{◌≡◌, ◌≤◌, ◌↔◌, IfSome, IsTrue};
-ghost use Rattle.xm_words.specs.Words.{IsPlain, frames_of, number_of, part_of, ticks_of};
+ghost use Rattle.xm_words.specs.Words.{IsPlain, frames_of, number_of, part_of, seed_of, ticks_of};
 
 use xm_base::{PartId, TICKS};
 
 /// The highest number that a word may give a partition.
 const LAST_PART: u64 = 31;
+
+/// The highest number that a system may be generated out of.
+const LAST_SEED: u64 = 4_294_967_295;
 
 /// The number of ticks that the word spells.
 pub(crate) fn ticks(word: &str) -> Option<u64>
@@ -28,6 +31,16 @@ pub(crate) fn part(word: &str) -> Option<PartId>
 {
     match number(word, LAST_PART) {
         Some(part) => Some(part as u8),
+        None => None,
+    }
+}
+
+/// The number that a system is generated out of, which the word spells.
+pub(crate) fn seed(word: &str) -> Option<u32>
+    ensures value { result ≡ seed_of word.now }
+{
+    match number(word, LAST_SEED) {
+        Some(seed) => Some(seed as u32),
         None => None,
     }
 }

@@ -3,10 +3,10 @@
 ghost use Rattle.std.specs.Prelude.{◌≡◌, ◌&&◌};
 ghost use Rattle.xm_words.specs.Seen.{seen};
 ghost use Rattle.xm_words.specs.Texts.{texts_of};
-ghost use Rattle.xm_words.specs.Words.{BuildImage, Pack, Parse, are_part_files, asked, bare_of, command_by_count, command_of, command_of_more, command_of_one, command_of_three, command_of_two, format_command, is_file, of_files, pack_command, part_files, plan_command, run_of, ticks_of};
+ghost use Rattle.xm_words.specs.Words.{BuildImage, Pack, Parse, TellGroups, are_part_files, asked, bare_of, command_by_count, command_of, command_of_more, command_of_one, command_of_three, command_of_two, format_command, generate_for, is_file, of_file, of_files, pack_command, part_files, plan_command, run_of, seed_of, ticks_of};
 
 use crate::commands::Command;
-use crate::numbers::ticks;
+use crate::numbers::{seed, ticks};
 use crate::part_files::PartFiles;
 use crate::run_options::RunOptions;
 use crate::words::Words;
@@ -48,10 +48,33 @@ fn command_by_count<'a>(name: &str, first: &'a str, rest: &'a [String]) -> Optio
 fn command_of_one<'a>(name: &str, first: &'a str) -> Option<Command<'a>>
     ensures { seen result ≡ command_of_one name.now first.now }
 {
-    if name == "flows" && is_file(first) {
-        Some(Command::TellGroups { description: first })
+    if name == "flows" {
+        tell_groups(first)
+    } else if name == "gen" {
+        generate(first)
     } else {
         None
+    }
+}
+
+/// The groups of the partitions of a system description, which the word names.
+fn tell_groups(description: &str) -> Option<Command<'_>>
+    ensures { seen result ≡ of_file TellGroups description.now }
+{
+    if is_file(description) {
+        Some(Command::TellGroups { description })
+    } else {
+        None
+    }
+}
+
+/// The generation of a system out of the number that a word spells.
+fn generate<'a>(word: &str) -> Option<Command<'a>>
+    ensures { seen result ≡ generate_for (seed_of word.now) }
+{
+    match seed(word) {
+        Some(number) => Some(Command::Generate { number }),
+        None => None,
     }
 }
 

@@ -3,7 +3,7 @@
 ghost use Rattle.std.specs.Prelude.{◌≡◌, ◌∷◌, [], MatchOption, false, length, nat_eq, true};
 ghost use Rattle.xm_words.specs.Seen.{seen_file, seen_files, seen_option, seen_options, seen_part_file, seen_run_option};
 ghost use Rattle.xm_words.specs.Texts.{texts_of};
-ghost use Rattle.xm_words.specs.Words.{are_kinds_apart, are_options, are_run_options, cores_in, file_by, files_in, inputs_in, kind_of, option_for, part_file_of, place_of, run_option_of, run_options, span_in, span_of, spans_in};
+ghost use Rattle.xm_words.specs.Words.{are_kinds_apart, are_options, are_run_options, cores_in, file_by, files_in, inputs_in, kind_of, option_for, part_file_of, place_of, run_option_of, run_options, scripts_in, span_in, span_of, spans_in};
 
 use crate::commands::Span;
 use crate::numbers::{frames, ticks};
@@ -16,6 +16,8 @@ pub enum FileKind {
     Input,
     /// Where the partition's core file is written.
     Core,
+    /// Where the partition's script is written: the file of all that it is told.
+    Script,
 }
 
 impl FileKind {
@@ -26,6 +28,7 @@ impl FileKind {
         match self {
             FileKind::Input => 0,
             FileKind::Core => 1,
+            FileKind::Script => 2,
         }
     }
 }
@@ -102,6 +105,13 @@ impl<'a> RunOptions<'a> {
         PartFiles::of_options(FileKind::Core, self.words)
     }
 
+    /// The scripts of partitions in the order of their words.
+    pub fn scripts(self) -> PartFiles<'a>
+        ensures value { seen_files result ≡ scripts_in (seen_options self.entry) }
+    {
+        PartFiles::of_options(FileKind::Script, self.words)
+    }
+
     /// The first option and the others, or `None` where there is none.
     pub fn split_first(self) -> Option<(RunOption<'a>, RunOptions<'a>)>
         ensures value { MatchOption result (seen_options self.entry ≡ [])
@@ -145,7 +155,7 @@ impl<'a> RunOptions<'a> {
     fn are_kinds_apart(self) -> bool
         ensures value { result ≡ are_kinds_apart (seen_options self.entry) }
     {
-        self.inputs().are_apart() && self.cores().are_apart()
+        self.inputs().are_apart() && self.cores().are_apart() && self.scripts().are_apart()
     }
 }
 
@@ -212,6 +222,8 @@ fn kind(option: &str) -> Option<FileKind>
         Some(FileKind::Input)
     } else if option == "--core" {
         Some(FileKind::Core)
+    } else if option == "--script" {
+        Some(FileKind::Script)
     } else {
         None
     }

@@ -1,6 +1,6 @@
 use Rattle.std.proofs.Common.{refl}
 use Rattle.xm_words.specs.Words.{BuildImage}
-use Rattle.xm_commands.specs.Imaging.{xef_of}
+use Rattle.file_maker.specs.Imaging.{xef_of}
 use Rattle.xm_commands.proofs.WorkLemmas.{one-long, one-short, refused_comes}
 use Rattle.xm_commands.proofs.imaging.build_bytes.Goals as goal
 

@@ -1,6 +1,6 @@
 use Rattle.std.proofs.Common.{refl}
 use Rattle.xm_words.specs.Words.{Parse}
-use Rattle.xm_commands.specs.Parsing.{xmc_of}
+use Rattle.file_maker.specs.Parsing.{xmc_of}
 use Rattle.xm_commands.proofs.WorkLemmas.{one-long, one-short, refused_comes}
 use Rattle.xm_commands.proofs.parsing.parse_text.Goals as goal
 

@@ -12,7 +12,7 @@ returns-then-bytes-gt-FILE_BYTES-clause-comes g c =
 
 pub returns-in-Ok-new-clause-comes : goal.returns-in-Ok-new-clause-comes
 returns-in-Ok-new-clause-comes g c =
-    let comes = rw (c.in-Ok.ensures.value.1, c.in-Ok-new.ensures.value, c.none-cores.ensures.value) at c.run_system.ensures.comes in
+    let comes = rw (c.in-Ok.ensures.value.1, c.in-Ok-new.ensures.value, c.none-cores.ensures.value, c.deref.ensures.value, c.new-scripts.ensures.items) at c.run_system.ensures.comes in
     rw (outcome-image c.args.image.now c.args.ticks c.args.bytes.now c.in-Ok.ensures.value.0) comes
 
 pub returns-in-Err-Length-clause-comes : goal.returns-in-Err-Length-clause-comes
@@ -26,5 +26,5 @@ returns-in-Err-Length-clause-comes g c =
 
 pub returns-in-Ok-new-clause-board : goal.returns-in-Ok-new-clause-board
 returns-in-Ok-new-clause-board g c =
-    let left = rw (c.in-Ok.ensures.value.1, c.in-Ok-new.ensures.value, c.none-cores.ensures.value) at c.run_system.ensures.board in
+    let left = rw (c.in-Ok.ensures.value.1, c.in-Ok-new.ensures.value, c.none-cores.ensures.value, c.deref.ensures.value, c.new-scripts.ensures.items) at c.run_system.ensures.board in
     rw (outcome-image c.args.image.now c.args.ticks c.args.bytes.now c.in-Ok.ensures.value.0) left

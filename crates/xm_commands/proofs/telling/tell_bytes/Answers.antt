@@ -1,4 +1,5 @@
-use Rattle.xm_commands.specs.Telling.{command_telling, text_telling}
+use Rattle.file_maker.specs.Telling.{text_telling}
+use Rattle.xm_commands.specs.Telling.{command_telling}
 use Rattle.xm_commands.proofs.TellingLemmas.{one_told, told_so}
 use Rattle.xm_commands.proofs.WorkLemmas.{one-long, one-short, refused_reports}
 use Rattle.xm_commands.proofs.telling.tell_bytes.Goals as goal

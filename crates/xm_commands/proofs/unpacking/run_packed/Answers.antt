@@ -5,21 +5,21 @@ use Rattle.xm_commands.specs.Outcome.{run_outcome}
 use Rattle.xm_commands.specs.Packing.{names_of}
 use Rattle.xm_commands.specs.Told.{bytes_of}
 use Rattle.xm_commands.proofs.BoardLemmas.{unmade_leaves}
-use Rattle.xm_commands.proofs.ImagingLemmas.{container_unmade}
+use Rattle.file_maker.specs.ImagingLemmas.{container_unmade}
 use Rattle.xm_commands.proofs.InputLemmas.{rest_short}
 use Rattle.xm_commands.proofs.WorkLemmas.{fault_text_by, outcome-unpacked, unmade_runs}
 use Rattle.xm_commands.proofs.unpacking.run_packed.Goals as goal
 
 pub run_unpacked-requires-clause-short : goal.run_unpacked-requires-clause-short
-run_unpacked-requires-clause-short g c =
-    rw c.split_contents.ensures.others
-    (rest_short c.args.container.now (names_of (inputs_in (seen_options c.args.options))) (map bytes_of c.args.contents.now) c.requires.short)
+run_unpacked-requires-clause-short g c = rest_short c.args.container.now (names_of (inputs_in (seen_options c.args.options))) (map bytes_of c.args.contents.now) c.requires.short
+
+pub run_unpacked-requires-clause-same : goal.run_unpacked-requires-clause-same
+run_unpacked-requires-clause-same g c = rw c.split_contents.ensures.first at c.in-Ok.ensures.exact
 
 pub returns-in-Ok-clause-comes : goal.returns-in-Ok-clause-comes
 returns-in-Ok-clause-comes g c =
     let exact = rw c.split_contents.ensures.first at c.in-Ok.ensures.exact in
-    let comes = rw c.split_contents.ensures.others at c.run_unpacked.ensures.comes in
-    rw (outcome-unpacked c.args.container.now (seen_options c.args.options) _ _ c.in-Ok.system exact) comes
+    rw (outcome-unpacked c.args.container.now (seen_options c.args.options) _ _ c.in-Ok.system exact) c.run_unpacked.ensures.comes
 
 pub returns-in-Err-clause-comes : goal.returns-in-Err-clause-comes
 unfolding run_outcome
@@ -31,8 +31,7 @@ returns-in-Err-clause-comes g c =
 pub returns-in-Ok-clause-board : goal.returns-in-Ok-clause-board
 returns-in-Ok-clause-board g c =
     let exact = rw c.split_contents.ensures.first at c.in-Ok.ensures.exact in
-    let leaves = rw c.split_contents.ensures.others at c.run_unpacked.ensures.board in
-    rw (outcome-unpacked c.args.container.now (seen_options c.args.options) _ _ c.in-Ok.system exact) leaves
+    rw (outcome-unpacked c.args.container.now (seen_options c.args.options) _ _ c.in-Ok.system exact) c.run_unpacked.ensures.board
 
 pub returns-in-Err-clause-board : goal.returns-in-Err-clause-board
 returns-in-Err-clause-board g c = unmade_leaves _ c.args.container.now c.no_container.result _ _ _ (record { places = _; marks = _ }) c.unmade.ensures

@@ -1,7 +1,8 @@
 use Rattle.xm_commands.specs.Told.{ending_of}
 use Rattle.xm_words.specs.Seen.{seen_files}
-use Rattle.xm_words.specs.Words.{Parse, BuildImage, ReadImage, Pack, ListContainer, CheckContainer, MakePlan, CheckPlan, TellGroups}
-use Rattle.xm_commands.proofs.BoardLemmas.{build_runs, check_plan_runs, check_runs, left_still, list_runs, make_plan_runs, pack_runs, parse_runs, read_runs, tell_groups_runs}
+use Rattle.xm_words.specs.Words.{Parse, BuildImage, ReadImage, Pack, ListContainer, CheckContainer, MakePlan, CheckPlan, TellGroups, Generate}
+use Rattle.xm_commands.proofs.BoardLemmas.{build_runs, check_plan_runs, check_runs, generate_runs, left_still, list_runs, make_plan_runs, pack_runs, parse_runs, read_runs, tell_groups_runs}
+use Rattle.xm_commands.proofs.GeneratingLemmas.{generate_done}
 use Rattle.xm_commands.proofs.work.carry_out.Goals as goal
 
 pub returns-in-Parse-clause-board : goal.returns-in-Parse-clause-board
@@ -30,3 +31,12 @@ returns-in-CheckPlan-clause-board g c = rw c.in-CheckPlan.is (left_still (ending
 
 pub returns-in-TellGroups-clause-board : goal.returns-in-TellGroups-clause-board
 returns-in-TellGroups-clause-board g c = rw c.in-TellGroups.is (left_still (ending_of c.tell_file-in-TellGroups.result) (TellGroups c.in-TellGroups.description.now) _ _ _ _ (record { places = _; marks = _ }) (tell_groups_runs c.in-TellGroups.description.now) c.tell_file-in-TellGroups.ensures)
+
+pub returns-in-Generate-clause-worked : goal.returns-in-Generate-clause-worked
+returns-in-Generate-clause-worked g c = rw c.in-Generate.is (generate_done (ending_of c.generate.result) c.in-Generate.number _ _ _ _ _ _ _ _ c.generate.ensures)
+
+pub returns-in-Generate-clause-board : goal.returns-in-Generate-clause-board
+returns-in-Generate-clause-board g c =
+    let done =
+    generate_done (ending_of c.generate.result) c.in-Generate.number (g.S.Store.files c.args.files.now) (g.S.Store.read_faults c.args.files.now) (g.S.Store.write_faults c.args.files.now) (g.S.Store.calls c.args.files.now) _ _ _ _ c.generate.ensures in
+    rw c.in-Generate.is (left_still (ending_of c.generate.result) (Generate c.in-Generate.number) _ _ _ _ (record { places = _; marks = _ }) (generate_runs c.in-Generate.number) done)

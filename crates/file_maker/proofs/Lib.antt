@@ -1,0 +1,2 @@
+pub mod GroupingLemmas
+pub mod PlanningLemmas

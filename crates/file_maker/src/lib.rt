@@ -1,0 +1,14 @@
+//! What is made out of the bytes of a file: another file, or the text that tells it.
+#![tactic(auto)]
+
+mod grouping;
+mod imaging;
+mod parsing;
+mod planning;
+mod telling;
+mod unmade;
+
+pub use imaging::{make_xef, no_container, no_image};
+pub use parsing::make_xmc;
+pub use telling::{Telling, text_telling};
+pub use unmade::Unmade;

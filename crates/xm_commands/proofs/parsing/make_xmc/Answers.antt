@@ -1,9 +1,0 @@
-use Rattle.std.proofs.Common.{Ok}
-use Rattle.bin_config.specs.Xmc.{xmc}
-use Rattle.xm_commands.specs.Parsing.{conf_of, xmc_of}
-use Rattle.xm_commands.proofs.ParsingLemmas.{unmade_of}
-use Rattle.xm_commands.proofs.parsing.make_xmc.Goals as goal
-
-pub returns : goal.returns
-unfolding xmc_of
-returns c = unmade_of (λ conf. Ok (xmc conf)) c.in-Err.why (conf_of c.args.text.now) c.in-Err.ensures

@@ -1,8 +1,0 @@
-use Rattle.xm_commands.specs.Parsing.{conf_of}
-use Rattle.xm_commands.specs.Planning.{verdicts_for, verdicts_of}
-use Rattle.xm_commands.proofs.ParsingLemmas.{unmade_of}
-use Rattle.xm_commands.proofs.planning.verdicts.Goals as goal
-
-pub returns-in-Err : goal.returns-in-Err
-unfolding verdicts_of
-returns-in-Err c = unmade_of verdicts_for c.in-Err.why (conf_of c.args.text.now) c.in-Err.ensures
