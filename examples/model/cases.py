@@ -598,7 +598,8 @@ def timer_cases():
     for name, deadline, interval in (
         ("once", 100, 0), ("short_interval", 100, 60), ("interval_1", 100, 1), ("due_in_gap", 460, 0),
         ("due_in_other_slot", 700, 0), ("due_in_slot_start", 1000, 0), ("due_in_slot_end", 449, 0),
-        ("due_behind_slot", 450, 0), ("past", 1, 0), ("past_interval", 1, 170), ("period_of_frame", 1000, 1000),
+        ("due_behind_slot", 450, 0), ("due_in_other_slot_start", 500, 0), ("due_in_other_slot_end", 949, 0),
+        ("due_behind_other_slot", 950, 0), ("past", 1, 0), ("past_interval", 1, 170), ("period_of_frame", 1000, 1000),
         ("longer_than_frame", 300, 1100),
     ):
         case(f"timer_{name}", make(timed(deadline, interval)), "--ticks 2600")

@@ -6,7 +6,7 @@ use anyhow::{Context, Result};
 use toml::Value;
 
 // The keys of a case.
-const KEYS: [&str; 18] = [
+const KEYS: [&str; 19] = [
     "shows",
     "call",
     "words",
@@ -25,6 +25,7 @@ const KEYS: [&str; 18] = [
     "absent",
     "fails",
     "resets",
+    "lengths",
 ];
 
 /// A case, and its group.

@@ -1,10 +1,11 @@
 //! Does the cases of its data folder by the program's commands, and prints how many of each group come out as wanted, and
-//! each that does not. A run that is to end well is done tick by tick, too.
+//! each that does not. A run that is to end well is done tick by tick and stretch by stretch, too.
 #![tactic(auto)]
 
 mod case;
 mod entry;
 mod making;
+mod pace;
 mod random;
 mod recipe;
 mod tally;
@@ -29,7 +30,7 @@ use verdict::Verdict;
 const WORKED: &str = "worked.toml";
 
 // The files of cases, in the order in which they are done.
-const BOOKS: [&str; 27] = [
+const BOOKS: [&str; 29] = [
     "differing.toml",
     "raw_images.toml",
     "descriptions.toml",
@@ -43,6 +44,7 @@ const BOOKS: [&str; 27] = [
     "container_files.toml",
     "damaged_files.toml",
     "runs.toml",
+    "scripts.toml",
     "machines.toml",
     "calls.toml",
     "ports.toml",
@@ -53,6 +55,7 @@ const BOOKS: [&str; 27] = [
     "wild_calls.toml",
     "random_guests.toml",
     "systems.toml",
+    "spans.toml",
     "outside.toml",
     "words.toml",
     "texts.toml",

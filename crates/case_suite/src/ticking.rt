@@ -1,10 +1,11 @@
-//! A run that is done tick by tick, with resets between its ticks.
+//! A run that is done tick by tick, or stretch by stretch, with resets between its ticks.
 
 ghost use Rattle.std.specs.Prelude.{◌≡◌, ◌<◌, ◌≤◌, All, IfOk, length};
 ghost use Rattle.std.specs.Bool.{OnTrue};
 ghost use Rattle.slot_runs.specs.Passes.{part_at};
 
 use crate::entry::{Entry, entry_of};
+use crate::pace::{Pace, advance};
 use anyhow::{Context, Result, bail};
 use std::alloc::Global;
 use toml::Value;
@@ -13,7 +14,7 @@ use xm_base::{FILE_BYTES, Mode, TICKS};
 use xm_container::{System, unpack};
 use xm_machine::{Inputs, Line, Machine, WriteFault, put_line};
 use xm_outside::{MemStore, Sink};
-use xm_words::{Command, PartFile, PartFiles, Span, Words, command};
+use xm_words::{Command, PartFile, PartFiles, RunOptions, Span, Words, command};
 
 const NO_MEMORY: &str = "there is no memory";
 
@@ -22,34 +23,66 @@ const NOT_TAKEN: &str = "the report is not taken";
 // A longer run is not done tick by tick.
 const MOST_TICKS: u64 = 100_000;
 
-/// Does a run tick by tick over these files, with these resets, and writes its report. Answers whether it did: the words may
+/// Does a run at a pace over these files, with these resets, and writes its report. Answers whether it did: the words may
 /// be those of another command, or of too long a run.
 pub(crate) fn is_ticked<O: Sink>(
     alloc: Global,
     words: &Words,
     files: &MemStore,
     resets: &[Value],
+    pace: Pace,
     out: &mut O,
 ) -> Result<bool> {
-    let Some(Command::Run { container, options }) = command(words) else {
-        return Ok(false);
-    };
-    let mut machine = booted(alloc, container, options.inputs(), files)?;
-    tick_run(&mut machine, options.span(), resets, out)
+    match command(words) {
+        Some(command) => is_command_ticked(alloc, command, files, resets, pace, out),
+        None => Ok(false),
+    }
 }
 
-// Does a run of a booted machine tick by tick, where it is short enough, and answers whether it is.
+// Does a command at a pace, where it is a run that is short enough, and answers whether it is.
+fn is_command_ticked<O: Sink>(
+    alloc: Global,
+    command: Command<'_>,
+    files: &MemStore,
+    resets: &[Value],
+    pace: Pace,
+    out: &mut O,
+) -> Result<bool> {
+    match command {
+        Command::Run { container, options } => {
+            boot_and_tick(alloc, container, options, files, resets, pace, out)
+        }
+        _ => Ok(false),
+    }
+}
+
+// Boots the machine of a container, and does its run at a pace, where it is short enough; answers whether it is.
+fn boot_and_tick<O: Sink>(
+    alloc: Global,
+    container: &str,
+    options: RunOptions<'_>,
+    files: &MemStore,
+    resets: &[Value],
+    pace: Pace,
+    out: &mut O,
+) -> Result<bool> {
+    let mut machine = booted(alloc, container, options.inputs(), files)?;
+    tick_run(&mut machine, options.span(), resets, pace, out)
+}
+
+// Does a run of a booted machine at a pace, where it is short enough, and answers whether it is.
 fn tick_run<O: Sink>(
     machine: &mut Machine,
     span: Span,
     resets: &[Value],
+    pace: Pace,
     out: &mut O,
 ) -> Result<bool> {
     let ticks = ticks_in(machine, span)?;
     if ticks > MOST_TICKS {
         return Ok(false);
     }
-    put_run(machine, ticks, resets, out)?;
+    put_run(machine, ticks, resets, pace, out)?;
     Ok(true)
 }
 
@@ -58,13 +91,14 @@ fn put_run<O: Sink>(
     machine: &mut Machine,
     ticks: u64,
     resets: &[Value],
+    pace: Pace,
     out: &mut O,
 ) -> Result<()> {
     put_front(machine, ticks, out)?;
     for reset in resets {
-        do_reset(machine, ticks, entry_of(reset)?, out)?;
+        do_reset(machine, ticks, entry_of(reset)?, pace, out)?;
     }
-    do_ticks(machine, ticks, out)?;
+    do_ticks(machine, ticks, pace, out)?;
     put_end(machine, out).ok().context(NOT_TAKEN)
 }
 
@@ -140,13 +174,13 @@ fn put_front<O: Sink>(machine: &Machine, ticks: u64, out: &mut O) -> Result<()> 
 }
 
 // Does ticks up to so many in all.
-fn do_ticks<O: Sink>(machine: &mut Machine, ticks: u64, out: &mut O) -> Result<()> {
+fn do_ticks<O: Sink>(machine: &mut Machine, ticks: u64, pace: Pace, out: &mut O) -> Result<()> {
     for _ in machine.done()..ticks {
-        if machine.halted() || machine.done() >= TICKS {
+        if machine.halted() || machine.done() >= ticks.min(TICKS) {
             break;
         }
-        let told = machine.tick(out, &mut Board::new());
-        told.ok().context(NOT_TAKEN)?;
+        let left = ticks.min(TICKS) - machine.done();
+        advance(machine, left, pace, out).ok().context(NOT_TAKEN)?;
     }
     Ok(())
 }
@@ -156,11 +190,12 @@ fn do_reset<O: Sink>(
     machine: &mut Machine,
     ticks: u64,
     reset: Entry<'_>,
+    pace: Pace,
     out: &mut O,
 ) -> Result<()> {
     reset.has_only(&["tick", "part", "status", "mode"])?;
     let tick = reset.number("tick")?.context("a reset has no tick")?;
-    do_ticks(machine, ticks.min(tick), out)?;
+    do_ticks(machine, ticks.min(tick), pace, out)?;
     if machine.halted() || tick >= ticks {
         return Ok(());
     }

@@ -5,6 +5,7 @@ ghost use Rattle.std.specs.Prelude.{◌≡◌, OnOk};
 use crate::case::Case;
 use crate::entry::{Entry, number_of, text_of};
 use crate::making::{Shelf, made};
+use crate::pace::Pace;
 use crate::ticking::is_ticked;
 use crate::verdict::Verdict;
 use crate::wanted;
@@ -13,6 +14,7 @@ use std::alloc::Global;
 use std::fs::Files;
 use toml::{Table, Value};
 use uart_board::Board;
+use xm_base::TICKS;
 use xm_commands::{Status, xm_main};
 use xm_outside::{MemSink, MemStore, Sink};
 use xm_words::Words;
@@ -99,7 +101,16 @@ fn compared<'a>(
     Ok(verdict)
 }
 
-// Does the words' run tick by tick, where it is to end well, and compares its report.
+// The paces of runs beside that of the command: tick by tick, and by stretches of a tick, a few, a slot, and as long as they may be.
+const PACES: [Pace; 5] = [
+    Pace::Ticks,
+    Pace::Stretches(1),
+    Pace::Stretches(7),
+    Pace::Stretches(1000),
+    Pace::Stretches(TICKS),
+];
+
+// Does the words' run at each pace, where it is to end well, and compares its report.
 fn compare_ticks(
     alloc: Global,
     case: Case<'_>,
@@ -110,9 +121,38 @@ fn compare_ticks(
     if wanted::status(case)? != Status::Done {
         return Ok(());
     }
+    for pace in PACES {
+        compare_pace(alloc, case, words, files, pace, verdict)?;
+    }
+    compare_lengths(alloc, case, words, files, verdict)
+}
+
+// Does the words' run by stretches of each length up to the one that the case names, and compares its report.
+fn compare_lengths(
+    alloc: Global,
+    case: Case<'_>,
+    words: &Words,
+    files: &MemStore,
+    verdict: &mut Verdict,
+) -> Result<()> {
+    for most in 1..=case.own.number("lengths")?.unwrap_or(0) {
+        compare_pace(alloc, case, words, files, Pace::Stretches(most), verdict)?;
+    }
+    Ok(())
+}
+
+// Does the words' run at a pace, and compares its report.
+fn compare_pace(
+    alloc: Global,
+    case: Case<'_>,
+    words: &Words,
+    files: &MemStore,
+    pace: Pace,
+    verdict: &mut Verdict,
+) -> Result<()> {
     let resets = case.own.list("resets")?.unwrap_or(&[]);
     let mut out = sink(alloc, None, "out", "out_step")?;
-    if is_ticked(alloc, words, files, resets, &mut out)? {
+    if is_ticked(alloc, words, files, resets, pace, &mut out)? {
         verdict.report_of_ticks(case.own, out.got())?;
     }
     Ok(())
