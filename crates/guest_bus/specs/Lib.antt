@@ -4,3 +4,4 @@ pub mod Memory
 pub mod MemoryLemmas
 pub mod Whole
 pub mod WholeLemmas
+pub mod Words

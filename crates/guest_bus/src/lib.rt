@@ -2,5 +2,7 @@
 #![tactic(auto)]
 
 mod bus;
+mod words;
 
 pub use bus::{Bus, BusFault, Size};
+pub use words::{HasWords, Words};
