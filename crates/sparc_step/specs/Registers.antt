@@ -69,6 +69,10 @@ skipped r = record r { pc = (r.npc + 4) % 2 ^ 32; npc = (r.npc + 8) % 2 ^ 32 }
 unfoldable pub sent : Registers → ℕ → Registers
 sent r target = record r { pc = target; npc = (target + 4) % 2 ^ 32 }
 
+-- the registers with other program counters
+unfoldable pub placed : ℕ → ℕ → Registers → Registers
+placed pc npc r = record r { pc = pc; npc = npc }
+
 -- the registers in another window
 unfoldable pub in_window : Registers → ℕ → Registers
 in_window r window = record r { cwp = window }

@@ -20,8 +20,8 @@ ghost use Rattle.sparc_step.specs.Conditions.{codes_of_result};
 ghost use Rattle.sparc_step.specs.Registers.{with_y};
 
 use crate::conditions::{
-    carry, codes_of_difference, codes_of_result, codes_of_sum, codes_of_tagged_difference,
-    codes_of_tagged_sum, negative, overflow,
+    carry, codes_of_comparison, codes_of_difference, codes_of_result, codes_of_sum,
+    codes_of_tagged_difference, codes_of_tagged_sum, negative, overflow,
 };
 use crate::operands::{first, places, put, put_with_codes, second};
 use crate::outcome::Turn;
@@ -109,7 +109,7 @@ fn coded(core: &mut Processor, selector: u32, word: u32) -> Turn
             core,
             word,
             difference(a, b, false),
-            codes_of_difference(a, b, false),
+            codes_of_comparison(a, b),
         );
     } else if selector == 0x10 {
         put_with_codes(core, word, sum(a, b, false), codes_of_sum(a, b, false));

@@ -1,6 +1,6 @@
 //! The condition codes.
 
-ghost use Rattle.std.specs.Prelude.{◌≡◌, ◌<◌};
+ghost use Rattle.std.specs.Prelude.{◌≡◌, ◌<◌, false};
 ghost use Rattle.sparc_step.specs.Conditions.{
   carry,
   codes_of_difference,
@@ -15,7 +15,8 @@ ghost use Rattle.sparc_step.specs.Conditions.{
 };
 
 use crate::words::{
-    difference, difference_borrows, difference_overflows, sign, sum, sum_carries, sum_overflows,
+    comparison_overflows, difference, difference_borrows, difference_overflows, sign, sum,
+    sum_carries, sum_overflows,
 };
 
 // The condition codes of four flags.
@@ -27,18 +28,18 @@ pub(crate) fn condition_codes(n: bool, z: bool, v: bool, c: bool) -> u8
     8 * u8::from(n) + 4 * u8::from(z) + 2 * u8::from(v) + u8::from(c)
 }
 
-// The condition codes of a result, with an overflow and without a carry.
+/// The condition codes of a result, with an overflow and without a carry.
 #[tactic(auto, unfolding(crate::specs::Conditions::codes_of_result))]
-pub(crate) fn codes_of_result(value: u32, overflow: bool) -> u8
+pub fn codes_of_result(value: u32, overflow: bool) -> u8
     ensures value { result ≡ codes_of_result value overflow }
     ensures four { result < 16 }
 {
     condition_codes(sign(value), value == 0, overflow, false)
 }
 
-// The condition codes of a sum.
+/// The condition codes of a sum.
 #[tactic(auto, unfolding(crate::specs::Conditions::codes_of_sum))]
-pub(crate) fn codes_of_sum(a: u32, b: u32, carry: bool) -> u8
+pub fn codes_of_sum(a: u32, b: u32, carry: bool) -> u8
     ensures value { result ≡ codes_of_sum a b carry }
     ensures four { result < 16 }
 {
@@ -76,6 +77,22 @@ pub(crate) fn codes_of_difference(a: u32, b: u32, borrow: bool) -> u8
     )
 }
 
+/// The condition codes of a comparison, which are those of a difference without a borrow.
+#[inline(always)]
+#[tactic(auto, unfolding(crate::specs::Conditions::codes_of_difference))]
+pub fn codes_of_comparison(a: u32, b: u32) -> u8
+    ensures value { result ≡ codes_of_difference a b false }
+    ensures four { result < 16 }
+{
+    let value = difference(a, b, false);
+    condition_codes(
+        sign(value),
+        value == 0,
+        comparison_overflows(a, b),
+        difference_borrows(a, b, false),
+    )
+}
+
 // The condition codes of a difference, its overflow known.
 #[tactic(auto, unfolding(crate::specs::Conditions::codes_of_tagged_difference))]
 pub(crate) fn codes_of_tagged_difference(a: u32, b: u32, overflow: bool) -> u8
@@ -97,9 +114,9 @@ const HELD: [u16; 16] = [
     0x0505, 0x5555, 0x00ff, 0x3333,
 ];
 
-// A condition holds of the codes.
+/// A condition holds of the codes.
 #[inline(always)]
-pub(crate) fn holds(condition: u8, icc: u8) -> bool
+pub fn holds(condition: u8, icc: u8) -> bool
     requires condition { condition < 16 }
     requires icc { icc < 16 }
     ensures { result ≡ holds condition icc }

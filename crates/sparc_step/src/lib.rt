@@ -2,15 +2,15 @@
 #![tactic(auto)]
 
 mod arithmetic;
-mod conditions;
+pub mod conditions;
 mod execution;
 mod flow;
 mod operands;
 mod outcome;
 mod processor;
 mod registers;
-mod transfers;
-mod words;
+pub mod transfers;
+pub mod words;
 
 pub use execution::turn;
 pub use guest_bus::{Bus, BusFault, Size};

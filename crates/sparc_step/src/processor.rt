@@ -9,6 +9,7 @@ ghost use Rattle.sparc_step.specs.Registers.{
   advanced,
   branched,
   in_window,
+  placed,
   register_at,
   sent,
   skipped,
@@ -100,6 +101,26 @@ impl Processor {
         self.pc & 0xffff_fffc
     }
 
+    /// Where the program goes on behind the instruction at `pc`.
+    #[tactic(auto, unfolding(crate::specs::AtHand::gathered))]
+    pub fn npc(&self) -> u32
+        ensures value { result ≡ self.now.npc }
+        ensures aligned { result % 4 ≡ 0 }
+    {
+        self.npc
+    }
+
+    /// Puts the program counters.
+    #[tactic(auto, unfolding(crate::specs::Registers::placed, crate::specs::AtHand::gathered))]
+    pub fn place(&mut self, pc: u32, npc: u32)
+        requires pc { pc % 4 ≡ 0 }
+        requires npc { npc % 4 ≡ 0 }
+        ensures { self.new ≡ placed pc npc self.old }
+    {
+        self.pc = pc;
+        self.npc = npc;
+    }
+
     /// The Y register.
     #[tactic(auto, unfolding(crate::specs::AtHand::gathered))]
     pub fn y(&self) -> u32
@@ -140,6 +161,7 @@ impl Processor {
     pub fn get(&self, r: u8) -> u32
         requires { r < 32 }
         ensures value { result ≡ register_at self.now r }
+        ensures zero { r ≡ 0 → result ≡ 0 }
     {
         self.hand[usize::from(r)]
     }
@@ -194,7 +216,7 @@ impl Processor {
     /// Enters a window that is valid.
     #[inline(never)]
     #[tactic(auto, unfolding(crate::specs::Registers::in_window, crate::specs::AtHand::gathered))]
-    pub(crate) fn enter(&mut self, window: u8)
+    pub fn enter(&mut self, window: u8)
         requires window { window < 8 }
         requires valid { window ≢ self.old.inv }
         ensures { self.new ≡ in_window self.old window }
@@ -206,7 +228,7 @@ impl Processor {
 
     /// Sets Y.
     #[tactic(auto, unfolding(crate::specs::Registers::with_y, crate::specs::AtHand::gathered))]
-    pub(crate) fn set_y(&mut self, y: u32)
+    pub fn set_y(&mut self, y: u32)
         ensures { self.new ≡ with_y self.old y }
     {
         self.y = y;
@@ -214,7 +236,7 @@ impl Processor {
 
     /// Sets the condition codes.
     #[tactic(auto, unfolding(crate::specs::Registers::with_icc, crate::specs::AtHand::gathered))]
-    pub(crate) fn set_icc(&mut self, icc: u8)
+    pub fn set_icc(&mut self, icc: u8)
         requires { icc < 16 }
         ensures { self.new ≡ with_icc self.old icc }
     {

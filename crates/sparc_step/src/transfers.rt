@@ -192,17 +192,17 @@ fn load_half<B: Bus>(core: &mut Processor, bus: &mut B, word: u32, address: u32)
     }
 }
 
-// The low byte of a value with its sign.
+/// The low byte of a value with its sign.
 #[tactic(auto, unfolding(crate::specs::Transfers::signed_byte))]
-fn signed_byte(value: u64) -> u32
+pub fn signed_byte(value: u64) -> u32
     ensures { result ≡ signed_byte value }
 {
     i32::from(((value % 0x100) as u8).cast_signed()).cast_unsigned()
 }
 
-// The low half word of a value with its sign.
+/// The low half word of a value with its sign.
 #[tactic(auto, unfolding(crate::specs::Transfers::signed_half))]
-fn signed_half(value: u64) -> u32
+pub fn signed_half(value: u64) -> u32
     ensures { result ≡ signed_half value }
 {
     i32::from(((value % 0x1_0000) as u16).cast_signed()).cast_unsigned()

@@ -1,6 +1,6 @@
 //! Arithmetic on words.
 
-ghost use Rattle.std.specs.Prelude.{◌≡◌, ◌<◌, ◌-◌, ◌^◌, ◌≤ℤ◌, ◌<ℤ◌, pos, negsuc, FitsSigned};
+ghost use Rattle.std.specs.Prelude.{◌≡◌, ◌<◌, ◌-◌, ◌^◌, ◌≤ℤ◌, ◌<ℤ◌, pos, negsuc, FitsSigned, false};
 ghost use Rattle.std.specs.Int.{cast_unsigned, saturate_signed, w32, w64};
 ghost use Rattle.std.specs.Option.{SomeIff};
 ghost use Rattle.sparc_step.specs.Words.{
@@ -35,9 +35,9 @@ pub(crate) fn sign(word: u32) -> bool
     word >= 0x8000_0000
 }
 
-// The sum of two words and a carry.
+/// The sum of two words and a carry.
 #[tactic(auto, unfolding(crate::specs::Words::sum))]
-pub(crate) fn sum(a: u32, b: u32, carry: bool) -> u32
+pub fn sum(a: u32, b: u32, carry: bool) -> u32
     ensures { result ≡ sum a b carry }
 {
     a.wrapping_add(b).wrapping_add(u32::from(carry))
@@ -82,9 +82,9 @@ fn is_signed_word(number: i64) -> bool
     number >= -0x8000_0000 && number < 0x8000_0000
 }
 
-// The difference of two words, less a borrow.
+/// The difference of two words, less a borrow.
 #[tactic(auto, unfolding(crate::specs::Words::difference))]
-pub(crate) fn difference(a: u32, b: u32, borrow: bool) -> u32
+pub fn difference(a: u32, b: u32, borrow: bool) -> u32
     ensures { result ≡ difference a b borrow }
 {
     a.wrapping_sub(b).wrapping_sub(u32::from(borrow))
@@ -106,6 +106,18 @@ pub(crate) fn difference_overflows(a: u32, b: u32, borrow: bool) -> bool
     !is_signed_word(signed_difference(a, b, borrow))
 }
 
+/// The difference of signed words does not fit one: their signs differ, and its sign is not the first's.
+#[tactic(auto, unfolding(crate::specs::Words::difference_overflows, crate::specs::Words::difference, crate::specs::Words::sign))]
+pub(crate) fn comparison_overflows(a: u32, b: u32) -> bool
+    ensures { result ≡ difference_overflows a b false }
+{
+    if sign(a) == sign(b) {
+        false
+    } else {
+        sign(a) != sign(difference(a, b, false))
+    }
+}
+
 // The difference of signed words, less a borrow.
 fn signed_difference(a: u32, b: u32, borrow: bool) -> i64
     ensures { result ≡ signed_difference a b borrow }
@@ -113,17 +125,17 @@ fn signed_difference(a: u32, b: u32, borrow: bool) -> i64
     signed(a) - signed(b) - i64::from(borrow)
 }
 
-// The product of signed words.
+/// The product of signed words.
 #[tactic(auto, unfolding(crate::specs::Words::signed_product))]
-pub(crate) fn signed_product(a: u32, b: u32) -> u64
+pub fn signed_product(a: u32, b: u32) -> u64
     ensures { result ≡ signed_product a b }
 {
     (signed(a) * signed(b)).cast_unsigned()
 }
 
-// The quotient of a double word, as far as a word holds it.
+/// The quotient of a double word, as far as a word holds it.
 #[tactic(auto, unfolding(crate::specs::Words::quotient))]
-pub(crate) fn quotient(dividend: u64, divisor: u32) -> u32
+pub fn quotient(dividend: u64, divisor: u32) -> u32
     requires { 0 < divisor }
     ensures { result ≡ quotient dividend divisor }
 {
@@ -147,9 +159,9 @@ fn exact_quotient(dividend: u64, divisor: u32) -> Option<i64>
     dividend.cast_signed().checked_div(signed(divisor))
 }
 
-// The quotient of a signed double word, as far as a signed word holds it.
+/// The quotient of a signed double word, as far as a signed word holds it.
 #[tactic(auto, unfolding(crate::specs::Words::signed_quotient))]
-pub(crate) fn signed_quotient(dividend: u64, divisor: u32) -> u32
+pub fn signed_quotient(dividend: u64, divisor: u32) -> u32
     requires { 0 < divisor }
     ensures { result ≡ signed_quotient dividend divisor }
 {
@@ -187,21 +199,21 @@ pub(crate) fn is_tagged(a: u32, b: u32) -> bool
 }
 
 #[tactic(auto, unfolding(crate::specs::Words::shifted_left))]
-pub(crate) fn shifted_left(a: u32, count: u32) -> u32
+pub fn shifted_left(a: u32, count: u32) -> u32
     ensures { result ≡ shifted_left a count }
 {
     a.wrapping_shl(count)
 }
 
 #[tactic(auto, unfolding(crate::specs::Words::shifted_right))]
-pub(crate) fn shifted_right(a: u32, count: u32) -> u32
+pub fn shifted_right(a: u32, count: u32) -> u32
     ensures { result ≡ shifted_right a count }
 {
     a.wrapping_shr(count)
 }
 
 #[tactic(auto, unfolding(crate::specs::Words::shifted_arithmetically))]
-pub(crate) fn shifted_arithmetically(a: u32, count: u32) -> u32
+pub fn shifted_arithmetically(a: u32, count: u32) -> u32
     ensures { result ≡ shifted_arithmetically a count }
 {
     a.cast_signed().wrapping_shr(count).cast_unsigned()
