@@ -16,7 +16,7 @@ use Rattle.slot_runs.specs.Calm.{GoneCalm, IdleCalm, IsCalm, RestingCalm, turn_a
 use Rattle.slot_runs.specs.Meeting.{HasGone, first_after, timers_looked_at}
 use Rattle.slot_runs.specs.SpanLaws.{IsNobodys, going_parts, its_areas, its_state, met}
 use Rattle.slot_runs.specs.Spans.{IsSlotOf, IsSpan, IsUnderway, inside}
-use Rattle.slot_runs.specs.Stepping.{stepped}
+use Rattle.virt_traps.specs.Stepping.{stepped}
 use Rattle.slot_runs.specs.Undisturbed.{IsUndisturbed, NoneFallsDue}
 use Rattle.slot_runs.proofs.DueLemmas.{none_due_earlier}
 use Rattle.slot_runs.proofs.GoingLemmas.{going, its_place, local_goes}

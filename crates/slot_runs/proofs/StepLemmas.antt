@@ -13,7 +13,7 @@ use Rattle.machine_model.specs.LocalTick.{by_turn, clocked, executed, turned_sta
 use Rattle.machine_model.specs.Partition.{PartitionState, areas_of}
 use Rattle.machine_model.specs.Told.{Sight}
 use Rattle.machine_model.specs.View.{PartitionView}
-use Rattle.slot_runs.specs.Stepping.{stepped, then_settled}
+use Rattle.virt_traps.specs.Stepping.{stepped, then_settled}
 use Rattle.slot_runs.specs.Meeting.{Executes, HasGone, gone_on}
 
 -- where a step more only went, all before it only went

@@ -8,6 +8,5 @@ pub mod Rest
 pub mod RunLemmas
 pub mod SpanLaws
 pub mod Spans
-pub mod Stepping
 pub mod Undisturbed
 pub mod Calm

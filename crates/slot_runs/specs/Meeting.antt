@@ -11,7 +11,7 @@ use Rattle.machine_model.specs.Told as told
 use Rattle.machine_model.specs.Told.{Sight, Told}
 use Rattle.machine_model.specs.View.{PartitionView}
 use Rattle.xm_ports.specs.Channels.{Content}
-use Rattle.slot_runs.specs.Stepping.{stepped}
+use Rattle.virt_traps.specs.Stepping.{stepped}
 
 -- a partition at the beginning of ticks of its slot: the start of the slot is an interrupt
 abbrev pub began : Bool → PartitionState → PartitionState

@@ -4,5 +4,6 @@ pub use Rattle.sparc_step.specs.Registers
 pub mod SaveArea
 pub mod Moves
 pub mod Settled
+pub mod Stepping
 pub mod Virtual
 pub mod Delivery

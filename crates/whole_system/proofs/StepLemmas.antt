@@ -10,7 +10,7 @@ use Rattle.sparc_step.specs.Execution.{Turned}
 use Rattle.sparc_step.specs.Registers.{Registers}
 use Rattle.sparc_step.specs.declared.outcome.Turn.{Turn}
 use Rattle.sparc_step.specs.declared.outcome.Turn.TheVariants.{Call, Went}
-use Rattle.slot_runs.specs.Stepping.{stepped, then_settled}
+use Rattle.virt_traps.specs.Stepping.{stepped, then_settled}
 use Rattle.machine_model.specs.ProcessorCalls.{flushed, flushed_after}
 use Rattle.virt_traps.specs.Moves.{Moved, made, spilled}
 use Rattle.virt_traps.specs.Settled.{GoesOn, settled}

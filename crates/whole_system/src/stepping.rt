@@ -2,7 +2,7 @@
 
 ghost use Rattle.std.specs.Prelude.{◌≡◌, ◌%◌, ◌<◌, OnErr, length};
 ghost use Rattle.guest_memory.specs.Memories.{areas_at, map_at, with_map, with_selected};
-ghost use Rattle.slot_runs.specs.Stepping.{stepped};
+ghost use Rattle.virt_traps.specs.Stepping.{stepped};
 ghost use Rattle.virt_traps.specs.Delivery.{delivered, returned};
 ghost use Rattle.virt_traps.specs.Moves.{made};
 ghost use Rattle.virt_traps.specs.Settled.{GoesOn, settled};

@@ -19,7 +19,7 @@ ghost use Rattle.machine_model.specs.Partition.{loaded, resets_after};
 ghost use Rattle.machine_model.specs.View.{view_of};
 ghost use Rattle.whole_system.specs.State.{areas_in, memory_of, part_at, with_inputs, with_machine, with_memory, with_part, words_of};
 ghost use Rattle.whole_system.specs.Lending.{LendsChannels, LendsPart, LendsPlanClock};
-ghost use Rattle.slot_runs.specs.Stepping.{stepped};
+ghost use Rattle.virt_traps.specs.Stepping.{stepped};
 ghost use Rattle.whole_system.specs.Stepping.{IsGone, behind_flush, behind_return, delivered_to, flushed_in, returned_in, with_turned};
 
 use crate::gone::Gone;

@@ -16,7 +16,7 @@ use Rattle.slot_runs.specs.Calm.{GoneCalm, IsCalm}
 use Rattle.slot_runs.specs.Meeting.{HasGone}
 use Rattle.slot_runs.specs.SpanLaws.{met}
 use Rattle.slot_runs.specs.Spans.{IsSpan}
-use Rattle.slot_runs.specs.Stepping.{stepped, then_settled}
+use Rattle.virt_traps.specs.Stepping.{stepped, then_settled}
 use Rattle.slot_runs.specs.Undisturbed.{IsUndisturbed}
 use Rattle.whole_system.specs.Serving.{without_traffic}
 use Rattle.xm_machine.specs.Quiet.{AreQuiet, ends_in, ends_stretch}

@@ -23,7 +23,7 @@ use Rattle.slot_runs.specs.PassLaws.{OthersRest}
 use Rattle.slot_runs.specs.Passes.{part_at, rest_but, with_part}
 use Rattle.slot_runs.specs.SpanLaws.{its_areas, met, others_rested}
 use Rattle.slot_runs.specs.Spans.{IsQuietSpan, after_span, plan_line}
-use Rattle.slot_runs.specs.Stepping.{stepped}
+use Rattle.virt_traps.specs.Stepping.{stepped}
 use Rattle.slot_runs.specs.Undisturbed.{IsUndisturbed, NoneFallsDue, UndisturbedTicks}
 use Rattle.xm_machine.specs.Span.{AreDoneFrom, HasTurned, IsMet, counted_on}
 use Rattle.xm_machine.specs.declared.beyond.Beyond.TheVariants as beyond

@@ -1,0 +1,91 @@
+-- What came of a word of a run, by what its row and its instruction did.
+use Rattle.std.proofs.Common.{◌≡◌, ℕ, ◌+◌, ◌%◌, ◌^◌, List, Ok, refl, sym, ap, ◌∙◌, subst}
+use Rattle.guest_bus.specs.Access.{fetched}
+use Rattle.guest_bus.specs.Memory.{Area, Memory}
+use Rattle.guest_bus.specs.Words.{swapped, word_address}
+use Rattle.sparc_code.specs.Decoded.{decoded}
+use Rattle.sparc_step.specs.Execution.{done, executed}
+use Rattle.sparc_step.specs.Registers.{Registers, placed}
+use Rattle.straight_runs.specs.Coming.{IsCame}
+use Rattle.straight_runs.specs.Runs.{AreSteps, no_steps, one_more, word_more}
+use Rattle.straight_runs.specs.Steps.{IsStep}
+use Rattle.straight_runs.specs.Tables.{IsRowFor}
+use Rattle.straight_runs.specs.TurnLemmas.{turned-word}
+use Rattle.straight_runs.specs.Turning.{Turns, at_place, at_slot}
+use Rattle.straight_runs.specs.TurningLemmas.{next_address}
+use Rattle.straight_runs.specs.declared.one.Came.{Came}
+use Rattle.straight_runs.specs.declared.one.Came.TheVariants.{Next, Jump, Turn, Slot, Stays}
+use Rattle.straight_runs.specs.declared.rows.Row.{Row}
+use Rattle.straight_runs.specs.declared.simple.Step.TheVariants as step
+use Rattle.straight_runs.specs.declared.turning.Goal.TheVariants as goal
+
+-- behind a place, the next word follows
+followed : (count origin to : ℕ) (areas : List Area) (core new : Registers) (memory after : Memory)
+    → AreSteps count areas core memory (placed (word_address origin to) ((word_address origin to + 4) % 2 ^ 32) new) after → AreSteps count areas core memory (at_place origin to new) after
+followed count origin to areas core new memory after steps =
+    subst (λ (n : ℕ). AreSteps count areas core memory (placed (word_address origin to) n new) after) (next_address origin to) steps
+
+-- its row went on to the next word
+pub came_next : (raw origin at : ℕ) (row : Row) (areas : List Area) (old new : Registers) (memory after : Memory)
+    → fetched areas memory (word_address origin at) ≡ Ok (swapped raw) → IsRowFor raw row → IsStep step.Next row areas old new memory after
+    → IsCame Next origin at areas old new memory after
+came_next raw origin at row areas old new memory after stands is goes =
+    followed 1 origin (at + 1) areas (at_place origin at old) new memory after
+    (word_more 0 (swapped raw) (word_address origin at) (word_address origin (at + 1)) areas (at_place origin at old) old new memory memory after
+    (no_steps areas (at_place origin at old) memory) stands (goes (decoded (swapped raw)) is.spelled))
+
+-- so did the row in its delay slot
+pub came_behind : (raw origin at to : ℕ) (row : Row) (areas : List Area) (core old new : Registers) (memory there after : Memory)
+    → fetched areas there (word_address origin (at + 1)) ≡ Ok (swapped raw) → IsRowFor raw row → IsStep step.Next row areas old new there after
+    → AreSteps 1 areas (at_place origin at core) memory (at_slot origin (at + 1) to old) there → IsCame (Turn to) origin at areas core new memory after
+came_behind raw origin at to row areas core old new memory there after stands is goes steps =
+    followed 2 origin to areas (at_place origin at core) new memory after
+    (word_more 1 (swapped raw) (word_address origin (at + 1)) (word_address origin to) areas (at_place origin at core) old new memory there after steps stands (goes (decoded (swapped raw)) is.spelled))
+
+-- it did not, and changed nothing
+pub came_slot : (origin at to : ℕ) (areas : List Area) (core old new : Registers) (memory there after : Memory)
+    → new ≡ old → after ≡ there → AreSteps 1 areas (at_place origin at core) memory (at_slot origin (at + 1) to old) there → IsCame (Slot to) origin at areas core new memory after
+came_slot origin at to areas core old new memory there after same bytes steps =
+    subst (λ (r : Registers). AreSteps 1 areas (at_place origin at core) memory (at_slot origin (at + 1) to r) after) (sym same)
+    (subst (λ (m : Memory). AreSteps 1 areas (at_place origin at core) memory (at_slot origin (at + 1) to old) m) (sym bytes) steps)
+
+-- its instruction went to other places
+gone : (raw origin at : ℕ) (areas : List Area) (old after : Registers) (memory : Memory)
+    → fetched areas memory (word_address origin at) ≡ Ok (swapped raw) → executed (decoded (swapped raw)) areas (at_place origin at old) memory ≡ done after memory
+    → AreSteps 1 areas (at_place origin at old) memory after memory
+gone raw origin at areas old after memory stands is =
+    one_more 0 areas (at_place origin at old) (at_place origin at old) after memory memory memory (no_steps areas (at_place origin at old) memory)
+    (turned-word (swapped raw) (word_address origin at) (word_address origin (at + 1)) areas old memory (done after memory) stands is)
+
+-- to its delay slot, and then to a place
+pub turned_to : (raw origin at to : ℕ) (row : Row) (areas : List Area) (old mid new : Registers) (memory there : Memory)
+    → fetched areas memory (word_address origin at) ≡ Ok (swapped raw) → IsRowFor raw row → mid ≡ old → there ≡ memory → Turns (goal.Behind to) row origin at mid new
+    → AreSteps 1 areas (at_place origin at old) memory (at_slot origin (at + 1) to new) there
+turned_to raw origin at to row areas old mid new memory there stands is same bytes turns =
+    subst (λ (m : Memory). AreSteps 1 areas (at_place origin at old) memory (at_slot origin (at + 1) to new) m) (sym bytes)
+    (gone raw origin at areas old (at_slot origin (at + 1) to new) memory stands
+    (ap (λ (r : Registers). executed (decoded (swapped raw)) areas (at_place origin at r) memory) (sym same) ∙ turns (decoded (swapped raw)) areas memory is.spelled))
+
+-- at once to a place
+pub came_jump : (raw origin at to : ℕ) (row : Row) (areas : List Area) (old mid new : Registers) (memory there : Memory)
+    → fetched areas memory (word_address origin at) ≡ Ok (swapped raw) → IsRowFor raw row → mid ≡ old → there ≡ memory → Turns (goal.Now to) row origin at mid new
+    → IsCame (Jump to) origin at areas old new memory there
+came_jump raw origin at to row areas old mid new memory there stands is same bytes turns =
+    subst (λ (m : Memory). AreSteps 1 areas (at_place origin at old) memory (at_place origin to new) m) (sym bytes)
+    (gone raw origin at areas old (at_place origin to new) memory stands
+    (ap (λ (r : Registers). executed (decoded (swapped raw)) areas (at_place origin at r) memory) (sym same) ∙ turns (decoded (swapped raw)) areas memory is.spelled))
+
+-- what came behind a turn
+pub came_turned : (came : Came) (raw origin at to : ℕ) (row : Row) (here areas : List Area) (old mid turned new : Registers) (memory there after : Memory)
+    → fetched areas memory (word_address origin at) ≡ Ok (swapped raw) → IsRowFor raw row → mid ≡ old → there ≡ memory → here ≡ areas → Turns (goal.Behind to) row origin at mid turned
+    → ((core : Registers) (m : Memory) → AreSteps 1 here (at_place origin at core) m (at_slot origin (at + 1) to turned) there → IsCame came origin at here core new m after)
+    → IsCame came origin at areas old new memory after
+came_turned came raw origin at to row here areas old mid turned new memory there after stands is same bytes areas_same turns follows =
+    subst (λ (a : List Area). IsCame came origin at a old new memory after) areas_same
+    (follows old memory (subst (λ (a : List Area). AreSteps 1 a (at_place origin at old) memory (at_slot origin (at + 1) to turned) there) (sym areas_same)
+    (turned_to raw origin at to row areas old mid turned memory there stands is same bytes turns)))
+
+-- areas that did not change
+pub same_came : (came : Came) (origin at : ℕ) (here areas : List Area) (old new : Registers) (memory after : Memory)
+    → here ≡ areas → IsCame came origin at here old new memory after → IsCame came origin at areas old new memory after
+same_came came origin at here areas old new memory after same is = subst (λ (a : List Area). IsCame came origin at a old new memory after) same is

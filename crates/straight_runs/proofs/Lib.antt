@@ -1,0 +1,4 @@
+pub mod ComingLemmas
+pub mod SourceLemmas
+pub mod RunningLemmas
+pub mod TableLemmas

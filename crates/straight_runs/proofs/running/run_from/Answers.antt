@@ -1,0 +1,10 @@
+use Rattle.std.proofs.Common.{sym, subst}
+use Rattle.sparc_step.specs.Registers.{Registers}
+use Rattle.straight_runs.specs.Runs.{AreSteps}
+use Rattle.straight_runs.proofs.RunningLemmas.{at_start}
+use Rattle.straight_runs.proofs.running.run_from.Goals as goal
+
+pub returns-clause-steps : goal.returns-clause-steps
+returns-clause-steps g c =
+    subst (λ (r : Registers). AreSteps c.run_in.result (g.B.Bus.areas c.args.bus.now) r (g.B.Bus.memory c.args.bus.now) c.run_in.new.own (g.B.Bus.memory c.run_in.new.bus))
+    (at_start c.args.start c.args.own.now c.requires.start c.requires.next) c.run_in.ensures.steps

@@ -1,0 +1,24 @@
+-- What came of a word of a run.
+use Rattle.std.specs.Prelude.{◌≡◌, ℕ, ◌+◌, ◌^◌, ◌<◌, ⊤, List}
+use Rattle.guest_bus.specs.Memory.{Area, Memory}
+use Rattle.sparc_step.specs.Registers.{Registers}
+use Rattle.straight_runs.specs.Runs.{AreSteps}
+use Rattle.straight_runs.specs.Turning.{at_place, at_slot}
+use Rattle.straight_runs.specs.declared.one.Came.{Came}
+use Rattle.straight_runs.specs.declared.one.Came.TheVariants.{Next, Jump, Turn, Slot, Stays}
+
+-- so many steps from its place led there
+abbrev pub IsCame : Came → ℕ → ℕ → List Area → Registers → Registers → Memory → Memory → Type 0
+IsCame Next origin at areas old new memory after = AreSteps 1 areas (at_place origin at old) memory (at_place origin (at + 1) new) after
+IsCame (Jump to) origin at areas old new memory after = AreSteps 1 areas (at_place origin at old) memory (at_place origin to new) after
+IsCame (Turn to) origin at areas old new memory after = AreSteps 2 areas (at_place origin at old) memory (at_place origin to new) after
+IsCame (Slot to) origin at areas old new memory after = AreSteps 1 areas (at_place origin at old) memory (at_slot origin (at + 1) to new) after
+IsCame Stays origin at areas old new memory after = (new ≡ old) × (after ≡ memory)
+
+-- a place that is not far beyond all addresses
+abbrev pub IsNear : Came → Type 0
+IsNear Next = ⊤
+IsNear (Jump to) = to < 2 ^ 33
+IsNear (Turn to) = to < 2 ^ 33
+IsNear (Slot to) = ⊤
+IsNear Stays = ⊤

@@ -1,0 +1,17 @@
+pub mod Kinds
+pub mod Rows
+pub mod Sources
+pub mod Effects
+pub mod Steps
+pub mod Codes
+pub mod Tables
+pub mod Turning
+pub mod Runs
+pub mod Coming
+pub mod PlacedLemmas
+pub mod TransferLemmas
+pub mod StepLemmas
+pub mod WindowLemmas
+pub mod TurnLemmas
+pub mod RareLemmas
+pub mod TurningLemmas

@@ -1,0 +1,205 @@
+-- Y, and windows, by their kinds.
+use Rattle.std.proofs.Common.{◌≡◌, ◌≢◌, ℕ, ◌+◌, ◌%◌, ◌^◌, ◌<◌, ◌≤◌, List, refl, sym, ap, ◌∙◌, arith}
+use Rattle.guest_bus.specs.Memory.{Area, Memory}
+use Rattle.sparc_code.specs.declared.instruction.Arith.{Arith}
+use Rattle.sparc_code.specs.declared.instruction.Arith.TheVariants as arith
+use Rattle.sparc_code.specs.declared.instruction.Instr.{Instr}
+use Rattle.sparc_code.specs.declared.instruction.Instr.TheVariants as instr
+use Rattle.sparc_code.specs.declared.instruction.Src.{Src}
+use Rattle.sparc_step.specs.Execution.{beside, done, executed}
+use Rattle.sparc_step.specs.Flow.{moved, window_above, window_below, write_y_row}
+use Rattle.sparc_step.specs.Operands.{sum_of, value_of}
+use Rattle.sparc_step.specs.Outcome.{with_result}
+use Rattle.sparc_step.specs.Registers.{Registers, advanced, in_window, placed, register_at, with_register, with_y}
+use Rattle.straight_runs.specs.Effects.{y_of}
+use Rattle.straight_runs.specs.Kinds.{kind_of}
+use Rattle.straight_runs.specs.PlacedLemmas.{advanced-placed, register_at-placed, sum_of-placed, value_of-placed, with_result-placed, with_y-placed}
+use Rattle.straight_runs.specs.Rows.{HasSource, IsRowOf}
+use Rattle.straight_runs.specs.StepLemmas.{branch_apart, transfer_apart}
+use Rattle.straight_runs.specs.Steps.{Goes}
+use Rattle.straight_runs.specs.WindowLemmas.{moved-placed, window_above-placed, window_below-placed}
+use Rattle.straight_runs.specs.declared.rows.Row.{Row}
+
+-- no work on registers has a kind between its own and those of no row
+pub arith_rare : (operation : Arith) (k : ℕ) → k ≡ kind_of operation → 30 ≤ k → k < 37 → ⊥
+arith_rare arith.Add k is from below = absurd (omega (arith, is, from))
+arith_rare arith.And k is from below = absurd (omega (arith, is, from))
+arith_rare arith.Or k is from below = absurd (omega (arith, is, from))
+arith_rare arith.Xor k is from below = absurd (omega (arith, is, from))
+arith_rare arith.Sub k is from below = absurd (omega (arith, is, from))
+arith_rare arith.AndN k is from below = absurd (omega (arith, is, from))
+arith_rare arith.OrN k is from below = absurd (omega (arith, is, from))
+arith_rare arith.XNor k is from below = absurd (omega (arith, is, from))
+arith_rare arith.AddX k is from below = absurd (omega (arith, is, below))
+arith_rare arith.UMul k is from below = absurd (omega (arith, is, from))
+arith_rare arith.SMul k is from below = absurd (omega (arith, is, from))
+arith_rare arith.SubX k is from below = absurd (omega (arith, is, below))
+arith_rare arith.UDiv k is from below = absurd (omega (arith, is, from))
+arith_rare arith.SDiv k is from below = absurd (omega (arith, is, from))
+arith_rare arith.AddCc k is from below = absurd (omega (arith, is, from))
+arith_rare arith.AndCc k is from below = absurd (omega (arith, is, from))
+arith_rare arith.OrCc k is from below = absurd (omega (arith, is, from))
+arith_rare arith.XorCc k is from below = absurd (omega (arith, is, below))
+arith_rare arith.SubCc k is from below = absurd (omega (arith, is, from))
+arith_rare arith.AndNCc k is from below = absurd (omega (arith, is, below))
+arith_rare arith.OrNCc k is from below = absurd (omega (arith, is, below))
+arith_rare arith.XNorCc k is from below = absurd (omega (arith, is, below))
+arith_rare arith.AddXCc k is from below = absurd (omega (arith, is, below))
+arith_rare arith.UMulCc k is from below = absurd (omega (arith, is, below))
+arith_rare arith.SMulCc k is from below = absurd (omega (arith, is, below))
+arith_rare arith.SubXCc k is from below = absurd (omega (arith, is, below))
+arith_rare arith.UDivCc k is from below = absurd (omega (arith, is, below))
+arith_rare arith.SDivCc k is from below = absurd (omega (arith, is, below))
+arith_rare arith.TAddCc k is from below = absurd (omega (arith, is, below))
+arith_rare arith.TSubCc k is from below = absurd (omega (arith, is, below))
+arith_rare arith.TAddCcTv k is from below = absurd (omega (arith, is, below))
+arith_rare arith.TSubCcTv k is from below = absurd (omega (arith, is, below))
+arith_rare arith.MulSCc k is from below = absurd (omega (arith, is, below))
+arith_rare arith.Sll k is from below = absurd (omega (arith, is, from))
+arith_rare arith.Srl k is from below = absurd (omega (arith, is, from))
+arith_rare arith.Sra k is from below = absurd (omega (arith, is, from))
+
+-- WRY
+write_y_goes : (rs1 : ℕ) (source : Src) (areas : List Area) (old new : Registers) (memory after : Memory)
+    → new ≡ with_y old (y_of (register_at old rs1) (value_of source old)) → after ≡ memory → Goes (instr.WriteY rs1 source) areas old new memory after
+unfolding write_y_row y_of
+write_y_goes rs1 source areas old new memory after is same = λ pc npc.
+    ap (λ (a : ℕ). done (advanced (with_y (placed pc npc old) (y_of a (value_of source (placed pc npc old))))) memory) (register_at-placed old pc npc rs1)
+    ∙ ap (λ (b : ℕ). done (advanced (with_y (placed pc npc old) (y_of (register_at old rs1) b))) memory) (value_of-placed source old pc npc)
+    ∙ ap (λ (core : Registers). done (advanced core) memory) (with_y-placed old pc npc (y_of (register_at old rs1) (value_of source old)))
+    ∙ ap (λ (core : Registers). done core memory) (advanced-placed (with_y old (y_of (register_at old rs1) (value_of source old))) pc npc)
+    ∙ ap (λ (core : Registers). done (placed npc ((npc + 4) % 2 ^ 32) core) memory) (sym is)
+    ∙ ap (done (placed npc ((npc + 4) % 2 ^ 32) new)) (sym same)
+
+-- RDY
+y-placed : (core : Registers) (pc npc : ℕ) → (placed pc npc core).y ≡ core.y
+unfolding placed
+y-placed core pc npc = refl
+
+read_y_goes : (rd : ℕ) (areas : List Area) (old new : Registers) (memory after : Memory)
+    → new ≡ with_register old rd old.y → after ≡ memory → Goes (instr.ReadY rd) areas old new memory after
+read_y_goes rd areas old new memory after is same = λ pc npc.
+    ap (λ (y : ℕ). done (with_result rd y (placed pc npc old)) memory) (y-placed old pc npc)
+    ∙ ap (λ (core : Registers). done core memory) (with_result-placed old pc npc rd old.y)
+    ∙ ap (λ (core : Registers). done (placed npc ((npc + 4) % 2 ^ 32) core) memory) (sym is)
+    ∙ ap (done (placed npc ((npc + 4) % 2 ^ 32) new)) (sym same)
+
+-- SAVE
+save_goes : (rd rs1 window : ℕ) (source : Src) (areas : List Area) (old new : Registers) (memory after : Memory)
+    → window ≡ (old.cwp + 7) % 8 → window ≢ old.inv → new ≡ with_register (in_window old window) rd (sum_of rs1 source old) → after ≡ memory
+    → Goes (instr.Save rd rs1 source) areas old new memory after
+unfolding window_below
+save_goes rd rs1 window source areas old new memory after below valid is same = λ pc npc.
+    ap (λ (w : ℕ). beside memory (moved w 0x05 rd (sum_of rs1 source (placed pc npc old)) (placed pc npc old))) (window_below-placed old pc npc ∙ sym below)
+    ∙ ap (λ (value : ℕ). beside memory (moved window 0x05 rd value (placed pc npc old))) (sum_of-placed rs1 source old pc npc)
+    ∙ ap (beside memory) (moved-placed old pc npc window 0x05 rd (sum_of rs1 source old) valid)
+    ∙ ap (λ (core : Registers). done (placed npc ((npc + 4) % 2 ^ 32) core) memory) (sym is)
+    ∙ ap (done (placed npc ((npc + 4) % 2 ^ 32) new)) (sym same)
+
+-- RESTORE
+restore_goes : (rd rs1 window : ℕ) (source : Src) (areas : List Area) (old new : Registers) (memory after : Memory)
+    → window ≡ (old.cwp + 1) % 8 → window ≢ old.inv → new ≡ with_register (in_window old window) rd (sum_of rs1 source old) → after ≡ memory
+    → Goes (instr.Restore rd rs1 source) areas old new memory after
+unfolding window_above
+restore_goes rd rs1 window source areas old new memory after above valid is same = λ pc npc.
+    ap (λ (w : ℕ). beside memory (moved w 0x06 rd (sum_of rs1 source (placed pc npc old)) (placed pc npc old))) (window_above-placed old pc npc ∙ sym above)
+    ∙ ap (λ (value : ℕ). beside memory (moved window 0x06 rd value (placed pc npc old))) (sum_of-placed rs1 source old pc npc)
+    ∙ ap (beside memory) (moved-placed old pc npc window 0x06 rd (sum_of rs1 source old) valid)
+    ∙ ap (λ (core : Registers). done (placed npc ((npc + 4) % 2 ^ 32) core) memory) (sym is)
+    ∙ ap (done (placed npc ((npc + 4) % 2 ^ 32) new)) (sym same)
+
+-- kind 30
+pub write_y_kind : (row : Row) (areas : List Area) (old new : Registers) (memory after : Memory)
+    → row.kind ≡ 30 → ((source : Src) → HasSource source row → new ≡ with_y old (y_of (register_at old row.rs1) (value_of source old))) → after ≡ memory → (i : Instr) → IsRowOf row i → Goes i areas old new memory after
+write_y_kind row areas old new memory after is left same (instr.Call disp) (kind, number) = absurd (omega (arith, is, kind))
+write_y_kind row areas old new memory after is left same (instr.Branch condition annul disp) (kind, first, number) = absurd (branch_apart annul row.kind kind (omega (arith, is)) (omega (arith, is)))
+write_y_kind row areas old new memory after is left same (instr.Sethi rd imm) (kind, result, first, second, number) = absurd (omega (arith, is, kind))
+write_y_kind row areas old new memory after is left same (instr.Arith operation rd rs1 source) does = absurd (arith_rare operation row.kind does.work (omega (arith, is)) (omega (arith, is)))
+write_y_kind row areas old new memory after is left same (instr.ReadY rd) (kind, result) = absurd (omega (arith, is, kind))
+write_y_kind row areas old new memory after is left same instr.Barrier kind = absurd (omega (arith, is, kind))
+write_y_kind row areas old new memory after is left same (instr.WriteY rs1 source) does =
+    write_y_goes rs1 source areas old new memory after (left source does.second ∙ ap (λ (r : ℕ). with_y old (y_of (register_at old r) (value_of source old))) does.first) same
+write_y_kind row areas old new memory after is left same (instr.Jump rd rs1 source) does = absurd (omega (arith, is, does.work))
+write_y_kind row areas old new memory after is left same (instr.Trap condition rs1 source) kind = absurd (omega (arith, is, kind))
+write_y_kind row areas old new memory after is left same instr.Flush kind = absurd (omega (arith, is, kind))
+write_y_kind row areas old new memory after is left same (instr.Save rd rs1 source) does = absurd (omega (arith, is, does.work))
+write_y_kind row areas old new memory after is left same (instr.Restore rd rs1 source) does = absurd (omega (arith, is, does.work))
+write_y_kind row areas old new memory after is left same (instr.Mem operation rd rs1 source) does = absurd (transfer_apart operation row.kind does.work (omega (arith, is)) (omega (arith, is)))
+write_y_kind row areas old new memory after is left same instr.Privileged kind = absurd (omega (arith, is, kind))
+write_y_kind row areas old new memory after is left same instr.Float kind = absurd (omega (arith, is, kind))
+write_y_kind row areas old new memory after is left same instr.Coproc kind = absurd (omega (arith, is, kind))
+write_y_kind row areas old new memory after is left same instr.Illegal kind = absurd (omega (arith, is, kind))
+
+-- kind 31
+pub read_y_kind : (row : Row) (areas : List Area) (old new : Registers) (memory after : Memory)
+    → row.kind ≡ 31 → new ≡ with_register old row.rd old.y → after ≡ memory → (i : Instr) → IsRowOf row i → Goes i areas old new memory after
+read_y_kind row areas old new memory after is left same (instr.Call disp) (kind, number) = absurd (omega (arith, is, kind))
+read_y_kind row areas old new memory after is left same (instr.Branch condition annul disp) (kind, first, number) = absurd (branch_apart annul row.kind kind (omega (arith, is)) (omega (arith, is)))
+read_y_kind row areas old new memory after is left same (instr.Sethi rd imm) (kind, result, first, second, number) = absurd (omega (arith, is, kind))
+read_y_kind row areas old new memory after is left same (instr.Arith operation rd rs1 source) does = absurd (arith_rare operation row.kind does.work (omega (arith, is)) (omega (arith, is)))
+read_y_kind row areas old new memory after is left same (instr.ReadY rd) (kind, result) =
+    read_y_goes rd areas old new memory after (left ∙ ap (λ (r : ℕ). with_register old r old.y) result) same
+read_y_kind row areas old new memory after is left same instr.Barrier kind = absurd (omega (arith, is, kind))
+read_y_kind row areas old new memory after is left same (instr.WriteY rs1 source) does = absurd (omega (arith, is, does.work))
+read_y_kind row areas old new memory after is left same (instr.Jump rd rs1 source) does = absurd (omega (arith, is, does.work))
+read_y_kind row areas old new memory after is left same (instr.Trap condition rs1 source) kind = absurd (omega (arith, is, kind))
+read_y_kind row areas old new memory after is left same instr.Flush kind = absurd (omega (arith, is, kind))
+read_y_kind row areas old new memory after is left same (instr.Save rd rs1 source) does = absurd (omega (arith, is, does.work))
+read_y_kind row areas old new memory after is left same (instr.Restore rd rs1 source) does = absurd (omega (arith, is, does.work))
+read_y_kind row areas old new memory after is left same (instr.Mem operation rd rs1 source) does = absurd (transfer_apart operation row.kind does.work (omega (arith, is)) (omega (arith, is)))
+read_y_kind row areas old new memory after is left same instr.Privileged kind = absurd (omega (arith, is, kind))
+read_y_kind row areas old new memory after is left same instr.Float kind = absurd (omega (arith, is, kind))
+read_y_kind row areas old new memory after is left same instr.Coproc kind = absurd (omega (arith, is, kind))
+read_y_kind row areas old new memory after is left same instr.Illegal kind = absurd (omega (arith, is, kind))
+
+-- kind 32
+pub save_kind : (row : Row) (window : ℕ) (areas : List Area) (old new : Registers) (memory after : Memory)
+    → row.kind ≡ 32 → window ≡ (old.cwp + 7) % 8 → window ≢ old.inv
+    → ((source : Src) → HasSource source row → new ≡ with_register (in_window old window) row.rd (sum_of row.rs1 source old))
+    → after ≡ memory → (i : Instr) → IsRowOf row i → Goes i areas old new memory after
+save_kind row window areas old new memory after is entered valid left same (instr.Call disp) (kind, number) = absurd (omega (arith, is, kind))
+save_kind row window areas old new memory after is entered valid left same (instr.Branch condition annul disp) (kind, first, number) = absurd (branch_apart annul row.kind kind (omega (arith, is)) (omega (arith, is)))
+save_kind row window areas old new memory after is entered valid left same (instr.Sethi rd imm) (kind, result, first, second, number) = absurd (omega (arith, is, kind))
+save_kind row window areas old new memory after is entered valid left same (instr.Arith operation rd rs1 source) does = absurd (arith_rare operation row.kind does.work (omega (arith, is)) (omega (arith, is)))
+save_kind row window areas old new memory after is entered valid left same (instr.ReadY rd) (kind, result) = absurd (omega (arith, is, kind))
+save_kind row window areas old new memory after is entered valid left same instr.Barrier kind = absurd (omega (arith, is, kind))
+save_kind row window areas old new memory after is entered valid left same (instr.WriteY rs1 source) does = absurd (omega (arith, is, does.work))
+save_kind row window areas old new memory after is entered valid left same (instr.Jump rd rs1 source) does = absurd (omega (arith, is, does.work))
+save_kind row window areas old new memory after is entered valid left same (instr.Trap condition rs1 source) kind = absurd (omega (arith, is, kind))
+save_kind row window areas old new memory after is entered valid left same instr.Flush kind = absurd (omega (arith, is, kind))
+save_kind row window areas old new memory after is entered valid left same (instr.Save rd rs1 source) does =
+    save_goes rd rs1 window source areas old new memory after entered valid
+    (left source does.second ∙ ap (λ (r : ℕ). with_register (in_window old window) r (sum_of row.rs1 source old)) does.result ∙ ap (λ (r : ℕ). with_register (in_window old window) rd (sum_of r source old)) does.first)
+    same
+save_kind row window areas old new memory after is entered valid left same (instr.Restore rd rs1 source) does = absurd (omega (arith, is, does.work))
+save_kind row window areas old new memory after is entered valid left same (instr.Mem operation rd rs1 source) does = absurd (transfer_apart operation row.kind does.work (omega (arith, is)) (omega (arith, is)))
+save_kind row window areas old new memory after is entered valid left same instr.Privileged kind = absurd (omega (arith, is, kind))
+save_kind row window areas old new memory after is entered valid left same instr.Float kind = absurd (omega (arith, is, kind))
+save_kind row window areas old new memory after is entered valid left same instr.Coproc kind = absurd (omega (arith, is, kind))
+save_kind row window areas old new memory after is entered valid left same instr.Illegal kind = absurd (omega (arith, is, kind))
+
+-- kind 33
+pub restore_kind : (row : Row) (window : ℕ) (areas : List Area) (old new : Registers) (memory after : Memory)
+    → row.kind ≡ 33 → window ≡ (old.cwp + 1) % 8 → window ≢ old.inv
+    → ((source : Src) → HasSource source row → new ≡ with_register (in_window old window) row.rd (sum_of row.rs1 source old))
+    → after ≡ memory → (i : Instr) → IsRowOf row i → Goes i areas old new memory after
+restore_kind row window areas old new memory after is entered valid left same (instr.Call disp) (kind, number) = absurd (omega (arith, is, kind))
+restore_kind row window areas old new memory after is entered valid left same (instr.Branch condition annul disp) (kind, first, number) = absurd (branch_apart annul row.kind kind (omega (arith, is)) (omega (arith, is)))
+restore_kind row window areas old new memory after is entered valid left same (instr.Sethi rd imm) (kind, result, first, second, number) = absurd (omega (arith, is, kind))
+restore_kind row window areas old new memory after is entered valid left same (instr.Arith operation rd rs1 source) does = absurd (arith_rare operation row.kind does.work (omega (arith, is)) (omega (arith, is)))
+restore_kind row window areas old new memory after is entered valid left same (instr.ReadY rd) (kind, result) = absurd (omega (arith, is, kind))
+restore_kind row window areas old new memory after is entered valid left same instr.Barrier kind = absurd (omega (arith, is, kind))
+restore_kind row window areas old new memory after is entered valid left same (instr.WriteY rs1 source) does = absurd (omega (arith, is, does.work))
+restore_kind row window areas old new memory after is entered valid left same (instr.Jump rd rs1 source) does = absurd (omega (arith, is, does.work))
+restore_kind row window areas old new memory after is entered valid left same (instr.Trap condition rs1 source) kind = absurd (omega (arith, is, kind))
+restore_kind row window areas old new memory after is entered valid left same instr.Flush kind = absurd (omega (arith, is, kind))
+restore_kind row window areas old new memory after is entered valid left same (instr.Save rd rs1 source) does = absurd (omega (arith, is, does.work))
+restore_kind row window areas old new memory after is entered valid left same (instr.Restore rd rs1 source) does =
+    restore_goes rd rs1 window source areas old new memory after entered valid
+    (left source does.second ∙ ap (λ (r : ℕ). with_register (in_window old window) r (sum_of row.rs1 source old)) does.result ∙ ap (λ (r : ℕ). with_register (in_window old window) rd (sum_of r source old)) does.first)
+    same
+restore_kind row window areas old new memory after is entered valid left same (instr.Mem operation rd rs1 source) does = absurd (transfer_apart operation row.kind does.work (omega (arith, is)) (omega (arith, is)))
+restore_kind row window areas old new memory after is entered valid left same instr.Privileged kind = absurd (omega (arith, is, kind))
+restore_kind row window areas old new memory after is entered valid left same instr.Float kind = absurd (omega (arith, is, kind))
+restore_kind row window areas old new memory after is entered valid left same instr.Coproc kind = absurd (omega (arith, is, kind))
+restore_kind row window areas old new memory after is entered valid left same instr.Illegal kind = absurd (omega (arith, is, kind))

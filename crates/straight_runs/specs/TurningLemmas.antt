@@ -1,0 +1,259 @@
+-- Where branches that are taken, calls and jumps go, by their kinds.
+use Rattle.std.proofs.Common.{◌≡◌, ◌≢◌, ℕ, ◌+◌, ◌*◌, ◌%◌, ◌^◌, ◌<◌, ◌≤◌, ℤ, Bool, true, false, List, refl, sym, ap, ◌∙◌, arith}
+use Rattle.std.proofs.lemmas.Bool.Decides.{nat_tests}
+use Rattle.std.specs.Prelude.{if◌then◌else◌, ◌&&◌, ◌==◌}
+use Rattle.guest_bus.specs.Memory.{Area, Memory}
+use Rattle.guest_bus.specs.Words.{word_address}
+use Rattle.sparc_code.specs.declared.instruction.Arith.{Arith}
+use Rattle.sparc_code.specs.declared.instruction.Arith.TheVariants as arith
+use Rattle.sparc_code.specs.declared.instruction.Instr.{Instr}
+use Rattle.sparc_code.specs.declared.instruction.Instr.TheVariants as instr
+use Rattle.sparc_code.specs.declared.instruction.MemOp.{MemOp}
+use Rattle.sparc_code.specs.declared.instruction.Src.{Src}
+use Rattle.sparc_step.specs.Conditions.{holds}
+use Rattle.sparc_step.specs.Execution.{done, executed}
+use Rattle.sparc_step.specs.Flow.{branch_row, passed, taken, target}
+use Rattle.sparc_step.specs.Operands.{sum_of}
+use Rattle.sparc_step.specs.Registers.{Registers, branched, placed, sent, skipped, with_register}
+use Rattle.sparc_step.specs.Words.{residue}
+use Rattle.straight_runs.specs.Kinds.{kind_of, kind_of_transfer}
+use Rattle.straight_runs.specs.RareLemmas.{arith_rare}
+use Rattle.straight_runs.specs.Rows.{HasSource, IsRowOf}
+use Rattle.straight_runs.specs.StepLemmas.{arith_not_two, branch_apart, transfer_apart, transfer_kinds}
+use Rattle.straight_runs.specs.TurnLemmas.{branch_taken, called, jump_taken}
+use Rattle.straight_runs.specs.Turning.{at_place, at_slot}
+use Rattle.straight_runs.specs.declared.rows.Row.{Row}
+
+-- the address of the next word
+pub next_address : (origin place : ℕ) → (word_address origin place + 4) % 2 ^ 32 ≡ word_address origin (place + 1)
+unfolding word_address
+next_address origin place = omega arith
+
+-- and of the one behind it
+after_next : (origin place : ℕ) → (word_address origin place + 8) % 2 ^ 32 ≡ word_address origin (place + 2)
+unfolding word_address
+after_next origin place = omega arith
+
+-- a target, by its place
+target_place : (origin at to number : ℕ) (disp : ℤ) → word_address origin to ≡ (word_address origin at + 4 * number) % 2 ^ 32 → number ≡ residue 32 disp → target (word_address origin at) disp ≡ word_address origin to
+unfolding target
+target_place origin at to number disp is same = ap (λ (n : ℕ). (word_address origin at + 4 * n) % 2 ^ 32) (sym same) ∙ sym is
+
+-- a branch that is taken, and does not annul its delay slot
+branch_to : (origin at to number condition : ℕ) (annul : Bool) (disp : ℤ) (areas : List Area) (core : Registers) (memory : Memory)
+    → holds condition core.icc ≡ true → (annul && (condition == 8)) ≡ false
+    → word_address origin to ≡ (word_address origin at + 4 * number) % 2 ^ 32 → number ≡ residue 32 disp
+    → executed (instr.Branch condition annul disp) areas (at_place origin at core) memory ≡ done (at_slot origin (at + 1) to core) memory
+branch_to origin at to number condition annul disp areas core memory told none is same =
+    branch_taken condition (word_address origin at) (word_address origin (at + 1)) annul disp areas core memory told none
+    ∙ ap (λ (t : ℕ). done (placed (word_address origin (at + 1)) t core) memory) (target_place origin at to number disp is same)
+
+-- a branch that is taken always, and annuls its delay slot
+sent-placed : (core : Registers) (pc npc to : ℕ) → sent (placed pc npc core) to ≡ placed to ((to + 4) % 2 ^ 32) core
+unfolding sent placed
+sent-placed core pc npc to = refl
+
+always_taken : (condition pc npc : ℕ) (disp : ℤ) (areas : List Area) (core : Registers) (memory : Memory)
+    → holds condition core.icc ≡ true → condition ≡ 8
+    → executed (instr.Branch condition true disp) areas (placed pc npc core) memory ≡ done (placed (target pc disp) ((target pc disp + 4) % 2 ^ 32) core) memory
+unfolding branch_row taken placed
+always_taken condition pc npc disp areas core memory told always =
+    let test : (condition == 8) ≡ true = grind (arith, nat_tests) in
+    ap (λ (t : Bool). done (if t then taken condition true (target pc disp) (placed pc npc core) else passed true (placed pc npc core)) memory) told
+    ∙ ap (λ (t : Bool). done (if t then sent (placed pc npc core) (target pc disp) else branched (placed pc npc core) (target pc disp)) memory) test
+    ∙ ap (λ (r : Registers). done r memory) (sent-placed core pc npc (target pc disp))
+
+always_to : (origin at to number condition : ℕ) (disp : ℤ) (areas : List Area) (core : Registers) (memory : Memory)
+    → holds condition core.icc ≡ true → condition ≡ 8
+    → word_address origin to ≡ (word_address origin at + 4 * number) % 2 ^ 32 → number ≡ residue 32 disp
+    → executed (instr.Branch condition true disp) areas (at_place origin at core) memory ≡ done (at_place origin to core) memory
+always_to origin at to number condition disp areas core memory told always is same =
+    always_taken condition (word_address origin at) (word_address origin (at + 1)) disp areas core memory told always
+    ∙ ap (λ (t : ℕ). done (placed t ((t + 4) % 2 ^ 32) core) memory) (target_place origin at to number disp is same)
+    ∙ ap (λ (t : ℕ). done (placed (word_address origin to) t core) memory) (next_address origin to)
+
+-- a branch that is not taken, and annuls its delay slot
+skipped-placed : (core : Registers) (pc npc : ℕ) → skipped (placed pc npc core) ≡ placed ((npc + 4) % 2 ^ 32) ((npc + 8) % 2 ^ 32) core
+unfolding skipped placed
+skipped-placed core pc npc = refl
+
+not_taken : (condition pc npc : ℕ) (disp : ℤ) (areas : List Area) (core : Registers) (memory : Memory)
+    → holds condition core.icc ≡ false
+    → executed (instr.Branch condition true disp) areas (placed pc npc core) memory ≡ done (placed ((npc + 4) % 2 ^ 32) ((npc + 8) % 2 ^ 32) core) memory
+unfolding branch_row passed placed
+not_taken condition pc npc disp areas core memory told =
+    ap (λ (t : Bool). done (if t then taken condition true (target pc disp) (placed pc npc core) else passed true (placed pc npc core)) memory) told
+    ∙ ap (λ (r : Registers). done r memory) (skipped-placed core pc npc)
+
+skipped_to : (origin at condition : ℕ) (disp : ℤ) (areas : List Area) (core : Registers) (memory : Memory)
+    → holds condition core.icc ≡ false
+    → executed (instr.Branch condition true disp) areas (at_place origin at core) memory ≡ done (at_place origin (at + 2) core) memory
+skipped_to origin at condition disp areas core memory told =
+    not_taken condition (word_address origin at) (word_address origin (at + 1)) disp areas core memory told
+    ∙ ap (λ (t : ℕ). done (placed t ((word_address origin (at + 1) + 8) % 2 ^ 32) core) memory) (next_address origin (at + 1) ∙ ap (word_address origin) two)
+    ∙ ap (λ (t : ℕ). done (placed (word_address origin (at + 2)) t core) memory) (after_next origin (at + 1) ∙ ap (word_address origin) three)
+  where
+    two : at + 1 + 1 ≡ at + 2
+    two = omega arith
+
+    three : at + 1 + 2 ≡ at + 2 + 1
+    three = omega arith
+
+-- a call
+call_to : (origin at to number : ℕ) (disp : ℤ) (areas : List Area) (core new : Registers) (memory : Memory)
+    → new ≡ with_register core 15 (word_address origin at)
+    → word_address origin to ≡ (word_address origin at + 4 * number) % 2 ^ 32 → number ≡ residue 32 disp
+    → executed (instr.Call disp) areas (at_place origin at core) memory ≡ done (at_slot origin (at + 1) to new) memory
+call_to origin at to number disp areas core new memory left is same =
+    called (word_address origin at) (word_address origin (at + 1)) disp areas core memory
+    ∙ ap (λ (t : ℕ). done (placed (word_address origin (at + 1)) t (with_register core 15 (word_address origin at))) memory) (target_place origin at to number disp is same)
+    ∙ ap (λ (r : Registers). done (at_slot origin (at + 1) to r) memory) (sym left)
+
+-- a jump
+jump_to : (origin at to rd rs1 : ℕ) (source : Src) (areas : List Area) (core new : Registers) (memory : Memory)
+    → new ≡ with_register core rd (word_address origin at) → word_address origin to ≡ sum_of rs1 source core → sum_of rs1 source core % 4 ≡ 0
+    → executed (instr.Jump rd rs1 source) areas (at_place origin at core) memory ≡ done (at_slot origin (at + 1) to new) memory
+jump_to origin at to rd rs1 source areas core new memory left is aligned =
+    jump_taken rd rs1 (word_address origin at) (word_address origin (at + 1)) source areas core memory aligned
+    ∙ ap (λ (t : ℕ). done (placed (word_address origin (at + 1)) t (with_register core rd (word_address origin at))) memory) (sym is)
+    ∙ ap (λ (r : Registers). done (at_slot origin (at + 1) to r) memory) (sym left)
+
+-- a condition that is not always met
+not_always : (condition : ℕ) → condition ≢ 8 → (true && (condition == 8)) ≡ false
+not_always condition other = grind (arith, nat_tests)
+
+-- kind 2, which is taken
+pub taken_turns : (row : Row) (origin at to : ℕ) (old : Registers) → row.kind ≡ 2 → holds row.rs1 old.icc ≡ true → word_address origin to ≡ (word_address origin at + 4 * row.number) % 2 ^ 32
+    → (i : Instr) (areas : List Area) (memory : Memory) → IsRowOf row i → executed i areas (at_place origin at old) memory ≡ done (at_slot origin (at + 1) to old) memory
+taken_turns row origin at to old is told reach (instr.Call disp) areas memory (kind, number) = absurd (omega (arith, is, kind))
+taken_turns row origin at to old is told reach (instr.Branch condition false disp) areas memory (kind, first, number) =
+    branch_to origin at to row.number condition false disp areas old memory (ap (λ (c : ℕ). holds c old.icc) (sym first) ∙ told) refl reach number
+taken_turns row origin at to old is told reach (instr.Branch condition true disp) areas memory (kind, first, number) = absurd (omega (arith, is, kind))
+taken_turns row origin at to old is told reach (instr.Sethi rd imm) areas memory (kind, result, first, second, number) = absurd (omega (arith, is, kind))
+taken_turns row origin at to old is told reach (instr.Arith operation rd rs1 source) areas memory does = absurd (arith_not_two operation (sym does.work ∙ is))
+taken_turns row origin at to old is told reach (instr.ReadY rd) areas memory (kind, result) = absurd (omega (arith, is, kind))
+taken_turns row origin at to old is told reach instr.Barrier areas memory kind = absurd (omega (arith, is, kind))
+taken_turns row origin at to old is told reach (instr.WriteY rs1 source) areas memory does = absurd (omega (arith, is, does.work))
+taken_turns row origin at to old is told reach (instr.Jump rd rs1 source) areas memory does = absurd (omega (arith, is, does.work))
+taken_turns row origin at to old is told reach (instr.Trap condition rs1 source) areas memory kind = absurd (omega (arith, is, kind))
+taken_turns row origin at to old is told reach instr.Flush areas memory kind = absurd (omega (arith, is, kind))
+taken_turns row origin at to old is told reach (instr.Save rd rs1 source) areas memory does = absurd (omega (arith, is, does.work))
+taken_turns row origin at to old is told reach (instr.Restore rd rs1 source) areas memory does = absurd (omega (arith, is, does.work))
+taken_turns row origin at to old is told reach (instr.Mem operation rd rs1 source) areas memory does = absurd (omega (arith, is, does.work, transfer_kinds operation))
+taken_turns row origin at to old is told reach instr.Privileged areas memory kind = absurd (omega (arith, is, kind))
+taken_turns row origin at to old is told reach instr.Float areas memory kind = absurd (omega (arith, is, kind))
+taken_turns row origin at to old is told reach instr.Coproc areas memory kind = absurd (omega (arith, is, kind))
+taken_turns row origin at to old is told reach instr.Illegal areas memory kind = absurd (omega (arith, is, kind))
+
+-- kind 36, which is taken on a condition
+pub annulling_turns : (row : Row) (origin at to : ℕ) (old : Registers) → row.kind ≡ 36 → holds row.rs1 old.icc ≡ true → row.rs1 ≢ 8 → word_address origin to ≡ (word_address origin at + 4 * row.number) % 2 ^ 32
+    → (i : Instr) (areas : List Area) (memory : Memory) → IsRowOf row i → executed i areas (at_place origin at old) memory ≡ done (at_slot origin (at + 1) to old) memory
+annulling_turns row origin at to old is told some reach (instr.Call disp) areas memory (kind, number) = absurd (omega (arith, is, kind))
+annulling_turns row origin at to old is told some reach (instr.Branch condition true disp) areas memory (kind, first, number) =
+    branch_to origin at to row.number condition true disp areas old memory (ap (λ (c : ℕ). holds c old.icc) (sym first) ∙ told) (not_always condition (λ eight. some (first ∙ eight))) reach number
+annulling_turns row origin at to old is told some reach (instr.Branch condition false disp) areas memory (kind, first, number) = absurd (omega (arith, is, kind))
+annulling_turns row origin at to old is told some reach (instr.Sethi rd imm) areas memory (kind, result, first, second, number) = absurd (omega (arith, is, kind))
+annulling_turns row origin at to old is told some reach (instr.Arith operation rd rs1 source) areas memory does = absurd (arith_rare operation row.kind does.work (omega (arith, is)) (omega (arith, is)))
+annulling_turns row origin at to old is told some reach (instr.ReadY rd) areas memory (kind, result) = absurd (omega (arith, is, kind))
+annulling_turns row origin at to old is told some reach instr.Barrier areas memory kind = absurd (omega (arith, is, kind))
+annulling_turns row origin at to old is told some reach (instr.WriteY rs1 source) areas memory does = absurd (omega (arith, is, does.work))
+annulling_turns row origin at to old is told some reach (instr.Jump rd rs1 source) areas memory does = absurd (omega (arith, is, does.work))
+annulling_turns row origin at to old is told some reach (instr.Trap condition rs1 source) areas memory kind = absurd (omega (arith, is, kind))
+annulling_turns row origin at to old is told some reach instr.Flush areas memory kind = absurd (omega (arith, is, kind))
+annulling_turns row origin at to old is told some reach (instr.Save rd rs1 source) areas memory does = absurd (omega (arith, is, does.work))
+annulling_turns row origin at to old is told some reach (instr.Restore rd rs1 source) areas memory does = absurd (omega (arith, is, does.work))
+annulling_turns row origin at to old is told some reach (instr.Mem operation rd rs1 source) areas memory does = absurd (transfer_apart operation row.kind does.work (omega (arith, is)) (omega (arith, is)))
+annulling_turns row origin at to old is told some reach instr.Privileged areas memory kind = absurd (omega (arith, is, kind))
+annulling_turns row origin at to old is told some reach instr.Float areas memory kind = absurd (omega (arith, is, kind))
+annulling_turns row origin at to old is told some reach instr.Coproc areas memory kind = absurd (omega (arith, is, kind))
+annulling_turns row origin at to old is told some reach instr.Illegal areas memory kind = absurd (omega (arith, is, kind))
+
+-- kind 36, which is taken always
+pub always_turns : (row : Row) (origin at to : ℕ) (old : Registers) → row.kind ≡ 36 → holds row.rs1 old.icc ≡ true → row.rs1 ≡ 8 → word_address origin to ≡ (word_address origin at + 4 * row.number) % 2 ^ 32
+    → (i : Instr) (areas : List Area) (memory : Memory) → IsRowOf row i → executed i areas (at_place origin at old) memory ≡ done (at_place origin to old) memory
+always_turns row origin at to old is told always reach (instr.Call disp) areas memory (kind, number) = absurd (omega (arith, is, kind))
+always_turns row origin at to old is told always reach (instr.Branch condition true disp) areas memory (kind, first, number) =
+    always_to origin at to row.number condition disp areas old memory (ap (λ (c : ℕ). holds c old.icc) (sym first) ∙ told) (sym first ∙ always) reach number
+always_turns row origin at to old is told always reach (instr.Branch condition false disp) areas memory (kind, first, number) = absurd (omega (arith, is, kind))
+always_turns row origin at to old is told always reach (instr.Sethi rd imm) areas memory (kind, result, first, second, number) = absurd (omega (arith, is, kind))
+always_turns row origin at to old is told always reach (instr.Arith operation rd rs1 source) areas memory does = absurd (arith_rare operation row.kind does.work (omega (arith, is)) (omega (arith, is)))
+always_turns row origin at to old is told always reach (instr.ReadY rd) areas memory (kind, result) = absurd (omega (arith, is, kind))
+always_turns row origin at to old is told always reach instr.Barrier areas memory kind = absurd (omega (arith, is, kind))
+always_turns row origin at to old is told always reach (instr.WriteY rs1 source) areas memory does = absurd (omega (arith, is, does.work))
+always_turns row origin at to old is told always reach (instr.Jump rd rs1 source) areas memory does = absurd (omega (arith, is, does.work))
+always_turns row origin at to old is told always reach (instr.Trap condition rs1 source) areas memory kind = absurd (omega (arith, is, kind))
+always_turns row origin at to old is told always reach instr.Flush areas memory kind = absurd (omega (arith, is, kind))
+always_turns row origin at to old is told always reach (instr.Save rd rs1 source) areas memory does = absurd (omega (arith, is, does.work))
+always_turns row origin at to old is told always reach (instr.Restore rd rs1 source) areas memory does = absurd (omega (arith, is, does.work))
+always_turns row origin at to old is told always reach (instr.Mem operation rd rs1 source) areas memory does = absurd (transfer_apart operation row.kind does.work (omega (arith, is)) (omega (arith, is)))
+always_turns row origin at to old is told always reach instr.Privileged areas memory kind = absurd (omega (arith, is, kind))
+always_turns row origin at to old is told always reach instr.Float areas memory kind = absurd (omega (arith, is, kind))
+always_turns row origin at to old is told always reach instr.Coproc areas memory kind = absurd (omega (arith, is, kind))
+always_turns row origin at to old is told always reach instr.Illegal areas memory kind = absurd (omega (arith, is, kind))
+
+-- kind 36, which is not taken
+pub skipping_turns : (row : Row) (origin at : ℕ) (old : Registers) → row.kind ≡ 36 → holds row.rs1 old.icc ≡ false
+    → (i : Instr) (areas : List Area) (memory : Memory) → IsRowOf row i → executed i areas (at_place origin at old) memory ≡ done (at_place origin (at + 2) old) memory
+skipping_turns row origin at old is told (instr.Call disp) areas memory (kind, number) = absurd (omega (arith, is, kind))
+skipping_turns row origin at old is told (instr.Branch condition true disp) areas memory (kind, first, number) =
+    skipped_to origin at condition disp areas old memory (ap (λ (c : ℕ). holds c old.icc) (sym first) ∙ told)
+skipping_turns row origin at old is told (instr.Branch condition false disp) areas memory (kind, first, number) = absurd (omega (arith, is, kind))
+skipping_turns row origin at old is told (instr.Sethi rd imm) areas memory (kind, result, first, second, number) = absurd (omega (arith, is, kind))
+skipping_turns row origin at old is told (instr.Arith operation rd rs1 source) areas memory does = absurd (arith_rare operation row.kind does.work (omega (arith, is)) (omega (arith, is)))
+skipping_turns row origin at old is told (instr.ReadY rd) areas memory (kind, result) = absurd (omega (arith, is, kind))
+skipping_turns row origin at old is told instr.Barrier areas memory kind = absurd (omega (arith, is, kind))
+skipping_turns row origin at old is told (instr.WriteY rs1 source) areas memory does = absurd (omega (arith, is, does.work))
+skipping_turns row origin at old is told (instr.Jump rd rs1 source) areas memory does = absurd (omega (arith, is, does.work))
+skipping_turns row origin at old is told (instr.Trap condition rs1 source) areas memory kind = absurd (omega (arith, is, kind))
+skipping_turns row origin at old is told instr.Flush areas memory kind = absurd (omega (arith, is, kind))
+skipping_turns row origin at old is told (instr.Save rd rs1 source) areas memory does = absurd (omega (arith, is, does.work))
+skipping_turns row origin at old is told (instr.Restore rd rs1 source) areas memory does = absurd (omega (arith, is, does.work))
+skipping_turns row origin at old is told (instr.Mem operation rd rs1 source) areas memory does = absurd (transfer_apart operation row.kind does.work (omega (arith, is)) (omega (arith, is)))
+skipping_turns row origin at old is told instr.Privileged areas memory kind = absurd (omega (arith, is, kind))
+skipping_turns row origin at old is told instr.Float areas memory kind = absurd (omega (arith, is, kind))
+skipping_turns row origin at old is told instr.Coproc areas memory kind = absurd (omega (arith, is, kind))
+skipping_turns row origin at old is told instr.Illegal areas memory kind = absurd (omega (arith, is, kind))
+
+-- kind 34
+pub call_turns : (row : Row) (origin at to : ℕ) (old new : Registers) → row.kind ≡ 34 → new ≡ with_register old 15 (word_address origin at) → word_address origin to ≡ (word_address origin at + 4 * row.number) % 2 ^ 32
+    → (i : Instr) (areas : List Area) (memory : Memory) → IsRowOf row i → executed i areas (at_place origin at old) memory ≡ done (at_slot origin (at + 1) to new) memory
+call_turns row origin at to old new is left reach (instr.Call disp) areas memory (kind, number) = call_to origin at to row.number disp areas old new memory left reach number
+call_turns row origin at to old new is left reach (instr.Branch condition annul disp) areas memory (kind, first, number) = absurd (branch_apart annul row.kind kind (omega (arith, is)) (omega (arith, is)))
+call_turns row origin at to old new is left reach (instr.Sethi rd imm) areas memory (kind, result, first, second, number) = absurd (omega (arith, is, kind))
+call_turns row origin at to old new is left reach (instr.Arith operation rd rs1 source) areas memory does = absurd (arith_rare operation row.kind does.work (omega (arith, is)) (omega (arith, is)))
+call_turns row origin at to old new is left reach (instr.ReadY rd) areas memory (kind, result) = absurd (omega (arith, is, kind))
+call_turns row origin at to old new is left reach instr.Barrier areas memory kind = absurd (omega (arith, is, kind))
+call_turns row origin at to old new is left reach (instr.WriteY rs1 source) areas memory does = absurd (omega (arith, is, does.work))
+call_turns row origin at to old new is left reach (instr.Jump rd rs1 source) areas memory does = absurd (omega (arith, is, does.work))
+call_turns row origin at to old new is left reach (instr.Trap condition rs1 source) areas memory kind = absurd (omega (arith, is, kind))
+call_turns row origin at to old new is left reach instr.Flush areas memory kind = absurd (omega (arith, is, kind))
+call_turns row origin at to old new is left reach (instr.Save rd rs1 source) areas memory does = absurd (omega (arith, is, does.work))
+call_turns row origin at to old new is left reach (instr.Restore rd rs1 source) areas memory does = absurd (omega (arith, is, does.work))
+call_turns row origin at to old new is left reach (instr.Mem operation rd rs1 source) areas memory does = absurd (transfer_apart operation row.kind does.work (omega (arith, is)) (omega (arith, is)))
+call_turns row origin at to old new is left reach instr.Privileged areas memory kind = absurd (omega (arith, is, kind))
+call_turns row origin at to old new is left reach instr.Float areas memory kind = absurd (omega (arith, is, kind))
+call_turns row origin at to old new is left reach instr.Coproc areas memory kind = absurd (omega (arith, is, kind))
+call_turns row origin at to old new is left reach instr.Illegal areas memory kind = absurd (omega (arith, is, kind))
+
+-- kind 35
+pub jump_turns : (row : Row) (origin at to : ℕ) (old new : Registers) → row.kind ≡ 35 → (target : ℕ) → ((source : Src) → HasSource source row → target ≡ sum_of row.rs1 source old) → target % 4 ≡ 0 → word_address origin to ≡ target → new ≡ with_register old row.rd (word_address origin at)
+    → (i : Instr) (areas : List Area) (memory : Memory) → IsRowOf row i → executed i areas (at_place origin at old) memory ≡ done (at_slot origin (at + 1) to new) memory
+jump_turns row origin at to old new is goal sums aligned reach left (instr.Call disp) areas memory (kind, number) = absurd (omega (arith, is, kind))
+jump_turns row origin at to old new is goal sums aligned reach left (instr.Branch condition annul disp) areas memory (kind, first, number) = absurd (branch_apart annul row.kind kind (omega (arith, is)) (omega (arith, is)))
+jump_turns row origin at to old new is goal sums aligned reach left (instr.Sethi rd imm) areas memory (kind, result, first, second, number) = absurd (omega (arith, is, kind))
+jump_turns row origin at to old new is goal sums aligned reach left (instr.Arith operation rd rs1 source) areas memory does = absurd (arith_rare operation row.kind does.work (omega (arith, is)) (omega (arith, is)))
+jump_turns row origin at to old new is goal sums aligned reach left (instr.ReadY rd) areas memory (kind, result) = absurd (omega (arith, is, kind))
+jump_turns row origin at to old new is goal sums aligned reach left instr.Barrier areas memory kind = absurd (omega (arith, is, kind))
+jump_turns row origin at to old new is goal sums aligned reach left (instr.WriteY rs1 source) areas memory does = absurd (omega (arith, is, does.work))
+jump_turns row origin at to old new is goal sums aligned reach left (instr.Jump rd rs1 source) areas memory does =
+    let sum : goal ≡ sum_of rs1 source old = sums source does.second ∙ ap (λ (r : ℕ). sum_of r source old) does.first in
+    jump_to origin at to rd rs1 source areas old new memory (left ∙ ap (λ (r : ℕ). with_register old r (word_address origin at)) does.result) (reach ∙ sum) (ap (λ (n : ℕ). n % 4) (sym sum) ∙ aligned)
+jump_turns row origin at to old new is goal sums aligned reach left (instr.Trap condition rs1 source) areas memory kind = absurd (omega (arith, is, kind))
+jump_turns row origin at to old new is goal sums aligned reach left instr.Flush areas memory kind = absurd (omega (arith, is, kind))
+jump_turns row origin at to old new is goal sums aligned reach left (instr.Save rd rs1 source) areas memory does = absurd (omega (arith, is, does.work))
+jump_turns row origin at to old new is goal sums aligned reach left (instr.Restore rd rs1 source) areas memory does = absurd (omega (arith, is, does.work))
+jump_turns row origin at to old new is goal sums aligned reach left (instr.Mem operation rd rs1 source) areas memory does = absurd (transfer_apart operation row.kind does.work (omega (arith, is)) (omega (arith, is)))
+jump_turns row origin at to old new is goal sums aligned reach left instr.Privileged areas memory kind = absurd (omega (arith, is, kind))
+jump_turns row origin at to old new is goal sums aligned reach left instr.Float areas memory kind = absurd (omega (arith, is, kind))
+jump_turns row origin at to old new is goal sums aligned reach left instr.Coproc areas memory kind = absurd (omega (arith, is, kind))
+jump_turns row origin at to old new is goal sums aligned reach left instr.Illegal areas memory kind = absurd (omega (arith, is, kind))

@@ -1,0 +1,306 @@
+//! Loads and stores, by their kind.
+
+ghost use Rattle.std.specs.Prelude.{◌≡◌, ◌+◌, ◌<◌, ◌≤◌, false, None};
+ghost use Rattle.std.specs.Bool.{OnTrue};
+ghost use Rattle.guest_bus.specs.Access.{after_store, store_fault};
+ghost use Rattle.sparc_code.specs.declared.instruction.MemOp.TheVariants.{Ld, LdD, LdSb, LdSh, LdUb, LdUh, St, StB, StD, StH};
+ghost use Rattle.sparc_step.specs.Transfers.{pair_at, with_pair};
+ghost use Rattle.straight_runs.specs.Effects.{IsTransferred};
+ghost use Rattle.straight_runs.specs.Kinds.{transfer_of};
+
+use crate::kinds;
+use guest_bus::{Bus, Size};
+use sparc_step::Processor;
+use sparc_step::transfers::{signed_byte, signed_half};
+
+/// The kinds 13 to 22, at an address. One that is refused changes nothing.
+#[inline(always)]
+#[tactic(auto, unfolding(crate::specs::Kinds::transfer_of))]
+pub(crate) fn transfer<B: Bus>(
+    own: &mut Processor,
+    bus: &mut B,
+    kind: u8,
+    rd: u8,
+    address: u32,
+) -> bool
+    requires from { 13 ≤ kind }
+    requires below { kind < 23 }
+    requires rd { rd < 32 }
+    ensures done { OnTrue result (IsTransferred (transfer_of kind) rd address (B.areas bus.old) own.old own.new (B.memory bus.old) (B.memory bus.new)) }
+    ensures not_done { result ≡ false → own.new ≡ own.old }
+    ensures untouched { result ≡ false → B.memory bus.new ≡ B.memory bus.old }
+    ensures areas { B.areas bus.new ≡ B.areas bus.old }
+    ensures others { B.others bus.new ≡ B.others bus.old }
+{
+    if kind < kinds::ST {
+        if kind == kinds::LD {
+            load_word(own, bus, rd, address)
+        } else if kind == kinds::LDUB {
+            load_byte(own, bus, rd, address)
+        } else {
+            other_load(own, bus, kind, rd, address)
+        }
+    } else if kind == kinds::ST {
+        store_word(own, bus, rd, address)
+    } else if kind == kinds::STB {
+        store_byte(own, bus, rd, address)
+    } else {
+        other_store(own, bus, kind, rd, address)
+    }
+}
+
+// The kinds 15 to 18.
+#[inline(never)]
+#[tactic(auto, unfolding(crate::specs::Kinds::transfer_of))]
+fn other_load<B: Bus>(own: &mut Processor, bus: &mut B, kind: u8, rd: u8, address: u32) -> bool
+    requires from { 15 ≤ kind }
+    requires below { kind < 19 }
+    requires rd { rd < 32 }
+    ensures done { OnTrue result (IsTransferred (transfer_of kind) rd address (B.areas bus.old) own.old own.new (B.memory bus.old) (B.memory bus.new)) }
+    ensures not_done { result ≡ false → own.new ≡ own.old }
+    ensures untouched { result ≡ false → B.memory bus.new ≡ B.memory bus.old }
+    ensures areas { B.areas bus.new ≡ B.areas bus.old }
+    ensures others { B.others bus.new ≡ B.others bus.old }
+{
+    if kind < kinds::LDSH {
+        if kind == kinds::LDUH {
+            load_half(own, bus, rd, address)
+        } else {
+            load_signed_byte(own, bus, rd, address)
+        }
+    } else if kind == kinds::LDSH {
+        load_signed_half(own, bus, rd, address)
+    } else {
+        load_double(own, bus, rd, address)
+    }
+}
+
+// The kinds 21 and 22.
+#[inline(never)]
+#[tactic(auto, unfolding(crate::specs::Kinds::transfer_of))]
+fn other_store<B: Bus>(own: &mut Processor, bus: &mut B, kind: u8, rd: u8, address: u32) -> bool
+    requires from { 21 ≤ kind }
+    requires below { kind < 23 }
+    requires rd { rd < 32 }
+    ensures done { OnTrue result (IsTransferred (transfer_of kind) rd address (B.areas bus.old) own.old own.new (B.memory bus.old) (B.memory bus.new)) }
+    ensures not_done { result ≡ false → own.new ≡ own.old }
+    ensures untouched { result ≡ false → B.memory bus.new ≡ B.memory bus.old }
+    ensures areas { B.areas bus.new ≡ B.areas bus.old }
+    ensures others { B.others bus.new ≡ B.others bus.old }
+{
+    if kind == kinds::STH {
+        store_half(own, bus, rd, address)
+    } else {
+        store_double(own, bus, rd, address)
+    }
+}
+
+// LD.
+#[inline(always)]
+fn load_word<B: Bus>(own: &mut Processor, bus: &mut B, rd: u8, address: u32) -> bool
+    requires { rd < 32 }
+    ensures done { OnTrue result (IsTransferred Ld rd address (B.areas bus.old) own.old own.new (B.memory bus.old) (B.memory bus.new)) }
+    ensures not_done { result ≡ false → own.new ≡ own.old }
+    ensures untouched { result ≡ false → B.memory bus.new ≡ B.memory bus.old }
+    ensures areas { B.areas bus.new ≡ B.areas bus.old }
+    ensures others { B.others bus.new ≡ B.others bus.old }
+{
+    match bus.load(address, Size::Four) {
+        Ok(value) => {
+            own.set(rd, (value % 0x1_0000_0000) as u32);
+            true
+        }
+        Err(_) => false,
+    }
+}
+
+// LDUB.
+#[inline(always)]
+fn load_byte<B: Bus>(own: &mut Processor, bus: &mut B, rd: u8, address: u32) -> bool
+    requires { rd < 32 }
+    ensures done { OnTrue result (IsTransferred LdUb rd address (B.areas bus.old) own.old own.new (B.memory bus.old) (B.memory bus.new)) }
+    ensures not_done { result ≡ false → own.new ≡ own.old }
+    ensures untouched { result ≡ false → B.memory bus.new ≡ B.memory bus.old }
+    ensures areas { B.areas bus.new ≡ B.areas bus.old }
+    ensures others { B.others bus.new ≡ B.others bus.old }
+{
+    match bus.load(address, Size::One) {
+        Ok(value) => {
+            own.set(rd, (value % 0x1_0000_0000) as u32);
+            true
+        }
+        Err(_) => false,
+    }
+}
+
+// LDUH.
+#[inline(always)]
+fn load_half<B: Bus>(own: &mut Processor, bus: &mut B, rd: u8, address: u32) -> bool
+    requires { rd < 32 }
+    ensures done { OnTrue result (IsTransferred LdUh rd address (B.areas bus.old) own.old own.new (B.memory bus.old) (B.memory bus.new)) }
+    ensures not_done { result ≡ false → own.new ≡ own.old }
+    ensures untouched { result ≡ false → B.memory bus.new ≡ B.memory bus.old }
+    ensures areas { B.areas bus.new ≡ B.areas bus.old }
+    ensures others { B.others bus.new ≡ B.others bus.old }
+{
+    match bus.load(address, Size::Two) {
+        Ok(value) => {
+            own.set(rd, (value % 0x1_0000_0000) as u32);
+            true
+        }
+        Err(_) => false,
+    }
+}
+
+// LDSB.
+#[inline(always)]
+fn load_signed_byte<B: Bus>(own: &mut Processor, bus: &mut B, rd: u8, address: u32) -> bool
+    requires { rd < 32 }
+    ensures done { OnTrue result (IsTransferred LdSb rd address (B.areas bus.old) own.old own.new (B.memory bus.old) (B.memory bus.new)) }
+    ensures not_done { result ≡ false → own.new ≡ own.old }
+    ensures untouched { result ≡ false → B.memory bus.new ≡ B.memory bus.old }
+    ensures areas { B.areas bus.new ≡ B.areas bus.old }
+    ensures others { B.others bus.new ≡ B.others bus.old }
+{
+    match bus.load(address, Size::One) {
+        Ok(value) => {
+            own.set(rd, signed_byte(value));
+            true
+        }
+        Err(_) => false,
+    }
+}
+
+// LDSH.
+#[inline(always)]
+fn load_signed_half<B: Bus>(own: &mut Processor, bus: &mut B, rd: u8, address: u32) -> bool
+    requires { rd < 32 }
+    ensures done { OnTrue result (IsTransferred LdSh rd address (B.areas bus.old) own.old own.new (B.memory bus.old) (B.memory bus.new)) }
+    ensures not_done { result ≡ false → own.new ≡ own.old }
+    ensures untouched { result ≡ false → B.memory bus.new ≡ B.memory bus.old }
+    ensures areas { B.areas bus.new ≡ B.areas bus.old }
+    ensures others { B.others bus.new ≡ B.others bus.old }
+{
+    match bus.load(address, Size::Two) {
+        Ok(value) => {
+            own.set(rd, signed_half(value));
+            true
+        }
+        Err(_) => false,
+    }
+}
+
+// LDD.
+#[inline(always)]
+fn load_double<B: Bus>(own: &mut Processor, bus: &mut B, rd: u8, address: u32) -> bool
+    requires { rd < 32 }
+    ensures done { OnTrue result (IsTransferred LdD rd address (B.areas bus.old) own.old own.new (B.memory bus.old) (B.memory bus.new)) }
+    ensures not_done { result ≡ false → own.new ≡ own.old }
+    ensures untouched { result ≡ false → B.memory bus.new ≡ B.memory bus.old }
+    ensures areas { B.areas bus.new ≡ B.areas bus.old }
+    ensures others { B.others bus.new ≡ B.others bus.old }
+{
+    if rd % 2 != 0 {
+        return false;
+    }
+    match bus.load(address, Size::Eight) {
+        Ok(value) => {
+            set_pair(own, rd, value);
+            true
+        }
+        Err(_) => false,
+    }
+}
+
+// Sets a pair of registers to a double word.
+#[tactic(auto, unfolding(sparc_step::specs::Transfers::with_pair))]
+fn set_pair(own: &mut Processor, rd: u8, value: u64)
+    requires { rd + 1 < 32 }
+    ensures { own.new ≡ with_pair rd value own.old }
+{
+    own.set(rd, (value >> 32) as u32);
+    own.set(rd + 1, (value % 0x1_0000_0000) as u32);
+}
+
+// The double word in a pair of registers.
+#[tactic(auto, unfolding(sparc_step::specs::Transfers::pair_at))]
+fn pair(own: &Processor, rd: u8) -> u64
+    requires { rd + 1 < 32 }
+    ensures { result ≡ pair_at own.now rd }
+{
+    (u64::from(own.get(rd)) << 32) + u64::from(own.get(rd + 1))
+}
+
+// ST.
+#[inline(always)]
+fn store_word<B: Bus>(own: &mut Processor, bus: &mut B, rd: u8, address: u32) -> bool
+    requires { rd < 32 }
+    ensures done { OnTrue result (IsTransferred St rd address (B.areas bus.old) own.old own.new (B.memory bus.old) (B.memory bus.new)) }
+    ensures not_done { result ≡ false → own.new ≡ own.old }
+    ensures untouched { result ≡ false → B.memory bus.new ≡ B.memory bus.old }
+    ensures areas { B.areas bus.new ≡ B.areas bus.old }
+    ensures others { B.others bus.new ≡ B.others bus.old }
+{
+    let value = u64::from(own.get(rd));
+    store(bus, address, Size::Four, value)
+}
+
+// STB.
+#[inline(always)]
+fn store_byte<B: Bus>(own: &mut Processor, bus: &mut B, rd: u8, address: u32) -> bool
+    requires { rd < 32 }
+    ensures done { OnTrue result (IsTransferred StB rd address (B.areas bus.old) own.old own.new (B.memory bus.old) (B.memory bus.new)) }
+    ensures not_done { result ≡ false → own.new ≡ own.old }
+    ensures untouched { result ≡ false → B.memory bus.new ≡ B.memory bus.old }
+    ensures areas { B.areas bus.new ≡ B.areas bus.old }
+    ensures others { B.others bus.new ≡ B.others bus.old }
+{
+    let value = u64::from(own.get(rd));
+    store(bus, address, Size::One, value)
+}
+
+// STH.
+#[inline(always)]
+fn store_half<B: Bus>(own: &mut Processor, bus: &mut B, rd: u8, address: u32) -> bool
+    requires { rd < 32 }
+    ensures done { OnTrue result (IsTransferred StH rd address (B.areas bus.old) own.old own.new (B.memory bus.old) (B.memory bus.new)) }
+    ensures not_done { result ≡ false → own.new ≡ own.old }
+    ensures untouched { result ≡ false → B.memory bus.new ≡ B.memory bus.old }
+    ensures areas { B.areas bus.new ≡ B.areas bus.old }
+    ensures others { B.others bus.new ≡ B.others bus.old }
+{
+    let value = u64::from(own.get(rd));
+    store(bus, address, Size::Two, value)
+}
+
+// STD.
+#[inline(always)]
+fn store_double<B: Bus>(own: &mut Processor, bus: &mut B, rd: u8, address: u32) -> bool
+    requires { rd < 32 }
+    ensures done { OnTrue result (IsTransferred StD rd address (B.areas bus.old) own.old own.new (B.memory bus.old) (B.memory bus.new)) }
+    ensures not_done { result ≡ false → own.new ≡ own.old }
+    ensures untouched { result ≡ false → B.memory bus.new ≡ B.memory bus.old }
+    ensures areas { B.areas bus.new ≡ B.areas bus.old }
+    ensures others { B.others bus.new ≡ B.others bus.old }
+{
+    if rd % 2 != 0 {
+        return false;
+    }
+    let value = pair(own, rd);
+    store(bus, address, Size::Eight, value)
+}
+
+// Stores a value. The answer is whether it was not refused.
+#[inline(always)]
+fn store<B: Bus>(bus: &mut B, address: u32, size: Size, value: u64) -> bool
+    ensures free { OnTrue result (store_fault (B.areas bus.old) address size ≡ None) }
+    ensures memory { B.memory bus.new ≡ after_store (B.areas bus.old) (B.memory bus.old) address size value }
+    ensures untouched { result ≡ false → B.memory bus.new ≡ B.memory bus.old }
+    ensures areas { B.areas bus.new ≡ B.areas bus.old }
+    ensures others { B.others bus.new ≡ B.others bus.old }
+{
+    match bus.store(address, size, value) {
+        Ok(()) => true,
+        Err(_) => false,
+    }
+}

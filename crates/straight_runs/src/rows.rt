@@ -1,0 +1,234 @@
+//! Instruction words that are taken apart once.
+
+ghost use Rattle.std.specs.Prelude.{◌≡◌, ◌*◌, ◌≢◌, ◌^◌, ◌<◌};
+ghost use Rattle.sparc_code.specs.Ranges.{InRange};
+ghost use Rattle.sparc_step.specs.Words.{residue};
+ghost use Rattle.straight_runs.specs.Kinds.{kind_of, kind_of_branch, kind_of_transfer};
+ghost use Rattle.straight_runs.specs.Rows.{AreRegisterNumbers, Does, IsRowOf};
+ghost use Rattle.straight_runs.specs.Sources.{IsRegisterIn};
+
+use crate::kinds;
+use sparc_code::{Arith, Instr, MemOp, Src};
+
+/// An instruction word, taken apart: what it does, the registers of its result and of its operands, and what is added to
+/// the second. Operand 2 is the sum of a register and a number, of which one is 0.
+#[derive(Clone, Copy, Debug)]
+pub(crate) struct Row {
+    pub(crate) number: u32,
+    pub(crate) kind: u8,
+    pub(crate) rd: u8,
+    pub(crate) rs1: u8,
+    pub(crate) rs2: u8,
+}
+
+impl Row {
+    // A row of other instructions.
+    pub(crate) const OTHER: Row = Row {
+        number: 0,
+        kind: kinds::OTHER,
+        rd: 0,
+        rs1: 0,
+        rs2: 0,
+    };
+}
+
+/// The row of an instruction.
+pub(crate) fn row_of(instr: Instr) -> Row
+    requires { InRange instr }
+    ensures row { IsRowOf result instr }
+    ensures registers { AreRegisterNumbers result }
+{
+    match instr {
+        Instr::Call { disp } => call(disp),
+        Instr::Branch { cond, annul, disp } => branch(cond, annul, disp),
+        Instr::Sethi { rd, imm } => sethi(rd, imm),
+        Instr::Arith { op, rd, rs1, src } => with_source(arith_kind(op), rd, rs1, src),
+        Instr::ReadY { rd } => read_y(rd),
+        Instr::Barrier => Row::OTHER,
+        Instr::WriteY { rs1, src } => with_source(kinds::WRY, 0, rs1, src),
+        Instr::Jump { rd, rs1, src } => with_source(kinds::JUMP, rd, rs1, src),
+        Instr::Trap { .. } => Row::OTHER,
+        Instr::Flush => Row::OTHER,
+        Instr::Save { rd, rs1, src } => with_source(kinds::SAVE, rd, rs1, src),
+        Instr::Restore { rd, rs1, src } => with_source(kinds::RESTORE, rd, rs1, src),
+        Instr::Mem { op, rd, rs1, src } => with_source(memory_kind(op), rd, rs1, src),
+        Instr::Privileged => Row::OTHER,
+        Instr::Float => Row::OTHER,
+        Instr::Coproc => Row::OTHER,
+        Instr::Illegal => Row::OTHER,
+    }
+}
+
+// The row of a CALL.
+fn call(disp: i32) -> Row
+    ensures row { (result.kind ≡ 34) × (result.number ≡ residue 32 disp) }
+    ensures registers { AreRegisterNumbers result }
+{
+    Row {
+        number: displacement(disp),
+        kind: kinds::CALL,
+        rd: 15,
+        rs1: 0,
+        rs2: 0,
+    }
+}
+
+// The row of a branch.
+fn branch(condition: u8, annul: bool, disp: i32) -> Row
+    requires { condition < 16 }
+    ensures row { (result.kind ≡ kind_of_branch annul) × (result.rs1 ≡ condition) × (result.number ≡ residue 32 disp) }
+    ensures registers { AreRegisterNumbers result }
+{
+    Row {
+        number: displacement(disp),
+        kind: if annul {
+            kinds::ANNULLING
+        } else {
+            kinds::BRANCH
+        },
+        rd: 0,
+        rs1: condition,
+        rs2: 0,
+    }
+}
+
+// The row of SETHI.
+fn sethi(rd: u8, imm: u32) -> Row
+    requires register { rd < 32 }
+    requires number { imm < 2 ^ 22 }
+    ensures row { (result.kind ≡ 3) × (result.rd ≡ rd) × (result.rs1 ≡ 0) × (result.rs2 ≡ 0) × (result.number ≡ imm * 2 ^ 10) }
+    ensures registers { AreRegisterNumbers result }
+{
+    Row {
+        number: imm << 10,
+        kind: kinds::OR,
+        rd,
+        rs1: 0,
+        rs2: 0,
+    }
+}
+
+// The row of RDY.
+fn read_y(rd: u8) -> Row
+    requires { rd < 32 }
+    ensures row { (result.kind ≡ 31) × (result.rd ≡ rd) }
+    ensures registers { AreRegisterNumbers result }
+{
+    Row {
+        number: 0,
+        kind: kinds::RDY,
+        rd,
+        rs1: 0,
+        rs2: 0,
+    }
+}
+
+// The row of a kind that has operands, and is none of a branch.
+fn with_source(kind: u8, rd: u8, rs1: u8, src: Src) -> Row
+    requires kind { kind ≢ 2 }
+    requires annulling { kind ≢ 36 }
+    requires rd { rd < 32 }
+    requires rs1 { rs1 < 32 }
+    requires source { IsRegisterIn src }
+    ensures row { Does result kind rd rs1 src }
+    ensures registers { AreRegisterNumbers result }
+{
+    match src {
+        Src::Reg(rs2) => Row {
+            number: 0,
+            kind,
+            rd,
+            rs1,
+            rs2,
+        },
+        Src::Imm(number) => Row {
+            number: extended(number),
+            kind,
+            rd,
+            rs1,
+            rs2: 0,
+        },
+    }
+}
+
+// A number as a word.
+fn extended(number: i16) -> u32
+    ensures { result ≡ residue 32 number }
+{
+    i32::from(number).cast_unsigned()
+}
+
+// A displacement as a word.
+fn displacement(disp: i32) -> u32
+    ensures { result ≡ residue 32 disp }
+{
+    disp.cast_unsigned()
+}
+
+// The kind of work on registers.
+fn arith_kind(op: Arith) -> u8
+    ensures value { result ≡ kind_of op }
+    ensures work { result ≢ 2 }
+    ensures annulling { result ≢ 36 }
+{
+    match op {
+        Arith::Add => kinds::ADD,
+        Arith::And => kinds::AND,
+        Arith::Or => kinds::OR,
+        Arith::Xor => kinds::XOR,
+        Arith::Sub => kinds::SUB,
+        Arith::AndN => kinds::ANDN,
+        Arith::OrN => kinds::ORN,
+        Arith::XNor => kinds::XNOR,
+        Arith::AddX => kinds::OTHER,
+        Arith::UMul => kinds::UMUL,
+        Arith::SMul => kinds::SMUL,
+        Arith::SubX => kinds::OTHER,
+        Arith::UDiv => kinds::UDIV,
+        Arith::SDiv => kinds::SDIV,
+        Arith::AddCc => kinds::ADDCC,
+        Arith::AndCc => kinds::ANDCC,
+        Arith::OrCc => kinds::ORCC,
+        Arith::XorCc => kinds::OTHER,
+        Arith::SubCc => kinds::SUBCC,
+        Arith::AndNCc => kinds::OTHER,
+        Arith::OrNCc => kinds::OTHER,
+        Arith::XNorCc => kinds::OTHER,
+        Arith::AddXCc => kinds::OTHER,
+        Arith::UMulCc => kinds::OTHER,
+        Arith::SMulCc => kinds::OTHER,
+        Arith::SubXCc => kinds::OTHER,
+        Arith::UDivCc => kinds::OTHER,
+        Arith::SDivCc => kinds::OTHER,
+        Arith::TAddCc => kinds::OTHER,
+        Arith::TSubCc => kinds::OTHER,
+        Arith::TAddCcTv => kinds::OTHER,
+        Arith::TSubCcTv => kinds::OTHER,
+        Arith::MulSCc => kinds::OTHER,
+        Arith::Sll => kinds::SLL,
+        Arith::Srl => kinds::SRL,
+        Arith::Sra => kinds::SRA,
+    }
+}
+
+// The kind of a load or a store.
+fn memory_kind(op: MemOp) -> u8
+    ensures value { result ≡ kind_of_transfer op }
+    ensures work { result ≢ 2 }
+    ensures annulling { result ≢ 36 }
+{
+    match op {
+        MemOp::Ld => kinds::LD,
+        MemOp::LdUb => kinds::LDUB,
+        MemOp::LdUh => kinds::LDUH,
+        MemOp::LdD => kinds::LDD,
+        MemOp::St => kinds::ST,
+        MemOp::StB => kinds::STB,
+        MemOp::StH => kinds::STH,
+        MemOp::StD => kinds::STD,
+        MemOp::LdSb => kinds::LDSB,
+        MemOp::LdSh => kinds::LDSH,
+        MemOp::LdStUb => kinds::OTHER,
+        MemOp::Swap => kinds::OTHER,
+    }
+}

@@ -1,0 +1,137 @@
+//! Instructions whose work is the same wherever they stand.
+
+ghost use Rattle.std.specs.Prelude.{◌≡◌, ◌≢◌, ◌^◌, ◌<◌, ◌≤◌, List};
+ghost use Rattle.guest_bus.specs.Memory.{Area, Memory};
+ghost use Rattle.sparc_code.specs.declared.instruction.Src.{Src};
+ghost use Rattle.sparc_step.specs.Operands.{value_of};
+ghost use Rattle.sparc_step.specs.Registers.{register_at};
+ghost use Rattle.straight_runs.specs.Effects.{left_by};
+ghost use Rattle.straight_runs.specs.Rows.{AreRegisterNumbers, HasSource};
+ghost use Rattle.straight_runs.specs.Steps.{IsStep};
+ghost use Rattle.straight_runs.specs.declared.simple.Step.TheVariants.{Next};
+
+use crate::kinds;
+use crate::moving::transfer;
+use crate::rare::rare;
+use crate::rows::Row;
+use crate::working::{coded, first, frequent, multiply_or_divide, plain, second, sum_of};
+use guest_bus::Bus;
+use sparc_step::Processor;
+use sparc_step::conditions::holds;
+
+/// What an instruction came to.
+#[derive(Clone, Copy, Debug)]
+pub(crate) enum Step {
+    /// It was done, and the next word follows.
+    Next,
+    /// It is a branch that is taken, which was not done.
+    Taken,
+    /// It was not done.
+    Stays,
+}
+
+/// Does what a row says, where that goes on to the next word.
+#[inline(always)]
+pub(crate) fn execute<B: Bus>(own: &mut Processor, bus: &mut B, row: &Row) -> Step
+    requires { AreRegisterNumbers row.now }
+    ensures step { IsStep result row.now (B.areas bus.old) own.old own.new (B.memory bus.old) (B.memory bus.new) }
+    ensures areas { B.areas bus.new ≡ B.areas bus.old }
+    ensures others { B.others bus.new ≡ B.others bus.old }
+{
+    if row.kind < kinds::LD {
+        if row.kind == kinds::BRANCH {
+            branch(own, row)
+        } else {
+            on_registers(own, row)
+        }
+    } else if row.kind < kinds::ADDCC {
+        on_memory(own, bus, row)
+    } else if row.kind < kinds::WRY {
+        more(own, row)
+    } else {
+        rare(own, row)
+    }
+}
+
+// Kind 2.
+#[inline(always)]
+fn branch(own: &Processor, row: &Row) -> Step
+    requires kind { row.now.kind ≡ 2 }
+    requires condition { row.now.rs1 < 16 }
+    ensures { (areas : List Area) (memory : Memory) → IsStep result row.now areas own.now own.now memory memory }
+{
+    if holds(row.rs1, own.icc()) {
+        Step::Taken
+    } else {
+        Step::Next
+    }
+}
+
+// The kinds 0, 1 and 3 to 12.
+#[inline(always)]
+fn on_registers(own: &mut Processor, row: &Row) -> Step
+    requires below { row.now.kind < 13 }
+    requires work { row.now.kind ≢ 2 }
+    requires registers { AreRegisterNumbers row.now }
+    ensures { (areas : List Area) (memory : Memory) → IsStep result row.now areas own.old own.new memory memory }
+{
+    work(own, row);
+    Step::Next
+}
+
+// The same, by the registers that it leaves.
+#[inline(always)]
+fn work(own: &mut Processor, row: &Row)
+    requires below { row.now.kind < 13 }
+    requires work { row.now.kind ≢ 2 }
+    requires registers { AreRegisterNumbers row.now }
+    ensures left { (source : Src) → HasSource source row.now → own.new ≡ left_by row.now.kind row.now.rd (register_at own.old row.now.rs1) (value_of source own.old) own.old }
+    ensures zero { row.now.rs1 ≡ 0 → register_at own.old row.now.rs1 ≡ 0 }
+    ensures small { row.now.number < 2 ^ 32 }
+{
+    let a = first(own, row);
+    let b = second(own, row);
+    if row.kind < kinds::SLL {
+        frequent(own, row.kind, row.rd, a, b);
+    } else {
+        plain(own, row.kind, row.rd, a, b);
+    }
+}
+
+// The kinds 13 to 22.
+#[inline(always)]
+fn on_memory<B: Bus>(own: &mut Processor, bus: &mut B, row: &Row) -> Step
+    requires from { 13 ≤ row.now.kind }
+    requires below { row.now.kind < 23 }
+    requires registers { AreRegisterNumbers row.now }
+    ensures step { IsStep result row.now (B.areas bus.old) own.old own.new (B.memory bus.old) (B.memory bus.new) }
+    ensures areas { B.areas bus.new ≡ B.areas bus.old }
+    ensures others { B.others bus.new ≡ B.others bus.old }
+{
+    let address = sum_of(own, row);
+    if transfer(own, bus, row.kind, row.rd, address) {
+        Step::Next
+    } else {
+        Step::Stays
+    }
+}
+
+// The kinds 23 to 29.
+#[inline(always)]
+fn more(own: &mut Processor, row: &Row) -> Step
+    requires from { 23 ≤ row.now.kind }
+    requires below { row.now.kind < 30 }
+    requires registers { AreRegisterNumbers row.now }
+    ensures { (areas : List Area) (memory : Memory) → IsStep result row.now areas own.old own.new memory memory }
+{
+    let a = first(own, row);
+    let b = second(own, row);
+    if row.kind < kinds::SMUL {
+        coded(own, row.kind, row.rd, a, b);
+        Step::Next
+    } else if multiply_or_divide(own, row.kind, row.rd, a, b) {
+        Step::Next
+    } else {
+        Step::Stays
+    }
+}
