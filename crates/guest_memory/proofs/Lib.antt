@@ -8,4 +8,5 @@ pub mod RangeLemmas
 pub mod SegmentLemmas
 pub mod TableLemmas
 pub mod TestLemmas
+pub mod WordLemmas
 pub mod ZeroLemmas

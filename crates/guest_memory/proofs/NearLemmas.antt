@@ -63,7 +63,7 @@ near_room near whole found address size within (inl here) aligned = spot_room ne
 near_room near whole found address size within (inr here) aligned = spot_room near.second whole found address size within.second here aligned
 
 -- the byte that was found is one of the partition's
-record Inside (table : Table) (address : ℕ) (found : Found) : Type 0 where
+pub record Inside (table : Table) (address : ℕ) (found : Found) : Type 0 where
   place : Place
   byte : found.byte ≡ table.place + place.byte
   at : IsAt address 1 place table.entries
@@ -98,14 +98,27 @@ access_within : (table : Table) (whole : List ℕ) (place : Place) (address coun
 access_within table whole place address count part stands =
     omega (arith, bytes_within table.entries (part_in table whole) place address count part.space stands, length-take-le table.size (drop table.place whole) (omega (arith, length-drop table.place whole, part.within)))
 
+-- an area of the partition has the address
+pub entry_inside : (table : Table) (k address byte : ℕ) (entry : Entry) → slice_get table.entries k ≡ Some entry → entry.start ≤ address → address < entry.start + entry.size
+    → byte ≡ table.place + (entry.place + (address - entry.start)) → Inside table address (record { byte = byte; read_only = entry.read_only })
+entry_inside table k address byte entry is from under here =
+    let place : Place = record { area = k; byte = entry.place + (address - entry.start); room = entry.start + entry.size - address; read_only = entry.read_only } in
+    let stands : Stands address 1 place entry = record { from = from; fits = omega (arith, under); byte = omega (arith, from); room = omega (arith, under); read_only = refl } in
+    record { place = place; byte = here; at = rw is stands; only = refl }
+
+-- the word at an address
+pub inside_fetched : (table : Table) (whole : List ℕ) (found : Found) (address word : ℕ) → IsPartOf table whole → Inside table address found → address % 4 ≡ 0
+    → word ≡ from_be_bytes w32 (take 4 (drop found.byte whole)) → Ok word ≡ fetched (listed table.entries) (memory_of_part table whole) address
+inside_fetched table whole found address word part inside aligned value =
+    let access = accesses_found table.entries inside.place address Four part.space.placed inside.at aligned in
+    fetched_in table.entries (part_in table whole) inside.place address word part.space access
+    (value ∙ ap (from_be_bytes w32) (sym (part_taken table whole inside.place.byte found.byte 4 inside.byte (access_within table whole inside.place address 4 part access.stands))))
+
 -- the word that a fetch answers
 pub near_fetched : (table : Table) (near : Near) (whole : List ℕ) (found : Found) (address word : ℕ) → near ≡ near_of table → IsPartOf table whole → IsNear address found near → address % 4 ≡ 0
     → word ≡ from_be_bytes w32 (take 4 (drop found.byte whole)) → Ok word ≡ fetched (listed table.entries) (memory_of_part table whole) address
 near_fetched table near whole found address word is part here aligned value =
-    let inside = near_inside table near address found is here in
-    let access = accesses_found table.entries inside.place address Four part.space.placed inside.at aligned in
-    fetched_in table.entries (part_in table whole) inside.place address word part.space access
-    (value ∙ ap (from_be_bytes w32) (sym (part_taken table whole inside.place.byte found.byte 4 inside.byte (access_within table whole inside.place address 4 part access.stands))))
+    inside_fetched table whole found address word part (near_inside table near address found is here) aligned value
 
 -- the value that a load answers
 pub near_loaded : (table : Table) (near : Near) (whole : List ℕ) (found : Found) (address value : ℕ) (size : Size) → near ≡ near_of table → IsPartOf table whole → IsNear address found near → address % byte_len (width_of size) ≡ 0

@@ -5,3 +5,4 @@ pub mod Memories
 pub mod Near
 pub mod SelectedLemmas
 pub mod RefusedLemmas
+pub mod Words

@@ -1,9 +1,10 @@
 -- The areas of one partition that are looked at first.
-use Rattle.std.specs.Prelude.{◌≡◌, ℕ, ◌+◌, ◌<◌, ◌≤◌, ◌^◌, ◌⊎◌, false, List, Option, None, Some, length, slice_get, slice_index_or}
+use Rattle.std.specs.Prelude.{◌≡◌, ℕ, ◌+◌, ◌*◌, ◌/◌, ◌%◌, ◌<◌, ◌≤◌, ◌^◌, ◌⊎◌, false, List, Option, None, Some, length, slice_get, slice_index_or}
 use Rattle.std.specs.Int.{byte_len}
 use Rattle.guest_bus.specs.Access.{after_store, store_fault}
 use Rattle.guest_bus.specs.Memory.{Area}
 use Rattle.guest_bus.specs.declared.bus.Size.{Size}
+use Rattle.guest_bus.specs.declared.words.Words.{Words}
 use Rattle.guest_memory.specs.Flat.{AreBytes, AreKept, SameAround, Table, listed, memory_of_part}
 use Rattle.guest_memory.specs.Memories.{IsPlaced}
 use Rattle.guest_memory.specs.declared.entry.Entry.{Entry}
@@ -60,3 +61,13 @@ AreNear near tables selected = (table : Table) → table ≡ slice_index_or tabl
 pub record AreReady (tables : List Table) (bytes : List ℕ) (selected : ℕ) (ready : Near) : Type 0 where
   pub kept : AreKept tables bytes selected
   pub near : AreNear ready tables selected
+
+-- the words of an area, by their places among those of all
+pub record AreWordsIn (spot : Spot) (words : Words) : Type 0 where
+  pub begin : words.begin ≡ spot.place / 4
+  pub end : words.end ≡ spot.place / 4 + spot.size / 4
+  pub origin : (words.origin + 4 * words.begin) % 2 ^ 32 ≡ spot.start % 2 ^ 32
+
+-- they are those of one of the two, which is there
+abbrev pub AreNearWords : Words → Near → Type 0
+AreNearWords words near = ((0 < near.first.size) × AreWordsIn near.first words) ⊎ ((0 < near.second.size) × AreWordsIn near.second words)

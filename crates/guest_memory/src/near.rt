@@ -5,12 +5,12 @@ ghost use Rattle.std.specs.Bool.{OnTrue};
 ghost use Rattle.std.specs.Int.{byte_len};
 ghost use Rattle.guest_bus.specs.Access.{fetched, loaded, width_of};
 ghost use Rattle.guest_memory.specs.Flat.{AreBytes, IsPartOf, Table as Placed, listed, memory_of_part};
-ghost use Rattle.guest_memory.specs.Near.{AreWithin, IsHere, IsNear, IsStored, near_of, spot_of};
+ghost use Rattle.guest_memory.specs.Near.{AreNearWords, AreWithin, AreWordsIn, IsHere, IsNear, IsStored, near_of, spot_of};
 
 use crate::bytes::{put_value, value_at, word};
 use crate::entry::Entry;
 use crate::table::Table;
-use guest_bus::Size;
+use guest_bus::{Size, Words};
 
 /// An area, and how many bytes of all lie before its own. One that is not there has no address.
 #[derive(Clone, Copy, Debug)]
@@ -79,6 +79,20 @@ impl Spot {
             read_only: self.read_only,
         }
     }
+
+    // Its words, by their places among those of all.
+    #[inline(always)]
+    fn words(&self) -> Words
+        requires { self.now.place ≤ 2 ^ 32 }
+        ensures { AreWordsIn self.now result }
+    {
+        let begin = self.place >> 2;
+        Words {
+            begin,
+            end: begin + (self.size >> 2) as usize,
+            origin: self.start.wrapping_sub(4 * ((begin % 0x4000_0000) as u32)),
+        }
+    }
 }
 
 impl Near {
@@ -105,6 +119,24 @@ impl Near {
             Some(self.first.found(address))
         } else if self.second.has(address) {
             Some(self.second.found(address))
+        } else {
+            None
+        }
+    }
+
+    /// The words of the area that has an address, where it is one of the two.
+    #[inline(always)]
+    pub(crate) fn words(&self, address: u32) -> Option<Words>
+        requires first { self.now.first.start + self.now.first.size ≤ 2 ^ 32 }
+        requires second { self.now.second.start + self.now.second.size ≤ 2 ^ 32 }
+        requires first_few { self.now.first.place ≤ 2 ^ 32 }
+        requires second_few { self.now.second.place ≤ 2 ^ 32 }
+        ensures { IfSome result (λ words. AreNearWords words self.now) }
+    {
+        if self.first.has(address) {
+            Some(self.first.words())
+        } else if self.second.has(address) {
+            Some(self.second.words())
         } else {
             None
         }

@@ -7,10 +7,11 @@ ghost use Rattle.guest_bus.specs.Memory.{all_from, bytes_at, is_readable, is_wri
 ghost use Rattle.guest_memory.specs.Loading.{LiesIn, areas_of, loaded, zeros_in};
 ghost use Rattle.guest_memory.specs.Flat.{AreTables, Follow, IsTable, areas_in, listed, memory_in};
 ghost use Rattle.guest_memory.specs.Memories.{AreMemories, ArePlaced, HasAreas, HasBytes, SameElsewhere, answer_by, areas_at, first_refused, map_at, others_of, place_at, size_of, whole_size, with_map, with_selected};
+ghost use Rattle.guest_memory.specs.Words.{LieIn};
 ghost use Rattle.xm_conf.specs.Fits.{HasSome};
 
 use crate::access::Access;
-use crate::bytes::part;
+use crate::bytes::{part, raw};
 use crate::entry::Entry;
 use crate::find::place_in;
 use crate::near::Near;
@@ -18,7 +19,7 @@ use crate::outside::Outside;
 use crate::range::refused;
 use crate::table::Table;
 use crate::{parts, space};
-use guest_bus::{Bus, BusFault, Size};
+use guest_bus::{Bus, BusFault, HasWords, Size, Words};
 use std::alloc::Global;
 use std::marker::Model;
 use xef_images::Xef;
@@ -256,6 +257,20 @@ impl Bus for Ram {
             size,
             value,
         )
+    }
+}
+
+impl HasWords for Ram {
+    ghost lie = { LieIn };
+
+    #[inline(always)]
+    fn words(&self, address: u32) -> Option<Words> {
+        self.near.words(address)
+    }
+
+    #[inline(always)]
+    fn word(&self, words: Words, place: usize) -> u32 {
+        raw(&self.bytes, 4 * place)
     }
 }
 
