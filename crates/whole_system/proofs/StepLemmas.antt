@@ -1,5 +1,5 @@
 -- Steps of a processor, one after another.
-use Rattle.std.proofs.Common.{◌≡◌, ◌≢◌, ℕ, zero, suc, ◌+◌, ◌%◌, List, refl, sym, ap, ◌∙◌, subst, arith}
+use Rattle.std.proofs.Common.{◌≡◌, ◌≢◌, ℕ, zero, suc, ◌+◌, ◌%◌, ◌<◌, List, refl, sym, ap, ◌∙◌, subst, arith}
 use Rattle.std.proofs.lemmas.Bool.Decides.{nat_tests}
 use Rattle.std.specs.Prelude.{◌==◌, true, false, IsErr, Ok, Err, Result}
 use Rattle.guest_bus.specs.Memory.{Area, Memory, Others}
@@ -9,23 +9,18 @@ use Rattle.machine_model.specs.Partition.{PartitionState}
 use Rattle.sparc_step.specs.Execution.{Turned}
 use Rattle.sparc_step.specs.Registers.{Registers}
 use Rattle.sparc_step.specs.declared.outcome.Turn.{Turn}
-use Rattle.sparc_step.specs.declared.outcome.Turn.TheVariants.{Call, Went}
+use Rattle.sparc_step.specs.declared.outcome.Turn.TheVariants.{Call, Trap, Went}
+use Rattle.straight_runs.specs.Runs.{AreSteps, steps_then}
 use Rattle.virt_traps.specs.Stepping.{stepped, then_settled}
 use Rattle.machine_model.specs.ProcessorCalls.{flushed, flushed_after}
 use Rattle.virt_traps.specs.Moves.{Moved, made, spilled}
-use Rattle.virt_traps.specs.Settled.{GoesOn, settled}
+use Rattle.virt_traps.specs.Settled.{GoesOn, IsUndoneButSpill, settled}
 use Rattle.virt_traps.specs.declared.windows.StackFault.{StackFault}
 use Rattle.whole_system.specs.Stepping.{IsGone, IsMoved, with_turned}
 
 -- behind a step that went, one more is settled
 then_is : (t : Turned) (areas : List Area) → t.turn ≡ Went → then_settled t.turn areas t ≡ settled areas t.core t.memory
 then_is t areas went = ap (λ (turn : Turn). then_settled turn areas t) went
-
--- so many steps that all went
-pub record AreSteps (count : ℕ) (areas : List Area) (core : Registers) (memory : Memory) (after : Registers) (new : Memory) : Type 0 where
-  pub went : (stepped count areas core memory).turn ≡ Went
-  pub registers : after ≡ (stepped count areas core memory).core
-  pub bytes : new ≡ (stepped count areas core memory).memory
 
 -- what the next one comes to
 pub next_step : (count : ℕ) (areas here : List Area) (core after : Registers) (memory new : Memory) → here ≡ areas → AreSteps count areas core memory after new → settled here after new ≡ stepped (suc count) areas core memory
@@ -45,6 +40,38 @@ one_step_more count next areas here core after last memory new newest turn next_
       registers = last_is ∙ ap (λ (x : Turned). x.core) one;
       bytes = newest_is ∙ ap (λ (x : Turned). x.memory) one;
     })
+
+-- the steps of a straight run behind others
+pub run_more : (count ran total : ℕ) (areas here : List Area) (core after last : Registers) (memory new newest : Memory) → total ≡ ran + count → here ≡ areas → AreSteps count areas core memory after new → AreSteps ran here after new last newest
+    → AreSteps total areas core memory last newest
+run_more count ran total areas here core after last memory new newest is same steps more =
+    subst (λ (n : ℕ). AreSteps n areas core memory last newest) (sym is)
+    (steps_then ran count areas core after last memory new newest steps (subst (λ (a : List Area). AreSteps ran a after new last newest) same more))
+
+-- what is known of a step is known of the one behind others
+step_behind : (P : List Area → Registers → Memory → Type 0) (count : ℕ) (areas here : List Area) (core after : Registers) (memory new : Memory) → here ≡ areas → AreSteps count areas core memory after new → P here after new
+    → P areas (stepped count areas core memory).core (stepped count areas core memory).memory
+step_behind P count areas here core after memory new same steps known =
+    subst (λ (m : Memory). P areas (stepped count areas core memory).core m) steps.bytes
+    (subst (λ (r : Registers). P areas r new) steps.registers (subst (λ (a : List Area). P a after new) same known))
+
+-- a step that trapped, behind others
+pub trapped_behind : (count most type : ℕ) (areas here : List Area) (core after last : Registers) (memory new newest : Memory) → count < most → here ≡ areas → AreSteps count areas core memory after new
+    → Trap type ≡ (settled here after new).turn → last ≡ (settled here after new).core → newest ≡ (settled here after new).memory → IsUndoneButSpill (Trap type) here after last new newest
+    → IsGone (Trap type) count most areas (stepped count areas core memory) last newest
+trapped_behind count most type areas here core after last memory new newest below same steps turn_is last_is newest_is undone =
+    let known = step_behind (λ a r m. ((settled a r m).turn ≡ Trap type) × (last ≡ (settled a r m).core) × (newest ≡ (settled a r m).memory) × IsUndoneButSpill (Trap type) a r last m newest)
+    count areas here core after memory new same steps (sym turn_is, last_is, newest_is, undone) in
+    (below, known.0, known.1, known.2, known.3)
+
+-- a step that called
+pub called_behind : (count most : ℕ) (areas here : List Area) (core after last : Registers) (memory new newest : Memory) → count < most → here ≡ areas → AreSteps count areas core memory after new
+    → Call ≡ (settled here after new).turn → last ≡ (settled here after new).core → newest ≡ (settled here after new).memory
+    → IsGone Call count most areas (stepped count areas core memory) last newest
+called_behind count most areas here core after last memory new newest below same steps turn_is last_is newest_is =
+    let known = step_behind (λ a r m. ((settled a r m).turn ≡ Call) × (last ≡ (settled a r m).core) × (newest ≡ (settled a r m).memory))
+    count areas here core after memory new same steps (sym turn_is, last_is, newest_is) in
+    (below, known.0, known.1, known.2)
 
 -- what steps leave of all memories, where partition p was selected for them
 pub selected_changed : (p : ℕ) (old mid new : Memories) → mid ≡ with_selected p old → AreMemories mid → AreMemories new → others_of new ≡ others_of mid → areas_at new.selected new ≡ areas_at mid.selected mid → new ≡ with_selected p (with_map p (map_at p new) old)

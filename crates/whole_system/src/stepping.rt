@@ -10,9 +10,10 @@ ghost use Rattle.machine_model.specs.ProcessorCalls.{flushed};
 ghost use Rattle.whole_system.specs.Stepping.{IsGone, IsMoved};
 
 use crate::gone::Gone;
-use guest_bus::Bus;
+use guest_bus::{Bus, HasWords};
 use guest_memory::Ram;
 use sparc_step::{Core, Processor, Turn};
+use straight_runs::{Rows, run};
 use virt_traps::{IretFault, StackFault, Virt, deliver, iret, settle_at_hand, spill};
 use xm_base::PartId;
 
@@ -171,7 +172,13 @@ fn flush<B: Bus>(core: &mut Core, bus: &mut B) -> Result<(), StackFault>
 }
 
 /// Steps of partition `p`, at most so many, up to the first that does more than go.
-pub(crate) fn step_part(core: &mut Processor, ram: &mut Ram, p: PartId, most: u64) -> Gone
+pub(crate) fn step_part(
+    core: &mut Processor,
+    ram: &mut Ram,
+    table: &mut Rows,
+    p: PartId,
+    most: u64,
+) -> Gone
     requires { p < length ram.old.areas }
     ensures went { (stepped result.went (areas_at p ram.old) core.old (map_at p ram.old)).turn ≡ Turn.Went }
     ensures gone { IsGone result.turn result.went most (areas_at p ram.old) (stepped result.went (areas_at p ram.old) core.old (map_at p ram.old)) core.new (map_at p ram.new) }
@@ -182,14 +189,14 @@ pub(crate) fn step_part(core: &mut Processor, ram: &mut Ram, p: PartId, most: u6
     select(ram, p);
     // It is selected before and behind the steps.
     let _before = ram.selected();
-    let gone = go(core, ram, most);
+    let gone = go(core, ram, table, most);
     let _behind = ram.selected();
     gone
 }
 
 // The same over any memory. It stands by itself, so that the compiler has all host registers for the loop.
 #[inline(never)]
-fn go<B: Bus>(core: &mut Processor, bus: &mut B, most: u64) -> Gone
+fn go<B: HasWords>(core: &mut Processor, bus: &mut B, table: &mut Rows, most: u64) -> Gone
     ensures went { (stepped result.went (B.areas bus.old) core.old (B.memory bus.old)).turn ≡ Turn.Went }
     ensures gone { IsGone result.turn result.went most (B.areas bus.old) (stepped result.went (B.areas bus.old) core.old (B.memory bus.old)) core.new (B.memory bus.new) }
     ensures at { result.pc ≡ (stepped result.went (B.areas bus.old) core.old (B.memory bus.old)).core.pc }
@@ -197,12 +204,12 @@ fn go<B: Bus>(core: &mut Processor, bus: &mut B, most: u64) -> Gone
     ensures areas { B.areas bus.new ≡ B.areas bus.old }
     ensures others { B.others bus.new ≡ B.others bus.old }
 {
-    go_at_hand(core, bus, most)
+    go_at_hand(core, bus, table, most)
 }
 
-// The same with the registers at hand.
+// The same with the registers at hand. What a straight run leaves to others is a step of its own.
 #[inline(always)]
-fn go_at_hand<B: Bus>(own: &mut Processor, bus: &mut B, most: u64) -> Gone
+fn go_at_hand<B: HasWords>(own: &mut Processor, bus: &mut B, table: &mut Rows, most: u64) -> Gone
     ensures went { (stepped result.went (B.areas bus.old) own.old (B.memory bus.old)).turn ≡ Turn.Went }
     ensures gone { IsGone result.turn result.went most (B.areas bus.old) (stepped result.went (B.areas bus.old) own.old (B.memory bus.old)) own.new (B.memory bus.new) }
     ensures at { result.pc ≡ (stepped result.went (B.areas bus.old) own.old (B.memory bus.old)).core.pc }
@@ -212,7 +219,15 @@ fn go_at_hand<B: Bus>(own: &mut Processor, bus: &mut B, most: u64) -> Gone
 {
     let mut left = most;
     while left > 0 {
+        left -= run(own, bus, table, left);
         let pc = own.pc();
+        if left == 0 {
+            return Gone {
+                went: most,
+                turn: Turn::Went,
+                pc,
+            };
+        }
         match settle_at_hand(own, bus) {
             Turn::Went => left -= 1,
             Turn::Trap(trap_type) => {

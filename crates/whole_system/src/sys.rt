@@ -33,6 +33,7 @@ use loaded_system::System;
 use sparc_step::Turn;
 use std::alloc::Global;
 use std::marker::Model;
+use straight_runs::Rows;
 use virt_traps::{IretFault, StackFault};
 use xef_images::Xef;
 use xm_base::{Memory, Mode, PartId};
@@ -46,6 +47,8 @@ pub struct Sys {
     inputs: Inputs,
     parts: Vec<PartState>,
     ram: Ram,
+    // What the loop over many steps keeps of words that it has executed. It says nothing of the system.
+    table: Rows,
     channels: Channels,
     plan_clock: PlanClock,
     time: u64,
@@ -79,12 +82,14 @@ impl Sys {
     {
         let ram = load(alloc, &system)?;
         let parts = boot_parts(alloc, &system)?;
+        let table = Rows::new(alloc)?;
         let channels = Channels::new(alloc, system.conf())?;
         Ok(Sys {
             system,
             inputs,
             parts,
             ram,
+            table,
             channels,
             plan_clock: PlanClock::start(),
             time: 0,
@@ -315,7 +320,13 @@ impl Sys {
         ensures aligned { result.pc % 4 ≡ 0 }
         ensures others { self.new ≡ with_machine (with_part p (with_turned (part_at p self.new.machine).core (memory_of p self.new.machine) (part_at p self.old.machine)) self.old.machine) self.old }
     {
-        step_part(&mut self.parts[usize::from(p)].core, &mut self.ram, p, most)
+        step_part(
+            &mut self.parts[usize::from(p)].core,
+            &mut self.ram,
+            &mut self.table,
+            p,
+            most,
+        )
     }
 
     /// Delivers a trap of a type to a partition, or answers that a window could not be spilled, and then nothing has changed. What is

@@ -1,5 +1,5 @@
 use Rattle.std.proofs.Common.{◌≡◌, ◌≤◌, ◌-◌}
-use Rattle.whole_system.proofs.StepLemmas.{AreSteps}
+use Rattle.straight_runs.specs.Runs.{AreSteps}
 use Rattle.whole_system.proofs.stepping.go_at_hand.Given as goal
 
 abbrev pub invariant-loop-left : goal.invariant-loop-left
