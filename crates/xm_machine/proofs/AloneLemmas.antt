@@ -7,7 +7,7 @@ use Rattle.machine_model.specs.Laws.{AllTicks, BootsAlone, OwnLines, part_at}
 use Rattle.machine_model.specs.Lines.{own, report}
 use Rattle.machine_model.specs.Machine.{Machine, run, start}
 use Rattle.machine_model.specs.View.{System}
-use Rattle.xm_machine.proofs.KeptLemmas.{step_halted}
+use Rattle.system_ticks.specs.KeptLemmas.{step_halted}
 use Rattle.xm_machine.specs.Alone.{AreAlone, AreBootedAlone, IsBootedAlone, RunsAlone}
 use Rattle.xm_machine.specs.Outcome.{IsRun, report_of}
 use Rattle.xm_machine.specs.Steps.{IsStep, IsStepCut}

@@ -10,7 +10,7 @@ use Rattle.machine_model.specs.Partition.{PartitionState}
 use Rattle.machine_model.specs.Told.{OwnTraffic, Sight, Unseen, reach_of}
 use Rattle.machine_model.specs.Traffic.{heard_as}
 use Rattle.machine_model.specs.View.{name_of}
-use Rattle.xm_machine.specs.Kept.{Kept, kept_cue, kept_in, kept_of, shown_to}
+use Rattle.system_ticks.specs.Kept.{Kept, kept_cue, kept_in, kept_of, shown_to}
 
 -- whether the tick of a partition is there
 is_its_tick : (b : Bool) (tick : Option LocalTick) → (b && is_some tick) ≡ is_some (if_its_turn b tick)

@@ -11,15 +11,15 @@ use Rattle.machine_model.specs.View.{System}
 use Rattle.slot_runs.specs.RunLemmas.{run_add}
 use Rattle.whole_system.specs.State.{SysState}
 use Rattle.xm_machine.specs.Cues.{AreCued, AreCuedUpTo, KeepsLast, KeepsUpTo, last_or, told_to}
-use Rattle.xm_machine.specs.Kept.{Kept, kept_after, kept_cue, kept_of, kept_unless}
+use Rattle.system_ticks.specs.Kept.{Kept, kept_after, kept_cue, kept_of, kept_unless}
 use Rattle.xm_machine.specs.Machine.{Meaning}
-use Rattle.xm_machine.specs.Span.{IsSpanDone}
+use Rattle.system_ticks.specs.Span.{IsSpanDone}
 use Rattle.xm_machine.specs.Stretch.{AreStepped, KeepsStepped, stepped_by}
-use Rattle.xm_machine.specs.declared.slot.Span.{Span}
+use Rattle.system_ticks.specs.declared.slot.Span.{Span}
 use Rattle.xm_machine.specs.declared.stretch.Stepped.{Stepped}
 use Rattle.xm_machine.proofs.CueLemmas.{kept_cues}
 use Rattle.xm_machine.proofs.GoingLemmas.{state_on}
-use Rattle.xm_machine.proofs.KeptLemmas.{ran_on, run_halted, ticks_exact}
+use Rattle.system_ticks.specs.KeptLemmas.{ran_on, run_halted, ticks_exact}
 
 -- a machine that has halted keeps what was kept before
 kept_halted : (count : ℕ) (g : Machine) (before : Kept) → g.halted ≡ true → kept_after g count before ≡ before

@@ -12,14 +12,14 @@ use Rattle.machine_model.specs.Structures.{flag}
 use Rattle.whole_system.specs.State.{SysState}
 use Rattle.slot_runs.specs.RunLemmas.{lines_add, run_add}
 use Rattle.xm_machine.proofs.FrontLemmas.{front_of_all}
-use Rattle.xm_machine.proofs.KeptLemmas.{run_halted, step_halted, ticks_exact, ticks_least}
+use Rattle.system_ticks.specs.KeptLemmas.{run_halted, step_halted, ticks_exact, ticks_least}
 use Rattle.xm_machine.specs.Outcome.{HasWriteCause, IsTick}
-use Rattle.xm_machine.specs.Quiet.{ends_stretch}
-use Rattle.xm_machine.specs.Span.{IsSpanDone, console_lines}
+use Rattle.system_ticks.specs.Quiet.{ends_stretch}
+use Rattle.system_ticks.specs.Span.{IsSpanDone, console_lines}
 use Rattle.xm_machine.specs.Steps.{AreCut, AreRun, IsStep, IsStepCut, Tells}
 use Rattle.xm_machine.specs.Stretch.{AreStepped, IsStretchCut, Steps, stepped_by}
-use Rattle.xm_machine.specs.Work.{act_of}
-use Rattle.xm_machine.specs.declared.slot.Span.{Span}
+use Rattle.system_ticks.specs.Work.{act_of}
+use Rattle.system_ticks.specs.declared.slot.Span.{Span}
 
 -- the lines of a run, and of more ticks
 texts_add : (g mid : Machine) (j k : ℕ) → mid ≡ run g j → texts (lines g (j + k)) ≡ texts (lines g j) ++ texts (lines mid k)

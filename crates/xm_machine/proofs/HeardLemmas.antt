@@ -28,10 +28,11 @@ use Rattle.machine_model.specs.View.{System, part_of, view_of}
 use Rattle.machine_model.specs.Whole.{AllHalted, AllReset, NoEvent, WholeEvent, event_lines, whole_lines}
 use Rattle.slot_runs.specs.RunLemmas.{console_add, run_add}
 use Rattle.xm_machine.proofs.GoingLemmas.{lines_halted, state_on}
-use Rattle.xm_machine.proofs.KeptLemmas.{step_halted, ticks_exact}
-use Rattle.xm_machine.specs.Heard.{IsOther, IsRunHeard, console_to, line_to, lines_to}
-use Rattle.xm_machine.specs.Span.{IsSpanDone, console_lines}
-use Rattle.xm_machine.specs.declared.slot.Span.{Span}
+use Rattle.system_ticks.specs.KeptLemmas.{step_halted, ticks_exact}
+use Rattle.system_ticks.specs.TickLines.{IsOther}
+use Rattle.xm_machine.specs.Heard.{IsRunHeard, console_to, line_to, lines_to}
+use Rattle.system_ticks.specs.Span.{IsSpanDone, console_lines}
+use Rattle.system_ticks.specs.declared.slot.Span.{Span}
 
 -- nothing, whatever is asked
 if_none : (b : Bool) (bytes : List ℕ) → bytes ≡ [] → (if b then bytes else []) ≡ []

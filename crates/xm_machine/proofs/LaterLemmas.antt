@@ -16,12 +16,12 @@ use Rattle.machine_model.specs.Told.{Act}
 use Rattle.machine_model.specs.View.{System}
 use Rattle.machine_model.specs.Whole.{event_of, time_after}
 use Rattle.slot_runs.specs.RunLemmas.{run_more}
-use Rattle.xm_machine.specs.Place.{IsAt, past, place_after}
-use Rattle.xm_machine.specs.Quiet.{ends_in, ends_stretch}
+use Rattle.system_ticks.specs.Place.{IsAt, past, place_after}
+use Rattle.system_ticks.specs.Quiet.{ends_in, ends_stretch}
 use Rattle.xm_machine.specs.Stretch.{AreStepped}
-use Rattle.xm_machine.specs.declared.place.Place.{Place}
+use Rattle.system_ticks.specs.declared.place.Place.{Place}
 use Rattle.xm_machine.specs.declared.stretch.Stepped.{Stepped}
-use Rattle.xm_machine.proofs.PlaceLemmas.{runs_now, told_so}
+use Rattle.system_ticks.specs.PlaceLemmas.{runs_now, told_so}
 use Rattle.xm_machine.proofs.StretchLemmas.{AllQuiet, all_quiet, quiet_runs}
 
 -- an act that ends no stretch leaves the plan clock to itself, and the hardware clock goes on

@@ -1,82 +1,15 @@
--- The bytes that a note names are few, and they are what is kept of it.
-use Rattle.std.proofs.Common.{◌≡◌, ℕ, ◌+◌, ◌≤◌, Bool, List, length, Option, None, Some, refl, sym, ap, subst, ◌∙◌, arith}
+-- What is kept of ticks of one slot or gap.
+use Rattle.std.proofs.Common.{◌≡◌, ℕ, List, Option, sym, ap, ◌∙◌}
 use Rattle.std.specs.Prelude.{◌-◌}
 use Rattle.cyclic_plans.specs.PlanClock.{here}
 use Rattle.cyclic_plans.specs.declared.slots.Here.{Here}
-use Rattle.guest_bus.specs.Memory.{Memory, bytes_at}
-use Rattle.guest_bus.specs.MemoryLemmas.{length-bytes_at}
-use Rattle.xm_base.specs.declared.limits.TheConstants.{TICKS}
 use Rattle.xm_report.specs.Report.{ReportLine}
-use Rattle.machine_model.specs.Facts.{KeepsClocked, KeepsFacts, KeepsNumbers, KeepsTimed}
-use Rattle.machine_model.specs.Lengths.{PutsAtMost, PutsFewBytes, ShowsAtMost, ShowsFewBytes}
-use Rattle.machine_model.specs.Machine.{Machine, Turn, happened, run, sight, turn_here, turn_of}
+use Rattle.machine_model.specs.Machine.{Machine, Turn, run, turn_here, turn_of}
 use Rattle.slot_runs.specs.Calm.{turn_after}
-use Rattle.whole_system.specs.Serving.{sight_by, traffic_by}
-use Rattle.whole_system.specs.State.{SysState, memory_of, with_machine}
-use Rattle.whole_system.specs.declared.served.Note.{Note}
-use Rattle.whole_system.specs.declared.served.Note.TheVariants as note
-use Rattle.xm_machine.specs.Kept.{Kept, bytes_noted, kept_by, kept_in, kept_of, kept_with, shown_to}
-use Rattle.xm_machine.specs.Machine.{IsMachine}
-use Rattle.xm_machine.specs.Span.{IsSpanDone}
-use Rattle.xm_machine.specs.declared.beyond.Beyond.{Beyond}
-use Rattle.xm_machine.specs.declared.slot.Span.{Span}
-use Rattle.xm_machine.proofs.KeptLemmas.{kept_ticks}
-
--- what is kept of a tick names the bytes of its note
-with_bytes : (turn : Option Turn) (worked : Bool) (a_note : Note) (reach : Beyond) (memory : Memory)
-    → kept_with turn worked a_note reach (bytes_noted a_note memory) ≡ kept_by turn worked a_note reach memory
-with_bytes turn worked note.Nothing reach memory = refl
-with_bytes turn worked (note.Console at size) reach memory = refl
-with_bytes turn worked (note.Trace entry) reach memory = refl
-with_bytes turn worked (note.Put chan at size) reach memory = refl
-with_bytes turn worked (note.Take chan) reach memory = refl
-with_bytes turn worked (note.Saw at size) reach memory = refl
-with_bytes turn worked note.NotKept reach memory = refl
-
--- what is kept in another form
-pub kept_so : (one other : Option Turn) (worked : Bool) (a_note : Note) (reach : Beyond) (bytes : List ℕ) (memory : Memory) → one ≡ other → bytes ≡ bytes_noted a_note memory
-    → kept_with one worked a_note reach bytes ≡ kept_by other worked a_note reach memory
-kept_so one other worked a_note reach bytes memory turn_is bytes_are =
-    ap (λ (t : Option Turn). kept_with t worked a_note reach bytes) turn_is
-    ∙ ap (λ (b : List ℕ). kept_with other worked a_note reach b) bytes_are
-    ∙ with_bytes other worked a_note reach memory
-
--- they are few
-few_bytes : (a_note : Note) (memory : Memory) → PutsAtMost 4096 (traffic_by a_note memory) → ShowsAtMost 24 (sight_by a_note memory) → length (bytes_noted a_note memory) ≤ 4096
-few_bytes note.Nothing memory puts shows = omega arith
-few_bytes (note.Console at size) memory puts shows = omega arith
-few_bytes (note.Trace entry) memory puts shows = omega arith
-few_bytes (note.Put chan at size) memory puts shows = puts
-few_bytes (note.Take chan) memory puts shows = omega arith
-few_bytes (note.Saw at size) memory puts shows = omega (arith, shows)
-few_bytes note.NotKept memory puts shows = omega arith
-
--- bytes that are few are as many as were asked for
-pub as_many : (memory : Memory) (at size most : ℕ) → length (bytes_at memory at size) ≤ most → size ≤ most
-as_many memory at size most few = omega (arith, few, length-bytes_at memory at size)
-
--- the traffic that is kept, and what was shown
-traffic_kept : (m : Machine) → (kept_of m).traffic ≡ (happened m).traffic
-unfolding kept_of kept_in
-traffic_kept m = refl
-
-seen_kept : (m : Machine) → ((p : ℕ) → ShowsAtMost 24 (sight m p)) → ShowsAtMost 24 (kept_of m).seen
-unfolding kept_of kept_in
-seen_kept m few = at (turn_of m)
-  where
-    at : (turn : Option Turn) → ShowsAtMost 24 (shown_to m turn)
-    at None = tt
-    at (Some turn) = few turn.part
-
--- the bytes that a span's note names are few
-pub few_noted : PutsFewBytes → ShowsFewBytes → KeepsFacts → KeepsTimed → KeepsNumbers → KeepsClocked → (span : Span) (most : ℕ) (old new : SysState) (got : List ReportLine)
-    → IsMachine old → IsSpanDone span most old new got → old.machine.ticks + most ≤ TICKS → length (bytes_noted span.note (memory_of span.part new.machine)) ≤ 4096
-few_noted puts shows facts timed numbers clocked span most old new got is done room =
-    let m : Machine = run old.machine (span.ticks - 1) in
-    let before : IsMachine (with_machine m old) = kept_ticks facts timed numbers clocked old (with_machine m old) (span.ticks - 1) most is refl (omega (arith, done.within)) room in
-    few_bytes span.note (memory_of span.part new.machine)
-    (subst (PutsAtMost 4096) (sym (traffic_kept m) ∙ ap (λ (k : Kept). k.traffic) done.kept) (puts m before.fits))
-    (subst (ShowsAtMost 24) (ap (λ (k : Kept). k.seen) done.kept) (seen_kept m (λ p. shows m p before.counted.facts)))
+use Rattle.whole_system.specs.State.{SysState, memory_of}
+use Rattle.system_ticks.specs.Kept.{Kept, kept_by, kept_of}
+use Rattle.system_ticks.specs.Span.{IsSpanDone}
+use Rattle.system_ticks.specs.declared.slot.Span.{Span}
 
 -- whose slot it is
 pub turn_at : (g : Machine) (slot : Option Here) → slot ≡ here g.system.conf g.clock g.time → turn_here slot ≡ turn_of g

@@ -17,16 +17,16 @@ use Rattle.machine_model.specs.Whole.{event_of}
 use Rattle.slot_runs.specs.RunLemmas.{run_add, run_more}
 use Rattle.xm_machine.specs.Alone.{AreAlone, AreAloneUpTo}
 use Rattle.xm_machine.specs.Cues.{AreCued, AreCuedUpTo, KeepsLast}
-use Rattle.xm_machine.specs.Kept.{kept_after}
+use Rattle.system_ticks.specs.Kept.{kept_after}
 use Rattle.xm_machine.specs.Machine.{Meaning}
-use Rattle.xm_machine.specs.Quiet.{AreQuiet, ends_in, ends_stretch}
+use Rattle.system_ticks.specs.Quiet.{AreQuiet, ends_in, ends_stretch}
 use Rattle.xm_machine.specs.Steps.{AreRun}
 use Rattle.xm_machine.specs.Stretch.{AreStepped, IsLeast, IsStretchCut, IsStretched, left_of}
 use Rattle.xm_machine.specs.declared.stretch.Stepped.{Stepped}
 use Rattle.xm_machine.proofs.AloneLemmas.{ticks_alone}
 use Rattle.xm_machine.proofs.CuedLemmas.{cued, kept_add}
 use Rattle.xm_machine.proofs.GoingLemmas.{cut_on, run_on, state_on}
-use Rattle.xm_machine.proofs.KeptLemmas.{ticks_exact}
+use Rattle.system_ticks.specs.KeptLemmas.{ticks_exact}
 
 -- an act that ends no stretch does not halt the hypervisor
 no_halt : (act : Act) → ends_stretch act ≡ false → is_halt (event_of act) ≡ false

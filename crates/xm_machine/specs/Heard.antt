@@ -1,5 +1,5 @@
 -- What the UARTs of a board get in ticks of the machine.
-use Rattle.std.specs.Prelude.{◌≡◌, ℕ, ⊤, if◌then◌else◌, List, []}
+use Rattle.std.specs.Prelude.{◌≡◌, ℕ, if◌then◌else◌, List, []}
 use Rattle.std.specs.List.{flat_map}
 use Rattle.uart_board.specs.Heard.{IsHeard}
 use Rattle.uart_board.specs.Views.{BoardView}
@@ -26,18 +26,6 @@ line_to g uart (EndWhole halted plan clock ticks) = []
 -- what lines say to each UART
 abbrev pub lines_to : Machine → List ReportLine → ℕ → List ℕ
 lines_to g lines uart = flat_map (line_to g uart) lines
-
--- a line that tells no console bytes
-abbrev pub IsOther : ReportLine → Type 0
-IsOther (SystemLine parts plans ticks) = ⊤
-IsOther (ConsoleLine n p bytes) = ⊥
-IsOther (HealthLine n p event word action) = ⊤
-IsOther (TraceLine n p bits load) = ⊤
-IsOther (MovedLine n p to) = ⊤
-IsOther (WholeLine n to) = ⊤
-IsOther (PlanLine n plan) = ⊤
-IsOther (EndPart p state resets exec pc) = ⊤
-IsOther (EndWhole halted plan clock ticks) = ⊤
 
 -- from one state of the machine to another each UART got the console bytes of the ticks done, whatever number of ticks leads there
 abbrev pub IsRunHeard : Machine → Machine → BoardView → BoardView → Type 0

@@ -1,13 +1,7 @@
 pub mod Alone
-pub mod CueValues
 pub mod Cues
 pub mod Heard
-pub mod Kept
 pub mod Machine
 pub mod Outcome
-pub mod Place
-pub mod Quiet
-pub mod Span
 pub mod Steps
 pub mod Stretch
-pub mod Work

@@ -13,26 +13,21 @@ ghost use Rattle.machine_model.specs.View.{view_of};
 ghost use Rattle.slot_runs.specs.Passes.{evented, part_at, with_part};
 ghost use Rattle.uart_board.specs.Heard.{IsHeard};
 ghost use Rattle.xm_machine.specs.Alone.{AreAlone, AreBootedAlone, RunsAlone};
-ghost use Rattle.xm_machine.specs.CueValues.{cue_value};
+ghost use Rattle.system_ticks.specs.CueValues.{cue_value};
 ghost use Rattle.xm_machine.specs.Cues.{AreCued, KeepsTicks, RunsCued, told_to};
 ghost use Rattle.xm_machine.specs.Heard.{IsRunHeard};
-ghost use Rattle.xm_machine.specs.Kept.{no_kept};
-ghost use Rattle.xm_machine.specs.Machine.{IsCounted};
+ghost use Rattle.system_ticks.specs.Kept.{no_kept};
+ghost use Rattle.system_ticks.specs.Machine.{IsCounted};
 ghost use Rattle.xm_machine.specs.Outcome.{HasWriteCause, IsRun, IsTick, first_line, last_line};
-ghost use Rattle.xm_machine.specs.Place.{IsAt};
+ghost use Rattle.system_ticks.specs.Place.{IsAt};
 ghost use Rattle.xm_machine.specs.Steps.{RunsTicks, Tells};
 ghost use Rattle.xm_machine.specs.Stretch.{AreWhole, KeepsStepped, Steps, Stretches, StretchesAlone, StretchesCued, left_of};
 ghost use Rattle.xm_ports.specs.Channels.{shapes_of};
 ghost use Rattle.xm_report.specs.Report.{line_of};
 
-use crate::cue::Cue;
-use crate::kept::Kept;
-use crate::lines::Lines;
-use crate::place::{Place, later, place_of};
 use crate::report::{end_parts, tell};
 use crate::run::Ran;
 use crate::stretch::{Stepped, ends_stretch, stepped_by};
-use crate::{ending, order};
 use core_files::{core_into, core_length};
 use cyclic_plans::PlanClock;
 use hypercalls::{Inputs, Sys};
@@ -43,6 +38,7 @@ use machine_model::{
 };
 use std::alloc::Global;
 use std::marker::Model;
+use system_ticks::{Cue, Kept, Lines, Place, later, reset, reset_all};
 use uart_board::{Board, ViewBoard};
 use xm_base::{Memory, Mode, PartId, TICKS};
 use xm_outside::Sink;
@@ -60,7 +56,8 @@ pub struct Machine {
 impl Model for Machine {
     ghost use Rattle.std.specs.Coded.{codes};
     ghost use Rattle.guest_bus.specs.Memory.{memory_code};
-    ghost use Rattle.xm_machine.specs.Machine.{IsMachine, Meaning};
+    ghost use Rattle.system_ticks.specs.Machine.{IsMachine};
+    ghost use Rattle.xm_machine.specs.Machine.{Meaning};
 
     ghost Value = { Meaning };
 
@@ -233,7 +230,7 @@ impl Machine {
         ensures value { self.new.state ≡ with_part p (reset (view_of self.old.state.system p) mode status (part_at p self.old.state)) self.old.state }
         ensures kept { self.new.kept ≡ self.old.kept }
     {
-        order::reset(&mut self.sys, p, mode, status);
+        reset(&mut self.sys, p, mode, status);
     }
 
     /// Resets all partitions and the hypervisor: the hardware clock and the plans begin anew, and the channels are empty.
@@ -242,7 +239,7 @@ impl Machine {
         ensures value { self.new.state ≡ record (evented (AllReset mode) self.old.state) { clock = started; time = 0 } }
         ensures kept { self.new.kept ≡ self.old.kept }
     {
-        ending::reset_all(&mut self.sys, mode);
+        reset_all(&mut self.sys, mode);
         *self.sys.plan_clock_mut() = PlanClock::start();
         self.sys.set_now(0);
     }
@@ -264,7 +261,7 @@ impl Machine {
         ensures heard { IsRunHeard self.old.state self.new.state (⟦<Board as ViewBoard>⟧.board_view board.old) (⟦<Board as ViewBoard>⟧.board_view board.new) }
         ensures counters { IsCounted self.new.state }
     {
-        let place = place_of(&self.sys, self.kept.slot_number());
+        let place = self.kept.place_of(&self.sys);
         self.step_at(place, most, out, board)
     }
 
@@ -331,7 +328,7 @@ impl Machine {
         ensures counters { IsCounted self.new.state }
     {
         keeps_numbers();
-        let mut place = place_of(&self.sys, self.kept.slot_number());
+        let mut place = self.kept.place_of(&self.sys);
         let left = most.min(place.left);
         let mut ticks = 0;
         let mut lines = 0;

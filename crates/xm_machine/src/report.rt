@@ -13,11 +13,11 @@ ghost use Rattle.uart_board.specs.Heard.{IsHeard};
 ghost use Rattle.xm_machine.specs.Heard.{console_to, lines_to};
 ghost use Rattle.xm_machine.specs.Outcome.{HasWriteCause};
 ghost use Rattle.xm_machine.specs.Steps.{Tells};
-ghost use Rattle.xm_machine.specs.Work.{console_told};
+ghost use Rattle.system_ticks.specs.Work.{console_told};
 ghost use Rattle.xm_report.specs.Report.{IsShort, line_of};
 
-use crate::lines::Lines;
 use hypercalls::{Note, Sys};
+use system_ticks::Lines;
 use uart_board::{Board, ViewBoard};
 use whole_system::read_memory;
 use xm_base::{CONSOLE_BYTES, PartId};

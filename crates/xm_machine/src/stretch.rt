@@ -2,12 +2,12 @@
 
 ghost use Rattle.std.specs.Prelude.{◌≡◌};
 ghost use Rattle.machine_model.specs.Health.{done_to_all};
-ghost use Rattle.xm_machine.specs.Quiet.{ends_stretch};
+ghost use Rattle.system_ticks.specs.Quiet.{ends_stretch};
 ghost use Rattle.xm_machine.specs.Stretch.{stepped_by};
-ghost use Rattle.xm_machine.specs.Work.{act_of};
+ghost use Rattle.system_ticks.specs.Work.{act_of};
 
-use crate::beyond::Beyond;
 use health_monitor::Whole;
+use system_ticks::Beyond;
 use xm_report::WriteFault;
 
 /// Ticks of a stretch that were done.

@@ -1,4 +1,4 @@
-use Rattle.xm_machine.proofs.KeptLemmas.{kept_reset_all}
+use Rattle.system_ticks.specs.KeptLemmas.{kept_reset_all}
 use Rattle.xm_machine.proofs.machine.Machine.reset_all.Goals as goal
 
 pub invariant_of-self : goal.invariant_of-self

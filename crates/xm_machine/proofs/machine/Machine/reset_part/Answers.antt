@@ -1,6 +1,6 @@
 use Rattle.std.proofs.Common.{subst, sym}
-use Rattle.xm_machine.specs.Machine.{IsMachine}
-use Rattle.xm_machine.proofs.KeptLemmas.{kept_reset}
+use Rattle.system_ticks.specs.Machine.{IsMachine}
+use Rattle.system_ticks.specs.KeptLemmas.{kept_reset}
 use Rattle.xm_machine.proofs.machine.Machine.reset_part.Goals as goal
 
 pub invariant_of-self : goal.invariant_of-self

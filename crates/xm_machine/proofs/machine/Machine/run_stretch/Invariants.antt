@@ -1,8 +1,8 @@
 use Rattle.std.proofs.Common.{◌≡◌, ◌+◌, ◌-◌, ◌<◌, ◌≤◌, false}
 use Rattle.uart_board.specs.contracts.views.BoardViewBoard.TheImpl.{ghosts}
 use Rattle.xm_machine.specs.Heard.{IsRunHeard}
-use Rattle.xm_machine.specs.Machine.{IsCounted}
-use Rattle.xm_machine.specs.Place.{IsAt}
+use Rattle.system_ticks.specs.Machine.{IsCounted}
+use Rattle.system_ticks.specs.Place.{IsAt}
 use Rattle.xm_machine.proofs.StretchLemmas.{GoesStretch}
 use Rattle.xm_machine.proofs.machine.Machine.run_stretch.Given as goal
 

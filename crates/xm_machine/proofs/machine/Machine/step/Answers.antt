@@ -1,6 +1,6 @@
 use Rattle.std.proofs.Common.{subst}
 use Rattle.xm_machine.specs.Machine.{Meaning}
-use Rattle.xm_machine.specs.Place.{IsAt}
+use Rattle.system_ticks.specs.Place.{IsAt}
 use Rattle.xm_machine.proofs.machine.Machine.step.Goals as goal
 
 pub step_at-requires-clause-place : goal.step_at-requires-clause-place

@@ -1,0 +1,11 @@
+pub mod CueValues
+pub mod Kept
+pub mod KeptLemmas
+pub mod ListLemmas
+pub mod Machine
+pub mod Place
+pub mod PlaceLemmas
+pub mod Quiet
+pub mod Span
+pub mod TickLines
+pub mod Work

@@ -1,0 +1,217 @@
+//! What one partition is told in a tick.
+
+ghost use Rattle.std.specs.Prelude.{◌≡◌, ◌<◌, ◌≤◌, length};
+ghost use Rattle.machine_model.specs.Cue.{slot_of};
+ghost use Rattle.machine_model.specs.Lists.{is_number};
+ghost use Rattle.machine_model.specs.Machine.{is_turn_of, order_for, turn_here};
+ghost use Rattle.machine_model.specs.Told.{reach_of};
+ghost use Rattle.machine_model.specs.Traffic.{heard_as, own_puts_at, own_takes_at};
+ghost use Rattle.machine_model.specs.View.{name_of, part_of};
+ghost use Rattle.machine_model.specs.Whole.{event_of};
+ghost use Rattle.xm_conf.specs.View.{channel_of};
+ghost use Rattle.system_ticks.specs.CueValues.{sight_value, slot_value, traffic_value, whole_value};
+ghost use Rattle.system_ticks.specs.Kept.{sight_with, traffic_with};
+ghost use Rattle.system_ticks.specs.Work.{act_of};
+
+use crate::beyond::Beyond;
+use cyclic_plans::Here;
+use health_monitor::Whole;
+use hypercalls::Note;
+use xm_base::{Mode, Order, PartId};
+use xm_conf::{Conf, Part};
+
+/// Whose slot a tick is in, as one partition sees it.
+#[derive(Clone, Copy, Debug, PartialEq, Eq)]
+pub enum Mine {
+    /// Not its own.
+    Away,
+    /// Its own, which begins with this tick or did before, whether or not the partition takes turns.
+    Mine { first: bool },
+}
+
+/// What others did to a channel of the partition, which goes by the partition's name for it: its lowest port on the channel.
+#[derive(Clone, Copy, Debug, PartialEq, Eq)]
+pub enum Traffic<'a> {
+    /// Nothing.
+    Nothing,
+    /// A message was put.
+    Put { chan: u8, bytes: &'a [u8] },
+    /// The first message was taken.
+    Take { chan: u8 },
+}
+
+/// What was done to the whole system.
+#[derive(Clone, Copy, Debug, PartialEq, Eq)]
+pub enum WholeCue {
+    /// Nothing.
+    Nothing,
+    /// A cold reset.
+    Cold,
+    /// A warm reset.
+    Warm,
+    /// It halted.
+    Halt,
+}
+
+/// What an observing call of the partition was shown.
+#[derive(Clone, Copy, Debug, PartialEq, Eq)]
+pub enum Sight<'a> {
+    /// Nothing.
+    Nothing,
+    /// That an entry is not kept.
+    NotKept,
+    /// These bytes.
+    Words(&'a [u8]),
+}
+
+/// All that one partition is told of the others in a tick.
+#[derive(Clone, Copy, Debug, PartialEq, Eq)]
+pub struct Cue<'a> {
+    pub mine: Mine,
+    pub traffic: Traffic<'a>,
+    /// The order that another partition gave it.
+    pub order: Option<Order>,
+    pub whole: WholeCue,
+    pub seen: Sight<'a>,
+}
+
+/// Whether a tick is in a slot of partition `p`.
+pub(crate) fn is_slot_of(slot: Option<Here>, p: PartId) -> bool
+    ensures { result ≡ is_turn_of (turn_here slot) p }
+{
+    match slot {
+        Some(slot) => slot.part == p,
+        None => false,
+    }
+}
+
+/// Whose slot a tick is in, as partition `p` sees it.
+pub(crate) fn mine_of(slot: Option<Here>, p: PartId) -> Mine
+    ensures { slot_value result ≡ slot_of (turn_here slot) p }
+{
+    match slot {
+        Some(slot) => {
+            if slot.part == p {
+                Mine::Mine { first: slot.first }
+            } else {
+                Mine::Away
+            }
+        }
+        None => Mine::Away,
+    }
+}
+
+/// The traffic that a note tells with these bytes, as partition `p` hears of it: on a channel of its own, under its name for it.
+pub(crate) fn traffic_heard<'a>(conf: &Conf, p: PartId, note: Note, bytes: &'a [u8]) -> Traffic<'a>
+    requires { p < length conf.now.parts }
+    ensures { traffic_value result ≡ heard_as (name_of conf.now p) (traffic_with note bytes.now) }
+{
+    match note {
+        Note::Put { chan, .. } => put_heard(name_of(conf, p, chan), bytes),
+        Note::Take { chan } => take_heard(name_of(conf, p, chan)),
+        Note::Nothing | Note::Console { .. } | Note::Trace(_) | Note::Saw { .. } | Note::NotKept =>
+            Traffic::Nothing,
+    }
+}
+
+// A message that was put, where its channel has a name.
+fn put_heard(name: Option<u8>, bytes: &[u8]) -> Traffic<'_>
+    ensures { traffic_value result ≡ own_puts_at name bytes.now }
+{
+    match name {
+        Some(chan) => Traffic::Put { chan, bytes },
+        None => Traffic::Nothing,
+    }
+}
+
+// A message that was taken, where its channel has a name.
+fn take_heard(name: Option<u8>) -> Traffic<'static>
+    ensures { traffic_value result ≡ own_takes_at name }
+{
+    match name {
+        Some(chan) => Traffic::Take { chan },
+        None => Traffic::Nothing,
+    }
+}
+
+/// The order upon partition `p`.
+pub(crate) fn order_for(reach: Beyond, p: PartId) -> Option<Order>
+    ensures { result ≡ order_for (reach_of (act_of reach)).directed p }
+{
+    match reach {
+        Beyond::Order { id, order } => { if id == p { Some(order) } else { None } }
+        Beyond::Whole(Whole::Nothing | Whole::Reset(_) | Whole::Halt | Whole::Maintenance) => None,
+        Beyond::Nothing | Beyond::Plan { .. } => None,
+    }
+}
+
+/// What was done to the whole system. The maintenance plan is told nobody.
+pub(crate) fn whole_of(reach: Beyond) -> WholeCue
+    ensures { whole_value result ≡ event_of (act_of reach) }
+{
+    match reach {
+        Beyond::Whole(Whole::Reset(Mode::Cold)) => WholeCue::Cold,
+        Beyond::Whole(Whole::Reset(Mode::Warm)) => WholeCue::Warm,
+        Beyond::Whole(Whole::Halt) => WholeCue::Halt,
+        Beyond::Whole(Whole::Nothing | Whole::Maintenance) => WholeCue::Nothing,
+        Beyond::Nothing | Beyond::Order { .. } | Beyond::Plan { .. } => WholeCue::Nothing,
+    }
+}
+
+/// What a note tells with these bytes of what its partition was shown.
+pub(crate) fn sight_of(note: Note, bytes: &[u8]) -> Sight<'_>
+    ensures { sight_value result ≡ sight_with note bytes.now }
+{
+    match note {
+        Note::Saw { .. } => Sight::Words(bytes),
+        Note::NotKept => Sight::NotKept,
+        Note::Nothing
+        | Note::Console { .. }
+        | Note::Trace(_)
+        | Note::Put { .. }
+        | Note::Take { .. } => Sight::Nothing,
+    }
+}
+
+// Partition `p`'s name for a channel: its lowest port on it.
+fn name_of(conf: &Conf, p: PartId, chan: u8) -> Option<u8>
+    requires { p < length conf.now.parts }
+    ensures { result ≡ name_of conf.now p chan }
+{
+    let ports = port_count(conf, p);
+    let mut port = 0;
+    while port < ports {
+        if is_on(conf, p, port, chan) {
+            return Some(port);
+        }
+        port += 1;
+    }
+    None
+}
+
+// How many ports a partition has.
+fn port_count(conf: &Conf, p: PartId) -> u8
+    requires { p < length conf.now.parts }
+    ensures { result ≡ length (part_of conf.now p).ports }
+{
+    configured(conf, p).ports.len() as u8
+}
+
+// What the configuration says of a partition.
+fn configured(conf: &Conf, p: PartId) -> &Part
+    requires { p < length conf.now.parts }
+    ensures value { result.now ≡ part_of conf.now p }
+    ensures few { length result.now.ports ≤ 32 }
+{
+    &conf.raw().parts[usize::from(p)]
+}
+
+// Whether a port is on a channel.
+fn is_on(conf: &Conf, p: PartId, port: u8, chan: u8) -> bool
+    ensures { result ≡ is_number (channel_of conf.now p port) chan }
+{
+    match conf.channel_of(p, port) {
+        Some(number) => number == chan,
+        None => false,
+    }
+}

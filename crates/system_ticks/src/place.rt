@@ -1,0 +1,148 @@
+//! Where in its plan a machine stands: whose slot it is, and how many ticks are left of it.
+
+ghost use Rattle.std.specs.Prelude.{◌≡◌, ℕ, ◌+◌, ◌<◌, ◌≤◌, IfSome, length, slice_get};
+ghost use Rattle.cyclic_plans.specs.PlanClock.{IsInFrame, here, moment, slot_at, ticks_left};
+ghost use Rattle.cyclic_plans.specs.Slots.{IsHere, frame_of, slots_of};
+ghost use Rattle.system_ticks.specs.Machine.{IsMachine};
+ghost use Rattle.system_ticks.specs.Place.{IsPlace, past, place_after, place_in, place_numbered};
+
+use cyclic_plans::Here;
+use hypercalls::Sys;
+use xm_conf::{Plan, Slot};
+
+/// Whose slot it is, or `None` in a gap, and how many ticks are left of the slot or gap, with the one at hand.
+#[derive(Clone, Copy, Debug)]
+pub struct Place {
+    /// The slot, or `None` in a gap.
+    pub slot: Option<Here>,
+    /// The ticks that are left of it, with the one at hand: at least one.
+    pub left: u64,
+}
+
+/// The place of a machine in its plan. The slot of a number and the one behind it are looked at first, so that one slot after another is
+/// found without a search.
+pub(crate) fn place_of(sys: &Sys, number: u8) -> Place
+    requires { IsMachine sys.now }
+    ensures { IsPlace result sys.now.machine }
+{
+    match near(sys, number) {
+        Some(place) => place,
+        None => search(sys),
+    }
+}
+
+/// The place so many ticks later, in the same slot or gap, whose first tick it then is not. Where as many are left or fewer, none is.
+pub fn later(place: Place, ticks: u64) -> Place
+    ensures { result ≡ place_after ticks place }
+{
+    let slot = match place.slot {
+        Some(slot) => Some(past(slot)),
+        None => None,
+    };
+    Place {
+        slot,
+        left: place.left.saturating_sub(ticks),
+    }
+}
+
+// What is told of a slot past its first tick.
+fn past(slot: Here) -> Here
+    ensures { result ≡ past slot }
+{
+    Here {
+        slot: slot.slot,
+        part: slot.part,
+        first: false,
+    }
+}
+
+// The place, where the slot of this number runs, or the one behind it.
+fn near(sys: &Sys, number: u8) -> Option<Place>
+    requires { IsMachine sys.now }
+    ensures { IfSome result (λ place. IsPlace place sys.now.machine) }
+{
+    let moment = moment(sys);
+    let plan = plan_here(sys);
+    match in_slot(moment, &plan.slots, number) {
+        Some(place) => Some(place),
+        None => in_slot(moment, &plan.slots, number.wrapping_add(1)),
+    }
+}
+
+// The place, by a search of all slots.
+fn search(sys: &Sys) -> Place
+    requires { IsMachine sys.now }
+    ensures { IsPlace result sys.now.machine }
+{
+    Place {
+        slot: here(sys),
+        left: ticks_left(sys),
+    }
+}
+
+// How far the next tick is into the frame.
+fn moment(sys: &Sys) -> u64
+    requires { IsInFrame sys.now.machine.system.conf sys.now.machine.clock sys.now.machine.time }
+    ensures { result ≡ moment sys.now.machine.clock sys.now.machine.time }
+{
+    sys.now() - sys.plan_clock().frame_start()
+}
+
+// The plan that runs.
+fn plan_here(sys: &Sys) -> &Plan
+    requires { IsInFrame sys.now.machine.system.conf sys.now.machine.clock sys.now.machine.time }
+    ensures { result.now.slots ≡ slots_of sys.now.machine.system.conf sys.now.machine.clock.plan }
+{
+    let plan = sys.plan_clock().plan();
+    &sys.conf().raw().plans[usize::from(plan)]
+}
+
+// The place, where the slot of this number runs at a moment of the frame.
+fn in_slot(moment: u64, slots: &[Slot], number: u8) -> Option<Place>
+    ensures { result ≡ place_numbered moment number (slice_get slots.now number) }
+{
+    match slots.get(usize::from(number)) {
+        Some(slot) => place_in(moment, number, slot),
+        None => None,
+    }
+}
+
+// The place in a slot, where it runs at a moment of the frame.
+fn place_in(moment: u64, number: u8, slot: &Slot) -> Option<Place>
+    ensures { result ≡ place_in moment number slot.now }
+{
+    let start = u64::from(slot.start);
+    let end = start + u64::from(slot.duration);
+    if start <= moment && moment < end {
+        Some(Place {
+            slot: Some(Here {
+                slot: number,
+                part: slot.part,
+                first: start == moment,
+            }),
+            left: end - moment,
+        })
+    } else {
+        None
+    }
+}
+
+// Whose slot it is, or `None` in a gap.
+fn here(sys: &Sys) -> Option<Here>
+    requires { IsInFrame sys.now.machine.system.conf sys.now.machine.clock sys.now.machine.time }
+    ensures value { result ≡ here sys.now.machine.system.conf sys.now.machine.clock sys.now.machine.time }
+    ensures covers { IfSome result (IsHere (moment sys.now.machine.clock sys.now.machine.time) (slots_of sys.now.machine.system.conf sys.now.machine.clock.plan)) }
+{
+    sys.plan_clock().here(sys.conf(), sys.now())
+}
+
+// How many ticks are left of the slot or gap that it is, with the next.
+fn ticks_left(sys: &Sys) -> u64
+    requires { IsInFrame sys.now.machine.system.conf sys.now.machine.clock sys.now.machine.time }
+    ensures value { result ≡ ticks_left sys.now.machine.system.conf sys.now.machine.clock sys.now.machine.time }
+    ensures alike { (ticks : ℕ) → ticks < result → slot_at sys.now.machine.system.conf sys.now.machine.clock (sys.now.machine.time + ticks) ≡ slot_at sys.now.machine.system.conf sys.now.machine.clock sys.now.machine.time }
+    ensures within { sys.now.machine.time + result ≤ sys.now.machine.clock.frame_start + frame_of sys.now.machine.system.conf sys.now.machine.clock.plan }
+    ensures some { 0 < result }
+{
+    sys.plan_clock().ticks_left(sys.conf(), sys.now())
+}

@@ -1,0 +1,376 @@
+//! The ticks of one slot or gap.
+
+ghost use Rattle.std.specs.Prelude.{◌≡◌, ℕ, ◌+◌, ◌-◌, ◌%◌, ◌^◌, ◌<◌, ◌≤◌, ◌++◌, Bool, true, false, if◌then◌else◌, [], IfSome, None, Some, length};
+ghost use Rattle.cyclic_plans.specs.PlanClock.{IsInFrame};
+ghost use Rattle.whole_system.specs.State.{with_machine};
+ghost use Rattle.machine_model.specs.LocalTick.{goes_on, with_interrupts};
+ghost use Rattle.machine_model.specs.Machine.{Machine};
+ghost use Rattle.machine_model.specs.Partition.{PartitionState, takes_turns};
+ghost use Rattle.slot_runs.specs.Meeting.{NoDelivery, awake};
+ghost use Rattle.slot_runs.specs.Passes.{part_at, rest_but, with_part};
+ghost use Rattle.slot_runs.specs.SpanLaws.{IsNobodys};
+ghost use Rattle.slot_runs.specs.Spans.{IsSlotOf, IsStretch, after_span, plan_line};
+ghost use Rattle.slot_runs.specs.Undisturbed.{NoneFallsDue};
+ghost use Rattle.virt_traps.specs.Virtual.{due};
+ghost use Rattle.system_ticks.specs.Machine.{IsMachine};
+ghost use Rattle.system_ticks.specs.Place.{IsAt};
+ghost use Rattle.system_ticks.specs.Span.{AreDoneFrom, CanTake, CanTakeAfter, HasTurned, IsIdle, IsMet, IsSpanDone, NoneDue, behind, counted_on};
+
+use crate::beyond::Beyond;
+use crate::ending::{end_tick, end_ticks};
+use crate::lines::Lines;
+use crate::place::Place;
+use crate::rest::rest;
+use crate::work::{call, meet_trap, take_interrupt};
+use cyclic_plans::Here;
+use hypercalls::{Note, Sys};
+use machine_model::{acts_within_bounds, keeps_numbers};
+use slot_runs::{
+    calm_ticks, next_tick, resting_ticks, slot_goes_on, tick_in_passes, undisturbed_ticks,
+};
+use sparc_step::Turn;
+use virt_clocks::next_deadline_is_least;
+use xm_base::{PartId, State};
+
+/// The interrupts that ticks bring.
+const HARDWARE_TIMER: u8 = 0;
+
+const EXECUTION_TIMER: u8 = 1;
+
+const SLOT_START: u8 = 5;
+
+/// Ticks of one slot or gap that were done, of which only the last may have lines.
+#[derive(Clone, Copy, Debug)]
+pub struct Span {
+    /// How many there were, with the last: at least one, once they were done.
+    pub ticks: u64,
+    /// The partition that worked in the last; in a gap, any.
+    pub part: PartId,
+    /// Whether it worked, and not merely rested.
+    pub worked: bool,
+    /// What its call told.
+    pub note: Note,
+    /// How its work reached beyond it.
+    pub reach: Beyond,
+}
+
+impl Span {
+    /// So many ticks in which no call told anything, with how the last reached beyond its partition.
+    pub(crate) fn quiet(ticks: u64, part: PartId, worked: bool, reach: Beyond) -> Span
+        ensures { result ≡ record { ticks = ticks; part = part; worked = worked; note = Note.Nothing; reach = reach } }
+    {
+        Span {
+            ticks,
+            part,
+            worked,
+            note: Note::Nothing,
+            reach,
+        }
+    }
+}
+
+/// The ticks of the slot or gap that it is, at most so many, up to the first in which more is done than instructions that go. Their lines
+/// are those of the last.
+pub(crate) fn run_span(sys: &mut Sys, lines: &mut Lines, span: &mut Span, place: Place, most: u64)
+    requires machine { IsMachine sys.old }
+    requires place { IsAt place sys.old.machine }
+    requires running { sys.old.machine.halted ≡ false }
+    requires some { 0 < most }
+    requires ticks { sys.old.machine.ticks + most ≤ 4000000000 }
+    requires empty { lines.old ≡ [] }
+    ensures done { IsSpanDone span.new most sys.old sys.new lines.new }
+{
+    let most = most.min(place.left);
+    match place.slot {
+        Some(slot) => run_slot(sys, lines, span, slot, most),
+        None => wait(sys, lines, span, most),
+    }
+}
+
+// Ticks of a partition's slot.
+fn run_slot(sys: &mut Sys, lines: &mut Lines, span: &mut Span, slot: Here, most: u64)
+    requires take { CanTake slot.part most sys.old }
+    requires slot { IsSlotOf sys.old.machine slot.part slot.first (part_at slot.part sys.old.machine) }
+    requires stretch { IsStretch sys.old.machine most }
+    requires empty { lines.old ≡ [] }
+    ensures done { AreDoneFrom span.new most sys.old.machine sys.old sys.new lines.new }
+{
+    if takes_turns(sys, slot.part) {
+        take_slot(sys, lines, span, slot.part, slot.first, most)
+    } else {
+        wait(sys, lines, span, most)
+    }
+}
+
+// Whether a partition takes its turn in its slots: it is not suspended, and has not halted.
+fn takes_turns(sys: &Sys, p: PartId) -> bool
+    requires partition { p < length sys.now.machine.parts }
+    ensures { result ≡ takes_turns (part_at p sys.now.machine).state }
+{
+    match sys.part(p).state {
+        State::Ready | State::Idle => true,
+        State::Suspended | State::Halted => false,
+    }
+}
+
+// So many ticks in which all partitions rest.
+fn wait(sys: &mut Sys, lines: &mut Lines, span: &mut Span, most: u64)
+    requires nobodys { IsNobodys sys.old.machine }
+    requires stretch { IsStretch sys.old.machine most }
+    requires running { sys.old.machine.halted ≡ false }
+    requires parts { 0 < length sys.old.machine.parts }
+    requires some { 0 < most }
+    requires ticks { sys.old.machine.ticks + most ≤ 4000000000 }
+    requires time { sys.old.machine.time ≤ sys.old.machine.ticks }
+    requires frame { IsInFrame sys.old.machine.system.conf sys.old.machine.clock sys.old.machine.time }
+    requires empty { lines.old ≡ [] }
+    ensures done { AreDoneFrom span.new most sys.old.machine sys.old sys.new lines.new }
+{
+    resting_ticks();
+    calm_ticks();
+    slot_goes_on();
+    tick_in_passes();
+    keeps_numbers();
+    let last = sys.now() + most - 1;
+    rest(sys, None, last);
+    end_ticks(sys, lines, most);
+    *span = Span::quiet(most, 0, false, Beyond::Nothing);
+}
+
+// Ticks of a partition that takes its turn: the interrupts of the first come, and may wake it.
+fn take_slot(sys: &mut Sys, lines: &mut Lines, span: &mut Span, p: PartId, first: bool, most: u64)
+    requires take { CanTake p most sys.old }
+    requires slot { IsSlotOf sys.old.machine p first (part_at p sys.old.machine) }
+    requires turns { takes_turns (part_at p sys.old.machine).state ≡ true }
+    requires stretch { IsStretch sys.old.machine most }
+    requires empty { lines.old ≡ [] }
+    ensures done { AreDoneFrom span.new most sys.old.machine sys.old sys.new lines.new }
+{
+    next_deadline_is_least();
+    meet(sys, p, first);
+    if goes_on(sys, p, first) {
+        wake(sys, p);
+        go_on(sys, lines, span, p, most)
+    } else {
+        stay_idle(sys, lines, span, p, most)
+    }
+}
+
+// A partition that goes on is ready.
+fn wake(sys: &mut Sys, p: PartId)
+    requires partition { p < length sys.old.machine.parts }
+    ensures { sys.new ≡ with_machine (with_part p (awake (part_at p sys.old.machine)) sys.old.machine) sys.old }
+{
+    sys.part_mut(p).state = State::Ready;
+}
+
+// The interrupts of a tick become pending: the start of a slot, and those of the timers that are due.
+#[tactic(auto, unfolding(machine_model::specs::LocalTick::with_interrupts, machine_model::specs::Partition::hardware_looked_at, machine_model::specs::Partition::execution_looked_at))]
+fn meet(sys: &mut Sys, p: PartId, first: bool)
+    requires partition { p < length sys.old.machine.parts }
+    ensures { sys.new ≡ with_machine (with_part p (with_interrupts sys.old.machine.time first (part_at p sys.old.machine)) sys.old.machine) sys.old }
+{
+    let now = sys.now();
+    let own = sys.part_mut(p);
+    if first {
+        own.virt.raise(SLOT_START);
+    }
+    if own.clocks.hw_due(now) {
+        own.virt.raise(HARDWARE_TIMER);
+    }
+    if own.clocks.exec_due() {
+        own.virt.raise(EXECUTION_TIMER);
+    }
+}
+
+// Whether the partition goes on: an idle one is woken by the start of its slot or an interrupt that is due.
+fn goes_on(sys: &Sys, p: PartId, first: bool) -> bool
+    requires partition { p < length sys.now.machine.parts }
+    requires turns { takes_turns (part_at p sys.now.machine).state ≡ true }
+    ensures { result ≡ goes_on (part_at p sys.now.machine).state first (due (part_at p sys.now.machine).traps) }
+{
+    let own = sys.part(p);
+    own.state == State::Ready || first || own.virt.due().is_some()
+}
+
+// How many ticks there are, at most so many, in which no timer of the partition falls due after the first.
+fn ticks_undisturbed(sys: &Sys, p: PartId, running: bool, most: u64) -> u64
+    requires partition { p < length sys.now.machine.parts }
+    requires some { 0 < most }
+    requires timers { NoneDue sys.now.machine.time (part_at p sys.now.machine).clocks }
+    ensures some { 0 < result }
+    ensures within { result ≤ most }
+    ensures calm { NoneFallsDue sys.now.machine.time (result - 1) running (part_at p sys.now.machine).clocks }
+{
+    match sys.part(p).clocks.next_due(sys.now(), running) {
+        Some(ticks) => most.min(ticks),
+        None => most,
+    }
+}
+
+// Ticks of an idle partition that nothing wakes.
+fn stay_idle(sys: &mut Sys, lines: &mut Lines, span: &mut Span, p: PartId, most: u64)
+    requires take { CanTake p most sys.old }
+    requires timers { NoneDue sys.old.machine.time (part_at p sys.old.machine).clocks }
+    requires empty { lines.old ≡ [] }
+    ensures done { (g : Machine) (ps : PartitionState) → IsIdle g p ps most sys.old → AreDoneFrom span.new most g sys.old sys.new lines.new }
+{
+    undisturbed_ticks();
+    calm_ticks();
+    slot_goes_on();
+    tick_in_passes();
+    keeps_numbers();
+    let ticks = ticks_undisturbed(sys, p, false, most);
+    pass(sys, lines, span, p, ticks);
+}
+
+// So many ticks of the slot of partition `p` with nothing to tell but that a plan starts: all others rest.
+fn pass(sys: &mut Sys, lines: &mut Lines, span: &mut Span, p: PartId, ticks: u64)
+    requires some { 0 < ticks }
+    requires time { sys.old.machine.time + ticks < 2 ^ 64 }
+    requires ticks { sys.old.machine.ticks + ticks < 2 ^ 64 }
+    requires frame { IsInFrame sys.old.machine.system.conf sys.old.machine.clock (sys.old.machine.time + ticks - 1) }
+    requires room { length lines.old < 24 }
+    ensures state { sys.new ≡ with_machine (after_span (ticks - 1) (rest_but (Some p) (sys.old.machine.time + ticks - 1) sys.old.machine).parts sys.old.machine) sys.old }
+    ensures lines { lines.new ≡ lines.old ++ plan_line (ticks - 1) sys.old.machine }
+    ensures few { length lines.new ≤ length lines.old + 1 }
+    ensures span { span.new ≡ record { ticks = ticks; part = p; worked = true; note = Note.Nothing; reach = Beyond.Nothing } }
+{
+    let last = sys.now() + ticks - 1;
+    rest(sys, Some(p), last);
+    end_ticks(sys, lines, ticks);
+    *span = Span::quiet(ticks, p, true, Beyond::Nothing);
+}
+
+// Ticks of a partition that goes on: it takes an interrupt, or executes instructions.
+fn go_on(sys: &mut Sys, lines: &mut Lines, span: &mut Span, p: PartId, most: u64)
+    requires take { CanTake p most sys.old }
+    requires timers { NoneDue sys.old.machine.time (part_at p sys.old.machine).clocks }
+    requires empty { lines.old ≡ [] }
+    ensures done { (g : Machine) (first : Bool) (ps : PartitionState) → IsMet g p first ps most sys.old → AreDoneFrom span.new most g sys.old sys.new lines.new }
+{
+    match interrupt(sys, p) {
+        Some(n) => deliver(sys, lines, span, p, n),
+        None => execute(sys, lines, span, p, most),
+    }
+}
+
+// The interrupt that is delivered to the partition, where one is due and traps are enabled.
+fn interrupt(sys: &Sys, p: PartId) -> Option<u8>
+    requires partition { p < length sys.now.machine.parts }
+    ensures value { result ≡ (if (part_at p sys.now.machine).traps.enabled then due (part_at p sys.now.machine).traps else None) }
+    ensures below { IfSome result (λ n. n < 32) }
+{
+    let virt = &sys.part(p).virt;
+    if virt.enabled { virt.due() } else { None }
+}
+
+// A tick in which a partition takes an interrupt.
+fn deliver(sys: &mut Sys, lines: &mut Lines, span: &mut Span, p: PartId, n: u8)
+    requires take { CanTake p 1 sys.old }
+    requires interrupt { n < 32 }
+    requires empty { lines.old ≡ [] }
+    ensures done { (g : Machine) (first : Bool) (ps : PartitionState) (most : ℕ) → IsMet g p first ps most sys.old → 0 < most → (part_at p sys.old.machine).traps.enabled ≡ true → due (part_at p sys.old.machine).traps ≡ Some n → AreDoneFrom span.new most g sys.old sys.new lines.new }
+{
+    next_tick();
+    tick_in_passes();
+    acts_within_bounds();
+    keeps_numbers();
+    take_interrupt(sys, lines, p, n);
+    end_tick(sys, lines, p, Beyond::Nothing);
+    *span = Span::quiet(1, p, true, Beyond::Nothing);
+}
+
+// Instructions of a partition, one a tick, up to the first that does more than go.
+fn execute(sys: &mut Sys, lines: &mut Lines, span: &mut Span, p: PartId, most: u64)
+    requires take { CanTake p most sys.old }
+    requires timers { NoneDue sys.old.machine.time (part_at p sys.old.machine).clocks }
+    requires empty { lines.old ≡ [] }
+    ensures done { (g : Machine) (first : Bool) (ps : PartitionState) → IsMet g p first ps most sys.old → NoDelivery (part_at p sys.old.machine).traps → AreDoneFrom span.new most g sys.old sys.new lines.new }
+{
+    undisturbed_ticks();
+    calm_ticks();
+    slot_goes_on();
+    tick_in_passes();
+    keeps_numbers();
+    let most = ticks_undisturbed(sys, p, true, most);
+    let gone = sys.step_many(p, most);
+    count_on(sys, p, gone.went);
+    match gone.turn {
+        Turn::Went => pass(sys, lines, span, p, gone.went),
+        Turn::Trap(tt) => trap_after(sys, lines, span, p, tt, gone.went, gone.pc),
+        Turn::Call => call_after(sys, lines, span, p, gone.went, gone.pc),
+    }
+}
+
+// So many ticks more on a partition's execution clock.
+fn count_on(sys: &mut Sys, p: PartId, ticks: u64)
+    requires partition { p < length sys.old.machine.parts }
+    requires clock { (part_at p sys.old.machine).clocks.execution + ticks < 2 ^ 63 }
+    ensures { sys.new ≡ with_machine (with_part p (counted_on ticks (part_at p sys.old.machine)) sys.old.machine) sys.old }
+{
+    sys.part_mut(p).clocks.pass_many(ticks);
+}
+
+// The tick of an instruction that trapped, after so many in which the partition only went.
+fn trap_after(
+    sys: &mut Sys,
+    lines: &mut Lines,
+    span: &mut Span,
+    p: PartId,
+    tt: u8,
+    went: u64,
+    pc: u32,
+)
+    requires take { CanTakeAfter p went sys.old }
+    requires empty { lines.old ≡ [] }
+    ensures done { (g : Machine) (first : Bool) (ps : PartitionState) (most : ℕ) → HasTurned (Turn.Trap tt) g p first ps went most pc sys.old → AreDoneFrom span.new most g sys.old sys.new lines.new }
+{
+    undisturbed_ticks();
+    calm_ticks();
+    tick_in_passes();
+    acts_within_bounds();
+    keeps_numbers();
+    stand_behind(sys, p, went);
+    let reach = meet_trap(sys, lines, p, tt, pc);
+    end_tick(sys, lines, p, reach);
+    *span = Span::quiet(went + 1, p, true, reach);
+}
+
+// The tick of an instruction that called, after so many in which the partition only went.
+fn call_after(sys: &mut Sys, lines: &mut Lines, span: &mut Span, p: PartId, went: u64, pc: u32)
+    requires take { CanTakeAfter p went sys.old }
+    requires pc { pc % 4 ≡ 0 }
+    requires next { (part_at p sys.old.machine).core.npc ≡ ((part_at p sys.old.machine).core.pc + 4) % 2 ^ 32 }
+    requires empty { lines.old ≡ [] }
+    ensures done { (g : Machine) (first : Bool) (ps : PartitionState) (most : ℕ) → HasTurned Turn.Call g p first ps went most pc sys.old → AreDoneFrom span.new most g sys.old sys.new lines.new }
+{
+    undisturbed_ticks();
+    calm_ticks();
+    tick_in_passes();
+    acts_within_bounds();
+    keeps_numbers();
+    stand_behind(sys, p, went);
+    let (note, reach) = call(sys, lines, p, pc);
+    end_tick(sys, lines, p, reach);
+    *span = Span {
+        ticks: went + 1,
+        part: p,
+        worked: true,
+        note,
+        reach,
+    };
+}
+
+// The system as it stands behind so many ticks in which the partition only went: all others have rested.
+fn stand_behind(sys: &mut Sys, p: PartId, ticks: u64)
+    requires time { sys.old.machine.time + ticks < 2 ^ 64 }
+    requires ticks { sys.old.machine.ticks + ticks < 2 ^ 64 }
+    ensures { sys.new ≡ with_machine (behind p ticks sys.old.machine) sys.old }
+{
+    if ticks > 0 {
+        let last = sys.now() + ticks - 1;
+        rest(sys, Some(p), last);
+        sys.pass_ticks(ticks);
+    }
+}

@@ -1,0 +1,162 @@
+//! What a partition does in a tick of its slot, where that is more than an instruction that goes.
+
+ghost use Rattle.std.specs.Prelude.{◌≡◌, ◌+◌, ◌%◌, ◌^◌, ◌<◌, ◌≤◌, ◌++◌, [], Some, length, map};
+ghost use Rattle.cyclic_plans.specs.PlanClock.{AsksPlan, IsInFrame};
+ghost use Rattle.health_monitor.specs.Monitor.{event_of_type};
+ghost use Rattle.whole_system.specs.Serving as serving;
+ghost use Rattle.whole_system.specs.State.{with_machine};
+ghost use Rattle.whole_system.specs.Serving.{IsServed, caller_at, upshot_of};
+ghost use Rattle.machine_model.specs.Facts.{AreEnds};
+ghost use Rattle.machine_model.specs.Health.{event_handled, interrupt_delivered};
+ghost use Rattle.machine_model.specs.Hypercalls.{served};
+ghost use Rattle.machine_model.specs.LocalTick.{by_act, by_upshot, called, clocked};
+ghost use Rattle.machine_model.specs.Told.{Upon, line_of};
+ghost use Rattle.machine_model.specs.View.{view_of};
+ghost use Rattle.slot_runs.specs.Passes.{part_at, with_part};
+ghost use Rattle.xm_ports.specs.Channels.{shapes_of};
+ghost use Rattle.system_ticks.specs.Work.{IsDone, IsToldBy, IsUponOne, IsWorked, TellsAlone, act_of, trace_told};
+
+use crate::beyond::Beyond;
+use crate::health::{deliver_interrupt, handle_event, program_counter};
+use crate::lines::Lines;
+use crate::order::obey;
+use health_monitor::event_of;
+use hypercalls::{Act, Note, Served, Sys, serve};
+use xm_base::{Order, PartId};
+use xm_report::Line;
+
+/// A partition takes an interrupt, which is the tick's work.
+pub(crate) fn take_interrupt(sys: &mut Sys, lines: &mut Lines, p: PartId, n: u8)
+    requires partition { p < length sys.old.machine.parts }
+    requires interrupt { n < 32 }
+    requires clock { (part_at p sys.old.machine).clocks.execution < 2 ^ 63 }
+    requires log { (part_at p sys.old.machine).health.next < 4294967294 }
+    requires empty { lines.old ≡ [] }
+    ensures worked { IsWorked p (interrupt_delivered (view_of sys.old.machine.system p) sys.old.machine.time n (clocked (part_at p sys.old.machine))) Note.Nothing Beyond.Nothing sys.old sys.new lines.new }
+    ensures few { length lines.new ≤ 3 }
+{
+    count_tick(sys, p);
+    deliver_interrupt(sys, lines, p, n);
+}
+
+/// An instruction of a partition, at this program counter, trapped.
+pub(crate) fn meet_trap(sys: &mut Sys, lines: &mut Lines, p: PartId, tt: u8, pc: u32) -> Beyond
+    requires partition { p < length sys.old.machine.parts }
+    requires clock { (part_at p sys.old.machine).clocks.execution < 2 ^ 63 }
+    requires log { (part_at p sys.old.machine).health.next < 4294967294 }
+    requires empty { lines.old ≡ [] }
+    ensures worked { IsWorked p (event_handled (view_of sys.old.machine.system p) sys.old.machine.time (event_of_type tt) pc (Some tt) (clocked (part_at p sys.old.machine))) Note.Nothing result sys.old sys.new lines.new }
+    ensures few { length lines.new ≤ 3 }
+{
+    count_tick(sys, p);
+    Beyond::Whole(handle_event(sys, lines, p, event_of(tt), pc, Some(tt)))
+}
+
+// Counts the tick on the partition's execution clock.
+#[tactic(auto, unfolding(machine_model::specs::LocalTick::clocked))]
+fn count_tick(sys: &mut Sys, p: PartId)
+    requires partition { p < length sys.old.machine.parts }
+    requires clock { (part_at p sys.old.machine).clocks.execution < 2 ^ 63 }
+    ensures value { sys.new ≡ with_machine (with_part p (clocked (part_at p sys.old.machine)) sys.old.machine) sys.old }
+    ensures log { (part_at p sys.new.machine).health ≡ (part_at p sys.old.machine).health }
+{
+    sys.part_mut(p).clocks.pass();
+}
+
+/// An instruction of a partition, at this program counter, called. What the call tells of its own, and how it reaches beyond the partition.
+pub(crate) fn call(sys: &mut Sys, lines: &mut Lines, p: PartId, pc: u32) -> (Note, Beyond)
+    requires partition { p < length sys.old.machine.parts }
+    requires pc { pc % 4 ≡ 0 }
+    requires next { (part_at p sys.old.machine).core.npc ≡ ((part_at p sys.old.machine).core.pc + 4) % 2 ^ 32 }
+    requires traces { (part_at p sys.old.machine).traces.next < 4294967295 }
+    requires shapes { sys.old.shapes ≡ shapes_of sys.old.machine.system.conf }
+    requires made { AreEnds (view_of sys.old.machine.system p) (part_at p sys.old.machine).made }
+    requires frame { IsInFrame sys.old.machine.system.conf sys.old.machine.clock sys.old.machine.time }
+    requires asked { AsksPlan sys.old.machine.system.conf sys.old.machine.clock }
+    requires clock { (part_at p sys.old.machine).clocks.execution < 2 ^ 63 }
+    requires log { (part_at p sys.old.machine).health.next < 4294967294 }
+    requires empty { lines.old ≡ [] }
+    ensures worked { IsWorked p (called (caller_at p pc (part_at p sys.old.machine).core.pc sys.old)) result.0 result.1 sys.old sys.new lines.new }
+    ensures alone { TellsAlone result.0 result.1 }
+    ensures noted { IsToldBy p (caller_at p pc (part_at p sys.old.machine).core.pc sys.old).sight (called (caller_at p pc (part_at p sys.old.machine).core.pc sys.old)) result.0 sys.old }
+    ensures few { length lines.new ≤ 4 }
+{
+    let served = serve_call(sys, p, pc);
+    count_tick(sys, p);
+    tell_trace(lines, sys.ticks(), p, served.note);
+    let reach = follow(sys, lines, p, served.act);
+    (served.note, reach)
+}
+
+// Serves a call that stood at this program counter.
+fn serve_call(sys: &mut Sys, p: PartId, pc: u32) -> Served
+    requires partition { p < length sys.old.machine.parts }
+    requires pc { pc % 4 ≡ 0 }
+    requires traces { (part_at p sys.old.machine).traces.next < 4294967295 }
+    requires shapes { sys.old.shapes ≡ shapes_of sys.old.machine.system.conf }
+    requires frame { IsInFrame sys.old.machine.system.conf sys.old.machine.clock sys.old.machine.time }
+    ensures served { IsServed p (caller_at p pc (part_at p sys.old.machine).core.pc sys.old).sight (served (caller_at p pc (part_at p sys.old.machine).core.pc sys.old)) result sys.old sys.new }
+    ensures count { length sys.new.machine.parts ≡ length sys.old.machine.parts }
+    ensures clock { (part_at p sys.new.machine).clocks.execution ≡ (part_at p sys.old.machine).clocks.execution }
+    ensures log { (part_at p sys.new.machine).health ≡ (part_at p sys.old.machine).health }
+{
+    let npc = program_counter(sys, p);
+    serve(sys, p, pc, npc)
+}
+
+// Tells the entry that a call made in its partition's traces, where it made one.
+fn tell_trace(lines: &mut Lines, n: u64, p: PartId, note: Note)
+    requires { length lines.old < 24 }
+    ensures value { lines.new ≡ lines.old ++ map (line_of n p) (trace_told note) }
+    ensures few { length lines.new ≤ length lines.old + 1 }
+{
+    if let Note::Trace(entry) = note {
+        let load = entry.load;
+        lines.push(Line::Trace {
+            n,
+            p,
+            bits: entry.bits,
+            load,
+        });
+    }
+}
+
+// Does what a call asks for, as far as it is the partition's own.
+fn follow(sys: &mut Sys, lines: &mut Lines, p: PartId, act: Act) -> Beyond
+    requires partition { p < length sys.old.machine.parts }
+    requires log { (part_at p sys.old.machine).health.next < 4294967294 }
+    requires room { length lines.old ≤ 20 }
+    requires one { serving.IsUponOne act sys.old }
+    ensures done { IsDone p (by_upshot (upshot_of act) (view_of sys.old.machine.system p) sys.old.machine.time (part_at p sys.old.machine)).after (by_upshot (upshot_of act) (view_of sys.old.machine.system p) sys.old.machine.time (part_at p sys.old.machine)).told sys.old sys.new lines.old lines.new }
+    ensures act { (by_upshot (upshot_of act) (view_of sys.old.machine.system p) sys.old.machine.time (part_at p sys.old.machine)).act ≡ act_of result }
+    ensures one { IsUponOne result sys.old.machine }
+    ensures few { length lines.new ≤ length lines.old + 3 }
+{
+    match act {
+        Act::Nothing => Beyond::Nothing,
+        Act::Upon { id, order } => give_order(sys, lines, p, id, order),
+        Act::Ask { plan } => Beyond::Plan { plan },
+        Act::Whole(event) => Beyond::Whole(event),
+        Act::Event { event, word, .. } => {
+            Beyond::Whole(handle_event(sys, lines, p, event, word, None))
+        }
+    }
+}
+
+// An order on the partition itself is obeyed at once; another reaches beyond it.
+fn give_order(sys: &mut Sys, lines: &mut Lines, p: PartId, id: PartId, order: Order) -> Beyond
+    requires partition { p < length sys.old.machine.parts }
+    requires room { length lines.old ≤ 20 }
+    requires one { id < length sys.old.machine.parts }
+    ensures done { IsDone p (by_act (Upon id order) (view_of sys.old.machine.system p) (part_at p sys.old.machine)).after (by_act (Upon id order) (view_of sys.old.machine.system p) (part_at p sys.old.machine)).told sys.old sys.new lines.old lines.new }
+    ensures act { (by_act (Upon id order) (view_of sys.old.machine.system p) (part_at p sys.old.machine)).act ≡ act_of result }
+    ensures one { IsUponOne result sys.old.machine }
+    ensures few { length lines.new ≤ length lines.old + 3 }
+{
+    if id == p {
+        obey(sys, lines, p, order);
+        Beyond::Nothing
+    } else {
+        Beyond::Order { id, order }
+    }
+}
