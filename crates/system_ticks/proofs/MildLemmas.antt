@@ -1,10 +1,10 @@
 -- An observing call does nothing, or it asks for a plan.
-use Rattle.std.proofs.Common.{◌≡◌, ◌⊎◌, inl, inr, ℕ, Bool, true, false, List, [], ◌∷◌, Option, None, Some, refl, sym, ap, subst, ◌∙◌}
+use Rattle.std.proofs.Common.{◌≡◌, ◌⊎◌, inl, inr, ℕ, Bool, true, false, List, [], ◌∷◌, None, Some, refl, sym, subst}
 use Rattle.std.specs.Prelude.{◌==◌, ◌||◌, not, nat_lt, if◌then◌else◌}
 use Rattle.std.proofs.lemmas.Bool.{eqb-true}
-use Rattle.machine_model.specs.Caller.{Acts, Caller, Served, Test, Upshot, a_of, acting, answering, b_of, c_of, invalid_parameter, not_available, number_of, refused_if, room, system_only, target, tested, with_written}
+use Rattle.machine_model.specs.Caller.{Acts, Caller, Served, Test, Upshot, a_of, b_of, c_of, number_of, room, system_only, target, tested}
 use Rattle.machine_model.specs.Hypercalls.{call_numbered, served}
-use Rattle.machine_model.specs.LogCalls.{counting, hm_read, hm_status, reading, trace_read, trace_status}
+use Rattle.machine_model.specs.LogCalls.{hm_read, hm_status, trace_read, trace_status}
 use Rattle.machine_model.specs.Observed.{CurrentPlan, HealthCounts, HealthEntryOf, Observation, PartitionStatus, PlanStatus, SystemStatus, TraceCounts, TraceEntryOf, about_other, about_system, observed_by, observing}
 use Rattle.machine_model.specs.PartitionCalls.{get_partition_status, get_system_status}
 use Rattle.machine_model.specs.TimeCalls.{get_plan_status, switch_sched_plan}

@@ -1,6 +1,6 @@
 //! Health events of a partition, and the delivery of traps to it.
 
-ghost use Rattle.std.specs.Prelude.{◌≡◌, ◌+◌, ◌%◌, ◌<◌, ◌≤◌, [], ◌∷◌, length, true};
+ghost use Rattle.std.specs.Prelude.{◌≡◌, ◌+◌, ◌%◌, ◌<◌, ◌≤◌, [], ◌∷◌, length};
 ghost use Rattle.whole_system.specs.State.{with_machine};
 ghost use Rattle.health_monitor.specs.Monitor.{action_in, effect_of, is_logged};
 ghost use Rattle.machine_model.specs.Health.{done_to_all, done_to_itself, entered, entered_if, entered_told, event_handled, interrupt_delivered, is_passed_over, passed_over_if, propagated, trap_delivered, undelivered};

@@ -20,7 +20,7 @@ pub struct Lines {
 }
 
 impl Model for Lines {
-    ghost use Rattle.std.specs.Prelude.{All, List, ◌≤◌, map, vec_capacity, vec_len};
+    ghost use Rattle.std.specs.Prelude.{All, List, ◌≤◌, map, vec_capacity};
     ghost use Rattle.system_ticks.specs.TickLines.{IsOther};
     ghost use Rattle.xm_report.specs.Report.{IsShort, ReportLine, line_of};
 

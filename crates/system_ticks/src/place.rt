@@ -1,6 +1,6 @@
 //! Where in its plan a machine stands: whose slot it is, and how many ticks are left of it.
 
-ghost use Rattle.std.specs.Prelude.{◌≡◌, ℕ, ◌+◌, ◌<◌, ◌≤◌, IfSome, length, slice_get};
+ghost use Rattle.std.specs.Prelude.{◌≡◌, ℕ, ◌+◌, ◌<◌, ◌≤◌, IfSome, slice_get};
 ghost use Rattle.cyclic_plans.specs.PlanClock.{IsInFrame, here, moment, slot_at, ticks_left};
 ghost use Rattle.cyclic_plans.specs.Slots.{IsHere, frame_of, slots_of};
 ghost use Rattle.system_ticks.specs.Machine.{IsMachine};
