@@ -3,14 +3,14 @@ use Rattle.std.proofs.Common.{◌≡◌, ℕ, Bool, true, false, Option, None, S
 use Rattle.std.specs.Prelude.{◌==◌, ◌&&◌, if◌then◌else◌, is_some, slice_get}
 use Rattle.std.proofs.lemmas.Bool.{eqb-true}
 use Rattle.xm_conf.specs.Configuration.{Conf}
-use Rattle.machine_model.specs.Cue.{Cue, cue, cue_in, slot_of, unless_own}
+use Rattle.machine_model.specs.Cue.{cue, cue_in, slot_of, unless_own}
 use Rattle.machine_model.specs.LocalTick.{LocalTick}
-use Rattle.machine_model.specs.Machine.{Happened, Machine, Turn, happened, happened_by, if_its_turn, is_turn_of, local, order_for, order_upon, sight, sight_in, sight_of_state, tick_of, turn_of}
+use Rattle.machine_model.specs.Machine.{Happened, Machine, Turn, happened, happened_by, if_its_turn, is_turn_of, local, order_upon, sight, sight_in, sight_of_state, tick_of, turn_of}
 use Rattle.machine_model.specs.Partition.{PartitionState}
-use Rattle.machine_model.specs.Told.{OwnTraffic, Sight, Unseen, reach_of}
+use Rattle.machine_model.specs.Told.{Sight, Unseen}
 use Rattle.machine_model.specs.Traffic.{heard_as}
 use Rattle.machine_model.specs.View.{name_of}
-use Rattle.system_ticks.specs.Kept.{Kept, kept_cue, kept_in, kept_of, shown_to}
+use Rattle.system_ticks.specs.Kept.{kept_cue, kept_in, kept_of, shown_to}
 
 -- whether the tick of a partition is there
 is_its_tick : (b : Bool) (tick : Option LocalTick) → (b && is_some tick) ≡ is_some (if_its_turn b tick)

@@ -1,5 +1,5 @@
 -- What is kept after ticks tells each partition the last cue of its script of them.
-use Rattle.std.proofs.Common.{◌≡◌, ℕ, zero, suc, ◌+◌, ◌-◌, ◌<◌, ◌≤◌, Bool, true, false, List, Option, Result, Ok, Err, refl, sym, ap, ◌∙◌, arith}
+use Rattle.std.proofs.Common.{◌≡◌, ℕ, zero, suc, ◌+◌, ◌-◌, ◌≤◌, Bool, true, false, List, Option, Result, Ok, Err, refl, sym, ap, ◌∙◌, arith}
 use Rattle.std.proofs.Math.Nat.{suc-add, zero-add}
 use Rattle.xm_conf.specs.Configuration.{Conf}
 use Rattle.xm_report.specs.Report.{ReportLine}
@@ -8,7 +8,6 @@ use Rattle.machine_model.specs.Cue.{Cue, cue, script, script_unless}
 use Rattle.machine_model.specs.Facts.{KeepsNumbers, RunsKeepNumbers}
 use Rattle.machine_model.specs.Machine.{Machine, run, step}
 use Rattle.machine_model.specs.View.{System}
-use Rattle.slot_runs.specs.RunLemmas.{run_add}
 use Rattle.whole_system.specs.State.{SysState}
 use Rattle.xm_machine.specs.Cues.{AreCued, AreCuedUpTo, KeepsLast, KeepsUpTo, last_or, told_to}
 use Rattle.system_ticks.specs.Kept.{Kept, kept_after, kept_cue, kept_of, kept_unless}

@@ -21,7 +21,7 @@ use Rattle.system_ticks.specs.Kept.{kept_after}
 use Rattle.xm_machine.specs.Machine.{Meaning}
 use Rattle.system_ticks.specs.Quiet.{AreQuiet, ends_in, ends_stretch}
 use Rattle.xm_machine.specs.Steps.{AreRun}
-use Rattle.xm_machine.specs.Stretch.{AreStepped, IsLeast, IsStretchCut, IsStretched, left_of}
+use Rattle.xm_machine.specs.Stretch.{AreStepped, IsStretchCut, IsStretched, left_of}
 use Rattle.xm_machine.specs.declared.stretch.Stepped.{Stepped}
 use Rattle.xm_machine.proofs.AloneLemmas.{ticks_alone}
 use Rattle.xm_machine.proofs.CuedLemmas.{cued, kept_add}

@@ -1,5 +1,4 @@
 use Rattle.guest_bus.specs.Memory.{bytes_at}
-use Rattle.uart_board.specs.Heard.{heard_nothing}
 use Rattle.whole_system.specs.State.{memory_of}
 use Rattle.xm_machine.proofs.HeardLemmas.{line_heard}
 use Rattle.xm_machine.proofs.report.tell_console.Goals as goal
