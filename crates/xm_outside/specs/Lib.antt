@@ -1,4 +1,5 @@
 pub mod Causes
+pub mod FileUart
 pub mod Files
 pub mod Growth
 pub mod MemSink

@@ -1,7 +1,8 @@
 //! A file of the system as a UART.
 
-ghost use Rattle.std.specs.Prelude.{◌≡◌, ℕ, ◌<◌, None};
+ghost use Rattle.std.specs.Prelude.{◌≡◌, ℕ, ◌<◌, None, OnOk, true, false};
 ghost use Rattle.xm_outside.specs.Causes.{HasCause};
+ghost use Rattle.xm_outside.specs.FileUart.{uart_file};
 ghost use Rattle.xm_outside.specs.Growth.{Receives};
 
 use crate::store::Failed;
@@ -10,18 +11,6 @@ use std::fs::OpenOptions;
 use std::io::Write;
 use std::rt::Files;
 use std::{fs, io};
-
-/// The files of the UARTs, by their places.
-const NAMES: [&str; 8] = [
-    "uart0.out",
-    "uart1.out",
-    "uart2.out",
-    "uart3.out",
-    "uart4.out",
-    "uart5.out",
-    "uart6.out",
-    "uart7.out",
-];
 
 /// A file as a UART: `uart0.out` to `uart7.out` of the folder where the program runs. The first write makes the
 /// file, or empties one that was there, and later ones append to it. Without a write no file is touched. Between
@@ -38,11 +27,13 @@ impl<R: Files + Drop> FileUart<R> {
     /// The UART of a place, over a clone of the runtime.
     pub fn new(rt: R, place: u8) -> FileUart<R>
         requires { place < 8 }
-        ensures { ⟦<FileUart<R> as Uart>⟧.faults result ≡ 0 }
+        ensures name { result.name.now ≡ uart_file place }
+        ensures unmade { result.made ≡ false }
+        ensures faults { ⟦<FileUart<R> as Uart>⟧.faults result ≡ 0 }
     {
         FileUart {
             rt,
-            name: NAMES[usize::from(place)],
+            name: name_at(place),
             made: false,
             faults: 0,
         }
@@ -50,6 +41,8 @@ impl<R: Files + Drop> FileUart<R> {
 
     /// Writes the bytes to the file, which the first write makes or empties.
     fn append(&mut self, bytes: &[u8]) -> io::Result<()>
+        ensures name { self.new.name ≡ self.old.name }
+        ensures made { OnOk result (self.new.made ≡ true) }
         ensures faults { self.new.faults ≡ self.old.faults }
     {
         let mut file = if self.made {
@@ -59,6 +52,23 @@ impl<R: Files + Drop> FileUart<R> {
         };
         self.made = true;
         file.write_all(bytes)
+    }
+}
+
+/// The file's name of a place.
+fn name_at(place: u8) -> &'static str
+    requires { place < 8 }
+    ensures { result.now ≡ uart_file place }
+{
+    match place {
+        0 => "uart0.out",
+        1 => "uart1.out",
+        2 => "uart2.out",
+        3 => "uart3.out",
+        4 => "uart4.out",
+        5 => "uart5.out",
+        6 => "uart6.out",
+        _ => "uart7.out",
     }
 }
 
