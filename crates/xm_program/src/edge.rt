@@ -1,7 +1,10 @@
 //! The program over the system: its arguments, its files, its streams, and the files of its UARTs.
 
-ghost use Rattle.std.specs.Prelude.{◌≡◌};
+ghost use Rattle.std.specs.Prelude.{◌≡◌, ℕ, ◌<◌, IfOk, false};
+ghost use Rattle.std.specs.Process.{exit_status};
+ghost use Rattle.xm_outside.specs.FileUart.{uart_file};
 ghost use Rattle.xm_program.specs.Called.{IsSomeCall};
+ghost use Rattle.xm_program.specs.Ended.{IsEnded};
 
 use crate::arguments::carry_out;
 use std::io::{ErrorKind, Write};
@@ -9,23 +12,19 @@ use std::process::ExitCode;
 use std::rt::Runtime;
 use std::{env, io};
 use uart_board::{Board, ViewBoard};
+use xm_base::Memory;
 use xm_commands::{Status, misused};
-use xm_outside::{FileStore, FileUart, OutSink, Sink};
+use xm_outside::{FileStore, FileUart, OutSink, Sink, Uart};
 
 /// Does what the process's arguments say, and ends with the code of the status. `stdout` gets the report,
 /// `stderr` the line on an error, and the files `uart0.out` to `uart7.out` what goes to the UARTs. Out of memory for
 /// the UARTs is told by the status alone.
-pub fn program<O: Write + Drop, E: Write + Drop>(
-    rt: &HostRuntime,
-    stdout: O,
-    stderr: E,
-) -> ExitCode {
+pub fn program<O: Write + Drop, E: Write + Drop>(rt: &HostRuntime, stdout: O, stderr: E) -> ExitCode
+    ensures ended { IsEnded (exit_status result) }
+{
     let mut board = Board::new();
     for place in 0..8 {
-        let Ok(own) = rt.clone() else {
-            return ExitCode::from(Status::NoMemory.code());
-        };
-        let Ok(uart) = Box::new(rt.alloc(), FileUart::new(own, place)) else {
+        let Ok(uart) = file_uart(rt, place) else {
             return ExitCode::from(Status::NoMemory.code());
         };
         board.set(place, uart);
@@ -33,6 +32,22 @@ pub fn program<O: Write + Drop, E: Write + Drop>(
     let mut out = OutSink::new(stdout);
     let mut err = OutSink::new(stderr);
     ExitCode::from(run(rt, &mut out, &mut err, &mut board).code())
+}
+
+// The UART of the place's file, which no write has made yet, in a box.
+fn file_uart(rt: &HostRuntime, place: u8) -> Result<Box<FileUart<HostRuntime>>, Memory>
+    requires { place < 8 }
+    ensures name { IfOk result (λ uart. uart.value.name.now ≡ uart_file place) }
+    ensures unmade { IfOk result (λ uart. uart.value.made ≡ false) }
+    ensures faults { IfOk result (λ uart. ⟦<FileUart<HostRuntime> as Uart>⟧.faults uart.value ≡ 0) }
+{
+    let Ok(own) = rt.clone() else {
+        return Err(Memory);
+    };
+    match Box::new(rt.alloc(), FileUart::new(own, place)) {
+        Ok(uart) => Ok(uart),
+        Err(_) => Err(Memory),
+    }
 }
 
 /// Reads the process's arguments and does what they say. Out of memory for them is told by the status
