@@ -34,4 +34,5 @@ pub mod WorkTickLemmas
 pub mod ClockFactLemmas
 pub mod ShapeFactLemmas
 pub mod LengthLemmas
+pub mod AllowedLemmas
 pub mod MachineFactLemmas

@@ -22,16 +22,16 @@ use Rattle.machine_model.specs.Told.{Act, Asked, Nothing, Plans, Words}
 use Rattle.machine_model.specs.View.{PartitionView}
 
 -- another partition that there is
-record IsOther (view : PartitionView) (id : ℕ) : Type 0 where
-  own : (id == view.id) ≡ false
-  there : nat_lt id view.sees.parts ≡ true
+pub record IsOther (view : PartitionView) (id : ℕ) : Type 0 where
+  pub own : (id == view.id) ≡ false
+  pub there : nat_lt id view.sees.parts ≡ true
 
 -- what a call that asks about another partition says
-record AsksOther (view : PartitionView) (id : ℕ) (asked call : Observation) : Type 0 where
-  other : IsOther view id
-  same : asked ≡ call
+pub record AsksOther (view : PartitionView) (id : ℕ) (asked call : Observation) : Type 0 where
+  pub other : IsOther view id
+  pub same : asked ≡ call
 
-asks_other : (view : PartitionView) (id : ℕ) (question : Question) (address size : ℕ) (call : Observation) → about_other view id question address size ≡ Some call
+pub asks_other : (view : PartitionView) (id : ℕ) (question : Question) (address size : ℕ) (call : Observation) → about_other view id question address size ≡ Some call
     → AsksOther view id (record { question = question; address = address; size = size }) call
 asks_other view id question address size call is = at (id == view.id) (nat_lt id view.sees.parts) refl refl is
   where
@@ -145,7 +145,7 @@ of_health_counts caller call asking number is =
     subst (TestsRoom caller) asks.same (record { act = Nothing; is = ap (λ n. call_numbered n caller) number ∙ counting_is caller.state.health caller asking.system asks.other })
 
 -- a row of a table by numbers, or the rest of it
-by_number : {R : Type 0} {found : Option Observation} (number n : ℕ) (row rest : Option Observation) → (number ≡ n → row ≡ found → R) → (rest ≡ found → R)
+pub by_number : {R : Type 0} {found : Option Observation} (number n : ℕ) (row rest : Option Observation) → (number ≡ n → row ≡ found → R) → (rest ≡ found → R)
     → (if number == n then row else rest) ≡ found → R
 by_number {R = R} {found = found} number n row rest here further is = at (number == n) refl is
   where
@@ -166,7 +166,7 @@ tests_room caller call asking =
     (by_number (number_of caller) 29 _ _ (of_health_counts caller call asking) (λ none. absurd cc))))))))
 
 -- only a system partition asks
-asks_by_flag : (b : Bool) (o : Option Observation) (call : Observation) → (if b then o else None) ≡ Some call → (b ≡ true) × (o ≡ Some call)
+pub asks_by_flag : (b : Bool) (o : Option Observation) (call : Observation) → (if b then o else None) ≡ Some call → (b ≡ true) × (o ≡ Some call)
 asks_by_flag true o call is = (refl, is)
 asks_by_flag false o call is = absurd cc
 

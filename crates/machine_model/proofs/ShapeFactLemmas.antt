@@ -1,6 +1,6 @@
 -- Each channel holds what its shape allows.
 use Rattle.std.proofs.Common.{◌≡◌, ℕ, zero, suc, ◌<◌, ◌≤◌, ◌+◌, Bool, true, false, cond, List, [], ◌∷◌, ◌++◌, length, Option, None, Some, refl, sym, ap, ◌∙◌, arith, subst}
-use Rattle.std.specs.Prelude.{slice_get, slice_index_or, ◌==◌, ◌&&◌, ◌||◌, if◌then◌else◌, map, IfSome, All, drop}
+use Rattle.std.specs.Prelude.{slice_get, slice_index_or, ◌==◌, ◌&&◌, ◌||◌, if◌then◌else◌, map, IfSome, IsSome, All, drop}
 use Rattle.std.specs.List.{list_any, position_from}
 use Rattle.std.proofs.lemmas.Bool.{eqb-true}
 use Rattle.std.proofs.lemmas.List.{length-map}
@@ -19,7 +19,8 @@ use Rattle.xm_conf.specs.declared.channel.End.{End}
 use Rattle.xm_conf.specs.declared.port.Kind.{Kind}
 use Rattle.xm_conf.specs.declared.port.Port.{Port}
 use Rattle.xm_conf.specs.declared.port.Way.TheVariants as way
-use Rattle.xm_ports.specs.Channels.{Content, IsMessage, IsQueue, Queuing, Sampling, Shape, Suits, SuitsKind, cleared, empty, empty_of, messages_of, put, shape_of, shapes_of, taken}
+use Rattle.xm_ports.specs.Channels.{Content, IsMessage, IsQueue, Queuing, Sampling, Shape, Suits, SuitsKind, cleared, empty, empty_of, first_message, put, shape_of, shapes_of, taken}
+use Rattle.machine_model.specs.Allowed.{TakesMore}
 use Rattle.machine_model.specs.Facts.{BootsWithShapes, HasShapes, KeepsShapes, PortsHaveKinds, RunsWithShapes}
 use Rattle.machine_model.specs.Lists.{each, table}
 use Rattle.machine_model.specs.Machine.{Machine, Turn, act_of, after, channel_after, copies, happened, happened_by, local, local_in, local_of, run, sight_of_state, start, step, system_traffic, taken_by, turn_of}
@@ -29,7 +30,7 @@ use Rattle.machine_model.specs.Told.{Act, OwnPuts, OwnStill, OwnTakes}
 use Rattle.machine_model.specs.Traffic.{Puts, Still, Takes, Traffic, after_traffic, content_if, copies_of, puts_at, takes_at, told_as, traffic_of}
 use Rattle.machine_model.specs.View.{PortChannel, System, name_of, named, no_part, part_of, port_channel, view_of, with_its_name, with_name}
 use Rattle.machine_model.specs.Whole.{AllHalted, AllReset, NoEvent, WholeEvent, content_after}
-use Rattle.machine_model.proofs.WithinLemmas.{HasRoom, IsPutting, IsWithin, local_within}
+use Rattle.machine_model.proofs.WithinLemmas.{HasRoom, IsPutting, IsTaking, IsWithin, local_within}
 use Rattle.machine_model.proofs.ListLemmas.{each_counted, get_each, get_map}
 use Rattle.machine_model.proofs.NameLemmas.{has_name_named}
 use Rattle.machine_model.proofs.RunLemmas.{step_system}
@@ -61,11 +62,6 @@ taken_suits (chan_kind.Sampling refresh) room (Sampling sample) suits = suits
 taken_suits (chan_kind.Sampling refresh) room (Queuing messages) suits = absurd suits
 taken_suits (chan_kind.Queuing most) room (Sampling sample) suits = absurd suits
 taken_suits (chan_kind.Queuing most) room (Queuing messages) suits = shorter most room messages suits
-
--- whether a channel of a kind takes one more message
-TakesMore : ChanKind → Content → Type 0
-TakesMore (chan_kind.Sampling refresh) content = Unit {0}
-TakesMore (chan_kind.Queuing most) content = length (messages_of content) < most
 
 -- a message is put
 one_longer : (messages : List (List ℕ)) (bytes : List ℕ) → length (messages ++ bytes ∷ []) ≡ length messages + 1
@@ -189,16 +185,16 @@ pub view_channel : (system : System) (p r : ℕ) (channel : PortChannel) → sli
 unfolding view_of
 view_channel system p r channel is = table_some (port_channel system.conf p) (length (part_of system.conf p).ports) r channel is
 
-copy_there : (g : Machine) (p q : ℕ) (content : Content) → slice_index_or (copies g p) q None ≡ Some content → content_if g.channels (named g.system.conf p q) ≡ Some content
+pub copy_there : (g : Machine) (p q : ℕ) (content : Content) → slice_index_or (copies g p) q None ≡ Some content → content_if g.channels (named g.system.conf p q) ≡ Some content
 unfolding copies copies_of
 copy_there g p q content is = table_some (λ k. content_if g.channels (named g.system.conf p k)) (length (part_of g.system.conf p).ports) q content is
 
 -- what traffic on the system's channels fits
-FitsChannels : Conf → List Content → Traffic → Type 0
+unfoldable pub FitsChannels : Conf → List Content → Traffic → Type 0
 FitsChannels conf channels Still = Unit {0}
 FitsChannels conf channels (Puts c bytes) =
     (chan : Chan) (content : Content) → slice_get conf.chans c ≡ Some chan → slice_get channels c ≡ Some content → IsMessage chan.length bytes × TakesMore chan.kind content
-FitsChannels conf channels (Takes c) = Unit {0}
+FitsChannels conf channels (Takes c) = (content : Content) → slice_get channels c ≡ Some content → IsSome (first_message content)
 
 -- what holds of each element of a list holds of one that is there
 pub all_at : {X : Type 0} (P : X → Type 0) (xs : List X) (k : ℕ) (x : X) → slice_get xs k ≡ Some x → All P xs → P x
@@ -239,6 +235,13 @@ put_fits g p q bytes c fits putting named_so name_is chan content chan_there con
     (subst (λ (shape : Shape). HasRoom putting.port.kind shape.kind putting.content) its_shape putting.room) in
     (subst (λ (shape : Shape). IsMessage shape.length bytes) its_shape putting.message, takes_more chan.kind putting.port.kind content of_kind room)
 
+-- and a message that it takes waits there
+take_fits : (g : Machine) (p q c : ℕ) → IsTaking (view_of g.system p) (copies g p) q → named g.system.conf p q ≡ Some c → FitsChannels g.system.conf g.channels (Takes c)
+unfolding FitsChannels
+take_fits g p q c taking named_so content there =
+    let same : taking.content ≡ content = same_Some taking.content content (sym (copy_there g p q taking.content taking.held) ∙ ap (content_if g.channels) named_so ∙ there) in
+    subst (λ (x : Content). IsSome (first_message x)) same taking.waits
+
 -- the traffic of an act under the system's numbers
 act_fits : (g : Machine) (p : ℕ) (act : Act) → Fits (described g.system.conf) → IsWithin (view_of g.system p) (copies g p) act
     → FitsChannels g.system.conf g.channels (told_as (named g.system.conf p) (traffic_of act))
@@ -248,11 +251,9 @@ act_fits g p (told.Trades OwnStill) fits within = tt
 act_fits g p (told.Trades (OwnPuts q bytes)) fits within =
     let its = has_name_named g.system.conf p q (view_has g.system p q within.named) in
     subst (λ (o : Option ℕ). FitsChannels g.system.conf g.channels (puts_at o bytes)) (sym its.1) (put_fits g p q bytes its.0 fits within its.1 its.2)
-act_fits g p (told.Trades (OwnTakes q)) fits within = by (named g.system.conf p q)
-  where
-    by : (o : Option ℕ) → FitsChannels g.system.conf g.channels (takes_at o)
-    by None = tt
-    by (Some c) = tt
+act_fits g p (told.Trades (OwnTakes q)) fits within =
+    let its = has_name_named g.system.conf p q (view_has g.system p q within.named) in
+    subst (λ (o : Option ℕ). FitsChannels g.system.conf g.channels (takes_at o)) (sym its.1) (take_fits g p q its.0 within its.1)
 act_fits g p (told.Upon id order) fits within = tt
 act_fits g p (told.Plans change) fits within = tt
 act_fits g p (told.UponAll event) fits within = tt
@@ -273,7 +274,7 @@ unfolding FitsChannels
 turn_traffic g None fits = tt
 turn_traffic g (Some turn) fits = taken_traffic g turn.part turn.first (slice_get g.parts turn.part) fits
 
-tick_traffic : (g : Machine) → Fits (described g.system.conf) → FitsChannels g.system.conf g.channels (happened g).traffic
+pub tick_traffic : (g : Machine) → Fits (described g.system.conf) → FitsChannels g.system.conf g.channels (happened g).traffic
 unfolding happened happened_by local
 tick_traffic g fits = turn_traffic g (turn_of g) fits
 

@@ -1,6 +1,6 @@
 -- What a partition's work does beyond it is on channels of its own and on others.
 use Rattle.std.proofs.Common.{◌≡◌, ℕ, zero, suc, ◌<◌, ◌+◌, Bool, true, false, List, [], ◌∷◌, length, Option, None, Some, Result, Ok, Err, refl, sym, ap, ◌∙◌, arith, subst}
-use Rattle.std.specs.Prelude.{slice_get, slice_index_or, if◌then◌else◌, ◌==◌, ◌||◌, ◌≤◌, nat_lt}
+use Rattle.std.specs.Prelude.{slice_get, slice_index_or, if◌then◌else◌, ◌==◌, ◌||◌, ◌≤◌, nat_lt, IsSome}
 use Rattle.std.proofs.lemmas.Bool.Decides.{nat_tests}
 use Rattle.std.proofs.lemmas.Option.{same_Some}
 use Rattle.guest_bus.specs.MemoryLemmas.{length-bytes_at}
@@ -29,7 +29,7 @@ use Rattle.xm_conf.specs.declared.port.Port.{Port}
 use Rattle.xm_ports.specs.Channels.{Content, HeldSample, IsMessage, Shape, first_message, messages_of, most_of, sample_of}
 use Rattle.xm_ports.specs.Ports.{created_over, is_kind, is_made}
 use Rattle.xm_ports.specs.declared.ports.CreateFault.{CreateFault}
-use Rattle.machine_model.specs.Caller.{Acts, Caller, Meets, Served, Test, Upshot, a_of, answering, b_of, bytes_of, c_of, d_of, invalid_parameter, not_available, number_of, refused_if, room, tested, text, with_written}
+use Rattle.machine_model.specs.Caller.{Acts, Caller, Meets, Served, Test, Upshot, a_of, acting, answering, b_of, bytes_of, c_of, d_of, invalid_parameter, not_available, number_of, refused_if, room, tested, text, with_written}
 use Rattle.machine_model.specs.Health.{answered_by, by_interrupt, done_to_all, event_handled, interrupt_delivered, quiet, self_ordered, undelivered}
 use Rattle.machine_model.specs.Hypercalls.{served}
 use Rattle.machine_model.specs.Laws.{ActsWithinBounds}
@@ -38,7 +38,7 @@ use Rattle.machine_model.specs.LocalTick.{bounded, by_act, by_turn, by_upshot, c
 use Rattle.machine_model.specs.LogCalls.{hm_read, hm_status, raise_event, trace_event, trace_read, trace_status}
 use Rattle.machine_model.specs.Partition.{PartitionState, areas_of}
 use Rattle.machine_model.specs.PartitionCalls.{get_partition_status, get_self, get_system_status, halt_partition, halt_system, idle_self, reset_partition, reset_system, resume_partition, shutdown_partition, suspend_partition}
-use Rattle.machine_model.specs.PortCalls.{MadePort, by_created, create_queuing_port, create_sampling_port, creating, first_read, get_queuing_port_status, get_sampling_port_status, held_read, is_full, made_port, name_given, on_port, putting, read_sampling_message, receive_queuing_message, send_queuing_message, shape_at, size_fits, source_only, with_channel, with_content, write_sampling_message}
+use Rattle.machine_model.specs.PortCalls.{MadePort, by_created, create_queuing_port, create_sampling_port, creating, destination_only, first_read, get_queuing_port_status, get_sampling_port_status, held_read, is_full, made_port, name_given, on_port, putting, read_sampling_message, receive_queuing_message, send_queuing_message, shape_at, size_fits, source_only, with_channel, with_content, write_sampling_message}
 use Rattle.machine_model.specs.ProcessorCalls.{by_flush, by_return, clear_irqmask, flush_regwin, flushed, input_read, iret, read_input, set_irqmask, set_psr, set_tbr, write_console}
 use Rattle.machine_model.specs.Structures.{queuing_status, sampling_status}
 use Rattle.machine_model.specs.TimeCalls.{get_plan_status, get_time, set_timer, switch_sched_plan}
@@ -138,6 +138,13 @@ pub record IsPutting (view : PartitionView) (contents : List (Option Content)) (
   pub message : IsMessage channel.shape.length bytes
   pub room : HasRoom port.kind channel.shape.kind content
 
+-- a message that is taken from a channel by its name: the partition has that channel, and a message waits there
+pub record IsTaking (view : PartitionView) (contents : List (Option Content)) (name : ℕ) : Type 0 where
+  pub named : IsName view.channels name
+  pub content : Content
+  pub held : slice_index_or contents name None ≡ Some content
+  pub waits : IsSome (first_message content)
+
 -- two kinds that are one have the same room
 same_room : (one other : Kind) (of : ChanKind) (content : Content) → is_kind one other ≡ true → HasRoom other of content → HasRoom one of content
 same_room kind.Sampling kind.Sampling of content is has_room = tt
@@ -154,7 +161,7 @@ abbrev pub IsWithin : PartitionView → List (Option Content) → Act → Type 0
 IsWithin view contents told.Nothing = Unit {0}
 IsWithin view contents (told.Trades OwnStill) = Unit {0}
 IsWithin view contents (told.Trades (OwnPuts name bytes)) = IsPutting view contents name bytes
-IsWithin view contents (told.Trades (OwnTakes name)) = IsName view.channels name
+IsWithin view contents (told.Trades (OwnTakes name)) = IsTaking view contents name
 IsWithin view contents (told.Upon id order) = Unit {0}
 IsWithin view contents (told.Plans (Asked plan)) = nat_lt plan view.sees.plans ≡ true
 IsWithin view contents (told.Plans Maintenance) = HasMaintenance view
@@ -284,9 +291,13 @@ held_within : (view : PartitionView) (contents : List (Option Content)) (o : Opt
 held_within view contents None caller port = tt
 held_within view contents (Some sample) caller port = grind (arith)
 
-first_within : (view : PartitionView) (contents : List (Option Content)) (o : Option (List ℕ)) (caller : Caller) (port : MadePort) → IsName view.channels port.name → ComesWithin view contents (first_read o caller port).upshot
-first_within view contents None caller port named = tt
-first_within view contents (Some message) caller port named = grind (arith)
+first_within : (o : Option (List ℕ)) (caller : Caller) (port : MadePort) → IsMadePort caller kind.Queuing port → first_message port.content ≡ o
+    → ComesWithin caller.view caller.contents (first_read o caller port).upshot
+first_within None caller port is found = tt
+first_within (Some message) caller port is found =
+    tested_within caller.view caller.contents (refused_if (nat_lt (c_of caller) (length message)) invalid_parameter ∷ room caller (b_of caller) (length message) ∷ []) caller
+    (acting (told.Trades (OwnTakes port.name)) (length message) (with_written (b_of caller) message caller.state))
+    (record { named = is.named; content = port.content; held = is.held; waits = subst IsSome (sym found) refl })
 
 input_within : (view : PartitionView) (contents : List (Option Content)) (inputs : List ℕ) (caller : Caller) → ComesWithin view contents (input_read inputs caller).upshot
 input_within view contents [] caller = tt
@@ -391,7 +402,7 @@ send_queuing_message_stays caller names = record { within = on_port_within calle
 
 receive_queuing_message_stays : (caller : Caller) → AreNames caller.view.channels → Stays caller.view caller.contents (receive_queuing_message caller)
 unfolding receive_queuing_message
-receive_queuing_message_stays caller names = record { within = on_port_within caller.view caller.contents kind.Queuing (made_port kind.Queuing caller) caller _ (made_port_is kind.Queuing caller names) (λ port is. let first = first_within caller.view caller.contents (first_message port.content) caller port is.named in grind (arith, first)) }
+receive_queuing_message_stays caller names = record { within = on_port_within caller.view caller.contents kind.Queuing (made_port kind.Queuing caller) caller _ (made_port_is kind.Queuing caller names) (λ port is. tested_within caller.view caller.contents (destination_only port ∷ []) caller (first_read (first_message port.content) caller port) (first_within (first_message port.content) caller port is refl)) }
 
 get_queuing_port_status_stays : (caller : Caller) → AreNames caller.view.channels → Stays caller.view caller.contents (get_queuing_port_status caller)
 unfolding get_queuing_port_status
@@ -509,7 +520,7 @@ unfolding self_ordered
 act_bounded view contents told.Nothing ps within = refl
 act_bounded view contents (told.Trades OwnStill) ps within = refl
 act_bounded view contents (told.Trades (OwnPuts name bytes)) ps within = ap (λ b. if b then told.Trades (OwnPuts name bytes) else told.Nothing) within.named
-act_bounded view contents (told.Trades (OwnTakes name)) ps within = ap (λ b. if b then told.Trades (OwnTakes name) else told.Nothing) within
+act_bounded view contents (told.Trades (OwnTakes name)) ps within = ap (λ b. if b then told.Trades (OwnTakes name) else told.Nothing) within.named
 act_bounded view contents (told.Upon id order) ps within = at (id == view.id) refl
   where
     at : (b : Bool) → (id == view.id) ≡ b → IsBounded view (if b then self_ordered view order ps else record (quiet ps) { act = told.Upon id order }).act

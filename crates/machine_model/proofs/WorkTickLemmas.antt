@@ -30,7 +30,9 @@ use Rattle.xm_ports.specs.Ports.{is_made, no_ports}
 use Rattle.xm_traces.specs.Ring.{Kept, entry_at, first_kept, noted, nothing_kept}
 use Rattle.xm_traces.specs.declared.entry.TraceEntry.{TraceEntry}
 use Rattle.machine_model.specs.Caller.{Acts, Caller, Meets, Upshot}
-use Rattle.machine_model.specs.Facts.{AreEnds, AreFacts, AreLast, BootsWithFacts, HasFacts, HaveEight, KeepsFacts, RunsWithFacts, ShowsItsSizeInRuns, begun}
+use Rattle.machine_model.specs.Alone.{Alone, alone_after, alone_local, alone_local_in, alone_step}
+use Rattle.machine_model.specs.Cue.{Away, Cue, Mine, Slot}
+use Rattle.machine_model.specs.Facts.{AreEnds, AreFacts, AreLast, BootsWithFacts, HasFacts, HaveEight, IsItsOwn, KeepsFacts, KeepsFactsAlone, RunsWithFacts, ShowsItsSizeInRuns, begun}
 use Rattle.machine_model.specs.Health.{Worked, answered_by, behind, by_delivery, by_interrupt, done_to_all, done_to_itself, entered, entered_if, event_handled, interrupt_delivered, is_passed_over, passed_over_if, propagated, quiet, self_ordered, trap_delivered, undelivered}
 use Rattle.machine_model.specs.Hypercalls.{served}
 use Rattle.machine_model.specs.Laws.{HasLoads}
@@ -479,6 +481,49 @@ facts_after view n ps qs facts ticks =
       inputs = last_of qs.inputs ps.inputs view.inputs ticks.goes.read facts.inputs;
       made = ticks.goes.made facts.made;
     }
+
+-- a partition alone without a local tick, and with one
+alone_rests : (view : PartitionView) (a : Alone) (cue : Cue) → alone_local view a cue ≡ None → Ticks view a.state (alone_step view a cue).state
+unfolding alone_after alone_step
+alone_rests view a cue none =
+    subst (λ (tick : Option LocalTick). Ticks view a.state (alone_after view a cue tick).state) (sym none) (rest_ticks view a.time cue.traffic cue.order cue.whole a.state)
+
+-- an act that is nothing has nothing to follow
+nothing_after : (view : PartitionView) (time : ℕ) (act : Act) (ps : PartitionState) → act ≡ told.Nothing → after_tick view time true (traffic_of act) None (event_of act) ps ≡ ps
+unfolding after_tick
+nothing_after view time act ps is = rw is refl
+
+alone_works : (view : PartitionView) (a : Alone) (cue : Cue) (first : Bool) → takes_turns a.state.state ≡ true → cue.order ≡ None
+    → alone_local view a cue ≡ Some (local_tick view a.state a.copies a.ticks a.time first cue.seen)
+    → cue.whole ≡ event_of (local_tick view a.state a.copies a.ticks a.time first cue.seen).act → Ticks view a.state (alone_step view a cue).state
+unfolding alone_after alone_step local_tick
+alone_works view a cue first turns unordered is event =
+    subst (λ (tick : Option LocalTick). Ticks view a.state (alone_after view a cue tick).state) (sym is)
+    (subst (λ (o : Option Order). Ticks view a.state (after_tick view a.time true (traffic_of tick.act) o cue.whole tick.after)) (sym unordered)
+    (subst (λ (e : WholeEvent). Ticks view a.state (after_tick view a.time true (traffic_of tick.act) None e tick.after)) (sym event)
+    (work_ticks view a.time (traffic_of tick.act) None (event_of tick.act) a.state tick.after tick.act (awake a.state.state turns)
+    (bounded_works (work_works view a.copies a.time first cue.seen a.state)) (nothing_after view a.time tick.act tick.after))))
+  where
+    tick : LocalTick
+    tick = local_tick view a.state a.copies a.ticks a.time first cue.seen
+
+-- a tick of a partition alone, by whose slot it is
+alone_ticks : (view : PartitionView) (a : Alone) (cue : Cue) (mine : Slot) → cue.mine ≡ mine → IsItsOwn mine view a cue → Ticks view a.state (alone_step view a cue).state
+unfolding alone_local
+alone_ticks view a cue Away is its = alone_rests view a cue (ap (λ (slot : Slot). alone_local_in slot view a cue.seen) is)
+alone_ticks view a cue (Mine first) is its = at (takes_turns a.state.state) refl
+  where
+    tick : LocalTick
+    tick = local_tick view a.state a.copies a.ticks a.time first cue.seen
+
+    at : (b : Bool) → takes_turns a.state.state ≡ b → Ticks view a.state (alone_step view a cue).state
+    at true turns =
+        let local_is : alone_local view a cue ≡ Some tick = ap (λ (slot : Slot). alone_local_in slot view a cue.seen) is ∙ ap (λ (b : Bool). if b then Some tick else None) turns in
+        alone_works view a cue first turns its.0 local_is (its.1 ∙ ap (λ (o : Option LocalTick). event_of (act_of o)) local_is)
+    at false rests = alone_rests view a cue (ap (λ (slot : Slot). alone_local_in slot view a cue.seen) is ∙ ap (λ (b : Bool). if b then Some tick else None) rests)
+
+pub keeps_facts_alone : KeepsFactsAlone
+keeps_facts_alone view a cue n its facts = facts_after view n a.state (alone_step view a cue).state facts (alone_ticks view a cue cue.mine refl its)
 
 -- one more tick has begun
 event_begins : (e : WholeEvent) (ticks : ℕ) → ticks_after e ticks + flag (is_halt e) ≡ ticks + 1

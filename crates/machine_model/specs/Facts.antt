@@ -9,12 +9,15 @@ use Rattle.xm_conf.specs.declared.port.Port.{Port}
 use Rattle.xm_ports.specs.Channels.{Content, Suits, shape_of}
 use Rattle.xm_ports.specs.Ports.{is_made}
 use Rattle.xm_traces.specs.declared.entry.TraceEntry.{TraceEntry}
+use Rattle.machine_model.specs.Alone.{Alone, alone_local, alone_step}
+use Rattle.machine_model.specs.Cue.{Away, Cue, Mine, Slot}
 use Rattle.machine_model.specs.Laws.{HasLength}
-use Rattle.machine_model.specs.Machine.{Machine, answer_to, run, start, step}
+use Rattle.machine_model.specs.Machine.{Machine, act_of, answer_to, run, start, step}
 use Rattle.machine_model.specs.Observed.{Observation, observed_by}
 use Rattle.machine_model.specs.Partition.{PartitionState, is_halted}
 use Rattle.machine_model.specs.Structures.{flag}
 use Rattle.machine_model.specs.View.{PartitionView, PortChannel, System, view_of}
+use Rattle.machine_model.specs.Whole.{event_of}
 
 -- words are the last of a list
 pub record AreLast (rest all : List ℕ) : Type 0 where
@@ -60,6 +63,16 @@ BootsWithFacts = (system : System) → HasFacts (start system)
 
 abbrev pub KeepsFacts : Type 0
 KeepsFacts = (g : Machine) → HasFacts g → HasFacts (step g)
+
+-- in a slot of its own a partition has no order of others, and a hypervisor event is that of its own act
+abbrev pub IsItsOwn : Slot → PartitionView → Alone → Cue → Type 0
+IsItsOwn Away view a cue = Unit {0}
+IsItsOwn (Mine first) view a cue = (cue.order ≡ None) × (cue.whole ≡ event_of (act_of (alone_local view a cue)))
+
+-- so does a partition alone
+abbrev pub KeepsFactsAlone : Type 0
+KeepsFactsAlone =
+    (view : PartitionView) (a : Alone) (cue : Cue) (n : ℕ) → IsItsOwn cue.mine view a cue → AreFacts view n a.state → AreFacts view (n + 1) (alone_step view a cue).state
 
 abbrev pub RunsWithFacts : Type 0
 RunsWithFacts = (system : System) (count : ℕ) → HasFacts (run (start system) count)

@@ -23,6 +23,7 @@ pub mod CoreFile
 pub mod Laws
 pub mod Facts
 pub mod Lengths
+pub mod Allowed
 pub mod Rows
 pub mod SlotRows
 pub mod HealthRows

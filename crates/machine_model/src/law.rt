@@ -1,6 +1,7 @@
 //! The laws of the machine: a partition depends on nothing but its own things and its cues.
 
-ghost use Rattle.machine_model.specs.Facts.{BootsClocked, BootsComplete, BootsTimed, BootsWithFacts, BootsWithShapes, KeepsClocked, KeepsFacts, KeepsNumbers, KeepsShapes, KeepsTimed, PortsHaveKinds, RunsClocked, RunsComplete, RunsKeepNumbers, RunsTimed, RunsWithFacts, RunsWithShapes, ShowsItsSizeInRuns};
+ghost use Rattle.machine_model.specs.Allowed.{AnswersCalls, HearsWhatIsAllowed};
+ghost use Rattle.machine_model.specs.Facts.{BootsClocked, BootsComplete, BootsTimed, BootsWithFacts, BootsWithShapes, KeepsClocked, KeepsFacts, KeepsFactsAlone, KeepsNumbers, KeepsShapes, KeepsTimed, PortsHaveKinds, RunsClocked, RunsComplete, RunsKeepNumbers, RunsTimed, RunsWithFacts, RunsWithShapes, ShowsItsSizeInRuns};
 ghost use Rattle.machine_model.specs.Lengths.{PutsFewBytes, ShowsFewBytes};
 ghost use Rattle.machine_model.specs.Laws.{
   ActsWithinBounds,
@@ -105,6 +106,11 @@ pub fn keeps_facts()
     ensures runs { RunsWithFacts }
 {}
 
+/// A partition alone keeps them in each tick, too, where a hypervisor event in a slot of its own is that of its own act.
+pub fn keeps_facts_alone()
+    ensures law { KeepsFactsAlone }
+{}
+
 /// The hardware clock is not past the ticks that are done: when the machine boots, after each tick,
 /// and so after every run.
 pub fn keeps_hardware_clock()
@@ -145,4 +151,12 @@ pub fn keeps_shapes()
 pub fn tells_few_bytes()
     ensures messages { PutsFewBytes }
     ensures sights { ShowsFewBytes }
+{}
+
+/// Under a configuration that meets the rules a channel that gets a message in a tick takes one more, and in one that gives a message
+/// one waits, as each partition hears of it; and each observing call is answered, by as many bytes as it writes or, where it asks for
+/// an entry of a log, by that the entry is not kept.
+pub fn told_as_allowed()
+    ensures traffic { HearsWhatIsAllowed }
+    ensures answers { AnswersCalls }
 {}

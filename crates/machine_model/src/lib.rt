@@ -11,9 +11,9 @@ pub use calls::{
 };
 pub use law::{
     acts_within_bounds, all_ticks, boots_alone, earlier_ticks, has_own_tag, keeps_facts,
-    keeps_hardware_clock, keeps_numbers, keeps_plans, keeps_shapes, never_upon_itself,
-    observes_as_tested, one_tick, own_lines, same_core_file, scripts_end, sees_nothing,
-    tells_few_bytes, two_runs,
+    keeps_facts_alone, keeps_hardware_clock, keeps_numbers, keeps_plans, keeps_shapes,
+    never_upon_itself, observes_as_tested, one_tick, own_lines, same_core_file, scripts_end,
+    sees_nothing, tells_few_bytes, told_as_allowed, two_runs,
 };
 pub use rows::{
     asks_for_plans, halts_at_faults, holds_words, keeps_time, meets_illegal, observes_another,
