@@ -12,3 +12,4 @@ pub use message_calls::{
 };
 pub use port_making::{create_queuing_port, create_sampling_port};
 pub use port_status::{get_queuing_port_status, get_sampling_port_status};
+pub use traffic::{drop_first, put_sampling, send};

@@ -24,7 +24,7 @@ const SAMPLING_PORT: u8 = 3;
 const QUEUING_PORT: u8 = 4;
 
 /// Writes a message to a sampling channel. The partitions that hear it are interrupted.
-pub(crate) fn put_sampling(sys: &mut Sys, chan: u8, bytes: &[u8])
+pub fn put_sampling(sys: &mut Sys, chan: u8, bytes: &[u8])
     requires shapes { sys.old.shapes ≡ shapes_of sys.old.machine.system.conf }
     requires channel { HasSampling chan (table_in sys.old) }
     requires bytes { FitsChannel bytes.now chan (table_in sys.old) }
@@ -36,7 +36,7 @@ pub(crate) fn put_sampling(sys: &mut Sys, chan: u8, bytes: &[u8])
 }
 
 /// Puts a message at the end of a queue, or answers `Full`. The partitions that hear it are interrupted.
-pub(crate) fn send(sys: &mut Sys, chan: u8, bytes: &[u8]) -> Result<(), Full>
+pub fn send(sys: &mut Sys, chan: u8, bytes: &[u8]) -> Result<(), Full>
     requires shapes { sys.old.shapes ≡ shapes_of sys.old.machine.system.conf }
     requires channel { HasQueue chan (table_in sys.old) }
     requires bytes { FitsChannel bytes.now chan (table_in sys.old) }
@@ -54,7 +54,7 @@ pub(crate) fn send(sys: &mut Sys, chan: u8, bytes: &[u8]) -> Result<(), Full>
 }
 
 /// Takes the first message from a queue.
-pub(crate) fn drop_first(sys: &mut Sys, chan: u8)
+pub fn drop_first(sys: &mut Sys, chan: u8)
     requires channel { HasQueue chan (table_in sys.old) }
     requires first { IsSomeAnd (first_message (content_at chan (table_in sys.old))) (λ first. length first ≤ 4096) }
     ensures { sys.new ≡ with_machine (with_traffic (Takes chan) sys.old.machine) sys.old }

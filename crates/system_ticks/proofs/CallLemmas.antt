@@ -89,13 +89,13 @@ counted_traded (Takes channel) p x g below =
     ap (λ (parts : List PartitionState). record g { parts = parts; channels = each (after_traffic g.time (Takes channel)) g.channels }) (counted_traffic (Takes channel) p x g below)
 
 -- traffic keeps the number of ticks
-traded_ticks : (traffic : Traffic) (g : Machine) → (traded traffic g).ticks ≡ g.ticks
+pub traded_ticks : (traffic : Traffic) (g : Machine) → (traded traffic g).ticks ≡ g.ticks
 traded_ticks Still g = refl
 traded_ticks (Puts channel bytes) g = refl
 traded_ticks (Takes channel) g = refl
 
 -- and how many partitions there are
-traded_length : (traffic : Traffic) (g : Machine) → length (traded traffic g).parts ≡ length g.parts
+pub traded_length : (traffic : Traffic) (g : Machine) → length (traded traffic g).parts ≡ length g.parts
 traded_length Still g = refl
 traded_length (Puts channel bytes) g = each_length (heard_in g (Puts channel bytes)) g.parts
 traded_length (Takes channel) g = each_length (heard_in g (Takes channel)) g.parts

@@ -225,7 +225,7 @@ reset_facts view mode status ticks ps is log = record {
 }
 
 -- one partition is replaced by another that has the facts
-facts_with : (g : Machine) (p : ℕ) (new : PartitionState) → HasFacts g → p < length g.parts → AreFacts (view_of g.system p) (begun g) new → HasFacts (with_part p new g)
+pub facts_with : (g : Machine) (p : ℕ) (new : PartitionState) → HasFacts g → p < length g.parts → AreFacts (view_of g.system p) (begun g) new → HasFacts (with_part p new g)
 facts_with g p new facts below is q ps there = ⊎_elim here other (cases_eq q p)
   where
     within : q < length g.parts

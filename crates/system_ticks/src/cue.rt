@@ -146,7 +146,7 @@ pub(crate) fn order_for(reach: Beyond, p: PartId) -> Option<Order>
 }
 
 /// What was done to the whole system. The maintenance plan is told nobody.
-pub(crate) fn whole_of(reach: Beyond) -> WholeCue
+pub fn whole_of(reach: Beyond) -> WholeCue
     ensures { whole_value result ≡ event_of (act_of reach) }
 {
     match reach {

@@ -233,7 +233,7 @@ fn give_up(sys: &mut Sys, lines: &mut Lines, p: PartId)
 }
 
 /// The program counter of a partition.
-pub(crate) fn program_counter(sys: &Sys, p: PartId) -> u32
+pub fn program_counter(sys: &Sys, p: PartId) -> u32
     requires { p < length sys.now.machine.parts }
     ensures value { result ≡ (part_at p sys.now.machine).core.pc }
     ensures aligned { result % 4 ≡ 0 }

@@ -14,10 +14,13 @@ mod slot;
 mod work;
 
 pub use beyond::Beyond;
-pub use cue::{Cue, Mine, Sight, Traffic, WholeCue};
+pub use cue::{Cue, Mine, Sight, Traffic, WholeCue, whole_of};
 pub use ending::reset_all;
+pub use health::program_counter;
 pub use kept::Kept;
 pub use lines::Lines;
-pub use order::reset;
+pub use order::{obey, reset, reset_move};
 pub use place::{Place, later};
-pub use slot::Span;
+pub use rest::rest_one;
+pub use slot::{Span, goes_on, interrupt, meet, takes_turns, wake};
+pub use work::{call, count_tick, meet_trap, take_interrupt};

@@ -49,7 +49,7 @@ impl Lines {
     }
 
     /// One line more.
-    pub(crate) fn push(&mut self, line: Line<'static>)
+    pub fn push(&mut self, line: Line<'static>)
         requires room { length self.old < 24 }
         requires short { IsShort (line_of line) }
         requires other { IsOther (line_of line) }

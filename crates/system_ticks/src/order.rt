@@ -22,7 +22,7 @@ const SHUTDOWN: u8 = 2;
 
 /// A partition obeys an order. One that does not apply changes nothing and tells nothing.
 #[tactic(auto, unfolding(machine_model::specs::Partition::ordered, machine_model::specs::Partition::ordered_told))]
-pub(crate) fn obey(sys: &mut Sys, lines: &mut Lines, p: PartId, order: Order)
+pub fn obey(sys: &mut Sys, lines: &mut Lines, p: PartId, order: Order)
     requires partition { p < length sys.old.machine.parts }
     requires room { length lines.old < 24 }
     ensures done { IsDone p (ordered (view_of sys.old.machine.system p) order (part_at p sys.old.machine)) (ordered_told order (part_at p sys.old.machine)) sys.old sys.new lines.old lines.new }
@@ -63,7 +63,7 @@ fn tell(lines: &mut Lines, n: u64, p: PartId, order: Order)
 }
 
 /// The change of state that a reset tells.
-pub(crate) fn reset_move(mode: Mode) -> Move
+pub fn reset_move(mode: Mode) -> Move
     ensures { result ≡ reset_move mode }
 {
     match mode {

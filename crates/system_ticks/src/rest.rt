@@ -34,8 +34,8 @@ fn is_working(working: Option<PartId>, p: PartId) -> bool
     }
 }
 
-// A partition rests: only its hardware timer is looked at, where it is armed.
-fn rest_one(sys: &mut Sys, p: PartId, time: u64)
+/// A partition rests: only its hardware timer is looked at, where it is armed.
+pub fn rest_one(sys: &mut Sys, p: PartId, time: u64)
     requires { p < length sys.old.machine.parts }
     ensures { sys.new ≡ with_machine (with_part p (rested time (part_at p sys.old.machine)) sys.old.machine) sys.old }
 {

@@ -102,8 +102,8 @@ fn run_slot(sys: &mut Sys, lines: &mut Lines, span: &mut Span, slot: Here, most:
     }
 }
 
-// Whether a partition takes its turn in its slots: it is not suspended, and has not halted.
-fn takes_turns(sys: &Sys, p: PartId) -> bool
+/// Whether a partition takes its turn in its slots: it is not suspended, and has not halted.
+pub fn takes_turns(sys: &Sys, p: PartId) -> bool
     requires partition { p < length sys.now.machine.parts }
     ensures { result ≡ takes_turns (part_at p sys.now.machine).state }
 {
@@ -156,17 +156,17 @@ fn take_slot(sys: &mut Sys, lines: &mut Lines, span: &mut Span, p: PartId, first
     }
 }
 
-// A partition that goes on is ready.
-fn wake(sys: &mut Sys, p: PartId)
+/// A partition that goes on is ready.
+pub fn wake(sys: &mut Sys, p: PartId)
     requires partition { p < length sys.old.machine.parts }
     ensures { sys.new ≡ with_machine (with_part p (awake (part_at p sys.old.machine)) sys.old.machine) sys.old }
 {
     sys.part_mut(p).state = State::Ready;
 }
 
-// The interrupts of a tick become pending: the start of a slot, and those of the timers that are due.
+/// The interrupts of a tick become pending: the start of a slot, and those of the timers that are due.
 #[tactic(auto, unfolding(machine_model::specs::LocalTick::with_interrupts, machine_model::specs::Partition::hardware_looked_at, machine_model::specs::Partition::execution_looked_at))]
-fn meet(sys: &mut Sys, p: PartId, first: bool)
+pub fn meet(sys: &mut Sys, p: PartId, first: bool)
     requires partition { p < length sys.old.machine.parts }
     ensures { sys.new ≡ with_machine (with_part p (with_interrupts sys.old.machine.time first (part_at p sys.old.machine)) sys.old.machine) sys.old }
 {
@@ -183,8 +183,8 @@ fn meet(sys: &mut Sys, p: PartId, first: bool)
     }
 }
 
-// Whether the partition goes on: an idle one is woken by the start of its slot or an interrupt that is due.
-fn goes_on(sys: &Sys, p: PartId, first: bool) -> bool
+/// Whether the partition goes on: an idle one is woken by the start of its slot or an interrupt that is due.
+pub fn goes_on(sys: &Sys, p: PartId, first: bool) -> bool
     requires partition { p < length sys.now.machine.parts }
     requires turns { takes_turns (part_at p sys.now.machine).state ≡ true }
     ensures { result ≡ goes_on (part_at p sys.now.machine).state first (due (part_at p sys.now.machine).traps) }
@@ -255,8 +255,8 @@ fn go_on(sys: &mut Sys, lines: &mut Lines, span: &mut Span, p: PartId, most: u64
     }
 }
 
-// The interrupt that is delivered to the partition, where one is due and traps are enabled.
-fn interrupt(sys: &Sys, p: PartId) -> Option<u8>
+/// The interrupt that is delivered to the partition, where one is due and traps are enabled.
+pub fn interrupt(sys: &Sys, p: PartId) -> Option<u8>
     requires partition { p < length sys.now.machine.parts }
     ensures value { result ≡ (if (part_at p sys.now.machine).traps.enabled then due (part_at p sys.now.machine).traps else None) }
     ensures below { IfSome result (λ n. n < 32) }

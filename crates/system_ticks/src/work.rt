@@ -26,7 +26,7 @@ use xm_base::{Order, PartId};
 use xm_report::Line;
 
 /// A partition takes an interrupt, which is the tick's work.
-pub(crate) fn take_interrupt(sys: &mut Sys, lines: &mut Lines, p: PartId, n: u8)
+pub fn take_interrupt(sys: &mut Sys, lines: &mut Lines, p: PartId, n: u8)
     requires partition { p < length sys.old.machine.parts }
     requires interrupt { n < 32 }
     requires clock { (part_at p sys.old.machine).clocks.execution < 2 ^ 63 }
@@ -40,7 +40,7 @@ pub(crate) fn take_interrupt(sys: &mut Sys, lines: &mut Lines, p: PartId, n: u8)
 }
 
 /// An instruction of a partition, at this program counter, trapped.
-pub(crate) fn meet_trap(sys: &mut Sys, lines: &mut Lines, p: PartId, tt: u8, pc: u32) -> Beyond
+pub fn meet_trap(sys: &mut Sys, lines: &mut Lines, p: PartId, tt: u8, pc: u32) -> Beyond
     requires partition { p < length sys.old.machine.parts }
     requires clock { (part_at p sys.old.machine).clocks.execution < 2 ^ 63 }
     requires log { (part_at p sys.old.machine).health.next < 4294967294 }
@@ -52,9 +52,9 @@ pub(crate) fn meet_trap(sys: &mut Sys, lines: &mut Lines, p: PartId, tt: u8, pc:
     Beyond::Whole(handle_event(sys, lines, p, event_of(tt), pc, Some(tt)))
 }
 
-// Counts the tick on the partition's execution clock.
+/// Counts the tick on the partition's execution clock.
 #[tactic(auto, unfolding(machine_model::specs::LocalTick::clocked))]
-fn count_tick(sys: &mut Sys, p: PartId)
+pub fn count_tick(sys: &mut Sys, p: PartId)
     requires partition { p < length sys.old.machine.parts }
     requires clock { (part_at p sys.old.machine).clocks.execution < 2 ^ 63 }
     ensures value { sys.new ≡ with_machine (with_part p (clocked (part_at p sys.old.machine)) sys.old.machine) sys.old }
@@ -64,7 +64,7 @@ fn count_tick(sys: &mut Sys, p: PartId)
 }
 
 /// An instruction of a partition, at this program counter, called. What the call tells of its own, and how it reaches beyond the partition.
-pub(crate) fn call(sys: &mut Sys, lines: &mut Lines, p: PartId, pc: u32) -> (Note, Beyond)
+pub fn call(sys: &mut Sys, lines: &mut Lines, p: PartId, pc: u32) -> (Note, Beyond)
     requires partition { p < length sys.old.machine.parts }
     requires pc { pc % 4 ≡ 0 }
     requires next { (part_at p sys.old.machine).core.npc ≡ ((part_at p sys.old.machine).core.pc + 4) % 2 ^ 32 }

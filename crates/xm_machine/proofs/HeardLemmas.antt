@@ -16,7 +16,11 @@ use Rattle.xm_conf.specs.Description.{described}
 use Rattle.xm_conf.specs.Fits.{Fits}
 use Rattle.xm_report.specs.Report.{ConsoleLine, EndPart, EndWhole, HealthLine, MovedLine, PlanLine, ReportLine, SystemLine, TraceLine, WholeLine}
 use Rattle.whole_system.specs.State.{SysState}
+use Rattle.alone_passes.specs.Passes.{part_in}
+use Rattle.machine_model.specs.Alone.{Alone, alone_lines_of, alone_local, alone_local_in, alone_step_lines, alone_step_said}
+use Rattle.machine_model.specs.Cue.{Away, Cue, Mine, Slot}
 use Rattle.machine_model.specs.Facts.{RunsKeepNumbers}
+use Rattle.machine_model.specs.Laws.{part}
 use Rattle.machine_model.specs.Lines.{console, has_console, lines, lines_of, lines_unless, local_lines, local_said, order_lines, plan_lines, said_unless, step_console, step_lines, step_said}
 use Rattle.machine_model.specs.Lists.{all_of, is_number}
 use Rattle.machine_model.specs.LocalTick.{LocalTick, local_tick, said_in, worked}
@@ -26,10 +30,12 @@ use Rattle.machine_model.specs.Told as told
 use Rattle.machine_model.specs.Told.{Told, line_of}
 use Rattle.machine_model.specs.View.{System, part_of, view_of}
 use Rattle.machine_model.specs.Whole.{AllHalted, AllReset, NoEvent, WholeEvent, event_lines, whole_lines}
+use Rattle.slot_runs.specs.Passes.{part_at}
 use Rattle.slot_runs.specs.RunLemmas.{console_add, run_add}
 use Rattle.xm_machine.proofs.GoingLemmas.{lines_halted, state_on}
 use Rattle.system_ticks.specs.KeptLemmas.{step_halted, ticks_exact}
 use Rattle.system_ticks.specs.TickLines.{IsOther}
+use Rattle.xm_machine.specs.AloneStep.{said_alone}
 use Rattle.xm_machine.specs.Heard.{IsRunHeard, console_to, line_to, lines_to}
 use Rattle.system_ticks.specs.Span.{IsSpanDone, console_lines}
 use Rattle.system_ticks.specs.declared.slot.Span.{Span}
@@ -398,3 +404,42 @@ console_below conf p part fits below is =
     at : (o : Option ℕ) → IfSome o (λ uart. uart < length conf.uarts) → IfSome o (λ place. place < 8)
     at None within = within
     at (Some place) within = omega (arith, within, few)
+
+-- the same of a tick of one partition without the others
+alone_tale : (g : Machine) (p : ℕ) (cue : Cue) → HasTale g p (alone_local (view_of g.system p) (part_in g p) cue)
+unfolding alone_local local_tick part view_of
+alone_tale g p cue = by cue.mine
+  where
+    by : (mine : Slot) → HasTale g p (alone_local_in mine (view_of g.system p) (part_in g p) cue.seen)
+    by Away = record { tale = []; its_lines = refl; its_bytes = refl }
+    by (Mine first) = at (takes_turns (part_at p g).state)
+      where
+        at : (b : Bool) → HasTale g p (if b then Some (local_tick (view_of g.system p) (part_at p g) (copies g p) g.ticks g.time first cue.seen) else None)
+        at true = record { tale = (worked (view_of g.system p) (copies g p) g.time first cue.seen (part_at p g)).told; its_lines = refl; its_bytes = refl }
+        at false = record { tale = []; its_lines = refl; its_bytes = refl }
+
+lines_alone : (m g : Machine) (uart p : ℕ) (cue : Cue)
+    → flat_map (line_to m uart) (alone_step_lines (view_of g.system p) (part_in g p) cue) ≡ (if has_console m uart p then alone_step_said (view_of g.system p) (part_in g p) cue else [])
+unfolding alone_step_lines alone_lines_of alone_step_said part view_of
+lines_alone m g uart p cue =
+    let view = view_of g.system p in
+    let a : Alone = part_in g p in
+    let its = alone_tale g p cue in
+    let l : Option LocalTick = alone_local view a cue in
+    silent_after (line_to m uart) (local_lines l ++ map (line_of a.ticks view.id) (obeyed_told cue.order (worked_in l a.state))) (event_lines a.ticks cue.whole view.id)
+    (event_silent m uart a.ticks view.id cue.whole)
+    ∙ silent_after (line_to m uart) (local_lines l) (map (line_of a.ticks view.id) (obeyed_told cue.order (worked_in l a.state)))
+    (tale_to m uart a.ticks view.id (obeyed_told cue.order (worked_in l a.state))
+    ∙ if_none (has_console m uart view.id) (flat_map said_in (obeyed_told cue.order (worked_in l a.state))) (obeyed_silent cue.order (worked_in l a.state)))
+    ∙ ap (flat_map (line_to m uart)) its.its_lines
+    ∙ tale_to m uart g.ticks p its.tale
+    ∙ ap (λ (bytes : List ℕ). if has_console m uart p then bytes else []) (sym its.its_bytes)
+
+pub alone_heard : (old new : Machine) (p : ℕ) (cue : Cue) (lines : List ReportLine) (before after : BoardView) → new.system ≡ old.system
+    → alone_step_lines (view_of old.system p) (part_in old p) cue ≡ lines → IsHeard (lines_to new lines) before after → IsHeard (said_alone old p cue) before after
+alone_heard old new p cue lines before after same are heard place =
+    subst (λ (bytes : List ℕ). IsHeardAt bytes (view_at place before) (mark_at place before.marks) (view_at place after) (mark_at place after.marks))
+    (ap (flat_map (line_to new place)) (sym are)
+    ∙ lines_alone new old place p cue
+    ∙ ap (λ (s : System). if has_console (record old { system = s }) place p then alone_step_said (view_of old.system p) (part_in old p) cue else []) same)
+    (heard place)

@@ -1,12 +1,14 @@
 //! The machine: it boots a system, does its ticks, and writes the report of a run.
 #![tactic(auto)]
 
+mod alone_fault;
 mod law;
 mod machine;
 mod report;
 mod run;
 mod stretch;
 
+pub use alone_fault::AloneFault;
 pub use hypercalls::{InputFault, Inputs};
 pub use law::keeps_cues;
 pub use machine::Machine;

@@ -12,6 +12,9 @@ ghost use Rattle.machine_model.specs.Told.{AllReset};
 ghost use Rattle.machine_model.specs.View.{view_of};
 ghost use Rattle.slot_runs.specs.Passes.{evented, part_at, with_part};
 ghost use Rattle.uart_board.specs.Heard.{IsHeard};
+ghost use Rattle.alone_passes.specs.Step.{IsOfSystem};
+ghost use Rattle.cue_scripts.specs.Script.{IsCue};
+ghost use Rattle.xm_machine.specs.AloneStep.{HasStepCause, IsSaidAlone, StepsAlone};
 ghost use Rattle.xm_machine.specs.Alone.{AreAlone, AreBootedAlone, RunsAlone};
 ghost use Rattle.system_ticks.specs.CueValues.{cue_value};
 ghost use Rattle.xm_machine.specs.Cues.{AreCued, KeepsTicks, RunsCued, told_to};
@@ -25,13 +28,15 @@ ghost use Rattle.xm_machine.specs.Stretch.{AreWhole, KeepsStepped, Steps, Stretc
 ghost use Rattle.xm_ports.specs.Channels.{shapes_of};
 ghost use Rattle.xm_report.specs.Report.{line_of};
 
-use crate::report::{end_parts, tell};
+use crate::alone_fault::AloneFault;
+use crate::report::{end_parts, tell, tell_alone};
 use crate::run::Ran;
 use crate::stretch::{Stepped, ends_stretch, stepped_by};
 use core_files::{core_into, core_length};
 use cyclic_plans::PlanClock;
 use hypercalls::{Inputs, Sys};
 use loaded_system::System;
+use lone_ticks::tick_alone;
 use machine_model::{
     all_ticks, boots_alone, keeps_facts, keeps_hardware_clock, keeps_numbers, keeps_plans,
     own_lines,
@@ -203,6 +208,33 @@ impl Machine {
             halted: self.halted(),
             lines: 1 + told + ended,
         })
+    }
+
+    /// One tick of partition `p` without the others: it does its own work, and is told by the cue what others did. Its lines go out, and
+    /// its console bytes go to their UART. `Cue` comes where the partition cannot take the cue, and then another tick or a part of one was
+    /// done; after `Write` the tick was done whole. What the other partitions do, and the plan, is left open.
+    pub fn step_alone<O: Sink>(
+        &mut self,
+        p: PartId,
+        cue: &Cue<'_>,
+        out: &mut O,
+        board: &mut Board,
+    ) -> Result<(), AloneFault>
+        requires partition { p < length self.old.state.parts }
+        requires running { self.old.state.halted ≡ false }
+        requires more { self.old.state.ticks < TICKS }
+        requires cue { IsCue self.old.state.system.conf p (cue_value cue.now) }
+        ensures step { StepsAlone result p (cue_value cue.now) self.old.state self.new.state (O.got out.old) (O.got out.new) }
+        ensures cause { HasStepCause result (O.faults out.old) (O.faults out.new) }
+        ensures heard { IsSaidAlone result p (cue_value cue.now) self.old.state (⟦<Board as ViewBoard>⟧.board_view board.old) (⟦<Board as ViewBoard>⟧.board_view board.new) }
+        ensures system { IsOfSystem self.old.state self.new.state }
+        ensures kept { self.new.kept ≡ self.old.kept }
+        ensures counters { IsCounted self.new.state }
+    {
+        self.lines.clear();
+        let n = self.sys.ticks();
+        let done = tick_alone(&mut self.sys, &mut self.lines, p, cue);
+        tell_alone(&self.sys, n, p, done, &self.lines, out, board)
     }
 
     /// How many bytes the core file of a partition has. No tick and no reset changes it.

@@ -10,12 +10,14 @@ ghost use Rattle.machine_model.specs.Told as told;
 ghost use Rattle.machine_model.specs.View.{part_of};
 ghost use Rattle.slot_runs.specs.Passes.{part_at};
 ghost use Rattle.uart_board.specs.Heard.{IsHeard};
+ghost use Rattle.xm_machine.specs.AloneStep.{IsToldAlone};
 ghost use Rattle.xm_machine.specs.Heard.{console_to, lines_to};
 ghost use Rattle.xm_machine.specs.Outcome.{HasWriteCause};
 ghost use Rattle.xm_machine.specs.Steps.{Tells};
 ghost use Rattle.system_ticks.specs.Work.{console_told};
 ghost use Rattle.xm_report.specs.Report.{IsShort, line_of};
 
+use crate::alone_fault::{AloneFault, told_alone};
 use hypercalls::{Note, Sys};
 use system_ticks::Lines;
 use uart_board::{Board, ViewBoard};
@@ -47,6 +49,27 @@ pub(crate) fn tell<O: Sink>(
     let console = tell_console(sys, n, p, note, out, board)?;
     let others = put_all(out, rest)?;
     Ok(console + others)
+}
+
+/// The same of tick n of partition `p` without the others, where it was done and its note is there; else nothing.
+pub(crate) fn tell_alone<O: Sink>(
+    sys: &Sys,
+    n: u64,
+    p: PartId,
+    done: Option<Note>,
+    lines: &Lines,
+    out: &mut O,
+    board: &mut Board,
+) -> Result<(), AloneFault>
+    requires partition { p < length sys.now.machine.parts }
+    requires readable { IfSome done (λ note. CanBeTold note (areas_in p sys.now.machine)) }
+    requires few { IfSome done (λ note. length lines.now ≤ 24) }
+    ensures told { IsToldAlone done n p sys.now.machine lines.now result (O.got out.old) (O.got out.new) (O.faults out.old) (O.faults out.new) (⟦<Board as ViewBoard>⟧.board_view board.old) (⟦<Board as ViewBoard>⟧.board_view board.new) }
+{
+    match done {
+        Some(note) => told_alone(tell(sys, n, p, note, lines, out, board)),
+        None => Err(AloneFault::Cue),
+    }
 }
 
 // Says the bytes for the console to its UART and puts out their line, where the note tells any.

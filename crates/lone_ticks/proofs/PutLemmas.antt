@@ -1,0 +1,51 @@
+-- One partition of a system that is changed, and traffic of it.
+use Rattle.std.proofs.Common.{◌≡◌, ℕ, ◌<◌, List, length, refl, sym, ap, ◌∙◌}
+use Rattle.std.proofs.lemmas.List.{length-set, set-get_or, set-set}
+use Rattle.whole_system.specs.State.{SysState, with_machine}
+use Rattle.whole_system.specs.StateLemmas.{part_set}
+use Rattle.machine_model.specs.Machine.{Machine, booted_part}
+use Rattle.machine_model.specs.Partition.{PartitionState}
+use Rattle.machine_model.specs.Traffic.{Puts, Still, Takes, Traffic, heard_as, hearing}
+use Rattle.machine_model.specs.View.{name_of, view_of}
+use Rattle.slot_runs.specs.Passes.{part_at, traded, with_part}
+use Rattle.system_ticks.specs.ListLemmas.{each_length}
+
+-- a partition that stays as it is
+pub put_back : (p : ℕ) (sys : SysState) → with_machine (with_part p (part_at p sys.machine) sys.machine) sys ≡ sys
+put_back p sys =
+    ap (λ (parts : List PartitionState). with_machine (record sys.machine { parts = parts }) sys) (set-get_or sys.machine.parts p (booted_part sys.machine.system p))
+
+-- one that is changed by what it is changed to
+pub put_then : (f : PartitionState → PartitionState) (p : ℕ) (x : PartitionState) (old mid new : SysState) → p < length old.machine.parts
+    → mid ≡ with_machine (with_part p x old.machine) old → new ≡ with_machine (with_part p (f (part_at p mid.machine)) mid.machine) mid
+    → new ≡ with_machine (with_part p (f x) old.machine) old
+put_then f p x old mid new below mid_is new_is =
+    new_is
+    ∙ ap (λ (y : PartitionState). with_machine (with_part p (f y) mid.machine) mid) (part_set old mid p x below mid_is)
+    ∙ ap (λ (s : SysState). with_machine (with_part p (f x) s.machine) s) mid_is
+    ∙ ap (λ (parts : List PartitionState). with_machine (record old.machine { parts = parts }) old) (set-set old.machine.parts p x (f x))
+
+-- traffic leaves what runs, the plan and the clocks, and how many partitions there are
+pub record IsTraded (old new : Machine) : Type 0 where
+  pub system : new.system ≡ old.system
+  pub clock : new.clock ≡ old.clock
+  pub time : new.time ≡ old.time
+  pub ticks : new.ticks ≡ old.ticks
+  pub parts : length new.parts ≡ length old.parts
+
+pub is_traded : (traffic : Traffic) (g : Machine) → IsTraded g (traded traffic g)
+is_traded Still g = record { system = refl; clock = refl; time = refl; ticks = refl; parts = refl }
+is_traded (Puts channel bytes) g = record {
+  system = refl;
+  clock = refl;
+  time = refl;
+  ticks = refl;
+  parts = each_length (λ q ps. hearing (view_of g.system q) (heard_as (name_of g.system.conf q) (Puts channel bytes)) ps) g.parts;
+}
+is_traded (Takes channel) g = record {
+  system = refl;
+  clock = refl;
+  time = refl;
+  ticks = refl;
+  parts = each_length (λ q ps. hearing (view_of g.system q) (heard_as (name_of g.system.conf q) (Takes channel)) ps) g.parts;
+}

@@ -1,0 +1,26 @@
+use Rattle.std.proofs.Common.{refl, ◌∙◌}
+use Rattle.xm_ports.specs.Channels.{IsQueuing}
+use Rattle.lone_ticks.proofs.LoneTrafficLemmas.{fits_shape, kind_shape, queue_at, room_left, room_none}
+use Rattle.lone_ticks.proofs.traffic.put_message.Goals as goal
+
+pub first-first-requires : goal.first-first-requires
+first-first-requires c =
+    record { channel = kind_shape IsQueuing c.args.sys.now.machine.system.conf c.channels.result.now.shapes c.args.chan (c.channels.ensures.shapes ∙ c.requires.shapes) c.requires.kind }
+
+pub send-requires-clause-channel : goal.send-requires-clause-channel
+send-requires-clause-channel c = kind_shape IsQueuing c.args.sys.now.machine.system.conf c.args.sys.now.shapes c.args.chan c.requires.shapes c.requires.kind
+
+pub send-requires-clause-bytes : goal.send-requires-clause-bytes
+send-requires-clause-bytes c = fits_shape c.args.sys.now.machine.system.conf c.args.sys.now.shapes c.args.chan c.args.bytes.now c.requires.shapes c.requires.channel
+
+pub returns-in-Ok-clause-taken : goal.returns-in-Ok-clause-taken
+returns-in-Ok-clause-taken c =
+    room_left c.args.sys.now.machine c.channels.result.now c.args.sys.now.shapes c.args.chan
+    (queue_at c.args.sys.now.machine.system.conf c.channels.result.now c.args.chan c.first-first.ensures.kept (c.channels.ensures.shapes ∙ c.requires.shapes) c.requires.kind)
+    c.requires.shapes c.channels.ensures.contents (λ full. let no = c.in-Ok.ensures.full.1 full in cc)
+
+pub returns-in-Err-clause-taken : goal.returns-in-Err-clause-taken
+returns-in-Err-clause-taken c =
+    room_none c.args.sys.now.machine c.channels.result.now c.args.sys.now.shapes c.args.chan
+    (queue_at c.args.sys.now.machine.system.conf c.channels.result.now c.args.chan c.first-first.ensures.kept (c.channels.ensures.shapes ∙ c.requires.shapes) c.requires.kind)
+    c.requires.shapes c.channels.ensures.contents (c.in-Err.ensures.full.0 refl)

@@ -1,0 +1,125 @@
+-- What one tick of one partition without the others does to the whole system, part by part.
+use Rattle.std.specs.Prelude.{◌≡◌, ℕ, ◌≤◌, ◌==◌, ◌&&◌, not, Bool, true, false, List, ◌++◌, length, map, Option, Some, None, IsSomeAnd, slice_get}
+use Rattle.xm_conf.specs.Configuration.{Chan, Conf}
+use Rattle.xm_conf.specs.declared.channel.ChanKind.{ChanKind}
+use Rattle.xm_ports.specs.Channels.{Content, IsMessage}
+use Rattle.xm_report.specs.Report.{ReportLine}
+use Rattle.machine_model.specs.Alone.{alone_step_lines}
+use Rattle.machine_model.specs.Caller.{Caller, invalid_parameter, is_room, not_available, with_answer, with_written}
+use Rattle.machine_model.specs.Cue.{Cue}
+use Rattle.machine_model.specs.Health.{Worked}
+use Rattle.machine_model.specs.Machine.{Machine}
+use Rattle.machine_model.specs.Observed.{Observation}
+use Rattle.machine_model.specs.Partition.{PartitionState, is_halted}
+use Rattle.machine_model.specs.Told.{NotKept, OwnTraffic, Sight, Unseen, Words, line_of}
+use Rattle.machine_model.specs.Traffic.{Puts, Takes, told_as}
+use Rattle.machine_model.specs.View.{named, view_of}
+use Rattle.machine_model.specs.Whole.{event_of}
+use Rattle.slot_runs.specs.Passes.{part_at, traded, traffic_in, with_part, with_traffic}
+use Rattle.whole_system.specs.Serving.{CanBeTold}
+use Rattle.whole_system.specs.State.{SysState, areas_in, memory_of, with_machine}
+use Rattle.whole_system.specs.declared.served.Note.{Note}
+use Rattle.alone_passes.specs.Passes.{part_in}
+use Rattle.alone_passes.specs.Step.{IsLone}
+use Rattle.alone_passes.specs.Taking.{is_empty_copy, is_entry, is_full, takes_cue, takes_sight}
+use Rattle.system_ticks.specs.Work.{TellsAlone, act_of, console_told}
+use Rattle.lone_ticks.specs.declared.call.Asked.{Asked}
+use Rattle.lone_ticks.specs.declared.work.LoneWork.{LoneWork}
+
+-- the machine after the traffic of others under partition p's names, where it can be
+abbrev pub traffic_done : Bool → Machine → ℕ → OwnTraffic → Machine
+traffic_done true g p own = traded (told_as (named g.system.conf p) own) g
+traffic_done false g p own = g
+
+-- a channel of the configuration may get these bytes as a message
+pub record IsChannelFor (conf : Conf) (c : ℕ) (bytes : List ℕ) : Type 0 where
+  pub chan : Chan
+  pub there : slice_get conf.chans c ≡ Some chan
+  pub fits : IsMessage chan.length bytes
+
+-- the configuration has the channel, of such a kind
+abbrev pub IsKind : (ChanKind → Type 0) → Conf → ℕ → Type 0
+IsKind Of conf c = IsSomeAnd (slice_get conf.chans c) (λ (chan : Chan). Of chan.kind)
+
+-- whether what a channel holds is a full queue
+abbrev pub is_full_in : Option Chan → Option Content → Bool
+is_full_in None content = false
+is_full_in (Some chan) None = false
+is_full_in (Some chan) (Some content) = is_full chan.kind content
+
+-- whether a channel takes a message
+abbrev pub has_room : Machine → ℕ → Bool
+has_room g c = not (is_full_in (slice_get g.system.conf.chans c) (slice_get g.channels c))
+
+-- whether a message can be taken from a channel
+abbrev pub has_first : Machine → ℕ → Bool
+has_first g c = not (is_empty_copy (slice_get g.channels c))
+
+-- the machine after a message is put into a channel, where it can be
+abbrev pub put_in : Bool → Machine → ℕ → List ℕ → Machine
+put_in true g c bytes = with_traffic (Puts c bytes) g
+put_in false g c bytes = g
+
+-- the machine after a message is taken from one, where it can be
+abbrev pub taken_in : Bool → Machine → ℕ → Machine
+taken_in true g c = with_traffic (Takes c) g
+taken_in false g c = g
+
+-- what an observing call asks for, as far as its tests tell it
+abbrev pub asked_of : Option Observation → Option Asked
+asked_of None = None
+asked_of (Some call) = Some (record { address = call.address; size = call.size; entry = is_entry call.question })
+
+-- whether this is what the call of a caller is shown
+abbrev pub shows_this : Caller → Asked → Sight → Bool
+shows_this caller asked Unseen = not (is_room caller asked.address asked.size)
+shows_this caller asked NotKept = asked.entry
+shows_this caller asked (Words bytes) = is_room caller asked.address asked.size && length bytes == asked.size
+
+-- the partition after its call was shown this
+abbrev pub shown_state : Asked → Sight → PartitionState → PartitionState
+shown_state asked Unseen ps = with_answer invalid_parameter ps
+shown_state asked NotKept ps = with_answer not_available ps
+shown_state asked (Words bytes) ps = with_answer 0 (with_written asked.address bytes ps)
+
+-- the work of partition p without the others came to this
+pub record IsLoneDone (p : ℕ) (w : Worked) (work : LoneWork) (old new : SysState) (got : List ReportLine) : Type 0 where
+  pub state : new ≡ with_machine (traded (traffic_in old.machine p w.act) (with_part p w.after old.machine)) old
+  pub lines : map (line_of old.machine.ticks p) w.told ≡ map (line_of old.machine.ticks p) (console_told work.note w.after.memory) ++ got
+  pub event : event_of w.act ≡ event_of (act_of work.reach)
+  pub readable : CanBeTold work.note (areas_in p old.machine)
+  pub alone : TellsAlone work.note work.reach
+  pub few : length got ≤ 4
+
+-- a partition of which nothing changed that is counted
+pub record IsUncounted (before after : PartitionState) : Type 0 where
+  pub traces : after.traces ≡ before.traces
+  pub health : after.health ≡ before.health
+  pub execution : after.clocks.execution ≡ before.clocks.execution
+  pub inputs : after.inputs ≡ before.inputs
+  pub made : after.made ≡ before.made
+  pub awake : is_halted after.state ≡ is_halted before.state
+
+-- the work was not done
+pub record IsUndone (p : ℕ) (old new : SysState) : Type 0 where
+  pub after : PartitionState
+  pub state : new ≡ with_machine (with_part p after old.machine) old
+  pub same : IsUncounted (part_at p old.machine) after
+
+-- the work of partition p, which is to be shown this by what it asks for: it is done where that may be shown
+abbrev pub IsLoneWork : Option LoneWork → ℕ → Option Observation → Sight → Worked → SysState → SysState → List ReportLine → Type 0
+IsLoneWork (Some work) p asked seen w old new got = (takes_sight (view_of old.machine.system p) asked seen ≡ true) × IsLoneDone p w work old new got
+IsLoneWork None p asked seen w old new got = (takes_sight (view_of old.machine.system p) asked seen ≡ false) × IsUndone p old new
+
+-- a tick of partition p without the others that was done: what it leaves of the partition, the lines that it adds, but for that of bytes for
+-- the console, and what its call told
+pub record IsLoneTicked (p : ℕ) (cue : Cue) (note : Note) (old new : Machine) (got : List ReportLine) : Type 0 where
+  pub lone : IsLone p cue old new
+  pub lines : alone_step_lines (view_of old.system p) (part_in old p) cue ≡ map (line_of old.ticks p) (console_told note (memory_of p new)) ++ got
+  pub readable : CanBeTold note (areas_in p new)
+  pub few : length got ≤ 24
+
+-- a tick was done, or the partition cannot take its cue
+abbrev pub IsLoneTick : Option Note → ℕ → Cue → Machine → Machine → List ReportLine → Type 0
+IsLoneTick (Some note) p cue old new got = IsLoneTicked p cue note old new got
+IsLoneTick None p cue old new got = takes_cue (view_of old.system p) (part_in old p) cue ≡ false

@@ -1,0 +1,294 @@
+//! One tick of one partition without the others: it does its own work, and is told what others did.
+
+ghost use Rattle.std.specs.Prelude.{◌≡◌, ◌+◌, ◌^◌, ◌<◌, ◌≤◌, ◌++◌, ◌≢◌, if◌then◌else◌, [], None, Some, false, length, true};
+ghost use Rattle.cue_scripts.specs.Script.{IsCue};
+ghost use Rattle.cyclic_plans.specs.PlanClock.{IsInFrame, started};
+ghost use Rattle.machine_model.specs.Machine.{obeyed, obeyed_told};
+ghost use Rattle.machine_model.specs.Partition.{takes_turns};
+ghost use Rattle.machine_model.specs.Told.{AllReset, NoEvent};
+ghost use Rattle.machine_model.specs.View.{view_of};
+ghost use Rattle.machine_model.specs.Whole.{event_lines, event_of};
+ghost use Rattle.slot_runs.specs.Passes.{part_at};
+ghost use Rattle.whole_system.specs.State.{with_machine};
+ghost use Rattle.alone_passes.specs.Step.{IsOfSystem};
+ghost use Rattle.system_ticks.specs.CueValues.{cue_value, whole_value};
+ghost use Rattle.alone_passes.specs.Passes.{event_met, rested_in, tick_past};
+ghost use Rattle.lone_ticks.specs.LoneWork.{IsLoneTick};
+ghost use Rattle.system_ticks.specs.Machine.{IsMachine};
+ghost use Rattle.alone_passes.specs.Taking.{is_same_event};
+ghost use Rattle.system_ticks.specs.Work.{IsDone, act_of};
+
+use crate::traffic::hear;
+use crate::work::{is_unseen, work_alone};
+use alone_passes::{away_ticks, passes_keep, resting_ticks_alone, takes_cues, working_ticks};
+use cyclic_plans::PlanClock;
+use hypercalls::{Note, Sys};
+use machine_model::{acts_within_bounds, keeps_facts_alone};
+use system_ticks::{
+    Beyond, Cue, Lines, Mine, WholeCue, obey, reset, reset_move, rest_one, takes_turns, whole_of,
+};
+use xm_base::{Mode, Order, PartId};
+use xm_report::Line;
+
+/// One tick of partition `p` without the others, and what its call told. Where it cannot take its cue there is none, and another tick or
+/// a part of one was done.
+pub fn tick_alone(sys: &mut Sys, lines: &mut Lines, p: PartId, cue: &Cue<'_>) -> Option<Note>
+    requires machine { IsMachine sys.old }
+    requires partition { p < length sys.old.machine.parts }
+    requires running { sys.old.machine.halted ≡ false }
+    requires more { sys.old.machine.ticks < 4000000000 }
+    requires cue { IsCue sys.old.machine.system.conf p (cue_value cue.now) }
+    requires empty { lines.old ≡ [] }
+    ensures tick { IsLoneTick result p (cue_value cue.now) sys.old.machine sys.new.machine lines.new }
+    ensures machine { IsMachine sys.new }
+    ensures system { IsOfSystem sys.old.machine sys.new.machine }
+{
+    match cue.mine {
+        Mine::Away => tick_away(sys, lines, p, cue),
+        Mine::Mine { first } => tick_in_slot(sys, lines, p, first, cue),
+    }
+}
+
+// A tick in the slot of another partition, or in a gap.
+fn tick_away(sys: &mut Sys, lines: &mut Lines, p: PartId, cue: &Cue<'_>) -> Option<Note>
+    requires machine { IsMachine sys.old }
+    requires partition { p < length sys.old.machine.parts }
+    requires running { sys.old.machine.halted ≡ false }
+    requires more { sys.old.machine.ticks < 4000000000 }
+    requires cue { IsCue sys.old.machine.system.conf p (cue_value cue.now) }
+    requires away { cue.now.mine ≡ Mine.Away }
+    requires empty { lines.old ≡ [] }
+    ensures tick { IsLoneTick result p (cue_value cue.now) sys.old.machine sys.new.machine lines.new }
+    ensures machine { IsMachine sys.new }
+    ensures system { IsOfSystem sys.old.machine sys.new.machine }
+{
+    away_ticks();
+    takes_cues();
+    passes_keep();
+    keeps_facts_alone();
+    if hear(sys, p, cue.traffic) {
+        obey_other(sys, lines, p, cue.order);
+        meet_event(sys, lines, p, cue.whole);
+        rest_and_pass(sys, p, cue.whole);
+        Some(Note::Nothing)
+    } else {
+        None
+    }
+}
+
+// A tick in a slot of the partition's own.
+fn tick_in_slot(
+    sys: &mut Sys,
+    lines: &mut Lines,
+    p: PartId,
+    first: bool,
+    cue: &Cue<'_>,
+) -> Option<Note>
+    requires machine { IsMachine sys.old }
+    requires partition { p < length sys.old.machine.parts }
+    requires running { sys.old.machine.halted ≡ false }
+    requires more { sys.old.machine.ticks < 4000000000 }
+    requires cue { IsCue sys.old.machine.system.conf p (cue_value cue.now) }
+    requires own { cue.now.mine ≡ Mine.Mine first }
+    requires empty { lines.old ≡ [] }
+    ensures tick { IsLoneTick result p (cue_value cue.now) sys.old.machine sys.new.machine lines.new }
+    ensures machine { IsMachine sys.new }
+    ensures system { IsOfSystem sys.old.machine sys.new.machine }
+{
+    if takes_turns(sys, p) {
+        turn_in_slot(sys, lines, p, first, cue)
+    } else {
+        rest_in_slot(sys, p, cue)
+    }
+}
+
+// A tick in which the partition takes its turn: a hypervisor event is that of its own act.
+fn turn_in_slot(
+    sys: &mut Sys,
+    lines: &mut Lines,
+    p: PartId,
+    first: bool,
+    cue: &Cue<'_>,
+) -> Option<Note>
+    requires machine { IsMachine sys.old }
+    requires partition { p < length sys.old.machine.parts }
+    requires running { sys.old.machine.halted ≡ false }
+    requires more { sys.old.machine.ticks < 4000000000 }
+    requires cue { IsCue sys.old.machine.system.conf p (cue_value cue.now) }
+    requires own { cue.now.mine ≡ Mine.Mine first }
+    requires turns { takes_turns (part_at p sys.old.machine).state ≡ true }
+    requires empty { lines.old ≡ [] }
+    ensures tick { IsLoneTick result p (cue_value cue.now) sys.old.machine sys.new.machine lines.new }
+    ensures machine { IsMachine sys.new }
+    ensures system { IsOfSystem sys.old.machine sys.new.machine }
+{
+    working_ticks();
+    takes_cues();
+    passes_keep();
+    acts_within_bounds();
+    keeps_facts_alone();
+    match work_alone(sys, lines, p, first, cue.seen) {
+        Some(work) => {
+            let event = end_turn(sys, lines, p, work.reach);
+            note_if(is_same_event(event, cue.whole), work.note)
+        }
+        None => None,
+    }
+}
+
+// The end of a tick in which the partition's work reached so far: the hypervisor event of its act, and the clocks.
+fn end_turn(sys: &mut Sys, lines: &mut Lines, p: PartId, reach: Beyond) -> WholeCue
+    requires partition { p < length sys.old.machine.parts }
+    requires time { sys.old.machine.time + 1 < 2 ^ 64 }
+    requires ticks { sys.old.machine.ticks + 1 < 2 ^ 64 }
+    requires frame { IsInFrame sys.old.machine.system.conf sys.old.machine.clock sys.old.machine.time }
+    requires room { length lines.old < 24 }
+    ensures event { whole_value result ≡ event_of (act_of reach) }
+    ensures state { sys.new ≡ with_machine (tick_past (whole_value result) (event_met p (whole_value result) sys.old.machine)) sys.old }
+    ensures lines { lines.new ≡ lines.old ++ event_lines sys.old.machine.ticks (whole_value result) p }
+    ensures few { length lines.new ≤ length lines.old + 1 }
+{
+    let event = whole_of(reach);
+    meet_event(sys, lines, p, event);
+    pass_tick(sys, event);
+    event
+}
+
+// A note, where it is so.
+fn note_if(is: bool, note: Note) -> Option<Note>
+    ensures { result ≡ (if is then Some note else None) }
+{
+    if is { Some(note) } else { None }
+}
+
+// A tick in a slot of a partition that takes no turns.
+fn rest_in_slot(sys: &mut Sys, p: PartId, cue: &Cue<'_>) -> Option<Note>
+    requires machine { IsMachine sys.old }
+    requires partition { p < length sys.old.machine.parts }
+    requires running { sys.old.machine.halted ≡ false }
+    requires more { sys.old.machine.ticks < 4000000000 }
+    requires cue { IsCue sys.old.machine.system.conf p (cue_value cue.now) }
+    requires own { cue.now.mine ≢ Mine.Away }
+    requires turns { takes_turns (part_at p sys.old.machine).state ≡ false }
+    ensures tick { IsLoneTick result p (cue_value cue.now) sys.old.machine sys.new.machine [] }
+    ensures machine { IsMachine sys.new }
+    ensures system { IsOfSystem sys.old.machine sys.new.machine }
+{
+    resting_ticks_alone();
+    takes_cues();
+    passes_keep();
+    keeps_facts_alone();
+    if is_unseen(cue.seen) && is_same_event(WholeCue::Nothing, cue.whole) {
+        rest_and_pass(sys, p, WholeCue::Nothing);
+        Some(Note::Nothing)
+    } else {
+        None
+    }
+}
+
+// An order that another partition gave, where one did.
+fn obey_other(sys: &mut Sys, lines: &mut Lines, p: PartId, order: Option<Order>)
+    requires partition { p < length sys.old.machine.parts }
+    requires room { length lines.old < 24 }
+    ensures done { IsDone p (obeyed (view_of sys.old.machine.system p) order (part_at p sys.old.machine)) (obeyed_told order (part_at p sys.old.machine)) sys.old sys.new lines.old lines.new }
+    ensures few { length lines.new ≤ length lines.old + 1 }
+{
+    match order {
+        Some(order) => obey(sys, lines, p, order),
+        None => {}
+    }
+}
+
+// A hypervisor event, as one partition meets it.
+fn meet_event(sys: &mut Sys, lines: &mut Lines, p: PartId, event: WholeCue)
+    requires partition { p < length sys.old.machine.parts }
+    requires room { length lines.old < 24 }
+    ensures state { sys.new ≡ with_machine (event_met p (whole_value event) sys.old.machine) sys.old }
+    ensures lines { lines.new ≡ lines.old ++ event_lines sys.old.machine.ticks (whole_value event) p }
+    ensures few { length lines.new ≤ length lines.old + 1 }
+{
+    match event {
+        WholeCue::Nothing => {}
+        WholeCue::Cold => meet_reset(sys, lines, p, Mode::Cold),
+        WholeCue::Warm => meet_reset(sys, lines, p, Mode::Warm),
+        WholeCue::Halt => sys.halt(),
+    }
+}
+
+// A reset of the hypervisor: the partition is reset, and the channels are empty.
+fn meet_reset(sys: &mut Sys, lines: &mut Lines, p: PartId, mode: Mode)
+    requires partition { p < length sys.old.machine.parts }
+    requires room { length lines.old < 24 }
+    ensures state { sys.new ≡ with_machine (event_met p (AllReset mode) sys.old.machine) sys.old }
+    ensures lines { lines.new ≡ lines.old ++ event_lines sys.old.machine.ticks (AllReset mode) p }
+    ensures few { length lines.new ≤ length lines.old + 1 }
+{
+    let to = reset_move(mode);
+    lines.push(Line::Moved {
+        n: sys.ticks(),
+        p,
+        to,
+    });
+    reset(sys, p, mode, 0);
+    sys.channels_mut().clear();
+}
+
+// The partition rests, and the tick is over.
+fn rest_and_pass(sys: &mut Sys, p: PartId, event: WholeCue)
+    requires partition { p < length sys.old.machine.parts }
+    requires time { sys.old.machine.time + 1 < 2 ^ 64 }
+    requires ticks { sys.old.machine.ticks + 1 < 2 ^ 64 }
+    requires frame { IsInFrame sys.old.machine.system.conf sys.old.machine.clock sys.old.machine.time }
+    ensures { sys.new ≡ with_machine (tick_past (whole_value event) (rested_in p sys.old.machine)) sys.old }
+{
+    let now = sys.now();
+    rest_one(sys, p, now);
+    pass_tick(sys, event);
+}
+
+// The clocks past a tick with a hypervisor event.
+fn pass_tick(sys: &mut Sys, event: WholeCue)
+    requires time { sys.old.machine.time + 1 < 2 ^ 64 }
+    requires ticks { sys.old.machine.ticks + 1 < 2 ^ 64 }
+    requires frame { IsInFrame sys.old.machine.system.conf sys.old.machine.clock sys.old.machine.time }
+    ensures { sys.new ≡ with_machine (tick_past (whole_value event) sys.old.machine) sys.old }
+{
+    match event {
+        WholeCue::Nothing => pass_one(sys),
+        WholeCue::Cold | WholeCue::Warm => begin_anew(sys),
+        WholeCue::Halt => {}
+    }
+}
+
+// The clocks past a plain tick.
+fn pass_one(sys: &mut Sys)
+    requires time { sys.old.machine.time + 1 < 2 ^ 64 }
+    requires ticks { sys.old.machine.ticks + 1 < 2 ^ 64 }
+    requires frame { IsInFrame sys.old.machine.system.conf sys.old.machine.clock sys.old.machine.time }
+    ensures { sys.new ≡ with_machine (tick_past NoEvent sys.old.machine) sys.old }
+{
+    sys.end_ticks(1);
+}
+
+// The clocks past a tick in which the hypervisor was reset.
+fn begin_anew(sys: &mut Sys)
+    requires time { sys.old.machine.time + 1 < 2 ^ 64 }
+    requires ticks { sys.old.machine.ticks + 1 < 2 ^ 64 }
+    ensures { sys.new ≡ with_machine (record sys.old.machine { clock = started; time = 0; ticks = sys.old.machine.ticks + 1 }) sys.old }
+{
+    *sys.plan_clock_mut() = PlanClock::start();
+    sys.pass_ticks(1);
+    sys.set_now(0);
+}
+
+// Whether two hypervisor events are the same.
+fn is_same_event(one: WholeCue, other: WholeCue) -> bool
+    ensures { result ≡ is_same_event (whole_value one) (whole_value other) }
+{
+    match one {
+        WholeCue::Nothing => matches!(other, WholeCue::Nothing),
+        WholeCue::Cold => matches!(other, WholeCue::Cold),
+        WholeCue::Warm => matches!(other, WholeCue::Warm),
+        WholeCue::Halt => matches!(other, WholeCue::Halt),
+    }
+}

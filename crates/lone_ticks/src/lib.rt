@@ -1,0 +1,9 @@
+//! A tick of one partition of a whole system without the others: it does its own work, and is told what the others did.
+#![tactic(auto)]
+
+mod alone;
+mod call;
+mod traffic;
+mod work;
+
+pub use alone::tick_alone;

@@ -1,0 +1,127 @@
+//! What others do to the channels of one partition.
+
+ghost use Rattle.std.specs.Prelude.{◌≡◌, ◌<◌, IsSome, Some, length, slice_get, true};
+ghost use Rattle.cue_scripts.specs.Script.{CanHear, IsMessage, gives_queue, most_heard};
+ghost use Rattle.machine_model.specs.Machine.{copies};
+ghost use Rattle.machine_model.specs.Told.{OwnPuts, OwnTakes};
+ghost use Rattle.machine_model.specs.View.{view_of};
+ghost use Rattle.whole_system.specs.State.{with_machine};
+ghost use Rattle.xm_base.specs.Options.{on};
+ghost use Rattle.system_ticks.specs.CueValues.{traffic_value};
+ghost use Rattle.lone_ticks.specs.LoneWork.{IsChannelFor, IsKind, has_first, has_room, put_in, taken_in, traffic_done};
+ghost use Rattle.alone_passes.specs.Taking.{takes_traffic};
+ghost use Rattle.xm_ports.specs.Channels.{IsQueuing, IsSampling, shapes_of};
+
+use hypercalls::Sys;
+use port_calls::{drop_first, put_sampling, send};
+use system_ticks::Traffic;
+use xm_base::PartId;
+use xm_conf::ChanKind;
+use xm_ports::Full;
+
+/// What others did to a channel of partition `p`, which goes by the partition's name for it. Whether it can be done: a queue that gets a
+/// message is not full, and one that gives a message is not empty. Where it cannot, nothing is.
+pub(crate) fn hear(sys: &mut Sys, p: PartId, traffic: Traffic<'_>) -> bool
+    requires partition { p < length sys.old.machine.parts }
+    requires shapes { sys.old.shapes ≡ shapes_of sys.old.machine.system.conf }
+    requires cue { CanHear sys.old.machine.system.conf p (traffic_value traffic) }
+    ensures taken { result ≡ takes_traffic (view_of sys.old.machine.system p) (copies sys.old.machine p) (traffic_value traffic.entry) }
+    ensures heard { sys.new ≡ with_machine (traffic_done result sys.old.machine p (traffic_value traffic.entry)) sys.old }
+{
+    match traffic {
+        Traffic::Nothing => true,
+        Traffic::Put { chan, bytes } => hear_put(sys, p, chan, bytes),
+        Traffic::Take { chan } => hear_take(sys, p, chan),
+    }
+}
+
+// A message that others put.
+fn hear_put(sys: &mut Sys, p: PartId, name: u8, bytes: &[u8]) -> bool
+    requires partition { p < length sys.old.machine.parts }
+    requires shapes { sys.old.shapes ≡ shapes_of sys.old.machine.system.conf }
+    requires cue { IsMessage (most_heard sys.old.machine.system.conf p name) name bytes.now }
+    ensures taken { result ≡ takes_traffic (view_of sys.old.machine.system p) (copies sys.old.machine p) (OwnPuts name bytes.now) }
+    ensures heard { sys.new ≡ with_machine (traffic_done result sys.old.machine p (OwnPuts name bytes.now)) sys.old }
+{
+    match sys.conf().channel_of(p, name) {
+        Some(chan) => put(sys, chan, bytes),
+        None => true,
+    }
+}
+
+// A message that others took.
+fn hear_take(sys: &mut Sys, p: PartId, name: u8) -> bool
+    requires partition { p < length sys.old.machine.parts }
+    requires shapes { sys.old.shapes ≡ shapes_of sys.old.machine.system.conf }
+    requires cue { gives_queue sys.old.machine.system.conf p name ≡ true }
+    ensures taken { result ≡ takes_traffic (view_of sys.old.machine.system p) (copies sys.old.machine p) (OwnTakes name) }
+    ensures heard { sys.new ≡ with_machine (traffic_done result sys.old.machine p (OwnTakes name)) sys.old }
+{
+    match sys.conf().channel_of(p, name) {
+        Some(chan) => take(sys, chan),
+        None => true,
+    }
+}
+
+// A message is put into a channel, unless that is a full queue.
+fn put(sys: &mut Sys, chan: u8, bytes: &[u8]) -> bool
+    requires shapes { sys.old.shapes ≡ shapes_of sys.old.machine.system.conf }
+    requires channel { IsChannelFor sys.old.machine.system.conf chan bytes.now }
+    ensures taken { result ≡ has_room sys.old.machine chan }
+    ensures put { sys.new ≡ with_machine (put_in result sys.old.machine chan bytes.now) sys.old }
+{
+    match kind_of(sys, chan) {
+        ChanKind::Sampling { .. } => put_sample(sys, chan, bytes),
+        ChanKind::Queuing { .. } => put_message(sys, chan, bytes),
+    }
+}
+
+// A message is written to a sampling channel, which takes each one.
+fn put_sample(sys: &mut Sys, chan: u8, bytes: &[u8]) -> bool
+    requires shapes { sys.old.shapes ≡ shapes_of sys.old.machine.system.conf }
+    requires channel { IsChannelFor sys.old.machine.system.conf chan bytes.now }
+    requires kind { IsKind IsSampling sys.old.machine.system.conf chan }
+    ensures taken { result ≡ has_room sys.old.machine chan }
+    ensures put { sys.new ≡ with_machine (put_in result sys.old.machine chan bytes.now) sys.old }
+{
+    put_sampling(sys, chan, bytes);
+    true
+}
+
+// A message is put at the end of a queue, unless that is full.
+fn put_message(sys: &mut Sys, chan: u8, bytes: &[u8]) -> bool
+    requires shapes { sys.old.shapes ≡ shapes_of sys.old.machine.system.conf }
+    requires channel { IsChannelFor sys.old.machine.system.conf chan bytes.now }
+    requires kind { IsKind IsQueuing sys.old.machine.system.conf chan }
+    ensures taken { result ≡ has_room sys.old.machine chan }
+    ensures put { sys.new ≡ with_machine (put_in result sys.old.machine chan bytes.now) sys.old }
+{
+    // It tells that the queue holds no more than it may.
+    let _first = sys.channels().first(chan);
+    match send(sys, chan, bytes) {
+        Ok(()) => true,
+        Err(Full) => false,
+    }
+}
+
+// The first message is taken from a queue, unless that is empty.
+fn take(sys: &mut Sys, chan: u8) -> bool
+    requires shapes { sys.old.shapes ≡ shapes_of sys.old.machine.system.conf }
+    requires kind { IsKind IsQueuing sys.old.machine.system.conf chan }
+    ensures taken { result ≡ has_first sys.old.machine chan }
+    ensures given { sys.new ≡ with_machine (taken_in result sys.old.machine chan) sys.old }
+{
+    let some = sys.channels().first(chan).is_some();
+    if some {
+        drop_first(sys, chan);
+    }
+    some
+}
+
+// The kind of a channel.
+fn kind_of(sys: &Sys, chan: u8) -> ChanKind
+    requires { IsSome (slice_get sys.now.machine.system.conf.chans chan) }
+    ensures { on (λ the_chan. the_chan.kind) (slice_get sys.now.machine.system.conf.chans chan) ≡ Some result }
+{
+    sys.conf().raw().chans[usize::from(chan)].kind
+}
