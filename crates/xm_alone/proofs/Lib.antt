@@ -1,2 +1,5 @@
+mod BootLemmas
+mod FollowLemmas
+mod PlayLemmas
 mod RunLemmas
 mod TickLemmas

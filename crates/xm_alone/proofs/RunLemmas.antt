@@ -42,7 +42,7 @@ script_ends done asked g p within halts =
     ∙ sym (script_add done (asked - done) g p) ∙ ap (script g p) rest
 
 -- a tick counts once at most
-event_most : (e : WholeEvent) (n : ℕ) → ticks_after e n ≤ n + 1
+pub event_most : (e : WholeEvent) (n : ℕ) → ticks_after e n ≤ n + 1
 event_most NoEvent n = omega arith
 event_most (AllReset mode) n = omega arith
 event_most AllHalted n = omega arith

@@ -1,0 +1,14 @@
+use Rattle.std.proofs.Common.{◌≡◌, length}
+use Rattle.uart_board.specs.contracts.views.BoardViewBoard.TheImpl.{ghosts}
+use Rattle.xm_alone.specs.Cues.{cues_left}
+use Rattle.xm_alone.proofs.PlayLemmas.{IsPlaying}
+use Rattle.xm_alone.proofs.alone.play_cues.Given as goal
+
+abbrev pub invariant-loop-cue : goal.invariant-loop-cue
+invariant-loop-cue g l = record {
+  playing : IsPlaying l.p l.script (cues_left l.rest) l.fn.machine.state l.machine.state (g.O.Sink.got l.fn.out) (g.O.Sink.got l.out) ((ghosts (g.dyn-1.0, g.dyn-1.1)).board_view l.fn.board) ((ghosts (g.dyn-1.0, g.dyn-1.1)).board_view l.board);
+  faults : g.O.Sink.faults l.out ≡ g.O.Sink.faults l.fn.out;
+}
+
+abbrev pub decreases-loop-cue : goal.decreases-loop-cue
+decreases-loop-cue g l = length (cues_left l.rest)

@@ -1,0 +1,98 @@
+-- A partition that is replayed: which script fits it, what a replay leaves of it, what it prints, and what it says.
+use Rattle.std.specs.Prelude.{◌≡◌, ℕ, ◌<◌, ◌≤◌, Bool, false, List, [], ◌∷◌, ◌++◌, length, take, if◌then◌else◌, Option, Some, None, Result, Ok, Err}
+use Rattle.xm_outside.specs.Growth.{grown, GrewByPrefix}
+use Rattle.xm_report.specs.Report.{ReportLine, texts}
+use Rattle.xm_report.specs.declared.output.WriteFault.{WriteFault}
+use Rattle.uart_board.specs.Heard.{IsHeard}
+use Rattle.uart_board.specs.Views.{BoardView}
+use Rattle.machine_model.specs.Alone.{Alone, alone_from, alone_lines, alone_said, alone_start}
+use Rattle.machine_model.specs.Cue.{Cue}
+use Rattle.machine_model.specs.Lines.{end_line}
+use Rattle.machine_model.specs.Lists.{is_number}
+use Rattle.machine_model.specs.Machine.{Machine}
+use Rattle.machine_model.specs.View.{PartitionView, System, part_of, view_of}
+use Rattle.alone_passes.specs.Passes.{part_in}
+use Rattle.alone_passes.specs.Taking.{first_untaken}
+use Rattle.cue_scripts.specs.declared.fault.ScriptFault.{ScriptFault}
+use Rattle.cue_scripts.specs.declared.fault.ScriptFault.TheVariants as fault
+
+-- a partition by itself: what runs, its number, its own part of the machine's state, and whether the hypervisor has halted. Nothing is said
+-- of the other partitions
+pub record Lone : Type 0 where
+  pub system : System
+  pub p : ℕ
+  pub part : Alone
+  pub halted : Bool
+
+-- partition p of a machine by itself
+abbrev pub lone_in : Machine → ℕ → Lone
+lone_in g p = record { system = g.system; p = p; part = part_in g p; halted = g.halted }
+
+-- what the partition has of its own
+abbrev pub own_view : Lone → PartitionView
+own_view lone = view_of lone.system lone.p
+
+-- a partition as it boots
+abbrev pub booted_alone : System → ℕ → Lone
+booted_alone system p = record { system = system; p = p; part = alone_start (view_of system p); halted = false }
+
+-- a script fits: the partition can take each cue in the state which the cues before it leave
+abbrev pub TakesAll : PartitionView → List Cue → Type 0
+TakesAll view cues = first_untaken view (alone_start view) 0 cues ≡ None
+
+-- whether it fits, or the number of the first cue that the partition cannot take
+abbrev pub TellsFit : {T : Type 0} → PartitionView → List Cue → Result T ScriptFault → Type 0
+TellsFit view cues (Ok fits) = TakesAll view cues
+TellsFit view cues (Err fault.Memory) = Unit {0}
+TellsFit view cues (Err fault.Magic) = ⊥
+TellsFit view cues (Err (fault.Version found)) = ⊥
+TellsFit view cues (Err (fault.Short at)) = ⊥
+TellsFit view cues (Err (fault.Trailing at)) = ⊥
+TellsFit view cues (Err (fault.Field at)) = ⊥
+TellsFit view cues (Err (fault.Length found)) = ⊥
+TellsFit view cues (Err (fault.Cue tick)) = first_untaken view (alone_start view) 0 cues ≡ Some tick
+
+-- what a replay leaves of the partition
+abbrev pub replayed : PartitionView → List Cue → Alone
+replayed view cues = alone_from view (alone_start view) cues
+
+-- the lines of its cues
+abbrev pub cue_lines : PartitionView → List Cue → List ReportLine
+cue_lines view cues = alone_lines view (alone_start view) cues
+
+-- what a replay prints: the lines of its cues, and that of the partition's end
+abbrev pub replay_lines : PartitionView → List Cue → List ReportLine
+replay_lines view cues = cue_lines view cues ++ end_line view.id (replayed view cues).state ∷ []
+
+-- the console bytes of a replay that each UART gets
+abbrev pub replay_said : Lone → List Cue → ℕ → List ℕ
+replay_said lone cues uart =
+    if is_number (part_of lone.system.conf lone.p).console uart then alone_said (own_view lone) (alone_start (own_view lone)) cues else []
+
+-- the partition's part is that of these cues, and it is the same partition of the same system
+pub record IsReplayed (cues : List Cue) (old new : Lone) : Type 0 where
+  pub part : new.part ≡ replayed (own_view old) cues
+  pub system : new.system ≡ old.system
+  pub p : new.p ≡ old.p
+
+-- a replay whose lines all went out
+pub record IsWholeReplay (cues : List Cue) (lines : List ReportLine) (old new : Lone) (had got : Option (List ℕ)) (before after : BoardView) : Type 0 where
+  pub left : IsReplayed cues old new
+  pub report : got ≡ grown had (texts lines)
+  pub heard : IsHeard (replay_said old cues) before after
+
+-- a replay whose lines the sink did not take whole: so many of its cues were done, and the last of these is the one whose lines were cut, or
+-- the last of all
+pub record IsCutReplay (cues : List Cue) (lines : List ReportLine) (old new : Lone) (had got : Option (List ℕ)) (before after : BoardView) : Type 0 where
+  pub done : ℕ
+  pub within : done ≤ length cues
+  pub left : IsReplayed (take done cues) old new
+  pub report : GrewByPrefix had (texts lines) got
+  pub heard : IsHeard (replay_said old (take done cues)) before after
+  pub whole : (k : ℕ) → k < done → length (texts (cue_lines (own_view old) (take k cues))) ≤ report.count
+  pub cut : done < length cues → report.count < length (texts (cue_lines (own_view old) (take done cues)))
+
+-- what a replay of cues answers that is to print these lines
+abbrev pub IsReplay : {T : Type 0} → Result T WriteFault → List Cue → List ReportLine → Lone → Lone → Option (List ℕ) → Option (List ℕ) → BoardView → BoardView → Type 0
+IsReplay (Ok done) cues lines old new had got before after = IsWholeReplay cues lines old new had got before after
+IsReplay (Err unwritten) cues lines old new had got before after = IsCutReplay cues lines old new had got before after

@@ -1,0 +1,141 @@
+//! One partition of a system, replayed without the others.
+
+ghost use Rattle.std.specs.Prelude.{◌≡◌, ◌<◌, IfOk, length};
+ghost use Rattle.core_files.specs.Length.{core_length_of};
+ghost use Rattle.cue_scripts.specs.Script.{IsScript};
+ghost use Rattle.machine_model.specs.CoreFile.{core_file};
+ghost use Rattle.machine_model.specs.Lines.{end_line};
+ghost use Rattle.machine_model.specs.View.{view_of};
+ghost use Rattle.slot_runs.specs.Passes.{part_at};
+ghost use Rattle.whole_system.specs.State.{with_inputs};
+ghost use Rattle.xm_alone.specs.Replay.{IsReplay, TakesAll, booted_alone, cue_lines, lone_in, own_view, replay_lines};
+ghost use Rattle.xm_machine.specs.Outcome.{HasWriteCause};
+ghost use Rattle.xm_report.specs.Report.{line_of};
+
+use crate::cues::Cues;
+use cue_scripts::Script;
+use loaded_system::System;
+use machine_model::{boots_alone, keeps_numbers};
+use std::alloc::Global;
+use std::marker::Model;
+use uart_board::{Board, ViewBoard};
+use xm_base::{Memory, PartId};
+use xm_machine::{AloneFault, Inputs, Machine};
+use xm_outside::Sink;
+use xm_report::{Line, WriteFault, put_line};
+
+/// One partition of a system, as it boots or as a replay left it.
+#[derive(Debug, Drop)]
+pub struct Alone {
+    machine: Machine,
+    p: PartId,
+}
+
+impl Model for Alone {
+    ghost use Rattle.std.specs.Coded.{codes};
+    ghost use Rattle.std.specs.Prelude.{◌<◌, length};
+    ghost use Rattle.guest_bus.specs.Memory.{memory_code};
+    ghost use Rattle.xm_alone.specs.Replay.{Lone, lone_in};
+
+    ghost Value = { Lone };
+
+    ghost coded = { Prim.hlevel (codes, memory_code) };
+
+    ghost view = { λ a. lone_in a.machine.state a.p };
+
+    ghost invariant = { λ a. a.p < length a.machine.state.parts };
+}
+
+impl Alone {
+    /// Partition `p` of a system with these input words, as it boots. All memory of a replay is taken here.
+    pub fn new(alloc: Global, system: System, inputs: Inputs, p: PartId) -> Result<Alone, Memory>
+        requires partition { p < length system.conf.parts }
+        requires inputs { length inputs ≡ length system.conf.parts }
+        ensures { IfOk result (λ lone. lone ≡ booted_alone (with_inputs system inputs) p) }
+    {
+        boots_alone();
+        keeps_numbers();
+        Ok(Alone {
+            machine: Machine::boot(alloc, system, inputs)?,
+            p,
+        })
+    }
+
+    /// Replays a script that fits: the partition's lines and the line of its end go out, and its console bytes go to their UART. After
+    /// `WriteFault` the tick in hand was done whole, its bytes were said, and no later one was begun.
+    pub fn play<O: Sink>(
+        &mut self,
+        script: &Script,
+        out: &mut O,
+        board: &mut Board,
+    ) -> Result<(), WriteFault>
+        requires fresh { self.old ≡ booted_alone self.old.system self.old.p }
+        requires script { IsScript self.old.system.conf self.old.p script.now }
+        requires fits { TakesAll (own_view self.old) script.now }
+        ensures replay { IsReplay result script.now (replay_lines (own_view self.old) script.now) self.old self.new (O.got out.old) (O.got out.new) (⟦<Board as ViewBoard>⟧.board_view board.old) (⟦<Board as ViewBoard>⟧.board_view board.new) }
+        ensures cause { HasWriteCause result (O.faults out.old) (O.faults out.new) }
+    {
+        play_cues(&mut self.machine, self.p, script, out, board)?;
+        put_line(out, &end_line(&self.machine, self.p))
+    }
+
+    /// How many bytes the core file has. No replay changes it.
+    pub fn core_length(&self) -> usize
+        ensures value { result ≡ core_length_of (own_view self.now) }
+        ensures length { result ≡ length (core_file (own_view self.now) self.now.part.state) }
+    {
+        self.machine.core_length(self.p)
+    }
+
+    /// Writes the core file into a slice of its length.
+    pub fn core_into(&self, into: &mut [u8])
+        requires size { length into.old ≡ core_length_of (own_view self.now) }
+        ensures file { into.new ≡ core_file (own_view self.now) self.now.part.state }
+    {
+        self.machine.core_into(self.p, into);
+    }
+}
+
+/// Replays the cues of a script.
+fn play_cues<O: Sink>(
+    machine: &mut Machine,
+    p: PartId,
+    script: &Script,
+    out: &mut O,
+    board: &mut Board,
+) -> Result<(), WriteFault>
+    requires partition { p < length machine.old.state.parts }
+    requires fresh { lone_in machine.old.state p ≡ booted_alone machine.old.state.system p }
+    requires script { IsScript machine.old.state.system.conf p script.now }
+    requires fits { TakesAll (view_of machine.old.state.system p) script.now }
+    ensures parts { length machine.new.state.parts ≡ length machine.old.state.parts }
+    ensures replay { IsReplay result script.now (cue_lines (view_of machine.old.state.system p) script.now) (lone_in machine.old.state p) (lone_in machine.new.state p) (O.got out.old) (O.got out.new) (⟦<Board as ViewBoard>⟧.board_view board.old) (⟦<Board as ViewBoard>⟧.board_view board.new) }
+    ensures cause { HasWriteCause result (O.faults out.old) (O.faults out.new) }
+{
+    let mut rest = Cues::of(script);
+    while let Some((cue, later)) = rest.split_first() {
+        match machine.step_alone(p, &cue, out, board) {
+            Ok(()) => {}
+            Err(AloneFault::Write) => return Err(WriteFault),
+            // The script fits.
+            Err(AloneFault::Cue) => unreachable!(),
+        }
+        rest = later;
+    }
+    Ok(())
+}
+
+/// The line that tells how partition `p` stands at the end.
+fn end_line(machine: &Machine, p: PartId) -> Line<'static>
+    requires { p < length machine.now.state.parts }
+    ensures { line_of result ≡ end_line p (part_at p machine.now.state) }
+{
+    let part = machine.sys().part(p);
+    Line::EndPart {
+        p,
+        state: part.state,
+        resets: part.resets,
+        exec: part.clocks.exec(),
+        pc: part.core.pc(),
+    }
+}
