@@ -20,7 +20,7 @@ use Rattle.xm_commands.specs.Boards.{EndsRun, IsLeft, IsMarked, IsRunTo, Leaves}
 use Rattle.xm_commands.specs.Denial.{Denial}
 use Rattle.xm_commands.specs.Ending.{Ending, Finished, Misused, Unread, Denied, Unwritten, Unsaved, Unheard, Starved, status_of}
 use Rattle.xm_commands.specs.Makes.{IsUnmadeOf}
-use Rattle.xm_commands.specs.Outcome.{Output, Running, first_long, inputs_of, made, outcome_of, packed_to, ran, told, unless_long, worked}
+use Rattle.xm_commands.specs.Outcome.{Output, Running, Together, first_long, inputs_of, made, outcome_of, packed_to, ran, told, unless_long, worked}
 use Rattle.xm_commands.specs.Top.{IsQuiet}
 use Rattle.xm_commands.specs.Work.{AreNotRead, AreNotSaved, IsDone, IsNotRead, Outside, ReadsFiles}
 use Rattle.xm_commands.specs.declared.status.Status.TheVariants as status
@@ -32,7 +32,7 @@ use Rattle.xm_commands.proofs.WorkLemmas.{reports_same}
 
 -- what is run
 abbrev running : ℕ → System → List (List ℕ) → Running
-running ticks system inputs = record { system = with_inputs system inputs; ticks = ticks }
+running ticks system inputs = Together (with_inputs system inputs) ticks
 
 -- a run that reached its end
 whole : (r : Ran) (system : System) (inputs : List (List ℕ)) (ticks : ℕ) (new : Machine) (had got : Option (List ℕ)) (before mid after : BoardView)
@@ -88,8 +88,7 @@ left_cut fault cores scripts system inputs ticks new had got before mid after is
   };
   ticks = is.ticks;
   within = is.within;
-  whole = is.whole;
-  cut = is.cut;
+  cut = (is.whole, is.cut);
   heard = subst (λ (board : BoardView). IsHeard (console (start (with_inputs system inputs)) is.ticks) board after) begins (heard is.ticks is.state);
 }
 

@@ -3,6 +3,7 @@ pub mod CoreLemmas
 pub mod InputLemmas
 pub mod OutsideLemmas
 pub mod PackingLemmas
+pub mod ReplayLemmas
 pub mod ScriptLemmas
 pub mod SeparationLemmas
 pub mod TellingLemmas

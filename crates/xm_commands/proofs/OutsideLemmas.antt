@@ -13,7 +13,7 @@ use Rattle.xm_base.specs.Options.{on}
 use Rattle.xm_base.specs.declared.limits.TheConstants.{FILE_BYTES, IMAGE_BYTES, TICKS}
 use Rattle.xm_outside.specs.Causes.{counted}
 use Rattle.xm_outside.specs.Files.{Files, OthersStay, stored}
-use Rattle.xm_words.specs.Words.{Command, PartFile, RunOption, Bare, Parse, BuildImage, ReadImage, Pack, ListContainer, CheckContainer, MakePlan, CheckPlan, TellGroups, Generate, Run, cores_in, scripts_in, span_in}
+use Rattle.xm_words.specs.Words.{Command, PartFile, RunOption, Bare, Parse, BuildImage, ReadImage, Pack, ListContainer, CheckContainer, MakePlan, CheckPlan, TellGroups, Generate, Run, Replay, ReplayFiles, cores_in, replay_core, replay_input, scripts_in, span_in}
 use Rattle.xm_container.specs.Reading.{unpacked}
 use Rattle.xm_container.specs.declared.fault.BoxFault.{BoxFault}
 use Rattle.xm_commands.specs.Answer.{read_all, read_before, saved}
@@ -27,8 +27,9 @@ use Rattle.xm_commands.specs.Inputs.{no_inputs}
 use Rattle.xm_commands.specs.Packing.{container_of}
 use Rattle.file_maker.specs.Parsing.{xmc_of}
 use Rattle.file_maker.specs.Planning.{plan_lines_of, verdicts_of}
+use Rattle.alone_replay.specs.Ready.{Replay as Readied, Unready, replay_of}
 use Rattle.xm_commands.specs.Denial.{Denial}
-use Rattle.xm_commands.specs.Outcome.{Output, bare_outcome, content, first_long, made, packed_to, ran, ran_for, ran_scripted, ran_with, ran_within, refused, refused_by, run_by, run_outcome, told, inputs_of, outcome_of, output_of, scripts_for, ticks_asked, unless_long, worked}
+use Rattle.xm_commands.specs.Outcome.{Output, bare_outcome, content, first_long, input_bytes, made, packed_to, played, ran, ran_for, ran_scripted, ran_with, ran_within, refused, refused_by, replay_by, replay_outcome, run_by, run_outcome, told, inputs_of, outcome_of, output_of, scripts_for, ticks_asked, unless_long, worked}
 use Rattle.xm_commands.specs.Top.{AreContents, counted_by}
 use Rattle.xm_commands.specs.Work.{Outside, ReadsFiles, called, called_for, wrote}
 
@@ -149,6 +150,19 @@ run-output file options bytes contents output e = at (unpacked bytes) e
     at (Ok system) e = with-output file options system _ output e
     at (Err fault) e = cc
 
+-- a replay writes no file before its report
+played-output : (core : Option (List ℕ)) (replay : Readied) (output : Output) → (played core replay).output ≡ Some output → ⊥
+unfolding played
+played-output core replay output e = cc
+
+replay-output : (container : List ℕ) (part : ℕ) (script : List ℕ) (further : ReplayFiles) (bytes told input : List ℕ) (output : Output) → (replay_outcome container part script further bytes told input).output ≡ Some output → ⊥
+unfolding replay_outcome
+replay-output container part script further bytes told input output e = at (replay_of bytes part told input) e
+  where
+    at : (made_of : Result Readied Unready) → (replay_by container part script further made_of).output ≡ Some output → ⊥
+    at (Ok replay) e = played-output (replay_core further) replay output e
+    at (Err why) e = cc
+
 -- a file that is too long is refused
 pub outcome-long : (command : Command) (contents : List (List ℕ)) (file : List ℕ) → first_long (inputs_of command) contents ≡ Some file → outcome_of command contents ≡ refused file (codes "too-long")
 unfolding outcome_of
@@ -173,6 +187,7 @@ output-named command contents output is = at command (first_long (inputs_of comm
     at (TellGroups description) None e = absurd (told-output description (groups_of (content 0 contents)) output e)
     at (Generate number) None e = absurd (told-output [] (Ok (generated_text number)) output e)
     at (Run container options) None e = absurd (run-output container options (content 0 contents) (drop 1 contents) output e)
+    at (Replay container part script further) None e = absurd (replay-output container part script further (content 0 contents) (content 1 contents) (input_bytes (replay_input further) (content 2 contents)) output e)
 
 -- a refusal is the one that is told
 same_refusal : (one other : Denial) → Some one ≡ Some other → refused_by one ≡ refused_by other
@@ -238,6 +253,20 @@ run-denied file options bytes contents denial e = at (unpacked bytes) e
     at (Ok system) e = with-denied file options system _ denial e
     at (Err fault) e = same_refusal _ denial e
 
+-- and a replay
+played-denied : (core : Option (List ℕ)) (replay : Readied) (denial : Denial) → (played core replay).denial ≡ Some denial → ⊥
+unfolding played
+played-denied core replay denial e = cc
+
+replay-denied : (container : List ℕ) (part : ℕ) (script : List ℕ) (further : ReplayFiles) (bytes told input : List ℕ) (denial : Denial) → (replay_outcome container part script further bytes told input).denial ≡ Some denial
+    → replay_outcome container part script further bytes told input ≡ refused_by denial
+unfolding replay_outcome
+replay-denied container part script further bytes told input denial e = at (replay_of bytes part told input) e
+  where
+    at : (made_of : Result Readied Unready) → (replay_by container part script further made_of).denial ≡ Some denial → replay_by container part script further made_of ≡ refused_by denial
+    at (Ok replay) e = absurd (played-denied (replay_core further) replay denial e)
+    at (Err why) e = same_refusal _ denial e
+
 -- where there is no file, none is written
 pub no_output : (o : Option Output) → ((output : Output) → o ≡ Some output → ⊥) → o ≡ None
 no_output None never = refl
@@ -262,6 +291,7 @@ outcome-denied command contents denial is = at command (first_long (inputs_of co
     at (TellGroups description) None e = told-denied description (groups_of (content 0 contents)) denial e
     at (Generate number) None e = told-denied [] (Ok (generated_text number)) denial e
     at (Run container options) None e = run-denied container options (content 0 contents) (drop 1 contents) denial e
+    at (Replay container part script further) None e = replay-denied container part script further (content 0 contents) (content 1 contents) (input_bytes (replay_input further) (content 2 contents)) denial e
 
 -- What is read.
 

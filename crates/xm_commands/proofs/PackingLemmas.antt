@@ -9,21 +9,18 @@ use Rattle.xm_commands.specs.Denial.{Denial}
 use Rattle.xm_commands.specs.Ending.{Ending, Finished, Misused, Unread, Denied, Unwritten, Unsaved, Unheard, Starved}
 use Rattle.xm_commands.specs.Outcome.{Outcome, content, first_long, outcome_of, packed_to, unless_long, worked}
 use Rattle.xm_commands.specs.Packing.{container_of, images_of, limited, names_of}
+use Rattle.xm_commands.specs.Read.{HasRead}
 use Rattle.xm_commands.specs.Work.{Outside, AreNotRead, Comes, IsNotRead, IsStarved, ReadsFiles, called, called_for}
 use Rattle.xm_commands.proofs.OutsideLemmas.{called_for-is}
 
 -- Files are read.
 
--- of all files the first were read, with these contents, and the rest are still to be read
-pub record HasRead (all rest contents : List (List ℕ)) (before now : Outside) : Type 0 where
-  pub first : List (List ℕ)
-  pub named : all ≡ first ++ rest
-  pub read : ReadsFiles before.files first contents
-  pub outside : now ≡ called_for first before
-
 -- before the first of them nothing was read
 pub has_none : (all : List (List ℕ)) (before : Outside) → HasRead all all [] before before
 has_none all before = record { first = []; named = refl; read = tt; outside = refl }
+
+pub read_begun : (all contents : List (List ℕ)) (before : Outside) → contents ≡ [] → HasRead all all contents before before
+read_begun all contents before none = subst (λ (got : List (List ℕ)). HasRead all all got before before) (sym none) (has_none all before)
 
 -- one file more was read
 reads_more : (told : Option Files) (first contents : List (List ℕ)) (file bytes : List ℕ) → ReadsFiles told first contents → ReadsFile told file FILE_BYTES bytes → ReadsFiles told (first ++ file ∷ []) (contents ++ bytes ∷ [])

@@ -9,8 +9,17 @@ use Rattle.loaded_system.specs.System.{System}
 use Rattle.machine_model.specs.View.{System as Booted}
 use Rattle.whole_system.specs.State.{with_inputs}
 use Rattle.xm_words.specs.Words.{PartFile, RunOption, cores_in, scripts_in, span_in}
+use Rattle.std.specs.String.{string_bytes}
+use Rattle.cue_scripts.specs.Texts.{text}
+use Rattle.cue_scripts.specs.Written.{IsFile}
+use Rattle.cue_scripts.specs.declared.fault.ScriptFault.{ScriptFault}
+use Rattle.cue_scripts.specs.declared.fault.ScriptFault.TheVariants as fault
+use Rattle.file_maker.specs.Makes.{IsTold}
+use Rattle.file_maker.specs.declared.unmade.Unmade.{Unmade}
+use Rattle.file_maker.specs.declared.unmade.Unmade.TheVariants as unmade
+use Rattle.xm_commands.specs.Makes.{IsUnmadeOf}
 use Rattle.xm_commands.specs.Denial.{Denial}
-use Rattle.xm_commands.specs.Ending.{Ending, Finished, Misused, Unread, Denied, Unwritten, Unsaved, Unheard, Starved, long_text, ticks_text}
+use Rattle.xm_commands.specs.Ending.{Ending, Finished, Misused, Unread, Denied, Unwritten, Unsaved, Unheard, Starved, ticks_text}
 use Rattle.xm_commands.specs.Outcome.{Output, ran_for, ran_scripted, ran_within, refused, script_before, script_bytes, script_denial, script_output, scripts_for, ticks_asked, unless_denied}
 use Rattle.xm_commands.specs.Scripts.{script_or}
 use Rattle.xm_commands.specs.Told.{AreSaved, IsDenied, ending_of}
@@ -30,10 +39,29 @@ script_made system ticks part file bytes is few =
 
 -- one that is
 pub script_long : (system : Booted) (ticks part : ℕ) (file : List ℕ) (found : ℕ) → found ≡ length (script_bytes system ticks part) → FILE_BYTES < length (script_bytes system ticks part)
-    → script_or (script_denial system ticks (record { part = part; file = file })) (script_output system ticks (record { part = part; file = file })) ≡ Err (record { file = file; text = long_text found })
+    → script_or (script_denial system ticks (record { part = part; file = file })) (script_output system ticks (record { part = part; file = file })) ≡ Err (record { file = file; text = text (fault.Length found) })
 script_long system ticks part file found is long =
     let test : nat_lt FILE_BYTES (length (script_bytes system ticks part)) ≡ true = grind (arith, nat_tests, long) in
-    rw test (ap (λ (n : ℕ). Err (record { file = file; text = long_text n })) (sym is))
+    rw test (ap (λ (n : ℕ). Err (record { file = file; text = text (fault.Length n) })) (sym is))
+
+-- one that was not made
+pub script_unmade : {X : Type 0} (view : X → List ℕ) (system : Booted) (ticks part : ℕ) (file : List ℕ) (why : ScriptFault) (said : Unmade) (e : Ending)
+    → IsFile view (script_bytes system ticks part) (Err why) → IsTold said (text why) → (why ≡ fault.Memory → said ≡ unmade.Memory) → IsUnmadeOf e file said
+    → IsDenied e (script_or (script_denial system ticks (record { part = part; file = file })) (script_output system ticks (record { part = part; file = file })))
+script_unmade view system ticks part file (fault.Length found) (unmade.Refused words) e is told memory ends =
+    let text_is : string_bytes words ≡ text (fault.Length found) = told in
+    rw (ends, text_is) (script_long system ticks part file found is.0 is.1)
+script_unmade view system ticks part file (fault.Length found) unmade.Memory e is told memory ends = rw ends tt
+script_unmade view system ticks part file fault.Memory said e is told memory ends =
+    let starved : said ≡ unmade.Memory = memory refl in
+    let ended : e ≡ Starved = subst (IsUnmadeOf e file) starved ends in
+    rw ended tt
+script_unmade view system ticks part file fault.Magic said e is told memory ends = absurd is
+script_unmade view system ticks part file (fault.Version found) said e is told memory ends = absurd is
+script_unmade view system ticks part file (fault.Short at) said e is told memory ends = absurd is
+script_unmade view system ticks part file (fault.Trailing at) said e is told memory ends = absurd is
+script_unmade view system ticks part file (fault.Field at) said e is told memory ends = absurd is
+script_unmade view system ticks part file (fault.Cue tick) said e is told memory ends = absurd is
 
 -- Scripts, one after another.
 

@@ -23,7 +23,7 @@ use Rattle.machine_model.specs.Machine.{Machine, booted_part, run, start}
 use Rattle.machine_model.specs.Partition.{PartitionState}
 use Rattle.machine_model.specs.View.{System, view_of}
 use Rattle.whole_system.specs.State.{part_at, with_inputs}
-use Rattle.xm_words.specs.Words.{Command, PartFile, RunOption, Bare, Parse, BuildImage, ReadImage, Pack, ListContainer, CheckContainer, MakePlan, CheckPlan, TellGroups, Generate, Run, cores_in, inputs_in, span_in, scripts_in}
+use Rattle.xm_words.specs.Words.{Command, PartFile, RunOption, Bare, Parse, BuildImage, ReadImage, Pack, ListContainer, CheckContainer, MakePlan, CheckPlan, TellGroups, Generate, Run, Replay, cores_in, inputs_in, span_in, scripts_in}
 use Rattle.xm_commands.specs.Cores.{AreInside}
 use Rattle.xm_commands.specs.Denial.{Denial}
 use Rattle.xm_commands.specs.Ending.{Ending, length_text, status_of, ticks_text}
@@ -319,6 +319,7 @@ command_by Did Shows (MakePlan description) contents before after are never show
 command_by Did Shows (CheckPlan description) contents before after are never shows is = tt
 command_by Did Shows (TellGroups description) contents before after are never shows is = tt
 command_by Did Shows (Generate number) contents before after are never shows is = tt
+command_by Did Shows (Replay container part script further) contents before after are never shows is = tt
 command_by Did Shows (Run container options) contents before after are never shows is = container_by Did Shows container options contents before after are never shows is
 
 outcome_by : (Did : Outcome → Type 0) (Shows : System → ℕ → List PartFile → List PartFile → Outside → Outside → Type 0) (command : Command) (contents : List (List ℕ)) (before after : Outside)
@@ -370,6 +371,7 @@ lost_alone (MakePlan description) before after w = tt
 lost_alone (CheckPlan description) before after w = tt
 lost_alone (TellGroups description) before after w = tt
 lost_alone (Generate number) before after w = tt
+lost_alone (Replay container part script further) before after w = tt
 lost_alone (Run container options) before after w = absurd (let some : IsSome {T = List ℕ} None = w.output in cc)
 
 pub are_part : OwnLines → SameCoreFile → (command : Option Command) (before after : Outside) → IsWriteCause command before after → AreAlone ShowsPart command before after

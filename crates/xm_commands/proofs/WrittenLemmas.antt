@@ -14,18 +14,19 @@ use Rattle.generated_runs.specs.Told.{generated_text}
 use Rattle.machine_model.specs.Machine.{Machine}
 use Rattle.machine_model.specs.View.{System as Booted}
 use Rattle.whole_system.specs.State.{with_inputs}
-use Rattle.xm_words.specs.Words.{Command, PartFile, RunOption, Bare, Parse, BuildImage, ReadImage, Pack, ListContainer, CheckContainer, MakePlan, CheckPlan, TellGroups, Generate, Run, cores_in, scripts_in, span_in}
+use Rattle.xm_words.specs.Words.{Command, PartFile, RunOption, Bare, Parse, BuildImage, ReadImage, Pack, ListContainer, CheckContainer, MakePlan, CheckPlan, TellGroups, Generate, Run, Replay, ReplayFiles, cores_in, replay_core, replay_input, scripts_in, span_in}
+use Rattle.alone_replay.specs.Ready.{Replay as Readied, Unready, replay_of}
 use Rattle.xm_commands.specs.Answer.{saved, saved_all}
 use Rattle.xm_commands.specs.Denial.{Denial}
 use Rattle.xm_commands.specs.Ending.{length_text, ticks_text}
 use Rattle.file_maker.specs.Grouping.{groups_of}
 use Rattle.file_maker.specs.Imaging.{container_lines_of, container_verdict_of, image_lines_of, xef_of}
 use Rattle.xm_commands.specs.Inputs.{no_inputs}
-use Rattle.xm_commands.specs.Outcome.{Output, Outcome, bare_outcome, content, core_outputs, first_long, inputs_of, later_of, made, outcome_of, output_of, packed_to, ran, ran_for, ran_scripted, ran_with, ran_within, refused, run_by, run_outcome, script_before, script_denial, script_output, scripts_for, ticks_asked, told, unless_denied, unless_long, worked}
+use Rattle.xm_commands.specs.Outcome.{Output, Outcome, bare_outcome, content, core_outputs, first_long, input_bytes, inputs_of, later_of, made, name_in, outcome_of, output_of, packed_to, played, ran, ran_for, ran_scripted, ran_with, ran_within, refused, replay_by, replay_outcome, replay_output, run_by, run_outcome, script_before, script_denial, script_output, scripts_for, ticks_asked, told, unless_denied, unless_long, worked}
 use Rattle.xm_commands.specs.Packing.{container_of, names_of}
 use Rattle.file_maker.specs.Parsing.{xmc_of}
 use Rattle.file_maker.specs.Planning.{plan_lines_of, verdicts_of}
-use Rattle.xm_commands.specs.Top.{FilesStay, HasCalls, IsNoneOf, StayWhere, counted_by, name_in, writes_of}
+use Rattle.xm_commands.specs.Top.{FilesStay, HasCalls, IsNoneOf, StayWhere, counted_by, writes_of}
 use Rattle.xm_commands.specs.Work.{Outside, IsLostOf, IsNotSaved, did, file_in, told_all, wrote, wrote_all}
 use Rattle.xm_commands.proofs.OutsideLemmas.{counted-counted_by, others_stored, output-named, wrote-faults, wrote-files, wrote-got, wrote-read_faults, wrote-write_faults}
 
@@ -242,6 +243,23 @@ told-later : (file : List ℕ) (text : Result (List ℕ) (List ℕ)) → (told f
 told-later file (Ok text) = refl
 told-later file (Err text) = refl
 
+-- the core file of a replay
+replay_output-files : (replay : Readied) (core : Option (List ℕ)) → files_of (map (replay_output replay) (name_in core)) ≡ name_in core
+replay_output-files replay None = refl
+replay_output-files replay (Some file) = refl
+
+played-later : (core : Option (List ℕ)) (replay : Readied) → AreNamed (name_in core) (played core replay).later
+unfolding played
+played-later core replay = inl (replay_output-files replay core)
+
+replay-later : (container : List ℕ) (part : ℕ) (script : List ℕ) (further : ReplayFiles) (bytes told input : List ℕ) → AreNamed (name_in (replay_core further)) (replay_outcome container part script further bytes told input).later
+unfolding replay_outcome
+replay-later container part script further bytes told input = at (replay_of bytes part told input)
+  where
+    at : (made_of : Result Readied Unready) → AreNamed (name_in (replay_core further)) (replay_by container part script further made_of).later
+    at (Ok replay) = played-later (replay_core further) replay
+    at (Err why) = inr refl
+
 -- the files after the report are those that the words name, or none
 later-named : (command : Command) (contents : List (List ℕ)) → AreNamed (later_of command) (outcome_of command contents).later
 unfolding outcome_of
@@ -261,6 +279,7 @@ later-named command contents = at command (first_long (inputs_of command) conten
     at (TellGroups description) None = inr (told-later description (groups_of (content 0 contents)))
     at (Generate number) None = inr (told-later [] (Ok (generated_text number)))
     at (Run container options) None = run-later container options (content 0 contents) (drop 1 contents)
+    at (Replay container part script further) None = replay-later container part script further (content 0 contents) (content 1 contents) (input_bytes (replay_input further) (content 2 contents))
 
 -- a command whose words name none of them has none
 pub no-later : (command : Command) (contents : List (List ℕ)) → later_of command ≡ [] → (outcome_of command contents).later ≡ []

@@ -1,16 +1,18 @@
 -- What a command makes of the board of UARTs, by how it ends.
-use Rattle.std.specs.Prelude.{◌≡◌, ℕ, ◌<◌, ◌≤◌, List, length, Option, Some, None, IsNone, IsSome}
+use Rattle.std.specs.Prelude.{◌≡◌, ℕ, ◌<◌, ◌≤◌, List, length, take, Option, Some, None, IsNone, IsSome}
 use Rattle.machine_model.specs.Lines.{console, report}
 use Rattle.machine_model.specs.Machine.{start}
+use Rattle.machine_model.specs.View.{view_of}
 use Rattle.uart_board.specs.Heard.{IsHeard}
 use Rattle.uart_board.specs.Views.{BoardView, begun, mark_at}
 use Rattle.xm_machine.specs.Outcome.{report_to}
 use Rattle.xm_outside.specs.Files.{Files}
 use Rattle.xm_outside.specs.Growth.{GrewByPrefix}
-use Rattle.xm_report.specs.Report.{texts}
+use Rattle.xm_report.specs.Report.{ReportLine, texts}
+use Rattle.xm_alone.specs.Replay.{booted_alone, cue_lines, replay_lines, replay_said}
 use Rattle.xm_words.specs.Words.{Command}
 use Rattle.xm_commands.specs.Ending.{Ending, Finished, Misused, Unread, Denied, Unwritten, Unsaved, Unheard, Starved, complaint, status_of}
-use Rattle.xm_commands.specs.Outcome.{Running, inputs_of, outcome_of}
+use Rattle.xm_commands.specs.Outcome.{Running, Together, Apart, inputs_of, outcome_of}
 use Rattle.xm_commands.specs.Top.{IsSaid}
 use Rattle.xm_commands.specs.Work.{ReadsFiles}
 use Rattle.xm_commands.specs.declared.status.Status.{Status}
@@ -24,28 +26,51 @@ pub record IsLowestMark (place : ℕ) (board : BoardView) : Type 0 where
   pub marked : IsSome (mark_at place board.marks)
   pub lowest : (lower : ℕ) → lower < place → IsNone (mark_at lower board.marks)
 
+-- how many ticks a run has
+abbrev pub ticks_of : Running → ℕ
+ticks_of (Together system ticks) = ticks
+ticks_of (Apart system p cues) = length cues
+
+-- the console bytes of so many ticks of a run that each UART gets
+abbrev pub said_in : Running → ℕ → ℕ → List ℕ
+said_in (Together system ticks) done = console (start system) done
+said_in (Apart system p cues) done = replay_said (booted_alone system p) (take done cues)
+
+-- the whole report of a run
+abbrev pub lines_in : Running → List ReportLine
+lines_in (Together system ticks) = report system ticks
+lines_in (Apart system p cues) = replay_lines (view_of system p) cues
+
 -- from a board without marks on, each UART got the console bytes of so many ticks of the run
 abbrev pub IsRunTo : ℕ → Running → BoardView → BoardView → Type 0
-IsRunTo ticks run before after = IsHeard (console (start run.system) ticks) (begun before) after
+IsRunTo done run before after = IsHeard (said_in run done) (begun before) after
 
 -- those of all its ticks, and none failed
 pub record IsRunWell (run : Running) (before after : BoardView) : Type 0 where
-  pub heard : IsRunTo run.ticks run before after
+  pub heard : IsRunTo (ticks_of run) run before after
   pub well : HasNoMark after
 
 -- those of all its ticks, and the one at this place failed, and none at a lower one
 pub record IsRunMarked (place : ℕ) (run : Running) (before after : BoardView) : Type 0 where
-  pub heard : IsRunTo run.ticks run before after
+  pub heard : IsRunTo (ticks_of run) run before after
   pub marked : IsLowestMark place after
 
--- those of its ticks up to the one in which the report was cut: the sink of the report took all lines of the ticks before that one, and not
--- all that it has with those of that one. Where only lines of the end are missing, these are all ticks of the run
+-- the sink of the report, which took so many bytes of it, took all lines of the ticks before this one, and not all that it has with those of this
+-- one, unless these are all ticks of the run: then lines of the end may be all that is missing
+abbrev pub IsCutAt : Running → ℕ → ℕ → Type 0
+IsCutAt (Together system ticks) done count =
+    ((earlier : ℕ) → earlier < done → length (texts (report_to (start system) ticks earlier)) ≤ count)
+    × (done < ticks → count < length (texts (report_to (start system) ticks done)))
+IsCutAt (Apart system p cues) done count =
+    ((earlier : ℕ) → earlier < done → length (texts (cue_lines (view_of system p) (take earlier cues))) ≤ count)
+    × (done < length cues → count < length (texts (cue_lines (view_of system p) (take done cues))))
+
+-- those of its ticks up to the one in which the report was cut
 pub record IsRunCut (run : Running) (had got : Option (List ℕ)) (before after : BoardView) : Type 0 where
-  pub front : GrewByPrefix had (texts (report run.system run.ticks)) got
+  pub front : GrewByPrefix had (texts (lines_in run)) got
   pub ticks : ℕ
-  pub within : ticks ≤ run.ticks
-  pub whole : (earlier : ℕ) → earlier < ticks → length (texts (report_to (start run.system) run.ticks earlier)) ≤ front.count
-  pub cut : ticks < run.ticks → front.count < length (texts (report_to (start run.system) run.ticks ticks))
+  pub within : ticks ≤ ticks_of run
+  pub cut : IsCutAt run ticks front.count
   pub heard : IsRunTo ticks run before after
 
 -- a run all of whose writes are done ends so: well where no place has a mark, else with the lowest that has one
@@ -70,7 +95,7 @@ Leaves (Denied file text) run had got before after = after ≡ before
 Leaves Unwritten None had got before after = after ≡ before
 Leaves Unwritten (Some run) had got before after = IsRunCut run had got before after
 Leaves (Unsaved file) None had got before after = after ≡ before
-Leaves (Unsaved file) (Some run) had got before after = IsRunTo run.ticks run before after
+Leaves (Unsaved file) (Some run) had got before after = IsRunTo (ticks_of run) run before after
 Leaves (Unheard place) None had got before after = ⊥
 Leaves (Unheard place) (Some run) had got before after = IsRunMarked place run before after
 Leaves Starved run had got before after = after ≡ before

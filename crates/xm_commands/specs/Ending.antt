@@ -52,10 +52,6 @@ ticks_text asked = codes "ticks asked=" ++ decimal asked
 unfoldable pub partition_text : ℕ → List ℕ
 partition_text id = codes "partition id=" ++ decimal id
 
--- the fault text of a script that would be too long for a file
-unfoldable pub long_text : ℕ → List ℕ
-long_text found = codes "length found=" ++ decimal found
-
 -- the fault text of an input whose length is no multiple of 4
 unfoldable pub input_text : ℕ → List ℕ
 input_text length = codes "input length=" ++ decimal length

@@ -7,6 +7,8 @@ pub mod Inputs
 pub mod Makes
 pub mod Outcome
 pub mod Packing
+pub mod Read
+pub mod Replaying
 pub mod Scripts
 pub mod Separation
 pub mod Status

@@ -5,23 +5,27 @@ use Rattle.xm_report.specs.Report.{texts}
 use Rattle.xm_conf.specs.Configuration.{Conf}
 use Rattle.cyclic_plans.specs.Slots.{frame_of}
 use Rattle.machine_model.specs.CoreFile.{core_file}
-use Rattle.machine_model.specs.Cue.{script}
+use Rattle.machine_model.specs.Cue.{Cue, script}
 use Rattle.machine_model.specs.Lines.{report}
 use Rattle.machine_model.specs.Machine.{Machine, run, start}
 use Rattle.machine_model.specs.View.{System as Booted, view_of}
 use Rattle.generated_runs.specs.Told.{generated_text}
 use Rattle.whole_system.specs.State.{part_at, with_inputs}
 use Rattle.cue_scripts.specs.Spelling.{script_text}
+use Rattle.cue_scripts.specs.Texts.{text}
+use Rattle.cue_scripts.specs.declared.fault.ScriptFault.TheVariants as script_fault
+use Rattle.xm_alone.specs.Replay.{replay_lines, replayed}
+use Rattle.alone_replay.specs.Ready.{NoContainer, NoPartition, NoScript, OddInput, Replay as Readied, Unready, replay_of}
 use Rattle.loaded_system.specs.Bare.{bare_system}
 use Rattle.loaded_system.specs.System.{System}
 use Rattle.xm_container.specs.Reading.{unpacked}
 use Rattle.xm_container.specs.Texts.{box_fault_text}
 use Rattle.xm_container.specs.declared.fault.BoxFault.{BoxFault}
-use Rattle.xm_words.specs.Words.{Command, PartFile, RunOption, Bare, Parse, BuildImage, ReadImage, Pack, ListContainer, CheckContainer, MakePlan, CheckPlan, TellGroups, Generate, Run, cores_in, inputs_in, span_in, scripts_in}
+use Rattle.xm_words.specs.Words.{Command, PartFile, RunOption, Bare, Parse, BuildImage, ReadImage, Pack, ListContainer, CheckContainer, MakePlan, CheckPlan, TellGroups, Generate, Run, Replay, ReplayFiles, cores_in, inputs_in, replay_core, replay_input, span_in, scripts_in}
 use Rattle.xm_words.specs.declared.commands.Span.{Span}
 use Rattle.xm_words.specs.declared.commands.Span.TheVariants.{Frames, Ticks}
 use Rattle.xm_commands.specs.Denial.{Denial}
-use Rattle.xm_commands.specs.Ending.{length_text, long_text, ticks_text}
+use Rattle.xm_commands.specs.Ending.{input_text, length_text, partition_text, ticks_text}
 use Rattle.file_maker.specs.Grouping.{groups_of}
 use Rattle.file_maker.specs.Imaging.{container_lines_of, container_verdict_of, image_lines_of, xef_of}
 use Rattle.xm_commands.specs.Inputs.{inputs_for, no_inputs}
@@ -34,10 +38,10 @@ pub record Output : Type 0 where
   pub file : List ℕ
   pub bytes : List ℕ
 
--- a run: the system, with the input words of its partitions, and for how many ticks
-pub record Running : Type 0 where
-  pub system : Booted
-  pub ticks : ℕ
+-- a run: the system, with the input words of its partitions, and for how many ticks; or one partition of the system alone, with all that it is told
+pub data Running : Type 0 where
+  Together : (system : Booted) (ticks : ℕ) → Running
+  Apart : (system : Booted) (p : ℕ) (cues : List Cue) → Running
 
 -- what a command comes to: its refusal, if there is one, the file that it writes first, what goes to the report, the files that it writes after
 -- the report, in their order, and the run whose report that is
@@ -56,6 +60,11 @@ refused_by denial = record { denial = Some denial; output = None; report = []; l
 abbrev pub refused : List ℕ → List ℕ → Outcome
 refused file text = refused_by (record { file = file; text = text })
 
+-- a file's name, where there is one
+abbrev pub name_in : Option (List ℕ) → List (List ℕ)
+name_in None = []
+name_in (Some file) = file ∷ []
+
 -- the files that a command reads, in the order of its words
 abbrev pub inputs_of : Command → List (List ℕ)
 inputs_of (Bare image ticks) = image ∷ []
@@ -70,6 +79,7 @@ inputs_of (CheckPlan description) = description ∷ []
 inputs_of (TellGroups description) = description ∷ []
 inputs_of (Generate number) = []
 inputs_of (Run container options) = container ∷ names_of (inputs_in options)
+inputs_of (Replay container part script further) = container ∷ script ∷ name_in (replay_input further)
 
 -- the file that a command writes before its report
 abbrev pub output_of : Command → Option (List ℕ)
@@ -85,6 +95,7 @@ output_of (CheckPlan description) = None
 output_of (TellGroups description) = None
 output_of (Generate number) = None
 output_of (Run container options) = None
+output_of (Replay container part script further) = None
 
 -- the files that a command writes after its report, in their order
 abbrev pub later_of : Command → List (List ℕ)
@@ -100,6 +111,7 @@ later_of (CheckPlan description) = []
 later_of (TellGroups description) = []
 later_of (Generate number) = []
 later_of (Run container options) = names_of (cores_in options) ++ names_of (scripts_in options)
+later_of (Replay container part script further) = name_in (replay_core further)
 
 -- the core file of a partition of a machine, under the name that is given for it
 abbrev pub core_output : Machine → PartFile → Output
@@ -120,7 +132,7 @@ script_output system ticks named = record { file = named.file; bytes = script_by
 -- the refusal of a script that has more bytes than a file may have
 abbrev pub script_denial : Booted → ℕ → PartFile → Option Denial
 script_denial system ticks named =
-    if nat_lt FILE_BYTES (length (script_bytes system ticks named.part)) then Some (denial named.file (long_text (length (script_bytes system ticks named.part))))
+    if nat_lt FILE_BYTES (length (script_bytes system ticks named.part)) then Some (denial named.file (text (script_fault.Length (length (script_bytes system ticks named.part)))))
     else None
 
 -- the first refusal of scripts in the order of their names, or else what comes of them
@@ -146,7 +158,7 @@ ran ticks cores scripts system inputs = record {
   output = None;
   report = texts (report (with_inputs system inputs) ticks);
   later = core_outputs (run (start (with_inputs system inputs)) ticks) cores ++ scripts;
-  run = Some (record { system = with_inputs system inputs; ticks = ticks });
+  run = Some (Together (with_inputs system inputs) ticks);
 }
 
 -- what a raw image comes to, run for so many ticks without input words
@@ -172,6 +184,7 @@ ran_for file asked options system inputs =
     if nat_lt TICKS asked then refused file (ticks_text asked)
     else ran_scripted asked (cores_in options) system inputs (scripts_for (with_inputs system inputs) asked (scripts_in options))
 
+-- what a run comes to, by the ticks that its options ask for
 unfoldable pub ran_within : List ℕ → List RunOption → System → List (List ℕ) → Outcome
 ran_within file options system inputs = ran_for file (ticks_asked (span_in options) system.conf) options system inputs
 
@@ -189,6 +202,46 @@ run_by file options contents (Err fault) = refused file (box_fault_text fault)
 -- what the container of a file with these bytes comes to, run with options and inputs with these contents
 unfoldable pub run_outcome : List ℕ → List RunOption → List ℕ → List (List ℕ) → Outcome
 run_outcome file options bytes contents = run_by file options contents (unpacked bytes)
+
+-- the core file of a partition that was replayed, under the name that is given for it
+abbrev pub replay_output : Readied → List ℕ → Output
+replay_output replay file = record { file = file; bytes = core_file (view_of replay.system replay.p) (replayed (view_of replay.system replay.p) replay.cues).state }
+
+-- what a replay comes to that may begin: the partition's lines and that of its end, and its core file behind them, where a file is named for it
+unfoldable pub played : Option (List ℕ) → Readied → Outcome
+played core replay = record {
+  denial = None;
+  output = None;
+  report = texts (replay_lines (view_of replay.system replay.p) replay.cues);
+  later = map (replay_output replay) (name_in core);
+  run = Some (Apart replay.system replay.p replay.cues);
+}
+
+-- the name of the file of input words, where there is one
+abbrev pub input_name : Option (List ℕ) → List ℕ
+input_name None = []
+input_name (Some file) = file
+
+-- the bytes of input words: none where there is no file of them
+abbrev pub input_bytes : Option (List ℕ) → List ℕ → List ℕ
+input_bytes None bytes = []
+input_bytes (Some file) bytes = bytes
+
+-- which file a replay is refused for, and why
+abbrev pub unready_denial : List ℕ → ℕ → List ℕ → ReplayFiles → Unready → Denial
+unready_denial container part script further (NoContainer text) = denial container text
+unready_denial container part script further NoPartition = denial container (partition_text part)
+unready_denial container part script further (NoScript text) = denial script text
+unready_denial container part script further (OddInput count) = denial (input_name (replay_input further)) (input_text count)
+
+-- what a replay comes to, or its refusal
+abbrev pub replay_by : List ℕ → ℕ → List ℕ → ReplayFiles → Result Readied Unready → Outcome
+replay_by container part script further (Ok replay) = played (replay_core further) replay
+replay_by container part script further (Err why) = refused_by (unready_denial container part script further why)
+
+-- what a container, a script and input words with these contents come to, by which a partition is replayed
+unfoldable pub replay_outcome : List ℕ → ℕ → List ℕ → ReplayFiles → List ℕ → List ℕ → List ℕ → Outcome
+replay_outcome container part script further bytes told input = replay_by container part script further (replay_of bytes part told input)
 
 -- what is printed of a file that was made
 unfoldable pub made_text : ℕ → List ℕ
@@ -227,6 +280,7 @@ worked (CheckPlan description) contents = told description (verdicts_of (content
 worked (TellGroups description) contents = told description (groups_of (content 0 contents))
 worked (Generate number) contents = told [] (Ok (generated_text number))
 worked (Run container options) contents = run_outcome container options (content 0 contents) (drop 1 contents)
+worked (Replay container part script further) contents = replay_outcome container part script further (content 0 contents) (content 1 contents) (input_bytes (replay_input further) (content 2 contents))
 
 -- the first of the files that has more bytes than a file may have
 abbrev pub first_long : List (List ℕ) → List (List ℕ) → Option (List ℕ)

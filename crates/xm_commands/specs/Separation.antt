@@ -13,7 +13,7 @@ use Rattle.machine_model.specs.Lines.{end_line, own, report}
 use Rattle.machine_model.specs.Machine.{start}
 use Rattle.machine_model.specs.View.{System, view_of}
 use Rattle.whole_system.specs.State.{with_inputs}
-use Rattle.xm_words.specs.Words.{Command, PartFile, RunOption, Bare, Parse, BuildImage, ReadImage, Pack, ListContainer, CheckContainer, MakePlan, CheckPlan, TellGroups, Generate, Run, cores_in, span_in, scripts_in}
+use Rattle.xm_words.specs.Words.{Command, PartFile, RunOption, Bare, Parse, BuildImage, ReadImage, Pack, ListContainer, CheckContainer, MakePlan, CheckPlan, TellGroups, Generate, Run, Replay, cores_in, span_in, scripts_in}
 use Rattle.xm_commands.specs.Inputs.{inputs_for, no_inputs}
 use Rattle.xm_commands.specs.Outcome.{Output, content, script_output, ticks_asked}
 use Rattle.xm_commands.specs.Top.{AreContents}
@@ -89,7 +89,7 @@ pub record ContainerAlone (Shows : System → ℕ → List PartFile → List Par
   pub given : inputs_for (length system.conf.parts) options (drop 1 contents) ≡ Ok inputs
   pub shows : Shows (with_inputs system inputs) (ticks_asked (span_in options) system.conf) (cores_in options) (scripts_in options) before after
 
--- what a command shows of partitions; those that print no report of a run show nothing
+-- what a command shows of partitions; those that print no report of a run show nothing here
 abbrev pub CommandAlone : (System → ℕ → List PartFile → List PartFile → Outside → Outside → Type 0) → Command → Outside → Outside → Type 0
 CommandAlone Shows (Bare image ticks) before after = BareAlone Shows image ticks before after
 CommandAlone Shows (Parse description output) before after = Unit {0}
@@ -103,6 +103,7 @@ CommandAlone Shows (CheckPlan description) before after = Unit {0}
 CommandAlone Shows (TellGroups description) before after = Unit {0}
 CommandAlone Shows (Generate number) before after = Unit {0}
 CommandAlone Shows (Run container options) before after = ContainerAlone Shows container options before after
+CommandAlone Shows (Replay container part script further) before after = Unit {0}
 
 -- what words show that are a command
 abbrev pub AreAlone : (System → ℕ → List PartFile → List PartFile → Outside → Outside → Type 0) → Option Command → Outside → Outside → Type 0

@@ -8,12 +8,12 @@ use Rattle.xm_words.specs.Seen.{seen_options}
 use Rattle.xm_words.specs.Words.{span_in}
 use Rattle.xm_words.specs.declared.commands.Command.{Command}
 use Rattle.xm_words.specs.declared.commands.Command.TheVariants as words
-use Rattle.xm_commands.specs.Ending.{Ending, Finished, Misused, Unread, Denied, Unwritten, Unsaved, Unheard, Starved, input_text, length_text, long_text, partition_text, ticks_text}
+use Rattle.xm_commands.specs.Ending.{Ending, Finished, Misused, Unread, Denied, Unwritten, Unsaved, Unheard, Starved, input_text, length_text, partition_text, ticks_text}
 use Rattle.xm_commands.specs.Denial.{Denial}
 use Rattle.xm_commands.specs.Outcome.{Output}
 use Rattle.xm_commands.specs.Work.{Outside, AreNotRead, AreNotSaved, IsNotRead, ReadsFiles, SavesAll, called, called_for}
 use Rattle.xm_commands.specs.declared.ending.Refusal.{Refusal}
-use Rattle.xm_commands.specs.declared.ending.Refusal.TheVariants.{TooLong, Length, Ticks, Partition, Input, LongScript, Told}
+use Rattle.xm_commands.specs.declared.ending.Refusal.TheVariants.{TooLong, Length, Ticks, Partition, Input, Told}
 use Rattle.xm_commands.specs.declared.ending.Ending as code
 use Rattle.xm_commands.specs.declared.ending.Ending.TheVariants as variant
 
@@ -24,7 +24,6 @@ refusal_text (Length found) = length_text found
 refusal_text (Ticks asked) = ticks_text asked
 refusal_text (Partition id) = partition_text id
 refusal_text (Input found) = input_text found
-refusal_text (LongScript found) = long_text found
 refusal_text (Told text) = string_bytes text
 
 -- what an ending of the program says
@@ -52,6 +51,7 @@ HasTicks (words.CheckPlan description) = ⊤
 HasTicks (words.TellGroups description) = ⊤
 HasTicks (words.Generate number) = ⊤
 HasTicks (words.Run container options) = count_of (span_in (seen_options options)) ≤ TICKS
+HasTicks (words.Replay container part script further) = ⊤
 
 -- a file was read, or the call ends without it
 abbrev pub IsRead : {A : Type 0} → Result (Vec ℕ A) code.Ending → List ℕ → Outside → Outside → Type 0

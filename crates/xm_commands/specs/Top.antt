@@ -7,7 +7,7 @@ use Rattle.xm_outside.specs.Growth.{grown, GrewByPrefix}
 use Rattle.xm_words.specs.Words.{Command}
 use Rattle.xm_commands.specs.Answer.{answer, read_all}
 use Rattle.xm_commands.specs.Ending.{Ending, complaint, status_of}
-use Rattle.xm_commands.specs.Outcome.{Output, inputs_of, later_of, outcome_of, output_of}
+use Rattle.xm_commands.specs.Outcome.{Output, inputs_of, later_of, name_in, outcome_of, output_of}
 use Rattle.xm_commands.specs.Work.{Outside, IsWorked, told_all, wrote, wrote_all}
 use Rattle.xm_commands.specs.declared.status.Status.{Status}
 use Rattle.xm_commands.specs.declared.status.Status.TheVariants.{Done, Refused, Usage, ReadFault, WriteFault, UartFault, NoMemory}
@@ -118,11 +118,6 @@ pub record IsFaultless (before after : Outside) : Type 0 where
 abbrev pub counted_by : ℕ → ℕ → ℕ
 counted_by zero n = n
 counted_by (suc k) n = counted_by k (counted n)
-
--- a file's name, where there is one
-abbrev pub name_in : Option (List ℕ) → List (List ℕ)
-name_in None = []
-name_in (Some file) = file ∷ []
 
 -- the files that a command writes, in their order
 abbrev pub writes_of : Command → List (List ℕ)

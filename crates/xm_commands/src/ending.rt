@@ -20,8 +20,6 @@ pub(crate) enum Refusal {
     Partition { id: PartId },
     /// An input's length is no multiple of 4.
     Input { found: usize },
-    /// A script would have so many bytes, more than a file may have.
-    LongScript { found: u64 },
     /// What it should be it is not, as this text says.
     Told { text: String },
 }

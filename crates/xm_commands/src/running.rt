@@ -125,8 +125,8 @@ pub(crate) fn run_system<'a, S: Store, O: Sink>(
     }
 }
 
-// How a run ends all of whose writes are done: well, or with the lowest place of the board that is marked.
-fn heard<'a>(board: &Board) -> Ending<'a>
+/// How a run ends all of whose writes are done: well, or with the lowest place of the board that is marked.
+pub(crate) fn heard<'a>(board: &Board) -> Ending<'a>
     ensures { EndsRun (ending_of result) (⟦<Board as ViewBoard>⟧.board_view board.now) }
 {
     match board.failed() {

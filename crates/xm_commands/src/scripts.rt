@@ -16,10 +16,12 @@ ghost use Rattle.xm_commands.specs.Work.{Saves, outside};
 ghost use Rattle.xm_words.specs.Seen.{seen_file, seen_options};
 ghost use Rattle.xm_words.specs.Words.{inputs_in, scripts_in};
 
-use crate::ending::{Ending, Refusal};
+use crate::delivery::unmade;
+use crate::ending::Ending;
 use crate::inputs::inputs_for;
 use crate::reading::split_contents;
 use crate::unpacking::part_count;
+use alone_replay::no_script;
 use std::alloc::Global;
 use xm_alone::{ScriptFault, script_of};
 use xm_base::Memory;
@@ -95,6 +97,7 @@ fn make_script<'a>(
 {
     match made_again(alloc, options, contents, system) {
         Ok((system, inputs)) => tell_script(
+            alloc,
             named.file,
             script_of(alloc, system, inputs, named.part, ticks),
         ),
@@ -127,6 +130,7 @@ fn made_again(
 
 // A script that was made, or how the call ends without it.
 fn tell_script<'a>(
+    alloc: Global,
     file: &'a str,
     script: Result<Vec<u8>, ScriptFault>,
 ) -> Result<MadeScript<'a>, Ending<'a>>
@@ -135,11 +139,7 @@ fn tell_script<'a>(
 {
     match script {
         Ok(bytes) => Ok(MadeScript { file, bytes }),
-        Err(ScriptFault::Length { found }) => Err(Ending::Denied {
-            file,
-            why: Refusal::LongScript { found },
-        }),
-        Err(_) => Err(Ending::Starved),
+        Err(fault) => Err(unmade(file, no_script(alloc, fault))),
     }
 }
 

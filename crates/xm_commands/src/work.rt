@@ -12,6 +12,7 @@ use crate::generating::generate;
 use crate::imaging::build_image;
 use crate::packing::pack_files;
 use crate::parsing::parse;
+use crate::replaying::replay_container;
 use crate::running::run_file;
 use crate::telling::tell_file;
 use crate::unpacking::run_container;
@@ -107,5 +108,11 @@ fn carry_out<'a, S: Store, O: Sink>(
         Command::Run { container, options } => {
             run_container(alloc, container, options, files, out, board)
         }
+        Command::Replay {
+            container,
+            part,
+            script,
+            further,
+        } => replay_container(alloc, container, part, script, further, files, out, board),
     }
 }

@@ -2,11 +2,12 @@
 use Rattle.std.proofs.Common.{◌≡◌, ℕ, Bool, true, false, ◌&&◌, if◌then◌else◌, subst, List, [], ◌∷◌, codes, decimal, Option, Some, None, arith, refl, ap, ◌∙◌, ◌⊎◌, ⊎_elim, inl, inr}
 use Rattle.std.specs.Str.{bytes_eq}
 use Rattle.std.proofs.lemmas.Bool.{and_parts}
-use Rattle.xm_words.specs.Grammar.{CommandsAreSpelled, IsFile, IsRight, words_of}
-use Rattle.xm_words.specs.Words.{Command, PartFile, RunOption, Bare, Parse, BuildImage, ReadImage, Pack, ListContainer, CheckContainer, MakePlan, CheckPlan, TellGroups, Generate, Run, are_part_files, are_run_options, asked, bare_of, command_by_count, command_of, command_of_more, command_of_one, command_of_three, command_of_two, format_command, generate_for, is_file, of_file, of_files, pack_command, part_files, plan_command, run_of, run_options, seed_of, ticks_of}
+use Rattle.xm_words.specs.Grammar.{AreFurther, CommandsAreSpelled, IsFile, IsRight, further_words, words_of}
+use Rattle.xm_words.specs.Words.{Command, PartFile, ReplayFiles, RunOption, Bare, Parse, BuildImage, ReadImage, Pack, ListContainer, CheckContainer, MakePlan, CheckPlan, TellGroups, Generate, Run, Replay, Neither, InputAlone, CoreAlone, InputThenCore, CoreThenInput, are_part_files, are_run_options, asked, bare_of, command_by_count, command_of, command_of_more, command_of_one, command_of_three, command_of_two, format_command, generate_for, is_file, of_file, of_files, pack_command, part_files, part_of, plan_command, replay_by, replay_files, replay_of, run_of, run_options, seed_of, ticks_of}
 use Rattle.xm_words.proofs.OptionLemmas.{reads_run_options, run_options_typed}
 use Rattle.xm_words.proofs.PartFileLemmas.{files_named, files_typed_right}
-use Rattle.xm_words.proofs.WordLemmas.{file_is, is_of_file, named, seed_text, text_seed, text_ticks, ticks_text}
+use Rattle.xm_words.proofs.ReplayLemmas.{further_typed, reads_further}
+use Rattle.xm_words.proofs.WordLemmas.{file_is, is_of_file, named, number_text, seed_text, text_number, text_seed, text_ticks, ticks_text}
 
 -- words are what is typed for a command, and what they name is right
 pub record Typed (words : List (List ℕ)) (command : Command) : Type 0 where
@@ -173,6 +174,26 @@ run_typed name container options command is e =
     (record { text = ap (λ front. front ∷ container ∷ options) is ∙ ap (λ words. codes "run" ∷ container ∷ words) right.0; right = (file_is container tests.0, right.1) })
     parts.1
 
+-- a replay of a container's partition
+replay_typed : (name container : List ℕ) (rest : List (List ℕ)) (command : Command) → name ≡ codes "alone" → replay_of container rest ≡ Some command → Typed (name ∷ container ∷ rest) command
+replay_typed name container [] command is e = absurd (let no : ⊥ = cc in no)
+replay_typed name container (word ∷ []) command is e = absurd (let no : ⊥ = cc in no)
+replay_typed name container (word ∷ script ∷ options) command is e = at (is_file container && is_file script) (part_of word) (replay_files options) refl refl refl e
+  where
+    at : (files : Bool) (part : Option ℕ) (further : Option ReplayFiles) → (is_file container && is_file script) ≡ files → part_of word ≡ part → replay_files options ≡ further
+        → replay_by files container part script further ≡ Some command → Typed (name ∷ container ∷ word ∷ script ∷ options) command
+    at true (Some p) (Some further) are found named_files e =
+        let files = and_parts (is_file container) (is_file script) are in
+        let text = number_text 31 word p (omega arith) found in
+        let typed = further_typed options further named_files in
+        typed_as _ (Replay container p script further) command (record {
+          text = ap (λ front. front ∷ container ∷ word ∷ script ∷ options) is ∙ ap (λ second. codes "alone" ∷ container ∷ second ∷ script ∷ options) text.1 ∙ ap (λ others. codes "alone" ∷ container ∷ decimal p ∷ script ∷ others) typed.0;
+          right = (file_is container files.0, text.0, file_is script files.1, typed.1);
+        }) e
+    at true (Some p) None are found named_files e = absurd (let no : ⊥ = cc in no)
+    at true None further are found named_files e = absurd (let no : ⊥ = cc in no)
+    at false part further are found named_files e = absurd (let no : ⊥ = cc in no)
+
 -- what a name and three words ask for
 three_typed : (name first second third : List ℕ) (command : Command) → command_of_three name first second third ≡ Some command → Typed (name ∷ first ∷ second ∷ third ∷ []) command
 unfolding command_of_three
@@ -225,8 +246,10 @@ unfolding command_of
 typed [] command e = absurd (let no : ⊥ = cc in no)
 typed (name ∷ []) command e = absurd (let no : ⊥ = cc in no)
 typed (name ∷ first ∷ rest) command e =
-    ⊎_elim (λ h. run_typed name first rest command (named name (codes "run") h.0) h.1) (λ h. counted_typed name first rest command h)
-    (other (bytes_eq name (codes "run")) (run_of first rest) (command_by_count name first rest) command e)
+    ⊎_elim (λ h. run_typed name first rest command (named name (codes "run") h.0) h.1)
+    (λ h. ⊎_elim (λ h. replay_typed name first rest command (named name (codes "alone") h.0) h.1) (λ h. counted_typed name first rest command h)
+    (other (bytes_eq name (codes "alone")) (replay_of first rest) (command_by_count name first rest) command h))
+    (other (bytes_eq name (codes "run")) (run_of first rest) (if bytes_eq name (codes "alone") then replay_of first rest else command_by_count name first rest) command e)
 
 -- what is typed for a container asks for it
 reads_pack : (configuration output : List ℕ) (images : List PartFile) → IsRight (Pack configuration output images) → command_of (words_of (Pack configuration output images)) ≡ Some (Pack configuration output images)
@@ -243,6 +266,12 @@ reads_run container options right =
     let read = reads_run_options options right.1 in
     rw (is_of_file container right.0, read.0, read.1) refl
 
+-- what is typed for a replay asks for it
+reads_replay : (container : List ℕ) (part : ℕ) (script : List ℕ) (further : ReplayFiles) → IsRight (Replay container part script further) → command_of (words_of (Replay container part script further)) ≡ Some (Replay container part script further)
+unfolding command_of
+reads_replay container part script further right =
+    rw (is_of_file container right.0, text_number 31 (decimal part) part (omega arith) right.1 refl, is_of_file script right.2, reads_further further right.3) refl
+
 -- what is typed for a command asks for it
 reads : (command : Command) → IsRight command → command_of (words_of command) ≡ Some command
 unfolding command_of command_by_count command_of_one command_of_two command_of_three format_command pack_command plan_command
@@ -258,6 +287,7 @@ reads (CheckPlan description) right = rw (is_of_file description right)
 reads (TellGroups description) right = rw (is_of_file description right)
 reads (Generate number) right = rw (text_seed (decimal number) number right refl) refl
 reads (Run container options) right = reads_run container options right
+reads (Replay container part script further) right = reads_replay container part script further right
 
 -- words are a command exactly where they are what is typed for it
 pub commands_spelled : CommandsAreSpelled

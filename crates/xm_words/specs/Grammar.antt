@@ -1,12 +1,12 @@
 -- The grammar in the words of its users: what is to be typed for each command.
-use Rattle.std.specs.Prelude.{◌≡◌, ◌≢◌, ℕ, ◌<◌, ◌≤◌, ◌↔◌, List, [], ◌∷◌, ◌++◌, length, map, codes, decimal, All, AllPairs, Some}
+use Rattle.std.specs.Prelude.{◌≡◌, ◌≢◌, ℕ, ◌<◌, ◌≤◌, ◌↔◌, ⊤, List, [], ◌∷◌, ◌++◌, length, map, codes, decimal, All, AllPairs, Some}
 use Rattle.std.specs.List.{flat_map}
 use Rattle.xm_base.specs.declared.limits.TheConstants.{TICKS}
 use Rattle.xm_words.specs.declared.commands.Span.{Span}
 use Rattle.xm_words.specs.declared.commands.Span.TheVariants.{Frames, Ticks}
 use Rattle.xm_words.specs.declared.run_options.FileKind.{FileKind}
 use Rattle.xm_words.specs.declared.run_options.FileKind.TheVariants.{Core, Input, Script}
-use Rattle.xm_words.specs.Words.{Command, PartFile, RunOption, Bare, Parse, BuildImage, ReadImage, Pack, ListContainer, CheckContainer, MakePlan, CheckPlan, TellGroups, Generate, Run, Length, ForPart, command_of, files_in, spans_in, ticks_of}
+use Rattle.xm_words.specs.Words.{Command, PartFile, ReplayFiles, RunOption, Bare, Parse, BuildImage, ReadImage, Pack, ListContainer, CheckContainer, MakePlan, CheckPlan, TellGroups, Generate, Run, Replay, Length, ForPart, Neither, InputAlone, CoreAlone, InputThenCore, CoreThenInput, command_of, files_in, spans_in, ticks_of}
 
 -- a word is so many ticks where it is their number in decimal, and they are not above the limit
 abbrev pub TicksAreDecimal : Type 0
@@ -42,6 +42,14 @@ abbrev pub option_words : RunOption → List (List ℕ)
 option_words (Length span) = option_of span ∷ decimal (count_of span) ∷ []
 option_words (ForPart kind file) = file_option_of kind ∷ part_word file ∷ []
 
+-- what is typed for the further files of a replay
+abbrev pub further_words : ReplayFiles → List (List ℕ)
+further_words Neither = []
+further_words (InputAlone input) = codes "--input" ∷ input ∷ []
+further_words (CoreAlone core) = codes "--core" ∷ core ∷ []
+further_words (InputThenCore input core) = codes "--input" ∷ input ∷ codes "--core" ∷ core ∷ []
+further_words (CoreThenInput core input) = codes "--core" ∷ core ∷ codes "--input" ∷ input ∷ []
+
 -- what is typed for each command
 abbrev pub words_of : Command → List (List ℕ)
 words_of (Bare image ticks) = codes "bare" ∷ image ∷ decimal ticks ∷ []
@@ -56,6 +64,7 @@ words_of (CheckPlan description) = codes "plan" ∷ codes "check" ∷ descriptio
 words_of (TellGroups description) = codes "flows" ∷ description ∷ []
 words_of (Generate number) = codes "gen" ∷ decimal number ∷ []
 words_of (Run container options) = codes "run" ∷ container ∷ flat_map option_words options
+words_of (Replay container part script further) = codes "alone" ∷ container ∷ decimal part ∷ script ∷ further_words further
 
 -- a file for a partition: the partition's number is at most 31, and the file is one
 abbrev pub IsPartFile : PartFile → Type 0
@@ -82,7 +91,15 @@ pub record AreRunOptions (options : List RunOption) : Type 0 where
   pub spanned : length (spans_in options) ≡ 1
   pub apart : (kind : FileKind) → AreApart (files_in kind options)
 
--- what each command names is a file, its ticks are not above the limit, and its options are right
+-- the further files of a replay are files
+abbrev pub AreFurther : ReplayFiles → Type 0
+AreFurther Neither = ⊤
+AreFurther (InputAlone input) = IsFile input
+AreFurther (CoreAlone core) = IsFile core
+AreFurther (InputThenCore input core) = IsFile input × IsFile core
+AreFurther (CoreThenInput core input) = IsFile core × IsFile input
+
+-- what each command names is a file, its partition is at most 31, its ticks are not above the limit, and its options are right
 abbrev pub IsRight : Command → Type 0
 IsRight (Bare image ticks) = IsFile image × (ticks ≤ TICKS)
 IsRight (Parse description output) = IsFile description × IsFile output
@@ -96,6 +113,7 @@ IsRight (CheckPlan description) = IsFile description
 IsRight (TellGroups description) = IsFile description
 IsRight (Generate number) = number ≤ 4294967295
 IsRight (Run container options) = IsFile container × AreRunOptions options
+IsRight (Replay container part script further) = IsFile container × (part ≤ 31) × IsFile script × AreFurther further
 
 -- words are a command exactly where they are what is typed for it, and what they name is right
 abbrev pub CommandsAreSpelled : Type 0

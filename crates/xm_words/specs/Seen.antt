@@ -1,11 +1,13 @@
 -- What the program's commands say.
 use Rattle.std.specs.Prelude.{ℕ, List, Option, Some, None}
 use Rattle.xm_words.specs.Texts.{texts_of}
-use Rattle.xm_words.specs.Words.{Command, PartFile, RunOption, Bare, Parse, BuildImage, ReadImage, Pack, ListContainer, CheckContainer, MakePlan, CheckPlan, TellGroups, Generate, Run, Length, ForPart, files_in, part_files, run_options}
+use Rattle.xm_words.specs.Words.{Command, PartFile, ReplayFiles, RunOption, Bare, Parse, BuildImage, ReadImage, Pack, ListContainer, CheckContainer, MakePlan, CheckPlan, TellGroups, Generate, Run, Replay, Length, ForPart, Neither, InputAlone, CoreAlone, InputThenCore, CoreThenInput, files_in, part_files, run_options}
 use Rattle.xm_words.specs.declared.commands.Command as code
 use Rattle.xm_words.specs.declared.commands.Command.TheVariants as variant
 use Rattle.xm_words.specs.declared.part_files.PartFile as file
 use Rattle.xm_words.specs.declared.part_files.PartFiles as files
+use Rattle.xm_words.specs.declared.replay_files.ReplayFiles as further
+use Rattle.xm_words.specs.declared.replay_files.ReplayFiles.TheVariants as replay
 use Rattle.xm_words.specs.declared.run_options.FileKind.{FileKind}
 use Rattle.xm_words.specs.declared.run_options.RunOption as option
 use Rattle.xm_words.specs.declared.run_options.RunOption.TheVariants as options
@@ -43,6 +45,19 @@ seen_run_option (Some named) = Some (seen_option named)
 abbrev pub seen_options : run.RunOptions → List RunOption
 seen_options named = run_options (texts_of named.words.now)
 
+-- what the further files of a replay say
+abbrev pub seen_further : further.ReplayFiles → ReplayFiles
+seen_further replay.Neither = Neither
+seen_further (replay.InputAlone input) = InputAlone input.now
+seen_further (replay.CoreAlone core) = CoreAlone core.now
+seen_further (replay.InputThenCore input core) = InputThenCore input.now core.now
+seen_further (replay.CoreThenInput core input) = CoreThenInput core.now input.now
+
+-- what they say, where there are some
+abbrev pub seen_replay_files : Option further.ReplayFiles → Option ReplayFiles
+seen_replay_files None = None
+seen_replay_files (Some named) = Some (seen_further named)
+
 -- what a command of the program says
 abbrev pub seen_command : code.Command → Command
 seen_command (variant.Bare image ticks) = Bare image.now ticks
@@ -57,6 +72,7 @@ seen_command (variant.CheckPlan description) = CheckPlan description.now
 seen_command (variant.TellGroups description) = TellGroups description.now
 seen_command (variant.Generate number) = Generate number
 seen_command (variant.Run container options) = Run container.now (seen_options options)
+seen_command (variant.Replay container part script further) = Replay container.now part script.now (seen_further further)
 
 -- what a command of the program says, where there is one
 abbrev pub seen : Option code.Command → Option Command

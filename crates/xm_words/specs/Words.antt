@@ -19,11 +19,21 @@ pub data RunOption : Type 0 where
   Length : (span : Span) → RunOption
   ForPart : (kind : FileKind) (file : PartFile) → RunOption
 
+-- the files that options of a replay name, in the order of their words: at most one of the partition's input words, and at most one for its core
+-- file
+pub data ReplayFiles : Type 0 where
+  Neither : ReplayFiles
+  InputAlone : (input : List ℕ) → ReplayFiles
+  CoreAlone : (core : List ℕ) → ReplayFiles
+  InputThenCore : (input core : List ℕ) → ReplayFiles
+  CoreThenInput : (core input : List ℕ) → ReplayFiles
+
 -- a command: a raw image runs for so many ticks; the binary configuration of a system description is made; the image of
 -- a program is made; an image is told; a configuration and the images of its partitions are packed into a container; a
 -- container is told; a container is checked; a cyclic plan is made from the requirements of a system description; the
 -- plan of a system description is checked against its requirements; the groups of the partitions of a system description are
--- told; a system is generated out of a number, and runs; a container runs with options
+-- told; a system is generated out of a number, and runs; a container runs with options; a partition of a container is replayed alone, by a
+-- script, with further files
 pub data Command : Type 0 where
   Bare : (image : List ℕ) (ticks : ℕ) → Command
   Parse : (description output : List ℕ) → Command
@@ -37,6 +47,7 @@ pub data Command : Type 0 where
   TellGroups : (description : List ℕ) → Command
   Generate : (number : ℕ) → Command
   Run : (container : List ℕ) (options : List RunOption) → Command
+  Replay : (container : List ℕ) (part : ℕ) (script : List ℕ) (further : ReplayFiles) → Command
 
 -- a decimal number: digits without a sign, and without a leading zero unless it is `0`
 abbrev pub is_number : List ℕ → Bool
@@ -228,6 +239,62 @@ are_run_options words = are_options words && nat_eq (length (spans_in (run_optio
 abbrev pub run_of : List ℕ → List (List ℕ) → Option Command
 run_of container options = asked (is_file container && are_run_options options) (Run container (run_options options))
 
+-- the file of input words for a replay, where there is one
+abbrev pub replay_input : ReplayFiles → Option (List ℕ)
+replay_input Neither = None
+replay_input (InputAlone input) = Some input
+replay_input (CoreAlone core) = None
+replay_input (InputThenCore input core) = Some input
+replay_input (CoreThenInput core input) = Some input
+
+-- where a replay writes the core file, if it does
+abbrev pub replay_core : ReplayFiles → Option (List ℕ)
+replay_core Neither = None
+replay_core (InputAlone input) = None
+replay_core (CoreAlone core) = Some core
+replay_core (InputThenCore input core) = Some core
+replay_core (CoreThenInput core input) = Some core
+
+-- the file that one option of a replay names
+unfoldable pub one_file : List ℕ → List ℕ → Option ReplayFiles
+one_file option file =
+    if bytes_eq option (codes "--input") then asked (is_file file) (InputAlone file)
+    else if bytes_eq option (codes "--core") then asked (is_file file) (CoreAlone file)
+    else None
+
+-- the files that two options of a replay name, one for each of them
+unfoldable pub both_files : List ℕ → List ℕ → List ℕ → List ℕ → Option ReplayFiles
+both_files first file second other =
+    if bytes_eq first (codes "--input") && bytes_eq second (codes "--core") then asked (is_file file && is_file other) (InputThenCore file other)
+    else if bytes_eq first (codes "--core") && bytes_eq second (codes "--input") then asked (is_file file && is_file other) (CoreThenInput file other)
+    else None
+
+-- the files that options of a replay name, two words each
+abbrev pub replay_files : List (List ℕ) → Option ReplayFiles
+replay_files [] = Some Neither
+replay_files (option ∷ []) = None
+replay_files (option ∷ file ∷ []) = one_file option file
+replay_files (first ∷ file ∷ second ∷ []) = None
+replay_files (first ∷ file ∷ second ∷ other ∷ []) = both_files first file second other
+replay_files (first ∷ file ∷ second ∷ other ∷ word ∷ words) = None
+
+-- a replay of a partition, where it is one and the options are right
+abbrev pub replay_for : List ℕ → Option ℕ → List ℕ → Option ReplayFiles → Option Command
+replay_for container None script further = None
+replay_for container (Some part) script None = None
+replay_for container (Some part) script (Some further) = Some (Replay container part script further)
+
+-- where the container and the script are files
+abbrev pub replay_by : Bool → List ℕ → Option ℕ → List ℕ → Option ReplayFiles → Option Command
+replay_by true container part script further = replay_for container part script further
+replay_by false container part script further = None
+
+-- a replay of a container's partition by its script
+abbrev pub replay_of : List ℕ → List (List ℕ) → Option Command
+replay_of container [] = None
+replay_of container (part ∷ []) = None
+replay_of container (part ∷ script ∷ options) = replay_by (is_file container && is_file script) container (part_of part) script (replay_files options)
+
 -- a command of one file, where its word names one
 abbrev pub of_file : (List ℕ → Command) → List ℕ → Option Command
 of_file command file = asked (is_file file) (command file)
@@ -303,4 +370,7 @@ command_by_count name first (second ∷ third ∷ fourth ∷ rest) = command_of_
 unfoldable pub command_of : List (List ℕ) → Option Command
 command_of [] = None
 command_of (name ∷ []) = None
-command_of (name ∷ first ∷ rest) = if bytes_eq name (codes "run") then run_of first rest else command_by_count name first rest
+command_of (name ∷ first ∷ rest) =
+    if bytes_eq name (codes "run") then run_of first rest
+    else if bytes_eq name (codes "alone") then replay_of first rest
+    else command_by_count name first rest

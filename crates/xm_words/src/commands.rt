@@ -1,7 +1,9 @@
 //! What the program is asked to do.
 
 use crate::part_files::PartFiles;
+use crate::replay_files::ReplayFiles;
 use crate::run_options::RunOptions;
+use xm_base::PartId;
 
 /// How long a run is.
 #[derive(Clone, Copy, Debug, PartialEq, Eq)]
@@ -68,5 +70,12 @@ pub enum Command<'a> {
     Run {
         container: &'a str,
         options: RunOptions<'a>,
+    },
+    /// Replay this partition of the container in this file alone, by the script in that file, with these further files.
+    Replay {
+        container: &'a str,
+        part: PartId,
+        script: &'a str,
+        further: ReplayFiles<'a>,
     },
 }

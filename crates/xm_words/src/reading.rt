@@ -3,11 +3,12 @@
 ghost use Rattle.std.specs.Prelude.{◌≡◌, ◌&&◌};
 ghost use Rattle.xm_words.specs.Seen.{seen};
 ghost use Rattle.xm_words.specs.Texts.{texts_of};
-ghost use Rattle.xm_words.specs.Words.{BuildImage, Pack, Parse, TellGroups, are_part_files, asked, bare_of, command_by_count, command_of, command_of_more, command_of_one, command_of_three, command_of_two, format_command, generate_for, is_file, of_file, of_files, pack_command, part_files, plan_command, run_of, seed_of, ticks_of};
+ghost use Rattle.xm_words.specs.Words.{BuildImage, Pack, Parse, TellGroups, are_part_files, asked, bare_of, command_by_count, command_of, command_of_more, command_of_one, command_of_three, command_of_two, format_command, generate_for, is_file, of_file, of_files, pack_command, part_files, plan_command, replay_by, replay_of, run_of, seed_of, ticks_of, part_of, replay_files};
 
 use crate::commands::Command;
-use crate::numbers::{seed, ticks};
+use crate::numbers::{part, seed, ticks};
 use crate::part_files::PartFiles;
+use crate::replay_files::ReplayFiles;
 use crate::run_options::RunOptions;
 use crate::words::Words;
 
@@ -20,6 +21,8 @@ pub fn command(words: &Words) -> Option<Command<'_>>
         [name, first, rest @ ..] => {
             if name.as_str() == "run" {
                 run(first.as_str(), rest)
+            } else if name.as_str() == "alone" {
+                replay(first.as_str(), rest)
             } else {
                 command_by_count(name.as_str(), first.as_str(), rest)
             }
@@ -153,6 +156,40 @@ fn run<'a>(container: &'a str, options: &'a [String]) -> Option<Command<'a>>
     }
     let options = RunOptions::new(options)?;
     Some(Command::Run { container, options })
+}
+
+/// The replay that a container and further words ask for: a partition, its script, and options.
+fn replay<'a>(container: &'a str, rest: &'a [String]) -> Option<Command<'a>>
+    ensures { seen result ≡ replay_of container.now (texts_of rest.now) }
+{
+    match rest {
+        [word, script, options @ ..] => {
+            replay_by(container, word.as_str(), script.as_str(), options)
+        }
+        _ => None,
+    }
+}
+
+/// The replay of a partition by its script, with the options that the words spell.
+fn replay_by<'a>(
+    container: &'a str,
+    word: &str,
+    script: &'a str,
+    options: &'a [String],
+) -> Option<Command<'a>>
+    ensures { seen result ≡ replay_by (is_file container.now && is_file script.now) container.now (part_of word.now) script.now (replay_files (texts_of options.now)) }
+{
+    if !is_file(container) || !is_file(script) {
+        return None;
+    }
+    let part = part(word)?;
+    let further = ReplayFiles::new(options)?;
+    Some(Command::Replay {
+        container,
+        part,
+        script,
+        further,
+    })
 }
 
 /// The configuration that two words ask for.

@@ -5,7 +5,7 @@ use Rattle.xm_words.specs.Seen.{seen_files}
 use Rattle.xm_commands.specs.Packing.{names_of}
 use Rattle.xm_commands.specs.Told.{bytes_of}
 use Rattle.xm_commands.specs.Work.{outside}
-use Rattle.xm_commands.proofs.PackingLemmas.{HasRead}
+use Rattle.xm_commands.specs.Read.{HasRead}
 use Rattle.xm_commands.proofs.reading.read_files.Given as goal
 
 abbrev pub invariant-loop-bytes : goal.invariant-loop-bytes

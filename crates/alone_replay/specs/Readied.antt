@@ -1,0 +1,47 @@
+-- What is answered where a replay is made ready.
+use Rattle.std.specs.Prelude.{◌≡◌, ℕ, ◌<◌, ⊤, List, length, Option, Some, None, Result, Ok, Err}
+use Rattle.std.specs.String.{string_bytes}
+use Rattle.cue_scripts.specs.Script.{IsScript}
+use Rattle.file_maker.specs.declared.unmade.Unmade.{Unmade}
+use Rattle.file_maker.specs.declared.unmade.Unmade.TheVariants as unmade
+use Rattle.machine_model.specs.Cue.{Cue}
+use Rattle.xm_alone.specs.Replay.{Lone, TakesAll, booted_alone, own_view}
+use Rattle.alone_replay.specs.Ready.{NoContainer, NoPartition, NoScript, OddInput, Replay, Unready}
+use Rattle.alone_replay.specs.declared.ready.Replay as code
+use Rattle.alone_replay.specs.declared.unready.Unready as why
+use Rattle.alone_replay.specs.declared.unready.Unready.TheVariants as variant
+
+-- what a reason of the program says, unless it is that there was no memory
+abbrev pub unready_of : why.Unready → Option Unready
+unready_of (variant.NoContainer text) = Some (NoContainer (string_bytes text))
+unready_of variant.NoPartition = Some NoPartition
+unready_of (variant.NoScript text) = Some (NoScript (string_bytes text))
+unready_of (variant.OddInput found) = Some (OddInput found)
+unready_of variant.Memory = None
+
+-- a reason of a kind, by the text by which nothing was made
+abbrev pub unready_for : (List ℕ → Unready) → Unmade → Option Unready
+unready_for kind (unmade.Refused text) = Some (kind (string_bytes text))
+unready_for kind unmade.Memory = None
+
+-- the reason is that of the definition, or there was no memory
+abbrev pub IsUnready : {X : Type 0} → Option Unready → Result X Unready → Type 0
+IsUnready None made = ⊤
+IsUnready (Some why) made = made ≡ Err why
+
+-- what was made is that of the definition, and so is the reason why it was not
+abbrev pub GivesOr : {X Y : Type 0} → (X → Y) → Result X why.Unready → Result Y Unready → Type 0
+GivesOr view (Ok value) made = made ≡ Ok (view value)
+GivesOr view (Err reason) made = IsUnready (unready_of reason) made
+
+-- a partition as it boots, with a script that fits it
+pub record IsReady (alone : Lone) (cues : List Cue) : Type 0 where
+  pub there : alone.p < length alone.system.conf.parts
+  pub booted : alone ≡ booted_alone alone.system alone.p
+  pub told : IsScript alone.system.conf alone.p cues
+  pub fits : TakesAll (own_view alone) cues
+
+-- the replay is that of the definition and may begin, or the reason is that of the definition
+abbrev pub Readies : Result code.Replay why.Unready → Result Replay Unready → Type 0
+Readies (Ok replay) made = (made ≡ Ok (record { system = replay.alone.system; p = replay.alone.p; cues = replay.script })) × IsReady replay.alone replay.script
+Readies (Err reason) made = IsUnready (unready_of reason) made

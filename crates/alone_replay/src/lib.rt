@@ -1,0 +1,11 @@
+//! What a partition is replayed by: a container, a script of the partition, and its input words, made out of the bytes of their files.
+#![tactic(auto)]
+
+mod inputs;
+mod ready;
+mod texts;
+mod unready;
+
+pub use ready::{Replay, make_ready};
+pub use texts::no_script;
+pub use unready::Unready;

@@ -1,0 +1,211 @@
+-- A replay that is played, and what it leaves of the outside and of the board.
+use Rattle.std.proofs.Common.{◌≡◌, ℕ, suc, ◌<◌, ◌≤◌, ◌∙◌, Bool, true, false, nat_lt, if◌then◌else◌, List, [], ◌∷◌, ◌++◌, length, map, drop, take, Option, Some, None, Result, Ok, Err, refl, sym, ap, subst, arith, inr}
+use Rattle.std.specs.Prelude.{IsSome}
+use Rattle.std.proofs.lemmas.List.{take_all}
+use Rattle.xm_outside.specs.Causes.{Rose}
+use Rattle.xm_outside.specs.Files.{Files}
+use Rattle.xm_outside.specs.Growth.{grown, GrewByPrefix}
+use Rattle.xm_report.specs.Report.{texts}
+use Rattle.uart_board.specs.Heard.{IsHeard}
+use Rattle.uart_board.specs.Views.{BoardView, begun}
+use Rattle.alone_replay.specs.Readied.{IsReady, IsUnready}
+use Rattle.alone_replay.specs.Ready.{Replay as Readied, Unready}
+use Rattle.machine_model.specs.Alone.{alone_start}
+use Rattle.machine_model.specs.CoreFile.{core_file}
+use Rattle.machine_model.specs.Cue.{Cue}
+use Rattle.machine_model.specs.View.{System, view_of}
+use Rattle.xm_alone.specs.Replay.{IsCutReplay, IsReplayed, IsWholeReplay, Lone, booted_alone, own_view, replay_lines, replay_said, replayed}
+use Rattle.xm_words.specs.Words.{ReplayFiles}
+use Rattle.xm_commands.specs.Boards.{EndsRun, IsRunTo, Leaves}
+use Rattle.xm_commands.specs.Denial.{Denial}
+use Rattle.xm_commands.specs.Ending.{Ending, Finished, Misused, Unread, Denied, Unwritten, Unsaved, Unheard, Starved}
+use Rattle.xm_base.specs.declared.limits.TheConstants.{FILE_BYTES}
+use Rattle.xm_commands.specs.Outcome.{Outcome, Output, Running, Apart, content, first_long, input_bytes, name_in, played, refused_by, replay_by, replay_output, unready_denial}
+use Rattle.xm_commands.specs.Replaying.{lone_output, ready_of, unready_ending}
+use Rattle.xm_commands.specs.Work.{Outside, AreNotSaved, Comes, SavesAll, outside, told_all}
+use Rattle.std.proofs.lemmas.Bool.Decides.{nat_tests}
+use Rattle.xm_commands.proofs.InputLemmas.{rest_short}
+use Rattle.xm_commands.proofs.WorkLemmas.{refused_comes}
+
+-- What is done behind a report that went out.
+
+-- an outcome whose files after the report were all written comes to what the board says
+pub ended_outcome : (e : Ending) (board : BoardView) (outcome : Outcome) (before mid after : Outside) → outcome.denial ≡ None → IsSome outcome.run → mid ≡ told_all outcome before → EndsRun e board
+    → SavesAll None outcome.later mid after → Comes e outcome before after
+ended_outcome e board outcome before mid after granted runs told ends saves = by_end e ends (subst (λ (x : Outside). SavesAll None outcome.later x after) told saves)
+  where
+    by_end : (e : Ending) → EndsRun e board → SavesAll None outcome.later (told_all outcome before) after → Comes e outcome before after
+    by_end Finished ends s = (granted, s)
+    by_end Misused ends s = absurd ends
+    by_end (Unread file) ends s = absurd ends
+    by_end (Denied file text) ends s = absurd ends
+    by_end Unwritten ends s = absurd ends
+    by_end (Unsaved file) ends s = absurd ends
+    by_end (Unheard place) ends s = (runs, granted, s)
+    by_end Starved ends s = absurd ends
+
+-- one of which a file after the report was not
+pub unsaved_outcome : (e : Ending) (outcome : Outcome) (before mid after : Outside) → mid ≡ told_all outcome before → AreNotSaved e outcome.later mid after → Comes e outcome before after
+unsaved_outcome Finished outcome before mid after told lost = absurd lost
+unsaved_outcome Misused outcome before mid after told lost = absurd lost
+unsaved_outcome (Unread file) outcome before mid after told lost = absurd lost
+unsaved_outcome (Denied file text) outcome before mid after told lost = absurd lost
+unsaved_outcome Unwritten outcome before mid after told lost = absurd lost
+unsaved_outcome (Unsaved file) outcome before mid after told lost = inr (subst (λ (x : Outside). SavesAll (Some file) outcome.later x after) told lost)
+unsaved_outcome (Unheard place) outcome before mid after told lost = absurd lost
+unsaved_outcome Starved outcome before mid after told lost = absurd lost
+
+-- A replay.
+
+-- its whole report went out
+pub whole_told : (lone new : Lone) (cues : List Cue) (core : Option (List ℕ)) (had got : Option (List ℕ)) (before now : ℕ) (files : Option Files) (reads writes calls : ℕ) (mid after : BoardView)
+    → IsWholeReplay cues (replay_lines (own_view lone) cues) lone new had got mid after → now ≡ before
+    → outside files reads writes calls got now ≡ told_all (played core (ready_of lone cues)) (outside files reads writes calls had before)
+unfolding played
+whole_told lone new cues core had got before now files reads writes calls mid after is same = rw (is.report, same) refl
+
+-- the core file that is written of it
+pub core_is : (lone new : Lone) (cues : List Cue) (file : List ℕ) → IsReplayed cues lone new → lone_output new file ≡ replay_output (ready_of lone cues) file
+core_is lone new cues file is =
+    let view : own_view new ≡ own_view lone = ap (λ s. view_of s new.p) is.system ∙ ap (λ q. view_of lone.system q) is.p in
+    rw (view, is.part) refl
+
+pub cores_are : (lone new : Lone) (cues : List Cue) (core : Option (List ℕ)) → IsReplayed cues lone new → map (lone_output new) (name_in core) ≡ (played core (ready_of lone cues)).later
+unfolding played
+cores_are lone new cues None is = refl
+cores_are lone new cues (Some file) is = ap (λ (o : Output). o ∷ []) (core_is lone new cues file is)
+
+-- what is played is granted, and is a run
+pub played-granted : (core : Option (List ℕ)) (replay : Readied) → (played core replay).denial ≡ None
+unfolding played
+played-granted core replay = refl
+
+pub played-runs : (core : Option (List ℕ)) (replay : Readied) → IsSome (played core replay).run
+unfolding played
+played-runs core replay = refl
+
+-- so it comes to what the board says where the core file was written
+pub ended_replay : (e : Ending) (board : BoardView) (lone new : Lone) (cues : List Cue) (core : Option (List ℕ)) (had got : Option (List ℕ)) (before now : ℕ) (files : Option Files) (reads writes calls : ℕ) (mid last : BoardView) (after : Outside)
+    → EndsRun e board → IsWholeReplay cues (replay_lines (own_view lone) cues) lone new had got mid last → now ≡ before → SavesAll None (map (lone_output new) (name_in core)) (outside files reads writes calls got now) after
+    → Comes e (played core (ready_of lone cues)) (outside files reads writes calls had before) after
+ended_replay e board lone new cues core had got before now files reads writes calls mid last after ends is same saves =
+    ended_outcome e board (played core (ready_of lone cues)) (outside files reads writes calls had before) (outside files reads writes calls got now) after (played-granted core (ready_of lone cues)) (played-runs core (ready_of lone cues))
+    (whole_told lone new cues core had got before now files reads writes calls mid last is same) ends
+    (subst (λ (os : List Output). SavesAll None os (outside files reads writes calls got now) after) (cores_are lone new cues core is.left) saves)
+
+-- and where it was not
+pub unsaved_replay : (e : Ending) (lone new : Lone) (cues : List Cue) (core : Option (List ℕ)) (had got : Option (List ℕ)) (before now : ℕ) (files : Option Files) (reads writes calls : ℕ) (mid last : BoardView) (after : Outside)
+    → IsWholeReplay cues (replay_lines (own_view lone) cues) lone new had got mid last → now ≡ before → AreNotSaved e (map (lone_output new) (name_in core)) (outside files reads writes calls got now) after
+    → Comes e (played core (ready_of lone cues)) (outside files reads writes calls had before) after
+unsaved_replay e lone new cues core had got before now files reads writes calls mid last after is same lost =
+    unsaved_outcome e (played core (ready_of lone cues)) (outside files reads writes calls had before) (outside files reads writes calls got now) after
+    (whole_told lone new cues core had got before now files reads writes calls mid last is same)
+    (subst (λ (os : List Output). AreNotSaved e os (outside files reads writes calls got now) after) (cores_are lone new cues core is.left) lost)
+
+-- its report was cut
+pub cut_comes : (lone new : Lone) (cues : List Cue) (core : Option (List ℕ)) (had got : Option (List ℕ)) (before now : ℕ) (files : Option Files) (reads writes calls : ℕ) (mid after : BoardView)
+    → IsCutReplay cues (replay_lines (own_view lone) cues) lone new had got mid after → Rose before now
+    → Comes Unwritten (played core (ready_of lone cues)) (outside files reads writes calls had before) (outside files reads writes calls got now)
+unfolding played
+cut_comes lone new cues core had got before now files reads writes calls mid after is rose = (rose, is.report, refl)
+
+-- What it leaves of the board.
+
+-- what a partition says from its boot on
+said_same : (lone : Lone) (cues : List Cue) → lone ≡ booted_alone lone.system lone.p → replay_said lone cues ≡ replay_said (booted_alone lone.system lone.p) cues
+said_same lone cues booted = ap (λ l. replay_said l cues) booted
+
+-- all of it
+whole_heard : (lone new : Lone) (cues : List Cue) (had got : Option (List ℕ)) (before mid after : BoardView) → IsWholeReplay cues (replay_lines (own_view lone) cues) lone new had got mid after → mid ≡ begun before
+    → IsRunTo (length cues) (Apart lone.system lone.p cues) before after
+whole_heard lone new cues had got before mid after is begins = rw take_all_same (subst (λ (board : BoardView). IsHeard (replay_said lone cues) board after) begins is.heard)
+  where
+    take_all_same : take (length cues) cues ≡ cues
+    take_all_same = take_all (length cues) cues (omega arith)
+
+pub lone_ended : (e : Ending) (lone new : Lone) (cues : List Cue) (core : Option (List ℕ)) (had got : Option (List ℕ)) (before mid after : BoardView) → EndsRun e after
+    → IsWholeReplay cues (replay_lines (own_view lone) cues) lone new had got mid after → mid ≡ begun before → Leaves e (played core (ready_of lone cues)).run had got before after
+unfolding played
+lone_ended e lone new cues core had got before mid after ends is begins = by_end e ends (whole_heard lone new cues had got before mid after is begins)
+  where
+    by_end : (e : Ending) → EndsRun e after → IsRunTo (length cues) (Apart lone.system lone.p cues) before after → Leaves e (played core (ready_of lone cues)).run had got before after
+    by_end Finished ends to = record { heard = to; well = ends }
+    by_end Misused ends to = absurd ends
+    by_end (Unread file) ends to = absurd ends
+    by_end (Denied file text) ends to = absurd ends
+    by_end Unwritten ends to = absurd ends
+    by_end (Unsaved file) ends to = absurd ends
+    by_end (Unheard place) ends to = record { heard = to; marked = ends }
+    by_end Starved ends to = absurd ends
+
+pub lone_unsaved : (e : Ending) (outputs : List Output) (from to : Outside) (lone new : Lone) (cues : List Cue) (core : Option (List ℕ)) (had got : Option (List ℕ)) (before mid after : BoardView) → AreNotSaved e outputs from to
+    → IsWholeReplay cues (replay_lines (own_view lone) cues) lone new had got mid after → mid ≡ begun before → Leaves e (played core (ready_of lone cues)).run had got before after
+unfolding played
+lone_unsaved e outputs from to lone new cues core had got before mid after lost is begins = by_end e lost (whole_heard lone new cues had got before mid after is begins)
+  where
+    by_end : (e : Ending) → AreNotSaved e outputs from to → IsRunTo (length cues) (Apart lone.system lone.p cues) before after → Leaves e (played core (ready_of lone cues)).run had got before after
+    by_end Finished lost run_to = absurd lost
+    by_end Misused lost run_to = absurd lost
+    by_end (Unread file) lost run_to = absurd lost
+    by_end (Denied file text) lost run_to = absurd lost
+    by_end Unwritten lost run_to = absurd lost
+    by_end (Unsaved file) lost run_to = run_to
+    by_end (Unheard place) lost run_to = absurd lost
+    by_end Starved lost run_to = absurd lost
+
+pub lone_cut : (lone new : Lone) (cues : List Cue) (core : Option (List ℕ)) (had got : Option (List ℕ)) (before mid after : BoardView) → IsCutReplay cues (replay_lines (own_view lone) cues) lone new had got mid after → mid ≡ begun before
+    → Leaves Unwritten (played core (ready_of lone cues)).run had got before after
+unfolding played
+lone_cut lone new cues core had got before mid after is begins = record {
+  front = is.report;
+  ticks = is.done;
+  within = is.within;
+  cut = (is.whole, is.cut);
+  heard = subst (λ (board : BoardView). IsHeard (replay_said lone (take is.done cues)) board after) begins is.heard;
+}
+
+-- A replay that cannot begin.
+
+pub unready_comes : (container : List ℕ) (part : ℕ) (script : List ℕ) (further : ReplayFiles) (why : Option Unready) (made : Result Readied Unready) (before : Outside) → IsUnready why made
+    → Comes (unready_ending container part script further why) (replay_by container part script further made) before before
+unready_comes container part script further None made before is = refl
+unready_comes container part script further (Some why) made before is =
+    subst (λ (m : Result Readied Unready). Comes (unready_ending container part script further (Some why)) (replay_by container part script further m) before before) (sym is)
+    (refused_comes (unready_denial container part script further why).file (unready_denial container part script further why).text before)
+
+pub unready_leaves : (container : List ℕ) (part : ℕ) (script : List ℕ) (further : ReplayFiles) (why : Option Unready) (run : Option Running) (had got : Option (List ℕ)) (board : BoardView)
+    → Leaves (unready_ending container part script further why) run had got board board
+unready_leaves container part script further None run had got board = refl
+unready_leaves container part script further (Some why) run had got board = refl
+
+-- Contents.
+
+-- the content of the file behind the first
+content_next : (n : ℕ) (contents : List (List ℕ)) → content (suc n) contents ≡ content n (drop 1 contents)
+content_next n [] = refl
+content_next n (bytes ∷ contents) = refl
+
+-- the second and the third content
+pub content_second : (contents others : List (List ℕ)) (told : List ℕ) → told ≡ content 0 others → others ≡ drop 1 contents → told ≡ content 1 contents
+content_second contents others told is behind = is ∙ ap (content 0) behind ∙ sym (content_next 0 contents)
+
+pub content_third : (contents others more : List (List ℕ)) (last : List ℕ) → last ≡ content 0 more → more ≡ drop 1 others → others ≡ drop 1 contents → last ≡ content 2 contents
+content_third contents others more last is behind behind_first =
+    content_second others more last is behind ∙ ap (content 1) behind_first ∙ sym (content_next 1 contents)
+
+-- a first file that is not too long
+head_short : (file : List ℕ) (files contents : List (List ℕ)) → first_long (file ∷ files) contents ≡ None → length (content 0 contents) ≤ FILE_BYTES
+head_short file files [] none = omega arith
+head_short file files (bytes ∷ contents) none = at (nat_lt FILE_BYTES (length bytes)) refl none
+  where
+    at : (t : Bool) → nat_lt FILE_BYTES (length bytes) ≡ t → (if t then Some file else first_long files contents) ≡ None → length bytes ≤ FILE_BYTES
+    at true is e = absurd (cc)
+    at false is e = grind (arith, nat_tests)
+
+-- the input words of a replay none of whose files is too long
+pub input_short : (container script : List ℕ) (input : Option (List ℕ)) (contents : List (List ℕ)) → first_long (container ∷ script ∷ name_in input) contents ≡ None → length (input_bytes input (content 2 contents)) ≤ FILE_BYTES
+input_short container script None contents none = omega arith
+input_short container script (Some file) contents none =
+    let third : content 2 contents ≡ content 0 (drop 1 (drop 1 contents)) = content_next 1 contents ∙ content_next 0 (drop 1 contents) in
+    let short : length (content 0 (drop 1 (drop 1 contents))) ≤ FILE_BYTES = head_short file [] (drop 1 (drop 1 contents)) (rest_short script (file ∷ []) (drop 1 contents) (rest_short container (script ∷ file ∷ []) contents none)) in
+    rw third short

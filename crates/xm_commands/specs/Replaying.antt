@@ -1,0 +1,28 @@
+-- A replay as it is played, and how one ends that cannot begin.
+use Rattle.std.specs.Prelude.{◌≡◌, ℕ, List, Option, Some, None}
+use Rattle.alone_replay.specs.Ready.{Replay, Unready}
+use Rattle.machine_model.specs.CoreFile.{core_file}
+use Rattle.machine_model.specs.Cue.{Cue}
+use Rattle.xm_alone.specs.Replay.{Lone, own_view}
+use Rattle.xm_words.specs.Words.{ReplayFiles}
+use Rattle.xm_commands.specs.Ending.{Ending, Denied, Starved}
+use Rattle.xm_commands.specs.Outcome.{Output, unready_denial}
+
+-- the replay of a partition that boots, by a script
+abbrev pub ready_of : Lone → List Cue → Replay
+ready_of lone cues = record { system = lone.system; p = lone.p; cues = cues }
+
+-- the core file of a partition as it stands, under the name that is given for it
+abbrev pub lone_output : Lone → List ℕ → Output
+lone_output lone file = record { file = file; bytes = core_file (own_view lone) lone.part.state }
+
+-- there is room for the core file, where it is to be written
+abbrev pub HasRoom : Option (List ℕ) → ℕ → ℕ → Type 0
+HasRoom None size room = Unit {0}
+HasRoom (Some file) size room = room ≡ size
+
+-- how a replay ends that cannot begin: it is refused for this reason, or there was no memory
+abbrev pub unready_ending : List ℕ → ℕ → List ℕ → ReplayFiles → Option Unready → Ending
+unready_ending container part script further None = Starved
+unready_ending container part script further (Some why) =
+    Denied (unready_denial container part script further why).file (unready_denial container part script further why).text

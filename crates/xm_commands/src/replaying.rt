@@ -1,0 +1,220 @@
+//! One partition of a container is replayed alone, its report goes out, and its core file is written after it.
+
+ghost use Rattle.std.specs.Prelude.{◌≡◌, ◌≤◌, ◌∷◌, None, Some, length, map, option_copied};
+ghost use Rattle.xm_base.specs.declared.limits.TheConstants.{FILE_BYTES};
+ghost use Rattle.alone_replay.specs.Readied.{IsReady, Readies, unready_of};
+ghost use Rattle.alone_replay.specs.Ready.{replay_of};
+ghost use Rattle.xm_commands.specs.Boards.{IsLeft, Leaves};
+ghost use Rattle.xm_commands.specs.Outcome.{content, first_long, input_bytes, input_name, name_in, outcome_of, played, replay_outcome};
+ghost use Rattle.xm_commands.specs.Replaying.{ready_of, unready_ending};
+ghost use Rattle.xm_commands.specs.Told.{bytes_of, ending_of};
+ghost use Rattle.xm_commands.specs.Work.{Comes, IsDone, outside};
+ghost use Rattle.xm_words.specs.Seen.{seen_further};
+ghost use Rattle.xm_words.specs.Words.{Replay as ReplayPart, replay_input};
+
+use crate::ending::{Ending, Refusal};
+use crate::lone_core::{lone_room, write_lone_core};
+use crate::reading::{first_long_of_three, read_three, split_contents};
+use crate::running::heard;
+use alone_replay::{Replay, Unready, make_ready};
+use cue_scripts::Script;
+use std::alloc::Global;
+use uart_board::{Board, ViewBoard};
+use xm_alone::Alone;
+use xm_base::PartId;
+use xm_machine::WriteFault;
+use xm_outside::{Sink, Store};
+use xm_words::ReplayFiles;
+
+/// Reads a container, the script of a partition and its input words, and replays the partition.
+pub(crate) fn replay_container<'a, S: Store, O: Sink>(
+    alloc: Global,
+    container: &'a str,
+    part: PartId,
+    script: &'a str,
+    further: ReplayFiles<'a>,
+    files: &mut S,
+    out: &mut O,
+    board: &mut Board,
+) -> Ending<'a>
+    ensures done { IsDone (ending_of result) (ReplayPart container.now part script.now (seen_further further.entry))
+        (outside (S.files files.old) (S.read_faults files.old) (S.write_faults files.old) (S.calls files.old) (O.got out.old) (O.faults out.old))
+        (outside (S.files files.new) (S.read_faults files.new) (S.write_faults files.new) (S.calls files.new) (O.got out.new) (O.faults out.new)) }
+    ensures board { IsLeft (ending_of result) (Some (ReplayPart container.now part script.now (seen_further further.entry))) (S.files files.old) (O.got out.old) (O.got out.new) (⟦<Board as ViewBoard>⟧.board_view board.old) (⟦<Board as ViewBoard>⟧.board_view board.new) }
+{
+    match read_three(alloc, container, script, further.input(), files) {
+        Ok(contents) => replay_files(
+            alloc, container, part, script, further, &contents, files, out, board,
+        ),
+        Err(ending) => ending,
+    }
+}
+
+// Replays a partition, by the contents of the files.
+fn replay_files<'a, S: Store, O: Sink>(
+    alloc: Global,
+    container: &'a str,
+    part: PartId,
+    script: &'a str,
+    further: ReplayFiles<'a>,
+    contents: &[Vec<u8>],
+    files: &mut S,
+    out: &mut O,
+    board: &mut Board,
+) -> Ending<'a>
+    ensures comes { Comes (ending_of result) (outcome_of (ReplayPart container.now part script.now (seen_further further.entry)) (map bytes_of contents.now))
+        (outside (S.files files.old) (S.read_faults files.old) (S.write_faults files.old) (S.calls files.old) (O.got out.old) (O.faults out.old))
+        (outside (S.files files.new) (S.read_faults files.new) (S.write_faults files.new) (S.calls files.new) (O.got out.new) (O.faults out.new)) }
+    ensures board { Leaves (ending_of result) (outcome_of (ReplayPart container.now part script.now (seen_further further.entry)) (map bytes_of contents.now)).run (O.got out.old) (O.got out.new) (⟦<Board as ViewBoard>⟧.board_view board.old) (⟦<Board as ViewBoard>⟧.board_view board.new) }
+{
+    match first_long_of_three(container, script, further.input(), contents) {
+        Some(file) => Ending::Denied {
+            file,
+            why: Refusal::TooLong,
+        },
+        None => replay_short(
+            alloc, container, part, script, further, contents, files, out, board,
+        ),
+    }
+}
+
+// Replays a partition, where none of the files is too long.
+#[tactic(auto, unfolding(crate::specs::Outcome::replay_outcome))]
+fn replay_short<'a, S: Store, O: Sink>(
+    alloc: Global,
+    container: &'a str,
+    part: PartId,
+    script: &'a str,
+    further: ReplayFiles<'a>,
+    contents: &[Vec<u8>],
+    files: &mut S,
+    out: &mut O,
+    board: &mut Board,
+) -> Ending<'a>
+    requires { first_long (container.now ∷ script.now ∷ name_in (replay_input (seen_further further))) (map bytes_of contents.now) ≡ None }
+    ensures comes { Comes (ending_of result) (replay_outcome container.now part script.now (seen_further further.entry) (content 0 (map bytes_of contents.now)) (content 1 (map bytes_of contents.now)) (input_bytes (replay_input (seen_further further.entry)) (content 2 (map bytes_of contents.now))))
+        (outside (S.files files.old) (S.read_faults files.old) (S.write_faults files.old) (S.calls files.old) (O.got out.old) (O.faults out.old))
+        (outside (S.files files.new) (S.read_faults files.new) (S.write_faults files.new) (S.calls files.new) (O.got out.new) (O.faults out.new)) }
+    ensures board { Leaves (ending_of result) (replay_outcome container.now part script.now (seen_further further.entry) (content 0 (map bytes_of contents.now)) (content 1 (map bytes_of contents.now)) (input_bytes (replay_input (seen_further further.entry)) (content 2 (map bytes_of contents.now)))).run (O.got out.old) (O.got out.new)
+        (⟦<Board as ViewBoard>⟧.board_view board.old) (⟦<Board as ViewBoard>⟧.board_view board.new) }
+{
+    match ready_by(alloc, part, further.input(), contents) {
+        Ok(replay) => play_owned(alloc, replay, further.core(), files, out, board),
+        Err(why) => unready(container, part, script, further, why),
+    }
+}
+
+// The replay by the contents of the files, or why there is none.
+fn ready_by(
+    alloc: Global,
+    part: PartId,
+    input: Option<&str>,
+    contents: &[Vec<u8>],
+) -> Result<Replay, Unready>
+    requires { length (input_bytes (option_copied input) (content 2 (map bytes_of contents.now))) ≤ FILE_BYTES }
+    ensures { Readies result (replay_of (content 0 (map bytes_of contents.now)) part (content 1 (map bytes_of contents.now)) (input_bytes (option_copied input.entry) (content 2 (map bytes_of contents.now)))) }
+{
+    let (bytes, others) = split_contents(contents);
+    let (told, more) = split_contents(others);
+    let (last, _) = split_contents(more);
+    make_ready(alloc, bytes, part, told, input_bytes(input, last))
+}
+
+// The bytes of input words: none where there is no file of them.
+fn input_bytes<'a>(input: Option<&str>, bytes: &'a [u8]) -> &'a [u8]
+    ensures { result.now ≡ input_bytes (option_copied input.entry) bytes.now }
+{
+    match input {
+        Some(_) => bytes,
+        None => b"",
+    }
+}
+
+// Plays a replay that is ready, and gives it back.
+fn play_owned<'a, S: Store, O: Sink>(
+    alloc: Global,
+    replay: Replay,
+    core: Option<&'a str>,
+    files: &mut S,
+    out: &mut O,
+    board: &mut Board,
+) -> Ending<'a>
+    requires { IsReady replay.alone replay.script }
+    ensures comes { Comes (ending_of result) (played (option_copied core.entry) (ready_of replay.alone replay.script))
+        (outside (S.files files.old) (S.read_faults files.old) (S.write_faults files.old) (S.calls files.old) (O.got out.old) (O.faults out.old))
+        (outside (S.files files.new) (S.read_faults files.new) (S.write_faults files.new) (S.calls files.new) (O.got out.new) (O.faults out.new)) }
+    ensures board { Leaves (ending_of result) (played (option_copied core.entry) (ready_of replay.alone replay.script)).run (O.got out.old) (O.got out.new) (⟦<Board as ViewBoard>⟧.board_view board.old) (⟦<Board as ViewBoard>⟧.board_view board.new) }
+{
+    let Replay { mut alone, script } = replay;
+    play_ready(alloc, &mut alone, &script, core, files, out, board)
+}
+
+// Plays a replay that is ready, and writes the core file behind its report. All memory is taken before it.
+fn play_ready<'a, S: Store, O: Sink>(
+    alloc: Global,
+    alone: &mut Alone,
+    script: &Script,
+    core: Option<&'a str>,
+    files: &mut S,
+    out: &mut O,
+    board: &mut Board,
+) -> Ending<'a>
+    requires { IsReady alone.old script.now }
+    ensures comes { Comes (ending_of result) (played (option_copied core.entry) (ready_of alone.old script.now))
+        (outside (S.files files.old) (S.read_faults files.old) (S.write_faults files.old) (S.calls files.old) (O.got out.old) (O.faults out.old))
+        (outside (S.files files.new) (S.read_faults files.new) (S.write_faults files.new) (S.calls files.new) (O.got out.new) (O.faults out.new)) }
+    ensures board { Leaves (ending_of result) (played (option_copied core.entry) (ready_of alone.old script.now)).run (O.got out.old) (O.got out.new) (⟦<Board as ViewBoard>⟧.board_view board.old) (⟦<Board as ViewBoard>⟧.board_view board.new) }
+{
+    let Ok(mut room) = lone_room(alloc, alone, core) else {
+        return Ending::Starved;
+    };
+    board.begin();
+    match alone.play(script, out, board) {
+        Ok(()) => match write_lone_core(alone, core, &mut room, files) {
+            Ok(()) => heard(board),
+            Err(ending) => ending,
+        },
+        Err(WriteFault) => Ending::Unwritten,
+    }
+}
+
+// How a replay ends that cannot begin.
+fn unready<'a>(
+    container: &'a str,
+    part: PartId,
+    script: &'a str,
+    further: ReplayFiles<'a>,
+    why: Unready,
+) -> Ending<'a>
+    ensures { ending_of result ≡ unready_ending container.now part script.now (seen_further further.entry) (unready_of why) }
+{
+    match why {
+        Unready::NoContainer { text } => Ending::Denied {
+            file: container,
+            why: Refusal::Told { text },
+        },
+        Unready::NoPartition => Ending::Denied {
+            file: container,
+            why: Refusal::Partition { id: part },
+        },
+        Unready::NoScript { text } => Ending::Denied {
+            file: script,
+            why: Refusal::Told { text },
+        },
+        Unready::OddInput { found } => Ending::Denied {
+            file: input_name(further.input()),
+            why: Refusal::Input { found },
+        },
+        Unready::Memory => Ending::Starved,
+    }
+}
+
+// The name of the file of input words, where there is one.
+fn input_name(input: Option<&str>) -> &str
+    ensures { result.now ≡ input_name (option_copied input.entry) }
+{
+    match input {
+        Some(file) => file,
+        None => "",
+    }
+}
