@@ -3,11 +3,8 @@
 #![tactic(auto)]
 
 mod case;
-mod entry;
-mod making;
 mod pace;
-mod random;
-mod recipe;
+mod reset;
 mod tally;
 mod ticking;
 mod trial;
@@ -16,9 +13,7 @@ mod wanted;
 
 use anyhow::{Context, Result};
 use case::Case;
-use entry::{Entry, entry_of};
-use making::{Shelf, read_data};
-use recipe::Recipe;
+use case_files::{Entry, Recipe, Shelf, entry_of, read_data};
 use std::alloc::Global;
 use std::fs::Files;
 use tally::Tally;

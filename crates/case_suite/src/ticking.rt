@@ -4,9 +4,10 @@ ghost use Rattle.std.specs.Prelude.{◌≡◌, ◌<◌, ◌≤◌, All, IfOk, le
 ghost use Rattle.std.specs.Bool.{OnTrue};
 ghost use Rattle.slot_runs.specs.Passes.{part_at};
 
-use crate::entry::{Entry, entry_of};
 use crate::pace::{Pace, advance};
+use crate::reset::{Reset, reset_of};
 use anyhow::{Context, Result, bail};
+use case_files::entry_of;
 use std::alloc::Global;
 use toml::Value;
 use uart_board::Board;
@@ -96,7 +97,7 @@ fn put_run<O: Sink>(
 ) -> Result<()> {
     put_front(machine, ticks, out)?;
     for reset in resets {
-        do_reset(machine, ticks, entry_of(reset)?, pace, out)?;
+        do_reset(machine, ticks, reset_of(entry_of(reset)?)?, pace, out)?;
     }
     do_ticks(machine, ticks, pace, out)?;
     put_end(machine, out).ok().context(NOT_TAKEN)
@@ -189,32 +190,17 @@ fn do_ticks<O: Sink>(machine: &mut Machine, ticks: u64, pace: Pace, out: &mut O)
 fn do_reset<O: Sink>(
     machine: &mut Machine,
     ticks: u64,
-    reset: Entry<'_>,
+    reset: Reset,
     pace: Pace,
     out: &mut O,
 ) -> Result<()> {
-    reset.has_only(&["tick", "part", "status", "mode"])?;
-    let tick = reset.number("tick")?.context("a reset has no tick")?;
-    do_ticks(machine, ticks.min(tick), pace, out)?;
-    if machine.halted() || tick >= ticks {
+    do_ticks(machine, ticks.min(reset.tick), pace, out)?;
+    if machine.halted() || reset.tick >= ticks {
         return Ok(());
     }
-    let mode = mode_of(reset.text("mode")?.context("a reset has no mode")?)?;
-    match reset.number("part")? {
-        Some(part) => {
-            let status = reset.number("status")?.unwrap_or(0);
-            reset_part(machine, u8::try_from(part)?, mode, u32::try_from(status)?)
-        }
-        None => reset_all(machine, mode),
-    }
-}
-
-// The mode of a name.
-fn mode_of(name: &str) -> Result<Mode> {
-    match name {
-        "cold" => Ok(Mode::Cold),
-        "warm" => Ok(Mode::Warm),
-        _ => bail!("{name} is no mode"),
+    match reset.part {
+        Some(part) => reset_part(machine, part, reset.mode, reset.status),
+        None => reset_all(machine, reset.mode),
     }
 }
 

@@ -3,13 +3,12 @@
 ghost use Rattle.std.specs.Prelude.{◌≡◌, OnOk};
 
 use crate::case::Case;
-use crate::entry::{Entry, number_of, text_of};
-use crate::making::{Shelf, made};
 use crate::pace::Pace;
 use crate::ticking::is_ticked;
 use crate::verdict::Verdict;
 use crate::wanted;
 use anyhow::{Context, Result, bail};
+use case_files::{Entry, Shelf, made, number_of, text_of};
 use std::alloc::Global;
 use std::fs::Files;
 use toml::{Table, Value};
@@ -72,33 +71,33 @@ fn compared<'a>(
     own: Option<Given<'a>>,
 ) -> Result<Verdict> {
     let given = &given(alloc, shelf, case, own)?;
-    let fails = case.entry("fails")?;
-    let mut files = store(alloc, fails, given)?;
+    let mut files = store(alloc, case.entry("fails")?, given)?;
     let words = prepare(alloc, case, &mut files)?;
     let mut verdict = Verdict::new(alloc);
     compare_ticks(alloc, case, &words, &files, &mut verdict)?;
-    if case.own.has("resets") {
-        return Ok(verdict);
+    if !case.own.has("resets") {
+        compare_call(alloc, case, &words, &mut files, &mut verdict)?;
+        compare_files(shelf, case, given, &files, &mut verdict)?;
     }
+    Ok(verdict)
+}
+
+// Does what the words of a case say, and compares its status and what it writes.
+fn compare_call(
+    alloc: Global,
+    case: Case<'_>,
+    words: &Words,
+    files: &mut MemStore,
+    verdict: &mut Verdict,
+) -> Result<()> {
+    let fails = case.entry("fails")?;
     let mut out = sink(alloc, fails, "out", "out_step")?;
     let mut err = sink(alloc, fails, "err", "err_step")?;
-    let status = xm_main(
-        alloc,
-        &words,
-        &mut files,
-        &mut out,
-        &mut err,
-        &mut Board::new(),
-    );
+    let status = xm_main(alloc, words, files, &mut out, &mut err, &mut Board::new());
     verdict.status(wanted::status(case)?, status)?;
     verdict.report("report", case.own, out.got())?;
-    verdict.text(
-        "error output",
-        wanted::line(alloc, case)?.as_bytes(),
-        err.got(),
-    )?;
-    compare_files(shelf, case, given, &files, &mut verdict)?;
-    Ok(verdict)
+    let line = wanted::line(alloc, case)?;
+    verdict.text("error output", line.as_bytes(), err.got())
 }
 
 // The paces of runs beside that of the command: tick by tick, and by stretches of a tick, a few, a slot, and as long as they may be.

@@ -27,8 +27,13 @@ fn main(rt: HostRuntime) -> Result<()> {
 fn show(rt: &(impl Files + Print), alloc: Global, name: &str, ticks: u64) -> Result<()> {
     println!(rt; "{name}")?;
     let mut machine = booted(rt, alloc, name)?;
+    show_ticks(rt, ticks, &mut machine)
+}
+
+// Does so many ticks of a machine, and prints what each partition was told in each.
+fn show_ticks(rt: &impl Print, ticks: u64, machine: &mut Machine) -> Result<()> {
     for tick in 0..ticks {
-        show_tick(rt, tick, &mut machine)?;
+        show_tick(rt, tick, machine)?;
     }
     Ok(())
 }

@@ -49,10 +49,7 @@ const NO_MEMORY: &str = "there is no memory";
 
 fn main(rt: HostRuntime) -> Result<()> {
     let mut files = MemStore::new(rt.alloc(), Vec::new(rt.alloc()));
-    for name in FILES {
-        let bytes = fs::read(&rt, name)?;
-        files.put(name, &bytes).ok().context(NO_MEMORY)?;
-    }
+    put_data(&rt, &mut files)?;
     let mut out = OutSink::new(rt.stdout());
     let mut err = OutSink::new(rt.stderr());
     for call in CALLS {
@@ -61,7 +58,28 @@ fn main(rt: HostRuntime) -> Result<()> {
     }
     println!(rt; "hello.bin, tick by tick")?;
     let image = fs::read(&rt, "hello.bin")?;
-    let machine = ticked(rt.alloc(), &image, 24, &mut out)?;
+    show_ticks(&rt, rt.alloc(), &image, 24, &mut out)
+}
+
+// Puts the files of the data folder into the store.
+fn put_data(rt: &HostRuntime, files: &mut MemStore) -> Result<()> {
+    for name in FILES {
+        let bytes = fs::read(rt, name)?;
+        files.put(name, &bytes).ok().context(NO_MEMORY)?;
+    }
+    Ok(())
+}
+
+// Does so many ticks of the machine of a raw image, whose lines go out, and prints how far it came.
+fn show_ticks<O: Sink>(
+    rt: &impl Print,
+    alloc: Global,
+    image: &[u8],
+    ticks: u64,
+    out: &mut O,
+) -> Result<()> {
+    let mut machine = booted(alloc, image)?;
+    do_ticks(&mut machine, ticks, out)?;
     println!(rt;
         "parts={} ticks={} halted={}",
         machine.sys().count(),
@@ -71,18 +89,21 @@ fn main(rt: HostRuntime) -> Result<()> {
     Ok(())
 }
 
-// The machine of a raw image after so many ticks, whose lines go out.
+// The machine of a raw image.
 #[tactic(auto, unfolding(loaded_system::specs::Bare::bare_conf))]
-fn ticked<O: Sink>(alloc: Global, image: &[u8], ticks: u64, out: &mut O) -> Result<Machine> {
+fn booted(alloc: Global, image: &[u8]) -> Result<Machine> {
     let Ok(system) = bare(alloc, image) else {
         bail!("no system");
     };
     let Ok(inputs) = Inputs::new(alloc, 1) else {
         bail!("{NO_MEMORY}");
     };
-    let Ok(mut machine) = Machine::boot(alloc, system, inputs) else {
-        bail!("{NO_MEMORY}");
-    };
+    let machine = Machine::boot(alloc, system, inputs);
+    machine.ok().context(NO_MEMORY)
+}
+
+// Does so many ticks.
+fn do_ticks<O: Sink>(machine: &mut Machine, ticks: u64, out: &mut O) -> Result<()> {
     for _ in 0..ticks {
         if machine.done() == TICKS {
             break;
@@ -90,7 +111,7 @@ fn ticked<O: Sink>(alloc: Global, image: &[u8], ticks: u64, out: &mut O) -> Resu
         let told = machine.tick(out, &mut Board::new());
         told.ok().context("a tick was not done")?;
     }
-    Ok(machine)
+    Ok(())
 }
 
 // Does what a call says, or tells that it was not done.

@@ -3,6 +3,8 @@
 
 mod tape_uart;
 
+ghost use Rattle.std.specs.Prelude.{◌<◌, length};
+
 use anyhow::{Context, Result, bail};
 use std::alloc::Global;
 use std::{fs, str};
@@ -38,6 +40,9 @@ const MAKING: [&str; 10] = [
     "xmpack build shared.xmc shared.xmp 0=a0.xef 1=b1.xef",
     "xmpack build mute.xmc mute.xmp 0=a0.xef 1=b1.xef",
 ];
+
+// The calls over a file that was there before: one that writes nothing, and two that do.
+const FILE_CALLS: [&str; 3] = ["bare hi.bin 0", "bare hi.bin 100", "bare hi.bin 100"];
 
 const NO_MEMORY: &str = "there is no memory";
 
@@ -136,7 +141,8 @@ const ROWS: [Row; 11] = [
 ];
 
 fn main(rt: HostRuntime) -> Result<()> {
-    let mut files = data(&rt)?;
+    let mut files = MemStore::new(rt.alloc(), Vec::new(rt.alloc()));
+    put_data(&rt, &mut files)?;
     make_all(rt.alloc(), &mut files)?;
     for row in ROWS {
         println!(rt; "# {}", row.shows)?;
@@ -146,28 +152,37 @@ fn main(rt: HostRuntime) -> Result<()> {
     on_a_file(&rt, &mut files)
 }
 
-// The files of the data folder.
-fn data(rt: &HostRuntime) -> Result<MemStore> {
-    let mut files = MemStore::new(rt.alloc(), Vec::new(rt.alloc()));
+// Puts the files of the data folder into the store.
+fn put_data(rt: &HostRuntime, files: &mut MemStore) -> Result<()> {
     for name in FILES {
         let bytes = fs::read(rt, name)?;
         files.put(name, &bytes).ok().context(NO_MEMORY)?;
     }
-    Ok(files)
+    Ok(())
 }
 
 // Does the calls that make the containers.
 fn make_all(alloc: Global, files: &mut MemStore) -> Result<()> {
     for call in MAKING {
-        let words = words_of(alloc, call)?;
-        let mut out = SureSink::new();
-        let mut err = SureSink::new();
-        let status = xm_main(alloc, &words, files, &mut out, &mut err, &mut Board::new());
-        if status != Status::Done {
-            bail!("{call}: ended with {status:?}");
-        }
+        make(alloc, call, files)?;
     }
     Ok(())
+}
+
+// Does a call that is to end well, and whose lines go nowhere.
+fn make(alloc: Global, call: &str, files: &mut MemStore) -> Result<()> {
+    let words = words_of(alloc, call)?;
+    match run_quietly(alloc, &words, files) {
+        Status::Done => Ok(()),
+        status => bail!("{call}: ended with {status:?}"),
+    }
+}
+
+// Does what the words say; the lines go nowhere.
+fn run_quietly(alloc: Global, words: &Words, files: &mut MemStore) -> Status {
+    let mut out = SureSink::new();
+    let mut err = SureSink::new();
+    xm_main(alloc, words, files, &mut out, &mut err, &mut Board::new())
 }
 
 // Does the calls of a row on one board, and prints what its UARTs got, and whether they stand at their places still.
@@ -180,15 +195,31 @@ fn do_row(rt: &HostRuntime, row: Row, files: &mut MemStore) -> Result<()> {
     if let Some(uart) = tape(rt, "got1", second, row.keep)? {
         board.set(1, uart);
     }
-    for call in row.calls {
-        let words = words_of(rt.alloc(), call)?;
-        let mut out = sink(rt.alloc(), row.cuts)?;
-        let mut err = sink(rt.alloc(), &[])?;
-        let status = xm_main(rt.alloc(), &words, files, &mut out, &mut err, &mut board);
-        tell_call(rt, call, out.got(), err.got(), status)?;
+    for place in 0..row.calls.len() {
+        do_call(rt, row.calls, place, row.cuts, files, &mut board)?;
     }
     tell_uart(rt, 0, "got0", board.take(0).is_some())?;
     tell_uart(rt, 1, "got1", board.take(1).is_some())
+}
+
+// Does one of these calls on a board, its report failing at these writes, and prints it with what came of it. By its
+// `requires` it is stated for a board of any UARTs, and so are its callers.
+fn do_call(
+    rt: &HostRuntime,
+    calls: &[&str],
+    place: usize,
+    cuts: &[u64],
+    files: &mut MemStore,
+    board: &mut Board,
+) -> Result<()>
+    requires { place < length calls.now }
+{
+    let call = calls[place];
+    let words = words_of(rt.alloc(), call)?;
+    let mut out = sink(rt.alloc(), cuts)?;
+    let mut err = sink(rt.alloc(), &[])?;
+    let status = xm_main(rt.alloc(), &words, files, &mut out, &mut err, board);
+    tell_call(rt, call, out.got(), err.got(), status)
 }
 
 // Runs over a file that was there before: one that writes nothing, and two that do.
@@ -199,12 +230,8 @@ fn on_a_file(rt: &HostRuntime, files: &mut MemStore) -> Result<()> {
     };
     let mut board = Board::new();
     board.set(0, uart);
-    for call in ["bare hi.bin 0", "bare hi.bin 100", "bare hi.bin 100"] {
-        let words = words_of(rt.alloc(), call)?;
-        let mut out = sink(rt.alloc(), &[])?;
-        let mut err = sink(rt.alloc(), &[])?;
-        let status = xm_main(rt.alloc(), &words, files, &mut out, &mut err, &mut board);
-        tell_call(rt, call, out.got(), err.got(), status)?;
+    for place in 0..FILE_CALLS.len() {
+        do_call(rt, &FILE_CALLS, place, &[], files, &mut board)?;
         let got = fs::read_to_string(rt, "uart0.out")?;
         println!(rt; "uart0.out has `{got}`")?;
     }

@@ -5,17 +5,17 @@ use toml::{Table, Value};
 
 /// A table.
 #[derive(Clone, Copy)]
-pub(crate) struct Entry<'a> {
+pub struct Entry<'a> {
     table: &'a Table,
 }
 
 impl<'a> Entry<'a> {
-    pub(crate) fn new(table: &'a Table) -> Entry<'a> {
+    pub fn new(table: &'a Table) -> Entry<'a> {
         Entry { table }
     }
 
     /// Refuses a table that has another key than these.
-    pub(crate) fn has_only(self, keys: &[&str]) -> Result<()> {
+    pub fn has_only(self, keys: &[&str]) -> Result<()> {
         for key in self.table.keys() {
             if !is_among(key, keys) {
                 bail!("{key} is no key here");
@@ -25,7 +25,7 @@ impl<'a> Entry<'a> {
     }
 
     /// The text of a key, where it is there.
-    pub(crate) fn text(self, key: &str) -> Result<Option<&'a str>> {
+    pub fn text(self, key: &str) -> Result<Option<&'a str>> {
         match self.table.get(key) {
             Some(value) => Ok(Some(text_of(value).context(key)?)),
             None => Ok(None),
@@ -33,7 +33,7 @@ impl<'a> Entry<'a> {
     }
 
     /// The number of a key, where it is there.
-    pub(crate) fn number(self, key: &str) -> Result<Option<u64>> {
+    pub fn number(self, key: &str) -> Result<Option<u64>> {
         match self.table.get(key) {
             Some(value) => Ok(Some(number_of(value).context(key)?)),
             None => Ok(None),
@@ -41,7 +41,7 @@ impl<'a> Entry<'a> {
     }
 
     /// The list of a key, where it is there.
-    pub(crate) fn list(self, key: &str) -> Result<Option<&'a [Value]>> {
+    pub fn list(self, key: &str) -> Result<Option<&'a [Value]>> {
         match self.table.get(key) {
             Some(Value::Array(list)) => Ok(Some(list)),
             Some(_) => bail!("{key} is no list"),
@@ -50,7 +50,7 @@ impl<'a> Entry<'a> {
     }
 
     /// The table of a key, where it is there.
-    pub(crate) fn entry(self, key: &str) -> Result<Option<Entry<'a>>> {
+    pub fn entry(self, key: &str) -> Result<Option<Entry<'a>>> {
         match self.table.get(key) {
             Some(value) => Ok(Some(entry_of(value).context(key)?)),
             None => Ok(None),
@@ -58,12 +58,12 @@ impl<'a> Entry<'a> {
     }
 
     /// Whether a key is there.
-    pub(crate) fn has(self, key: &str) -> bool {
+    pub fn has(self, key: &str) -> bool {
         self.table.contains_key(key)
     }
 
     /// The table itself.
-    pub(crate) fn table(self) -> &'a Table {
+    pub fn table(self) -> &'a Table {
         self.table
     }
 }
@@ -79,18 +79,18 @@ fn is_among(key: &str, keys: &[&str]) -> bool {
 }
 
 /// A value that is to be a text.
-pub(crate) fn text_of(value: &Value) -> Result<&str> {
+pub fn text_of(value: &Value) -> Result<&str> {
     value.as_str().context("no text")
 }
 
 /// A value that is to be a number.
-pub(crate) fn number_of(value: &Value) -> Result<u64> {
+pub fn number_of(value: &Value) -> Result<u64> {
     let number = value.as_integer().context("no number")?;
     Ok(u64::try_from(number)?)
 }
 
 /// A value that is to be a table.
-pub(crate) fn entry_of(value: &Value) -> Result<Entry<'_>> {
+pub fn entry_of(value: &Value) -> Result<Entry<'_>> {
     match value {
         Value::Table(table) => Ok(Entry { table }),
         _ => bail!("no table"),

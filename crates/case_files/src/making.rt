@@ -16,19 +16,19 @@ const PROGRAM_TABLE: [u32; 6] = [52, 0, 0, 0x0034_0020, 0x0001_0000, 0];
 
 /// Files that were made, by their names: those that every book may use, then those of one book.
 #[derive(Drop)]
-pub(crate) struct Shelf {
+pub struct Shelf {
     files: Vec<(String, Vec<u8>)>,
 }
 
 impl Shelf {
-    pub(crate) fn new(alloc: Global) -> Shelf {
+    pub fn new(alloc: Global) -> Shelf {
         Shelf {
             files: Vec::new(alloc),
         }
     }
 
     /// Makes a file, and keeps it.
-    pub(crate) fn put(&mut self, rt: &impl Files, alloc: Global, recipe: Recipe<'_>) -> Result<()> {
+    pub fn put(&mut self, rt: &impl Files, alloc: Global, recipe: Recipe<'_>) -> Result<()> {
         let name = recipe.name()?;
         let bytes = made(rt, alloc, recipe, self).context(name)?;
         self.files.push((String::from_str(alloc, name)?, bytes))?;
@@ -36,7 +36,7 @@ impl Shelf {
     }
 
     /// The bytes of a file.
-    pub(crate) fn get(&self, name: &str) -> Result<&[u8]> {
+    pub fn get(&self, name: &str) -> Result<&[u8]> {
         for (known, bytes) in &self.files {
             if known.as_str() == name {
                 return Ok(bytes);
@@ -46,23 +46,18 @@ impl Shelf {
     }
 
     /// How many files there are.
-    pub(crate) fn count(&self) -> usize {
+    pub fn count(&self) -> usize {
         self.files.len()
     }
 
     /// Keeps the first files alone.
-    pub(crate) fn keep(&mut self, count: usize) {
+    pub fn keep(&mut self, count: usize) {
         self.files.truncate(count);
     }
 }
 
 /// The bytes that a recipe makes, over the files that were made before.
-pub(crate) fn made(
-    rt: &impl Files,
-    alloc: Global,
-    recipe: Recipe<'_>,
-    shelf: &Shelf,
-) -> Result<Vec<u8>> {
+pub fn made(rt: &impl Files, alloc: Global, recipe: Recipe<'_>, shelf: &Shelf) -> Result<Vec<u8>> {
     let mut bytes = raw(rt, alloc, recipe, shelf)?;
     resize(&mut bytes, recipe)?;
     set_bytes(&mut bytes, recipe)?;
@@ -118,7 +113,7 @@ fn replaced_all(alloc: Global, bytes: Vec<u8>, recipe: Recipe<'_>) -> Result<Vec
 }
 
 /// The bytes of a file of the data folder.
-pub(crate) fn read_data(rt: &impl Files, alloc: Global, name: &str) -> Result<Vec<u8>> {
+pub fn read_data(rt: &impl Files, alloc: Global, name: &str) -> Result<Vec<u8>> {
     let mut bytes = Vec::new(alloc);
     File::open(rt, name)?.read_to_end(&mut bytes)?;
     Ok(bytes)

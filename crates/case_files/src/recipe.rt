@@ -32,14 +32,14 @@ pub(crate) enum Source<'a> {
 
 /// A file's name, its source and its changes.
 #[derive(Clone, Copy)]
-pub(crate) struct Recipe<'a> {
+pub struct Recipe<'a> {
     own: Entry<'a>,
     base: Option<Entry<'a>>,
 }
 
 impl<'a> Recipe<'a> {
     /// What a table says, and where it says nothing, what the base says.
-    pub(crate) fn new(own: Entry<'a>, base: Option<Entry<'a>>) -> Result<Recipe<'a>> {
+    pub fn new(own: Entry<'a>, base: Option<Entry<'a>>) -> Result<Recipe<'a>> {
         own.has_only(&KEYS)?;
         if let Some(base) = base {
             base.has_only(&KEYS)?;
@@ -47,7 +47,7 @@ impl<'a> Recipe<'a> {
         Ok(Recipe { own, base })
     }
 
-    pub(crate) fn name(self) -> Result<&'a str> {
+    pub fn name(self) -> Result<&'a str> {
         self.text("name")?.context("a file has no name")
     }
 
