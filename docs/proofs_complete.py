@@ -5,7 +5,7 @@ where there is one of either, else with 0.
 A call is a `pub fn` that `src/lib.rt` exports, by itself or as a method of an exported type or trait. Its row is a line of a
 table below a heading that names the crate, whose second column has the call as code, `name` or `Type::name`; after
 `Type::name` other methods of the type stand by their names alone. A type has such a row, or one below `Plain types`. What
-has no clause stands below `What no clause says`.
+has no clause stands below `What no clause says`. A library of a suite promises nothing, and has no rows.
 """
 import re
 import sys
@@ -14,12 +14,13 @@ from pathlib import Path
 ROOT = Path(__file__).resolve().parent.parent
 PLAIN = "Plain types"
 NO_CLAUSE = "What no clause says"
+OF_SUITES = {"case_files"}
 
 
 def libraries():
     for line in (ROOT / "crates.txt").read_text(encoding="utf-8").splitlines():
         found = re.match(r"(\w+)[^:]*:", line)
-        if found and (ROOT / "crates" / found[1] / "src/lib.rt").exists():
+        if found and found[1] not in OF_SUITES and (ROOT / "crates" / found[1] / "src/lib.rt").exists():
             yield found[1]
 
 
