@@ -1,10 +1,11 @@
 -- Lemmas on accesses: what they answer and leave in a memory of bytes, and where they are refused.
 use borrow.Rule.Slice.PartMut.{put_mid}
-use Rattle.std.proofs.Common.{◌≡◌, ℕ, zero, suc, ◌+◌, ◌≤◌, List, length, take, drop, Option, Some, None, Ok, Err, refl, ap}
+use Rattle.std.proofs.Common.{◌≡◌, ℕ, zero, suc, ◌+◌, ◌*◌, ◌≤◌, List, [], ◌∷◌, length, take, drop, Option, Some, None, Ok, Err, refl, ap, arith, length-append}
 use Rattle.std.specs.Int.{w32, byte_len, bytes_high_first, from_be_bytes, to_be_bytes}
 use Rattle.guest_bus.specs.Access.{access_fault, after_store, fetched, loaded, memory_unless_refused, store_fault, unless_refused, width_of}
 use Rattle.guest_bus.specs.Memory.{Area, Memory, is_readable, memory_of}
 use Rattle.guest_bus.specs.MemoryLemmas.{bytes_at-memory_of, with_bytes-put_mid}
+use Rattle.guest_bus.specs.Words.{bytes_of}
 use Rattle.guest_bus.specs.declared.bus.BusFault.{BusFault}
 use Rattle.guest_bus.specs.declared.bus.Size.{Size}
 
@@ -12,6 +13,13 @@ use Rattle.guest_bus.specs.declared.bus.Size.{Size}
 pub length-bytes_high_first : (count value : ℕ) → length (bytes_high_first count value) ≡ count
 length-bytes_high_first zero value = refl
 length-bytes_high_first (suc count) value = ap suc (length-bytes_high_first count value)
+
+-- four times as many bytes as words
+pub length-bytes_of : (words : List ℕ) → length (bytes_of words) ≡ 4 * length words
+unfolding bytes_of
+length-bytes_of [] = refl
+length-bytes_of (word ∷ words) =
+    omega (arith, length-append (to_be_bytes w32 word) (bytes_of words), length-bytes_high_first 4 word, length-bytes_of words)
 
 -- an access that nothing refuses answers its value
 unless_refused-free : {X : Type 0} (fault : Option BusFault) (found value : X) → fault ≡ None → found ≡ value → unless_refused fault found ≡ Ok value

@@ -78,7 +78,7 @@ aligned_fits area address Four placed aligned from fits = omega (arith, placed.s
 aligned_fits area address Eight placed aligned from fits = omega (arith, placed.start, placed.size)
 
 -- a range in one area may be read
-range_readable : (areas : List Area) (k q n : ℕ) (area : Area) → slice_get areas k ≡ Some area → area.start ≤ q → q + n ≤ area.start + area.size → all_from (is_readable areas) q n ≡ true
+pub range_readable : (areas : List Area) (k q n : ℕ) (area : Area) → slice_get areas k ≡ Some area → area.start ≤ q → q + n ≤ area.start + area.size → all_from (is_readable areas) q n ≡ true
 range_readable areas k q n area is from fits =
     all_from-true (is_readable areas) q n (λ p over under. readable_at areas k p area is (covers_at area p (omega arith) (omega arith)))
 

@@ -4,6 +4,7 @@ pub mod ConfigurationLemmas
 pub mod FlatLemmas
 pub mod MemoriesLemmas
 pub mod NearLemmas
+pub mod SixteenLemmas
 pub mod RangeLemmas
 pub mod SegmentLemmas
 pub mod TableLemmas

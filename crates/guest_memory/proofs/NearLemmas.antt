@@ -89,12 +89,12 @@ near_inside table near address found is here = at (subst (λ (n : Near). IsNear 
     at (inr second) = spot_inside table address found 1 second
 
 -- bytes of the partition are bytes among all
-part_taken : (table : Table) (whole : List ℕ) (at byte n : ℕ) → byte ≡ table.place + at → at + n ≤ table.size → take n (drop at (part_in table whole)) ≡ take n (drop byte whole)
+pub part_taken : (table : Table) (whole : List ℕ) (at byte n : ℕ) → byte ≡ table.place + at → at + n ≤ table.size → take n (drop at (part_in table whole)) ≡ take n (drop byte whole)
 part_taken table whole at byte n is within =
     part_of_part table.size at n (drop table.place whole) within ∙ ap (take n) (drop-drop at table.place whole) ∙ ap (λ (k : ℕ). take n (drop k whole)) (sym is)
 
 -- an access of so many bytes ends in the partition
-access_within : (table : Table) (whole : List ℕ) (place : Place) (address count : ℕ) → IsPartOf table whole → IsAt address count place table.entries → place.byte + count ≤ table.size
+pub access_within : (table : Table) (whole : List ℕ) (place : Place) (address count : ℕ) → IsPartOf table whole → IsAt address count place table.entries → place.byte + count ≤ table.size
 access_within table whole place address count part stands =
     omega (arith, bytes_within table.entries (part_in table whole) place address count part.space stands, length-take-le table.size (drop table.place whole) (omega (arith, length-drop table.place whole, part.within)))
 
@@ -130,14 +130,14 @@ near_loaded table near whole found address value size is part here aligned as_it
     (as_it_is ∙ ap (from_be_bytes (width_of size)) (sym (part_taken table whole inside.place.byte found.byte (byte_len (width_of size)) inside.byte (access_within table whole inside.place address (byte_len (width_of size)) part access.stands))))
 
 -- a write among the bytes of a partition is one in its part
-part_put : (table : Table) (whole new : List ℕ) (at byte n : ℕ) → IsPartOf table whole → length new ≡ n → byte ≡ table.place + at → at + n ≤ table.size → part_in table (put_mid byte n whole new) ≡ put_mid at n (part_in table whole) new
+pub part_put : (table : Table) (whole new : List ℕ) (at byte n : ℕ) → IsPartOf table whole → length new ≡ n → byte ≡ table.place + at → at + n ≤ table.size → part_in table (put_mid byte n whole new) ≡ put_mid at n (part_in table whole) new
 part_put table whole new at byte n part counted is within =
     ap (λ (k : ℕ). take table.size (drop table.place (put_mid k n whole new))) is
     ∙ ap (take table.size) (drop-put_behind table.place at n whole new (omega (arith, part.within)))
     ∙ take-put_in table.size at n (drop table.place whole) new counted within (omega (arith, length-drop table.place whole, part.within))
 
 -- and nothing around the part changes
-around_put : (p m a n : ℕ) (xs new : List ℕ) → p ≤ a → a + n ≤ p + m → p + m ≤ length xs → length new ≡ n → put_mid a n xs new ≡ put_mid p m xs (take m (drop p (put_mid a n xs new)))
+pub around_put : (p m a n : ℕ) (xs new : List ℕ) → p ≤ a → a + n ≤ p + m → p + m ≤ length xs → length new ≡ n → put_mid a n xs new ≡ put_mid p m xs (take m (drop p (put_mid a n xs new)))
 around_put p m a n xs new from fits within counted =
     sym (ap (λ (front : List ℕ). front ++ (take m (drop p (put_mid a n xs new)) ++ drop m (drop p xs))) (sym (take-put_mid_below a n xs new p from (omega arith)))
     ∙ ap (λ (rest : List ℕ). take p (put_mid a n xs new) ++ (take m (drop p (put_mid a n xs new)) ++ rest))

@@ -2,7 +2,8 @@
 use Rattle.std.specs.Prelude.{◌≡◌, ℕ, ◌+◌, ◌*◌, ◌/◌, ◌%◌, ◌<◌, ◌≤◌, ◌^◌, ◌⊎◌, false, List, Option, None, Some, length, slice_get, slice_index_or}
 use Rattle.std.specs.Int.{byte_len}
 use Rattle.guest_bus.specs.Access.{after_store, store_fault}
-use Rattle.guest_bus.specs.Memory.{Area}
+use Rattle.guest_bus.specs.Memory.{Area, is_readable, is_writable, with_bytes}
+use Rattle.guest_bus.specs.Words.{MayStand, bytes_of, words_at}
 use Rattle.guest_bus.specs.declared.bus.Size.{Size}
 use Rattle.guest_bus.specs.declared.words.Words.{Words}
 use Rattle.guest_memory.specs.Flat.{AreBytes, AreKept, SameAround, Table, listed, memory_of_part}
@@ -46,6 +47,26 @@ pub record IsHere (address : ℕ) (found : Found) (spot : Spot) : Type 0 where
 -- one of the two has it
 abbrev pub IsNear : ℕ → Found → Near → Type 0
 IsNear address found near = IsHere address found near.first ⊎ IsHere address found near.second
+
+-- so are the 63 bytes behind it
+pub record HasPart (address : ℕ) (found : Found) (spot : Spot) : Type 0 where
+  pub here : IsHere address found spot
+  pub within : address + 64 ≤ spot.start + spot.size
+
+-- all 64 are in one of the two
+abbrev pub IsNearPart : ℕ → Found → Near → Type 0
+IsNearPart address found near = HasPart address found near.first ⊎ HasPart address found near.second
+
+-- sixteen words were written, and no byte beside those of the partition is another
+pub record AreWritten (table : Table) (old new : List ℕ) (address : ℕ) (words : List ℕ) : Type 0 where
+  pub free : MayStand (is_writable (listed table.entries)) address
+  pub memory : memory_of_part table new ≡ with_bytes (memory_of_part table old) address (bytes_of words)
+  pub others : SameAround table old new
+
+-- sixteen words were read
+pub record AreRead (table : Table) (whole : List ℕ) (address : ℕ) (words : List ℕ) : Type 0 where
+  pub free : MayStand (is_readable (listed table.entries)) address
+  pub read : words ≡ words_at (memory_of_part table whole) address 16
 
 -- a store was made, and no byte beside those of the partition is another
 pub record IsStored (table : Table) (old new : List ℕ) (address value : ℕ) (size : Size) : Type 0 where

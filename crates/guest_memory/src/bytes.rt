@@ -1,10 +1,10 @@
 //! Big endian values at a place of bytes.
 
-ghost use Rattle.std.specs.Prelude.{◌≡◌, ◌+◌, ◌≤◌, Some, length, replicate, slice_get, take, drop};
+ghost use Rattle.std.specs.Prelude.{◌≡◌, ℕ, ◌+◌, ◌*◌, ◌<◌, ◌≤◌, Some, length, replicate, slice_get, slice_index, take, drop};
 ghost use Rattle.std.specs.Int.{byte_len, from_be_bytes, to_be_bytes, w16, w32, w64};
 ghost use borrow.Rule.Slice.PartMut.{put_mid};
 ghost use Rattle.guest_bus.specs.Access.{width_of};
-ghost use Rattle.guest_bus.specs.Words.{swapped};
+ghost use Rattle.guest_bus.specs.Words.{bytes_of, swapped};
 ghost use Rattle.guest_memory.specs.Flat.{AreBytes};
 
 use guest_bus::Size;
@@ -105,6 +105,54 @@ pub(crate) fn put(bytes: &mut [u8], at: usize, from: &[u8])
     ensures bytes { AreBytes bytes.new }
 {
     bytes[at..at + from.len()].copy_from_slice(from);
+}
+
+/// Puts sixteen words at a place, the highest byte of each first.
+#[inline(always)]
+pub(crate) fn put_words(bytes: &mut [u8], at: usize, words: &[u32; 16])
+    requires { at + 64 ≤ length bytes.old }
+    ensures value { bytes.new ≡ put_mid at 64 bytes.old (bytes_of words.now) }
+    ensures bytes { AreBytes bytes.new }
+    ensures counted { length words.now ≡ 16 }
+{
+    // They are put together first, so that they are written as one.
+    let together = bytes_of(words);
+    put(bytes, at, &together);
+}
+
+/// The bytes of sixteen words.
+#[inline(always)]
+fn bytes_of(words: &[u32; 16]) -> [u8; 64]
+    ensures { result ≡ bytes_of words.now }
+{
+    let mut bytes = [0; 64];
+    for i in 0..16usize {
+        put_word(&mut bytes, 4 * i, words[i]);
+    }
+    bytes
+}
+
+/// Puts a word at a place, its highest byte first.
+#[inline(always)]
+fn put_word(bytes: &mut [u8], at: usize, word: u32)
+    requires { at + 4 ≤ length bytes.old }
+    ensures { bytes.new ≡ put_mid at 4 bytes.old (to_be_bytes w32 word) }
+{
+    bytes[at..at + 4].copy_from_slice(&word.to_be_bytes());
+}
+
+/// The sixteen words from a place on.
+#[inline(always)]
+pub(crate) fn get_words(bytes: &[u8], at: usize) -> [u32; 16]
+    requires { at + 64 ≤ length bytes.now }
+    ensures each { (k : ℕ) → k < 16 → slice_index result k ≡ from_be_bytes w32 (take 4 (drop (at + 4 * k) bytes.now)) }
+    ensures counted { length result ≡ 16 }
+{
+    let mut words = [0; 16];
+    for i in 0..16usize {
+        words[i] = word(bytes, at + 4 * i);
+    }
+    words
 }
 
 /// Makes all bytes zero.

@@ -5,9 +5,9 @@ ghost use Rattle.std.specs.Bool.{OnTrue};
 ghost use Rattle.std.specs.Int.{byte_len};
 ghost use Rattle.guest_bus.specs.Access.{fetched, loaded, width_of};
 ghost use Rattle.guest_memory.specs.Flat.{AreBytes, IsPartOf, Table as Placed, listed, memory_of_part};
-ghost use Rattle.guest_memory.specs.Near.{AreNearWords, AreWithin, AreWordsIn, IsHere, IsNear, IsStored, near_of, spot_of};
+ghost use Rattle.guest_memory.specs.Near.{AreNearWords, AreRead, AreWithin, AreWordsIn, AreWritten, IsHere, IsNear, IsNearPart, IsStored, near_of, spot_of};
 
-use crate::bytes::{put_value, value_at, word};
+use crate::bytes::{get_words, put_value, put_words, value_at, word};
 use crate::entry::Entry;
 use crate::table::Table;
 use guest_bus::{Size, Words};
@@ -78,6 +78,16 @@ impl Spot {
             byte: self.place + address.wrapping_sub(self.start) as usize,
             read_only: self.read_only,
         }
+    }
+
+    // Whether it has the 64 bytes from an address on.
+    #[inline(always)]
+    fn has_part(&self, address: u32) -> bool
+        requires { self.now.start + self.now.size ≤ 2 ^ 32 }
+        ensures from { OnTrue result (self.now.start ≤ address) }
+        ensures within { OnTrue result (address + 64 ≤ self.now.start + self.now.size) }
+    {
+        self.size >= 64 && address.wrapping_sub(self.start) <= self.size - 64
     }
 
     // Its words, by their places among those of all.
@@ -193,6 +203,62 @@ impl Near {
                 }
             }
             None => false,
+        }
+    }
+    // Where the 64 bytes from an address on lie, where one of the two has them all.
+    #[inline(always)]
+    fn find_part(&self, address: u32) -> Option<Found>
+        requires first { self.now.first.start + self.now.first.size ≤ 2 ^ 32 }
+        requires second { self.now.second.start + self.now.second.size ≤ 2 ^ 32 }
+        requires first_few { self.now.first.place ≤ 2 ^ 32 }
+        requires second_few { self.now.second.place ≤ 2 ^ 32 }
+        ensures { IfSome result (λ found. IsNearPart address found self.now) }
+    {
+        if self.first.has_part(address) {
+            Some(self.first.found(address))
+        } else if self.second.has_part(address) {
+            Some(self.second.found(address))
+        } else {
+            None
+        }
+    }
+
+    /// Writes sixteen words, where all of them are in one of the two and may be written. The answer is whether it did.
+    #[inline(always)]
+    pub(crate) fn put_words(&self, whole: &mut [u8], address: u32, words: &[u32; 16]) -> bool
+        requires { AreWithin self.now whole.old }
+        ensures done { OnTrue result ((table : Placed) → self.now ≡ near_of table → IsPartOf table whole.old → AreWritten table whole.old whole.new address words.now) }
+        ensures bytes { AreBytes whole.old → AreBytes whole.new }
+        ensures not_done { result ≡ false → whole.new ≡ whole.old }
+    {
+        if address % 8 != 0 {
+            return false;
+        }
+        match self.find_part(address) {
+            Some(found) => {
+                if found.read_only {
+                    false
+                } else {
+                    put_words(whole, found.byte, words);
+                    true
+                }
+            }
+            None => false,
+        }
+    }
+
+    /// The sixteen words from an address on, where all of them are in one of the two.
+    #[inline(always)]
+    pub(crate) fn get_words(&self, whole: &[u8], address: u32) -> Option<[u32; 16]>
+        requires { AreWithin self.now whole.now }
+        ensures { (table : Placed) → self.now ≡ near_of table → IsPartOf table whole.now → IfSome result (λ words. AreRead table whole.now address words) }
+    {
+        if address % 8 != 0 {
+            return None;
+        }
+        match self.find_part(address) {
+            Some(found) => Some(get_words(whole, found.byte)),
+            None => None,
         }
     }
 }

@@ -272,6 +272,16 @@ impl HasWords for Ram {
     fn word(&self, words: Words, place: usize) -> u32 {
         raw(&self.bytes, 4 * place)
     }
+
+    #[inline(always)]
+    fn put_words(&mut self, address: u32, words: &[u32; 16]) -> bool {
+        self.near.put_words(&mut self.bytes, address, words)
+    }
+
+    #[inline(always)]
+    fn get_words(&self, address: u32) -> Option<[u32; 16]> {
+        self.near.get_words(&self.bytes, address)
+    }
 }
 
 /// The partitions of a configuration.

@@ -15,7 +15,8 @@ use Rattle.sparc_step.specs.Registers.{advanced, branched, in_window, register_a
 use Rattle.virt_clocks.specs.Clocks.{looked_at, no_clocks}
 use Rattle.virt_traps.specs.Delivery.{at_entry, brought_above, delivered, entered_below, freed_below, restored, returned, virtual_psr}
 use Rattle.virt_traps.specs.Moves.{fill_address, filled, spill_address, spilled}
-use Rattle.virt_traps.specs.SaveArea.{allows, bytes_of, is_usable, registers_from, saved, with_registers, words_at}
+use Rattle.guest_bus.specs.Words.{allows, bytes_of, words_at}
+use Rattle.virt_traps.specs.SaveArea.{is_usable, registers_from, saved, with_registers}
 use Rattle.virt_traps.specs.Settled.{after_trap, made_again, settled}
 use Rattle.virt_traps.specs.Virtual.{cleared as interrupt_cleared, due, no_traps, raised}
 use Rattle.xm_conf.specs.View.{channel_of, has_end, is_port, sees}

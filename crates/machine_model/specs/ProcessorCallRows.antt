@@ -3,7 +3,8 @@
 use Rattle.std.specs.Prelude.{ℕ, Bool, true, false, List, [], ◌∷◌, ◌++◌, replicate}
 use Rattle.guest_bus.specs.Memory.{Memory, bytes_at}
 use Rattle.sparc_step.specs.Registers.{Registers, in_window, started}
-use Rattle.virt_traps.specs.SaveArea.{with_registers, words_at}
+use Rattle.guest_bus.specs.Words.{words_at}
+use Rattle.virt_traps.specs.SaveArea.{with_registers}
 use Rattle.virt_traps.specs.Virtual.{no_traps}
 use Rattle.xm_conf.specs.declared.health.Event.TheVariants.{MemProtection}
 use Rattle.machine_model.specs.Caller.{Acts, Caller, Meets, Served}

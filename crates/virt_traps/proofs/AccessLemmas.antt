@@ -12,7 +12,7 @@ use Rattle.guest_bus.specs.declared.bus.BusFault.{BusFault}
 use Rattle.guest_bus.specs.declared.bus.BusFault.TheVariants.{Outside}
 use Rattle.guest_bus.specs.declared.bus.Size.{Size}
 use Rattle.guest_bus.specs.declared.bus.Size.TheVariants.{Eight}
-use Rattle.virt_traps.specs.SaveArea.{allows}
+use Rattle.guest_bus.specs.Words.{allows}
 
 -- a value is answered only where all bytes are allowed
 answered_free : (passes : Bool) (value found : ℕ) → unless_refused (if passes then None else Some Outside) value ≡ Ok found → (passes ≡ true) × (value ≡ found)

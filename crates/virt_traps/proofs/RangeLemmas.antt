@@ -4,7 +4,8 @@ use Rattle.std.proofs.Common.{refl, arith, ⊎_elim}
 use Rattle.std.proofs.lemmas.Bool.{and_parts, cases_lt, leb-true}
 use Rattle.std.proofs.lemmas.Bool.Decides.{nat_tests}
 use Rattle.guest_bus.specs.Memory.{Area, covers, is_readable, is_writable}
-use Rattle.virt_traps.specs.SaveArea.{allows, is_usable}
+use Rattle.guest_bus.specs.Words.{allows}
+use Rattle.virt_traps.specs.SaveArea.{is_usable}
 use Rattle.guest_bus.specs.MemoryLemmas.{all_from-each, all_from-true}
 
 -- a part of a range that is allowed is allowed

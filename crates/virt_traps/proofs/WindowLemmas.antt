@@ -5,7 +5,8 @@ use Rattle.std.specs.Int.{from_be_bytes, to_be_bytes, w32, w64}
 use Rattle.std.specs.FinMap.{insert}
 use Rattle.guest_bus.specs.Memory.{Memory, byte_at, bytes_at, with_bytes}
 use Rattle.sparc_step.specs.Registers.{place_in_windows}
-use Rattle.virt_traps.specs.SaveArea.{bytes_of, register_of, registers_from, with_registers, words_at}
+use Rattle.guest_bus.specs.Words.{bytes_of, words_at}
+use Rattle.virt_traps.specs.SaveArea.{register_of, registers_from, with_registers}
 
 -- bytes that are written one after another
 with_bytes-append : (memory : Memory) (address : ℕ) (front back : List ℕ) → with_bytes memory address (front ++ back) ≡ with_bytes (with_bytes memory address front) (address + length front) back

@@ -2,7 +2,8 @@
 use Rattle.std.specs.Prelude.{ℕ, ◌+◌, ◌%◌, if◌then◌else◌, List, Result, Ok, Err}
 use Rattle.guest_bus.specs.Memory.{Area, Memory, is_readable, is_writable, with_bytes}
 use Rattle.sparc_step.specs.Registers.{Registers}
-use Rattle.virt_traps.specs.SaveArea.{bytes_of, is_usable, register_of, saved, with_registers, words_at}
+use Rattle.guest_bus.specs.Words.{bytes_of, words_at}
+use Rattle.virt_traps.specs.SaveArea.{is_usable, register_of, saved, with_registers}
 use Rattle.virt_traps.specs.declared.windows.StackFault.{StackFault}
 
 -- what a spill or a fill came to, and what it left

@@ -1,7 +1,6 @@
 -- The registers of each window, and its save area: the 64 bytes at its stack pointer that hold its locals and ins (section 4.1 and appendix D of the SPARC V8 manual).
-use Rattle.std.specs.Prelude.{ℕ, zero, suc, ◌+◌, ◌%◌, ◌^◌, Bool, ◌&&◌, nat_le, ◌==◌, List, [], ◌∷◌, ◌++◌, slice_index, slice_set}
-use Rattle.std.specs.Int.{from_be_bytes, to_be_bytes, w32}
-use Rattle.guest_bus.specs.Memory.{Memory, all_from, bytes_at}
+use Rattle.std.specs.Prelude.{ℕ, zero, suc, ◌+◌, ◌%◌, ◌^◌, Bool, ◌&&◌, nat_le, ◌==◌, List, [], ◌∷◌, slice_index, slice_set}
+use Rattle.guest_bus.specs.Words.{allows}
 use Rattle.sparc_step.specs.Registers.{place_in_windows}
 
 -- register n of a window, for n from 8 to 31
@@ -17,25 +16,11 @@ registers_from windows window n (suc count) = register_of windows window n ∷ r
 unfoldable pub saved : List ℕ → ℕ → List ℕ
 saved windows window = registers_from windows window 16 16
 
--- words as bytes, the highest byte of each first
-unfoldable pub bytes_of : List ℕ → List ℕ
-bytes_of [] = []
-bytes_of (word ∷ words) = to_be_bytes w32 word ++ bytes_of words
-
--- so many words from an address on
-unfoldable pub words_at : Memory → ℕ → ℕ → List ℕ
-words_at memory address zero = []
-words_at memory address (suc count) = from_be_bytes w32 (bytes_at memory address 4) ∷ words_at memory (address + 4) count
-
 -- the windows with these values in one of them, from register n on
 unfoldable pub with_registers : List ℕ → ℕ → ℕ → List ℕ → List ℕ
 with_registers windows window n [] = windows
 with_registers windows window n (value ∷ values) =
     with_registers (slice_set windows (place_in_windows window n) value) window (suc n) values
-
--- each of so many bytes from an address on is allowed
-unfoldable pub allows : (ℕ → Bool) → ℕ → ℕ → Bool
-allows allowed address count = all_from allowed address count
 
 -- the address can be that of a save area: it is a multiple of 8, and each of the 64 bytes is allowed, none of them past the last address
 unfoldable pub is_usable : (ℕ → Bool) → ℕ → Bool

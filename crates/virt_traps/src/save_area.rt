@@ -4,7 +4,8 @@ ghost use Rattle.std.specs.Prelude.{◌≡◌, ◌+◌, ◌*◌, ◌/◌, ◌%�
 ghost use Rattle.std.specs.Int.{to_be_bytes, w32, w64};
 ghost use Rattle.guest_bus.specs.Memory.{is_readable, is_writable, with_bytes};
 ghost use Rattle.sparc_step.specs.Registers.{place_in_windows};
-ghost use Rattle.virt_traps.specs.SaveArea.{allows, bytes_of, is_usable, register_of, registers_from, saved, with_registers, words_at};
+ghost use Rattle.guest_bus.specs.Words.{allows, bytes_of, words_at};
+ghost use Rattle.virt_traps.specs.SaveArea.{is_usable, register_of, registers_from, saved, with_registers};
 
 use guest_bus::{Bus, Size};
 

@@ -1,5 +1,6 @@
 use Rattle.std.proofs.Common.{◌≡◌, ◌+◌, ◌-◌, ◌*◌}
-use Rattle.virt_traps.specs.SaveArea.{with_registers, words_at}
+use Rattle.guest_bus.specs.Words.{words_at}
+use Rattle.virt_traps.specs.SaveArea.{with_registers}
 use Rattle.virt_traps.proofs.save_area.load_registers.Given as goal
 
 abbrev pub invariant-loop-i : goal.invariant-loop-i

@@ -1,6 +1,6 @@
 use Rattle.std.proofs.Common.{◌≡◌, ◌*◌, true}
 use Rattle.guest_bus.specs.Memory.{is_readable}
-use Rattle.virt_traps.specs.SaveArea.{allows}
+use Rattle.guest_bus.specs.Words.{allows}
 use Rattle.virt_traps.proofs.save_area.may_all_be_read.Given as goal
 
 abbrev pub invariant-loop-i : goal.invariant-loop-i

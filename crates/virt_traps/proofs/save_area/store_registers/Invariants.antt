@@ -1,6 +1,7 @@
 use Rattle.std.proofs.Common.{◌≡◌, ◌+◌, ◌-◌, ◌*◌}
 use Rattle.guest_bus.specs.Memory.{with_bytes}
-use Rattle.virt_traps.specs.SaveArea.{bytes_of, registers_from}
+use Rattle.guest_bus.specs.Words.{bytes_of}
+use Rattle.virt_traps.specs.SaveArea.{registers_from}
 use Rattle.virt_traps.proofs.save_area.store_registers.Given as goal
 
 abbrev pub invariant-loop-i : goal.invariant-loop-i
