@@ -1,6 +1,7 @@
 -- Registers of which the current window is kept apart, each register of it by its number.
+use borrow.Rule.Slice.PartMut.{put_mid}
 use Rattle.std.specs.Prelude.{◌≡◌, ◌≢◌, ◌<◌, length, ℕ, zero, suc, ◌+◌, ◌-◌, ◌*◌, ◌%◌, Bool, ◌&&◌, nat_le, nat_lt, if◌then◌else◌, List, [], ◌∷◌, take, slice_index}
-use Rattle.sparc_step.specs.Registers.{Registers}
+use Rattle.sparc_step.specs.Registers.{Registers, ins_place}
 
 -- a function of the numbers below a bound, as a list
 abbrev pub table : (ℕ → ℕ) → ℕ → List ℕ
@@ -11,12 +12,9 @@ table f (suc n) = f 0 ∷ table (λ k. f (suc k)) n
 abbrev pub lies_in : ℕ → ℕ → ℕ → Bool
 lies_in from count k = nat_le from k && nat_lt k (from + count)
 
--- where the outs and locals of the window stand, and where its ins
+-- where the outs and locals of the window stand
 abbrev pub own_place : ℕ → ℕ
 own_place window = 16 * window
-
-abbrev pub ins_place : ℕ → ℕ
-ins_place window = 16 * ((window + 1) % 8)
 
 -- the word at a place of the windows: that at hand, where it is the current window's
 abbrev pub word_at : ℕ → List ℕ → List ℕ → ℕ → ℕ
@@ -53,3 +51,7 @@ pub record IsAtHand (pc npc y icc cwp inv : ℕ) (hand windows : List ℕ) : Typ
   pub zero : slice_index hand 0 ≡ 0
   pub at_hand : length hand ≡ 32
   pub eight_windows : length windows ≡ 128
+
+-- words of which the first eight are others
+unfoldable pub with_first : List ℕ → List ℕ → List ℕ
+with_first words first = put_mid 0 8 words first

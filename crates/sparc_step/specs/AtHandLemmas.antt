@@ -6,8 +6,8 @@ use Rattle.std.proofs.lemmas.Bool.Decides.{nat_tests}
 use Rattle.std.proofs.lemmas.Slice.{take-put_mid_below}
 use Rattle.std.proofs.lemmas.List.{same_lists, places, get_or-set_same, get_or-set_other, get_or-take, get_or-drop, length-set}
 use Rattle.std.specs.Prelude.{ℕ, zero, suc, ◌+◌, ◌-◌, ◌*◌, ◌%◌, ◌<◌, ◌≤◌, Bool, true, false, nat_lt, ◌==◌, if◌then◌else◌, List, ◌++◌, length, take, drop, slice_index, slice_set, get_or}
-use Rattle.sparc_step.specs.AtHand.{IsAtHand, gathered, ins_place, lies_in, own_place, table, windows_with, word_at}
-use Rattle.sparc_step.specs.Registers.{AreRegisters, place_in_windows, register_at, with_register}
+use Rattle.sparc_step.specs.AtHand.{IsAtHand, gathered, lies_in, own_place, table, windows_with, with_first, word_at}
+use Rattle.sparc_step.specs.Registers.{AreRegisters, Registers, ins_place, locals_and_ins, locals_place, place_in_windows, register_at, with_locals_and_ins, with_register, with_saved}
 
 -- a table has as many numbers as were asked for
 pub length-table : (f : ℕ → ℕ) (n : ℕ) → length (table f n) ≡ n
@@ -360,3 +360,199 @@ front_written count new ys rest is counted = ap (λ (xs : List ℕ). take count 
 pub gathered_from : (pc npc y icc cwp inv : ℕ) (globals windows first hand : List ℕ) → take 8 first ≡ globals → take 8 hand ≡ take 8 first → windows_with cwp hand windows ≡ windows → gathered pc npc y icc cwp inv hand windows ≡ record { pc = pc; npc = npc; y = y; icc = icc; cwp = cwp; inv = inv; globals = globals; windows = windows }
 gathered_from pc npc y icc cwp inv globals windows first hand first_is front words =
     sym (gathered-same pc npc y icc cwp inv hand windows globals windows (sym (front ∙ first_is)) (sym words))
+
+-- what stands apart from what is at hand
+pub record IsAway (cwp from count : ℕ) : Type 0 where
+  pub own : (from + count ≤ own_place cwp) ⊎ (own_place cwp + 16 ≤ from)
+  pub ins : (from + count ≤ ins_place cwp) ⊎ (ins_place cwp + 8 ≤ from)
+
+away_at : (a b from count k : ℕ) → (from + count ≤ a) ⊎ (b ≤ from) → from ≤ k → k < from + count → (k < a) ⊎ (b ≤ k)
+away_at a b from count k (inl below) low high = inl (omega arith)
+away_at a b from count k (inr above) low high = inr (omega arith)
+
+-- a word of it is that of the windows
+pub word_away : (cwp : ℕ) (hand windows : List ℕ) (from count k : ℕ) → IsAway cwp from count → from ≤ k → k < from + count → word_at cwp hand windows k ≡ slice_index windows k
+word_away cwp hand windows from count k away low high =
+    word_at-other cwp hand windows k (away_at (own_place cwp) (own_place cwp + 16) from count k away.own low high) (away_at (ins_place cwp) (ins_place cwp + 8) from count k away.ins low high)
+
+-- and so is a part of it
+pub part_away : (cwp : ℕ) (hand windows : List ℕ) (from count : ℕ) → length windows ≡ 128 → from + count ≤ 128 → IsAway cwp from count → take count (drop from (windows_with cwp hand windows)) ≡ take count (drop from windows)
+unfolding windows_with
+part_away cwp hand windows from count whole fits away = same_lists _ _ counted each
+  where
+    all : List ℕ
+    all = table (word_at cwp hand windows) 128
+
+    sized : length all ≡ 128
+    sized = length-table (word_at cwp hand windows) 128
+
+    counted : length (take count (drop from all)) ≡ length (take count (drop from windows))
+    counted = length-part all from count (omega (arith, sized)) ∙ sym (length-part windows from count (omega (arith, whole)))
+
+    each : (k d : ℕ) → k < length (take count (drop from all)) → get_or (take count (drop from all)) k d ≡ get_or (take count (drop from windows)) k d
+    each k d h =
+        let below : k < count = omega (arith, length-part all from count (omega (arith, sized))) in
+        get_or-take count (drop from all) k d below ∙ get_or-drop from all k d
+        ∙ get_or-table (word_at cwp hand windows) 128 (from + k) d (omega arith)
+        ∙ word_away cwp hand windows from count (from + k) away (omega arith) (omega arith)
+        ∙ default (from + k) d (omega (arith, whole))
+        ∙ sym (get_or-take count (drop from windows) k d below ∙ get_or-drop from windows k d)
+      where
+        default : (j d : ℕ) → j < length windows → get_or windows j 0 ≡ get_or windows j d
+        default j d h = grind (arith, places)
+
+-- what is written to it is written to the windows
+pub put_away : (cwp : ℕ) (hand windows words : List ℕ) (from count : ℕ) → length windows ≡ 128 → from + count ≤ 128 → length words ≡ count → IsAway cwp from count
+    → windows_with cwp hand (put_mid from count windows words) ≡ put_mid from count (windows_with cwp hand windows) words
+unfolding windows_with
+put_away cwp hand windows words from count whole fits counted away =
+    table-of (word_at cwp hand put) _ 128 (length-put_mid all words from count counted (omega (arith, sized)) ∙ sized) each
+  where
+    put : List ℕ
+    put = put_mid from count windows words
+
+    all : List ℕ
+    all = table (word_at cwp hand windows) 128
+
+    sized : length all ≡ 128
+    sized = length-table (word_at cwp hand windows) 128
+
+    inside : (k : ℕ) → from ≤ k → k < from + count → word_at cwp hand put k ≡ slice_index (put_mid from count all words) k
+    inside k low high =
+        word_away cwp hand put from count k away low high
+        ∙ get_or-put_mid windows words from count k counted (omega (arith, whole)) low high
+        ∙ sym (get_or-put_mid all words from count k counted (omega (arith, sized)) low high)
+
+    same_word : (k : ℕ) → (k < from) ⊎ (from + count ≤ k) → word_at cwp hand put k ≡ word_at cwp hand windows k
+    same_word k apart = lies_or (own_place cwp) 16 k
+        (λ low high. word_at-own cwp hand put k low high ∙ sym (word_at-own cwp hand windows k low high))
+        (λ other. lies_or (ins_place cwp) 8 k
+        (λ low high. word_at-ins cwp hand put k other low high ∙ sym (word_at-ins cwp hand windows k other low high))
+        (λ neither. word_at-other cwp hand put k other neither
+        ∙ get_or-put_mid_other windows words from count k counted (omega (arith, whole)) apart
+        ∙ sym (word_at-other cwp hand windows k other neither)))
+
+    outside : (k : ℕ) → k < 128 → (k < from) ⊎ (from + count ≤ k) → word_at cwp hand put k ≡ slice_index (put_mid from count all words) k
+    outside k small apart =
+        same_word k apart
+        ∙ sym (get_or-table (word_at cwp hand windows) 128 k 0 small)
+        ∙ sym (get_or-put_mid_other all words from count k counted (omega (arith, sized)) apart)
+
+    each : (k : ℕ) → k < 128 → word_at cwp hand put k ≡ slice_index (put_mid from count all words) k
+    each k small = lies_or from count k (inside k) (outside k small)
+
+-- the locals and the ins of a window of which nothing is at hand
+locals_away : (cwp window : ℕ) → cwp < 8 → window < 8 → window ≢ cwp → IsAway cwp (locals_place window) 8
+locals_away cwp window current small other = record { own = of_own (cases_lt window cwp); ins = of_ins (cases_lt window ((cwp + 1) % 8)) }
+  where
+    of_own : (window < cwp) ⊎ (cwp ≤ window) → (locals_place window + 8 ≤ own_place cwp) ⊎ (own_place cwp + 16 ≤ locals_place window)
+    of_own (inl below) = inl (omega arith)
+    of_own (inr above) = inr (omega arith)
+
+    of_ins : (window < (cwp + 1) % 8) ⊎ ((cwp + 1) % 8 ≤ window) → (locals_place window + 8 ≤ ins_place cwp) ⊎ (ins_place cwp + 8 ≤ locals_place window)
+    of_ins (inl below) = inl (omega arith)
+    of_ins (inr above) = inr (omega arith)
+
+ins_away : (cwp window : ℕ) → cwp < 8 → window < 8 → window ≢ cwp → (window + 1) % 8 ≢ cwp → IsAway cwp (ins_place window) 8
+ins_away cwp window current small other above_other = record { own = of_own (cases_lt ((window + 1) % 8) cwp); ins = of_ins (cases_lt ((window + 1) % 8) ((cwp + 1) % 8)) }
+  where
+    of_own : ((window + 1) % 8 < cwp) ⊎ (cwp ≤ (window + 1) % 8) → (ins_place window + 8 ≤ own_place cwp) ⊎ (own_place cwp + 16 ≤ ins_place window)
+    of_own (inl below) = inl (omega arith)
+    of_own (inr above) = inr (omega arith)
+
+    of_ins : ((window + 1) % 8 < (cwp + 1) % 8) ⊎ ((cwp + 1) % 8 ≤ (window + 1) % 8) → (ins_place window + 8 ≤ ins_place cwp) ⊎ (ins_place cwp + 8 ≤ ins_place window)
+    of_ins (inl below) = inl (omega arith)
+    of_ins (inr above) = inr (omega arith)
+
+-- the stack pointer of a window is not at hand
+pub stack_away : (cwp window : ℕ) (hand windows : List ℕ) → cwp < 8 → window < 8 → window ≢ cwp → window ≢ (cwp + 1) % 8 → slice_index (windows_with cwp hand windows) (16 * window + 6) ≡ slice_index windows (16 * window + 6)
+unfolding windows_with
+stack_away cwp window hand windows current small other above =
+    get_or-table (word_at cwp hand windows) 128 (16 * window + 6) 0 (omega arith)
+    ∙ word_at-other cwp hand windows (16 * window + 6) (of_own (cases_lt window cwp)) (of_ins (cases_lt window ((cwp + 1) % 8)))
+  where
+    of_own : (window < cwp) ⊎ (cwp ≤ window) → (16 * window + 6 < own_place cwp) ⊎ (own_place cwp + 16 ≤ 16 * window + 6)
+    of_own (inl below) = inl (omega arith)
+    of_own (inr from) = inr (omega arith)
+
+    of_ins : (window < (cwp + 1) % 8) ⊎ ((cwp + 1) % 8 ≤ window) → (16 * window + 6 < ins_place cwp) ⊎ (ins_place cwp + 8 ≤ 16 * window + 6)
+    of_ins (inl below) = inl (omega arith)
+    of_ins (inr from) = inr (omega arith)
+
+-- the locals and ins of a window
+pub saved_away : (cwp window : ℕ) (hand windows : List ℕ) → cwp < 8 → window < 8 → length windows ≡ 128 → window ≢ cwp → (window + 1) % 8 ≢ cwp
+    → locals_and_ins (windows_with cwp hand windows) window ≡ take 8 (drop (locals_place window) windows) ++ take 8 (drop (ins_place window) windows)
+unfolding locals_and_ins
+saved_away cwp window hand windows current small whole other above_other =
+    ap (λ (xs : List ℕ). xs ++ take 8 (drop (ins_place window) (windows_with cwp hand windows))) (part_away cwp hand windows (locals_place window) 8 whole (omega arith) (locals_away cwp window current small other))
+    ∙ ap (λ (xs : List ℕ). take 8 (drop (locals_place window) windows) ++ xs) (part_away cwp hand windows (ins_place window) 8 whole (omega arith) (ins_away cwp window current small other above_other))
+
+-- and others in their place
+pub with_saved_away : (cwp window : ℕ) (hand windows words : List ℕ) → cwp < 8 → window < 8 → length windows ≡ 128 → length words ≡ 16 → window ≢ cwp → (window + 1) % 8 ≢ cwp
+    → windows_with cwp hand (put_mid (ins_place window) 8 (put_mid (locals_place window) 8 windows (take 8 words)) (drop 8 words)) ≡ with_locals_and_ins (windows_with cwp hand windows) window words
+unfolding with_locals_and_ins
+with_saved_away cwp window hand windows words current small whole counted other above_other =
+    put_away cwp hand once (drop 8 words) (ins_place window) 8 (length-put_mid windows (take 8 words) (locals_place window) 8 front (omega (arith, whole)) ∙ whole) (omega arith) (length-rest words 8 8 (omega (arith, counted))) (ins_away cwp window current small other above_other)
+    ∙ ap (λ (xs : List ℕ). put_mid (ins_place window) 8 xs (drop 8 words)) (put_away cwp hand windows (take 8 words) (locals_place window) 8 whole (omega arith) front (locals_away cwp window current small other))
+  where
+    once : List ℕ
+    once = put_mid (locals_place window) 8 windows (take 8 words)
+
+    front : length (take 8 words) ≡ 8
+    front = length-part words 0 8 (omega (arith, counted))
+
+-- two parts, written one behind the other
+two_parts_of : (n m : ℕ) (words first second : List ℕ) → length words ≡ n + m → length first ≡ n → length second ≡ m → put_mid n m (put_mid 0 n words first) second ≡ first ++ second
+two_parts_of n m words first second counted one two = same_lists _ _ (grind (arith, places)) (λ k d h. grind (arith, places))
+
+two_parts : (words first second : List ℕ) → length words ≡ 16 → length first ≡ 8 → length second ≡ 8 → put_mid 8 8 (put_mid 0 8 words first) second ≡ first ++ second
+two_parts words first second counted one two = two_parts_of 8 8 words first second counted one two
+
+-- the same of registers that are seen so
+module _ (pc npc y icc cwp inv : ℕ) (hand windows : List ℕ) (now : Registers) (seen : gathered pc npc y icc cwp inv hand windows ≡ now) (at_hand : IsAtHand pc npc y icc cwp inv hand windows) (window : ℕ) (small : window < 8) where
+  current_is : cwp ≡ now.cwp
+  unfolding gathered
+  current_is = ap (λ (r : Registers). r.cwp) seen
+
+  other_is : window ≢ now.cwp → window ≢ cwp
+  other_is other e = other (e ∙ current_is)
+
+  below_is : (window + 1) % 8 ≢ now.cwp → (window + 1) % 8 ≢ cwp
+  below_is below e = below (e ∙ current_is)
+
+  above_is : window ≢ (now.cwp + 1) % 8 → window ≢ (cwp + 1) % 8
+  above_is above e = above (e ∙ ap (λ (n : ℕ). (n + 1) % 8) current_is)
+
+  pub windows_seen : length now.windows ≡ 128
+  unfolding gathered windows_with
+  windows_seen = sym (ap (λ (r : Registers). length r.windows) seen) ∙ length-table (word_at cwp hand windows) 128
+
+  pub stack_seen : (value : ℕ) → window ≢ now.cwp → window ≢ (now.cwp + 1) % 8 → value ≡ slice_index windows (16 * window + 6) → value ≡ slice_index now.windows (16 * window + 6)
+  unfolding gathered
+  stack_seen value other above is =
+      is ∙ sym (stack_away cwp window hand windows at_hand.current_window small (other_is other) (above_is above)) ∙ ap (λ (r : Registers). slice_index r.windows (16 * window + 6)) seen
+
+  pub saved_seen : (locals ins : ℕ) (zeros once twice : List ℕ) → window ≢ now.cwp → (window + 1) % 8 ≢ now.cwp → locals ≡ locals_place window → ins ≡ ins_place window → length zeros ≡ 16
+      → once ≡ with_first zeros (take 8 (drop locals windows)) → twice ≡ put_mid 8 8 once (take 8 (drop ins windows)) → twice ≡ locals_and_ins now.windows window
+  unfolding gathered with_first
+  saved_seen locals ins zeros once twice other below locals_is ins_are sixteen once_is twice_is =
+      twice_is
+      ∙ ap (λ (xs : List ℕ). put_mid 8 8 xs (take 8 (drop ins windows))) once_is
+      ∙ two_parts zeros (take 8 (drop locals windows)) (take 8 (drop ins windows)) sixteen (length-part windows locals 8 (omega (arith, at_hand.eight_windows))) (length-part windows ins 8 (omega (arith, at_hand.eight_windows)))
+      ∙ ap (λ (n : ℕ). take 8 (drop n windows) ++ take 8 (drop ins windows)) locals_is
+      ∙ ap (λ (n : ℕ). take 8 (drop (locals_place window) windows) ++ take 8 (drop n windows)) ins_are
+      ∙ sym (saved_away cwp window hand windows at_hand.current_window small at_hand.eight_windows (other_is other) (below_is below))
+      ∙ ap (λ (r : Registers). locals_and_ins r.windows window) seen
+
+  pub put_seen : (locals ins : ℕ) (words once twice : List ℕ) → window ≢ now.cwp → (window + 1) % 8 ≢ now.cwp → locals ≡ locals_place window → ins ≡ ins_place window → length words ≡ 16
+      → once ≡ put_mid locals 8 windows (take 8 words) → twice ≡ put_mid ins 8 once (drop 8 words) → gathered pc npc y icc cwp inv hand twice ≡ with_saved now window words
+  unfolding gathered with_saved
+  put_seen locals ins words once twice other below locals_is ins_are sixteen once_is twice_is =
+      ap (gathered pc npc y icc cwp inv hand)
+      (twice_is
+      ∙ ap (λ (xs : List ℕ). put_mid ins 8 xs (drop 8 words)) once_is
+      ∙ ap (λ (n : ℕ). put_mid ins 8 (put_mid n 8 windows (take 8 words)) (drop 8 words)) locals_is
+      ∙ ap (λ (n : ℕ). put_mid n 8 (put_mid (locals_place window) 8 windows (take 8 words)) (drop 8 words)) ins_are)
+      ∙ sym (gathered-same pc npc y icc cwp inv hand (put_mid (ins_place window) 8 (put_mid (locals_place window) 8 windows (take 8 words)) (drop 8 words)) (take 8 hand) (with_locals_and_ins (windows_with cwp hand windows) window words) refl
+      (sym (with_saved_away cwp window hand windows words at_hand.current_window small at_hand.eight_windows sixteen (other_is other) (below_is below))))
+      ∙ ap (λ (r : Registers). with_saved r window words) seen

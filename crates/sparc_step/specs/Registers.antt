@@ -1,5 +1,6 @@
 -- The registers that a guest's program sees, in windows.
-use Rattle.std.specs.Prelude.{◌≡◌, ◌≢◌, ℕ, ◌+◌, ◌-◌, ◌*◌, ◌%◌, ◌^◌, ◌<◌, nat_lt, ◌==◌, if◌then◌else◌, List, length, replicate, slice_index, slice_set}
+use borrow.Rule.Slice.PartMut.{put_mid}
+use Rattle.std.specs.Prelude.{◌≡◌, ◌≢◌, ℕ, ◌+◌, ◌-◌, ◌*◌, ◌%◌, ◌^◌, ◌<◌, nat_lt, ◌==◌, if◌then◌else◌, List, ◌++◌, length, take, drop, replicate, slice_index, slice_set}
 
 -- the two program counters, Y, the condition codes, the current and the invalid window, and the numbered registers
 pub record Registers : Type 0 where
@@ -84,3 +85,27 @@ with_y r y = record r { y = y }
 -- the registers with other condition codes
 unfoldable pub with_icc : Registers → ℕ → Registers
 with_icc r icc = record r { icc = icc }
+
+-- the registers with another window invalid
+unfoldable pub with_inv : Registers → ℕ → Registers
+with_inv r window = record r { inv = window }
+
+-- where the locals of a window stand, and where its ins
+abbrev pub locals_place : ℕ → ℕ
+locals_place window = 16 * window + 8
+
+abbrev pub ins_place : ℕ → ℕ
+ins_place window = 16 * ((window + 1) % 8)
+
+-- the locals of a window, and behind them its ins
+unfoldable pub locals_and_ins : List ℕ → ℕ → List ℕ
+locals_and_ins windows window = take 8 (drop (locals_place window) windows) ++ take 8 (drop (ins_place window) windows)
+
+-- the windows with other locals and ins of one of them
+unfoldable pub with_locals_and_ins : List ℕ → ℕ → List ℕ → List ℕ
+with_locals_and_ins windows window words =
+    put_mid (ins_place window) 8 (put_mid (locals_place window) 8 windows (take 8 words)) (drop 8 words)
+
+-- the registers with other locals and ins of a window
+unfoldable pub with_saved : Registers → ℕ → List ℕ → Registers
+with_saved r window words = record r { windows = with_locals_and_ins r.windows window words }

@@ -1,20 +1,25 @@
 //! The registers as a processor has them at hand.
 
 ghost use borrow.Rule.Slice.PartMut.{put_mid};
-ghost use Rattle.std.specs.Prelude.{◌≡◌, ◌≢◌, ◌*◌, ◌+◌, ◌%◌, ◌<◌, ◌≤◌, drop, length, take};
-ghost use Rattle.sparc_step.specs.AtHand.{ins_place, own_place, windows_with};
+ghost use Rattle.std.specs.Prelude.{◌≡◌, ◌≢◌, ◌*◌, ◌+◌, ◌%◌, ◌<◌, ◌≤◌, ◌++◌, drop, length, slice_index, take};
+ghost use Rattle.sparc_step.specs.AtHand.{own_place, windows_with, with_first};
 ghost use Rattle.sparc_step.specs.AtHandLemmas.{put_at};
 ghost use Rattle.sparc_step.specs.Registers.{
   AreRegisters,
   advanced,
   branched,
   in_window,
+  ins_place,
+  locals_and_ins,
+  locals_place,
   placed,
   register_at,
   sent,
   skipped,
   with_icc,
+  with_inv,
   with_register,
+  with_saved,
   with_y,
 };
 
@@ -26,14 +31,14 @@ use std::marker::Model;
 /// It is the form for many instructions: a `Core` is taken to hand before them, and asked for after.
 #[derive(Debug, Drop)]
 pub struct Processor {
+    // The registers of the current window. They stand first, so that one address serves for them and for all else.
+    hand: [u32; 32],
     pc: u32,
     npc: u32,
     y: u32,
     icc: u8,
     cwp: u8,
     inv: u8,
-    // The registers of the current window.
-    hand: [u32; 32],
     // The windows; what stands here of the current one is out of date.
     windows: [u32; 128],
 }
@@ -154,6 +159,60 @@ impl Processor {
         ensures below { result < 8 }
     {
         self.inv
+    }
+
+    /// Makes another window that which a program may not enter.
+    #[tactic(auto, unfolding(crate::specs::Registers::with_inv, crate::specs::AtHand::gathered))]
+    pub fn set_inv(&mut self, window: u8)
+        requires window { window < 8 }
+        requires other { window ≢ self.old.cwp }
+        ensures { self.new ≡ with_inv self.old window }
+    {
+        self.inv = window;
+    }
+
+    /// The stack pointer of a window, which is neither the current one nor the one above it.
+    #[inline(always)]
+    pub fn stack_of(&self, window: u8) -> u32
+        requires window { window < 8 }
+        requires other { window ≢ self.now.cwp }
+        requires above { window ≢ (self.now.cwp + 1) % 8 }
+        ensures { result ≡ slice_index self.now.windows (16 * window + 6) }
+    {
+        self.windows[16 * usize::from(window) + 6]
+    }
+
+    /// The locals of a window, and behind them its ins. The window is neither the current one nor the one below it.
+    #[inline(always)]
+    pub fn saved(&self, window: u8) -> [u32; 16]
+        requires window { window < 8 }
+        requires other { window ≢ self.now.cwp }
+        requires below { (window + 1) % 8 ≢ self.now.cwp }
+        ensures saved { result ≡ locals_and_ins self.now.windows window }
+        ensures whole { length self.now.windows ≡ 128 }
+    {
+        let mut words = [0; 16];
+        take_first(&mut words, &self.windows, 16 * usize::from(window) + 8);
+        take_second(
+            &mut words,
+            &self.windows,
+            16 * usize::from((window + 1) % 8),
+        );
+        words
+    }
+
+    /// Puts the locals of a window, and its ins. The window is neither the current one nor the one below it.
+    #[inline(always)]
+    pub fn put_saved(&mut self, window: u8, words: &[u32; 16])
+        requires window { window < 8 }
+        requires other { window ≢ self.old.cwp }
+        requires below { (window + 1) % 8 ≢ self.old.cwp }
+        ensures put { self.new ≡ with_saved self.old window words.now }
+        ensures current { self.new.cwp ≡ self.old.cwp }
+        ensures whole { length self.old.windows ≡ 128 }
+    {
+        give_first(&mut self.windows, words, 16 * usize::from(window) + 8);
+        give_second(&mut self.windows, words, 16 * usize::from((window + 1) % 8));
     }
 
     /// The value of a register of the current window.
@@ -334,4 +393,46 @@ fn write_ins(windows: &mut [u32], hand: &[u32], at: usize)
     ensures { windows.new ≡ put_mid at 8 windows.old (drop 24 hand.now) }
 {
     windows[at..at + 8].copy_from_slice(&hand[24..]);
+}
+
+// Takes eight words of the windows from a place on as the first of sixteen.
+#[inline(always)]
+#[tactic(auto, unfolding(crate::specs::AtHand::with_first))]
+fn take_first(words: &mut [u32], windows: &[u32], at: usize)
+    requires words { length words.old ≡ 16 }
+    requires windows { at + 8 ≤ length windows.now }
+    ensures { words.new ≡ with_first words.old (take 8 (drop at windows.now)) }
+{
+    words[0..8].copy_from_slice(&windows[at..at + 8]);
+}
+
+// Takes eight words of the windows from a place on as the second of sixteen.
+#[inline(always)]
+fn take_second(words: &mut [u32], windows: &[u32], at: usize)
+    requires words { length words.old ≡ 16 }
+    requires windows { at + 8 ≤ length windows.now }
+    ensures { words.new ≡ put_mid 8 8 words.old (take 8 (drop at windows.now)) }
+{
+    words[8..16].copy_from_slice(&windows[at..at + 8]);
+}
+
+// Puts the first eight of sixteen words into the windows from a place on.
+#[inline(always)]
+fn give_first(windows: &mut [u32], words: &[u32], at: usize)
+    requires words { length words.now ≡ 16 }
+    requires windows { at + 8 ≤ length windows.old }
+    ensures put { windows.new ≡ put_mid at 8 windows.old (take 8 words.now) }
+    ensures counted { length words.now ≡ 16 }
+{
+    windows[at..at + 8].copy_from_slice(&words[..8]);
+}
+
+// Puts the second eight of sixteen words into the windows from a place on.
+#[inline(always)]
+fn give_second(windows: &mut [u32], words: &[u32], at: usize)
+    requires words { length words.now ≡ 16 }
+    requires windows { at + 8 ≤ length windows.old }
+    ensures { windows.new ≡ put_mid at 8 windows.old (drop 8 words.now) }
+{
+    windows[at..at + 8].copy_from_slice(&words[8..]);
 }
