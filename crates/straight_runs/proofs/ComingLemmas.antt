@@ -7,7 +7,8 @@ use Rattle.sparc_code.specs.Decoded.{decoded}
 use Rattle.sparc_step.specs.Execution.{done, executed}
 use Rattle.sparc_step.specs.Registers.{Registers, placed}
 use Rattle.straight_runs.specs.Coming.{IsCame}
-use Rattle.straight_runs.specs.Runs.{AreSteps, no_steps, one_more, word_more}
+use Rattle.straight_runs.specs.Runs.{AreSteps, no_steps, one_more, one_settled, word_more}
+use Rattle.straight_runs.specs.Shifts.{IsShift}
 use Rattle.straight_runs.specs.Steps.{IsStep}
 use Rattle.straight_runs.specs.Tables.{IsRowFor}
 use Rattle.straight_runs.specs.TurnLemmas.{turned-word}
@@ -41,6 +42,30 @@ pub came_behind : (raw origin at to : ℕ) (row : Row) (areas : List Area) (core
 came_behind raw origin at to row areas core old new memory there after stands is goes steps =
     followed 2 origin to areas (at_place origin at core) new memory after
     (word_more 1 (swapped raw) (word_address origin (at + 1)) (word_address origin to) areas (at_place origin at core) old new memory there after steps stands (goes (decoded (swapped raw)) is.spelled))
+
+-- it went on with the spill or the fill that it needed
+pub came_shifted : (raw origin at pc : ℕ) (row : Row) (here areas : List Area) (old mid new : Registers) (memory there after : Memory)
+    → fetched areas memory (word_address origin at) ≡ Ok (swapped raw) → IsRowFor raw row → mid ≡ old → there ≡ memory → here ≡ areas → pc ≡ word_address origin at → IsShift row pc here mid new there after
+    → IsCame Next origin at areas old new memory after
+came_shifted raw origin at pc row here areas old mid new memory there after stands is same bytes areas_same pc_is placed_shifts =
+    let shifts = subst (λ (a : ℕ). IsShift row a here mid new there after) pc_is placed_shifts in
+    let shifted = subst (λ (a : List Area). IsShift row (word_address origin at) a old new memory after) areas_same
+    (subst (λ (m : Memory). IsShift row (word_address origin at) here old new m after) bytes (subst (λ (r : Registers). IsShift row (word_address origin at) here r new there after) same shifts)) in
+    followed 1 origin (at + 1) areas (at_place origin at old) new memory after
+    (one_settled 0 areas (at_place origin at old) (at_place origin at old) (placed (word_address origin (at + 1)) ((word_address origin (at + 1) + 4) % 2 ^ 32) new) memory memory after
+    (no_steps areas (at_place origin at old) memory) (shifted (word_address origin (at + 1)) (swapped raw) stands is.spelled))
+
+-- so did the row in its delay slot
+pub came_behind_shifted : (raw origin at to pc : ℕ) (row : Row) (here areas : List Area) (core old mid new : Registers) (memory there now after : Memory)
+    → fetched areas there (word_address origin (at + 1)) ≡ Ok (swapped raw) → IsRowFor raw row → mid ≡ old → now ≡ there → here ≡ areas → pc ≡ word_address origin (at + 1) → IsShift row pc here mid new now after
+    → AreSteps 1 areas (at_place origin at core) memory (at_slot origin (at + 1) to old) there → IsCame (Turn to) origin at areas core new memory after
+came_behind_shifted raw origin at to pc row here areas core old mid new memory there now after stands is same bytes areas_same pc_is placed_shifts steps =
+    let shifts = subst (λ (a : ℕ). IsShift row a here mid new now after) pc_is placed_shifts in
+    let shifted = subst (λ (a : List Area). IsShift row (word_address origin (at + 1)) a old new there after) areas_same
+    (subst (λ (m : Memory). IsShift row (word_address origin (at + 1)) here old new m after) bytes (subst (λ (r : Registers). IsShift row (word_address origin (at + 1)) here r new now after) same shifts)) in
+    followed 2 origin to areas (at_place origin at core) new memory after
+    (one_settled 1 areas (at_place origin at core) (at_slot origin (at + 1) to old) (placed (word_address origin to) ((word_address origin to + 4) % 2 ^ 32) new) memory there after steps
+    (shifted (word_address origin to) (swapped raw) stands is.spelled))
 
 -- it did not, and changed nothing
 pub came_slot : (origin at to : ℕ) (areas : List Area) (core old new : Registers) (memory there after : Memory)

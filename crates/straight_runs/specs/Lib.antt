@@ -14,4 +14,7 @@ pub mod StepLemmas
 pub mod WindowLemmas
 pub mod TurnLemmas
 pub mod RareLemmas
+pub mod Shifts
+pub mod ShiftLemmas
+pub mod SavedLemmas
 pub mod TurningLemmas

@@ -31,17 +31,23 @@ settled-went areas core memory after new is = ap (λ (t : Turned). answered t.tu
 next_settled : (t : Turned) (areas : List Area) → t.turn ≡ Went → then_settled t.turn areas t ≡ settled areas t.core t.memory
 next_settled t areas went = ap (λ (turn : Turn). then_settled turn areas t) went
 
-pub one_more : (count : ℕ) (areas : List Area) (core here after : Registers) (memory there new : Memory)
-    → AreSteps count areas core memory here there → turned areas here there ≡ done after new → AreSteps (suc count) areas core memory after new
-one_more count areas core here after memory there new steps is =
+pub one_settled : (count : ℕ) (areas : List Area) (core here after : Registers) (memory there new : Memory)
+    → AreSteps count areas core memory here there → settled areas here there ≡ done after new → AreSteps (suc count) areas core memory after new
+one_settled count areas core here after memory there new steps is =
     let t = stepped count areas core memory in
     let one : stepped (suc count) areas core memory ≡ done after new =
     next_settled t areas steps.went
     ∙ ap (λ (r : Registers). settled areas r t.memory) (sym steps.registers)
     ∙ ap (λ (m : Memory). settled areas here m) (sym steps.bytes)
-    ∙ settled-went areas here there after new is
+    ∙ is
     in
     record { went = ap (λ (x : Turned). x.turn) one; registers = sym (ap (λ (x : Turned). x.core) one); bytes = sym (ap (λ (x : Turned). x.memory) one) }
+
+-- one that needed no window
+pub one_more : (count : ℕ) (areas : List Area) (core here after : Registers) (memory there new : Memory)
+    → AreSteps count areas core memory here there → turned areas here there ≡ done after new → AreSteps (suc count) areas core memory after new
+one_more count areas core here after memory there new steps is =
+    one_settled count areas core here after memory there new steps (settled-went areas here there after new is)
 
 -- the word at pc goes on to the next one
 pub word_more : (count word pc npc : ℕ) (areas : List Area) (core old new : Registers) (memory there after : Memory)

@@ -8,6 +8,7 @@ mod places;
 mod rare;
 mod rows;
 mod running;
+mod shifting;
 mod simple;
 mod table;
 mod turning;

@@ -9,8 +9,10 @@ ghost use Rattle.straight_runs.specs.Runs.{AreSteps};
 ghost use Rattle.straight_runs.specs.Tables.{AreRows};
 ghost use Rattle.straight_runs.specs.Turning.{at_place, at_slot};
 
-use crate::places::{Code, number};
+use crate::kinds;
+use crate::places::{Code, address, number};
 use crate::rows::Row;
+use crate::shifting::shift;
 use crate::simple::{Step, execute};
 use crate::table::{prepare, row_at};
 use crate::turning::{Goal, taken, turn};
@@ -67,7 +69,15 @@ pub(crate) fn one<B: HasWords>(
         Step::Stays => match turn(own, row, code.words, at) {
             Goal::Behind(to) => behind(own, bus, words, rows, code, at, to),
             Goal::Now(to) => Came::Jump(to),
-            Goal::Stays => Came::Stays,
+            Goal::Stays => {
+                if row.kind == kinds::OTHER {
+                    Came::Stays
+                } else if shift(own, bus, *row, address(code.words, at)) {
+                    Came::Next
+                } else {
+                    Came::Stays
+                }
+            }
         },
     }
 }
@@ -99,9 +109,16 @@ fn behind<B: HasWords>(
 {
     let number = number(code, at + 1);
     prepare(words, rows, number, bus.word(code.words, at + 1));
-    match execute(own, bus, row_at(rows, number)) {
+    let row = row_at(rows, number);
+    match execute(own, bus, row) {
         Step::Next => Came::Turn(to),
         Step::Taken => Came::Slot(to),
-        Step::Stays => Came::Slot(to),
+        Step::Stays => {
+            if shift(own, bus, *row, address(code.words, at + 1)) {
+                Came::Turn(to)
+            } else {
+                Came::Slot(to)
+            }
+        }
     }
 }

@@ -17,8 +17,8 @@ use sparc_step::Processor;
 // No run is longer, so that places and steps are small numbers.
 const MOST: u64 = 0x1000_0000;
 
-/// Instructions, at most so many, up to the first that is left to others: one that traps or calls, that needs a window spilled or
-/// filled, whose access is refused, or that stands away from the words around the first. The answer is how many.
+/// Instructions, at most so many, up to the first that is left to others: one that traps or calls, whose access is refused, that
+/// needs a window spilled or filled by a search, or that stands away from the words around the first. The answer is how many.
 #[inline(always)]
 pub fn run<B: HasWords>(own: &mut Processor, bus: &mut B, table: &mut Rows, most: u64) -> u64
     ensures steps { AreSteps result (B.areas bus.old) own.old (B.memory bus.old) own.new (B.memory bus.new) }
