@@ -1,11 +1,48 @@
 -- A timer that is looked at twice.
 use Rattle.std.proofs.Common.{◌≡◌, ℕ, ◌+◌, ◌-◌, ◌*◌, ◌/◌, ◌<◌, ◌≤◌, Bool, true, false, nat_lt, nat_le, ◌||◌, Option, Some, None, refl, sym, ap, ◌∙◌, arith}
 use Rattle.std.proofs.lemmas.Bool.Decides.{nat_tests}
-use Rattle.std.specs.Prelude.{◌==◌, ◌^◌, if◌then◌else◌}
+use Rattle.std.specs.Prelude.{◌==◌, ◌^◌, if◌then◌else◌, is_some}
 use Rattle.std.proofs.Math.Nat.{add-mul-div_right, div-mul-le_self, lt-div-mul-add}
 use Rattle.std.proofs.lemmas.Nat.{div-mul-add}
-use Rattle.virt_clocks.specs.Clocks.{is_due, looked_at, moved_to, next_deadline, rearmed}
+use Rattle.virt_clocks.specs.Clocks.{NoneCounted, PartitionClocks, counted, is_due, lesser, looked_at, moved_to, next_deadline, next_due, rearmed, ticks_until}
 use Rattle.virt_clocks.specs.declared.timer.Timer.{Timer}
+
+-- a timer that is not due stays as it is
+pub stays_undue : (clock : ℕ) (timer : Option Timer) → is_due clock timer ≡ false → looked_at clock timer ≡ timer
+unfolding looked_at
+stays_undue clock None undue = refl
+stays_undue clock (Some timer) undue = rw undue refl
+
+-- none of two timers is armed
+abbrev pub AreAbsent : Option Timer → Option Timer → Type 0
+AreAbsent hardware execution = (is_some hardware || is_some execution) ≡ false
+
+absent_first : (hardware execution : Option Timer) → AreAbsent hardware execution → hardware ≡ None
+absent_first None execution absent = refl
+absent_first (Some timer) execution absent = cc
+
+absent_second : (hardware execution : Option Timer) → AreAbsent hardware execution → execution ≡ None
+absent_second hardware None absent = refl
+absent_second None (Some timer) absent = cc
+absent_second (Some one) (Some timer) absent = cc
+
+counted_none : (running : Bool) → counted running None ≡ None
+counted_none true = refl
+counted_none false = refl
+
+-- no timer is counted then, and none is due
+pub none_counted : (running : Bool) (clocks : PartitionClocks) → AreAbsent clocks.hardware_timer clocks.execution_timer → NoneCounted running clocks
+none_counted running clocks absent = record {
+  hardware = absent_first clocks.hardware_timer clocks.execution_timer absent;
+  execution = ap (λ (timer : Option Timer). counted running timer) (absent_second clocks.hardware_timer clocks.execution_timer absent) ∙ counted_none running;
+}
+
+pub none_next : (now : ℕ) (running : Bool) (clocks : PartitionClocks) → AreAbsent clocks.hardware_timer clocks.execution_timer → None ≡ next_due now running clocks
+unfolding next_due
+none_next now running clocks absent =
+    let none = none_counted running clocks absent in
+    sym (ap (λ (timer : Option Timer). lesser (ticks_until now timer) (ticks_until clocks.execution (counted running clocks.execution_timer))) none.hardware
+    ∙ ap (λ (timer : Option Timer). lesser None (ticks_until clocks.execution timer)) none.execution)
 
 -- so many whole intervals, and less than one more
 whole : (span count interval : ℕ) → count * interval ≤ span → span < (count + 1) * interval → span / interval ≡ count

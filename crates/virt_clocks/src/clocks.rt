@@ -1,6 +1,6 @@
 //! The clocks of one partition.
 
-ghost use Rattle.std.specs.Prelude.{◌≡◌, ◌↔◌, ℕ, ◌+◌, ◌^◌, ◌<◌, ◌<ℤ◌, ◌⊎◌, None, pos, unsigned_abs, IfSome, IsErr, IsNone, OnErr, OnOk};
+ghost use Rattle.std.specs.Prelude.{◌≡◌, ◌↔◌, ℕ, ◌+◌, ◌^◌, ◌<◌, ◌<ℤ◌, ◌⊎◌, ◌||◌, None, pos, is_some, unsigned_abs, IfSome, IsErr, IsNone, OnErr, OnOk};
 ghost use Rattle.virt_clocks.specs.Clocks.{AreTimers, IsFirstDue, NoneCounted, armed, counted, is_due, lesser, looked_at, next_due, no_clocks, ticks_until, timer_of, with_timer};
 
 use crate::timer::{
@@ -101,29 +101,54 @@ impl Clocks {
     }
 
     /// Whether the timer on the hardware clock is due. If so, it is moved on or disarmed.
+    #[tactic(auto, using(crate::proofs::LookLemmas::stays_undue))]
     pub fn hw_due(&mut self, now: u64) -> bool
         ensures value { result ≡ is_due now self.old.hardware_timer }
         ensures timer { self.new ≡ record self.old { hardware_timer = looked_at now self.old.hardware_timer } }
     {
-        let due = is_due(now, self.hardware_timer);
+        if !is_due(now, self.hardware_timer) {
+            return false;
+        }
         self.hardware_timer = looked_at(now, self.hardware_timer);
-        due
+        true
     }
 
     /// Whether the timer on the execution clock is due. If so, it is moved on or disarmed.
+    #[tactic(auto, using(crate::proofs::LookLemmas::stays_undue))]
     pub fn exec_due(&mut self) -> bool
         ensures value { result ≡ is_due self.old.execution self.old.execution_timer }
         ensures timer { self.new ≡ record self.old { execution_timer = looked_at self.old.execution self.old.execution_timer } }
     {
-        let due = is_due(self.execution, self.execution_timer);
+        if !is_due(self.execution, self.execution_timer) {
+            return false;
+        }
         self.execution_timer = looked_at(self.execution, self.execution_timer);
-        due
+        true
     }
 
     /// How many ticks are left until a timer is due if nothing changes, 0 where one is due at once, or `None` where no
     /// timer is armed. The timer on the execution clock counts only where the partition runs.
-    #[tactic(auto, unfolding(crate::specs::Clocks::next_due))]
     pub fn next_due(&self, now: u64, running: bool) -> Option<u64>
+        ensures value { result ≡ next_due now running self.now }
+        ensures none { IsNone result ↔ NoneCounted running self.now }
+        ensures least { IfSome result (IsFirstDue now running self.now) }
+    {
+        if !self.is_armed() {
+            return None;
+        }
+        self.first_due(now, running)
+    }
+
+    // Whether a timer is armed.
+    fn is_armed(&self) -> bool
+        ensures { result ≡ (is_some self.now.hardware_timer || is_some self.now.execution_timer) }
+    {
+        self.hardware_timer.is_some() || self.execution_timer.is_some()
+    }
+
+    // The ticks that are left, where a timer is armed.
+    #[tactic(auto, unfolding(crate::specs::Clocks::next_due))]
+    fn first_due(&self, now: u64, running: bool) -> Option<u64>
         ensures value { result ≡ next_due now running self.now }
         ensures none { IsNone result ↔ NoneCounted running self.now }
         ensures least { IfSome result (IsFirstDue now running self.now) }
