@@ -1,7 +1,7 @@
 -- Calls that are shown nothing, and numbers that are no call's.
 use Rattle.std.proofs.Common.{◌≡◌, ℕ, ◌≤◌, ◌≢◌, Bool, true, false, refl, sym, ap, ◌∙◌, arith, subst}
 use Rattle.std.proofs.lemmas.Bool.Decides.{nat_tests}
-use Rattle.std.specs.Prelude.{◌==◌, if◌then◌else◌, None}
+use Rattle.std.specs.Prelude.{◌==◌, ◌+◌, ◌%◌, if◌then◌else◌, None}
 use Rattle.machine_model.specs.Caller.{Caller, Served, a_of, answering, b_of, c_of, unknown_call}
 use Rattle.machine_model.specs.Hypercalls.{call_numbered}
 use Rattle.machine_model.specs.Observed.{observing}
@@ -37,6 +37,10 @@ unseen site sys new n s answer is nothing = subst (λ (sight : Sight). IsServed 
 -- a number of no call
 abbrev pub IsUnknown : ℕ → Type 0
 IsUnknown n = (k : ℕ) → 1 ≤ k → k ≤ 37 → n ≢ k
+
+-- such a number, less 1 as a word, is 37 or more
+pub is_unknown : (n : ℕ) → 37 ≤ (n + 4294967295) % 4294967296 → IsUnknown n
+is_unknown n above k from to same = omega (arith, above, from, to, same)
 
 -- it is none of these
 differs : (n k : ℕ) → n ≢ k → (n == k) ≡ false

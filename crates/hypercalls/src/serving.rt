@@ -1,6 +1,7 @@
 //! A hypercall is served.
 
-ghost use Rattle.std.specs.Prelude.{◌≡◌, ◌%◌, ◌<◌, ◌≤◌, length};
+ghost use Rattle.std.specs.Prelude.{◌≡◌, ◌+◌, ◌%◌, ◌<◌, ◌≤◌, false, length};
+ghost use Rattle.std.specs.Bool.{OnTrue};
 ghost use Rattle.cyclic_plans.specs.PlanClock.{IsInFrame};
 ghost use Rattle.machine_model.specs.Hypercalls.{call_numbered, served};
 ghost use Rattle.slot_runs.specs.Passes.{part_at};
@@ -26,6 +27,7 @@ use xm_base::PartId;
 /// Serves the hypercall of partition `p`, whose trap instruction stood at `pc`, with `npc` behind it: its number stands in %o0, its
 /// arguments in %o1 to %o5, and its result comes to %o0. It changes its caller, the channels of the caller's ports, and of other partitions
 /// only that those that hear of a message get its interrupt.
+#[inline(always)]
 #[tactic(auto, unfolding(whole_system::specs::Serving::caller_of, whole_system::specs::Serving::caller_at, machine_model::specs::Hypercalls::served))]
 pub fn serve(sys: &mut Sys, p: PartId, pc: u32, npc: u32) -> Served
     requires partition { p < length sys.old.machine.parts }
@@ -40,6 +42,7 @@ pub fn serve(sys: &mut Sys, p: PartId, pc: u32, npc: u32) -> Served
 }
 
 // Serves the hypercall of a caller.
+#[inline(always)]
 #[tactic(auto, unfolding(machine_model::specs::Hypercalls::served))]
 fn serve_site(sys: &mut Sys, site: CallSite) -> Served
     requires caller { IsCaller site sys.old }
@@ -51,13 +54,47 @@ fn serve_site(sys: &mut Sys, site: CallSite) -> Served
     ensures { IsServed site.part (caller_of site sys.old).sight (served (caller_of site sys.old)) result sys.old sys.new }
 {
     let number = argument(sys, site, 0);
-    match number {
-        1..=11 => serve_partition_call(sys, site, number),
-        12..=15 => serve_time_call(sys, site, number),
-        16..=23 => serve_port_call(sys, site, number),
-        24..=29 => serve_log_call(sys, site, number),
-        30..=37 => serve_processor_call(sys, site, number),
-        _ => answer(sys, site, UNKNOWN_CALL),
+    if !is_call(number) {
+        return answer(sys, site, UNKNOWN_CALL);
+    }
+    serve_numbered(sys, site, number)
+}
+
+// Whether a call has this number.
+fn is_call(number: u32) -> bool
+    ensures from { OnTrue result (1 ≤ number) }
+    ensures to { OnTrue result (number ≤ 37) }
+    ensures none { result ≡ false → 37 ≤ (number + 4294967295) % 4294967296 }
+{
+    number.wrapping_sub(1) < 37
+}
+
+// Serves the call of a number.
+#[inline(never)]
+fn serve_numbered(sys: &mut Sys, site: CallSite, number: u32) -> Served
+    requires caller { IsCaller site sys.old }
+    requires number { register_at (caller_of site sys.old).state.core 8 ≡ number }
+    requires from { 1 ≤ number }
+    requires to { number ≤ 37 }
+    requires pc { site.pc % 4 ≡ 0 }
+    requires npc { site.npc % 4 ≡ 0 }
+    requires traces { (part_at site.part sys.old.machine).traces.next < 4294967295 }
+    requires shapes { sys.old.shapes ≡ shapes_of sys.old.machine.system.conf }
+    requires frame { IsInFrame sys.old.machine.system.conf sys.old.machine.clock sys.old.machine.time }
+    ensures { IsServed site.part (caller_of site sys.old).sight (call_numbered number (caller_of site sys.old)) result sys.old sys.new }
+{
+    if number < 16 {
+        if number < 12 {
+            serve_partition_call(sys, site, number)
+        } else {
+            serve_time_call(sys, site, number)
+        }
+    } else if number < 24 {
+        serve_port_call(sys, site, number)
+    } else if number < 30 {
+        serve_log_call(sys, site, number)
+    } else {
+        serve_processor_call(sys, site, number)
     }
 }
 
