@@ -13,8 +13,19 @@ use xm_base::{PartId, State};
 /// The interrupt of the hardware timer.
 const HARDWARE_TIMER: u8 = 0;
 
-/// All partitions rest at this time, but for one where it is named.
+/// All partitions rest at this time, but for one where it is named. Where no hardware timer is armed, that leaves all as they are.
+#[inline(always)]
 pub(crate) fn rest(sys: &mut Sys, working: Option<PartId>, time: u64)
+    ensures { sys.new ≡ with_machine (rest_but working time sys.old.machine) sys.old }
+{
+    if sys.is_timed() {
+        rest_each(sys, working, time);
+    }
+}
+
+// The same, one partition after the other.
+#[inline(never)]
+fn rest_each(sys: &mut Sys, working: Option<PartId>, time: u64)
     ensures { sys.new ≡ with_machine (rest_but working time sys.old.machine) sys.old }
 {
     for p in 0..sys.count() {

@@ -3,6 +3,7 @@ use Rattle.std.proofs.Common.{◌≡◌, ℕ, ◌<◌, Bool, List, [], length, m
 use Rattle.std.proofs.lemmas.Option.{get_or_from_slice_get}
 use Rattle.std.proofs.lemmas.List.{get_or-map, get_or_default, length-map, set-get_or}
 use Rattle.std.specs.FinMap.{empty}
+use Rattle.std.specs.List.{list_any}
 use Rattle.std.specs.Prelude.{IfOk, OnOk, Result, Ok, Err, Some, slice_get}
 use Rattle.guest_bus.specs.Memory.{Area, Memory, with_bytes}
 use Rattle.guest_memory.specs.Loading.{areas_of, loaded}
@@ -13,7 +14,7 @@ use Rattle.machine_model.specs.Partition as model
 use Rattle.machine_model.specs.View.{no_image, no_part, part_of, view_of}
 use Rattle.xef_images.specs.Image.{Image}
 use Rattle.xm_ports.specs.Ports.{with_port}
-use Rattle.whole_system.specs.State.{IsKeptSo, OwnState, SysState, areas_in, booted_own, kept_so, memory_of, part_at, with_machine, with_memory, with_own, with_part, words_of}
+use Rattle.whole_system.specs.State.{IsKeptSo, OwnState, SysState, any_timed, areas_in, booted_own, is_timed, kept_so, memory_of, part_at, with_machine, with_memory, with_own, with_part, words_of}
 use Rattle.whole_system.specs.declared.sys.Sys.TheInside.{Inside}
 use Rattle.whole_system.proofs.PartsLemmas as parts
 
@@ -212,3 +213,8 @@ made_set own ports memory words port ps is ports_is =
 pub if_ok : {T E : Type 0} (r : Result T E) (P Q : T → Type 0) → ((x : T) → P x → Q x) → IfOk r P → IfOk r Q
 if_ok (Ok x) P Q follows holds = follows x holds
 if_ok (Err e) P Q follows holds = tt
+
+-- whether a timer is armed is seen
+pub is_timed_seen : (a : Inside) (sys : SysState) → IsKept a → seen a ≡ sys → list_any (λ own. is_timed own.clocks) a.parts.items ≡ any_timed sys.machine.parts
+is_timed_seen a sys kept is =
+    parts.memories-timed a.parts.items a.ram.maps a.inputs (is_held a kept) (is_given a kept) ∙ ap (λ (s : SysState). any_timed s.machine.parts) is

@@ -1,9 +1,10 @@
 -- The partitions as they are kept, and as they are seen.
-use Rattle.std.proofs.Common.{◌≡◌, ℕ, zero, suc, ◌<◌, List, [], ◌∷◌, length, map, set, get_or, refl, ap, arith}
+use Rattle.std.proofs.Common.{◌≡◌, ℕ, zero, suc, ◌<◌, Bool, ◌||◌, List, [], ◌∷◌, length, map, set, get_or, refl, ap, arith}
+use Rattle.std.specs.List.{list_any}
 use Rattle.std.specs.FinMap.{empty}
 use Rattle.guest_bus.specs.Memory.{Memory}
 use Rattle.machine_model.specs.Partition.{PartitionState}
-use Rattle.whole_system.specs.State.{OwnState, with_memories, with_memory}
+use Rattle.whole_system.specs.State.{OwnState, any_timed, is_timed, with_memories, with_memory}
 
 -- as many partitions are seen as are kept
 pub memories-length : (owns : List OwnState) (maps : List Memory) (inputs : List (List ℕ)) → length maps ≡ length owns → length inputs ≡ length owns → length (with_memories owns maps inputs) ≡ length owns
@@ -66,3 +67,12 @@ memories-seen (own ∷ owns) [] inputs held given = absurd (omega (arith, held))
 memories-seen (own ∷ owns) (memory ∷ maps) [] held given = absurd (omega (arith, given))
 memories-seen (own ∷ owns) (memory ∷ maps) (words ∷ inputs) held given =
     ap (λ (rest : List Memory). memory ∷ rest) (memories-seen owns maps inputs (omega (arith, held)) (omega (arith, given)))
+
+-- the timers of all partitions are seen
+pub memories-timed : (owns : List OwnState) (maps : List Memory) (inputs : List (List ℕ)) → length maps ≡ length owns → length inputs ≡ length owns
+    → list_any (λ own. is_timed own.clocks) owns ≡ any_timed (with_memories owns maps inputs)
+memories-timed [] maps inputs held given = refl
+memories-timed (own ∷ owns) [] inputs held given = absurd (omega (arith, held))
+memories-timed (own ∷ owns) (memory ∷ maps) [] held given = absurd (omega (arith, given))
+memories-timed (own ∷ owns) (memory ∷ maps) (words ∷ inputs) held given =
+    ap (λ (others : Bool). is_timed own.clocks || others) (memories-timed owns maps inputs (omega (arith, held)) (omega (arith, given)))

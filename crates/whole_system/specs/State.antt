@@ -1,5 +1,6 @@
 -- The state of the whole system as it is kept: the machine, with the state of each partition apart from its memory.
-use Rattle.std.specs.Prelude.{◌≡◌, ℕ, Bool, List, [], ◌∷◌, length, map, drop, slice_index_or}
+use Rattle.std.specs.Prelude.{◌≡◌, ℕ, Bool, List, [], ◌∷◌, length, map, drop, is_some, slice_index_or}
+use Rattle.std.specs.List.{list_any}
 use Rattle.cyclic_plans.specs.PlanClock.{CyclicClock}
 use Rattle.guest_bus.specs.Memory.{Area, Memory}
 use Rattle.guest_memory.specs.Loading.{areas_of, loaded}
@@ -72,6 +73,14 @@ with_memories [] memories inputs = []
 with_memories (own ∷ owns) [] inputs = []
 with_memories (own ∷ owns) (memory ∷ memories) [] = []
 with_memories (own ∷ owns) (memory ∷ memories) (words ∷ inputs) = with_memory own memory words ∷ with_memories owns memories inputs
+
+-- whether the timer of clocks on the hardware clock is armed
+abbrev pub is_timed : PartitionClocks → Bool
+is_timed clocks = is_some clocks.hardware_timer
+
+-- whether one of these partitions has such a timer
+abbrev pub any_timed : List PartitionState → Bool
+any_timed parts = list_any (λ part. is_timed part.clocks) parts
 
 -- the whole system: the machine, and what its channels may hold
 pub record SysState : Type 0 where

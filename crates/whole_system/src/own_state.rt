@@ -1,13 +1,14 @@
 //! The state of one partition.
 
 ghost use Rattle.std.specs.Prelude.{◌≡◌, ◌%◌, IfOk};
-ghost use Rattle.whole_system.specs.State.{booted_own};
+ghost use Rattle.std.specs.List.{list_any};
+ghost use Rattle.whole_system.specs.State.{booted_own, is_timed};
 
 use health_monitor::HealthEntry;
 use sparc_step::{Core, Processor};
 use std::alloc::Global;
 use std::marker::Model;
-use virt_clocks::Clocks;
+use virt_clocks::{Clock, Clocks};
 use virt_traps::Virt;
 use xm_base::{Memory, State};
 use xm_ports::Ports;
@@ -72,4 +73,18 @@ impl PartState {
             used: 0,
         })
     }
+
+    /// Whether its timer on the hardware clock is armed.
+    pub(crate) fn is_timed(&self) -> bool
+        ensures { result ≡ is_timed self.now.clocks }
+    {
+        self.clocks.timer(Clock::Hw).is_some()
+    }
+}
+
+/// Whether the hardware timer of one of these partitions is armed.
+pub(crate) fn any_timed(parts: &[PartState]) -> bool
+    ensures { result ≡ list_any (λ own. is_timed own.clocks) parts.now }
+{
+    parts.iter().any(|own| own.is_timed())
 }

@@ -17,14 +17,14 @@ ghost use Rattle.machine_model.specs.LocalTick.{turned_state};
 ghost use Rattle.machine_model.specs.Machine.{start};
 ghost use Rattle.machine_model.specs.Partition.{loaded, resets_after};
 ghost use Rattle.machine_model.specs.View.{view_of};
-ghost use Rattle.whole_system.specs.State.{areas_in, memory_of, part_at, with_inputs, with_machine, with_memory, with_part, words_of};
+ghost use Rattle.whole_system.specs.State.{any_timed, areas_in, memory_of, part_at, with_inputs, with_machine, with_memory, with_part, words_of};
 ghost use Rattle.whole_system.specs.Lending.{LendsChannels, LendsPart, LendsPlanClock};
 ghost use Rattle.virt_traps.specs.Stepping.{stepped};
 ghost use Rattle.whole_system.specs.Stepping.{IsGone, behind_flush, behind_return, delivered_to, flushed_in, returned_in, with_turned};
 
 use crate::gone::Gone;
 use crate::inputs::Inputs;
-use crate::own_state::PartState;
+use crate::own_state::{PartState, any_timed};
 use crate::starting::{boot_parts, count, load};
 use crate::stepping::{deliver_part, flush_part, return_part, settle_part, step_part};
 use cyclic_plans::PlanClock;
@@ -220,6 +220,13 @@ impl Sys {
         ensures few { result ≤ 16 }
     {
         count(&self.system)
+    }
+
+    /// Whether the hardware timer of a partition is armed.
+    pub fn is_timed(&self) -> bool
+        ensures value { result ≡ any_timed self.now.machine.parts }
+    {
+        any_timed(&self.parts)
     }
 
     /// The hardware clock: the ticks since boot or since the last reset of the hypervisor.
