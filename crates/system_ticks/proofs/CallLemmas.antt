@@ -1,6 +1,6 @@
 -- A hypercall of a partition: it is served, its tick is counted, and what it asks for is followed.
 use Rattle.std.proofs.Common.{◌≡◌, ℕ, ◌<◌, ◌⊎◌, inl, inr, Bool, true, false, List, [], ◌++◌, Option, None, Some, length, map, set, get_or, refl, sym, ap, ◌∙◌, subst}
-use Rattle.std.proofs.lemmas.List.{append_assoc, get_or-set_same, length-set, map-append, set-set}
+use Rattle.std.proofs.lemmas.List.{append-nil, append_assoc, get_or-set_same, length-set, map-append, set-set}
 use Rattle.std.specs.Prelude.{◌==◌, if◌then◌else◌}
 use Rattle.guest_bus.specs.Memory.{Memory}
 use Rattle.whole_system.specs.Serving.{IsServed, caller_at, own_traffic, sight_by, told_by, traffic_by, untraded, upshot_of, without_traffic}
@@ -25,6 +25,8 @@ use Rattle.virt_traps.specs.Virtual.{raised}
 use Rattle.xm_report.specs.Report.{ReportLine}
 use Rattle.system_ticks.specs.Work.{AsksAtMost, IsDone, IsToldBy, IsUponOne, IsWorked, TellsAlone, act_of, console_told, trace_told}
 use Rattle.system_ticks.specs.declared.beyond.Beyond.{Beyond}
+use Rattle.system_ticks.specs.declared.beyond.Beyond.TheVariants as beyond
+use Rattle.whole_system.specs.declared.served.Act.TheVariants as act
 use Rattle.xm_base.specs.declared.partition.Order.{Order}
 use Rattle.system_ticks.proofs.HealthLemmas.{silent}
 use Rattle.system_ticks.proofs.InstructionLemmas.{handled_still}
@@ -277,6 +279,18 @@ call_worked p pc npc n answer reach old one two new had between got below empty 
       act = act;
       one_is = one_is;
     })
+
+-- a call that tells nothing, and asks for nothing
+pub call_quiet : (p pc npc : ℕ) (answer : code.Served) (old one two : SysState) (had : List ReportLine) → p < length old.machine.parts → had ≡ []
+    → IsServed p (caller_at p pc npc old).sight (served (caller_at p pc npc old)) answer old one
+    → two ≡ with_machine (with_part p (clocked (part_at p one.machine)) one.machine) one → answer.note ≡ note.Nothing → answer.act ≡ act.Nothing
+    → IsWorked p (called (caller_at p pc npc old)) note.Nothing beyond.Nothing old two had
+call_quiet p pc npc answer old one two had below empty serves counts note_is act_is =
+    let none : code.Served = record { note = note.Nothing; act = act.Nothing } in
+    let is : answer ≡ none = λ i. record { note = note_is i; act = act_is i } in
+    call_worked p pc npc two.machine.ticks none beyond.Nothing old one two two had had had below empty
+    (subst (λ (a : code.Served). IsServed p (caller_at p pc npc old).sight (served (caller_at p pc npc old)) a old one) is serves) counts refl (sym (append-nil had))
+    (silent p (part_at p two.machine) two two had (sym (put_back p two))) refl tt
 
 -- a call that put a message does nothing else
 put_alone : (names : ℕ → Option ℕ) (upshot u : Upshot) (chan : ℕ) (bytes : List ℕ) (reach : Beyond) (view : PartitionView) (time : ℕ) (ps : PartitionState)

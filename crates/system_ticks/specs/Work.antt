@@ -1,5 +1,5 @@
 -- The work of one tick, as it is done on the whole system: what it leaves, the lines that it adds, and how it reaches beyond its partition.
-use Rattle.std.specs.Prelude.{◌≡◌, ◌⊎◌, ℕ, zero, suc, ◌<◌, List, [], ◌∷◌, ◌++◌, length, map, Some}
+use Rattle.std.specs.Prelude.{◌≡◌, ◌⊎◌, ℕ, zero, suc, ◌<◌, List, [], ◌∷◌, ◌++◌, length, map, Option, None, Some}
 use Rattle.guest_bus.specs.Memory.{Memory, bytes_at}
 use Rattle.xm_base.specs.declared.partition.Mode.{Mode}
 use Rattle.xm_report.specs.Report.{ReportLine}
@@ -89,6 +89,15 @@ trace_told (note.Put chan at size) = []
 trace_told (note.Take chan) = []
 trace_told (note.Saw at size) = []
 trace_told note.NotKept = []
+
+-- the note of a call, and how it reaches beyond its partition, where none is told that tells nothing and does not
+abbrev pub note_in : Option (Note × Beyond) → Note
+note_in None = note.Nothing
+note_in (Some told) = told.0
+
+abbrev pub reach_in : Option (Note × Beyond) → Beyond
+reach_in None = beyond.Nothing
+reach_in (Some told) = told.1
 
 -- nothing reaches beyond the partition, or only that a plan is asked for
 abbrev pub AsksAtMost : Beyond → Type 0

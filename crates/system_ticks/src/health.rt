@@ -29,6 +29,7 @@ const INTERRUPT_0: u8 = 0xe0;
 
 /// A health event of a partition, with its word, and the type of the trap where it is a trap's. What is done about it to the whole system
 /// is told, and not done.
+#[inline(never)]
 pub(crate) fn handle_event(
     sys: &mut Sys,
     lines: &mut Lines,

@@ -14,6 +14,7 @@ ghost use Rattle.slot_runs.specs.Undisturbed.{NoneFallsDue};
 ghost use Rattle.virt_traps.specs.Virtual.{due};
 ghost use Rattle.system_ticks.specs.Machine.{IsMachine};
 ghost use Rattle.system_ticks.specs.Place.{IsAt};
+ghost use Rattle.system_ticks.specs.Work.{IsUponOne, act_of, ended_by, ending_lines};
 ghost use Rattle.system_ticks.specs.Span.{AreDoneFrom, CanTake, CanTakeAfter, HasTurned, IsIdle, IsMet, IsSpanDone, NoneDue, behind, counted_on};
 
 use crate::beyond::Beyond;
@@ -21,7 +22,7 @@ use crate::ending::{end_tick, end_ticks};
 use crate::lines::Lines;
 use crate::place::Place;
 use crate::rest::rest;
-use crate::work::{call, meet_trap, take_interrupt};
+use crate::work::{call_told, meet_trap, take_interrupt};
 use cyclic_plans::Here;
 use hypercalls::{Note, Sys};
 use machine_model::{acts_within_bounds, keeps_numbers};
@@ -71,6 +72,7 @@ impl Span {
 
 /// The ticks of the slot or gap that it is, at most so many, up to the first in which more is done than instructions that go. Their lines
 /// are those of the last.
+#[inline(always)]
 pub(crate) fn run_span(sys: &mut Sys, lines: &mut Lines, span: &mut Span, place: Place, most: u64)
     requires machine { IsMachine sys.old }
     requires place { IsAt place sys.old.machine }
@@ -225,6 +227,7 @@ fn stay_idle(sys: &mut Sys, lines: &mut Lines, span: &mut Span, p: PartId, most:
 }
 
 // So many ticks of the slot of partition `p` with nothing to tell but that a plan starts: all others rest.
+#[inline(always)]
 fn pass(sys: &mut Sys, lines: &mut Lines, span: &mut Span, p: PartId, ticks: u64)
     requires some { 0 < ticks }
     requires time { sys.old.machine.time + ticks < 2 ^ 64 }
@@ -266,6 +269,7 @@ pub fn interrupt(sys: &Sys, p: PartId) -> Option<u8>
 }
 
 // A tick in which a partition takes an interrupt.
+#[inline(never)]
 fn deliver(sys: &mut Sys, lines: &mut Lines, span: &mut Span, p: PartId, n: u8)
     requires take { CanTake p 1 sys.old }
     requires interrupt { n < 32 }
@@ -313,6 +317,7 @@ fn count_on(sys: &mut Sys, p: PartId, ticks: u64)
 }
 
 // The tick of an instruction that trapped, after so many in which the partition only went.
+#[inline(never)]
 fn trap_after(
     sys: &mut Sys,
     lines: &mut Lines,
@@ -351,10 +356,52 @@ fn call_after(sys: &mut Sys, lines: &mut Lines, span: &mut Span, p: PartId, went
     acts_within_bounds();
     keeps_numbers();
     stand_behind(sys, p, went);
-    let (note, reach) = call(sys, lines, p, pc);
+    match call_told(sys, lines, p, pc) {
+        Some(told) => end_call(sys, lines, span, p, went + 1, told.0, told.1),
+        None => pass_call(sys, lines, span, p, went + 1),
+    }
+}
+
+// Ends the tick of a call, the last of so many, that tells nothing and reaches beyond no partition.
+#[inline(always)]
+fn pass_call(sys: &mut Sys, lines: &mut Lines, span: &mut Span, p: PartId, ticks: u64)
+    requires time { sys.old.machine.time + 1 < 2 ^ 64 }
+    requires ticks { sys.old.machine.ticks + 1 < 2 ^ 64 }
+    requires frame { IsInFrame sys.old.machine.system.conf sys.old.machine.clock sys.old.machine.time }
+    requires room { length lines.old ≤ 4 }
+    ensures state { sys.new ≡ with_machine (ended_by (act_of Beyond.Nothing) p sys.old.machine) sys.old }
+    ensures lines { lines.new ≡ lines.old ++ ending_lines (act_of Beyond.Nothing) sys.old.machine }
+    ensures few { length lines.new ≤ 24 }
+    ensures span { span.new ≡ record { ticks = ticks; part = p; worked = true; note = Note.Nothing; reach = Beyond.Nothing } }
+{
+    end_tick(sys, lines, p, Beyond::Nothing);
+    *span = Span::quiet(ticks, p, true, Beyond::Nothing);
+}
+
+// Ends the tick of a call, the last of so many.
+#[inline(never)]
+fn end_call(
+    sys: &mut Sys,
+    lines: &mut Lines,
+    span: &mut Span,
+    p: PartId,
+    ticks: u64,
+    note: Note,
+    reach: Beyond,
+)
+    requires time { sys.old.machine.time + 1 < 2 ^ 64 }
+    requires ticks { sys.old.machine.ticks + 1 < 2 ^ 64 }
+    requires frame { IsInFrame sys.old.machine.system.conf sys.old.machine.clock sys.old.machine.time }
+    requires one { IsUponOne reach sys.old.machine }
+    requires room { length lines.old ≤ 4 }
+    ensures state { sys.new ≡ with_machine (ended_by (act_of reach) p sys.old.machine) sys.old }
+    ensures lines { lines.new ≡ lines.old ++ ending_lines (act_of reach) sys.old.machine }
+    ensures few { length lines.new ≤ 24 }
+    ensures span { span.new ≡ record { ticks = ticks; part = p; worked = true; note = note; reach = reach } }
+{
     end_tick(sys, lines, p, reach);
     *span = Span {
-        ticks: went + 1,
+        ticks,
         part: p,
         worked: true,
         note,

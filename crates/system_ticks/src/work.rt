@@ -1,6 +1,7 @@
 //! What a partition does in a tick of its slot, where that is more than an instruction that goes.
 
 ghost use Rattle.std.specs.Prelude.{◌≡◌, ◌+◌, ◌%◌, ◌^◌, ◌<◌, ◌≤◌, ◌++◌, [], Some, length, map};
+ghost use Rattle.std.specs.Bool.{OnTrue};
 ghost use Rattle.cyclic_plans.specs.PlanClock.{AsksPlan, IsInFrame};
 ghost use Rattle.health_monitor.specs.Monitor.{event_of_type};
 ghost use Rattle.whole_system.specs.Serving as serving;
@@ -14,7 +15,7 @@ ghost use Rattle.machine_model.specs.Told.{Upon, line_of};
 ghost use Rattle.machine_model.specs.View.{view_of};
 ghost use Rattle.slot_runs.specs.Passes.{part_at, with_part};
 ghost use Rattle.xm_ports.specs.Channels.{shapes_of};
-ghost use Rattle.system_ticks.specs.Work.{IsDone, IsToldBy, IsUponOne, IsWorked, TellsAlone, act_of, trace_told};
+ghost use Rattle.system_ticks.specs.Work.{IsDone, IsToldBy, IsUponOne, IsWorked, TellsAlone, act_of, note_in, reach_in, trace_told};
 
 use crate::beyond::Beyond;
 use crate::health::{deliver_interrupt, handle_event, program_counter};
@@ -81,11 +82,53 @@ pub fn call(sys: &mut Sys, lines: &mut Lines, p: PartId, pc: u32) -> (Note, Beyo
     ensures noted { IsToldBy p (caller_at p pc (part_at p sys.old.machine).core.pc sys.old).sight (called (caller_at p pc (part_at p sys.old.machine).core.pc sys.old)) result.0 sys.old }
     ensures few { length lines.new ≤ 4 }
 {
+    match call_told(sys, lines, p, pc) {
+        Some(told) => told,
+        None => (Note::Nothing, Beyond::Nothing),
+    }
+}
+
+/// The same, and none where the call tells nothing and reaches beyond no partition, as most do.
+#[inline(always)]
+pub(crate) fn call_told(
+    sys: &mut Sys,
+    lines: &mut Lines,
+    p: PartId,
+    pc: u32,
+) -> Option<(Note, Beyond)>
+    requires partition { p < length sys.old.machine.parts }
+    requires pc { pc % 4 ≡ 0 }
+    requires next { (part_at p sys.old.machine).core.npc ≡ ((part_at p sys.old.machine).core.pc + 4) % 2 ^ 32 }
+    requires traces { (part_at p sys.old.machine).traces.next < 4294967295 }
+    requires shapes { sys.old.shapes ≡ shapes_of sys.old.machine.system.conf }
+    requires made { AreEnds (view_of sys.old.machine.system p) (part_at p sys.old.machine).made }
+    requires frame { IsInFrame sys.old.machine.system.conf sys.old.machine.clock sys.old.machine.time }
+    requires asked { AsksPlan sys.old.machine.system.conf sys.old.machine.clock }
+    requires clock { (part_at p sys.old.machine).clocks.execution < 2 ^ 63 }
+    requires log { (part_at p sys.old.machine).health.next < 4294967294 }
+    requires empty { lines.old ≡ [] }
+    ensures worked { IsWorked p (called (caller_at p pc (part_at p sys.old.machine).core.pc sys.old)) (note_in result) (reach_in result) sys.old sys.new lines.new }
+    ensures alone { TellsAlone (note_in result) (reach_in result) }
+    ensures noted { IsToldBy p (caller_at p pc (part_at p sys.old.machine).core.pc sys.old).sight (called (caller_at p pc (part_at p sys.old.machine).core.pc sys.old)) (note_in result) sys.old }
+    ensures few { length lines.new ≤ 4 }
+{
     let served = serve_call(sys, p, pc);
     count_tick(sys, p);
+    if is_quiet(served.note, served.act) {
+        return None;
+    }
     tell_trace(lines, sys.ticks(), p, served.note);
     let reach = follow(sys, lines, p, served.act);
-    (served.note, reach)
+    Some((served.note, reach))
+}
+
+// Whether a call told nothing, and asks for nothing.
+#[inline(always)]
+fn is_quiet(note: Note, act: Act) -> bool
+    ensures note { OnTrue result (note ≡ Note.Nothing) }
+    ensures act { OnTrue result (act ≡ Act.Nothing) }
+{
+    matches!(note, Note::Nothing) && matches!(act, Act::Nothing)
 }
 
 // Serves a call that stood at this program counter.
@@ -144,6 +187,7 @@ fn follow(sys: &mut Sys, lines: &mut Lines, p: PartId, act: Act) -> Beyond
 }
 
 // An order on the partition itself is obeyed at once; another reaches beyond it.
+#[inline(never)]
 fn give_order(sys: &mut Sys, lines: &mut Lines, p: PartId, id: PartId, order: Order) -> Beyond
     requires partition { p < length sys.old.machine.parts }
     requires room { length lines.old ≤ 20 }

@@ -95,6 +95,7 @@ fn tell_console<O: Sink>(
 }
 
 // Says the bytes for the console to its UART, and puts out their line.
+#[inline(never)]
 fn put_console<O: Sink>(
     sys: &Sys,
     n: u64,
