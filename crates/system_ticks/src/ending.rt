@@ -70,6 +70,7 @@ fn end_beyond(sys: &mut Sys, lines: &mut Lines, p: PartId, reach: Beyond)
 }
 
 // The rest of all others, and the clocks past the tick.
+#[inline(always)]
 fn end_plainly(sys: &mut Sys, lines: &mut Lines, p: PartId)
     requires time { sys.old.machine.time + 1 < 2 ^ 64 }
     requires ticks { sys.old.machine.ticks + 1 < 2 ^ 64 }
@@ -85,6 +86,7 @@ fn end_plainly(sys: &mut Sys, lines: &mut Lines, p: PartId)
 }
 
 /// The clocks past so many ticks of one frame, of which only the last may start a plan.
+#[inline(always)]
 pub(crate) fn end_ticks(sys: &mut Sys, lines: &mut Lines, ticks: u64)
     requires some { 0 < ticks }
     requires time { sys.old.machine.time + ticks < 2 ^ 64 }

@@ -74,6 +74,7 @@ impl Kept {
     }
 
     /// The place of a system in its plan. The slot of the last tick and the one behind it are looked at first.
+    #[inline(always)]
     pub fn place_of(&self, sys: &Sys) -> Place
         requires { IsMachine sys.now }
         ensures { IsPlace result sys.now.machine }

@@ -21,6 +21,7 @@ pub struct Place {
 
 /// The place of a machine in its plan. The slot of a number and the one behind it are looked at first, so that one slot after another is
 /// found without a search.
+#[inline(always)]
 pub(crate) fn place_of(sys: &Sys, number: u8) -> Place
     requires { IsMachine sys.now }
     ensures { IsPlace result sys.now.machine }
@@ -57,6 +58,7 @@ fn past(slot: Here) -> Here
 }
 
 // The place, where the slot of this number runs, or the one behind it.
+#[inline(always)]
 fn near(sys: &Sys, number: u8) -> Option<Place>
     requires { IsMachine sys.now }
     ensures { IfSome result (λ place. IsPlace place sys.now.machine) }
@@ -70,6 +72,7 @@ fn near(sys: &Sys, number: u8) -> Option<Place>
 }
 
 // The place, by a search of all slots.
+#[inline(never)]
 fn search(sys: &Sys) -> Place
     requires { IsMachine sys.now }
     ensures { IsPlace result sys.now.machine }

@@ -90,6 +90,7 @@ pub(crate) fn run_span(sys: &mut Sys, lines: &mut Lines, span: &mut Span, place:
 }
 
 // Ticks of a partition's slot.
+#[inline(always)]
 fn run_slot(sys: &mut Sys, lines: &mut Lines, span: &mut Span, slot: Here, most: u64)
     requires take { CanTake slot.part most sys.old }
     requires slot { IsSlotOf sys.old.machine slot.part slot.first (part_at slot.part sys.old.machine) }
@@ -140,6 +141,7 @@ fn wait(sys: &mut Sys, lines: &mut Lines, span: &mut Span, most: u64)
 }
 
 // Ticks of a partition that takes its turn: the interrupts of the first come, and may wake it.
+#[inline(always)]
 fn take_slot(sys: &mut Sys, lines: &mut Lines, span: &mut Span, p: PartId, first: bool, most: u64)
     requires take { CanTake p most sys.old }
     requires slot { IsSlotOf sys.old.machine p first (part_at p sys.old.machine) }
@@ -167,6 +169,7 @@ pub fn wake(sys: &mut Sys, p: PartId)
 }
 
 /// The interrupts of a tick become pending: the start of a slot, and those of the timers that are due.
+#[inline(always)]
 #[tactic(auto, unfolding(machine_model::specs::LocalTick::with_interrupts, machine_model::specs::Partition::hardware_looked_at, machine_model::specs::Partition::execution_looked_at))]
 pub fn meet(sys: &mut Sys, p: PartId, first: bool)
     requires partition { p < length sys.old.machine.parts }
@@ -246,6 +249,7 @@ fn pass(sys: &mut Sys, lines: &mut Lines, span: &mut Span, p: PartId, ticks: u64
 }
 
 // Ticks of a partition that goes on: it takes an interrupt, or executes instructions.
+#[inline(always)]
 fn go_on(sys: &mut Sys, lines: &mut Lines, span: &mut Span, p: PartId, most: u64)
     requires take { CanTake p most sys.old }
     requires timers { NoneDue sys.old.machine.time (part_at p sys.old.machine).clocks }
@@ -286,6 +290,7 @@ fn deliver(sys: &mut Sys, lines: &mut Lines, span: &mut Span, p: PartId, n: u8)
 }
 
 // Instructions of a partition, one a tick, up to the first that does more than go.
+#[inline(always)]
 fn execute(sys: &mut Sys, lines: &mut Lines, span: &mut Span, p: PartId, most: u64)
     requires take { CanTake p most sys.old }
     requires timers { NoneDue sys.old.machine.time (part_at p sys.old.machine).clocks }
@@ -343,6 +348,7 @@ fn trap_after(
 }
 
 // The tick of an instruction that called, after so many in which the partition only went.
+#[inline(always)]
 fn call_after(sys: &mut Sys, lines: &mut Lines, span: &mut Span, p: PartId, went: u64, pc: u32)
     requires take { CanTakeAfter p went sys.old }
     requires pc { pc % 4 ≡ 0 }
@@ -410,6 +416,7 @@ fn end_call(
 }
 
 // The system as it stands behind so many ticks in which the partition only went: all others have rested.
+#[inline(always)]
 fn stand_behind(sys: &mut Sys, p: PartId, ticks: u64)
     requires time { sys.old.machine.time + ticks < 2 ^ 64 }
     requires ticks { sys.old.machine.ticks + ticks < 2 ^ 64 }

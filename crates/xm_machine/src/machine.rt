@@ -298,6 +298,7 @@ impl Machine {
     }
 
     // The same, at this place in the plan.
+    #[inline(always)]
     fn step_at<O: Sink>(
         &mut self,
         place: Place,

@@ -28,6 +28,7 @@ use xm_report::{Line, WriteFault, put_line};
 
 /// Puts out what there is to tell of tick n: the bytes that partition `p` wrote to its console, where its note tells any, and then these
 /// lines. Tells how many lines that was. Those bytes are said to the UART of the console first.
+#[inline(always)]
 pub(crate) fn tell<O: Sink>(
     sys: &Sys,
     n: u64,
@@ -73,6 +74,7 @@ pub(crate) fn tell_alone<O: Sink>(
 }
 
 // Says the bytes for the console to its UART and puts out their line, where the note tells any.
+#[inline(always)]
 fn tell_console<O: Sink>(
     sys: &Sys,
     n: u64,
