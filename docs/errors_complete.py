@@ -2,8 +2,8 @@
 """Says which text that the program can print on standard error has no row in docs/ERRORS.md, and which row
 no text of the code has. Ends with 1 where there is one of either, else with 0.
 
-The texts are those of crates/xm_commands/src/complaint.rt, those that another file of that crate or of
-file_maker or alone_replay makes itself, and those of each `Display` of a type named ..Fault in a crate.
+The texts are those of crates/file_commands/src/complaint.rt, those that another file of that crate or of
+xm_commands, file_maker or alone_replay makes itself, and those of each `Display` of a type named ..Fault in a crate.
 A row is a line of a table whose first column has the text as code, behind a paragraph that begins with
 `Texts of` and the type; values are one word each. The variant `Memory` is left out: want of memory is told by the program as `no memory`.
 """
@@ -13,7 +13,7 @@ from pathlib import Path
 
 ROOT = Path(__file__).resolve().parent.parent
 COMPLAINTS = "complaint.rt"
-MAKERS = ("xm_commands", "file_maker", "alone_replay")
+MAKERS = ("file_commands", "xm_commands", "file_maker", "alone_replay")
 
 
 def spelled(text):
@@ -43,7 +43,7 @@ def fault_texts():
 def complaint_texts():
     """The texts of the program's own lines; a number stands behind a text that ends with `=`, or with a blank
     where the next text goes on."""
-    source = (ROOT / "crates/xm_commands/src" / COMPLAINTS).read_text(encoding="utf-8")
+    source = (ROOT / "crates/file_commands/src" / COMPLAINTS).read_text(encoding="utf-8")
     begun = ""
     for text in re.findall(r'b"([^"]*)"', source):
         text = begun + text.replace("\\n", "").removeprefix("xm_run: ")

@@ -1,7 +1,6 @@
 -- What commands leave of the board of UARTs.
 use Rattle.std.proofs.Common.{◌≡◌, ℕ, ◌<◌, List, [], length, take, Option, Some, None, Result, Ok, Err, refl, sym, subst, ap, ◌∙◌}
 use Rattle.std.specs.Prelude.{IsSome}
-use Rattle.generated_runs.specs.Told.{generated_text}
 use Rattle.machine_model.specs.Lines.{console}
 use Rattle.machine_model.specs.Machine.{Machine, start}
 use Rattle.loaded_system.specs.System.{System}
@@ -17,14 +16,14 @@ use Rattle.xm_outside.specs.Files.{Files}
 use Rattle.xm_outside.specs.Growth.{grown}
 use Rattle.xm_words.specs.Words.{Command, PartFile, Parse, BuildImage, ReadImage, Pack, ListContainer, CheckContainer, MakePlan, CheckPlan, TellGroups, Generate}
 use Rattle.xm_commands.specs.Boards.{EndsRun, IsLeft, IsMarked, IsRunTo, Leaves}
-use Rattle.xm_commands.specs.Denial.{Denial}
-use Rattle.xm_commands.specs.Ending.{Ending, Finished, Misused, Unread, Denied, Unwritten, Unsaved, Unheard, Starved, status_of}
-use Rattle.xm_commands.specs.Makes.{IsUnmadeOf}
-use Rattle.xm_commands.specs.Outcome.{Output, Running, Together, first_long, inputs_of, made, outcome_of, packed_to, ran, told, unless_long, worked}
+use Rattle.file_commands.specs.Denial.{Denial}
+use Rattle.file_commands.specs.Ending.{Ending, Finished, Misused, Unread, Denied, Unwritten, Unsaved, Unheard, Starved, status_of}
+use Rattle.file_commands.specs.Makes.{IsUnmadeOf}
+use Rattle.file_commands.specs.Outcome.{Output, Running, Together, first_long, inputs_of, made, outcome_of, packed_to, ran, told, unless_long, worked}
 use Rattle.xm_commands.specs.Top.{IsQuiet}
-use Rattle.xm_commands.specs.Work.{AreNotRead, AreNotSaved, IsDone, IsNotRead, Outside, ReadsFiles}
-use Rattle.xm_commands.specs.declared.status.Status.TheVariants as status
-use Rattle.xm_commands.specs.declared.status.Status.TheVariants.{Done, Usage, UartFault}
+use Rattle.file_commands.specs.Work.{AreNotRead, AreNotSaved, IsDone, IsNotRead, Outside, ReadsFiles}
+use Rattle.file_commands.specs.declared.status.Status.TheVariants as status
+use Rattle.file_commands.specs.declared.status.Status.TheVariants.{Done, Usage, UartFault}
 use Rattle.file_maker.specs.declared.unmade.Unmade.{Unmade}
 use Rattle.file_maker.specs.declared.unmade.Unmade.TheVariants as unmade
 use Rattle.xm_commands.proofs.TopLemmas.{loud}
@@ -191,7 +190,7 @@ pub tell_groups_runs : (description : List ℕ) (contents : List (List ℕ)) →
 tell_groups_runs description contents = no_run (TellGroups description) contents (told_runs description _)
 
 pub generate_runs : (number : ℕ) (contents : List (List ℕ)) → (outcome_of (Generate number) contents).run ≡ None
-generate_runs number contents = no_run (Generate number) contents (told_runs [] (Ok (generated_text number)))
+generate_runs number contents = no_run (Generate number) contents refl
 
 -- What the top call says of it.
 

@@ -14,9 +14,9 @@ use Rattle.xm_words.specs.Words.{PartFile, RunOption, Length, ForPart, asked, co
 use Rattle.xm_words.specs.declared.run_options.FileKind.{FileKind}
 use Rattle.xm_words.specs.declared.run_options.FileKind.TheVariants.{Core, Input, Script}
 use Rattle.xm_commands.specs.Cores.{AreInside, FitInto}
-use Rattle.xm_commands.specs.Inputs.{first_beyond, or_later}
-use Rattle.xm_commands.specs.Outcome.{Output, core_output, core_outputs}
-use Rattle.xm_commands.specs.Work.{Outside, SavesAll, called, with_files, wrote}
+use Rattle.file_commands.specs.Inputs.{first_beyond, or_later}
+use Rattle.file_commands.specs.Outcome.{Output, core_output, core_outputs}
+use Rattle.file_commands.specs.Work.{Outside, SavesAll, called, with_files, wrote}
 
 -- Partitions that there are.
 

@@ -5,11 +5,11 @@ use Rattle.std.specs.Prelude.{nat_eq, slice_set}
 use Rattle.xm_base.specs.declared.limits.TheConstants.{FILE_BYTES}
 use Rattle.xm_words.specs.Words.{PartFile}
 use Rattle.whole_system.specs.Inputs.{words_in}
-use Rattle.xm_commands.specs.Ending.{input_text}
-use Rattle.xm_commands.specs.Inputs.{inputs_with}
-use Rattle.xm_commands.specs.Outcome.{first_long}
-use Rattle.xm_commands.specs.Packing.{denial}
-use Rattle.xm_commands.proofs.PackingLemmas.{none_long}
+use Rattle.file_commands.specs.Ending.{input_text}
+use Rattle.file_commands.specs.Inputs.{inputs_with}
+use Rattle.file_commands.specs.Outcome.{first_long}
+use Rattle.file_commands.specs.Packing.{denial}
+use Rattle.file_commands.specs.CommandLemmas.{none_long}
 
 -- where no file is too long, none of those after the first is
 pub rest_short : (file : List ℕ) (files contents : List (List ℕ)) → first_long (file ∷ files) contents ≡ None → first_long files (drop 1 contents) ≡ None

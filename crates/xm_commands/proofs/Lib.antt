@@ -1,13 +1,11 @@
 pub mod BoardLemmas
 pub mod CoreLemmas
+pub mod GeneratingLemmas
 pub mod InputLemmas
 pub mod OutsideLemmas
-pub mod PackingLemmas
 pub mod ReplayLemmas
 pub mod ScriptLemmas
 pub mod SeparationLemmas
-pub mod TellingLemmas
 pub mod TopLemmas
 pub mod WorkLemmas
 pub mod WrittenLemmas
-pub mod GeneratingLemmas

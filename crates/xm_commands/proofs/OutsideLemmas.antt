@@ -1,5 +1,5 @@
 -- What stays of the outside, and what the files come to.
-use Rattle.std.proofs.Common.{◌≡◌, ◌≢◌, ℕ, zero, suc, ◌+◌, ◌<◌, ◌≤◌, cond, min, ⊎_elim, Bool, true, false, nat_lt, ◌==◌, ◌||◌, codes, if◌then◌else◌, List, [], ◌∷◌, ◌++◌, length, take, drop, Option, Some, None, Result, Ok, Err, refl, sym, ap, ◌∙◌, arith}
+use Rattle.std.proofs.Common.{◌≡◌, ◌≢◌, ℕ, zero, suc, ◌+◌, ◌<◌, ◌≤◌, cond, min, ⊎_elim, Bool, true, false, nat_lt, ◌==◌, ◌||◌, if◌then◌else◌, List, [], ◌∷◌, ◌++◌, length, take, drop, Option, Some, None, Result, Ok, Err, refl, sym, ap, ◌∙◌, arith}
 use Rattle.std.proofs.lemmas.Bool.{cases_lt}
 use Rattle.std.proofs.lemmas.Bool.Decides.{nat_tests}
 use Rattle.std.proofs.lemmas.List.{length-take, take_all}
@@ -8,7 +8,6 @@ use Rattle.std.specs.FinMap.{get, insert, get-insert, slice_cmp-IsAntisymmetric,
 use Rattle.std.specs.Ordering.{nat_cmp, is_eq}
 use Rattle.std.specs.declared.cmp.Ordering.{Ordering}
 use Rattle.std.specs.declared.cmp.Ordering.TheVariants.{Less, Equal, Greater}
-use Rattle.generated_runs.specs.Told.{generated_text}
 use Rattle.xm_base.specs.Options.{on}
 use Rattle.xm_base.specs.declared.limits.TheConstants.{FILE_BYTES, IMAGE_BYTES, TICKS}
 use Rattle.xm_outside.specs.Causes.{counted}
@@ -20,29 +19,19 @@ use Rattle.xm_commands.specs.Answer.{read_all, read_before, saved}
 use Rattle.loaded_system.specs.Bare.{bare_system}
 use Rattle.loaded_system.specs.System.{System}
 use Rattle.whole_system.specs.State.{with_inputs}
-use Rattle.xm_commands.specs.Ending.{length_text, ticks_text}
+use Rattle.file_commands.specs.Ending.{length_text, ticks_text}
 use Rattle.file_maker.specs.Grouping.{groups_of}
 use Rattle.file_maker.specs.Imaging.{container_lines_of, container_verdict_of, image_lines_of, xef_of}
-use Rattle.xm_commands.specs.Inputs.{no_inputs}
-use Rattle.xm_commands.specs.Packing.{container_of}
+use Rattle.file_commands.specs.Inputs.{no_inputs}
+use Rattle.file_commands.specs.Packing.{container_of}
 use Rattle.file_maker.specs.Parsing.{xmc_of}
 use Rattle.file_maker.specs.Planning.{plan_lines_of, verdicts_of}
 use Rattle.alone_replay.specs.Ready.{Replay as Readied, Unready, replay_of}
-use Rattle.xm_commands.specs.Denial.{Denial}
-use Rattle.xm_commands.specs.Outcome.{Output, bare_outcome, content, first_long, input_bytes, made, packed_to, played, ran, ran_for, ran_scripted, ran_with, ran_within, refused, refused_by, replay_by, replay_outcome, run_by, run_outcome, told, inputs_of, outcome_of, output_of, scripts_for, ticks_asked, unless_long, worked}
-use Rattle.xm_commands.specs.Top.{AreContents, counted_by}
-use Rattle.xm_commands.specs.Work.{Outside, ReadsFiles, called, called_for, wrote}
-
--- Calls.
-
--- the outside after so many calls of the store
-abbrev pub with_calls : ℕ → Outside → Outside
-with_calls calls before = record before { calls = calls }
-
--- calls for files change nothing but the count of calls
-pub called_for-is : (files : List (List ℕ)) (before : Outside) → called_for files before ≡ with_calls (counted_by (length files) before.calls) before
-called_for-is [] before = refl
-called_for-is (file ∷ files) before = called_for-is files (called before)
+use Rattle.file_commands.specs.Denial.{Denial}
+use Rattle.file_commands.specs.Outcome.{Output, bare_outcome, content, first_long, input_bytes, made, packed_to, played, ran, ran_for, ran_scripted, ran_with, ran_within, refused, refused_by, replay_by, replay_outcome, run_by, run_outcome, told, inputs_of, outcome_of, scripts_for, ticks_asked, unless_long, worked}
+use Rattle.xm_commands.specs.Top.{AreContents}
+use Rattle.file_commands.specs.Work.{counted_by, Outside, ReadsFiles, wrote}
+use Rattle.file_commands.specs.CommandLemmas.{outcome-long}
 
 -- one call more is one call more at the end
 pub counted-counted_by : (k n : ℕ) → counted (counted_by k n) ≡ counted_by (suc k) n
@@ -89,105 +78,6 @@ stored-others files file bytes other differs = get-insert nat_list_cmp_total fil
 pub others_stored : (told : Option Files) (file bytes : List ℕ) → OthersStay told file (stored told file bytes)
 others_stored None file bytes = tt
 others_stored (Some files) file bytes = λ other differs. stored-others files file bytes other differs
-
--- what is made is written where the words say
-made-output : (input file : List ℕ) (made_of : Result (List ℕ) (List ℕ)) (output : Output) → (made input file made_of).output ≡ Some output → Some file ≡ Some output.file
-made-output input file (Ok bytes) output e = (let same : record { file = file; bytes = bytes } ≡ output = cc in ap (λ (o : Output). Some o.file) same)
-made-output input file (Err text) output e = absurd (cc)
-
--- what is packed is written where the words say
-packed-output : (file : List ℕ) (packed : Result (List ℕ) Denial) (output : Output) → (packed_to file packed).output ≡ Some output → Some file ≡ Some output.file
-packed-output file (Ok bytes) output e = (let same : record { file = file; bytes = bytes } ≡ output = cc in ap (λ (o : Output). Some o.file) same)
-packed-output file (Err refusal) output e = absurd (cc)
-
--- what is told writes no file
-told-output : (file : List ℕ) (text : Result (List ℕ) (List ℕ)) (output : Output) → (told file text).output ≡ Some output → ⊥
-told-output file (Ok text) output e = cc
-told-output file (Err text) output e = cc
-
--- a run of a system writes no file
-ran-output : (ticks : ℕ) (cores : List PartFile) (scripts : List Output) (system : System) (inputs : List (List ℕ)) (output : Output) → (ran ticks cores scripts system inputs).output ≡ Some output → ⊥
-unfolding ran
-ran-output ticks cores scripts system inputs output e = cc
-
--- a run of an image writes no file
-bare-output : (file : List ℕ) (ticks : ℕ) (image : List ℕ) (output : Output) → (bare_outcome file ticks image).output ≡ Some output → ⊥
-unfolding bare_outcome
-bare-output file ticks image output e = at ((length image == 0) || nat_lt IMAGE_BYTES (length image)) e
-  where
-    at : (t : Bool) → (if t then refused file (length_text (length image)) else ran ticks [] [] (bare_system image) (no_inputs 1)).output ≡ Some output → ⊥
-    at true e = cc
-    at false e = ran-output ticks [] [] (bare_system image) (no_inputs 1) output e
-
--- a run whose scripts may be too long writes no file
-scripted-output : (ticks : ℕ) (cores : List PartFile) (system : System) (inputs : List (List ℕ)) (scripts : Result (List Output) Denial) (output : Output) → (ran_scripted ticks cores system inputs scripts).output ≡ Some output → ⊥
-scripted-output ticks cores system inputs (Ok scripts) output e = ran-output ticks cores scripts system inputs output e
-scripted-output ticks cores system inputs (Err refusal) output e = cc
-
--- a run that may be too long writes no file
-within-output : (file : List ℕ) (options : List RunOption) (system : System) (inputs : List (List ℕ)) (output : Output) → (ran_within file options system inputs).output ≡ Some output → ⊥
-unfolding ran_within
-within-output file options system inputs output e = at (ticks_asked (span_in options) system.conf) e
-  where
-    by : (asked : ℕ) (t : Bool) (scripts : Result (List Output) Denial) → (if t then refused file (ticks_text asked) else ran_scripted asked (cores_in options) system inputs scripts).output ≡ Some output → ⊥
-    by asked true scripts e = cc
-    by asked false scripts e = scripted-output asked (cores_in options) system inputs scripts output e
-
-    at : (asked : ℕ) → (ran_for file asked options system inputs).output ≡ Some output → ⊥
-    at asked e = by asked (nat_lt TICKS asked) (scripts_for (with_inputs system inputs) asked (scripts_in options)) e
-
--- a run whose inputs may be refused writes no file
-with-output : (file : List ℕ) (options : List RunOption) (system : System) (read : Result (List (List ℕ)) Denial) (output : Output) → (ran_with file options system read).output ≡ Some output → ⊥
-with-output file options system (Ok inputs) output e = within-output file options system inputs output e
-with-output file options system (Err refusal) output e = cc
-
--- a run of a container writes no file
-run-output : (file : List ℕ) (options : List RunOption) (bytes : List ℕ) (contents : List (List ℕ)) (output : Output) → (run_outcome file options bytes contents).output ≡ Some output → ⊥
-unfolding run_outcome
-run-output file options bytes contents output e = at (unpacked bytes) e
-  where
-    at : (read : Result System BoxFault) → (run_by file options contents read).output ≡ Some output → ⊥
-    at (Ok system) e = with-output file options system _ output e
-    at (Err fault) e = cc
-
--- a replay writes no file before its report
-played-output : (core : Option (List ℕ)) (replay : Readied) (output : Output) → (played core replay).output ≡ Some output → ⊥
-unfolding played
-played-output core replay output e = cc
-
-replay-output : (container : List ℕ) (part : ℕ) (script : List ℕ) (further : ReplayFiles) (bytes told input : List ℕ) (output : Output) → (replay_outcome container part script further bytes told input).output ≡ Some output → ⊥
-unfolding replay_outcome
-replay-output container part script further bytes told input output e = at (replay_of bytes part told input) e
-  where
-    at : (made_of : Result Readied Unready) → (replay_by container part script further made_of).output ≡ Some output → ⊥
-    at (Ok replay) e = played-output (replay_core further) replay output e
-    at (Err why) e = cc
-
--- a file that is too long is refused
-pub outcome-long : (command : Command) (contents : List (List ℕ)) (file : List ℕ) → first_long (inputs_of command) contents ≡ Some file → outcome_of command contents ≡ refused file (codes "too-long")
-unfolding outcome_of
-outcome-long command contents file long = ap (λ (o : Option (List ℕ)). unless_long o (worked command contents)) long
-
--- a command that writes a file writes the one that its words name
-pub output-named : (command : Command) (contents : List (List ℕ)) (output : Output) → (outcome_of command contents).output ≡ Some output → output_of command ≡ Some output.file
-unfolding outcome_of
-output-named command contents output is = at command (first_long (inputs_of command) contents) is
-  where
-    at : (command : Command) (long : Option (List ℕ)) → (unless_long long (worked command contents)).output ≡ Some output → output_of command ≡ Some output.file
-    at command (Some file) e = absurd (cc)
-    at (Bare image ticks) None e = absurd (bare-output image ticks (content 0 contents) output e)
-    at (Parse description out) None e = made-output description out (xmc_of (content 0 contents)) output e
-    at (BuildImage program out) None e = made-output program out (xef_of (content 0 contents)) output e
-    at (ReadImage image) None e = absurd (told-output image (image_lines_of (content 0 contents)) output e)
-    at (Pack configuration out images) None e = packed-output out (container_of configuration (content 0 contents) images (drop 1 contents)) output e
-    at (ListContainer container) None e = absurd (told-output container (container_lines_of (content 0 contents)) output e)
-    at (CheckContainer container) None e = absurd (told-output container (container_verdict_of (content 0 contents)) output e)
-    at (MakePlan description) None e = absurd (told-output description (plan_lines_of (content 0 contents)) output e)
-    at (CheckPlan description) None e = absurd (told-output description (verdicts_of (content 0 contents)) output e)
-    at (TellGroups description) None e = absurd (told-output description (groups_of (content 0 contents)) output e)
-    at (Generate number) None e = absurd (told-output [] (Ok (generated_text number)) output e)
-    at (Run container options) None e = absurd (run-output container options (content 0 contents) (drop 1 contents) output e)
-    at (Replay container part script further) None e = absurd (replay-output container part script further (content 0 contents) (content 1 contents) (input_bytes (replay_input further) (content 2 contents)) output e)
 
 -- a refusal is the one that is told
 same_refusal : (one other : Denial) → Some one ≡ Some other → refused_by one ≡ refused_by other
@@ -267,11 +157,6 @@ replay-denied container part script further bytes told input denial e = at (repl
     at (Ok replay) e = absurd (played-denied (replay_core further) replay denial e)
     at (Err why) e = same_refusal _ denial e
 
--- where there is no file, none is written
-pub no_output : (o : Option Output) → ((output : Output) → o ≡ Some output → ⊥) → o ≡ None
-no_output None never = refl
-no_output (Some output) never = absurd (never output refl)
-
 -- a command that is refused comes to the refusal, and to nothing else
 pub outcome-denied : (command : Command) (contents : List (List ℕ)) (denial : Denial) → (outcome_of command contents).denial ≡ Some denial → outcome_of command contents ≡ refused_by denial
 unfolding outcome_of
@@ -289,7 +174,7 @@ outcome-denied command contents denial is = at command (first_long (inputs_of co
     at (MakePlan description) None e = told-denied description (plan_lines_of (content 0 contents)) denial e
     at (CheckPlan description) None e = told-denied description (verdicts_of (content 0 contents)) denial e
     at (TellGroups description) None e = told-denied description (groups_of (content 0 contents)) denial e
-    at (Generate number) None e = told-denied [] (Ok (generated_text number)) denial e
+    at (Generate number) None e = absurd (cc)
     at (Run container options) None e = run-denied container options (content 0 contents) (drop 1 contents) denial e
     at (Replay container part script further) None e = replay-denied container part script further (content 0 contents) (content 1 contents) (input_bytes (replay_input further) (content 2 contents)) denial e
 

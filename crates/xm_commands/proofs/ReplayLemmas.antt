@@ -1,31 +1,26 @@
 -- A replay that is played, and what it leaves of the outside and of the board.
-use Rattle.std.proofs.Common.{◌≡◌, ℕ, suc, ◌<◌, ◌≤◌, ◌∙◌, Bool, true, false, nat_lt, if◌then◌else◌, List, [], ◌∷◌, ◌++◌, length, map, drop, take, Option, Some, None, Result, Ok, Err, refl, sym, ap, subst, arith, inr}
+use Rattle.std.proofs.Common.{◌≡◌, ℕ, suc, ◌≤◌, ◌∙◌, Bool, true, false, nat_lt, if◌then◌else◌, List, [], ◌∷◌, length, map, drop, take, Option, Some, None, Result, refl, sym, ap, subst, arith, inr}
 use Rattle.std.specs.Prelude.{IsSome}
 use Rattle.std.proofs.lemmas.List.{take_all}
 use Rattle.xm_outside.specs.Causes.{Rose}
 use Rattle.xm_outside.specs.Files.{Files}
-use Rattle.xm_outside.specs.Growth.{grown, GrewByPrefix}
-use Rattle.xm_report.specs.Report.{texts}
 use Rattle.uart_board.specs.Heard.{IsHeard}
 use Rattle.uart_board.specs.Views.{BoardView, begun}
-use Rattle.alone_replay.specs.Readied.{IsReady, IsUnready}
+use Rattle.alone_replay.specs.Readied.{IsUnready}
 use Rattle.alone_replay.specs.Ready.{Replay as Readied, Unready}
-use Rattle.machine_model.specs.Alone.{alone_start}
-use Rattle.machine_model.specs.CoreFile.{core_file}
 use Rattle.machine_model.specs.Cue.{Cue}
-use Rattle.machine_model.specs.View.{System, view_of}
-use Rattle.xm_alone.specs.Replay.{IsCutReplay, IsReplayed, IsWholeReplay, Lone, booted_alone, own_view, replay_lines, replay_said, replayed}
+use Rattle.machine_model.specs.View.{view_of}
+use Rattle.xm_alone.specs.Replay.{IsCutReplay, IsReplayed, IsWholeReplay, Lone, booted_alone, own_view, replay_lines, replay_said}
 use Rattle.xm_words.specs.Words.{ReplayFiles}
 use Rattle.xm_commands.specs.Boards.{EndsRun, IsRunTo, Leaves}
-use Rattle.xm_commands.specs.Denial.{Denial}
-use Rattle.xm_commands.specs.Ending.{Ending, Finished, Misused, Unread, Denied, Unwritten, Unsaved, Unheard, Starved}
+use Rattle.file_commands.specs.Ending.{Ending, Finished, Misused, Unread, Denied, Unwritten, Unsaved, Unheard, Starved}
 use Rattle.xm_base.specs.declared.limits.TheConstants.{FILE_BYTES}
-use Rattle.xm_commands.specs.Outcome.{Outcome, Output, Running, Apart, content, first_long, input_bytes, name_in, played, refused_by, replay_by, replay_output, unready_denial}
+use Rattle.file_commands.specs.Outcome.{Outcome, Output, Running, Apart, content, first_long, input_bytes, name_in, played, replay_by, replay_output, unready_denial}
 use Rattle.xm_commands.specs.Replaying.{lone_output, ready_of, unready_ending}
-use Rattle.xm_commands.specs.Work.{Outside, AreNotSaved, Comes, SavesAll, outside, told_all}
+use Rattle.file_commands.specs.Work.{Outside, AreNotSaved, Comes, SavesAll, outside, told_all}
 use Rattle.std.proofs.lemmas.Bool.Decides.{nat_tests}
 use Rattle.xm_commands.proofs.InputLemmas.{rest_short}
-use Rattle.xm_commands.proofs.WorkLemmas.{refused_comes}
+use Rattle.file_commands.specs.CommandLemmas.{refused_comes}
 
 -- What is done behind a report that went out.
 

@@ -17,16 +17,16 @@ use Rattle.cue_scripts.specs.declared.fault.ScriptFault.TheVariants as fault
 use Rattle.file_maker.specs.Makes.{IsTold}
 use Rattle.file_maker.specs.declared.unmade.Unmade.{Unmade}
 use Rattle.file_maker.specs.declared.unmade.Unmade.TheVariants as unmade
-use Rattle.xm_commands.specs.Makes.{IsUnmadeOf}
-use Rattle.xm_commands.specs.Denial.{Denial}
-use Rattle.xm_commands.specs.Ending.{Ending, Finished, Misused, Unread, Denied, Unwritten, Unsaved, Unheard, Starved, ticks_text}
-use Rattle.xm_commands.specs.Outcome.{Output, ran_for, ran_scripted, ran_within, refused, script_before, script_bytes, script_denial, script_output, scripts_for, ticks_asked, unless_denied}
+use Rattle.file_commands.specs.Makes.{IsUnmadeOf}
+use Rattle.file_commands.specs.Denial.{Denial}
+use Rattle.file_commands.specs.Ending.{Ending, Finished, Misused, Unread, Denied, Unwritten, Unsaved, Unheard, Starved, ticks_text}
+use Rattle.file_commands.specs.Outcome.{Output, ran_for, ran_scripted, ran_within, refused, script_before, script_bytes, script_denial, script_output, scripts_for, ticks_asked, unless_denied}
 use Rattle.xm_commands.specs.Scripts.{script_or}
-use Rattle.xm_commands.specs.Told.{AreSaved, IsDenied, ending_of}
-use Rattle.xm_commands.specs.declared.ending.Ending as code
-use Rattle.xm_commands.specs.Work.{Outside, AreNotSaved, Comes, IsLostOf, SavesAll, called, with_files, wrote}
+use Rattle.file_commands.specs.Told.{AreSaved, IsDenied, ending_of}
+use Rattle.file_commands.specs.declared.ending.Ending as code
+use Rattle.file_commands.specs.Work.{Outside, AreNotSaved, Comes, IsLostOf, SavesAll, called, with_files, wrote}
 use Rattle.xm_commands.proofs.CoreLemmas.{saves_after}
-use Rattle.xm_commands.proofs.WorkLemmas.{refused_comes}
+use Rattle.file_commands.specs.CommandLemmas.{refused_comes}
 
 -- One script.
 

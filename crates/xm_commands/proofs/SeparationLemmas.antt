@@ -25,15 +25,16 @@ use Rattle.machine_model.specs.View.{System, view_of}
 use Rattle.whole_system.specs.State.{part_at, with_inputs}
 use Rattle.xm_words.specs.Words.{Command, PartFile, RunOption, Bare, Parse, BuildImage, ReadImage, Pack, ListContainer, CheckContainer, MakePlan, CheckPlan, TellGroups, Generate, Run, Replay, cores_in, inputs_in, span_in, scripts_in}
 use Rattle.xm_commands.specs.Cores.{AreInside}
-use Rattle.xm_commands.specs.Denial.{Denial}
-use Rattle.xm_commands.specs.Ending.{Ending, length_text, status_of, ticks_text}
-use Rattle.xm_commands.specs.Inputs.{first_beyond, inputs_for, inputs_with, no_inputs, unless_beyond}
-use Rattle.xm_commands.specs.Outcome.{Output, Outcome, bare_outcome, content, core_output, core_outputs, first_long, inputs_of, outcome_of, ran, ran_scripted, ran_with, ran_within, refused, refused_by, run_by, run_outcome, script_before, script_denial, script_output, scripts_for, ticks_asked, unless_denied, unless_long, worked}
+use Rattle.file_commands.specs.Denial.{Denial}
+use Rattle.file_commands.specs.Ending.{Ending, length_text, status_of, ticks_text}
+use Rattle.file_commands.specs.Inputs.{first_beyond, inputs_for, inputs_with, no_inputs, unless_beyond}
+use Rattle.file_commands.specs.Outcome.{Output, Outcome, bare_outcome, content, core_output, core_outputs, first_long, inputs_of, outcome_of, ran, ran_scripted, ran_with, ran_within, refused, refused_by, run_by, run_outcome, script_before, script_denial, script_output, scripts_for, ticks_asked, unless_denied, unless_long, worked}
 use Rattle.xm_commands.specs.Separation.{AreAlone, CommandAlone, ContainerAlone, PrintsAlone, ShowsAlone, ShowsFront, ShowsPart, ShowsSome, alone_output, alone_outputs}
 use Rattle.xm_commands.specs.Top.{AreContents, IsComplete, IsCut, IsLost, IsLostAfter, IsWriteCause}
-use Rattle.xm_commands.specs.Work.{Outside, IsCarriedOut, IsWorked, called_for, did, told_all, wrote, wrote_all}
+use Rattle.file_commands.specs.Work.{Outside, IsCarriedOut, IsWorked, called_for, did, told_all, wrote, wrote_all}
 use Rattle.xm_commands.proofs.CoreLemmas.{cores_inside}
-use Rattle.xm_commands.proofs.OutsideLemmas.{called_for-is, told_outcome}
+use Rattle.file_commands.specs.OutputLemmas.{called_for-is}
+use Rattle.xm_commands.proofs.OutsideLemmas.{told_outcome}
 use Rattle.xm_commands.proofs.TopLemmas.{done_is_finished, unheard_finished}
 use Rattle.xm_commands.proofs.WrittenLemmas.{did-got, wrote_all-from}
 

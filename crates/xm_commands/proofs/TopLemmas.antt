@@ -5,15 +5,16 @@ use Rattle.xm_outside.specs.Files.{Files, IsAbsent, OthersStay}
 use Rattle.xm_outside.specs.Growth.{grown, grown-nothing, GrewByPrefix, Writes}
 use Rattle.xm_words.specs.Words.{Command, command_of}
 use Rattle.xm_commands.specs.Answer.{Answer, answer, answer_of, answer_to, answer_to_read, ending_by, read_all, saved, saved_all}
-use Rattle.xm_commands.specs.Ending.{Ending, Finished, Misused, Unread, Denied, Unwritten, Unsaved, Unheard, Starved, complaint, status_of}
-use Rattle.xm_commands.specs.Denial.{Denial}
-use Rattle.xm_commands.specs.Outcome.{Output, Outcome, inputs_of, outcome_of, output_of}
-use Rattle.xm_commands.specs.Top.{Answers, AreContents, FilesStay, HasCalls, HasCauses, HasNoFault, IsFaultless, IsLost, IsLostAfter, IsQuiet, IsReadCause, IsRefusal, IsSaid, IsWriteCause, OtherFilesStay, counted_by, writes_of}
-use Rattle.xm_commands.specs.Work.{Outside, IsCarriedOut, IsDone, IsLostOf, IsMisuse, IsUnread, IsWorked, ReadsFiles, called, called_for, did, file_in, told_all, wrote, wrote_all}
-use Rattle.xm_commands.proofs.OutsideLemmas.{called_for-is, counted-counted_by, outcome-denied, output-named, read_all-absent, told_outcome, wrote-got}
+use Rattle.file_commands.specs.Ending.{Ending, Finished, Misused, Unread, Denied, Unwritten, Unsaved, Unheard, Starved, complaint, status_of}
+use Rattle.file_commands.specs.Denial.{Denial}
+use Rattle.file_commands.specs.Outcome.{Output, Outcome, inputs_of, outcome_of, output_of}
+use Rattle.xm_commands.specs.Top.{Answers, AreContents, FilesStay, HasCalls, HasCauses, HasNoFault, IsFaultless, IsLost, IsLostAfter, IsQuiet, IsReadCause, IsRefusal, IsSaid, IsWriteCause, OtherFilesStay, writes_of}
+use Rattle.file_commands.specs.Work.{counted_by, Outside, IsCarriedOut, IsDone, IsLostOf, IsMisuse, IsUnread, IsWorked, ReadsFiles, called, called_for, did, file_in, told_all, wrote, wrote_all}
+use Rattle.file_commands.specs.OutputLemmas.{called_for-is, output-named}
+use Rattle.xm_commands.proofs.OutsideLemmas.{counted-counted_by, outcome-denied, read_all-absent, told_outcome, wrote-got}
 use Rattle.xm_commands.proofs.WrittenLemmas.{did-faults, did-files, did-got, did-read_faults, did-write_faults, did_calls, did_stays, files_same, lost_count, lost_rose, lost_stays, never_lost, told_calls, told_stays, wrote-from, wrote_all-from, wrote_all-got}
-use Rattle.xm_commands.specs.declared.status.Status.{Status}
-use Rattle.xm_commands.specs.declared.status.Status.TheVariants.{Done, Refused, Usage, ReadFault, WriteFault, UartFault, NoMemory}
+use Rattle.file_commands.specs.declared.status.Status.{Status}
+use Rattle.file_commands.specs.declared.status.Status.TheVariants.{Done, Refused, Usage, ReadFault, WriteFault, UartFault, NoMemory}
 
 -- usage comes exactly where the words spell no command
 pub usage_exactly : (e : Ending) (command : Option Command) (before after : Outside) → IsWorked e command before after → (status_of e ≡ Usage) ↔ (command ≡ None)

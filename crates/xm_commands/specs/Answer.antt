@@ -3,10 +3,10 @@ use Rattle.std.specs.Prelude.{ℕ, List, [], ◌∷◌, Option, Some, None, Resu
 use Rattle.std.specs.FinMap.{get, insert}
 use Rattle.xm_outside.specs.Files.{Files}
 use Rattle.xm_words.specs.Words.{Command, command_of}
-use Rattle.xm_commands.specs.Ending.{Ending, Finished, Misused, Unread, Denied, complaint, status_of}
-use Rattle.xm_commands.specs.Denial.{Denial}
-use Rattle.xm_commands.specs.Outcome.{Output, Outcome, inputs_of, outcome_of}
-use Rattle.xm_commands.specs.declared.status.Status.{Status}
+use Rattle.file_commands.specs.Ending.{Ending, Finished, Misused, Unread, Denied, complaint, status_of}
+use Rattle.file_commands.specs.Denial.{Denial}
+use Rattle.file_commands.specs.Outcome.{Output, Outcome, inputs_of, outcome_of}
+use Rattle.file_commands.specs.declared.status.Status.{Status}
 
 -- how a command ends that met no fault
 abbrev pub ending_by : Option Denial → Ending

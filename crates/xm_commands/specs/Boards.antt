@@ -11,11 +11,11 @@ use Rattle.xm_outside.specs.Growth.{GrewByPrefix}
 use Rattle.xm_report.specs.Report.{ReportLine, texts}
 use Rattle.xm_alone.specs.Replay.{booted_alone, cue_lines, replay_lines, replay_said}
 use Rattle.xm_words.specs.Words.{Command}
-use Rattle.xm_commands.specs.Ending.{Ending, Finished, Misused, Unread, Denied, Unwritten, Unsaved, Unheard, Starved, complaint, status_of}
-use Rattle.xm_commands.specs.Outcome.{Running, Together, Apart, inputs_of, outcome_of}
+use Rattle.file_commands.specs.Ending.{Ending, Finished, Misused, Unread, Denied, Unwritten, Unsaved, Unheard, Starved, complaint, status_of}
+use Rattle.file_commands.specs.Outcome.{Running, Together, Apart, inputs_of, outcome_of}
 use Rattle.xm_commands.specs.Top.{IsSaid}
-use Rattle.xm_commands.specs.Work.{ReadsFiles}
-use Rattle.xm_commands.specs.declared.status.Status.{Status}
+use Rattle.file_commands.specs.Work.{ReadsFiles}
+use Rattle.file_commands.specs.declared.status.Status.{Status}
 
 -- no place has a mark
 abbrev pub HasNoMark : BoardView → Type 0

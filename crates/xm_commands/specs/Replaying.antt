@@ -5,8 +5,8 @@ use Rattle.machine_model.specs.CoreFile.{core_file}
 use Rattle.machine_model.specs.Cue.{Cue}
 use Rattle.xm_alone.specs.Replay.{Lone, own_view}
 use Rattle.xm_words.specs.Words.{ReplayFiles}
-use Rattle.xm_commands.specs.Ending.{Ending, Denied, Starved}
-use Rattle.xm_commands.specs.Outcome.{Output, unready_denial}
+use Rattle.file_commands.specs.Ending.{Ending, Denied, Starved}
+use Rattle.file_commands.specs.Outcome.{Output, unready_denial}
 
 -- the replay of a partition that boots, by a script
 abbrev pub ready_of : Lone → List Cue → Replay

@@ -1,7 +1,7 @@
 -- The scripts that the program made.
 use Rattle.std.specs.Prelude.{List, map, None, Some, Option, Vec, Result, Ok, Err}
-use Rattle.xm_commands.specs.Denial.{Denial}
-use Rattle.xm_commands.specs.Outcome.{Output}
+use Rattle.file_commands.specs.Denial.{Denial}
+use Rattle.file_commands.specs.Outcome.{Output}
 use Rattle.xm_commands.specs.declared.scripts.MadeScript.{MadeScript}
 
 -- a script that was made, as the file that it becomes

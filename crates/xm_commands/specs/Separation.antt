@@ -14,10 +14,10 @@ use Rattle.machine_model.specs.Machine.{start}
 use Rattle.machine_model.specs.View.{System, view_of}
 use Rattle.whole_system.specs.State.{with_inputs}
 use Rattle.xm_words.specs.Words.{Command, PartFile, RunOption, Bare, Parse, BuildImage, ReadImage, Pack, ListContainer, CheckContainer, MakePlan, CheckPlan, TellGroups, Generate, Run, Replay, cores_in, span_in, scripts_in}
-use Rattle.xm_commands.specs.Inputs.{inputs_for, no_inputs}
-use Rattle.xm_commands.specs.Outcome.{Output, content, script_output, ticks_asked}
+use Rattle.file_commands.specs.Inputs.{inputs_for, no_inputs}
+use Rattle.file_commands.specs.Outcome.{Output, content, script_output, ticks_asked}
 use Rattle.xm_commands.specs.Top.{AreContents}
-use Rattle.xm_commands.specs.Work.{Outside, wrote_all}
+use Rattle.file_commands.specs.Work.{Outside, wrote_all}
 
 -- partition p of a system alone, after so many ticks: from its boot on, it is told its script of them
 abbrev pub alone_after : System → ℕ → ℕ → Alone

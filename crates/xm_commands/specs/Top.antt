@@ -1,16 +1,16 @@
 -- What the top call promises, each promise by a name.
-use Rattle.std.specs.Prelude.{◌≡◌, ◌≢◌, ℕ, zero, suc, ◌+◌, ◌≤◌, ◌⊎◌, List, ◌∷◌, ◌++◌, [], length, Option, Some, None, IsSome, Ok}
+use Rattle.std.specs.Prelude.{◌≡◌, ◌≢◌, ℕ, ◌+◌, ◌≤◌, ◌⊎◌, List, ◌∷◌, ◌++◌, [], length, Option, Some, None, IsSome, Ok}
 use Rattle.std.specs.FinMap.{get}
-use Rattle.xm_outside.specs.Causes.{Rose, counted}
+use Rattle.xm_outside.specs.Causes.{Rose}
 use Rattle.xm_outside.specs.Files.{Files, IsAbsent, OthersStay}
 use Rattle.xm_outside.specs.Growth.{grown, GrewByPrefix}
 use Rattle.xm_words.specs.Words.{Command}
 use Rattle.xm_commands.specs.Answer.{answer, read_all}
-use Rattle.xm_commands.specs.Ending.{Ending, complaint, status_of}
-use Rattle.xm_commands.specs.Outcome.{Output, inputs_of, later_of, name_in, outcome_of, output_of}
-use Rattle.xm_commands.specs.Work.{Outside, IsWorked, told_all, wrote, wrote_all}
-use Rattle.xm_commands.specs.declared.status.Status.{Status}
-use Rattle.xm_commands.specs.declared.status.Status.TheVariants.{Done, Refused, Usage, ReadFault, WriteFault, UartFault, NoMemory}
+use Rattle.file_commands.specs.Ending.{Ending, complaint, status_of}
+use Rattle.file_commands.specs.Outcome.{Output, inputs_of, later_of, name_in, outcome_of, output_of}
+use Rattle.file_commands.specs.Work.{Outside, IsWorked, told_all, wrote, wrote_all, counted_by}
+use Rattle.file_commands.specs.declared.status.Status.{Status}
+use Rattle.file_commands.specs.declared.status.Status.TheVariants.{Done, Refused, Usage, ReadFault, WriteFault, UartFault, NoMemory}
 
 -- a line went out: all of it, or a front where the sink's own count of faults rose
 abbrev pub IsSaid : List ℕ → Option (List ℕ) → ℕ → Option (List ℕ) → ℕ → Type 0
@@ -113,11 +113,6 @@ pub record IsFaultless (before after : Outside) : Type 0 where
   pub reads : after.read_faults ≡ before.read_faults
   pub writes : after.write_faults ≡ before.write_faults
   pub report : after.faults ≡ before.faults
-
--- a counter after so many calls
-abbrev pub counted_by : ℕ → ℕ → ℕ
-counted_by zero n = n
-counted_by (suc k) n = counted_by k (counted n)
 
 -- the files that a command writes, in their order
 abbrev pub writes_of : Command → List (List ℕ)

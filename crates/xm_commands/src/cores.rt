@@ -4,12 +4,12 @@ ghost use Rattle.std.specs.Prelude.{◌≡◌, ◌<◌, ◌≤◌, ℕ, List, If
 ghost use Rattle.core_files.specs.Length.{core_length_of};
 ghost use Rattle.machine_model.specs.View.{view_of};
 ghost use Rattle.xm_commands.specs.Cores.{AreInside, FitInto};
-ghost use Rattle.xm_commands.specs.Outcome.{core_output, core_outputs};
-ghost use Rattle.xm_commands.specs.Told.{AreSaved};
-ghost use Rattle.xm_commands.specs.Work.{Saves, outside};
+ghost use Rattle.file_commands.specs.Outcome.{core_output, core_outputs};
+ghost use Rattle.file_commands.specs.Told.{AreSaved};
+ghost use Rattle.file_commands.specs.Work.{Saves, outside};
 ghost use Rattle.xm_words.specs.Seen.{seen_file, seen_files};
 
-use crate::ending::Ending;
+use file_commands::Ending;
 use std::alloc::Global;
 use xm_base::Memory;
 use xm_machine::Machine;

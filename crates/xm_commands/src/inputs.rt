@@ -2,20 +2,20 @@
 
 ghost use Rattle.std.specs.Prelude.{◌≡◌, ◌∷◌, ◌<◌, ◌^◌, [], IfErr, IfOk, None, Ok, OnOk, length, map};
 ghost use Rattle.xm_commands.specs.Cores.{AreInside};
-ghost use Rattle.xm_commands.specs.Inputs.{first_beyond, inputs_for, inputs_with, no_inputs, named_beyond};
-ghost use Rattle.xm_commands.specs.Outcome.{first_long};
-ghost use Rattle.xm_commands.specs.Packing.{names_of};
-ghost use Rattle.xm_commands.specs.Told.{IsDenied, MakesOr, bytes_of, ending_of};
+ghost use Rattle.file_commands.specs.Inputs.{first_beyond, inputs_for, inputs_with, no_inputs, named_beyond};
+ghost use Rattle.file_commands.specs.Outcome.{first_long};
+ghost use Rattle.file_commands.specs.Packing.{names_of};
+ghost use Rattle.file_commands.specs.Told.{IsDenied, MakesOr, bytes_of, ending_of};
 ghost use Rattle.xm_words.specs.Seen.{seen_file, seen_files, seen_option, seen_options, seen_part_file};
 ghost use Rattle.xm_words.specs.Words.{cores_in, inputs_in, scripts_in};
 
-use crate::ending::{Ending, Refusal};
+use file_commands::{Ending, Refusal};
 use std::alloc::Global;
 use xm_machine::{InputFault, Inputs};
 use xm_words::{PartFile, PartFiles, RunOption, RunOptions};
 
 /// The input words of so many partitions, by options of a run none of whose inputs is too long; or the first refusal.
-#[tactic(auto, unfolding(crate::specs::Inputs::inputs_for))]
+#[tactic(auto, unfolding(file_commands::specs::Inputs::inputs_for))]
 pub(crate) fn inputs_for<'a>(
     alloc: Global,
     parts: u8,

@@ -2,15 +2,15 @@
 
 ghost use Rattle.std.specs.Prelude.{ℕ, List, ◌++◌, Option, length, map};
 ghost use Rattle.xm_commands.specs.Cores.{AreInside, FitInto};
-ghost use Rattle.xm_commands.specs.Outcome.{core_outputs};
+ghost use Rattle.file_commands.specs.Outcome.{core_outputs};
 ghost use Rattle.xm_commands.specs.Scripts.{made_output};
-ghost use Rattle.xm_commands.specs.Told.{AreSaved};
-ghost use Rattle.xm_commands.specs.Work.{outside};
+ghost use Rattle.file_commands.specs.Told.{AreSaved};
+ghost use Rattle.file_commands.specs.Work.{outside};
 ghost use Rattle.xm_words.specs.Seen.{seen_files};
 
 use crate::cores::write_cores;
-use crate::ending::Ending;
 use crate::scripts::{MadeScript, write_scripts};
+use file_commands::Ending;
 use xm_machine::Machine;
 use xm_outside::Store;
 use xm_words::PartFiles;

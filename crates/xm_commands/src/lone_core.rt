@@ -3,12 +3,12 @@
 ghost use Rattle.std.specs.Prelude.{ℕ, ◌≡◌, List, IfOk, Option, length, map, option_copied};
 ghost use Rattle.core_files.specs.Length.{core_length_of};
 ghost use Rattle.xm_alone.specs.Replay.{own_view};
-ghost use Rattle.xm_commands.specs.Outcome.{name_in};
+ghost use Rattle.file_commands.specs.Outcome.{name_in};
 ghost use Rattle.xm_commands.specs.Replaying.{HasRoom, lone_output};
-ghost use Rattle.xm_commands.specs.Told.{AreSaved};
-ghost use Rattle.xm_commands.specs.Work.{Saves, outside};
+ghost use Rattle.file_commands.specs.Told.{AreSaved};
+ghost use Rattle.file_commands.specs.Work.{Saves, outside};
 
-use crate::ending::Ending;
+use file_commands::Ending;
 use std::alloc::Global;
 use xm_alone::Alone;
 use xm_base::Memory;

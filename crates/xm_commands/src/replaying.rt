@@ -5,19 +5,18 @@ ghost use Rattle.xm_base.specs.declared.limits.TheConstants.{FILE_BYTES};
 ghost use Rattle.alone_replay.specs.Readied.{IsReady, Readies, unready_of};
 ghost use Rattle.alone_replay.specs.Ready.{replay_of};
 ghost use Rattle.xm_commands.specs.Boards.{IsLeft, Leaves};
-ghost use Rattle.xm_commands.specs.Outcome.{content, first_long, input_bytes, input_name, name_in, outcome_of, played, replay_outcome};
+ghost use Rattle.file_commands.specs.Outcome.{content, first_long, input_bytes, input_name, name_in, outcome_of, played, replay_outcome};
 ghost use Rattle.xm_commands.specs.Replaying.{ready_of, unready_ending};
-ghost use Rattle.xm_commands.specs.Told.{bytes_of, ending_of};
-ghost use Rattle.xm_commands.specs.Work.{Comes, IsDone, outside};
+ghost use Rattle.file_commands.specs.Told.{bytes_of, ending_of};
+ghost use Rattle.file_commands.specs.Work.{Comes, IsDone, outside};
 ghost use Rattle.xm_words.specs.Seen.{seen_further};
 ghost use Rattle.xm_words.specs.Words.{Replay as ReplayPart, replay_input};
 
-use crate::ending::{Ending, Refusal};
 use crate::lone_core::{lone_room, write_lone_core};
-use crate::reading::{first_long_of_three, read_three, split_contents};
 use crate::running::heard;
 use alone_replay::{Replay, Unready, make_ready};
 use cue_scripts::Script;
+use file_commands::{Ending, Refusal, first_long_of_three, read_three, split_contents};
 use std::alloc::Global;
 use uart_board::{Board, ViewBoard};
 use xm_alone::Alone;
@@ -79,7 +78,7 @@ fn replay_files<'a, S: Store, O: Sink>(
 }
 
 // Replays a partition, where none of the files is too long.
-#[tactic(auto, unfolding(crate::specs::Outcome::replay_outcome))]
+#[tactic(auto, unfolding(file_commands::specs::Outcome::replay_outcome))]
 fn replay_short<'a, S: Store, O: Sink>(
     alloc: Global,
     container: &'a str,

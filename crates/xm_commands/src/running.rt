@@ -4,18 +4,17 @@ ghost use Rattle.std.specs.Prelude.{◌≡◌, ◌≤◌, [], ◌∷◌, Some, l
 ghost use Rattle.xm_base.specs.declared.limits.TheConstants.{TICKS};
 ghost use Rattle.xm_commands.specs.Boards.{EndsRun, IsLeft, Leaves};
 ghost use Rattle.xm_commands.specs.Cores.{AreInside};
-ghost use Rattle.xm_commands.specs.Outcome.{outcome_of, ran};
+ghost use Rattle.file_commands.specs.Outcome.{outcome_of, ran};
 ghost use Rattle.xm_commands.specs.Scripts.{made_output};
-ghost use Rattle.xm_commands.specs.Told.{ending_of};
-ghost use Rattle.xm_commands.specs.Work.{Comes, IsDone, outside};
+ghost use Rattle.file_commands.specs.Told.{ending_of};
+ghost use Rattle.file_commands.specs.Work.{Comes, IsDone, outside};
 ghost use Rattle.xm_words.specs.Seen.{seen_files};
 ghost use Rattle.xm_words.specs.Words.{Bare};
 
 use crate::cores::core_room;
-use crate::ending::{Ending, Refusal};
 use crate::later::write_later;
-use crate::reading::read_file;
 use crate::scripts::MadeScript;
+use file_commands::{Ending, Refusal, read_file};
 use machine_model::keeps_numbers;
 use std::alloc::Global;
 use uart_board::{Board, ViewBoard};

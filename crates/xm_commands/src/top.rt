@@ -2,16 +2,14 @@
 
 ghost use Rattle.std.specs.Prelude.{◌≡◌, ◌≢◌, ◌↔◌, None};
 ghost use Rattle.xm_commands.specs.Boards.{IsMarked, IsPlayed};
-ghost use Rattle.xm_commands.specs.Ending.{Misused, complaint};
+ghost use Rattle.file_commands.specs.Ending.{Misused, complaint};
 ghost use Rattle.xm_commands.specs.Separation.{AreAlone, ShowsAlone, ShowsPart};
 ghost use Rattle.xm_commands.specs.Top.{Answers, HasCauses, IsComplete, IsExplained, IsQuiet, IsSaid, OtherFilesStay};
-ghost use Rattle.xm_commands.specs.Work.{outside};
+ghost use Rattle.file_commands.specs.Work.{outside};
 ghost use Rattle.xm_words.specs.Words.{command_of};
 
-use crate::complaint::complain;
-use crate::ending::{Ending, status};
-use crate::status::Status;
 use crate::work::work;
+use file_commands::{Ending, Status, complain, status};
 use machine_model::{own_lines, same_core_file};
 use std::alloc::Global;
 use uart_board::{Board, ViewBoard};

@@ -6,21 +6,19 @@ ghost use Rattle.cyclic_plans.specs.Slots.{frame_of};
 ghost use Rattle.xm_container.specs.Reading.{unpacked};
 ghost use Rattle.xm_commands.specs.Boards.{IsLeft, Leaves};
 ghost use Rattle.xm_commands.specs.Cores.{AreInside};
-ghost use Rattle.xm_commands.specs.Inputs.{inputs_for};
-ghost use Rattle.xm_commands.specs.Outcome.{content, first_long, outcome_of, ran_with, ran_within, run_outcome, ticks_asked};
-ghost use Rattle.xm_commands.specs.Packing.{names_of};
-ghost use Rattle.xm_commands.specs.Told.{bytes_of, ending_of};
-ghost use Rattle.xm_commands.specs.Work.{Comes, IsDone, outside};
+ghost use Rattle.file_commands.specs.Inputs.{inputs_for};
+ghost use Rattle.file_commands.specs.Outcome.{content, first_long, outcome_of, ran_with, ran_within, run_outcome, ticks_asked};
+ghost use Rattle.file_commands.specs.Packing.{names_of};
+ghost use Rattle.file_commands.specs.Told.{bytes_of, ending_of};
+ghost use Rattle.file_commands.specs.Work.{Comes, IsDone, outside};
 ghost use Rattle.xm_words.specs.Grammar.{count_of};
 ghost use Rattle.xm_words.specs.Seen.{seen_options};
 ghost use Rattle.xm_words.specs.Words.{Run, cores_in, inputs_in, scripts_in, span_in};
 
-use crate::delivery::unmade;
-use crate::ending::{Ending, Refusal};
 use crate::inputs::inputs_for;
-use crate::reading::{first_long, read_files, split_contents};
 use crate::running::run_system;
 use crate::scripts::make_scripts;
+use file_commands::{Ending, Refusal, first_long, read_files, split_contents, unmade};
 use file_maker::no_container;
 use std::alloc::Global;
 use uart_board::{Board, ViewBoard};
@@ -135,7 +133,7 @@ fn run_unpacked<'a, S: Store, O: Sink>(
 }
 
 // Runs a system for as many ticks as options ask for, where a run may have them.
-#[tactic(auto, unfolding(crate::specs::Outcome::ran_within))]
+#[tactic(auto, unfolding(file_commands::specs::Outcome::ran_within))]
 fn run_within<'a, S: Store, O: Sink>(
     alloc: Global,
     container: &'a str,

@@ -2,24 +2,25 @@
 
 ghost use Rattle.std.specs.Prelude.{Some};
 ghost use Rattle.xm_commands.specs.Boards.{IsLeft};
-ghost use Rattle.xm_commands.specs.Told.{ending_of, HasTicks};
-ghost use Rattle.xm_commands.specs.Work.{IsWorked, outside};
+ghost use Rattle.file_commands.specs.Told.{ending_of};
+ghost use Rattle.xm_commands.specs.Ticks.{HasTicks};
+ghost use Rattle.file_commands.specs.Work.{IsWorked, outside};
 ghost use Rattle.xm_words.specs.Seen.{seen};
 ghost use Rattle.xm_words.specs.Words.{command_of};
 
-use crate::ending::Ending;
 use crate::generating::generate;
-use crate::imaging::build_image;
-use crate::packing::pack_files;
-use crate::parsing::parse;
 use crate::replaying::replay_container;
 use crate::running::run_file;
-use crate::telling::tell_file;
 use crate::unpacking::run_container;
+use file_commands::{Ending, build_image, pack_files, parse, tell};
 use file_maker::Telling;
 use std::alloc::Global;
 use uart_board::{Board, ViewBoard};
 use xm_outside::{Sink, Store};
+use xm_words::Command::{
+    Bare, BuildImage, CheckContainer, CheckPlan, Generate, ListContainer, MakePlan, Pack, Parse,
+    ReadImage, Replay, Run, TellGroups,
+};
 use xm_words::{Command, Words, command, grammar};
 
 /// Does what the words say. The answer is how that ended.
@@ -57,58 +58,28 @@ fn carry_out<'a, S: Store, O: Sink>(
     ensures board { IsLeft (ending_of result) (seen (Some command.entry)) (S.files files.old) (O.got out.old) (O.got out.new) (⟦<Board as ViewBoard>⟧.board_view board.old) (⟦<Board as ViewBoard>⟧.board_view board.new) }
 {
     match command {
-        Command::Bare { image, ticks } => run_file(alloc, image, ticks, files, out, board),
-        Command::Parse {
+        Bare { image, ticks } => run_file(alloc, image, ticks, files, out, board),
+        Parse {
             description,
             output,
         } => parse(alloc, description, output, files, out),
-        Command::BuildImage { program, output } => build_image(alloc, program, output, files, out),
-        Command::ReadImage { image } => tell_file(alloc, Telling::Image, image, files, out),
-        Command::Pack {
+        BuildImage { program, output } => build_image(alloc, program, output, files, out),
+        ReadImage { image } => tell(alloc, Telling::Image, image, files, out),
+        Pack {
             configuration,
             output,
             images,
         } => pack_files(alloc, configuration, output, images, files, out),
-        Command::ListContainer { container } => tell_file(
-            alloc,
-            Telling::Container,
-            container,
-            files,
-            out,
-        ),
-        Command::CheckContainer { container } => tell_file(
-            alloc,
-            Telling::Verdict,
-            container,
-            files,
-            out,
-        ),
-        Command::MakePlan { description } => tell_file(
-            alloc,
-            Telling::Plan,
-            description,
-            files,
-            out,
-        ),
-        Command::CheckPlan { description } => tell_file(
-            alloc,
-            Telling::Verdicts,
-            description,
-            files,
-            out,
-        ),
-        Command::TellGroups { description } => tell_file(
-            alloc,
-            Telling::Groups,
-            description,
-            files,
-            out,
-        ),
-        Command::Generate { number } => generate(alloc, number, out),
-        Command::Run { container, options } => {
+        ListContainer { container } => tell(alloc, Telling::Container, container, files, out),
+        CheckContainer { container } => tell(alloc, Telling::Verdict, container, files, out),
+        MakePlan { description } => tell(alloc, Telling::Plan, description, files, out),
+        CheckPlan { description } => tell(alloc, Telling::Verdicts, description, files, out),
+        TellGroups { description } => tell(alloc, Telling::Groups, description, files, out),
+        Generate { number } => generate(alloc, number, out),
+        Run { container, options } => {
             run_container(alloc, container, options, files, out, board)
         }
-        Command::Replay {
+        Replay {
             container,
             part,
             script,

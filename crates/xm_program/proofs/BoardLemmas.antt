@@ -3,9 +3,9 @@ use Rattle.std.proofs.Common.{◌≡◌, ℕ, zero, suc, ◌+◌, ◌-◌, ◌<�
 use Rattle.std.proofs.lemmas.List.{map-set}
 use Rattle.std.specs.Prelude.{option_map}
 use Rattle.uart_board.specs.Views.{BoardView, UartView}
-use Rattle.xm_commands.specs.Status.{code_of}
-use Rattle.xm_commands.specs.declared.status.Status.{Status}
-use Rattle.xm_commands.specs.declared.status.Status.TheVariants.{Done}
+use Rattle.file_commands.specs.Status.{code_of}
+use Rattle.file_commands.specs.declared.status.Status.{Status}
+use Rattle.file_commands.specs.declared.status.Status.TheVariants.{Done}
 use Rattle.xm_program.specs.Called.{IsSomeCall}
 use Rattle.xm_program.specs.Ended.{IsEnded, files_below, unwritten}
 

@@ -1,10 +1,10 @@
 -- What a call that never came to its command is.
 use Rattle.std.proofs.Common.{◌≡◌, ℕ, List, Option, None, refl, inl, inr}
 use Rattle.uart_board.specs.Views.{BoardView}
-use Rattle.xm_commands.specs.Ending.{Misused, complaint}
+use Rattle.file_commands.specs.Ending.{Misused, complaint}
 use Rattle.xm_commands.specs.Top.{IsSaid}
-use Rattle.xm_commands.specs.Work.{Outside, outside}
-use Rattle.xm_commands.specs.declared.status.Status.TheVariants.{Usage, UartFault, NoMemory}
+use Rattle.file_commands.specs.Work.{Outside, outside}
+use Rattle.file_commands.specs.declared.status.Status.TheVariants.{Usage, UartFault, NoMemory}
 use Rattle.xm_program.specs.Called.{IsSomeCall}
 
 -- a store of which nothing is told

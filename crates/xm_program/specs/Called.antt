@@ -4,9 +4,9 @@ use Rattle.uart_board.specs.Views.{BoardView}
 use Rattle.xm_words.specs.Words.{Command}
 use Rattle.xm_commands.specs.Boards.{IsMarked, IsPlayed}
 use Rattle.xm_commands.specs.Top.{IsExplained, IsQuiet}
-use Rattle.xm_commands.specs.Work.{Outside, with_report}
-use Rattle.xm_commands.specs.declared.status.Status.{Status}
-use Rattle.xm_commands.specs.declared.status.Status.TheVariants.{Done, Usage, UartFault, NoMemory}
+use Rattle.file_commands.specs.Work.{Outside, with_report}
+use Rattle.file_commands.specs.declared.status.Status.{Status}
+use Rattle.file_commands.specs.declared.status.Status.TheVariants.{Done, Usage, UartFault, NoMemory}
 
 -- out of memory for the words: nothing was done, and no line went out
 pub record HadNoWords (status : Status) (before after : Outside) (had : Option (List ℕ)) (error_faults : ℕ) (got : Option (List ℕ)) (error_faults_after : ℕ) : Type 0 where

@@ -1,9 +1,9 @@
 -- How the program ends: its exit status, over the files of its UARTs.
 use Rattle.std.specs.Prelude.{◌≡◌, ℕ, ◌-◌, List, ◌++◌, Option, Some, None, replicate}
 use Rattle.uart_board.specs.Views.{BoardView, UartView}
-use Rattle.xm_commands.specs.Status.{code_of}
-use Rattle.xm_commands.specs.declared.status.Status.{Status}
-use Rattle.xm_commands.specs.declared.status.Status.TheVariants.{Done}
+use Rattle.file_commands.specs.Status.{code_of}
+use Rattle.file_commands.specs.declared.status.Status.{Status}
+use Rattle.file_commands.specs.declared.status.Status.TheVariants.{Done}
 use Rattle.xm_program.specs.Called.{IsSomeCall}
 
 -- the UART of a file before its first write: it tells nothing of what it got, and counts no fault

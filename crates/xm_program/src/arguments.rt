@@ -2,7 +2,7 @@
 
 ghost use Rattle.std.specs.Prelude.{◌≡◌, IfOk};
 ghost use Rattle.xm_commands.specs.Top.{Answers};
-ghost use Rattle.xm_commands.specs.Work.{outside};
+ghost use Rattle.file_commands.specs.Work.{outside};
 ghost use Rattle.xm_program.specs.Arguments.{after_name};
 ghost use Rattle.xm_program.specs.Called.{IsCall};
 ghost use Rattle.xm_words.specs.Texts.{texts_of};

@@ -1,6 +1,6 @@
 use Rattle.std.proofs.Common.{Some, None}
 use Rattle.xm_words.specs.Seen.{seen_file, seen_files}
-use Rattle.xm_commands.specs.Work.{outside}
+use Rattle.file_commands.specs.Work.{outside}
 use Rattle.xm_commands.proofs.CoreLemmas.{fits_next, inside_next, lost_next, saves_next, saves_none}
 use Rattle.xm_commands.proofs.cores.write_cores.Goals as goal
 

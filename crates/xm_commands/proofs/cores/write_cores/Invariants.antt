@@ -1,8 +1,8 @@
 use Rattle.std.proofs.Common.{ℕ, List, Option, length}
 use Rattle.xm_words.specs.Seen.{seen_files}
 use Rattle.xm_commands.specs.Cores.{AreInside, FitInto}
-use Rattle.xm_commands.specs.Outcome.{core_outputs}
-use Rattle.xm_commands.specs.Work.{Outside, SavesAll, outside}
+use Rattle.file_commands.specs.Outcome.{core_outputs}
+use Rattle.file_commands.specs.Work.{Outside, SavesAll, outside}
 use Rattle.xm_commands.proofs.cores.write_cores.Given as goal
 
 abbrev pub invariant-loop-first : goal.invariant-loop-first

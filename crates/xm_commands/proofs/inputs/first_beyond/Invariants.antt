@@ -1,6 +1,6 @@
 use Rattle.std.proofs.Common.{◌≡◌, length}
 use Rattle.xm_words.specs.Seen.{seen_options}
-use Rattle.xm_commands.specs.Inputs.{first_beyond}
+use Rattle.file_commands.specs.Inputs.{first_beyond}
 use Rattle.xm_commands.proofs.inputs.first_beyond.Given as goal
 
 abbrev pub invariant-loop-first : goal.invariant-loop-first

@@ -1,6 +1,6 @@
 use Rattle.std.proofs.Common.{map, ap, sym, ◌∙◌, arith}
 use Rattle.std.proofs.lemmas.List.{drop_all}
-use Rattle.xm_commands.specs.Told.{bytes_of}
+use Rattle.file_commands.specs.Told.{bytes_of}
 use Rattle.xm_commands.proofs.InputLemmas.{no_more_inputs}
 use Rattle.xm_commands.proofs.inputs.read_inputs.Goals as goal
 

@@ -1,10 +1,10 @@
 use Rattle.std.proofs.Common.{◌≡◌, map, drop, length, None}
 use Rattle.xm_words.specs.Seen.{seen_files}
 use Rattle.xm_commands.specs.Cores.{AreInside}
-use Rattle.xm_commands.specs.Inputs.{inputs_with, no_inputs}
-use Rattle.xm_commands.specs.Outcome.{first_long}
-use Rattle.xm_commands.specs.Packing.{names_of}
-use Rattle.xm_commands.specs.Told.{bytes_of}
+use Rattle.file_commands.specs.Inputs.{inputs_with, no_inputs}
+use Rattle.file_commands.specs.Outcome.{first_long}
+use Rattle.file_commands.specs.Packing.{names_of}
+use Rattle.file_commands.specs.Told.{bytes_of}
 use Rattle.xm_commands.proofs.inputs.read_inputs.Given as goal
 
 abbrev pub invariant-loop-bytes : goal.invariant-loop-bytes

@@ -1,5 +1,5 @@
 use Rattle.std.proofs.Common.{option_copied}
-use Rattle.xm_commands.specs.Told.{ending_of}
+use Rattle.file_commands.specs.Told.{ending_of}
 use Rattle.xm_commands.proofs.ReplayLemmas.{cut_comes, ended_replay, lone_cut, lone_ended, lone_unsaved, unsaved_replay}
 use Rattle.xm_commands.proofs.replaying.play_ready.Goals as goal
 

@@ -1,9 +1,9 @@
 use Rattle.std.proofs.Common.{map}
 use Rattle.xm_words.specs.Seen.{seen_further}
 use Rattle.xm_words.specs.Words.{Replay}
-use Rattle.xm_commands.specs.Told.{bytes_of, ending_of}
+use Rattle.file_commands.specs.Told.{bytes_of, ending_of}
 use Rattle.xm_commands.proofs.BoardLemmas.{left_by, left_not_all_read}
-use Rattle.xm_commands.proofs.WorkLemmas.{comes_from, done_by, not_all_read_done}
+use Rattle.file_commands.specs.CommandLemmas.{comes_from, done_by, not_all_read_done}
 use Rattle.xm_commands.proofs.replaying.replay_container.Goals as goal
 
 pub returns-in-Ok-clause-done : goal.returns-in-Ok-clause-done

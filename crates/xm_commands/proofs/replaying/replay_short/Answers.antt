@@ -1,8 +1,8 @@
 use Rattle.std.proofs.Common.{map}
 use Rattle.xm_words.specs.Seen.{seen_further}
 use Rattle.xm_words.specs.Words.{replay_input}
-use Rattle.xm_commands.specs.Outcome.{replay_outcome}
-use Rattle.xm_commands.specs.Told.{bytes_of}
+use Rattle.file_commands.specs.Outcome.{replay_outcome}
+use Rattle.file_commands.specs.Told.{bytes_of}
 use Rattle.xm_commands.proofs.ReplayLemmas.{input_short, unready_comes, unready_leaves}
 use Rattle.xm_commands.proofs.replaying.replay_short.Goals as goal
 

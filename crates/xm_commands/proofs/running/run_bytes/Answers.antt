@@ -1,9 +1,10 @@
 use Rattle.std.proofs.Common.{◌≡◌, ℕ, ◌⊎◌, ◌<◌, length, refl, sym, ◌∙◌, ap, subst}
 use Rattle.xm_base.specs.declared.limits.TheConstants.{IMAGE_BYTES}
 use Rattle.xm_words.specs.Words.{Bare}
-use Rattle.xm_commands.specs.Ending.{length_text}
-use Rattle.xm_commands.specs.Outcome.{Outcome, refused}
-use Rattle.xm_commands.proofs.WorkLemmas.{one-long, outcome-length, outcome-image, refused_comes}
+use Rattle.file_commands.specs.Ending.{length_text}
+use Rattle.file_commands.specs.Outcome.{Outcome, refused}
+use Rattle.file_commands.specs.CommandLemmas.{one-long, refused_comes}
+use Rattle.xm_commands.proofs.WorkLemmas.{outcome-length, outcome-image}
 use Rattle.xm_commands.proofs.running.run_bytes.Goals as goal
 
 pub returns-then-bytes-gt-FILE_BYTES-clause-comes : goal.returns-then-bytes-gt-FILE_BYTES-clause-comes

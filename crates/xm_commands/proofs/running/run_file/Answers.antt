@@ -1,9 +1,9 @@
 use Rattle.std.proofs.Common.{[], ◌∷◌, refl}
 use Rattle.xm_words.specs.Words.{Bare}
-use Rattle.xm_commands.specs.Outcome.{outcome_of}
-use Rattle.xm_commands.specs.Told.{ending_of}
+use Rattle.file_commands.specs.Outcome.{outcome_of}
+use Rattle.file_commands.specs.Told.{ending_of}
 use Rattle.xm_commands.proofs.BoardLemmas.{left_by, left_unread}
-use Rattle.xm_commands.proofs.WorkLemmas.{comes_from, done_by_one, not_read_done}
+use Rattle.file_commands.specs.CommandLemmas.{comes_from, done_by_one, not_read_done}
 use Rattle.xm_commands.proofs.running.run_file.Goals as goal
 
 pub returns-in-Ok-clause-done : goal.returns-in-Ok-clause-done

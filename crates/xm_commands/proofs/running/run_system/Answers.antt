@@ -3,7 +3,7 @@ use Rattle.machine_model.specs.Machine.{Machine}
 use Rattle.whole_system.specs.State.{with_inputs}
 use Rattle.xm_words.specs.Seen.{seen_files}
 use Rattle.xm_commands.specs.Scripts.{made_output}
-use Rattle.xm_commands.specs.Told.{ending_of}
+use Rattle.file_commands.specs.Told.{ending_of}
 use Rattle.xm_commands.proofs.BoardLemmas.{left_cut, left_ended, left_unsaved}
 use Rattle.xm_commands.proofs.CoreLemmas.{booted_inside, run_fits, run_inside}
 use Rattle.xm_commands.proofs.WorkLemmas.{ended_comes, started-ticks, started-halted, unsaved_comes, unwritten}

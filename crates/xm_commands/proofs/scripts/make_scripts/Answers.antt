@@ -3,7 +3,7 @@ use Rattle.whole_system.specs.State.{with_inputs}
 use Rattle.xm_words.specs.Seen.{seen_file, seen_options}
 use Rattle.xm_words.specs.Words.{scripts_in}
 use Rattle.xm_commands.specs.Scripts.{made_output}
-use Rattle.xm_commands.specs.Told.{ending_of}
+use Rattle.file_commands.specs.Told.{ending_of}
 use Rattle.xm_commands.proofs.CoreLemmas.{inside_next}
 use Rattle.xm_commands.proofs.ScriptLemmas.{all_made, next_denied, next_made, scripts_begun}
 use Rattle.xm_commands.proofs.scripts.make_scripts.Goals as goal

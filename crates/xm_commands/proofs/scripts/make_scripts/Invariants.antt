@@ -3,10 +3,10 @@ use Rattle.whole_system.specs.State.{with_inputs}
 use Rattle.xm_words.specs.Seen.{seen_files, seen_options}
 use Rattle.xm_words.specs.Words.{scripts_in}
 use Rattle.xm_commands.specs.Cores.{AreInside}
-use Rattle.xm_commands.specs.Inputs.{inputs_for}
-use Rattle.xm_commands.specs.Outcome.{scripts_for}
+use Rattle.file_commands.specs.Inputs.{inputs_for}
+use Rattle.file_commands.specs.Outcome.{scripts_for}
 use Rattle.xm_commands.specs.Scripts.{made_output}
-use Rattle.xm_commands.specs.Told.{bytes_of}
+use Rattle.file_commands.specs.Told.{bytes_of}
 use Rattle.xm_commands.proofs.ScriptLemmas.{scripts_before}
 use Rattle.xm_commands.proofs.scripts.make_scripts.Given as goal
 

@@ -1,7 +1,7 @@
 use Rattle.std.proofs.Common.{Some, None, arith, map, ap}
 use Rattle.std.proofs.lemmas.List.{drop_all}
 use Rattle.xm_commands.specs.Scripts.{made_output}
-use Rattle.xm_commands.specs.Work.{outside}
+use Rattle.file_commands.specs.Work.{outside}
 use Rattle.xm_commands.proofs.ScriptLemmas.{next_left, no_script_left, script_lost, script_saved}
 use Rattle.xm_commands.proofs.scripts.write_scripts.Goals as goal
 

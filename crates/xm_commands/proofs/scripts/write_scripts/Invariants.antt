@@ -1,6 +1,6 @@
 use Rattle.std.proofs.Common.{ℕ, List, Option, map, drop}
 use Rattle.xm_commands.specs.Scripts.{made_output}
-use Rattle.xm_commands.specs.Work.{Outside, SavesAll, outside}
+use Rattle.file_commands.specs.Work.{Outside, SavesAll, outside}
 use Rattle.xm_commands.proofs.scripts.write_scripts.Given as goal
 
 abbrev pub invariant-loop-script : goal.invariant-loop-script

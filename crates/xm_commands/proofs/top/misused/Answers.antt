@@ -1,5 +1,5 @@
 use Rattle.std.proofs.Common.{refl}
-use Rattle.xm_commands.specs.Ending.{Misused, complaint}
+use Rattle.file_commands.specs.Ending.{Misused, complaint}
 use Rattle.xm_commands.proofs.TopLemmas.{said}
 use Rattle.xm_commands.proofs.top.misused.Goals as goal
 

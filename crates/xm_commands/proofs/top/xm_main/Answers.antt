@@ -1,7 +1,7 @@
 use Rattle.std.proofs.Common.{refl}
 use Rattle.xm_words.specs.Words.{command_of}
-use Rattle.xm_commands.specs.Ending.{complaint}
-use Rattle.xm_commands.specs.Told.{ending_of}
+use Rattle.file_commands.specs.Ending.{complaint}
+use Rattle.file_commands.specs.Told.{ending_of}
 use Rattle.xm_commands.proofs.BoardLemmas.{marked, still}
 use Rattle.xm_commands.proofs.SeparationLemmas.{are_alone, are_part}
 use Rattle.xm_commands.proofs.TopLemmas.{done_is_finished, usage_exactly, has_causes, quiet, said, answers, barren, files_stay, writes_stay}

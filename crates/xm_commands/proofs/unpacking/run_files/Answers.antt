@@ -1,9 +1,8 @@
 use Rattle.std.proofs.Common.{map, codes, sym}
 use Rattle.xm_words.specs.Seen.{seen_options}
 use Rattle.xm_words.specs.Words.{Run}
-use Rattle.xm_commands.specs.Told.{bytes_of}
-use Rattle.xm_commands.proofs.OutsideLemmas.{outcome-long}
-use Rattle.xm_commands.proofs.WorkLemmas.{outcome-short, refused_comes}
+use Rattle.file_commands.specs.Told.{bytes_of}
+use Rattle.file_commands.specs.CommandLemmas.{outcome-long, outcome-short, refused_comes}
 use Rattle.xm_commands.proofs.unpacking.run_files.Goals as goal
 
 pub returns-in-Some-clause-comes : goal.returns-in-Some-clause-comes

@@ -1,9 +1,9 @@
 use Rattle.std.proofs.Common.{map, refl}
 use Rattle.xm_words.specs.Seen.{seen_options}
 use Rattle.xm_words.specs.Words.{inputs_in}
-use Rattle.xm_commands.specs.Outcome.{run_outcome}
-use Rattle.xm_commands.specs.Packing.{names_of}
-use Rattle.xm_commands.specs.Told.{bytes_of}
+use Rattle.file_commands.specs.Outcome.{run_outcome}
+use Rattle.file_commands.specs.Packing.{names_of}
+use Rattle.file_commands.specs.Told.{bytes_of}
 use Rattle.xm_commands.proofs.BoardLemmas.{unmade_leaves}
 use Rattle.file_maker.specs.ImagingLemmas.{container_unmade}
 use Rattle.xm_commands.proofs.InputLemmas.{rest_short}

@@ -1,7 +1,7 @@
 use Rattle.std.proofs.Common.{arith, refl}
 use Rattle.xm_words.specs.Seen.{seen_options}
 use Rattle.xm_words.specs.Words.{cores_in}
-use Rattle.xm_commands.specs.Told.{ending_of}
+use Rattle.file_commands.specs.Told.{ending_of}
 use Rattle.xm_commands.proofs.ScriptLemmas.{denied_comes, within_is}
 use Rattle.xm_commands.proofs.unpacking.run_within.Goals as goal
 

@@ -1,4 +1,4 @@
-use Rattle.xm_commands.specs.Told.{ending_of}
+use Rattle.file_commands.specs.Told.{ending_of}
 use Rattle.xm_words.specs.Seen.{seen_files}
 use Rattle.xm_words.specs.Words.{Parse, BuildImage, ReadImage, Pack, ListContainer, CheckContainer, MakePlan, CheckPlan, TellGroups, Generate}
 use Rattle.xm_commands.proofs.BoardLemmas.{build_runs, check_plan_runs, check_runs, generate_runs, left_still, list_runs, make_plan_runs, pack_runs, parse_runs, read_runs, tell_groups_runs}
@@ -12,25 +12,25 @@ pub returns-in-BuildImage-clause-board : goal.returns-in-BuildImage-clause-board
 returns-in-BuildImage-clause-board g c = rw c.in-BuildImage.is (left_still (ending_of c.build_image.result) (BuildImage c.in-BuildImage.program.now c.in-BuildImage.output.now) _ _ _ _ (record { places = _; marks = _ }) (build_runs c.in-BuildImage.program.now c.in-BuildImage.output.now) c.build_image.ensures)
 
 pub returns-in-ReadImage-clause-board : goal.returns-in-ReadImage-clause-board
-returns-in-ReadImage-clause-board g c = rw c.in-ReadImage.is (left_still (ending_of c.tell_file.result) (ReadImage c.in-ReadImage.image.now) _ _ _ _ (record { places = _; marks = _ }) (read_runs c.in-ReadImage.image.now) c.tell_file.ensures)
+returns-in-ReadImage-clause-board g c = rw c.in-ReadImage.is (left_still (ending_of c.tell.result) (ReadImage c.in-ReadImage.image.now) _ _ _ _ (record { places = _; marks = _ }) (read_runs c.in-ReadImage.image.now) c.tell.ensures)
 
 pub returns-in-Pack-clause-board : goal.returns-in-Pack-clause-board
 returns-in-Pack-clause-board g c = rw c.in-Pack.is (left_still (ending_of c.pack_files.result) (Pack c.in-Pack.configuration.now c.in-Pack.output.now (seen_files c.in-Pack.images)) _ _ _ _ (record { places = _; marks = _ }) (pack_runs c.in-Pack.configuration.now c.in-Pack.output.now (seen_files c.in-Pack.images)) c.pack_files.ensures)
 
 pub returns-in-ListContainer-clause-board : goal.returns-in-ListContainer-clause-board
-returns-in-ListContainer-clause-board g c = rw c.in-ListContainer.is (left_still (ending_of c.tell_file-in-ListContainer.result) (ListContainer c.in-ListContainer.container.now) _ _ _ _ (record { places = _; marks = _ }) (list_runs c.in-ListContainer.container.now) c.tell_file-in-ListContainer.ensures)
+returns-in-ListContainer-clause-board g c = rw c.in-ListContainer.is (left_still (ending_of c.tell-in-ListContainer.result) (ListContainer c.in-ListContainer.container.now) _ _ _ _ (record { places = _; marks = _ }) (list_runs c.in-ListContainer.container.now) c.tell-in-ListContainer.ensures)
 
 pub returns-in-CheckContainer-clause-board : goal.returns-in-CheckContainer-clause-board
-returns-in-CheckContainer-clause-board g c = rw c.in-CheckContainer.is (left_still (ending_of c.tell_file-in-CheckContainer.result) (CheckContainer c.in-CheckContainer.container.now) _ _ _ _ (record { places = _; marks = _ }) (check_runs c.in-CheckContainer.container.now) c.tell_file-in-CheckContainer.ensures)
+returns-in-CheckContainer-clause-board g c = rw c.in-CheckContainer.is (left_still (ending_of c.tell-in-CheckContainer.result) (CheckContainer c.in-CheckContainer.container.now) _ _ _ _ (record { places = _; marks = _ }) (check_runs c.in-CheckContainer.container.now) c.tell-in-CheckContainer.ensures)
 
 pub returns-in-MakePlan-clause-board : goal.returns-in-MakePlan-clause-board
-returns-in-MakePlan-clause-board g c = rw c.in-MakePlan.is (left_still (ending_of c.tell_file-in-MakePlan.result) (MakePlan c.in-MakePlan.description.now) _ _ _ _ (record { places = _; marks = _ }) (make_plan_runs c.in-MakePlan.description.now) c.tell_file-in-MakePlan.ensures)
+returns-in-MakePlan-clause-board g c = rw c.in-MakePlan.is (left_still (ending_of c.tell-in-MakePlan.result) (MakePlan c.in-MakePlan.description.now) _ _ _ _ (record { places = _; marks = _ }) (make_plan_runs c.in-MakePlan.description.now) c.tell-in-MakePlan.ensures)
 
 pub returns-in-CheckPlan-clause-board : goal.returns-in-CheckPlan-clause-board
-returns-in-CheckPlan-clause-board g c = rw c.in-CheckPlan.is (left_still (ending_of c.tell_file-in-CheckPlan.result) (CheckPlan c.in-CheckPlan.description.now) _ _ _ _ (record { places = _; marks = _ }) (check_plan_runs c.in-CheckPlan.description.now) c.tell_file-in-CheckPlan.ensures)
+returns-in-CheckPlan-clause-board g c = rw c.in-CheckPlan.is (left_still (ending_of c.tell-in-CheckPlan.result) (CheckPlan c.in-CheckPlan.description.now) _ _ _ _ (record { places = _; marks = _ }) (check_plan_runs c.in-CheckPlan.description.now) c.tell-in-CheckPlan.ensures)
 
 pub returns-in-TellGroups-clause-board : goal.returns-in-TellGroups-clause-board
-returns-in-TellGroups-clause-board g c = rw c.in-TellGroups.is (left_still (ending_of c.tell_file-in-TellGroups.result) (TellGroups c.in-TellGroups.description.now) _ _ _ _ (record { places = _; marks = _ }) (tell_groups_runs c.in-TellGroups.description.now) c.tell_file-in-TellGroups.ensures)
+returns-in-TellGroups-clause-board g c = rw c.in-TellGroups.is (left_still (ending_of c.tell-in-TellGroups.result) (TellGroups c.in-TellGroups.description.now) _ _ _ _ (record { places = _; marks = _ }) (tell_groups_runs c.in-TellGroups.description.now) c.tell-in-TellGroups.ensures)
 
 pub returns-in-Generate-clause-worked : goal.returns-in-Generate-clause-worked
 returns-in-Generate-clause-worked g c = rw c.in-Generate.is (generate_done (ending_of c.generate.result) c.in-Generate.number _ _ _ _ _ _ _ _ c.generate.ensures)

@@ -1,5 +1,5 @@
 use Rattle.std.specs.Prelude.{None}
-use Rattle.xm_commands.specs.Work.{outside}
+use Rattle.file_commands.specs.Work.{outside}
 use Rattle.xm_program.proofs.CallLemmas.{misused_call, starved_call}
 use Rattle.xm_program.proofs.edge.run.Goals as goal
 

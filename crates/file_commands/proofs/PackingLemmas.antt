@@ -1,0 +1,132 @@
+-- Files are read one after another, and what is packed of them.
+use Rattle.std.proofs.Common.{◌≡◌, ℕ, false, List, [], ◌∷◌, ◌++◌, map, drop, Option, Some, None, Result, Ok, Err, is_ok, is_err, if◌then◌else◌, refl, sym, ap, ◌∙◌, subst}
+use Rattle.std.proofs.lemmas.List.{append_assoc, append-nil, map-append}
+use Rattle.xm_base.specs.declared.limits.TheConstants.{FILE_BYTES}
+use Rattle.xm_outside.specs.Files.{Files, ReadsFile}
+use Rattle.xm_container.specs.declared.image.Image.{Image as Given}
+use Rattle.xm_words.specs.Words.{PartFile, Pack}
+use Rattle.file_commands.specs.Denial.{Denial}
+use Rattle.file_commands.specs.Ending.{Ending, Finished, Misused, Unread, Denied, Unwritten, Unsaved, Unheard, Starved}
+use Rattle.file_commands.specs.Outcome.{Outcome, content, first_long, outcome_of, packed_to, unless_long, worked}
+use Rattle.file_commands.specs.Packing.{container_of, images_of, limited, names_of}
+use Rattle.file_commands.specs.Read.{HasRead}
+use Rattle.file_commands.specs.Work.{Outside, AreNotRead, Comes, IsNotRead, IsStarved, ReadsFiles, called, called_for}
+use Rattle.file_commands.specs.OutputLemmas.{called_for-is}
+
+-- Files are read.
+
+-- before the first of them nothing was read
+pub has_none : (all : List (List ℕ)) (before : Outside) → HasRead all all [] before before
+has_none all before = record { first = []; named = refl; read = tt; outside = refl }
+
+pub read_begun : (all contents : List (List ℕ)) (before : Outside) → contents ≡ [] → HasRead all all contents before before
+read_begun all contents before none = subst (λ (got : List (List ℕ)). HasRead all all got before before) (sym none) (has_none all before)
+
+-- one file more was read
+reads_more : (told : Option Files) (first contents : List (List ℕ)) (file bytes : List ℕ) → ReadsFiles told first contents → ReadsFile told file FILE_BYTES bytes → ReadsFiles told (first ++ file ∷ []) (contents ++ bytes ∷ [])
+reads_more told [] [] file bytes read more = (more, tt)
+reads_more told [] (other ∷ contents) file bytes read more = absurd read
+reads_more told (name ∷ first) [] file bytes read more = absurd read
+reads_more told (name ∷ first) (other ∷ contents) file bytes read more = (read.0, reads_more told first contents file bytes read.1 more)
+
+-- a call for one file more
+called_for-more : (first : List (List ℕ)) (file : List ℕ) (before : Outside) → called_for (first ++ file ∷ []) before ≡ called (called_for first before)
+called_for-more [] file before = refl
+called_for-more (name ∷ first) file before = called_for-more first file (called before)
+
+-- the files behind the one that is read next
+behind : (all first rest : List (List ℕ)) (file : List ℕ) → all ≡ first ++ file ∷ rest → all ≡ (first ++ file ∷ []) ++ rest
+behind all first rest file named = named ∙ sym (append_assoc first (file ∷ []) rest)
+
+-- the next file was read
+pub has_more : (all rest contents : List (List ℕ)) (file bytes : List ℕ) (before now next : Outside) → HasRead all (file ∷ rest) contents before now → ReadsFile now.files file FILE_BYTES bytes → next ≡ called now
+    → HasRead all rest (contents ++ bytes ∷ []) before next
+has_more all rest contents file bytes before now next had read is =
+    let files : now.files ≡ before.files = ap (λ (x : Outside). x.files) (had.outside ∙ called_for-is had.first before) in
+    record {
+      first = had.first ++ file ∷ [];
+      named = behind all had.first rest file had.named;
+      read = reads_more before.files had.first contents file bytes had.read (subst (λ (told : Option Files). ReadsFile told file FILE_BYTES bytes) files read);
+      outside = is ∙ ap called had.outside ∙ sym (called_for-more had.first file before);
+    }
+
+-- the next file was read, where what is still to be read and what was read are known by other words
+pub has_next : (all rest names contents read : List (List ℕ)) (file bytes : List ℕ) (before now next : Outside) → HasRead all (file ∷ rest) contents before now → ReadsFile now.files file FILE_BYTES bytes → next ≡ called now
+    → rest ≡ names → contents ++ bytes ∷ [] ≡ read → HasRead all names read before next
+has_next all rest names contents read file bytes before now next had reads is same pushed =
+    subst (λ (files : List (List ℕ)). HasRead all files read before next) same
+    (subst (λ (got : List (List ℕ)). HasRead all rest got before next) pushed (has_more all rest contents file bytes before now next had reads is))
+
+-- the next file was not read
+pub not_more : (e : Ending) (all rest contents : List (List ℕ)) (file : List ℕ) (before now after : Outside) → HasRead all (file ∷ rest) contents before now → IsNotRead e file now after → AreNotRead e all before after
+not_more Finished all rest contents file before now after had not_read = absurd not_read
+not_more Misused all rest contents file before now after had not_read = absurd not_read
+not_more (Unread other) all rest contents file before now after had not_read =
+    let here = subst (λ (n : Outside). IsNotRead (Unread other) file n after) had.outside not_read in
+    let cause = subst (λ (n : Outside). IsNotRead (Unread other) file n after) (had.outside ∙ called_for-is had.first before) not_read in
+    record { first = had.first; rest = rest; named = rw here.0 had.named; contents = contents; read = had.read; cause = rw here.0 cause.1; outside = here.2 }
+not_more (Denied other text) all rest contents file before now after had not_read = absurd not_read
+not_more Unwritten all rest contents file before now after had not_read = absurd not_read
+not_more (Unsaved other) all rest contents file before now after had not_read = absurd not_read
+not_more (Unheard place) all rest contents file before now after had not_read = absurd not_read
+not_more Starved all rest contents file before now after had not_read = record {
+  first = had.first ++ file ∷ [];
+  rest = rest;
+  named = behind all had.first rest file had.named;
+  outside = not_read ∙ ap called had.outside ∙ sym (called_for-more had.first file before);
+}
+
+-- there was no memory for what was read
+pub starved_there : (all rest contents : List (List ℕ)) (before now : Outside) → HasRead all rest contents before now → IsStarved all before now
+starved_there all rest contents before now had = record { first = had.first; rest = rest; named = had.named; outside = had.outside }
+
+-- all were read
+pub has_all : (all contents : List (List ℕ)) (before now : Outside) → HasRead all [] contents before now → ReadsFiles before.files all contents × (now ≡ called_for all before)
+has_all all contents before now had =
+    let same : had.first ≡ all = sym (had.named ∙ append-nil had.first) in
+    (subst (λ (files : List (List ℕ)). ReadsFiles before.files files contents) same had.read, had.outside ∙ ap (λ (files : List (List ℕ)). called_for files before) same)
+
+-- a choice by a result that is no error
+pub chose_ok : {T E X : Type 0} (r : Result T E) (new more old : List X) → is_err r ≡ false → new ≡ (if is_ok r then more else old) → new ≡ more
+chose_ok (Ok value) new more old ok is = is
+chose_ok (Err e) new more old ok is = absurd (let no : ⊥ = cc in no)
+
+-- a list's images are those of its parts
+pub map_push : {X Y : Type 0} (f : X → Y) (xs ys : List X) (x : X) → ys ≡ xs ++ x ∷ [] → map f xs ++ f x ∷ [] ≡ map f ys
+map_push f xs ys x is = sym (ap (map f) is ∙ map-append f xs (x ∷ []))
+
+-- Images are read.
+
+-- images that were read before those that are still to be read
+abbrev pub after_images : List Given → Result (List Given) Denial → Result (List Given) Denial
+after_images read (Ok images) = Ok (read ++ images)
+after_images read (Err refusal) = Err refusal
+
+-- without contents nothing more is read
+no_images : (files : List PartFile) → images_of files [] ≡ Ok []
+no_images [] = refl
+no_images (named ∷ files) = refl
+
+-- without contents nothing more is read
+pub no_more_contents : (read : List Given) (files : List PartFile) (contents : List (List ℕ)) → contents ≡ [] → after_images read (images_of files contents) ≡ Ok read
+no_more_contents read files contents none = ap (λ (c : List (List ℕ)). after_images read (images_of files c)) none ∙ ap (after_images read) (no_images files) ∙ ap Ok (append-nil read)
+
+-- What is packed.
+
+-- what a command comes to that packs
+outcome-pack : (configuration output : List ℕ) (images : List PartFile) (contents : List (List ℕ)) → outcome_of (Pack configuration output images) contents
+    ≡ packed_to output (limited (first_long (configuration ∷ names_of images) contents) (container_of configuration (content 0 contents) images (drop 1 contents)))
+unfolding outcome_of
+outcome-pack configuration output images contents = at (first_long (configuration ∷ names_of images) contents)
+  where
+    at : (long : Option (List ℕ)) → unless_long long (worked (Pack configuration output images) contents) ≡ packed_to output (limited long (container_of configuration (content 0 contents) images (drop 1 contents)))
+    at None = refl
+    at (Some file) = refl
+
+-- what is done with what is packed is what the command comes to, seen from another state that is the same
+pub comes_packed : (e : Ending) (configuration output : List ℕ) (images : List PartFile) (contents : List (List ℕ)) (mid other after : Outside) → mid ≡ other
+    → Comes e (packed_to output (limited (first_long (configuration ∷ names_of images) contents) (container_of configuration (content 0 contents) images (drop 1 contents)))) mid after
+    → Comes e (outcome_of (Pack configuration output images) contents) other after
+comes_packed e configuration output images contents mid other after same comes =
+    subst (λ (outcome : Outcome). Comes e outcome other after) (sym (outcome-pack configuration output images contents))
+    (subst (λ (m : Outside). Comes e (packed_to output (limited (first_long (configuration ∷ names_of images) contents) (container_of configuration (content 0 contents) images (drop 1 contents)))) m after) same comes)

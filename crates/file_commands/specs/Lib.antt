@@ -1,0 +1,14 @@
+pub mod CommandLemmas
+pub mod Denial
+pub mod Ending
+pub mod Inputs
+pub mod LaterLemmas
+pub mod Makes
+pub mod Outcome
+pub mod OutputLemmas
+pub mod Packing
+pub mod Read
+pub mod Status
+pub mod Telling
+pub mod Told
+pub mod Work

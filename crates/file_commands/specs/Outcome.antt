@@ -1,0 +1,302 @@
+-- What the contents of the files that a command reads come to.
+use Rattle.std.specs.Prelude.{ℕ, ◌*◌, ◌==◌, if◌then◌else◌, nat_lt, ◌||◌, List, [], ◌∷◌, ◌++◌, length, drop, codes, decimal, map, slice_index_or, Option, Some, None, Result, Ok, Err}
+use Rattle.xm_base.specs.declared.limits.TheConstants.{FILE_BYTES, IMAGE_BYTES, TICKS}
+use Rattle.xm_report.specs.Report.{texts}
+use Rattle.xm_conf.specs.Configuration.{Conf}
+use Rattle.cyclic_plans.specs.Slots.{frame_of}
+use Rattle.machine_model.specs.CoreFile.{core_file}
+use Rattle.machine_model.specs.Cue.{Cue, script}
+use Rattle.machine_model.specs.Lines.{report}
+use Rattle.machine_model.specs.Machine.{Machine, run, start}
+use Rattle.machine_model.specs.View.{System as Booted, view_of}
+use Rattle.generated_runs.specs.Told.{generated_text}
+use Rattle.whole_system.specs.State.{part_at, with_inputs}
+use Rattle.cue_scripts.specs.Spelling.{script_text}
+use Rattle.cue_scripts.specs.Texts.{text}
+use Rattle.cue_scripts.specs.declared.fault.ScriptFault.TheVariants as script_fault
+use Rattle.xm_alone.specs.Replay.{replay_lines, replayed}
+use Rattle.alone_replay.specs.Ready.{NoContainer, NoPartition, NoScript, OddInput, Replay as Readied, Unready, replay_of}
+use Rattle.loaded_system.specs.Bare.{bare_system}
+use Rattle.loaded_system.specs.System.{System}
+use Rattle.xm_container.specs.Reading.{unpacked}
+use Rattle.xm_container.specs.Texts.{box_fault_text}
+use Rattle.xm_container.specs.declared.fault.BoxFault.{BoxFault}
+use Rattle.xm_words.specs.Words.{Command, PartFile, RunOption, Bare, Parse, BuildImage, ReadImage, Pack, ListContainer, CheckContainer, MakePlan, CheckPlan, TellGroups, Generate, Run, Replay, ReplayFiles, cores_in, inputs_in, replay_core, replay_input, span_in, scripts_in}
+use Rattle.xm_words.specs.declared.commands.Span.{Span}
+use Rattle.xm_words.specs.declared.commands.Span.TheVariants.{Frames, Ticks}
+use Rattle.file_commands.specs.Denial.{Denial}
+use Rattle.file_commands.specs.Ending.{input_text, length_text, partition_text, ticks_text}
+use Rattle.file_maker.specs.Grouping.{groups_of}
+use Rattle.file_maker.specs.Imaging.{container_lines_of, container_verdict_of, image_lines_of, xef_of}
+use Rattle.file_commands.specs.Inputs.{inputs_for, no_inputs}
+use Rattle.file_commands.specs.Packing.{container_of, denial, names_of}
+use Rattle.file_maker.specs.Parsing.{xmc_of}
+use Rattle.file_maker.specs.Planning.{plan_lines_of, verdicts_of}
+
+-- a file that is written
+pub record Output : Type 0 where
+  pub file : List ℕ
+  pub bytes : List ℕ
+
+-- a run: the system, with the input words of its partitions, and for how many ticks; or one partition of the system alone, with all that it is told
+pub data Running : Type 0 where
+  Together : (system : Booted) (ticks : ℕ) → Running
+  Apart : (system : Booted) (p : ℕ) (cues : List Cue) → Running
+
+-- what a command comes to: its refusal, if there is one, the file that it writes first, what goes to the report, the files that it writes after
+-- the report, in their order, and the run whose report that is
+pub record Outcome : Type 0 where
+  pub denial : Option Denial
+  pub output : Option Output
+  pub report : List ℕ
+  pub later : List Output
+  pub run : Option Running
+
+-- a command that is refused so, and does nothing
+abbrev pub refused_by : Denial → Outcome
+refused_by denial = record { denial = Some denial; output = None; report = []; later = []; run = None }
+
+-- a command that is refused because of a file, and does nothing
+abbrev pub refused : List ℕ → List ℕ → Outcome
+refused file text = refused_by (record { file = file; text = text })
+
+-- a file's name, where there is one
+abbrev pub name_in : Option (List ℕ) → List (List ℕ)
+name_in None = []
+name_in (Some file) = file ∷ []
+
+-- the files that a command reads, in the order of its words
+abbrev pub inputs_of : Command → List (List ℕ)
+inputs_of (Bare image ticks) = image ∷ []
+inputs_of (Parse description output) = description ∷ []
+inputs_of (BuildImage program output) = program ∷ []
+inputs_of (ReadImage image) = image ∷ []
+inputs_of (Pack configuration output images) = configuration ∷ names_of images
+inputs_of (ListContainer container) = container ∷ []
+inputs_of (CheckContainer container) = container ∷ []
+inputs_of (MakePlan description) = description ∷ []
+inputs_of (CheckPlan description) = description ∷ []
+inputs_of (TellGroups description) = description ∷ []
+inputs_of (Generate number) = []
+inputs_of (Run container options) = container ∷ names_of (inputs_in options)
+inputs_of (Replay container part script further) = container ∷ script ∷ name_in (replay_input further)
+
+-- the file that a command writes before its report
+abbrev pub output_of : Command → Option (List ℕ)
+output_of (Bare image ticks) = None
+output_of (Parse description output) = Some output
+output_of (BuildImage program output) = Some output
+output_of (ReadImage image) = None
+output_of (Pack configuration output images) = Some output
+output_of (ListContainer container) = None
+output_of (CheckContainer container) = None
+output_of (MakePlan description) = None
+output_of (CheckPlan description) = None
+output_of (TellGroups description) = None
+output_of (Generate number) = None
+output_of (Run container options) = None
+output_of (Replay container part script further) = None
+
+-- the files that a command writes after its report, in their order
+abbrev pub later_of : Command → List (List ℕ)
+later_of (Bare image ticks) = []
+later_of (Parse description output) = []
+later_of (BuildImage program output) = []
+later_of (ReadImage image) = []
+later_of (Pack configuration output images) = []
+later_of (ListContainer container) = []
+later_of (CheckContainer container) = []
+later_of (MakePlan description) = []
+later_of (CheckPlan description) = []
+later_of (TellGroups description) = []
+later_of (Generate number) = []
+later_of (Run container options) = names_of (cores_in options) ++ names_of (scripts_in options)
+later_of (Replay container part script further) = name_in (replay_core further)
+
+-- the core file of a partition of a machine, under the name that is given for it
+abbrev pub core_output : Machine → PartFile → Output
+core_output g named = record { file = named.file; bytes = core_file (view_of g.system named.part) (part_at named.part g) }
+
+-- the core files of partitions of a machine, in the order of their names
+unfoldable pub core_outputs : Machine → List PartFile → List Output
+core_outputs g cores = map (core_output g) cores
+
+-- the script of a partition: all that it is told in so many ticks from the boot of its system on
+abbrev pub script_bytes : Booted → ℕ → ℕ → List ℕ
+script_bytes system ticks p = script_text p (script (start system) p ticks)
+
+-- under the name that is given for it
+abbrev pub script_output : Booted → ℕ → PartFile → Output
+script_output system ticks named = record { file = named.file; bytes = script_bytes system ticks named.part }
+
+-- the refusal of a script that has more bytes than a file may have
+abbrev pub script_denial : Booted → ℕ → PartFile → Option Denial
+script_denial system ticks named =
+    if nat_lt FILE_BYTES (length (script_bytes system ticks named.part)) then Some (denial named.file (text (script_fault.Length (length (script_bytes system ticks named.part)))))
+    else None
+
+-- the first refusal of scripts in the order of their names, or else what comes of them
+abbrev pub unless_denied : Option Denial → Result (List Output) Denial → Result (List Output) Denial
+unless_denied None outputs = outputs
+unless_denied (Some refusal) outputs = Err refusal
+
+-- a script before others
+abbrev pub script_before : Output → Result (List Output) Denial → Result (List Output) Denial
+script_before output (Ok outputs) = Ok (output ∷ outputs)
+script_before output (Err refusal) = Err refusal
+
+-- the scripts of partitions in the order of their names, or the refusal of the first that is too long for a file
+abbrev pub scripts_for : Booted → ℕ → List PartFile → Result (List Output) Denial
+scripts_for system ticks [] = Ok []
+scripts_for system ticks (named ∷ scripts) =
+    unless_denied (script_denial system ticks named) (script_before (script_output system ticks named) (scripts_for system ticks scripts))
+
+-- what a run of so many ticks comes to, of a system whose partitions have these input words, with these core files, and with scripts behind them
+unfoldable pub ran : ℕ → List PartFile → List Output → System → List (List ℕ) → Outcome
+ran ticks cores scripts system inputs = record {
+  denial = None;
+  output = None;
+  report = texts (report (with_inputs system inputs) ticks);
+  later = core_outputs (run (start (with_inputs system inputs)) ticks) cores ++ scripts;
+  run = Some (Together (with_inputs system inputs) ticks);
+}
+
+-- what a raw image comes to, run for so many ticks without input words
+unfoldable pub bare_outcome : List ℕ → ℕ → List ℕ → Outcome
+bare_outcome file ticks image =
+    if (length image == 0) || nat_lt IMAGE_BYTES (length image) then refused file (length_text (length image))
+    else ran ticks [] [] (bare_system image) (no_inputs 1)
+
+-- how many ticks a run asks for, under a configuration: major frames are those of plan 0
+abbrev pub ticks_asked : Span → Conf → ℕ
+ticks_asked (Frames count) conf = count * frame_of conf 0
+ticks_asked (Ticks count) conf = count
+
+-- what a run comes to with scripts, or the refusal of one of them
+abbrev pub ran_scripted : ℕ → List PartFile → System → List (List ℕ) → Result (List Output) Denial → Outcome
+ran_scripted ticks cores system inputs (Ok scripts) = ran ticks cores scripts system inputs
+ran_scripted ticks cores system inputs (Err refusal) = refused_by refusal
+
+-- what a run comes to, of a container's system with these input words: it is refused where it asks for more ticks than a run may have, and
+-- where a script of it is too long
+abbrev pub ran_for : List ℕ → ℕ → List RunOption → System → List (List ℕ) → Outcome
+ran_for file asked options system inputs =
+    if nat_lt TICKS asked then refused file (ticks_text asked)
+    else ran_scripted asked (cores_in options) system inputs (scripts_for (with_inputs system inputs) asked (scripts_in options))
+
+-- what a run comes to, by the ticks that its options ask for
+unfoldable pub ran_within : List ℕ → List RunOption → System → List (List ℕ) → Outcome
+ran_within file options system inputs = ran_for file (ticks_asked (span_in options) system.conf) options system inputs
+
+-- what a run comes to, of a container's system with input words, or the refusal of an input's file
+abbrev pub ran_with : List ℕ → List RunOption → System → Result (List (List ℕ)) Denial → Outcome
+ran_with file options system (Ok inputs) = ran_within file options system inputs
+ran_with file options system (Err refusal) = refused_by refusal
+
+-- what a container comes to that is run with options and inputs with these contents, or the refusal of its file
+abbrev pub run_by : List ℕ → List RunOption → List (List ℕ) → Result System BoxFault → Outcome
+run_by file options contents (Ok system) =
+    ran_with file options system (inputs_for (length system.conf.parts) options contents)
+run_by file options contents (Err fault) = refused file (box_fault_text fault)
+
+-- what the container of a file with these bytes comes to, run with options and inputs with these contents
+unfoldable pub run_outcome : List ℕ → List RunOption → List ℕ → List (List ℕ) → Outcome
+run_outcome file options bytes contents = run_by file options contents (unpacked bytes)
+
+-- the core file of a partition that was replayed, under the name that is given for it
+abbrev pub replay_output : Readied → List ℕ → Output
+replay_output replay file = record { file = file; bytes = core_file (view_of replay.system replay.p) (replayed (view_of replay.system replay.p) replay.cues).state }
+
+-- what a replay comes to that may begin: the partition's lines and that of its end, and its core file behind them, where a file is named for it
+unfoldable pub played : Option (List ℕ) → Readied → Outcome
+played core replay = record {
+  denial = None;
+  output = None;
+  report = texts (replay_lines (view_of replay.system replay.p) replay.cues);
+  later = map (replay_output replay) (name_in core);
+  run = Some (Apart replay.system replay.p replay.cues);
+}
+
+-- the name of the file of input words, where there is one
+abbrev pub input_name : Option (List ℕ) → List ℕ
+input_name None = []
+input_name (Some file) = file
+
+-- the bytes of input words: none where there is no file of them
+abbrev pub input_bytes : Option (List ℕ) → List ℕ → List ℕ
+input_bytes None bytes = []
+input_bytes (Some file) bytes = bytes
+
+-- which file a replay is refused for, and why
+abbrev pub unready_denial : List ℕ → ℕ → List ℕ → ReplayFiles → Unready → Denial
+unready_denial container part script further (NoContainer text) = denial container text
+unready_denial container part script further NoPartition = denial container (partition_text part)
+unready_denial container part script further (NoScript text) = denial script text
+unready_denial container part script further (OddInput count) = denial (input_name (replay_input further)) (input_text count)
+
+-- what a replay comes to, or its refusal
+abbrev pub replay_by : List ℕ → ℕ → List ℕ → ReplayFiles → Result Readied Unready → Outcome
+replay_by container part script further (Ok replay) = played (replay_core further) replay
+replay_by container part script further (Err why) = refused_by (unready_denial container part script further why)
+
+-- what a container, a script and input words with these contents come to, by which a partition is replayed
+unfoldable pub replay_outcome : List ℕ → ℕ → List ℕ → ReplayFiles → List ℕ → List ℕ → List ℕ → Outcome
+replay_outcome container part script further bytes told input = replay_by container part script further (replay_of bytes part told input)
+
+-- what is printed of a file that was made
+unfoldable pub made_text : ℕ → List ℕ
+made_text length = codes "ok length=" ++ decimal length ++ codes "\n"
+
+-- what a file comes to out of which another is made: that file, or a refusal
+abbrev pub made : List ℕ → List ℕ → Result (List ℕ) (List ℕ) → Outcome
+made input output (Ok bytes) = record { denial = None; output = Some (record { file = output; bytes = bytes }); report = made_text (length bytes); later = []; run = None }
+made input output (Err text) = refused input text
+
+-- what files come to that are packed: their container, or the refusal of one of them
+abbrev pub packed_to : List ℕ → Result (List ℕ) Denial → Outcome
+packed_to output (Ok bytes) = record { denial = None; output = Some (record { file = output; bytes = bytes }); report = made_text (length bytes); later = []; run = None }
+packed_to output (Err denial) = refused_by denial
+
+-- what a command comes to that prints a text, and does nothing else
+abbrev pub printed : List ℕ → Outcome
+printed text = record { denial = None; output = None; report = text; later = []; run = None }
+
+-- what a file comes to that is told: its text, or a refusal
+abbrev pub told : List ℕ → Result (List ℕ) (List ℕ) → Outcome
+told file (Ok text) = printed text
+told file (Err text) = refused file text
+
+-- the content of the file of this number
+abbrev pub content : ℕ → List (List ℕ) → List ℕ
+content n contents = slice_index_or contents n []
+
+-- what the contents of the files come to, where none of them is too long
+abbrev pub worked : Command → List (List ℕ) → Outcome
+worked (Bare image ticks) contents = bare_outcome image ticks (content 0 contents)
+worked (Parse description output) contents = made description output (xmc_of (content 0 contents))
+worked (BuildImage program output) contents = made program output (xef_of (content 0 contents))
+worked (ReadImage image) contents = told image (image_lines_of (content 0 contents))
+worked (Pack configuration output images) contents = packed_to output (container_of configuration (content 0 contents) images (drop 1 contents))
+worked (ListContainer container) contents = told container (container_lines_of (content 0 contents))
+worked (CheckContainer container) contents = told container (container_verdict_of (content 0 contents))
+worked (MakePlan description) contents = told description (plan_lines_of (content 0 contents))
+worked (CheckPlan description) contents = told description (verdicts_of (content 0 contents))
+worked (TellGroups description) contents = told description (groups_of (content 0 contents))
+worked (Generate number) contents = printed (generated_text number)
+worked (Run container options) contents = run_outcome container options (content 0 contents) (drop 1 contents)
+worked (Replay container part script further) contents = replay_outcome container part script further (content 0 contents) (content 1 contents) (input_bytes (replay_input further) (content 2 contents))
+
+-- the first of the files that has more bytes than a file may have
+abbrev pub first_long : List (List ℕ) → List (List ℕ) → Option (List ℕ)
+first_long [] contents = None
+first_long (file ∷ files) [] = None
+first_long (file ∷ files) (bytes ∷ contents) = if nat_lt FILE_BYTES (length bytes) then Some file else first_long files contents
+
+-- a file that is too long is refused before any work is done
+abbrev pub unless_long : Option (List ℕ) → Outcome → Outcome
+unless_long None outcome = outcome
+unless_long (Some file) outcome = refused file (codes "too-long")
+
+-- what the contents of the files that a command reads come to
+unfoldable pub outcome_of : Command → List (List ℕ) → Outcome
+outcome_of command contents = unless_long (first_long (inputs_of command) contents) (worked command contents)

@@ -1,0 +1,68 @@
+-- What the program's endings say.
+use Rattle.std.specs.Prelude.{◌≡◌, ℕ, ⊤, List, map, codes, None, Vec, Result, Ok, Err}
+use Rattle.std.specs.String.{string_bytes}
+use Rattle.xm_base.specs.declared.limits.TheConstants.{FILE_BYTES}
+use Rattle.xm_outside.specs.Files.{ReadsFile}
+use Rattle.file_commands.specs.Ending.{Ending, Finished, Misused, Unread, Denied, Unwritten, Unsaved, Unheard, Starved, input_text, length_text, partition_text, ticks_text}
+use Rattle.file_commands.specs.Denial.{Denial}
+use Rattle.file_commands.specs.Outcome.{Output}
+use Rattle.file_commands.specs.Work.{Outside, AreNotRead, AreNotSaved, IsNotRead, ReadsFiles, SavesAll, called, called_for}
+use Rattle.file_commands.specs.declared.ending.Refusal.{Refusal}
+use Rattle.file_commands.specs.declared.ending.Refusal.TheVariants.{TooLong, Length, Ticks, Partition, Input, Told}
+use Rattle.file_commands.specs.declared.ending.Ending as code
+use Rattle.file_commands.specs.declared.ending.Ending.TheVariants as variant
+
+-- the fault text of a refusal
+abbrev pub refusal_text : Refusal → List ℕ
+refusal_text TooLong = codes "too-long"
+refusal_text (Length found) = length_text found
+refusal_text (Ticks asked) = ticks_text asked
+refusal_text (Partition id) = partition_text id
+refusal_text (Input found) = input_text found
+refusal_text (Told text) = string_bytes text
+
+-- what an ending of the program says
+abbrev pub ending_of : code.Ending → Ending
+ending_of variant.Finished = Finished
+ending_of variant.Misused = Misused
+ending_of (variant.Unread file) = Unread file.now
+ending_of (variant.Denied file why) = Denied file.now (refusal_text why)
+ending_of variant.Unwritten = Unwritten
+ending_of (variant.Unsaved file) = Unsaved file.now
+ending_of (variant.Unheard place) = Unheard place
+ending_of variant.Starved = Starved
+
+-- a file was read, or the call ends without it
+abbrev pub IsRead : {A : Type 0} → Result (Vec ℕ A) code.Ending → List ℕ → Outside → Outside → Type 0
+IsRead (Ok bytes) file before after = ReadsFile before.files file FILE_BYTES bytes.items × (after ≡ called before)
+IsRead (Err ending) file before after = IsNotRead (ending_of ending) file before after
+
+-- the bytes of a vector
+abbrev pub bytes_of : {A : Type 0} → Vec ℕ A → List ℕ
+bytes_of bytes = bytes.items
+
+-- files were read, or the call ends without them
+abbrev pub AreRead : {A B : Type 0} → Result (Vec (Vec ℕ A) B) code.Ending → List (List ℕ) → Outside → Outside → Type 0
+AreRead (Ok contents) files before after = ReadsFiles before.files files (map bytes_of contents.items) × (after ≡ called_for files before)
+AreRead (Err ending) files before after = AreNotRead (ending_of ending) files before after
+
+-- files were written, or the call ends because one of them was not
+abbrev pub AreSaved : {T : Type 0} → Result T code.Ending → List Output → Outside → Outside → Type 0
+AreSaved (Ok _) outputs before after = SavesAll None outputs before after
+AreSaved (Err ending) outputs before after = AreNotSaved (ending_of ending) outputs before after
+
+-- the call ends by this refusal, or there was no memory
+abbrev pub IsDenied : {X : Type 0} → Ending → Result X Denial → Type 0
+IsDenied Finished made = ⊥
+IsDenied Misused made = ⊥
+IsDenied (Unread file) made = ⊥
+IsDenied (Denied file text) made = made ≡ Err (record { file = file; text = text })
+IsDenied Unwritten made = ⊥
+IsDenied (Unsaved file) made = ⊥
+IsDenied (Unheard place) made = ⊥
+IsDenied Starved made = ⊤
+
+-- what was made is that of the definition, and so is the refusal by which the call ends
+abbrev pub MakesOr : {X Y : Type 0} → (X → Y) → Result X code.Ending → Result Y Denial → Type 0
+MakesOr view (Ok value) made = made ≡ Ok (view value)
+MakesOr view (Err ending) made = IsDenied (ending_of ending) made

@@ -1,0 +1,129 @@
+//! What was made is written or told.
+
+ghost use Rattle.std.specs.Prelude.{◌≡◌, ℕ, List, [], length, Ok, Result};
+ghost use Rattle.xm_outside.specs.Causes.{HasCause};
+ghost use Rattle.xm_outside.specs.Growth.{Writes};
+ghost use Rattle.file_commands.specs.Denial.{Denial};
+ghost use Rattle.file_maker.specs.Makes.{Makes};
+ghost use Rattle.file_commands.specs.Makes.{IsUnmadeOf};
+ghost use Rattle.file_commands.specs.Outcome.{made, made_text, packed_to, printed, told};
+ghost use Rattle.file_commands.specs.Told.{MakesOr, bytes_of, ending_of};
+ghost use Rattle.file_commands.specs.Work.{Comes, Reports, outside};
+
+use crate::ending::{Ending, Refusal};
+use file_maker::Unmade;
+use xm_outside::{Failed, Sink, Store, write_all};
+use xm_report::Pen;
+
+/// Writes a file that was made out of another, and tells its length; or tells why it was not made.
+pub(crate) fn deliver<'a, S: Store, O: Sink>(
+    input: &'a str,
+    output: &'a str,
+    file: Result<Vec<u8>, Unmade>,
+    files: &mut S,
+    out: &mut O,
+) -> Ending<'a>
+    ensures { (m : Result (List ℕ) (List ℕ)) → Makes file m → Comes (ending_of result) (made input.now output.now m)
+        (outside (S.files files.old) (S.read_faults files.old) (S.write_faults files.old) (S.calls files.old) (O.got out.old) (O.faults out.old))
+        (outside (S.files files.new) (S.read_faults files.new) (S.write_faults files.new) (S.calls files.new) (O.got out.new) (O.faults out.new)) }
+{
+    match file {
+        Ok(bytes) => save(output, &bytes, files, out),
+        Err(why) => unmade(input, why),
+    }
+}
+
+/// Writes a container, and tells its length; or ends as it was refused.
+pub(crate) fn put<'a, S: Store, O: Sink>(
+    output: &'a str,
+    container: Result<Vec<u8>, Ending<'a>>,
+    files: &mut S,
+    out: &mut O,
+) -> Ending<'a>
+    ensures { (m : Result (List ℕ) Denial) → MakesOr bytes_of container.entry m → Comes (ending_of result) (packed_to output.now m)
+        (outside (S.files files.old) (S.read_faults files.old) (S.write_faults files.old) (S.calls files.old) (O.got out.old) (O.faults out.old))
+        (outside (S.files files.new) (S.read_faults files.new) (S.write_faults files.new) (S.calls files.new) (O.got out.new) (O.faults out.new)) }
+{
+    match container {
+        Ok(bytes) => save(output, &bytes, files, out),
+        Err(ending) => ending,
+    }
+}
+
+/// How a call ends that made nothing of a file.
+pub fn unmade<'a>(input: &'a str, why: Unmade) -> Ending<'a>
+    ensures { IsUnmadeOf (ending_of result) input.now why }
+{
+    match why {
+        Unmade::Refused { text } => Ending::Denied {
+            file: input,
+            why: Refusal::Told { text },
+        },
+        Unmade::Memory => Ending::Starved,
+    }
+}
+
+// Writes a file that was made, and tells its length.
+fn save<'a, S: Store, O: Sink>(
+    output: &'a str,
+    bytes: &[u8],
+    files: &mut S,
+    out: &mut O,
+) -> Ending<'a>
+    ensures { Comes (ending_of result) (packed_to output.now (Ok bytes.now))
+        (outside (S.files files.old) (S.read_faults files.old) (S.write_faults files.old) (S.calls files.old) (O.got out.old) (O.faults out.old))
+        (outside (S.files files.new) (S.read_faults files.new) (S.write_faults files.new) (S.calls files.new) (O.got out.new) (O.faults out.new)) }
+{
+    match files.write(output, bytes) {
+        Ok(()) => match tell_length(bytes, out) {
+            Ok(()) => Ending::Finished,
+            Err(Failed) => Ending::Unwritten,
+        },
+        Err(Failed) => Ending::Unsaved { file: output },
+    }
+}
+
+/// Writes the text that tells a file to the report; or tells why there is none.
+pub(crate) fn tell_made<'a, O: Sink>(
+    file: &'a str,
+    text: Result<Vec<u8>, Unmade>,
+    out: &mut O,
+) -> Ending<'a>
+    ensures { (m : Result (List ℕ) (List ℕ)) → Makes text m → Reports (ending_of result) (told file.now m) (O.got out.old) (O.faults out.old) (O.got out.new) (O.faults out.new) }
+{
+    match text {
+        Ok(text) => report(&text, out),
+        Err(why) => unmade(file, why),
+    }
+}
+
+/// Writes a text to the report, which is all that a command does.
+pub fn report<'a, O: Sink>(text: &[u8], out: &mut O) -> Ending<'a>
+    ensures { Reports (ending_of result) (printed text.now) (O.got out.old) (O.faults out.old) (O.got out.new) (O.faults out.new) }
+{
+    match write_all(out, text) {
+        Ok(()) => Ending::Finished,
+        Err(Failed) => Ending::Unwritten,
+    }
+}
+
+// Tells how many bytes were made.
+fn tell_length<O: Sink>(bytes: &[u8], out: &mut O) -> Result<(), Failed>
+    ensures text { Writes result (O.got out.old) (made_text (length bytes.now)) (O.got out.new) }
+    ensures cause { HasCause result (O.faults out.old) (O.faults out.new) }
+{
+    let mut pen = Pen::new();
+    length_line(&mut pen, bytes.len());
+    write_all(out, pen.bytes())
+}
+
+// Writes the line that tells a length.
+#[tactic(auto, unfolding(crate::specs::Outcome::made_text))]
+fn length_line(pen: &mut Pen, length: usize)
+    requires { pen.old ≡ [] }
+    ensures { pen.new ≡ made_text length }
+{
+    pen.text(b"ok length=");
+    pen.number(length as u64);
+    pen.text(b"\n");
+}

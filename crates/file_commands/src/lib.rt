@@ -1,0 +1,24 @@
+//! The commands that make or tell files, and what all commands share: how files are read, how a call ends, and its line and status.
+#![tactic(auto)]
+
+mod complaint;
+mod delivery;
+mod ending;
+mod imaging;
+mod packing;
+mod parsing;
+mod reading;
+mod status;
+mod telling;
+
+pub use complaint::complain;
+pub use delivery::{report, unmade};
+pub use ending::{Ending, Refusal, status};
+pub use imaging::build_image;
+pub use packing::pack_files;
+pub use parsing::parse;
+pub use reading::{
+    first_long, first_long_of_three, read_file, read_files, read_three, split_contents,
+};
+pub use status::Status;
+pub use telling::tell;

@@ -1,0 +1,187 @@
+//! A configuration and the images of its partitions are packed into a container.
+
+ghost use Rattle.std.specs.Prelude.{◌≡◌, ◌∷◌, drop, map};
+ghost use Rattle.bin_config.specs.Texts.{fault_text as xmc_fault_text};
+ghost use Rattle.xef_images.specs.Reading.{xef};
+ghost use Rattle.xm_container.specs.Pack.{packed};
+ghost use Rattle.xm_container.specs.Texts.{pack_fault_text};
+ghost use Rattle.file_maker.specs.Makes.{IsTold};
+ghost use Rattle.file_commands.specs.Outcome.{content, first_long};
+ghost use Rattle.file_commands.specs.Packing.{container_by, container_of, container_with, image_by, images_of, limited, names_of};
+ghost use Rattle.file_commands.specs.Told.{MakesOr, bytes_of, ending_of};
+ghost use Rattle.file_commands.specs.Work.{IsDone, outside};
+ghost use Rattle.xm_words.specs.Seen.{seen_file, seen_files};
+ghost use Rattle.xm_words.specs.Words.{Pack};
+
+use crate::delivery::{put, unmade};
+use crate::ending::{Ending, Refusal};
+use crate::reading::{first_long, read_files, split_contents};
+use bin_config::{XmcFault, read_xmc};
+use file_maker::{Unmade, no_image};
+use std::alloc::Global;
+use xef_images::{Xef, read_xef};
+use xm_conf::Conf;
+use xm_container::{Image, PackFault, pack};
+use xm_outside::{Sink, Store};
+use xm_words::{PartFile, PartFiles};
+
+/// Reads a configuration and the images of its partitions, and writes their container.
+pub fn pack_files<'a, S: Store, O: Sink>(
+    alloc: Global,
+    configuration: &'a str,
+    output: &'a str,
+    images: PartFiles<'a>,
+    files: &mut S,
+    out: &mut O,
+) -> Ending<'a>
+    ensures { IsDone (ending_of result) (Pack configuration.now output.now (seen_files images.entry))
+        (outside (S.files files.old) (S.read_faults files.old) (S.write_faults files.old) (S.calls files.old) (O.got out.old) (O.faults out.old))
+        (outside (S.files files.new) (S.read_faults files.new) (S.write_faults files.new) (S.calls files.new) (O.got out.new) (O.faults out.new)) }
+{
+    match read_files(alloc, configuration, images, files) {
+        Ok(contents) => {
+            let container = container(alloc, configuration, images, &contents);
+            put(output, container, files, out)
+        }
+        Err(ending) => ending,
+    }
+}
+
+// The container of files with these contents, or the first refusal.
+fn container<'a>(
+    alloc: Global,
+    configuration: &'a str,
+    images: PartFiles<'a>,
+    contents: &[Vec<u8>],
+) -> Result<Vec<u8>, Ending<'a>>
+    ensures value { MakesOr bytes_of result
+        (limited (first_long (configuration.now ∷ names_of (seen_files images.entry)) (map bytes_of contents.now))
+        (container_of configuration.now (content 0 (map bytes_of contents.now)) (seen_files images.entry) (drop 1 (map bytes_of contents.now)))) }
+{
+    match first_long(configuration, images, contents) {
+        Some(file) => Err(Ending::Denied {
+            file,
+            why: Refusal::TooLong,
+        }),
+        None => {
+            let (bytes, others) = split_contents(contents);
+            make_container(alloc, configuration, bytes, images, others)
+        }
+    }
+}
+
+// The container of a configuration and images, none of whose files is too long.
+#[tactic(auto, unfolding(crate::specs::Packing::container_of))]
+fn make_container<'a>(
+    alloc: Global,
+    configuration: &'a str,
+    bytes: &[u8],
+    images: PartFiles<'a>,
+    contents: &[Vec<u8>],
+) -> Result<Vec<u8>, Ending<'a>>
+    ensures value { MakesOr bytes_of result (container_of configuration.now bytes.now (seen_files images.entry) (map bytes_of contents.now)) }
+{
+    match read_xmc(alloc, bytes) {
+        Ok(conf) => container_with(alloc, configuration, &conf, images, contents),
+        Err(fault) => Err(unmade(configuration, no_configuration(alloc, fault))),
+    }
+}
+
+// The container of a configuration that was read and of images.
+fn container_with<'a>(
+    alloc: Global,
+    configuration: &'a str,
+    conf: &Conf,
+    images: PartFiles<'a>,
+    contents: &[Vec<u8>],
+) -> Result<Vec<u8>, Ending<'a>>
+    ensures value { MakesOr bytes_of result (container_with configuration.now conf.now (images_of (seen_files images.entry) (map bytes_of contents.now))) }
+{
+    match read_images(alloc, images, contents) {
+        Ok(images) => container_by(alloc, configuration, conf, &images),
+        Err(ending) => Err(ending),
+    }
+}
+
+// The container of a configuration and of images that were read.
+fn container_by<'a>(
+    alloc: Global,
+    configuration: &'a str,
+    conf: &Conf,
+    images: &[Image],
+) -> Result<Vec<u8>, Ending<'a>>
+    ensures value { MakesOr bytes_of result (container_by configuration.now (packed conf.now images.now)) }
+{
+    match pack(alloc, conf, images) {
+        Ok(bytes) => Ok(bytes),
+        Err(fault) => Err(unmade(configuration, no_packing(alloc, fault))),
+    }
+}
+
+// The images of partitions, in the order of their files.
+fn read_images<'a>(
+    alloc: Global,
+    images: PartFiles<'a>,
+    contents: &[Vec<u8>],
+) -> Result<Vec<Image>, Ending<'a>>
+    ensures value { MakesOr (λ images. images.items) result (images_of (seen_files images.entry) (map bytes_of contents.now)) }
+{
+    let mut read = Vec::new(alloc);
+    let mut rest = images;
+    for bytes in contents {
+        let Some((first, others)) = rest.split_first() else {
+            return Ok(read);
+        };
+        let xef = match read_image(alloc, first, bytes) {
+            Ok(xef) => xef,
+            Err(ending) => return Err(ending),
+        };
+        let image = Image {
+            id: first.part,
+            xef,
+        };
+        if read.push(image).is_err() {
+            return Err(Ending::Starved);
+        }
+        rest = others;
+    }
+    Ok(read)
+}
+
+// The image of a partition, by the bytes of its file.
+fn read_image<'a>(alloc: Global, named: PartFile<'a>, bytes: &[u8]) -> Result<Xef, Ending<'a>>
+    ensures value { MakesOr (λ image. image) result (image_by (seen_file named.entry).file (xef bytes.now)) }
+{
+    match read_xef(alloc, bytes) {
+        Ok(xef) => Ok(xef),
+        Err(fault) => Err(unmade(named.file, no_image(alloc, fault))),
+    }
+}
+
+// What is said of a file that is no configuration.
+fn no_configuration(alloc: Global, fault: XmcFault) -> Unmade
+    ensures text { IsTold result (xmc_fault_text fault) }
+    ensures memory { fault ≡ XmcFault.Memory → result ≡ Unmade.Memory }
+{
+    match fault {
+        XmcFault::Memory => Unmade::Memory,
+        _ => match format!(in alloc; "{fault}") {
+            Ok(text) => Unmade::Refused { text },
+            Err(_) => Unmade::Memory,
+        },
+    }
+}
+
+// What is said of a configuration and images that make no container.
+fn no_packing(alloc: Global, fault: PackFault) -> Unmade
+    ensures text { IsTold result (pack_fault_text fault) }
+    ensures memory { fault ≡ PackFault.Memory → result ≡ Unmade.Memory }
+{
+    match fault {
+        PackFault::Memory => Unmade::Memory,
+        _ => match format!(in alloc; "{fault}") {
+            Ok(text) => Unmade::Refused { text },
+            Err(_) => Unmade::Memory,
+        },
+    }
+}

@@ -1,0 +1,198 @@
+//! Files are read.
+
+ghost use Rattle.std.specs.Prelude.{◌≡◌, ◌∷◌, [], ℕ, List, None, Option, drop, map, option_copied};
+ghost use Rattle.file_commands.specs.Outcome.{content, first_long, name_in};
+ghost use Rattle.file_commands.specs.Packing.{names_of};
+ghost use Rattle.file_commands.specs.Told.{AreRead, IsRead, bytes_of};
+ghost use Rattle.file_commands.specs.Read.{HasRead, HasReadNext};
+ghost use Rattle.file_commands.specs.Work.{Outside, outside};
+ghost use Rattle.xm_words.specs.Seen.{seen_files};
+
+use crate::ending::Ending;
+use std::alloc::Global;
+use xm_base::FILE_BYTES;
+use xm_outside::{Store, StoreFault};
+use xm_words::PartFiles;
+
+/// The bytes of a file, or its first ones where it is too long; or how the call ends without them.
+pub fn read_file<'a, S: Store>(
+    alloc: Global,
+    file: &'a str,
+    files: &mut S,
+) -> Result<Vec<u8>, Ending<'a>>
+    ensures { (got : Option (List ℕ)) (faults : ℕ) → IsRead result file.now
+        (outside (S.files files.old) (S.read_faults files.old) (S.write_faults files.old) (S.calls files.old) got faults)
+        (outside (S.files files.new) (S.read_faults files.new) (S.write_faults files.new) (S.calls files.new) got faults) }
+{
+    match files.read(alloc, file, FILE_BYTES) {
+        Ok(bytes) => Ok(bytes),
+        Err(StoreFault::Memory) => Err(Ending::Starved),
+        Err(StoreFault::Failed) => Err(Ending::Unread { file }),
+        Err(StoreFault::Absent) => Err(Ending::Unread { file }),
+    }
+}
+
+/// The bytes of a file and of files for partitions, read in this order: of each its bytes, or its first ones where it is too long.
+pub fn read_files<'a, S: Store>(
+    alloc: Global,
+    first: &'a str,
+    others: PartFiles<'a>,
+    files: &mut S,
+) -> Result<Vec<Vec<u8>>, Ending<'a>>
+    ensures { (got : Option (List ℕ)) (faults : ℕ) → AreRead result (first.now ∷ names_of (seen_files others.entry))
+        (outside (S.files files.old) (S.read_faults files.old) (S.write_faults files.old) (S.calls files.old) got faults)
+        (outside (S.files files.new) (S.read_faults files.new) (S.write_faults files.new) (S.calls files.new) got faults) }
+{
+    let mut contents = Vec::new(alloc);
+    let mut file = first;
+    let mut rest = others;
+    loop {
+        let bytes = match read_file(alloc, file, files) {
+            Ok(bytes) => bytes,
+            Err(ending) => return Err(ending),
+        };
+        if contents.push(bytes).is_err() {
+            return Err(Ending::Starved);
+        }
+        match rest.split_first() {
+            Some((next, more)) => {
+                file = next.file;
+                rest = more;
+            }
+            None => return Ok(contents),
+        }
+    }
+}
+
+/// The bytes of two files, and of a third where there is one, read in this order: of each its bytes, or its first ones where it is too long.
+pub fn read_three<'a, S: Store>(
+    alloc: Global,
+    first: &'a str,
+    second: &'a str,
+    third: Option<&'a str>,
+    files: &mut S,
+) -> Result<Vec<Vec<u8>>, Ending<'a>>
+    ensures { (got : Option (List ℕ)) (faults : ℕ) → AreRead result (first.now ∷ second.now ∷ name_in (option_copied third.entry))
+        (outside (S.files files.old) (S.read_faults files.old) (S.write_faults files.old) (S.calls files.old) got faults)
+        (outside (S.files files.new) (S.read_faults files.new) (S.write_faults files.new) (S.calls files.new) got faults) }
+{
+    let mut contents = Vec::new(alloc);
+    match read_next(alloc, first, &mut contents, files) {
+        Ok(()) => {}
+        Err(ending) => return Err(ending),
+    }
+    match read_next(alloc, second, &mut contents, files) {
+        Ok(()) => {}
+        Err(ending) => return Err(ending),
+    }
+    match read_last(alloc, third, &mut contents, files) {
+        Ok(()) => Ok(contents),
+        Err(ending) => Err(ending),
+    }
+}
+
+// The bytes of the last file, where there is one, behind those of files before it.
+fn read_last<'a, S: Store>(
+    alloc: Global,
+    file: Option<&'a str>,
+    contents: &mut Vec<Vec<u8>>,
+    files: &mut S,
+) -> Result<(), Ending<'a>>
+    ensures { (got : Option (List ℕ)) (faults : ℕ) (all : List (List ℕ)) (before : Outside)
+        → HasRead all (name_in (option_copied file.entry)) (map bytes_of contents.old.items) before (outside (S.files files.old) (S.read_faults files.old) (S.write_faults files.old) (S.calls files.old) got faults)
+        → HasReadNext result all [] (map bytes_of contents.new.items) before (outside (S.files files.new) (S.read_faults files.new) (S.write_faults files.new) (S.calls files.new) got faults) }
+{
+    match file {
+        Some(file) => read_next(alloc, file, contents, files),
+        None => Ok(()),
+    }
+}
+
+// The bytes of one file more, behind those of files before it.
+fn read_next<'a, S: Store>(
+    alloc: Global,
+    file: &'a str,
+    contents: &mut Vec<Vec<u8>>,
+    files: &mut S,
+) -> Result<(), Ending<'a>>
+    ensures { (got : Option (List ℕ)) (faults : ℕ) (all rest : List (List ℕ)) (before : Outside)
+        → HasRead all (file.now ∷ rest) (map bytes_of contents.old.items) before (outside (S.files files.old) (S.read_faults files.old) (S.write_faults files.old) (S.calls files.old) got faults)
+        → HasReadNext result all rest (map bytes_of contents.new.items) before (outside (S.files files.new) (S.read_faults files.new) (S.write_faults files.new) (S.calls files.new) got faults) }
+{
+    let bytes = match read_file(alloc, file, files) {
+        Ok(bytes) => bytes,
+        Err(ending) => return Err(ending),
+    };
+    if contents.push(bytes).is_err() {
+        return Err(Ending::Starved);
+    }
+    Ok(())
+}
+
+/// The first of three files with these contents that is too long; there may be no third.
+pub fn first_long_of_three<'a>(
+    first: &'a str,
+    second: &'a str,
+    third: Option<&'a str>,
+    contents: &[Vec<u8>],
+) -> Option<&'a str>
+    ensures value { option_copied result ≡ first_long (first.now ∷ second.now ∷ name_in (option_copied third.entry)) (map bytes_of contents.now) }
+{
+    let (bytes, others) = contents.split_first()?;
+    if bytes.len() > FILE_BYTES {
+        return Some(first);
+    }
+    let (bytes, more) = others.split_first()?;
+    if bytes.len() > FILE_BYTES {
+        return Some(second);
+    }
+    let (bytes, _) = more.split_first()?;
+    if bytes.len() > FILE_BYTES {
+        third
+    } else {
+        None
+    }
+}
+
+/// The first of the files with these contents that is too long: this one, and those for partitions.
+pub fn first_long<'a>(
+    first: &'a str,
+    others: PartFiles<'a>,
+    contents: &[Vec<u8>],
+) -> Option<&'a str>
+    ensures value { option_copied result ≡ first_long (first.now ∷ names_of (seen_files others.entry)) (map bytes_of contents.now) }
+{
+    let (bytes, more) = contents.split_first()?;
+    if bytes.len() > FILE_BYTES {
+        return Some(first);
+    }
+    first_long_for_parts(others, more)
+}
+
+// The first of the files for partitions that is too long.
+fn first_long_for_parts<'a>(files: PartFiles<'a>, contents: &[Vec<u8>]) -> Option<&'a str>
+    ensures value { option_copied result ≡ first_long (names_of (seen_files files.entry)) (map bytes_of contents.now) }
+{
+    let mut rest = files;
+    for bytes in contents {
+        let Some((first, others)) = rest.split_first() else {
+            return None;
+        };
+        if bytes.len() > FILE_BYTES {
+            return Some(first.file);
+        }
+        rest = others;
+    }
+    None
+}
+
+/// The content of the first file, and those of the others.
+pub fn split_contents(contents: &[Vec<u8>]) -> (&[u8], &[Vec<u8>])
+    ensures first { result.0.now ≡ content 0 (map bytes_of contents.now) }
+    ensures others { map bytes_of result.1.now ≡ drop 1 (map bytes_of contents.now) }
+{
+    match contents.split_first() {
+        Some((first, others)) => (first, others),
+        None => (b"", contents),
+    }
+}

@@ -1,0 +1,32 @@
+//! How a call ends, as the system is told it.
+
+ghost use Rattle.std.specs.Prelude.{◌≡◌};
+ghost use Rattle.file_commands.specs.Status.{code_of};
+
+/// How a call ended.
+#[derive(Clone, Copy, Debug, PartialEq, Eq)]
+pub enum Status {
+    /// The command was carried out.
+    Done,
+    /// A file that was read is refused.
+    Refused,
+    /// The words spell no command.
+    Usage,
+    /// A file was not read.
+    ReadFault,
+    /// The report or a file was not written.
+    WriteFault,
+    /// A UART of the board did not take what a partition wrote to it.
+    UartFault,
+    /// There was no memory.
+    NoMemory,
+}
+
+impl Status {
+    /// The program's exit status.
+    pub fn code(self) -> u8
+        ensures { result ≡ code_of self }
+    {
+        self as u8
+    }
+}
