@@ -46,7 +46,7 @@ pub enum Ending<'a> {
 }
 
 /// The status of a call that ends so.
-pub fn status(ending: &Ending<'_>) -> Status
+pub fn status_of(ending: &Ending<'_>) -> Status
     ensures { result ≡ status_of (ending_of ending.now) }
 {
     match ending {

@@ -13,7 +13,7 @@ mod telling;
 
 pub use complaint::complain;
 pub use delivery::{report, unmade};
-pub use ending::{Ending, Refusal, status};
+pub use ending::{Ending, Refusal, status_of};
 pub use imaging::build_image;
 pub use packing::pack_files;
 pub use parsing::parse;

@@ -9,7 +9,7 @@ ghost use Rattle.file_commands.specs.Work.{outside};
 ghost use Rattle.xm_words.specs.Words.{command_of};
 
 use crate::work::work;
-use file_commands::{Ending, Status, complain, status};
+use file_commands::{Ending, Status, complain, status_of};
 use machine_model::{own_lines, same_core_file};
 use std::alloc::Global;
 use uart_board::{Board, ViewBoard};
@@ -69,7 +69,7 @@ pub fn xm_main<S: Store, O: Sink, E: Sink>(
     let ending = work(alloc, words, files, out, board);
     // A fault of `err` changes no status.
     let _ = complain(err, &ending);
-    status(&ending)
+    status_of(&ending)
 }
 
 /// The answer to words that cannot be read: they are misused, and the line on `err` says so.
@@ -80,5 +80,5 @@ pub fn misused<E: Sink>(err: &mut E) -> Status
     let misuse = Ending::Misused;
     // A fault of `err` changes no status.
     let _ = complain(err, &misuse);
-    status(&misuse)
+    status_of(&misuse)
 }

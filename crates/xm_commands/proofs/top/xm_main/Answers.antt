@@ -14,7 +14,7 @@ returns g c =
     let work = c.work-ending.ensures.worked in
     let left = c.work-ending.ensures.board in
     let line = said c.complain.result (complaint ending) _ _ _ _ c.complain.ensures.line c.complain.ensures.cause in
-    rw c.status.ensures (record {
+    rw c.status_of.ensures (record {
       answers = answers ending c.args.words.now _ _ _ _ _ _ work line;
       explained = record { ending = ending; answered = refl; line = line; cause = work };
       causes = has_causes ending command _ _ work;
