@@ -1,5 +1,5 @@
 -- What commands leave of the board of UARTs.
-use Rattle.std.proofs.Common.{◌≡◌, ℕ, ◌<◌, List, [], length, take, Option, Some, None, Result, Ok, Err, refl, sym, subst, ap, ◌∙◌}
+use Rattle.std.proofs.Common.{◌≡◌, ℕ, ◌<◌, List, length, take, Option, Some, None, Result, Ok, Err, refl, sym, subst, ap, ◌∙◌}
 use Rattle.std.specs.Prelude.{IsSome}
 use Rattle.machine_model.specs.Lines.{console}
 use Rattle.machine_model.specs.Machine.{Machine, start}
@@ -15,13 +15,15 @@ use Rattle.xm_report.specs.declared.output.WriteFault.{WriteFault}
 use Rattle.xm_outside.specs.Files.{Files}
 use Rattle.xm_outside.specs.Growth.{grown}
 use Rattle.xm_words.specs.Words.{Command, PartFile, Parse, BuildImage, ReadImage, Pack, ListContainer, CheckContainer, MakePlan, CheckPlan, TellGroups, Generate}
-use Rattle.xm_commands.specs.Boards.{EndsRun, IsLeft, IsMarked, IsRunTo, Leaves}
+use Rattle.xm_commands.specs.Behind.{EndsBehind}
+use Rattle.xm_commands.proofs.BehindLemmas.{behind_leaves}
+use Rattle.xm_commands.specs.Boards.{IsLeft, IsMarked, IsRunTo, Leaves}
 use Rattle.file_commands.specs.Denial.{Denial}
 use Rattle.file_commands.specs.Ending.{Ending, Finished, Misused, Unread, Denied, Unwritten, Unsaved, Unheard, Starved, status_of}
 use Rattle.file_commands.specs.Makes.{IsUnmadeOf}
 use Rattle.file_commands.specs.Outcome.{Output, Running, Together, first_long, inputs_of, made, outcome_of, packed_to, ran, told, unless_long, worked}
 use Rattle.xm_commands.specs.Top.{IsQuiet}
-use Rattle.file_commands.specs.Work.{AreNotRead, AreNotSaved, IsDone, IsNotRead, Outside, ReadsFiles}
+use Rattle.file_commands.specs.Work.{AreNotRead, IsDone, IsNotRead, Outside, ReadsFiles}
 use Rattle.file_commands.specs.declared.status.Status.TheVariants as status
 use Rattle.file_commands.specs.declared.status.Status.TheVariants.{Done, Usage, UartFault}
 use Rattle.file_maker.specs.declared.unmade.Unmade.{Unmade}
@@ -40,39 +42,13 @@ whole : (r : Ran) (system : System) (inputs : List (List ℕ)) (ticks : ℕ) (ne
 whole r system inputs ticks new had got before mid after is begins heard =
     subst (λ (board : BoardView). IsHeard (console (start (with_inputs system inputs)) ticks) board after) begins (heard ticks is.state)
 
--- one all of whose writes are done
-pub left_ended : (e : Ending) (r : Ran) (cores : List PartFile) (scripts : List Output) (system : System) (inputs : List (List ℕ)) (ticks : ℕ) (new : Machine) (had got : Option (List ℕ)) (before mid after : BoardView)
-    → EndsRun e after → IsRun (Ok r) ticks (start (with_inputs system inputs)) new had got → mid ≡ begun before → IsRunHeard (start (with_inputs system inputs)) new mid after
+-- where its whole report went out
+pub left_behind : (e : Ending) (outputs : List Output) (from to : Outside) (r : Ran) (cores : List PartFile) (scripts : List Output) (system : System) (inputs : List (List ℕ)) (ticks : ℕ) (new : Machine) (had got : Option (List ℕ)) (before mid after : BoardView)
+    → EndsBehind e outputs after from to → IsRun (Ok r) ticks (start (with_inputs system inputs)) new had got → mid ≡ begun before → IsRunHeard (start (with_inputs system inputs)) new mid after
     → Leaves e (ran ticks cores scripts system inputs).run had got before after
 unfolding ran
-left_ended e r cores scripts system inputs ticks new had got before mid after ends is begins heard = by_end e ends (whole r system inputs ticks new had got before mid after is begins heard)
-  where
-    by_end : (e : Ending) → EndsRun e after → IsRunTo ticks (running ticks system inputs) before after → Leaves e (ran ticks cores scripts system inputs).run had got before after
-    by_end Finished ends to = record { heard = to; well = ends }
-    by_end Misused ends to = absurd ends
-    by_end (Unread file) ends to = absurd ends
-    by_end (Denied file text) ends to = absurd ends
-    by_end Unwritten ends to = absurd ends
-    by_end (Unsaved file) ends to = absurd ends
-    by_end (Unheard place) ends to = record { heard = to; marked = ends }
-    by_end Starved ends to = absurd ends
-
--- one of whose core files and scripts was not written
-pub left_unsaved : (e : Ending) (outputs : List Output) (from to : Outside) (r : Ran) (cores : List PartFile) (scripts : List Output) (system : System) (inputs : List (List ℕ)) (ticks : ℕ) (new : Machine) (had got : Option (List ℕ)) (before mid after : BoardView)
-    → AreNotSaved e outputs from to → IsRun (Ok r) ticks (start (with_inputs system inputs)) new had got → mid ≡ begun before → IsRunHeard (start (with_inputs system inputs)) new mid after
-    → Leaves e (ran ticks cores scripts system inputs).run had got before after
-unfolding ran
-left_unsaved e outputs from to r cores scripts system inputs ticks new had got before mid after lost is begins heard = by_end e lost (whole r system inputs ticks new had got before mid after is begins heard)
-  where
-    by_end : (e : Ending) → AreNotSaved e outputs from to → IsRunTo ticks (running ticks system inputs) before after → Leaves e (ran ticks cores scripts system inputs).run had got before after
-    by_end Finished lost run_to = absurd lost
-    by_end Misused lost run_to = absurd lost
-    by_end (Unread file) lost run_to = absurd lost
-    by_end (Denied file text) lost run_to = absurd lost
-    by_end Unwritten lost run_to = absurd lost
-    by_end (Unsaved file) lost run_to = run_to
-    by_end (Unheard place) lost run_to = absurd lost
-    by_end Starved lost run_to = absurd lost
+left_behind e outputs from to r cores scripts system inputs ticks new had got before mid after ends is begins heard =
+    behind_leaves e outputs (running ticks system inputs) had got from to before after (whole r system inputs ticks new had got before mid after is begins heard) ends
 
 -- a run whose report was cut
 pub left_cut : (fault : WriteFault) (cores : List PartFile) (scripts : List Output) (system : System) (inputs : List (List ℕ)) (ticks : ℕ) (new : Machine) (had got : Option (List ℕ)) (before mid after : BoardView)

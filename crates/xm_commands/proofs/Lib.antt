@@ -1,8 +1,10 @@
+pub mod BehindLemmas
 pub mod BoardLemmas
 pub mod CoreLemmas
 pub mod GeneratingLemmas
 pub mod InputLemmas
 pub mod OutsideLemmas
+pub mod ReadyLemmas
 pub mod ReplayLemmas
 pub mod ScriptLemmas
 pub mod SeparationLemmas

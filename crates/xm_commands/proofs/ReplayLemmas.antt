@@ -1,5 +1,5 @@
 -- A replay that is played, and what it leaves of the outside and of the board.
-use Rattle.std.proofs.Common.{◌≡◌, ℕ, suc, ◌≤◌, ◌∙◌, Bool, true, false, nat_lt, if◌then◌else◌, List, [], ◌∷◌, length, map, drop, take, Option, Some, None, Result, refl, sym, ap, subst, arith, inr}
+use Rattle.std.proofs.Common.{◌≡◌, ℕ, suc, ◌≤◌, ◌∙◌, Bool, true, false, nat_lt, if◌then◌else◌, List, [], ◌∷◌, length, map, drop, take, Option, Some, None, Result, refl, sym, ap, subst, arith}
 use Rattle.std.specs.Prelude.{IsSome}
 use Rattle.std.proofs.lemmas.List.{take_all}
 use Rattle.xm_outside.specs.Causes.{Rose}
@@ -12,43 +12,17 @@ use Rattle.machine_model.specs.Cue.{Cue}
 use Rattle.machine_model.specs.View.{view_of}
 use Rattle.xm_alone.specs.Replay.{IsCutReplay, IsReplayed, IsWholeReplay, Lone, booted_alone, own_view, replay_lines, replay_said}
 use Rattle.xm_words.specs.Words.{ReplayFiles}
-use Rattle.xm_commands.specs.Boards.{EndsRun, IsRunTo, Leaves}
-use Rattle.file_commands.specs.Ending.{Ending, Finished, Misused, Unread, Denied, Unwritten, Unsaved, Unheard, Starved}
+use Rattle.xm_commands.specs.Behind.{EndsBehind}
+use Rattle.xm_commands.specs.Boards.{IsRunTo, Leaves}
+use Rattle.xm_commands.proofs.BehindLemmas.{behind_leaves, behind_outcome}
+use Rattle.file_commands.specs.Ending.{Ending, Unwritten}
 use Rattle.xm_base.specs.declared.limits.TheConstants.{FILE_BYTES}
-use Rattle.file_commands.specs.Outcome.{Outcome, Output, Running, Apart, content, first_long, input_bytes, name_in, played, replay_by, replay_output, unready_denial}
+use Rattle.file_commands.specs.Outcome.{Output, Running, Apart, content, first_long, input_bytes, name_in, played, replay_by, replay_output, unready_denial}
 use Rattle.xm_commands.specs.Replaying.{lone_output, ready_of, unready_ending}
-use Rattle.file_commands.specs.Work.{Outside, AreNotSaved, Comes, SavesAll, outside, told_all}
+use Rattle.file_commands.specs.Work.{Outside, Comes, outside, told_all}
 use Rattle.std.proofs.lemmas.Bool.Decides.{nat_tests}
 use Rattle.xm_commands.proofs.InputLemmas.{rest_short}
 use Rattle.file_commands.specs.CommandLemmas.{refused_comes}
-
--- What is done behind a report that went out.
-
--- an outcome whose files after the report were all written comes to what the board says
-pub ended_outcome : (e : Ending) (board : BoardView) (outcome : Outcome) (before mid after : Outside) → outcome.denial ≡ None → IsSome outcome.run → mid ≡ told_all outcome before → EndsRun e board
-    → SavesAll None outcome.later mid after → Comes e outcome before after
-ended_outcome e board outcome before mid after granted runs told ends saves = by_end e ends (subst (λ (x : Outside). SavesAll None outcome.later x after) told saves)
-  where
-    by_end : (e : Ending) → EndsRun e board → SavesAll None outcome.later (told_all outcome before) after → Comes e outcome before after
-    by_end Finished ends s = (granted, s)
-    by_end Misused ends s = absurd ends
-    by_end (Unread file) ends s = absurd ends
-    by_end (Denied file text) ends s = absurd ends
-    by_end Unwritten ends s = absurd ends
-    by_end (Unsaved file) ends s = absurd ends
-    by_end (Unheard place) ends s = (runs, granted, s)
-    by_end Starved ends s = absurd ends
-
--- one of which a file after the report was not
-pub unsaved_outcome : (e : Ending) (outcome : Outcome) (before mid after : Outside) → mid ≡ told_all outcome before → AreNotSaved e outcome.later mid after → Comes e outcome before after
-unsaved_outcome Finished outcome before mid after told lost = absurd lost
-unsaved_outcome Misused outcome before mid after told lost = absurd lost
-unsaved_outcome (Unread file) outcome before mid after told lost = absurd lost
-unsaved_outcome (Denied file text) outcome before mid after told lost = absurd lost
-unsaved_outcome Unwritten outcome before mid after told lost = absurd lost
-unsaved_outcome (Unsaved file) outcome before mid after told lost = inr (subst (λ (x : Outside). SavesAll (Some file) outcome.later x after) told lost)
-unsaved_outcome (Unheard place) outcome before mid after told lost = absurd lost
-unsaved_outcome Starved outcome before mid after told lost = absurd lost
 
 -- A replay.
 
@@ -79,23 +53,14 @@ pub played-runs : (core : Option (List ℕ)) (replay : Readied) → IsSome (play
 unfolding played
 played-runs core replay = refl
 
--- so it comes to what the board says where the core file was written
-pub ended_replay : (e : Ending) (board : BoardView) (lone new : Lone) (cues : List Cue) (core : Option (List ℕ)) (had got : Option (List ℕ)) (before now : ℕ) (files : Option Files) (reads writes calls : ℕ) (mid last : BoardView) (after : Outside)
-    → EndsRun e board → IsWholeReplay cues (replay_lines (own_view lone) cues) lone new had got mid last → now ≡ before → SavesAll None (map (lone_output new) (name_in core)) (outside files reads writes calls got now) after
+-- so it comes to what is done behind its report
+pub behind_replay : (e : Ending) (board : BoardView) (lone new : Lone) (cues : List Cue) (core : Option (List ℕ)) (had got : Option (List ℕ)) (before now : ℕ) (files : Option Files) (reads writes calls : ℕ) (mid last : BoardView) (after : Outside)
+    → IsWholeReplay cues (replay_lines (own_view lone) cues) lone new had got mid last → now ≡ before → EndsBehind e (map (lone_output new) (name_in core)) board (outside files reads writes calls got now) after
     → Comes e (played core (ready_of lone cues)) (outside files reads writes calls had before) after
-ended_replay e board lone new cues core had got before now files reads writes calls mid last after ends is same saves =
-    ended_outcome e board (played core (ready_of lone cues)) (outside files reads writes calls had before) (outside files reads writes calls got now) after (played-granted core (ready_of lone cues)) (played-runs core (ready_of lone cues))
-    (whole_told lone new cues core had got before now files reads writes calls mid last is same) ends
-    (subst (λ (os : List Output). SavesAll None os (outside files reads writes calls got now) after) (cores_are lone new cues core is.left) saves)
-
--- and where it was not
-pub unsaved_replay : (e : Ending) (lone new : Lone) (cues : List Cue) (core : Option (List ℕ)) (had got : Option (List ℕ)) (before now : ℕ) (files : Option Files) (reads writes calls : ℕ) (mid last : BoardView) (after : Outside)
-    → IsWholeReplay cues (replay_lines (own_view lone) cues) lone new had got mid last → now ≡ before → AreNotSaved e (map (lone_output new) (name_in core)) (outside files reads writes calls got now) after
-    → Comes e (played core (ready_of lone cues)) (outside files reads writes calls had before) after
-unsaved_replay e lone new cues core had got before now files reads writes calls mid last after is same lost =
-    unsaved_outcome e (played core (ready_of lone cues)) (outside files reads writes calls had before) (outside files reads writes calls got now) after
+behind_replay e board lone new cues core had got before now files reads writes calls mid last after is same ends =
+    behind_outcome e board (played core (ready_of lone cues)) (outside files reads writes calls had before) (outside files reads writes calls got now) after (played-granted core (ready_of lone cues)) (played-runs core (ready_of lone cues))
     (whole_told lone new cues core had got before now files reads writes calls mid last is same)
-    (subst (λ (os : List Output). AreNotSaved e os (outside files reads writes calls got now) after) (cores_are lone new cues core is.left) lost)
+    (subst (λ (os : List Output). EndsBehind e os board (outside files reads writes calls got now) after) (cores_are lone new cues core is.left) ends)
 
 -- its report was cut
 pub cut_comes : (lone new : Lone) (cues : List Cue) (core : Option (List ℕ)) (had got : Option (List ℕ)) (before now : ℕ) (files : Option Files) (reads writes calls : ℕ) (mid after : BoardView)
@@ -118,35 +83,12 @@ whole_heard lone new cues had got before mid after is begins = rw take_all_same 
     take_all_same : take (length cues) cues ≡ cues
     take_all_same = take_all (length cues) cues (omega arith)
 
-pub lone_ended : (e : Ending) (lone new : Lone) (cues : List Cue) (core : Option (List ℕ)) (had got : Option (List ℕ)) (before mid after : BoardView) → EndsRun e after
-    → IsWholeReplay cues (replay_lines (own_view lone) cues) lone new had got mid after → mid ≡ begun before → Leaves e (played core (ready_of lone cues)).run had got before after
+-- where its whole report went out
+pub lone_behind : (e : Ending) (outputs : List Output) (from to : Outside) (lone new : Lone) (cues : List Cue) (core : Option (List ℕ)) (had got : Option (List ℕ)) (before mid after : BoardView)
+    → EndsBehind e outputs after from to → IsWholeReplay cues (replay_lines (own_view lone) cues) lone new had got mid after → mid ≡ begun before → Leaves e (played core (ready_of lone cues)).run had got before after
 unfolding played
-lone_ended e lone new cues core had got before mid after ends is begins = by_end e ends (whole_heard lone new cues had got before mid after is begins)
-  where
-    by_end : (e : Ending) → EndsRun e after → IsRunTo (length cues) (Apart lone.system lone.p cues) before after → Leaves e (played core (ready_of lone cues)).run had got before after
-    by_end Finished ends to = record { heard = to; well = ends }
-    by_end Misused ends to = absurd ends
-    by_end (Unread file) ends to = absurd ends
-    by_end (Denied file text) ends to = absurd ends
-    by_end Unwritten ends to = absurd ends
-    by_end (Unsaved file) ends to = absurd ends
-    by_end (Unheard place) ends to = record { heard = to; marked = ends }
-    by_end Starved ends to = absurd ends
-
-pub lone_unsaved : (e : Ending) (outputs : List Output) (from to : Outside) (lone new : Lone) (cues : List Cue) (core : Option (List ℕ)) (had got : Option (List ℕ)) (before mid after : BoardView) → AreNotSaved e outputs from to
-    → IsWholeReplay cues (replay_lines (own_view lone) cues) lone new had got mid after → mid ≡ begun before → Leaves e (played core (ready_of lone cues)).run had got before after
-unfolding played
-lone_unsaved e outputs from to lone new cues core had got before mid after lost is begins = by_end e lost (whole_heard lone new cues had got before mid after is begins)
-  where
-    by_end : (e : Ending) → AreNotSaved e outputs from to → IsRunTo (length cues) (Apart lone.system lone.p cues) before after → Leaves e (played core (ready_of lone cues)).run had got before after
-    by_end Finished lost run_to = absurd lost
-    by_end Misused lost run_to = absurd lost
-    by_end (Unread file) lost run_to = absurd lost
-    by_end (Denied file text) lost run_to = absurd lost
-    by_end Unwritten lost run_to = absurd lost
-    by_end (Unsaved file) lost run_to = run_to
-    by_end (Unheard place) lost run_to = absurd lost
-    by_end Starved lost run_to = absurd lost
+lone_behind e outputs from to lone new cues core had got before mid after ends is begins =
+    behind_leaves e outputs (Apart lone.system lone.p cues) had got from to before after (whole_heard lone new cues had got before mid after is begins) ends
 
 pub lone_cut : (lone new : Lone) (cues : List Cue) (core : Option (List ℕ)) (had got : Option (List ℕ)) (before mid after : BoardView) → IsCutReplay cues (replay_lines (own_view lone) cues) lone new had got mid after → mid ≡ begun before
     → Leaves Unwritten (played core (ready_of lone cues)).run had got before after

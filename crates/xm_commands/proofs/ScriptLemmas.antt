@@ -24,9 +24,8 @@ use Rattle.file_commands.specs.Outcome.{Output, ran_for, ran_scripted, ran_withi
 use Rattle.xm_commands.specs.Scripts.{script_or}
 use Rattle.file_commands.specs.Told.{AreSaved, IsDenied, ending_of}
 use Rattle.file_commands.specs.declared.ending.Ending as code
-use Rattle.file_commands.specs.Work.{Outside, AreNotSaved, Comes, IsLostOf, SavesAll, called, with_files, wrote}
+use Rattle.file_commands.specs.Work.{Outside, AreNotSaved, IsLostOf, SavesAll, called, with_files, wrote}
 use Rattle.xm_commands.proofs.CoreLemmas.{saves_after}
-use Rattle.file_commands.specs.CommandLemmas.{refused_comes}
 
 -- One script.
 
@@ -132,19 +131,7 @@ pub all_made : (system : Booted) (ticks : ℕ) (all rest : List PartFile) (first
 all_made system ticks all rest first none goes =
     goes ∙ ap (λ (names : List PartFile). scripts_before first (scripts_for system ticks names)) none ∙ ap Ok (append-nil first)
 
--- A run whose script is refused.
-
-pub denied_comes : (e : Ending) (ticks : ℕ) (cores : List PartFile) (system : System) (inputs : List (List ℕ)) (scripts : Result (List Output) Denial) (before : Outside)
-    → IsDenied e scripts → Comes e (ran_scripted ticks cores system inputs scripts) before before
-denied_comes Finished ticks cores system inputs scripts before denied = absurd denied
-denied_comes Misused ticks cores system inputs scripts before denied = absurd denied
-denied_comes (Unread file) ticks cores system inputs scripts before denied = absurd denied
-denied_comes (Denied file text) ticks cores system inputs scripts before denied =
-    subst (λ (made : Result (List Output) Denial). Comes (Denied file text) (ran_scripted ticks cores system inputs made) before before) (sym denied) (refused_comes file text before)
-denied_comes Unwritten ticks cores system inputs scripts before denied = absurd denied
-denied_comes (Unsaved file) ticks cores system inputs scripts before denied = absurd denied
-denied_comes (Unheard place) ticks cores system inputs scripts before denied = absurd denied
-denied_comes Starved ticks cores system inputs scripts before denied = refl
+-- A run with scripts.
 
 -- a run that may have so many ticks comes to what it comes to with its scripts
 pub within_is : (file : List ℕ) (options : List RunOption) (system : System) (inputs : List (List ℕ)) (asked : ℕ) (made : Result (List Output) Denial) → asked ≡ ticks_asked (span_in options) system.conf → asked ≤ TICKS

@@ -1,5 +1,6 @@
 -- What the work of a command comes to.
-use Rattle.std.proofs.Common.{◌≡◌, ℕ, ◌<◌, ◌≤◌, ◌⊎◌, inr, ⊎_elim, true, false, ◌||◌, nat_lt, nat_eq, List, [], ◌∷◌, ◌++◌, length, Option, Some, None, Result, Ok, Err, refl, sym, ap, ◌∙◌, subst, arith}
+use Rattle.std.proofs.Common.{◌≡◌, ℕ, ◌<◌, ◌≤◌, ◌⊎◌, ⊎_elim, true, false, ◌||◌, nat_lt, nat_eq, List, [], ◌∷◌, ◌++◌, length, Option, Some, None, Result, Ok, Err, refl, sym, ap, ◌∙◌, subst, arith}
+use Rattle.std.specs.Prelude.{IsSome}
 use Rattle.std.specs.String.{string_bytes}
 use Rattle.std.proofs.lemmas.Bool.Decides.{nat_tests}
 use Rattle.xm_base.specs.declared.limits.TheConstants.{FILE_BYTES, IMAGE_BYTES}
@@ -12,7 +13,7 @@ use Rattle.xm_conf.specs.Fits.{Fits}
 use Rattle.whole_system.specs.State.{with_inputs}
 use Rattle.xm_machine.specs.Outcome.{IsRun, report_of}
 use Rattle.machine_model.specs.Lines.{report}
-use Rattle.machine_model.specs.Machine.{Machine, start}
+use Rattle.machine_model.specs.Machine.{Machine, run, start}
 use Rattle.machine_model.specs.View.{System as Booted}
 use Rattle.loaded_system.specs.Bare.{IsImageLength, bare_system}
 use Rattle.loaded_system.specs.System.{System}
@@ -29,8 +30,9 @@ use Rattle.xm_words.specs.Grammar.{CommandsAreSpelled}
 use Rattle.xm_words.specs.Seen.{seen, seen_options}
 use Rattle.xm_words.specs.declared.commands.Command as code
 use Rattle.xm_words.specs.declared.commands.Command.TheVariants as variant
-use Rattle.xm_commands.specs.Boards.{EndsRun}
-use Rattle.file_commands.specs.Ending.{Ending, Finished, Misused, Unread, Denied, Unwritten, Unsaved, Unheard, Starved, length_text}
+use Rattle.xm_commands.specs.Behind.{EndsBehind}
+use Rattle.xm_commands.proofs.BehindLemmas.{behind_outcome}
+use Rattle.file_commands.specs.Ending.{Ending, Unwritten, length_text}
 use Rattle.file_commands.specs.Outcome.{Output, bare_outcome, core_outputs, outcome_of, ran, ran_with, refused, run_by, run_outcome}
 use Rattle.file_commands.specs.Inputs.{inputs_for, no_inputs}
 use Rattle.file_maker.specs.Makes.{IsUnmade}
@@ -38,7 +40,7 @@ use Rattle.file_commands.specs.Makes.{IsUnmadeOf}
 use Rattle.xm_commands.specs.Ticks.{HasTicks}
 use Rattle.file_maker.specs.declared.unmade.Unmade.{Unmade}
 use Rattle.file_maker.specs.declared.unmade.Unmade.TheVariants as unmade
-use Rattle.file_commands.specs.Work.{Outside, AreNotSaved, Comes, SavesAll, outside, told_all}
+use Rattle.file_commands.specs.Work.{Outside, Comes, outside, told_all}
 use Rattle.file_commands.specs.CommandLemmas.{one-short, refused_comes}
 
 -- Runs.
@@ -71,49 +73,38 @@ unfolding ran
 unwritten fault cores scripts system inputs ticks new had got before now files reads writes calls is rose =
     (rose, subst (λ (lines : List ReportLine). GrewByPrefix had (texts lines) got) (reports_same (with_inputs system inputs) ticks) is.report, refl)
 
--- a run whose whole report went out, and then core files and scripts were written, or were not
-cores_saved : (lost : Option (List ℕ)) (r : Ran) (cores : List PartFile) (scripts : List Output) (system : System) (inputs : List (List ℕ)) (ticks : ℕ) (new : Machine) (had got : Option (List ℕ)) (before now : ℕ) (files : Option Files) (reads writes calls : ℕ) (after : Outside)
-    → IsRun (Ok r) ticks (start (with_inputs system inputs)) new had got → now ≡ before → SavesAll lost (core_outputs new cores ++ scripts) (outside files reads writes calls got now) after
-    → SavesAll lost (ran ticks cores scripts system inputs).later (told_all (ran ticks cores scripts system inputs) (outside files reads writes calls had before)) after
+-- what is run is granted, and is a run
+granted : (ticks : ℕ) (cores : List PartFile) (scripts : List Output) (system : System) (inputs : List (List ℕ)) → (ran ticks cores scripts system inputs).denial ≡ None
 unfolding ran
-cores_saved lost r cores scripts system inputs ticks new had got before now files reads writes calls after is same saves =
+granted ticks cores scripts system inputs = refl
+
+runs : (ticks : ℕ) (cores : List PartFile) (scripts : List Output) (system : System) (inputs : List (List ℕ)) → IsSome (ran ticks cores scripts system inputs).run
+unfolding ran
+runs ticks cores scripts system inputs = refl
+
+-- the files behind its report
+behind_files : (cores : List PartFile) (scripts : List Output) (system : System) (inputs : List (List ℕ)) (ticks : ℕ) (new : Machine) → new ≡ run (start (with_inputs system inputs)) ticks
+    → core_outputs new cores ++ scripts ≡ (ran ticks cores scripts system inputs).later
+unfolding ran
+behind_files cores scripts system inputs ticks new is = ap (λ (g : Machine). core_outputs g cores ++ scripts) is
+
+-- the outside as its report leaves it
+behind_report : (r : Ran) (cores : List PartFile) (scripts : List Output) (system : System) (inputs : List (List ℕ)) (ticks : ℕ) (new : Machine) (had got : Option (List ℕ)) (before now : ℕ) (files : Option Files) (reads writes calls : ℕ)
+    → IsRun (Ok r) ticks (start (with_inputs system inputs)) new had got → now ≡ before → outside files reads writes calls got now ≡ told_all (ran ticks cores scripts system inputs) (outside files reads writes calls had before)
+unfolding ran
+behind_report r cores scripts system inputs ticks new had got before now files reads writes calls is same =
     let told = finished r cores scripts system inputs ticks new had got is in
-    let mid : outside files reads writes calls got now ≡ told_all (ran ticks cores scripts system inputs) (outside files reads writes calls had before) = rw (told, same) refl in
-    let outputs : core_outputs new cores ++ scripts ≡ (ran ticks cores scripts system inputs).later = ap (λ (g : Machine). core_outputs g cores ++ scripts) is.state in
-    subst (λ (x : Outside). SavesAll lost (ran ticks cores scripts system inputs).later x after) mid (subst (λ (o : List Output). SavesAll lost o (outside files reads writes calls got now) after) outputs saves)
+    rw (told, same) refl
 
--- where all were, what was run was carried out, and it ends as the board says
-pub ended_comes : (e : Ending) (board : BoardView) (r : Ran) (cores : List PartFile) (scripts : List Output) (system : System) (inputs : List (List ℕ)) (ticks : ℕ) (new : Machine) (had got : Option (List ℕ)) (before now : ℕ) (files : Option Files) (reads writes calls : ℕ) (after : Outside)
-    → EndsRun e board → IsRun (Ok r) ticks (start (with_inputs system inputs)) new had got → now ≡ before → SavesAll None (core_outputs new cores ++ scripts) (outside files reads writes calls got now) after
+-- a run whose whole report went out comes to what is done behind it
+pub behind_run : (e : Ending) (board : BoardView) (r : Ran) (cores : List PartFile) (scripts : List Output) (system : System) (inputs : List (List ℕ)) (ticks : ℕ) (new : Machine) (had got : Option (List ℕ)) (before now : ℕ) (files : Option Files) (reads writes calls : ℕ) (after : Outside)
+    → EndsBehind e (core_outputs new cores ++ scripts) board (outside files reads writes calls got now) after → IsRun (Ok r) ticks (start (with_inputs system inputs)) new had got → now ≡ before
     → Comes e (ran ticks cores scripts system inputs) (outside files reads writes calls had before) after
-unfolding ran
-ended_comes e board r cores scripts system inputs ticks new had got before now files reads writes calls after ends is same saves =
-    by_end e ends (cores_saved None r cores scripts system inputs ticks new had got before now files reads writes calls after is same saves)
-  where
-    by_end : (e : Ending) → EndsRun e board → SavesAll None (ran ticks cores scripts system inputs).later (told_all (ran ticks cores scripts system inputs) (outside files reads writes calls had before)) after
-        → Comes e (ran ticks cores scripts system inputs) (outside files reads writes calls had before) after
-    by_end Finished ends s = (refl, s)
-    by_end Misused ends s = absurd ends
-    by_end (Unread file) ends s = absurd ends
-    by_end (Denied file text) ends s = absurd ends
-    by_end Unwritten ends s = absurd ends
-    by_end (Unsaved file) ends s = absurd ends
-    by_end (Unheard place) ends s = (refl, refl, s)
-    by_end Starved ends s = absurd ends
-
--- where one was not
-pub unsaved_comes : (e : Ending) (r : Ran) (cores : List PartFile) (scripts : List Output) (system : System) (inputs : List (List ℕ)) (ticks : ℕ) (new : Machine) (had got : Option (List ℕ)) (before now : ℕ) (files : Option Files) (reads writes calls : ℕ) (after : Outside)
-    → IsRun (Ok r) ticks (start (with_inputs system inputs)) new had got → now ≡ before → AreNotSaved e (core_outputs new cores ++ scripts) (outside files reads writes calls got now) after
-    → Comes e (ran ticks cores scripts system inputs) (outside files reads writes calls had before) after
-unsaved_comes Finished r cores scripts system inputs ticks new had got before now files reads writes calls after is same lost = absurd lost
-unsaved_comes Misused r cores scripts system inputs ticks new had got before now files reads writes calls after is same lost = absurd lost
-unsaved_comes (Unread file) r cores scripts system inputs ticks new had got before now files reads writes calls after is same lost = absurd lost
-unsaved_comes (Denied file text) r cores scripts system inputs ticks new had got before now files reads writes calls after is same lost = absurd lost
-unsaved_comes Unwritten r cores scripts system inputs ticks new had got before now files reads writes calls after is same lost = absurd lost
-unsaved_comes (Unsaved file) r cores scripts system inputs ticks new had got before now files reads writes calls after is same lost =
-    inr (cores_saved (Some file) r cores scripts system inputs ticks new had got before now files reads writes calls after is same lost)
-unsaved_comes (Unheard place) r cores scripts system inputs ticks new had got before now files reads writes calls after is same lost = absurd lost
-unsaved_comes Starved r cores scripts system inputs ticks new had got before now files reads writes calls after is same lost = absurd lost
+behind_run e board r cores scripts system inputs ticks new had got before now files reads writes calls after ends is same =
+    behind_outcome e board (ran ticks cores scripts system inputs) (outside files reads writes calls had before) (outside files reads writes calls got now) after
+    (granted ticks cores scripts system inputs) (runs ticks cores scripts system inputs)
+    (behind_report r cores scripts system inputs ticks new had got before now files reads writes calls is same)
+    (subst (λ (os : List Output). EndsBehind e os board (outside files reads writes calls got now) after) (behind_files cores scripts system inputs ticks new is.state) ends)
 
 -- a configuration has a plan
 pub has_plan : (conf : Conf) → Fits (described conf) → 0 < length conf.plans

@@ -1,6 +1,8 @@
 pub mod Answer
+pub mod Behind
 pub mod Boards
 pub mod Cores
+pub mod ReadyRuns
 pub mod Replaying
 pub mod Scripts
 pub mod Separation

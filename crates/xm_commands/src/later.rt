@@ -1,16 +1,19 @@
-//! The files that a run writes after its report: core files, and scripts behind them.
+//! What a run does after its report: core files are written, and scripts behind them, and it ends.
 
 ghost use Rattle.std.specs.Prelude.{ℕ, List, ◌++◌, Option, length, map};
+ghost use Rattle.xm_commands.specs.Behind.{EndsBehind};
+ghost use Rattle.xm_commands.specs.Boards.{EndsRun};
 ghost use Rattle.xm_commands.specs.Cores.{AreInside, FitInto};
-ghost use Rattle.file_commands.specs.Outcome.{core_outputs};
+ghost use Rattle.file_commands.specs.Outcome.{Output, core_outputs};
 ghost use Rattle.xm_commands.specs.Scripts.{made_output};
-ghost use Rattle.file_commands.specs.Told.{AreSaved};
-ghost use Rattle.file_commands.specs.Work.{outside};
+ghost use Rattle.file_commands.specs.Told.{AreSaved, ending_of};
+ghost use Rattle.file_commands.specs.Work.{Outside, outside};
 ghost use Rattle.xm_words.specs.Seen.{seen_files};
 
 use crate::cores::write_cores;
 use crate::scripts::{MadeScript, write_scripts};
 use file_commands::Ending;
+use uart_board::{Board, ViewBoard};
 use xm_machine::Machine;
 use xm_outside::Store;
 use xm_words::PartFiles;
@@ -32,5 +35,25 @@ pub(crate) fn write_later<'a, S: Store>(
     match write_cores(machine, cores, room, files) {
         Ok(()) => write_scripts(scripts, files),
         Err(ending) => Err(ending),
+    }
+}
+
+/// How a run ends whose whole report went out, by whether the files behind it were written.
+pub(crate) fn ended<'a>(saved: Result<(), Ending<'a>>, board: &Board) -> Ending<'a>
+    ensures { (outputs : List Output) (before after : Outside) → AreSaved saved.entry outputs before after → EndsBehind (ending_of result) outputs (⟦<Board as ViewBoard>⟧.board_view board.now) before after }
+{
+    match saved {
+        Ok(()) => heard(board),
+        Err(ending) => ending,
+    }
+}
+
+// How a run ends all of whose writes are done: well, or with the lowest place of the board that is marked.
+fn heard<'a>(board: &Board) -> Ending<'a>
+    ensures { EndsRun (ending_of result) (⟦<Board as ViewBoard>⟧.board_view board.now) }
+{
+    match board.failed() {
+        Some(place) => Ending::Unheard { place },
+        None => Ending::Finished,
     }
 }

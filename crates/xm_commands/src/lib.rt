@@ -6,6 +6,7 @@ mod generating;
 mod inputs;
 mod later;
 mod lone_core;
+mod readiness;
 mod replaying;
 mod running;
 mod scripts;

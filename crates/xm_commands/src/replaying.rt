@@ -6,21 +6,23 @@ ghost use Rattle.alone_replay.specs.Readied.{IsReady, Readies, unready_of};
 ghost use Rattle.alone_replay.specs.Ready.{replay_of};
 ghost use Rattle.xm_commands.specs.Boards.{IsLeft, Leaves};
 ghost use Rattle.file_commands.specs.Outcome.{content, first_long, input_bytes, input_name, name_in, outcome_of, played, replay_outcome};
-ghost use Rattle.xm_commands.specs.Replaying.{ready_of, unready_ending};
+ghost use Rattle.core_files.specs.Length.{core_length_of};
+ghost use Rattle.xm_alone.specs.Replay.{own_view};
+ghost use Rattle.xm_commands.specs.Replaying.{HasRoom, ready_of, unready_ending};
 ghost use Rattle.file_commands.specs.Told.{bytes_of, ending_of};
 ghost use Rattle.file_commands.specs.Work.{Comes, IsDone, outside};
 ghost use Rattle.xm_words.specs.Seen.{seen_further};
 ghost use Rattle.xm_words.specs.Words.{Replay as ReplayPart, replay_input};
 
+use crate::later::ended;
 use crate::lone_core::{lone_room, write_lone_core};
-use crate::running::heard;
 use alone_replay::{Replay, Unready, make_ready};
 use cue_scripts::Script;
 use file_commands::{Ending, Refusal, first_long_of_three, read_three, split_contents};
 use std::alloc::Global;
 use uart_board::{Board, ViewBoard};
 use xm_alone::Alone;
-use xm_base::PartId;
+use xm_base::{Memory, PartId};
 use xm_machine::WriteFault;
 use xm_outside::{Sink, Store};
 use xm_words::ReplayFiles;
@@ -148,7 +150,7 @@ fn play_owned<'a, S: Store, O: Sink>(
     play_ready(alloc, &mut alone, &script, core, files, out, board)
 }
 
-// Plays a replay that is ready, and writes the core file behind its report. All memory is taken before it.
+// Plays a replay that is ready, where there is memory for its core file.
 fn play_ready<'a, S: Store, O: Sink>(
     alloc: Global,
     alone: &mut Alone,
@@ -164,15 +166,32 @@ fn play_ready<'a, S: Store, O: Sink>(
         (outside (S.files files.new) (S.read_faults files.new) (S.write_faults files.new) (S.calls files.new) (O.got out.new) (O.faults out.new)) }
     ensures board { Leaves (ending_of result) (played (option_copied core.entry) (ready_of alone.old script.now)).run (O.got out.old) (O.got out.new) (⟦<Board as ViewBoard>⟧.board_view board.old) (⟦<Board as ViewBoard>⟧.board_view board.new) }
 {
-    let Ok(mut room) = lone_room(alloc, alone, core) else {
-        return Ending::Starved;
-    };
+    match lone_room(alloc, alone, core) {
+        Ok(mut room) => play_into(alone, script, core, &mut room, files, out, board),
+        Err(Memory) => Ending::Starved,
+    }
+}
+
+// Plays a replay that is ready, with room for its core file, and writes that behind the report.
+fn play_into<'a, S: Store, O: Sink>(
+    alone: &mut Alone,
+    script: &Script,
+    core: Option<&'a str>,
+    room: &mut [u8],
+    files: &mut S,
+    out: &mut O,
+    board: &mut Board,
+) -> Ending<'a>
+    requires ready { IsReady alone.old script.now }
+    requires room { HasRoom (option_copied core) (core_length_of (own_view alone.old)) (length room.old) }
+    ensures comes { Comes (ending_of result) (played (option_copied core.entry) (ready_of alone.old script.now))
+        (outside (S.files files.old) (S.read_faults files.old) (S.write_faults files.old) (S.calls files.old) (O.got out.old) (O.faults out.old))
+        (outside (S.files files.new) (S.read_faults files.new) (S.write_faults files.new) (S.calls files.new) (O.got out.new) (O.faults out.new)) }
+    ensures board { Leaves (ending_of result) (played (option_copied core.entry) (ready_of alone.old script.now)).run (O.got out.old) (O.got out.new) (⟦<Board as ViewBoard>⟧.board_view board.old) (⟦<Board as ViewBoard>⟧.board_view board.new) }
+{
     board.begin();
     match alone.play(script, out, board) {
-        Ok(()) => match write_lone_core(alone, core, &mut room, files) {
-            Ok(()) => heard(board),
-            Err(ending) => ending,
-        },
+        Ok(()) => ended(write_lone_core(alone, core, room, files), board),
         Err(WriteFault) => Ending::Unwritten,
     }
 }

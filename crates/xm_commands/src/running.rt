@@ -1,9 +1,12 @@
 //! A system is run, its report goes out, and core files and scripts of its partitions are written after it.
 
-ghost use Rattle.std.specs.Prelude.{◌≡◌, ◌≤◌, [], ◌∷◌, Some, length, map};
+ghost use Rattle.std.specs.Prelude.{◌≡◌, ◌≤◌, ℕ, false, List, [], ◌∷◌, Some, length, map};
 ghost use Rattle.xm_base.specs.declared.limits.TheConstants.{TICKS};
-ghost use Rattle.xm_commands.specs.Boards.{EndsRun, IsLeft, Leaves};
-ghost use Rattle.xm_commands.specs.Cores.{AreInside};
+ghost use Rattle.loaded_system.specs.System.{System as Loaded};
+ghost use Rattle.machine_model.specs.Machine.{start};
+ghost use Rattle.whole_system.specs.State.{with_inputs};
+ghost use Rattle.xm_commands.specs.Boards.{IsLeft, Leaves};
+ghost use Rattle.xm_commands.specs.Cores.{AreInside, FitInto};
 ghost use Rattle.file_commands.specs.Outcome.{outcome_of, ran};
 ghost use Rattle.xm_commands.specs.Scripts.{made_output};
 ghost use Rattle.file_commands.specs.Told.{ending_of};
@@ -12,13 +15,13 @@ ghost use Rattle.xm_words.specs.Seen.{seen_files};
 ghost use Rattle.xm_words.specs.Words.{Bare};
 
 use crate::cores::core_room;
-use crate::later::write_later;
+use crate::later::{ended, write_later};
 use crate::scripts::MadeScript;
 use file_commands::{Ending, Refusal, read_file};
 use machine_model::keeps_numbers;
 use std::alloc::Global;
 use uart_board::{Board, ViewBoard};
-use xm_base::FILE_BYTES;
+use xm_base::{FILE_BYTES, Memory};
 use xm_container::{BareFault, System, bare};
 use xm_machine::{Inputs, Machine, WriteFault};
 use xm_outside::{Sink, Store};
@@ -108,28 +111,70 @@ pub(crate) fn run_system<'a, S: Store, O: Sink>(
     ensures board { Leaves (ending_of result) (ran ticks (seen_files cores.entry) (map made_output scripts.now) system inputs).run (O.got out.old) (O.got out.new) (⟦<Board as ViewBoard>⟧.board_view board.old) (⟦<Board as ViewBoard>⟧.board_view board.new) }
 {
     keeps_numbers();
-    let Ok(mut machine) = Machine::boot(alloc, system, inputs) else {
-        return Ending::Starved;
-    };
-    let Ok(mut room) = core_room(alloc, &machine, cores) else {
-        return Ending::Starved;
-    };
-    board.begin();
-    match machine.run(ticks, out, board) {
-        Ok(_) => match write_later(&machine, cores, scripts, &mut room, files) {
-            Ok(()) => heard(board),
-            Err(ending) => ending,
-        },
-        Err(WriteFault) => Ending::Unwritten,
+    match Machine::boot(alloc, system, inputs) {
+        Ok(mut machine) => {
+            let machine = &mut machine;
+            run_booted(alloc, ticks, cores, scripts, machine, files, out, board)
+        }
+        Err(Memory) => Ending::Starved,
     }
 }
 
-/// How a run ends all of whose writes are done: well, or with the lowest place of the board that is marked.
-pub(crate) fn heard<'a>(board: &Board) -> Ending<'a>
-    ensures { EndsRun (ending_of result) (⟦<Board as ViewBoard>⟧.board_view board.now) }
+// Runs a machine that boots, of whatever system, where there is memory for its core files.
+fn run_booted<'a, S: Store, O: Sink>(
+    alloc: Global,
+    ticks: u64,
+    cores: PartFiles<'a>,
+    scripts: &[MadeScript<'a>],
+    machine: &mut Machine,
+    files: &mut S,
+    out: &mut O,
+    board: &mut Board,
+) -> Ending<'a>
+    requires most { ticks ≤ TICKS }
+    requires fresh { machine.old.state.ticks ≡ 0 }
+    requires running { machine.old.state.halted ≡ false }
+    requires inside { AreInside (length machine.old.state.parts) (seen_files cores) }
+    ensures comes { (system : Loaded) (inputs : List (List ℕ)) → machine.old.state ≡ start (with_inputs system inputs)
+        → Comes (ending_of result) (ran ticks (seen_files cores.entry) (map made_output scripts.now) system inputs)
+        (outside (S.files files.old) (S.read_faults files.old) (S.write_faults files.old) (S.calls files.old) (O.got out.old) (O.faults out.old))
+        (outside (S.files files.new) (S.read_faults files.new) (S.write_faults files.new) (S.calls files.new) (O.got out.new) (O.faults out.new)) }
+    ensures board { (system : Loaded) (inputs : List (List ℕ)) → machine.old.state ≡ start (with_inputs system inputs)
+        → Leaves (ending_of result) (ran ticks (seen_files cores.entry) (map made_output scripts.now) system inputs).run (O.got out.old) (O.got out.new) (⟦<Board as ViewBoard>⟧.board_view board.old) (⟦<Board as ViewBoard>⟧.board_view board.new) }
 {
-    match board.failed() {
-        Some(place) => Ending::Unheard { place },
-        None => Ending::Finished,
+    match core_room(alloc, machine, cores) {
+        Ok(mut room) => run_into(ticks, cores, scripts, machine, &mut room, files, out, board),
+        Err(Memory) => Ending::Starved,
+    }
+}
+
+// Runs a machine that boots, with room for its core files, and writes these and the scripts behind the report.
+fn run_into<'a, S: Store, O: Sink>(
+    ticks: u64,
+    cores: PartFiles<'a>,
+    scripts: &[MadeScript<'a>],
+    machine: &mut Machine,
+    room: &mut [u8],
+    files: &mut S,
+    out: &mut O,
+    board: &mut Board,
+) -> Ending<'a>
+    requires most { ticks ≤ TICKS }
+    requires fresh { machine.old.state.ticks ≡ 0 }
+    requires running { machine.old.state.halted ≡ false }
+    requires inside { AreInside (length machine.old.state.parts) (seen_files cores) }
+    requires room { FitInto machine.old.state.system (length room.old) (seen_files cores) }
+    ensures comes { (system : Loaded) (inputs : List (List ℕ)) → machine.old.state ≡ start (with_inputs system inputs)
+        → Comes (ending_of result) (ran ticks (seen_files cores.entry) (map made_output scripts.now) system inputs)
+        (outside (S.files files.old) (S.read_faults files.old) (S.write_faults files.old) (S.calls files.old) (O.got out.old) (O.faults out.old))
+        (outside (S.files files.new) (S.read_faults files.new) (S.write_faults files.new) (S.calls files.new) (O.got out.new) (O.faults out.new)) }
+    ensures board { (system : Loaded) (inputs : List (List ℕ)) → machine.old.state ≡ start (with_inputs system inputs)
+        → Leaves (ending_of result) (ran ticks (seen_files cores.entry) (map made_output scripts.now) system inputs).run (O.got out.old) (O.got out.new) (⟦<Board as ViewBoard>⟧.board_view board.old) (⟦<Board as ViewBoard>⟧.board_view board.new) }
+{
+    keeps_numbers();
+    board.begin();
+    match machine.run(ticks, out, board) {
+        Ok(_) => ended(write_later(machine, cores, scripts, room, files), board),
+        Err(WriteFault) => Ending::Unwritten,
     }
 }

@@ -17,7 +17,7 @@ ghost use Rattle.xm_words.specs.Seen.{seen_file, seen_options};
 ghost use Rattle.xm_words.specs.Words.{inputs_in, scripts_in};
 
 use crate::inputs::inputs_for;
-use crate::unpacking::part_count;
+use crate::readiness::part_count;
 use alone_replay::no_script;
 use file_commands::{Ending, split_contents, unmade};
 use std::alloc::Global;

@@ -1,5 +1,4 @@
-use Rattle.std.proofs.Common.{arith, ap, map}
-use Rattle.file_commands.specs.Outcome.{input_bytes}
+use Rattle.std.proofs.Common.{arith, map}
 use Rattle.file_commands.specs.Told.{bytes_of}
 use Rattle.xm_commands.proofs.ReplayLemmas.{content_second, content_third}
 use Rattle.xm_commands.proofs.replaying.ready_by.Goals as goal

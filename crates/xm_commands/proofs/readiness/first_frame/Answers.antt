@@ -3,7 +3,7 @@ use Rattle.std.proofs.Common.{ap, arith, sym, ◌∙◌}
 use Rattle.xm_conf.specs.Configuration.{Plan}
 use Rattle.cyclic_plans.specs.PlanLemmas.{stands_at}
 use Rattle.xm_commands.proofs.WorkLemmas.{has_plan}
-use Rattle.xm_commands.proofs.unpacking.first_frame.Goals as goal
+use Rattle.xm_commands.proofs.readiness.first_frame.Goals as goal
 
 pub index-requires : goal.index-requires
 index-requires c = (let some = has_plan c.args.conf.now c.raw.ensures.fits in let plans = rw (← c.raw.ensures.value, ← c.behind-conf.view_is) at some in omega (arith, plans))
