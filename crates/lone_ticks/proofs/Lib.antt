@@ -1,3 +1,4 @@
+pub mod GoesOnLemmas
 pub mod LoneCallLemmas
 pub mod LoneLemmas
 pub mod LoneTrafficLemmas
@@ -5,3 +6,6 @@ pub mod LoneTurnLemmas
 pub mod LoneWorkLemmas
 pub mod ObservingLemmas
 pub mod PutLemmas
+pub mod SpanEndLemmas
+pub mod SpanLemmas
+pub mod StillLemmas

@@ -82,7 +82,7 @@ pub record CanEnd (p : ℕ) (sys : SysState) : Type 0 where
   pub ticks : sys.machine.ticks + 1 < 2 ^ 64
   pub frame : IsInFrame sys.machine.system.conf sys.machine.clock sys.machine.time
 
-frame_traded : (g h : Machine) → IsTraded g h → IsInFrame g.system.conf g.clock g.time → IsInFrame h.system.conf h.clock h.time
+pub frame_traded : (g h : Machine) → IsTraded g h → IsInFrame g.system.conf g.clock g.time → IsInFrame h.system.conf h.clock h.time
 frame_traded g h keeps frame =
     subst (λ (n : ℕ). IsInFrame h.system.conf h.clock n) (sym keeps.time)
     (subst (λ (k : CyclicClock). IsInFrame h.system.conf k g.time) (sym keeps.clock)

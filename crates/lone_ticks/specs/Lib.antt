@@ -1,1 +1,2 @@
+pub mod LoneSpan
 pub mod LoneWork

@@ -102,8 +102,8 @@ fn tick_in_slot(
     }
 }
 
-// A tick in which the partition takes its turn: a hypervisor event is that of its own act.
-fn turn_in_slot(
+/// A tick in which the partition takes its turn: a hypervisor event is that of its own act.
+pub(crate) fn turn_in_slot(
     sys: &mut Sys,
     lines: &mut Lines,
     p: PartId,
@@ -136,8 +136,8 @@ fn turn_in_slot(
     }
 }
 
-// The end of a tick in which the partition's work reached so far: the hypervisor event of its act, and the clocks.
-fn end_turn(sys: &mut Sys, lines: &mut Lines, p: PartId, reach: Beyond) -> WholeCue
+/// The end of a tick in which the partition's work reached so far: the hypervisor event of its act, and the clocks.
+pub(crate) fn end_turn(sys: &mut Sys, lines: &mut Lines, p: PartId, reach: Beyond) -> WholeCue
     requires partition { p < length sys.old.machine.parts }
     requires time { sys.old.machine.time + 1 < 2 ^ 64 }
     requires ticks { sys.old.machine.ticks + 1 < 2 ^ 64 }
@@ -154,8 +154,8 @@ fn end_turn(sys: &mut Sys, lines: &mut Lines, p: PartId, reach: Beyond) -> Whole
     event
 }
 
-// A note, where it is so.
-fn note_if(is: bool, note: Note) -> Option<Note>
+/// A note, where it is so.
+pub(crate) fn note_if(is: bool, note: Note) -> Option<Note>
     ensures { result ≡ (if is then Some note else None) }
 {
     if is { Some(note) } else { None }
@@ -281,8 +281,8 @@ fn begin_anew(sys: &mut Sys)
     sys.set_now(0);
 }
 
-// Whether two hypervisor events are the same.
-fn is_same_event(one: WholeCue, other: WholeCue) -> bool
+/// Whether two hypervisor events are the same.
+pub(crate) fn is_same_event(one: WholeCue, other: WholeCue) -> bool
     ensures { result ≡ is_same_event (whole_value one) (whole_value other) }
 {
     match one {

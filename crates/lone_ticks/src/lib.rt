@@ -3,7 +3,9 @@
 
 mod alone;
 mod call;
+mod span;
 mod traffic;
 mod work;
 
 pub use alone::tick_alone;
+pub use span::{LoneSpan, span_alone};

@@ -146,8 +146,8 @@ fn go_alone(sys: &mut Sys, p: PartId, seen: Sight<'_>) -> Option<LoneWork>
     }
 }
 
-// An instruction at this program counter trapped.
-fn trap_alone(
+/// An instruction at this program counter trapped.
+pub(crate) fn trap_alone(
     sys: &mut Sys,
     lines: &mut Lines,
     p: PartId,
