@@ -1,4 +1,5 @@
 pub mod Alone
+pub mod AloneSpan
 pub mod AloneStep
 pub mod Cues
 pub mod Heard

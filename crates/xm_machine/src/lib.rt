@@ -2,6 +2,7 @@
 #![tactic(auto)]
 
 mod alone_fault;
+mod alone_span;
 mod law;
 mod machine;
 mod report;
@@ -9,6 +10,7 @@ mod run;
 mod stretch;
 
 pub use alone_fault::AloneFault;
+pub use alone_span::AloneSpan;
 pub use hypercalls::{InputFault, Inputs};
 pub use law::keeps_cues;
 pub use machine::Machine;

@@ -14,6 +14,7 @@ ghost use Rattle.slot_runs.specs.Passes.{evented, part_at, with_part};
 ghost use Rattle.uart_board.specs.Heard.{IsHeard};
 ghost use Rattle.alone_passes.specs.Step.{IsOfSystem};
 ghost use Rattle.cue_scripts.specs.Script.{IsCue};
+ghost use Rattle.xm_machine.specs.AloneSpan.{SpansAlone};
 ghost use Rattle.xm_machine.specs.AloneStep.{HasStepCause, IsSaidAlone, StepsAlone};
 ghost use Rattle.xm_machine.specs.Alone.{AreAlone, AreBootedAlone, RunsAlone};
 ghost use Rattle.system_ticks.specs.CueValues.{cue_value};
@@ -29,6 +30,7 @@ ghost use Rattle.xm_ports.specs.Channels.{shapes_of};
 ghost use Rattle.xm_report.specs.Report.{line_of};
 
 use crate::alone_fault::AloneFault;
+use crate::alone_span::AloneSpan;
 use crate::report::{end_parts, tell, tell_alone};
 use crate::run::Ran;
 use crate::stretch::{Stepped, ends_stretch, stepped_by};
@@ -36,7 +38,7 @@ use core_files::{core_into, core_length};
 use cyclic_plans::PlanClock;
 use hypercalls::{Inputs, Sys};
 use loaded_system::System;
-use lone_ticks::tick_alone;
+use lone_ticks::{span_alone, tick_alone};
 use machine_model::{
     all_ticks, boots_alone, keeps_facts, keeps_hardware_clock, keeps_numbers, keeps_plans,
     own_lines,
@@ -235,6 +237,39 @@ impl Machine {
         let n = self.sys.ticks();
         let done = tick_alone(&mut self.sys, &mut self.lines, p, cue);
         tell_alone(&self.sys, n, p, done, &self.lines, out, board)
+    }
+
+    /// Ticks of partition `p` without the others, at least one and at most so many, in each of which it is told nothing but whether a slot of
+    /// its own runs. Only the last may print and say something; it ends as that of `step_alone`.
+    pub fn span_alone<O: Sink>(
+        &mut self,
+        p: PartId,
+        own: bool,
+        most: u64,
+        out: &mut O,
+        board: &mut Board,
+    ) -> AloneSpan
+        requires partition { p < length self.old.state.parts }
+        requires running { self.old.state.halted ≡ false }
+        requires some { 0 < most }
+        requires more { self.old.state.ticks + most ≤ TICKS }
+        ensures some { 0 < result.ticks }
+        ensures within { result.ticks ≤ most }
+        ensures span { SpansAlone result.ended result.ticks p own self.old.state self.new.state (O.got out.old) (O.got out.new) (⟦<Board as ViewBoard>⟧.board_view board.old) (⟦<Board as ViewBoard>⟧.board_view board.new) }
+        ensures cause { HasStepCause result.ended (O.faults out.old) (O.faults out.new) }
+        ensures system { IsOfSystem self.old.state self.new.state }
+        ensures kept { self.new.kept ≡ self.old.kept }
+        ensures counters { IsCounted self.new.state }
+    {
+        self.lines.clear();
+        let begun = self.sys.ticks();
+        let span = span_alone(&mut self.sys, &mut self.lines, p, own, most);
+        let last = begun + span.ticks - 1;
+        let ended = tell_alone(&self.sys, last, p, span.told, &self.lines, out, board);
+        AloneSpan {
+            ticks: span.ticks,
+            ended,
+        }
     }
 
     /// How many bytes the core file of a partition has. No tick and no reset changes it.
