@@ -134,16 +134,14 @@ left_runs p cues before left cue later old now first is script =
     let whole : before ++ cue ∷ later ≡ cues = ap (λ rest. before ++ rest) (sym first) ∙ is.split in
     is.halted ∙ still_runs before cue later (subst HaltsLast (sym whole) script.halts)
 
--- and a tick may be done
-pub left_tick : (p : ℕ) (cues before left : List Cue) (cue : Cue) (later : List Cue) (old now : Machine) → left ≡ cue ∷ later → IsFollowing p cues before left old now
-    → IsScript old.system.conf p cues → now.ticks < 4000000000
+-- and a tick may be done for each that is left
+pub left_ticks : (p : ℕ) (cues before left : List Cue) (old now : Machine) → IsFollowing p cues before left old now → IsScript old.system.conf p cues → now.ticks + length left ≤ 4000000000
 unfolding part
-left_tick p cues before left cue later old now first is script =
+left_ticks p cues before left old now is script =
     let view = view_of old.system p in
     let counted : now.ticks ≡ (replayed view before).ticks = ap (λ (a : Alone). a.ticks) is.part in
-    let more : length left ≡ suc (length later) = ap (λ (xs : List Cue). length xs) first in
     let all : length (before ++ left) ≡ length cues = ap (λ (xs : List Cue). length xs) is.split in
-    omega (arith, counted, more, all, cues_most view (alone_start view) before, started view, length-append before left, script.few)
+    omega (arith, counted, all, cues_most view (alone_start view) before, started view, length-append before left, script.few)
 
 -- partition p can take the first cues of a script, and these are left; the next has this number
 pub record IsFitting (p tick : ℕ) (cues left : List Cue) (old now : Machine) : Type 0 where

@@ -1,5 +1,6 @@
 mod BootLemmas
 mod FollowLemmas
+mod NextLemmas
 mod PlayLemmas
 mod RunLemmas
 mod TickLemmas

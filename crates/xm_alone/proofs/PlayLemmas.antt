@@ -22,7 +22,7 @@ use Rattle.xm_alone.specs.Replay.{IsCutReplay, IsReplay, IsWholeReplay, Lone, cu
 use Rattle.xm_alone.proofs.FollowLemmas.{IsFollowing, lines_add, lines_more, one_followed, said_more}
 
 -- the same bytes to each UART
-heard_as : (said other : ℕ → List ℕ) (before after : BoardView) → ((uart : ℕ) → said uart ≡ other uart) → IsHeard said before after → IsHeard other before after
+pub heard_as : (said other : ℕ → List ℕ) (before after : BoardView) → ((uart : ℕ) → said uart ≡ other uart) → IsHeard said before after → IsHeard other before after
 heard_as said other before after same heard place =
     subst (λ (bytes : List ℕ). IsHeardAt bytes (view_at place before) (mark_at place before.marks) (view_at place after) (mark_at place after.marks)) (same place) (heard place)
 

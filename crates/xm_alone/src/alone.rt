@@ -13,6 +13,7 @@ ghost use Rattle.xm_machine.specs.Outcome.{HasWriteCause};
 ghost use Rattle.xm_report.specs.Report.{line_of};
 
 use crate::cues::Cues;
+use crate::following::follow;
 use cue_scripts::Script;
 use loaded_system::System;
 use machine_model::{boots_alone, keeps_numbers};
@@ -113,16 +114,25 @@ fn play_cues<O: Sink>(
     ensures cause { HasWriteCause result (O.faults out.old) (O.faults out.new) }
 {
     let mut rest = Cues::of(script);
-    while let Some((cue, later)) = rest.split_first() {
-        match machine.step_alone(p, &cue, out, board) {
+    while let Some((next, later)) = rest.next() {
+        let done = follow(machine, p, next, out, board);
+        match done.ended {
             Ok(()) => {}
-            Err(AloneFault::Write) => return Err(WriteFault),
-            // The script fits.
-            Err(AloneFault::Cue) => unreachable!(),
+            Err(fault) => return Err(unwritten(fault)),
         }
-        rest = later;
+        rest = later.after(next, done.ticks);
     }
     Ok(())
+}
+
+/// The fault of a replay whose script fits: no cue is refused.
+fn unwritten(fault: AloneFault) -> WriteFault
+    requires { fault ≡ AloneFault.Write }
+{
+    match fault {
+        AloneFault::Write => WriteFault,
+        AloneFault::Cue => unreachable!(),
+    }
 }
 
 /// The line that tells how partition `p` stands at the end.

@@ -1,15 +1,23 @@
 //! The cues of a script, one after the other, lent to a machine.
 
-ghost use Rattle.std.specs.Prelude.{◌≡◌, ◌∷◌, [], MatchOption};
-ghost use Rattle.cue_scripts.specs.Entries.{plain, running};
+ghost use Rattle.std.specs.Prelude.{◌≡◌, ◌++◌, [], MatchOption};
 ghost use Rattle.cue_scripts.specs.Values as kept;
-ghost use Rattle.xm_alone.specs.Cues.{cues_left};
+ghost use Rattle.xm_alone.specs.Cues.{ComesNext, HasNext, cues_left, next_left};
 ghost use Rattle.system_ticks.specs.CueValues.{cue_value, sight_value, slot_value, traffic_value, whole_value};
 
 use cue_scripts::{
     Script, ScriptCue, ScriptEntry, ScriptEvent, ScriptSight, ScriptSlot, ScriptTraffic,
 };
 use xm_machine::{Cue, Mine, Sight, Traffic, WholeCue};
+
+/// The cues of a script that come next.
+#[derive(Clone, Copy)]
+pub(crate) enum Next<'a> {
+    /// So many with nothing but whose slot it is: the partition's own, which began before, or not.
+    Alike { own: bool, count: u32 },
+    /// Another one.
+    Other(Cue<'a>),
+}
 
 /// The cues of a script that are still to come. They take no memory, however many they are.
 #[derive(Clone, Copy, Debug)]
@@ -33,10 +41,9 @@ impl<'a> Cues<'a> {
         }
     }
 
-    /// The first cue and the others, or `None` where there is none.
-    pub(crate) fn split_first(self) -> Option<(Cue<'a>, Cues<'a>)>
-        ensures { MatchOption result (cues_left self.entry ≡ [])
-            (λ (first, others). cues_left self.entry ≡ cue_value first ∷ cues_left others) }
+    /// Those that come next, which are all alike or one, and the cues of the entries behind them; or `None` where there is none.
+    pub(crate) fn next(self) -> Option<(Next<'a>, Cues<'a>)>
+        ensures { MatchOption result (cues_left self.entry ≡ []) (λ (first, others). ComesNext (cues_left self.entry) first others) }
     {
         let mut rest = self;
         while rest.left == 0 {
@@ -52,40 +59,32 @@ impl<'a> Cues<'a> {
                         entries: later,
                         ..rest
                     };
-                    return Some((lent(cue), others));
+                    return Some((Next::Other(lent(cue)), others));
                 }
             };
         }
-        let others = Cues {
-            left: rest.left - 1,
-            ..rest
+        let next = Next::Alike {
+            own: rest.own,
+            count: rest.left,
         };
-        Some((plain_cue(rest.own), others))
+        let others = Cues { left: 0, ..rest };
+        Some((next, others))
     }
-}
 
-/// A cue with nothing but whose running slot it is.
-#[tactic(auto, unfolding(cue_scripts::specs::Entries::plain))]
-fn plain_cue(own: bool) -> Cue<'static>
-    ensures { cue_value result ≡ plain own }
-{
-    Cue {
-        mine: running(own),
-        traffic: Traffic::Nothing,
-        order: None,
-        whole: WholeCue::Nothing,
-        seen: Sight::Nothing,
-    }
-}
-
-/// Whose slot it is; one of the partition's own began before.
-fn running(own: bool) -> Mine
-    ensures { slot_value result ≡ running own }
-{
-    if own {
-        Mine::Mine { first: false }
-    } else {
-        Mine::Away
+    /// What is left of the cues that came next when so many of them are done, before those of the entries behind them.
+    pub(crate) fn after(self, next: Next<'a>, done: u64) -> Cues<'a>
+        requires none { self.left ≡ 0 }
+        requires within { HasNext next done }
+        ensures { cues_left result ≡ next_left next.entry done ++ cues_left self.entry }
+    {
+        match next {
+            Next::Alike { own, count } => Cues {
+                own,
+                left: count - done as u32,
+                ..self
+            },
+            Next::Other(_) => self,
+        }
     }
 }
 

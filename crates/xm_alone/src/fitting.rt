@@ -7,6 +7,7 @@ ghost use Rattle.whole_system.specs.State.{with_inputs};
 ghost use Rattle.xm_alone.specs.Replay.{TellsFit, booted_alone, lone_in};
 
 use crate::cues::Cues;
+use crate::following::follow;
 use cue_scripts::{Script, ScriptFault};
 use loaded_system::System;
 use machine_model::{boots_alone, keeps_numbers};
@@ -46,16 +47,16 @@ fn takes_all(machine: &mut Machine, p: PartId, script: &Script) -> Result<(), Sc
     let mut board = Board::new();
     let mut rest = Cues::of(script);
     let mut tick = 0;
-    while let Some((cue, later)) = rest.split_first() {
+    while let Some((next, later)) = rest.next() {
         // The sink takes all bytes, so that the cue alone can be refused.
-        if machine
-            .step_alone(p, &cue, &mut SureSink::new(), &mut board)
-            .is_err()
-        {
-            return Err(ScriptFault::Cue { tick });
+        let done = follow(machine, p, next, &mut SureSink::new(), &mut board);
+        if done.ended.is_err() {
+            return Err(ScriptFault::Cue {
+                tick: tick + done.ticks - 1,
+            });
         }
-        tick += 1;
-        rest = later;
+        tick += done.ticks;
+        rest = later.after(next, done.ticks);
     }
     Ok(())
 }

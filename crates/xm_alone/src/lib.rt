@@ -4,6 +4,7 @@
 mod alone;
 mod cues;
 mod fitting;
+mod following;
 mod recording;
 mod told;
 

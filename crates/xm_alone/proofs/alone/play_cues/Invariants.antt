@@ -4,11 +4,11 @@ use Rattle.xm_alone.specs.Cues.{cues_left}
 use Rattle.xm_alone.proofs.PlayLemmas.{IsPlaying}
 use Rattle.xm_alone.proofs.alone.play_cues.Given as goal
 
-abbrev pub invariant-loop-cue : goal.invariant-loop-cue
-invariant-loop-cue g l = record {
+abbrev pub invariant-loop-next : goal.invariant-loop-next
+invariant-loop-next g l = record {
   playing : IsPlaying l.p l.script (cues_left l.rest) l.fn.machine.state l.machine.state (g.O.Sink.got l.fn.out) (g.O.Sink.got l.out) ((ghosts (g.dyn-1.0, g.dyn-1.1)).board_view l.fn.board) ((ghosts (g.dyn-1.0, g.dyn-1.1)).board_view l.board);
   faults : g.O.Sink.faults l.out ≡ g.O.Sink.faults l.fn.out;
 }
 
-abbrev pub decreases-loop-cue : goal.decreases-loop-cue
-decreases-loop-cue g l = length (cues_left l.rest)
+abbrev pub decreases-loop-next : goal.decreases-loop-next
+decreases-loop-next g l = length (cues_left l.rest)

@@ -1,22 +1,26 @@
-use Rattle.std.proofs.Common.{None, sym, ◌∙◌}
-use Rattle.system_ticks.specs.CueValues.{cue_value}
+use Rattle.std.proofs.Common.{sym, ◌∙◌}
 use Rattle.xm_alone.specs.Cues.{cues_left}
-use Rattle.xm_alone.proofs.FollowLemmas.{left_cue, left_runs, left_tick, one_fits}
+use Rattle.xm_alone.proofs.NextLemmas.{next_fits, next_is, next_refused, next_runs, next_ticks}
 use Rattle.xm_alone.proofs.fitting.takes_all.Goals as goal
 
-pub step_alone-requires-clause-running : goal.step_alone-requires-clause-running
-step_alone-requires-clause-running c =
-    left_runs c.args.p c.args.script.now c.loop-cue.invariant.before (cues_left c.loop-cue.rest) (cue_value c.in-Some.cue) (cues_left c.in-Some.later) c.args.machine.now.state c.loop-cue.machine.state c.in-Some.ensures c.loop-cue.invariant.following c.requires.script
+pub follow-done-requires-clause-running : goal.follow-done-requires-clause-running
+follow-done-requires-clause-running c =
+    next_runs c.args.p c.args.script.now c.loop-next.invariant.before (cues_left c.loop-next.rest) c.in-Some.later c.args.machine.now.state c.loop-next.machine.state c.requires.script c.loop-next.invariant.following c.in-Some.next c.in-Some.ensures
 
-pub step_alone-requires-clause-more : goal.step_alone-requires-clause-more
-step_alone-requires-clause-more c =
-    left_tick c.args.p c.args.script.now c.loop-cue.invariant.before (cues_left c.loop-cue.rest) (cue_value c.in-Some.cue) (cues_left c.in-Some.later) c.args.machine.now.state c.loop-cue.machine.state c.in-Some.ensures c.loop-cue.invariant.following c.requires.script
+pub follow-done-requires-clause-more : goal.follow-done-requires-clause-more
+follow-done-requires-clause-more c =
+    next_ticks c.args.p c.args.script.now c.loop-next.invariant.before (cues_left c.loop-next.rest) c.in-Some.later c.args.machine.now.state c.loop-next.machine.state c.requires.script c.loop-next.invariant.following c.in-Some.next c.in-Some.ensures
 
-pub step_alone-requires-clause-cue : goal.step_alone-requires-clause-cue
-step_alone-requires-clause-cue c =
-    left_cue c.args.p c.args.script.now c.loop-cue.invariant.before (cues_left c.loop-cue.rest) (cue_value c.in-Some.cue) (cues_left c.in-Some.later) c.args.machine.now.state c.loop-cue.machine.state c.in-Some.ensures c.loop-cue.invariant.following c.requires.script
+pub follow-done-requires-clause-next : goal.follow-done-requires-clause-next
+follow-done-requires-clause-next c =
+    next_is c.args.p c.args.script.now c.loop-next.invariant.before (cues_left c.loop-next.rest) c.in-Some.later c.args.machine.now.state c.loop-next.machine.state c.requires.script c.loop-next.invariant.following c.in-Some.next c.in-Some.ensures
 
-pub loop-cue-preserved : goal.loop-cue-preserved
-loop-cue-preserved c =
-    one_fits c.step_alone.result c.args.p c.loop-cue.tick c.args.script.now (cues_left c.loop-cue.rest) (cue_value c.in-Some.cue) (cues_left c.in-Some.later) c.args.machine.now.state c.loop-cue.machine.state
-    c.step_alone.new.self.state None None c.in-Some.ensures (sym c.is_err.ensures.value ∙ c.if-is_err.false) c.loop-cue.invariant c.step_alone.ensures.step c.step_alone.ensures.system
+pub returns-then-is_err : goal.returns-then-is_err
+returns-then-is_err c =
+    next_refused c.args.p c.follow-done.result.ticks c.args.script.now (cues_left c.loop-next.rest) c.in-Some.next c.in-Some.later c.args.machine.now.state c.loop-next.machine.state c.follow-done.new.machine.state c.requires.script c.in-Some.ensures c.follow-done.ensures.system
+    c.follow-done.result.ended c.loop-next.tick _ _ _ _ (sym c.is_err.ensures.value ∙ c.if-is_err.true) c.follow-done.ensures.cause c.loop-next.invariant c.follow-done.ensures.follows
+
+pub loop-next-preserved : goal.loop-next-preserved
+loop-next-preserved c =
+    rw c.after-rest.ensures (next_fits c.args.p c.follow-done.result.ticks c.args.script.now (cues_left c.loop-next.rest) c.in-Some.next c.in-Some.later c.args.machine.now.state c.loop-next.machine.state c.follow-done.new.machine.state c.requires.script c.in-Some.ensures c.follow-done.ensures.system
+    c.follow-done.result.ended c.loop-next.tick _ _ _ _ (sym c.is_err.ensures.value ∙ c.if-is_err.false) c.loop-next.invariant c.follow-done.ensures.follows)

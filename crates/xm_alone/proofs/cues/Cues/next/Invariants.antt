@@ -1,6 +1,6 @@
 use Rattle.std.proofs.Common.{◌≡◌, length}
 use Rattle.xm_alone.specs.Cues.{cues_left}
-use Rattle.xm_alone.proofs.cues.Cues.split_first.Given as goal
+use Rattle.xm_alone.proofs.cues.Cues.next.Given as goal
 
 abbrev pub invariant-loop-rest : goal.invariant-loop-rest
 invariant-loop-rest l = cues_left l.rest ≡ cues_left l.self
