@@ -1,0 +1,4 @@
+pub mod CallLemmas
+pub mod EndLemmas
+pub mod TellLemmas
+pub mod WorkLemmas
