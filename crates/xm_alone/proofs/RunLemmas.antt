@@ -1,5 +1,6 @@
 -- A script of a run of two parts.
-use Rattle.std.proofs.Common.{◌≡◌, ℕ, zero, suc, ◌+◌, ◌-◌, ◌<◌, ◌≤◌, Bool, true, false, List, [], ◌∷◌, ◌++◌, length, refl, sym, ap, subst, ◌∙◌, arith}
+use Rattle.std.proofs.Common.{◌≡◌, ℕ, zero, suc, ◌+◌, ◌-◌, ◌<◌, ◌≤◌, Bool, true, false, List, [], ◌∷◌, ◌++◌, length, IfOk, Result, Ok, Err, refl, sym, ap, subst, ◌∙◌, arith}
+use Rattle.std.specs.List.{AllByRecursion}
 use Rattle.std.proofs.Math.Nat.{suc-add, zero-add}
 use Rattle.std.proofs.lemmas.List.{append-nil}
 use Rattle.machine_model.specs.Cue.{Cue, cue, script, script_unless}
@@ -9,6 +10,7 @@ use Rattle.machine_model.specs.Told.{AllHalted, AllReset, NoEvent, WholeEvent}
 use Rattle.machine_model.specs.Whole.{ticks_after}
 use Rattle.slot_runs.specs.RunLemmas.{run_add}
 use Rattle.cue_scripts.specs.Written.{IsWritten, Written}
+use Rattle.told_scripts.specs.Telling.{HasNumbers}
 
 -- a machine that has halted stays as it is
 step_halted : (g : Machine) → g.halted ≡ true → step g ≡ g
@@ -60,20 +62,26 @@ pub ticks_most : (count : ℕ) (g : Machine) → (run g count).ticks ≤ g.ticks
 ticks_most zero g = omega arith
 ticks_most (suc count) g = omega (arith, ticks_most count (step g), step_most g)
 
--- so many of the ticks asked were done, and what partition p was told in them is written
+-- so many of the ticks asked were done, and what partition p was told in them is written and has its numbers
 pub record IsRecorded (g : Machine) (p asked done : ℕ) (now : Machine) (w : Written) : Type 0 where
   pub within : done ≤ asked
   pub state : now ≡ run g done
   pub written : IsWritten (script g p done) w
+  pub numbers : AllByRecursion HasNumbers (script g p done)
 
 -- none is done
 pub none_recorded : (g : Machine) (p asked : ℕ) (w : Written) → IsWritten [] w → IsRecorded g p asked 0 g w
-none_recorded g p asked w is = record { within = omega arith; state = refl; written = is }
+none_recorded g p asked w is = record { within = omega arith; state = refl; written = is; numbers = tt }
+
+-- numbers of one cue more
+one_numbered : (cues : List Cue) (cue : Cue) → AllByRecursion HasNumbers cues → HasNumbers cue → AllByRecursion HasNumbers (cues ++ cue ∷ [])
+one_numbered [] cue all has = (has, tt)
+one_numbered (first ∷ cues) cue all has = (all.0, one_numbered cues cue all.1 has)
 
 -- one more
 pub one_recorded : (g : Machine) (p asked done : ℕ) (now next : Machine) (w more : Written) → done < asked → now.halted ≡ false → IsRecorded g p asked done now w → next ≡ run now 1
-    → ((cues : List Cue) → IsWritten cues w → IsWritten (cues ++ cue now p ∷ []) more) → IsRecorded g p asked (done + 1) next more
-one_recorded g p asked done now next w more below runs is goes adds =
+    → HasNumbers (cue now p) → ((cues : List Cue) → IsWritten cues w → IsWritten (cues ++ cue now p ∷ []) more) → IsRecorded g p asked (done + 1) next more
+one_recorded g p asked done now next w more below runs is goes has adds =
     let one : script now p 1 ≡ cue now p ∷ [] = ap (λ b. script_unless b (cue now p) []) runs in
     let told : script g p done ++ cue now p ∷ [] ≡ script g p (done + 1) =
     ap (λ cues. script g p done ++ cues) (sym one) ∙ ap (λ (m : Machine). script g p done ++ script m p 1) is.state ∙ sym (script_add done 1 g p) in
@@ -81,6 +89,7 @@ one_recorded g p asked done now next w more below runs is goes adds =
       within = omega (arith, below);
       state = goes ∙ ap (λ (m : Machine). run m 1) is.state ∙ sym (run_add g done 1);
       written = subst (λ cues. IsWritten cues more) told (adds (script g p done) is.written);
+      numbers = subst (AllByRecursion HasNumbers) told (one_numbered (script g p done) (cue now p) is.numbers has);
     }
 
 -- all are done
@@ -89,10 +98,24 @@ all_recorded g p asked done now w enough is =
     let same : done ≡ asked = omega (arith, enough, is.within) in
     subst (λ n. IsWritten (script g p n) w) same is.written
 
+pub all_numbered : (g : Machine) (p asked done : ℕ) (now : Machine) (w : Written) → asked ≤ done → IsRecorded g p asked done now w → AllByRecursion HasNumbers (script g p asked)
+all_numbered g p asked done now w enough is =
+    let same : done ≡ asked = omega (arith, enough, is.within) in
+    subst (λ n. AllByRecursion HasNumbers (script g p n)) same is.numbers
+
 -- the hypervisor has halted
 pub halt_recorded : (g : Machine) (p asked done : ℕ) (now : Machine) (w : Written) → now.halted ≡ true → IsRecorded g p asked done now w → IsWritten (script g p asked) w
 halt_recorded g p asked done now w halts is =
     subst (λ cues. IsWritten cues w) (script_ends done asked g p is.within (ap (λ (m : Machine). m.halted) (sym is.state) ∙ halts)) is.written
+
+pub halt_numbered : (g : Machine) (p asked done : ℕ) (now : Machine) (w : Written) → now.halted ≡ true → IsRecorded g p asked done now w → AllByRecursion HasNumbers (script g p asked)
+halt_numbered g p asked done now w halts is =
+    subst (AllByRecursion HasNumbers) (script_ends done asked g p is.within (ap (λ (m : Machine). m.halted) (sym is.state) ∙ halts)) is.numbers
+
+-- whatever is made of it
+pub are_numbered : {X E : Type 0} (made : Result X E) (cues : List Cue) → AllByRecursion HasNumbers cues → IfOk made (λ _. AllByRecursion HasNumbers cues)
+are_numbered (Ok file) cues has = has
+are_numbered (Err fault) cues has = tt
 
 -- a script has a cue for each tick at most
 pub script_few : (count : ℕ) (g : Machine) (p : ℕ) → length (script g p count) ≤ count

@@ -1,5 +1,6 @@
 //! The script of a partition in a run.
 
+ghost use Rattle.std.specs.List.{AllByRecursion};
 ghost use Rattle.std.specs.Prelude.{◌≡◌, ◌<◌, ◌≤◌, IfOk, false, length};
 ghost use Rattle.cue_scripts.specs.Kept.{HasCueRanges};
 ghost use Rattle.cue_scripts.specs.Spelling.{script_text};
@@ -7,6 +8,7 @@ ghost use Rattle.cue_scripts.specs.Values as kept;
 ghost use Rattle.cue_scripts.specs.Written.{IsFile, IsWritten};
 ghost use Rattle.machine_model.specs.Cue.{cue, script};
 ghost use Rattle.machine_model.specs.Machine.{run, start};
+ghost use Rattle.told_scripts.specs.Telling.{HasNumbers};
 ghost use Rattle.whole_system.specs.State.{with_inputs};
 
 use crate::told::kept_cue;
@@ -14,13 +16,14 @@ use cue_scripts::{ScriptCue, ScriptFault, ScriptWriter};
 use loaded_system::System;
 use machine_model::{keeps_numbers, tells_few_bytes};
 use std::alloc::Global;
+use told_scripts::has_numbers;
 use uart_board::Board;
 use xm_base::{Memory, PartId, TICKS};
 use xm_machine::{Inputs, Machine};
 use xm_outside::SureSink;
 
 /// The file of all that partition `p` is told in a run of so many ticks. A machine of its own does the run, and its lines and console
-/// bytes go nowhere.
+/// bytes go nowhere. What is told has its numbers in the ranges of a memory and of a register, so the file is read back.
 pub fn script_of(
     alloc: Global,
     system: System,
@@ -31,7 +34,8 @@ pub fn script_of(
     requires partition { p < length system.conf.parts }
     requires inputs { length inputs ≡ length system.conf.parts }
     requires most { ticks ≤ TICKS }
-    ensures { IsFile (λ file. file.items) (script_text p (script (start (with_inputs system inputs)) p ticks)) result }
+    ensures file { IsFile (λ file. file.items) (script_text p (script (start (with_inputs system inputs)) p ticks)) result }
+    ensures numbers { IfOk result (λ _. AllByRecursion HasNumbers (script (start (with_inputs system inputs)) p ticks)) }
 {
     keeps_numbers();
     let mut machine = Machine::boot(alloc, system, inputs)?;
@@ -49,7 +53,8 @@ fn written(
     requires partition { p < length machine.old.state.parts }
     requires fresh { machine.old.state.ticks ≡ 0 }
     requires most { ticks ≤ TICKS }
-    ensures { IfOk result (IsWritten (script machine.old.state p ticks)) }
+    ensures written { IfOk result (IsWritten (script machine.old.state p ticks)) }
+    ensures numbers { IfOk result (λ _. AllByRecursion HasNumbers (script machine.old.state p ticks)) }
 {
     keeps_numbers();
     let mut board = Board::new();
@@ -60,6 +65,7 @@ fn written(
             return Ok(writer);
         }
         let cue = told_in(alloc, machine, p, &mut board)?;
+        has_numbers(&cue);
         writer.add(&cue)?;
         done += 1;
     }
