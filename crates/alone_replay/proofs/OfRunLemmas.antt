@@ -1,0 +1,178 @@
+-- A replay by the script of a run may begin, and shows the partition's part of the run.
+use Rattle.std.proofs.Common.{◌≡◌, ℕ, ◌%◌, ◌<◌, ◌≤◌, Bool, true, false, nat_eq, nat_le, if◌then◌else◌, List, [], ◌∷◌, ◌++◌, length, replicate, slice_set, IfOk, Option, Some, None, Result, Ok, Err, refl, sym, ap, ◌∙◌, subst, arith}
+use Rattle.std.specs.Prelude.{slice_index_or}
+use Rattle.std.proofs.lemmas.Bool.Decides.{nat_tests}
+use Rattle.std.proofs.lemmas.List.{get_or-set_same, length-replicate}
+use Rattle.xm_base.specs.Cursor.{Place, start as begin}
+use Rattle.xef_images.specs.Steps.{◌>>=◌}
+use Rattle.xm_conf.specs.Configuration.{Conf}
+use Rattle.xm_conf.specs.Description.{described}
+use Rattle.xm_conf.specs.Fits.{Fits}
+use Rattle.xm_conf.specs.Laws.{IsBrokenUnlessFits}
+use Rattle.xm_conf.specs.Rules.{first_broken}
+use Rattle.xm_conf.specs.declared.item.Broken.{Broken}
+use Rattle.bin_config.specs.Reading as bin
+use Rattle.bin_config.specs.declared.fault.XmcFault.{XmcFault}
+use Rattle.cue_scripts.specs.Laws.{WrittenIsRead}
+use Rattle.cue_scripts.specs.Reading.{script as read_script}
+use Rattle.cue_scripts.specs.Script.{IsScript}
+use Rattle.alone_passes.specs.Taking.{first_untaken}
+use Rattle.alone_passes.specs.TellingLaws.{BootedScriptIsTaken}
+use Rattle.loaded_system.specs.System as loaded
+use Rattle.machine_model.specs.Alone.{alone_start}
+use Rattle.machine_model.specs.CoreFile.{core_file}
+use Rattle.machine_model.specs.Cue.{Cue, script}
+use Rattle.machine_model.specs.Laws.{OwnLines, SameCoreFile}
+use Rattle.machine_model.specs.Lines.{end_line}
+use Rattle.machine_model.specs.Machine.{run, start}
+use Rattle.machine_model.specs.View.{PartitionView, System, view_of}
+use Rattle.told_scripts.specs.Telling.{TellsBootedScripts}
+use Rattle.whole_system.specs.Inputs.{words_in}
+use Rattle.whole_system.specs.State.{with_inputs}
+use Rattle.xm_alone.specs.Replay.{cue_lines, replay_lines, replayed}
+use Rattle.loaded_system.specs.Inside.{first_outside}
+use Rattle.xm_container.specs.Entries.{Entries}
+use Rattle.xm_container.specs.Numbers.{extra, missing}
+use Rattle.xm_container.specs.Reading.{as_config, assigned, bytes_at, conf_at, fields_of, length_at, signed, system_in, table_at, unless, unless_some, unpacked}
+use Rattle.xm_container.specs.declared.fault.BoxFault.{BoxFault}
+use Rattle.alone_replay.specs.OfRun.{RunIsReplayed}
+use Rattle.alone_replay.specs.Ready.{NoPartition, fitting, inputs_given, replay_of, with_container, with_input, with_script, with_system}
+
+-- What is unpacked meets the rules.
+
+-- a fact that a step gives of each value, and the next step keeps
+then_has : {A B F : Type 0} (P : A → Type 0) (Q : B → Type 0) (m : Result A F) (f : A → Result B F) → IfOk m P → ((a : A) → P a → IfOk (f a) Q) → IfOk (m >>= f) Q
+then_has P Q (Ok a) f has keeps = keeps a has
+then_has P Q (Err fault) f has keeps = tt
+
+-- a fact that the last step gives
+last_has : {A B F : Type 0} (Q : B → Type 0) (m : Result A F) (f : A → Result B F) → ((a : A) → IfOk (f a) Q) → IfOk (m >>= f) Q
+last_has Q (Ok a) f gives = gives a
+last_has Q (Err fault) f gives = tt
+
+-- what meets the rules
+abbrev Meets : Conf → Type 0
+Meets conf = Fits (described conf)
+
+unbroken_meets : IsBrokenUnlessFits → (conf : Conf) (o : Option Broken) → first_broken (described conf) ≡ o → IfOk (bin.unbroken conf o) Meets
+unbroken_meets law conf None none = (law (described conf)).0 none
+unbroken_meets law conf (Some broken) some = tt
+
+read_meets : IsBrokenUnlessFits → (bytes : List ℕ) → IfOk (bin.read_of bytes) Meets
+unfolding bin.read_of
+read_meets law bytes = last_has Meets (bin.fields_of bytes) (λ conf. bin.unbroken conf (first_broken (described conf))) (λ conf. unbroken_meets law conf (first_broken (described conf)) refl)
+
+as_config_meets : (r : Result Conf XmcFault) → IfOk r Meets → IfOk (as_config r) Meets
+as_config_meets (Ok conf) meets = meets
+as_config_meets (Err fault) meets = tt
+
+-- the configuration of a value that was read, and its configuration and images
+abbrev ConfMeets : {T : Type 0} → Conf × T → Type 0
+ConfMeets read = Meets read.0
+
+conf_meets : IsBrokenUnlessFits → (place : Place) → IfOk (conf_at place) ConfMeets
+unfolding conf_at
+conf_meets law place =
+    last_has ConfMeets (length_at place) _ (λ count. last_has ConfMeets (bytes_at count.0 count.1) _ (λ bytes.
+    then_has Meets ConfMeets (as_config (bin.read_of bytes.0)) _ (as_config_meets (bin.read_of bytes.0) (read_meets law bytes.0)) (λ conf meets. meets)))
+
+unless_meets : {T : Type 0} (test : Bool) (fault : BoxFault) (value : Conf × T) → Meets value.0 → IfOk (unless test fault value) ConfMeets
+unless_meets true fault value meets = meets
+unless_meets false fault value meets = tt
+
+fields_meet : IsBrokenUnlessFits → (bytes : List ℕ) → IfOk (fields_of bytes) ConfMeets
+unfolding fields_of
+fields_meet law bytes =
+    then_has ConfMeets ConfMeets (conf_at (begin bytes)) _ (conf_meets law (begin bytes)) (λ conf meets. last_has ConfMeets (table_at conf.1) _ (λ entries. unless_meets _ _ (conf.0, entries.0) meets))
+
+-- of a system that was read
+abbrev SystemMeets : loaded.System → Type 0
+SystemMeets system = Meets system.conf
+
+granted_meets : {X : Type 0} (refusal : X → BoxFault) (o : Option X) (later : Result loaded.System BoxFault) → IfOk later SystemMeets → IfOk (unless_some refusal o later) SystemMeets
+granted_meets refusal None later meets = meets
+granted_meets refusal (Some x) later meets = tt
+
+assigned_meets : (conf : Conf) (entries : Entries) → Meets conf → IfOk (assigned conf entries) SystemMeets
+unfolding assigned
+assigned_meets conf entries meets =
+    granted_meets _ (extra (length conf.parts) entries.ids) _ (granted_meets _ (missing (length conf.parts) entries.ids) _ (granted_meets _ (first_outside conf.parts entries.images) _ meets))
+
+unpacked_meets : IsBrokenUnlessFits → (bytes : List ℕ) → IfOk (unpacked bytes) SystemMeets
+unfolding unpacked system_in
+unpacked_meets law bytes =
+    last_has SystemMeets (signed bytes) system_in (λ front. then_has ConfMeets SystemMeets (fields_of front) _ (fields_meet law front) (λ fields meets. assigned_meets fields.0 fields.1 meets))
+
+system_fits : IsBrokenUnlessFits → (bytes : List ℕ) (system : loaded.System) → unpacked bytes ≡ Ok system → Fits (described system.conf)
+system_fits law bytes system unpacks = subst (λ (r : Result loaded.System BoxFault). IfOk r SystemMeets) unpacks (unpacked_meets law bytes)
+
+-- so it has few partitions
+few_parts : (conf : Conf) → Fits (described conf) → length conf.parts ≤ 16
+unfolding described
+few_parts conf fits = fits.counts.parts.few
+
+-- The input words of the partition.
+
+-- so many partitions without words
+abbrev no_words : ℕ → List (List ℕ)
+no_words parts = replicate parts []
+
+-- so many partitions, of which one has the words that bytes spell
+abbrev lone_inputs : ℕ → ℕ → List ℕ → List (List ℕ)
+lone_inputs parts p input = slice_set (no_words parts) p (words_in input)
+
+are_given : (parts p : ℕ) (input : List ℕ) → length input % 4 ≡ 0 → inputs_given parts p input ≡ Ok (lone_inputs parts p input)
+unfolding inputs_given
+are_given parts p input words = (let test : nat_eq (length input % 4) 0 ≡ true = grind (arith, nat_tests, words) in rw test refl)
+
+-- what the partition has of its own is the same as in the run
+same_view : (system : loaded.System) (inputs : List (List ℕ)) (p : ℕ) (input : List ℕ) → p < length system.conf.parts → slice_index_or inputs p [] ≡ words_in input
+    → view_of (with_inputs system (lone_inputs (length system.conf.parts) p input)) p ≡ view_of (with_inputs system inputs) p
+unfolding view_of
+same_view system inputs p input there is =
+    let counted : length (no_words (length system.conf.parts)) ≡ length system.conf.parts = length-replicate (length system.conf.parts) [] in
+    let words : slice_index_or (lone_inputs (length system.conf.parts) p input) p [] ≡ slice_index_or inputs p [] =
+    get_or-set_same (no_words (length system.conf.parts)) p (words_in input) [] (omega (arith, there, counted)) ∙ sym is in
+    ap (λ (own_words : List ℕ). record (view_of (with_inputs system inputs) p) { inputs = own_words }) words
+
+-- The replay.
+
+-- what the parts of a replay come to
+begins_so : (system : loaded.System) (inputs : List (List ℕ)) (p : ℕ) (bytes input : List ℕ) (cues : List Cue) → p < length system.conf.parts → length input % 4 ≡ 0
+    → read_script system.conf p bytes ≡ Ok cues
+    → first_untaken (view_of (with_inputs system (lone_inputs (length system.conf.parts) p input)) p) (alone_start (view_of (with_inputs system (lone_inputs (length system.conf.parts) p input)) p)) 0 cues ≡ None
+    → with_system p bytes input system ≡ Ok (record { system = with_inputs system (lone_inputs (length system.conf.parts) p input); p = p; cues = cues })
+begins_so system inputs p bytes input cues there words reads takes =
+    let test : nat_le (length system.conf.parts) p ≡ false = grind (arith, nat_tests, there) in
+    ap (λ (t : Bool). if t then Err NoPartition else with_script system p input (read_script system.conf p bytes)) test
+    ∙ ap (with_script system p input) reads
+    ∙ ap (with_input system p cues) (are_given (length system.conf.parts) p input words)
+    ∙ ap (fitting (with_inputs system (lone_inputs (length system.conf.parts) p input)) p cues) takes
+
+replays_by : (container : List ℕ) (p : ℕ) (bytes input : List ℕ) (system : loaded.System) → unpacked container ≡ Ok system → replay_of container p bytes input ≡ with_system p bytes input system
+unfolding replay_of
+replays_by container p bytes input system unpacks = ap (with_container p bytes input) unpacks
+
+-- the line of the end names the partition
+own_end : (system : System) (p : ℕ) (cues : List Cue) → replay_lines (view_of system p) cues ≡ cue_lines (view_of system p) cues ++ end_line p (replayed (view_of system p) cues).state ∷ []
+unfolding view_of
+own_end system p cues = refl
+
+pub runs_replayed : IsBrokenUnlessFits → OwnLines → SameCoreFile → BootedScriptIsTaken → TellsBootedScripts → WrittenIsRead → RunIsReplayed
+runs_replayed law lines_law core_law takes tells reads container p bytes input system inputs ticks is =
+    let booted = with_inputs system inputs in
+    let lone = with_inputs system (lone_inputs (length system.conf.parts) p input) in
+    let cues = script (start booted) p ticks in
+    let fits : Fits (described system.conf) = system_fits law container system is.unpacks in
+    let view : view_of lone p ≡ view_of booted p = same_view system inputs p input is.there is.given in
+    let own_script : IsScript system.conf p cues = tells booted p ticks fits (omega (arith, is.most)) is.numbers in
+    let few : p < 256 = omega (arith, is.there, few_parts system.conf fits) in
+    let read : read_script system.conf p bytes ≡ Ok cues = ap (read_script system.conf p) is.told ∙ reads system.conf p cues few own_script in
+    let taken : first_untaken (view_of lone p) (alone_start (view_of lone p)) 0 cues ≡ None =
+    ap (λ (v : PartitionView). first_untaken v (alone_start v) 0 cues) view ∙ takes booted p ticks fits is.there in
+    record {
+      replay = record { system = lone; p = p; cues = cues };
+      begins = replays_by container p bytes input system is.unpacks ∙ begins_so system inputs p bytes input cues is.there is.words read taken;
+      lines = ap (λ (v : PartitionView). replay_lines v cues) view ∙ own_end booted p cues ∙ sym (lines_law booted p ticks is.there);
+      core = core_law booted p ticks is.there ∙ ap (λ (v : PartitionView). Some (core_file v (replayed v cues).state)) (sym view);
+    }
