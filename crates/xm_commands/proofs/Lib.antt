@@ -3,9 +3,11 @@ pub mod BoardLemmas
 pub mod CoreLemmas
 pub mod GeneratingLemmas
 pub mod InputLemmas
+pub mod NumberLemmas
 pub mod OutsideLemmas
 pub mod ReadyLemmas
 pub mod ReplayLemmas
+pub mod ReplayedLemmas
 pub mod ScriptLemmas
 pub mod SeparationLemmas
 pub mod TopLemmas

@@ -10,6 +10,7 @@ use Rattle.file_commands.specs.Outcome.{Outcome, Output, ran_scripted, ran_with}
 use Rattle.file_commands.specs.Told.{IsDenied}
 use Rattle.file_commands.specs.Work.{Comes, Outside}
 use Rattle.xm_commands.specs.Boards.{Leaves}
+use Rattle.xm_commands.specs.Numbers.{IsMade}
 use Rattle.xm_commands.specs.ReadyRuns.{IsRefusing}
 
 -- because of its input words
@@ -55,3 +56,14 @@ refusing_leaves Unwritten outcome had got board refuses = absurd refuses
 refusing_leaves (Unsaved file) outcome had got board refuses = absurd refuses
 refusing_leaves (Unheard place) outcome had got board refuses = absurd refuses
 refusing_leaves Starved outcome had got board refuses = refl
+
+-- no script was made
+pub refusing_unmade : (e : Ending) (outcome : Outcome) → IsRefusing e outcome → IsMade e → ⊥
+refusing_unmade Finished outcome refuses made = refuses
+refusing_unmade Misused outcome refuses made = made
+refusing_unmade (Unread file) outcome refuses made = made
+refusing_unmade (Denied file text) outcome refuses made = made
+refusing_unmade Unwritten outcome refuses made = refuses
+refusing_unmade (Unsaved file) outcome refuses made = refuses
+refusing_unmade (Unheard place) outcome refuses made = refuses
+refusing_unmade Starved outcome refuses made = made

@@ -32,9 +32,11 @@ use Rattle.file_commands.specs.Outcome.{Output, Outcome, bare_outcome, content, 
 use Rattle.xm_commands.specs.Separation.{AreAlone, CommandAlone, ContainerAlone, PrintsAlone, ShowsAlone, ShowsFront, ShowsPart, ShowsSome, alone_output, alone_outputs}
 use Rattle.xm_commands.specs.Top.{AreContents, IsComplete, IsCut, IsLost, IsLostAfter, IsWriteCause}
 use Rattle.file_commands.specs.Work.{Outside, IsCarriedOut, IsWorked, called_for, did, told_all, wrote, wrote_all}
+use Rattle.xm_commands.specs.Numbers.{CommandTells, IsMade, Tells, TellsOf}
 use Rattle.xm_commands.proofs.CoreLemmas.{cores_inside}
 use Rattle.file_commands.specs.OutputLemmas.{called_for-is}
 use Rattle.xm_commands.proofs.OutsideLemmas.{told_outcome}
+use Rattle.xm_commands.proofs.NumberLemmas.{complete_made}
 use Rattle.xm_commands.proofs.TopLemmas.{done_is_finished, unheard_finished}
 use Rattle.xm_commands.proofs.WrittenLemmas.{did-got, wrote_all-from}
 
@@ -48,7 +50,7 @@ found_core g p bytes (Some ps) is found =
     let same : core_file (view_of g.system p) ps ≡ bytes = cc in
     ap (core_file (view_of g.system p)) there ∙ same
 
-core_there : (g : Machine) (p : ℕ) (bytes : List ℕ) → core_file_of g p ≡ Some bytes → core_file (view_of g.system p) (part_at p g) ≡ bytes
+pub core_there : (g : Machine) (p : ℕ) (bytes : List ℕ) → core_file_of g p ≡ Some bytes → core_file (view_of g.system p) (part_at p g) ≡ bytes
 unfolding core_file_of
 core_there g p bytes found = found_core g p bytes (slice_get g.parts p) refl found
 
@@ -279,10 +281,10 @@ RunShows Did Shows before after =
 
 -- a container that was run
 container_by : (Did : Outcome → Type 0) (Shows : System → ℕ → List PartFile → List PartFile → Outside → Outside → Type 0) (container : List ℕ) (options : List RunOption) (contents : List (List ℕ)) (before after : Outside)
-    → AreContents before.files (Run container options) contents → ((denial : Denial) → Did (refused_by denial) → ⊥) → RunShows Did Shows before after
+    → AreContents before.files (Run container options) contents → TellsOf container options before.files → ((denial : Denial) → Did (refused_by denial) → ⊥) → RunShows Did Shows before after
     → Did (run_outcome container options (content 0 contents) (drop 1 contents)) → ContainerAlone Shows container options before after
 unfolding run_outcome
-container_by Did Shows container options contents before after are never shows is = at (unpacked (content 0 contents)) refl is
+container_by Did Shows container options contents before after are tells never shows is = at (unpacked (content 0 contents)) refl is
   where
     given : (system : Loaded) → unpacked (content 0 contents) ≡ Ok system → (read : Result (List (List ℕ)) Denial) → inputs_for (length system.conf.parts) options (drop 1 contents) ≡ read
         → Did (ran_with container options system read) → ContainerAlone Shows container options before after
@@ -293,6 +295,7 @@ container_by Did Shows container options contents before after are never shows i
       unpacks = unpacks;
       inputs = inputs;
       given = reads;
+      numbers = λ files known. tells files known contents (subst (λ (o : Option Files). AreContents o (Run container options) contents) known are) system inputs unpacks reads;
       shows = within_by Did container options system inputs never
           (shows system inputs (ticks_asked (span_in options) system.conf) (cores_in options) (scripts_in options) (given_inside (length system.conf.parts) options (drop 1 contents) inputs reads)) done;
     }
@@ -304,58 +307,58 @@ container_by Did Shows container options contents before after are never shows i
 
 -- what a command shows
 command_by : (Did : Outcome → Type 0) (Shows : System → ℕ → List PartFile → List PartFile → Outside → Outside → Type 0) (command : Command) (contents : List (List ℕ)) (before after : Outside)
-    → AreContents before.files command contents → ((denial : Denial) → Did (refused_by denial) → ⊥) → RunShows Did Shows before after → Did (worked command contents) → CommandAlone Shows command before after
-command_by Did Shows (Bare image ticks) contents before after are never shows is = record {
+    → AreContents before.files command contents → CommandTells command before.files → ((denial : Denial) → Did (refused_by denial) → ⊥) → RunShows Did Shows before after → Did (worked command contents) → CommandAlone Shows command before after
+command_by Did Shows (Bare image ticks) contents before after are tells never shows is = record {
   contents = contents;
   are = are;
   shows = bare_by Did image ticks (content 0 contents) never (shows (bare_system (content 0 contents)) (no_inputs 1) ticks [] [] tt) is;
 }
-command_by Did Shows (Parse description output) contents before after are never shows is = tt
-command_by Did Shows (BuildImage program output) contents before after are never shows is = tt
-command_by Did Shows (ReadImage image) contents before after are never shows is = tt
-command_by Did Shows (Pack configuration output images) contents before after are never shows is = tt
-command_by Did Shows (ListContainer container) contents before after are never shows is = tt
-command_by Did Shows (CheckContainer container) contents before after are never shows is = tt
-command_by Did Shows (MakePlan description) contents before after are never shows is = tt
-command_by Did Shows (CheckPlan description) contents before after are never shows is = tt
-command_by Did Shows (TellGroups description) contents before after are never shows is = tt
-command_by Did Shows (Generate number) contents before after are never shows is = tt
-command_by Did Shows (Replay container part script further) contents before after are never shows is = tt
-command_by Did Shows (Run container options) contents before after are never shows is = container_by Did Shows container options contents before after are never shows is
+command_by Did Shows (Parse description output) contents before after are tells never shows is = tt
+command_by Did Shows (BuildImage program output) contents before after are tells never shows is = tt
+command_by Did Shows (ReadImage image) contents before after are tells never shows is = tt
+command_by Did Shows (Pack configuration output images) contents before after are tells never shows is = tt
+command_by Did Shows (ListContainer container) contents before after are tells never shows is = tt
+command_by Did Shows (CheckContainer container) contents before after are tells never shows is = tt
+command_by Did Shows (MakePlan description) contents before after are tells never shows is = tt
+command_by Did Shows (CheckPlan description) contents before after are tells never shows is = tt
+command_by Did Shows (TellGroups description) contents before after are tells never shows is = tt
+command_by Did Shows (Generate number) contents before after are tells never shows is = tt
+command_by Did Shows (Replay container part script further) contents before after are tells never shows is = tt
+command_by Did Shows (Run container options) contents before after are tells never shows is = container_by Did Shows container options contents before after are tells never shows is
 
 outcome_by : (Did : Outcome → Type 0) (Shows : System → ℕ → List PartFile → List PartFile → Outside → Outside → Type 0) (command : Command) (contents : List (List ℕ)) (before after : Outside)
-    → AreContents before.files command contents → ((denial : Denial) → Did (refused_by denial) → ⊥) → RunShows Did Shows before after → Did (outcome_of command contents) → CommandAlone Shows command before after
-outcome_by Did Shows command contents before after are never shows is = worked_by Did command contents never (command_by Did Shows command contents before after are never shows) is
+    → AreContents before.files command contents → CommandTells command before.files → ((denial : Denial) → Did (refused_by denial) → ⊥) → RunShows Did Shows before after → Did (outcome_of command contents) → CommandAlone Shows command before after
+outcome_by Did Shows command contents before after are tells never shows is = worked_by Did command contents never (command_by Did Shows command contents before after are tells never shows) is
 
 -- Where the command was carried out.
 
-carried_alone : OwnLines → SameCoreFile → (command : Command) (before after : Outside) → IsCarriedOut None command before after → CommandAlone ShowsAlone command before after
-carried_alone lines_law core_law command before after w =
+carried_alone : OwnLines → SameCoreFile → (command : Command) (before after : Outside) → CommandTells command before.files → IsCarriedOut None command before after → CommandAlone ShowsAlone command before after
+carried_alone lines_law core_law command before after tells w =
     let told = told_outcome before.files command w.contents w.read in
     let read_from = called_for (inputs_of command) before in
     let files : read_from.files ≡ before.files = ap (λ (x : Outside). x.files) (called_for-is (inputs_of command) before) in
     let got : read_from.got ≡ before.got = ap (λ (x : Outside). x.got) (called_for-is (inputs_of command) before) in
-    outcome_by (IsAllOf read_from after) ShowsAlone command told.contents before after told.are (never_all read_from after)
+    outcome_by (IsAllOf read_from after) ShowsAlone command told.contents before after told.are tells (never_all read_from after)
     (λ system inputs ticks cores scripts inside done. shows_run lines_law core_law system inputs ticks cores scripts before read_from after inside files got done)
     (subst (IsAllOf read_from after) told.outcome (w.denied, w.outside))
 
-pub are_alone : OwnLines → SameCoreFile → (e : Ending) (command : Option Command) (before after : Outside) → IsWorked e command before after → IsComplete (status_of e) → AreAlone ShowsAlone command before after
-are_alone lines_law core_law e None before after w complete = tt
-are_alone lines_law core_law e (Some command) before after w complete =
+pub are_alone : OwnLines → SameCoreFile → (e : Ending) (command : Option Command) (before after : Outside) → (IsMade e → Tells command before.files) → IsWorked e command before after → IsComplete (status_of e) → AreAlone ShowsAlone command before after
+are_alone lines_law core_law e None before after tells w complete = tt
+are_alone lines_law core_law e (Some command) before after tells w complete =
     let carried : IsCarriedOut None command before after =
     ⊎_elim (λ done. subst (λ (e : Ending). IsWorked e (Some command) before after) (done_is_finished e done) w) (λ fault. unheard_finished e command before after fault w) complete in
-    carried_alone lines_law core_law command before after carried
+    carried_alone lines_law core_law command before after (tells (complete_made e complete)) carried
 
 -- Where its report or one of its files was not written.
 
-front_alone : OwnLines → (command : Command) (before after : Outside) → IsCut command before after → CommandAlone ShowsPart command before after
-front_alone law command before after w =
-    outcome_by (IsFrontOf before after) ShowsPart command w.contents before after w.are (never_front before after)
+front_alone : OwnLines → (command : Command) (before after : Outside) → CommandTells command before.files → IsCut command before after → CommandAlone ShowsPart command before after
+front_alone law command before after tells w =
+    outcome_by (IsFrontOf before after) ShowsPart command w.contents before after w.are tells (never_front before after)
     (λ system inputs ticks cores scripts inside done. inl (shows_front law system inputs ticks cores scripts before after done)) (w.front, w.files)
 
-some_alone : OwnLines → SameCoreFile → (command : Command) (before after : Outside) → IsLostAfter command before after → CommandAlone ShowsPart command before after
-some_alone lines_law core_law command before after w =
-    outcome_by (IsSomeOf before after) ShowsPart command w.contents before after w.are (never_some before after)
+some_alone : OwnLines → SameCoreFile → (command : Command) (before after : Outside) → CommandTells command before.files → IsLostAfter command before after → CommandAlone ShowsPart command before after
+some_alone lines_law core_law command before after tells w =
+    outcome_by (IsSomeOf before after) ShowsPart command w.contents before after w.are tells (never_some before after)
     (λ system inputs ticks cores scripts inside done. inr (shows_some lines_law core_law system inputs ticks cores scripts before after inside done))
     (record { first = w.first; output = w.output; rest = w.rest; split = w.split; report = w.report; others = w.others })
 
@@ -375,7 +378,7 @@ lost_alone (Generate number) before after w = tt
 lost_alone (Replay container part script further) before after w = tt
 lost_alone (Run container options) before after w = absurd (let some : IsSome {T = List ℕ} None = w.output in cc)
 
-pub are_part : OwnLines → SameCoreFile → (command : Option Command) (before after : Outside) → IsWriteCause command before after → AreAlone ShowsPart command before after
-are_part lines_law core_law None before after w = tt
-are_part lines_law core_law (Some command) before after w =
-    ⊎_elim (front_alone lines_law command before after) (λ lost. ⊎_elim (lost_alone command before after) (some_alone lines_law core_law command before after) lost) w
+pub are_part : OwnLines → SameCoreFile → (command : Option Command) (before after : Outside) → Tells command before.files → IsWriteCause command before after → AreAlone ShowsPart command before after
+are_part lines_law core_law None before after tells w = tt
+are_part lines_law core_law (Some command) before after tells w =
+    ⊎_elim (front_alone lines_law command before after tells) (λ lost. ⊎_elim (lost_alone command before after) (some_alone lines_law core_law command before after tells) lost) w

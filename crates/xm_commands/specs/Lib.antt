@@ -2,6 +2,7 @@ pub mod Answer
 pub mod Behind
 pub mod Boards
 pub mod Cores
+pub mod Numbers
 pub mod ReadyRuns
 pub mod Replaying
 pub mod Scripts

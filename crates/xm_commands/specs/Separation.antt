@@ -1,23 +1,28 @@
 -- What a run shows of each partition: what it is alone, under what it was told.
-use Rattle.std.specs.Prelude.{◌≡◌, ℕ, ◌<◌, ◌⊎◌, List, [], ◌∷◌, ◌++◌, length, drop, map, Option, Some, None, Ok}
-use Rattle.xm_outside.specs.Files.{OthersStay}
+use Rattle.std.specs.Prelude.{◌≡◌, ◌≢◌, ℕ, ◌<◌, ◌⊎◌, List, [], ◌∷◌, ◌++◌, length, drop, map, Option, Some, None, Ok}
+use Rattle.xm_outside.specs.Files.{Files, OthersStay}
 use Rattle.xm_outside.specs.Growth.{GrewByPrefix, grown}
 use Rattle.xm_report.specs.Report.{ReportLine, text_of, texts}
 use Rattle.loaded_system.specs.Bare.{bare_system}
 use Rattle.loaded_system.specs.System as loaded
 use Rattle.xm_container.specs.Reading.{unpacked}
+use Rattle.alone_replay.specs.OfRun.{IsOfRun}
 use Rattle.machine_model.specs.Alone.{Alone, alone_from, alone_lines, alone_start}
 use Rattle.machine_model.specs.CoreFile.{core_file}
 use Rattle.machine_model.specs.Cue.{script}
 use Rattle.machine_model.specs.Lines.{end_line, own, report}
-use Rattle.machine_model.specs.Machine.{start}
+use Rattle.machine_model.specs.Machine.{run, start}
 use Rattle.machine_model.specs.View.{System, view_of}
 use Rattle.whole_system.specs.State.{with_inputs}
-use Rattle.xm_words.specs.Words.{Command, PartFile, RunOption, Bare, Parse, BuildImage, ReadImage, Pack, ListContainer, CheckContainer, MakePlan, CheckPlan, TellGroups, Generate, Run, Replay, cores_in, span_in, scripts_in}
+use Rattle.xm_words.specs.Words.{Command, PartFile, RunOption, Bare, Parse, BuildImage, ReadImage, Pack, ListContainer, CheckContainer, MakePlan, CheckPlan, TellGroups, Generate, Run, Replay, cores_in, replay_core, replay_input, span_in, scripts_in}
 use Rattle.file_commands.specs.Inputs.{inputs_for, no_inputs}
-use Rattle.file_commands.specs.Outcome.{Output, content, script_output, ticks_asked}
-use Rattle.xm_commands.specs.Top.{AreContents}
+use Rattle.file_commands.specs.Outcome.{Output, content, core_output, first_long, input_bytes, name_in, script_output, ticks_asked}
+use Rattle.xm_commands.specs.Answer.{read_all}
+use Rattle.xm_commands.specs.Numbers.{HaveTold}
+use Rattle.xm_commands.specs.Top.{AreContents, IsComplete}
 use Rattle.file_commands.specs.Work.{Outside, wrote_all}
+use Rattle.file_commands.specs.declared.status.Status.{Status}
+use Rattle.file_commands.specs.declared.status.Status.TheVariants.{Refused}
 
 -- partition p of a system alone, after so many ticks: from its boot on, it is told its script of them
 abbrev pub alone_after : System → ℕ → ℕ → Alone
@@ -79,7 +84,8 @@ pub record BareAlone (Shows : System → ℕ → List PartFile → List PartFile
   pub are : AreContents before.files (Bare image ticks) contents
   pub shows : Shows (with_inputs (bare_system (content 0 contents)) (no_inputs 1)) ticks [] [] before after
 
--- a container was run, with input words for its partitions, and the run shows this
+-- a container was run, with input words for its partitions, and the run shows this; where the store tells its files, what the partitions of its scripts are
+-- told has its numbers, so that each script can be replayed
 pub record ContainerAlone (Shows : System → ℕ → List PartFile → List PartFile → Outside → Outside → Type 0) (container : List ℕ) (options : List RunOption) (before after : Outside) : Type 0 where
   pub contents : List (List ℕ)
   pub are : AreContents before.files (Run container options) contents
@@ -87,6 +93,7 @@ pub record ContainerAlone (Shows : System → ℕ → List PartFile → List Par
   pub unpacks : unpacked (content 0 contents) ≡ Ok system
   pub inputs : List (List ℕ)
   pub given : inputs_for (length system.conf.parts) options (drop 1 contents) ≡ Ok inputs
+  pub numbers : (files : Files) → before.files ≡ Some files → HaveTold (with_inputs system inputs) (ticks_asked (span_in options) system.conf) (scripts_in options)
   pub shows : Shows (with_inputs system inputs) (ticks_asked (span_in options) system.conf) (cores_in options) (scripts_in options) before after
 
 -- what a command shows of partitions; those that print no report of a run show nothing here
@@ -109,3 +116,35 @@ CommandAlone Shows (Replay container part script further) before after = Unit {0
 abbrev pub AreAlone : (System → ℕ → List PartFile → List PartFile → Outside → Outside → Type 0) → Option Command → Outside → Outside → Type 0
 AreAlone Shows None before after = Unit {0}
 AreAlone Shows (Some command) before after = CommandAlone Shows command before after
+
+-- What a replay shows of a run.
+
+-- the partition's own lines of the report of that run and the line of its end went out, and its core file is that after the run
+pub record ShowsOwn (system : System) (ticks part : ℕ) (core : Option (List ℕ)) (before after : Outside) : Type 0 where
+  pub printed : after.got ≡ grown before.got (texts (own part (report system ticks)))
+  pub written : after.files ≡ (wrote_all (map (λ file. core_output (run (start system) ticks) (record { part = part; file = file })) (name_in core)) before).files
+
+-- a replay by the script of a run is not refused, and shows the partition's part of that run
+abbrev pub ReplaysRun : Status → Command → Outside → Outside → Type 0
+ReplaysRun status (Bare image ticks) before after = Unit {0}
+ReplaysRun status (Parse description output) before after = Unit {0}
+ReplaysRun status (BuildImage program output) before after = Unit {0}
+ReplaysRun status (ReadImage image) before after = Unit {0}
+ReplaysRun status (Pack configuration output images) before after = Unit {0}
+ReplaysRun status (ListContainer container) before after = Unit {0}
+ReplaysRun status (CheckContainer container) before after = Unit {0}
+ReplaysRun status (MakePlan description) before after = Unit {0}
+ReplaysRun status (CheckPlan description) before after = Unit {0}
+ReplaysRun status (TellGroups description) before after = Unit {0}
+ReplaysRun status (Generate number) before after = Unit {0}
+ReplaysRun status (Run container options) before after = Unit {0}
+ReplaysRun status (Replay container part script further) before after =
+    (files : Files) → before.files ≡ Some files → (contents : List (List ℕ)) → read_all files (container ∷ script ∷ name_in (replay_input further)) ≡ Ok contents
+    → first_long (container ∷ script ∷ name_in (replay_input further)) contents ≡ None
+    → (system : loaded.System) (inputs : List (List ℕ)) (ticks : ℕ) → IsOfRun (content 0 contents) part (content 1 contents) (input_bytes (replay_input further) (content 2 contents)) system inputs ticks
+    → (status ≢ Refused) × (IsComplete status → ShowsOwn (with_inputs system inputs) ticks part (replay_core further) before after)
+
+-- words that are no command replay nothing
+abbrev pub ReplaysAlone : Status → Option Command → Outside → Outside → Type 0
+ReplaysAlone status None before after = Unit {0}
+ReplaysAlone status (Some command) before after = ReplaysRun status command before after

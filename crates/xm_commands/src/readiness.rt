@@ -1,10 +1,12 @@
 //! A run is made ready: its input words, how many ticks it has, and the scripts that are written after it.
 
-ghost use Rattle.std.specs.Prelude.{◌≡◌, ◌≤◌, IfOk, None, Ok, OnOk, drop, length, map};
+ghost use Rattle.std.specs.Prelude.{◌≡◌, ◌≤◌, ℕ, IfOk, List, None, Ok, OnOk, drop, length, map};
 ghost use Rattle.xm_base.specs.declared.limits.TheConstants.{TICKS};
 ghost use Rattle.cyclic_plans.specs.Slots.{frame_of};
 ghost use Rattle.xm_container.specs.Reading.{unpacked};
 ghost use Rattle.xm_commands.specs.Cores.{AreInside};
+ghost use Rattle.whole_system.specs.State.{with_inputs};
+ghost use Rattle.xm_commands.specs.Numbers.{HaveTold};
 ghost use Rattle.xm_commands.specs.ReadyRuns.{IsReadyFor};
 ghost use Rattle.file_commands.specs.Inputs.{inputs_for};
 ghost use Rattle.file_commands.specs.Outcome.{content, first_long, ran_with, ran_within, ticks_asked};
@@ -48,6 +50,8 @@ pub(crate) fn ready_run<'a>(
     ensures most { IfOk result (λ ready. ready.ticks ≤ TICKS) }
     ensures given { IfOk result (λ ready. length ready.inputs ≡ length system.now.conf.parts) }
     ensures inside { OnOk result (AreInside (length system.now.conf.parts) (cores_in (seen_options options.entry))) }
+    ensures numbers { (inputs : List (List ℕ)) → inputs_for (length system.now.conf.parts) (seen_options options.entry) (drop 1 (map bytes_of contents.now)) ≡ Ok inputs
+        → IfOk result (λ _. HaveTold (with_inputs system.now inputs) (ticks_asked (span_in (seen_options options.entry)) system.now.conf) (scripts_in (seen_options options.entry))) }
 {
     let (_, words) = split_contents(contents);
     match inputs_for(alloc, part_count(system.conf()), options, words) {
@@ -74,6 +78,7 @@ fn ready_with<'a>(
     ensures value { IsReadyFor result (seen_options options.entry) system.now (ran_within container.now (seen_options options.entry) system.now inputs) }
     ensures most { IfOk result (λ ready. ready.ticks ≤ TICKS) }
     ensures same { IfOk result (λ ready. ready.inputs ≡ inputs) }
+    ensures numbers { IfOk result (λ _. HaveTold (with_inputs system.now inputs) (ticks_asked (span_in (seen_options options.entry)) system.now.conf) (scripts_in (seen_options options.entry))) }
 {
     let asked = ticks_asked(options.span(), system.conf());
     if asked > TICKS {

@@ -8,6 +8,7 @@ ghost use Rattle.machine_model.specs.View.{System as Booted};
 ghost use Rattle.xm_container.specs.Reading.{unpacked};
 ghost use Rattle.xm_commands.specs.Cores.{AreInside};
 ghost use Rattle.file_commands.specs.Inputs.{inputs_for};
+ghost use Rattle.xm_commands.specs.Numbers.{HasTold, HaveTold};
 ghost use Rattle.file_commands.specs.Outcome.{content, first_long, script_bytes, script_denial, script_output, scripts_for};
 ghost use Rattle.file_commands.specs.Packing.{names_of};
 ghost use Rattle.xm_commands.specs.Scripts.{made_output, made_outputs, script_or};
@@ -48,7 +49,9 @@ pub(crate) fn make_scripts<'a>(
     requires short { first_long (names_of (inputs_in (seen_options options))) (drop 1 (map bytes_of contents.now)) ≡ None }
     requires same { unpacked (content 0 (map bytes_of contents.now)) ≡ Ok system.now }
     requires inside { AreInside (length system.now.conf.parts) (scripts_in (seen_options options)) }
-    ensures { (inputs : List (List ℕ)) → inputs_for (length system.now.conf.parts) (seen_options options.entry) (drop 1 (map bytes_of contents.now)) ≡ Ok inputs
+    ensures numbers { (inputs : List (List ℕ)) → inputs_for (length system.now.conf.parts) (seen_options options.entry) (drop 1 (map bytes_of contents.now)) ≡ Ok inputs
+        → IfOk result (λ _. HaveTold (with_inputs system.now inputs) ticks (scripts_in (seen_options options.entry))) }
+    ensures made { (inputs : List (List ℕ)) → inputs_for (length system.now.conf.parts) (seen_options options.entry) (drop 1 (map bytes_of contents.now)) ≡ Ok inputs
         → MakesOr made_outputs result (scripts_for (with_inputs system.now inputs) ticks (scripts_in (seen_options options.entry))) }
 {
     let mut made = Vec::new(alloc);
@@ -90,7 +93,9 @@ fn make_script<'a>(
     requires short { first_long (names_of (inputs_in (seen_options options))) (drop 1 (map bytes_of contents.now)) ≡ None }
     requires same { unpacked (content 0 (map bytes_of contents.now)) ≡ Ok system.now }
     requires inside { (seen_file named).part < length system.now.conf.parts }
-    ensures { (inputs : List (List ℕ)) → inputs_for (length system.now.conf.parts) (seen_options options.entry) (drop 1 (map bytes_of contents.now)) ≡ Ok inputs
+    ensures numbers { (inputs : List (List ℕ)) → inputs_for (length system.now.conf.parts) (seen_options options.entry) (drop 1 (map bytes_of contents.now)) ≡ Ok inputs
+        → IfOk result (λ _. HasTold (with_inputs system.now inputs) ticks (seen_file named.entry).part) }
+    ensures made { (inputs : List (List ℕ)) → inputs_for (length system.now.conf.parts) (seen_options options.entry) (drop 1 (map bytes_of contents.now)) ≡ Ok inputs
         → MakesOr made_output result (script_or (script_denial (with_inputs system.now inputs) ticks (seen_file named.entry)) (script_output (with_inputs system.now inputs) ticks (seen_file named.entry))) }
 {
     match made_again(alloc, options, contents, system) {
@@ -132,7 +137,8 @@ fn tell_script<'a>(
     file: &'a str,
     script: Result<Vec<u8>, ScriptFault>,
 ) -> Result<MadeScript<'a>, Ending<'a>>
-    ensures { (system : Booted) (ticks : ℕ) (part : ℕ) → IsFile bytes_of (script_bytes system ticks part) script
+    ensures numbers { (system : Booted) (ticks : ℕ) (part : ℕ) → IfOk script (λ _. HasTold system ticks part) → IfOk result (λ _. HasTold system ticks part) }
+    ensures made { (system : Booted) (ticks : ℕ) (part : ℕ) → IsFile bytes_of (script_bytes system ticks part) script
         → MakesOr made_output result (script_or (script_denial system ticks (record { part = part; file = file.now })) (script_output system ticks (record { part = part; file = file.now }))) }
 {
     match script {

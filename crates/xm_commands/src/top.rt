@@ -3,12 +3,13 @@
 ghost use Rattle.std.specs.Prelude.{◌≡◌, ◌≢◌, ◌↔◌, None};
 ghost use Rattle.xm_commands.specs.Boards.{IsMarked, IsPlayed};
 ghost use Rattle.file_commands.specs.Ending.{Misused, complaint};
-ghost use Rattle.xm_commands.specs.Separation.{AreAlone, ShowsAlone, ShowsPart};
+ghost use Rattle.xm_commands.specs.Separation.{AreAlone, ReplaysAlone, ShowsAlone, ShowsPart};
 ghost use Rattle.xm_commands.specs.Top.{Answers, HasCauses, IsComplete, IsExplained, IsQuiet, IsSaid, OtherFilesStay};
 ghost use Rattle.file_commands.specs.Work.{outside};
 ghost use Rattle.xm_words.specs.Words.{command_of};
 
 use crate::work::work;
+use alone_replay::run_is_replayed;
 use file_commands::{Ending, Status, complain, status_of};
 use machine_model::{own_lines, same_core_file};
 use std::alloc::Global;
@@ -57,6 +58,11 @@ pub fn xm_main<S: Store, O: Sink, E: Sink>(
         (outside (S.files files.old) (S.read_faults files.old) (S.write_faults files.old) (S.calls files.old) (O.got out.old) (O.faults out.old))
         (outside (S.files files.new) (S.read_faults files.new) (S.write_faults files.new) (S.calls files.new) (O.got out.new) (O.faults out.new)) }
 
+    // A replay by the script that a run made is not refused, and what goes out and is written is the partition's part of that run.
+    ensures replayed { ReplaysAlone result (command_of words.now)
+        (outside (S.files files.old) (S.read_faults files.old) (S.write_faults files.old) (S.calls files.old) (O.got out.old) (O.faults out.old))
+        (outside (S.files files.new) (S.read_faults files.new) (S.write_faults files.new) (S.calls files.new) (O.got out.new) (O.faults out.new)) }
+
     // What stands afterwards.
     ensures silent { result ≡ Status.Done → err.new ≡ err.old }
     ensures quiet { IsQuiet result → O.got out.new ≡ O.got out.old }
@@ -65,6 +71,7 @@ pub fn xm_main<S: Store, O: Sink, E: Sink>(
     ensures writes { result ≢ Status.WriteFault → S.write_faults files.new ≡ S.write_faults files.old }
 {
     own_lines();
+    run_is_replayed();
     same_core_file();
     let ending = work(alloc, words, files, out, board);
     // A fault of `err` changes no status.

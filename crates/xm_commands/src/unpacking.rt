@@ -1,19 +1,21 @@
 //! A container is unpacked, and its system is run.
 
-ghost use Rattle.std.specs.Prelude.{◌≡◌, ◌≤◌, ◌∷◌, None, Ok, Some, drop, length, map};
+ghost use Rattle.std.specs.Prelude.{◌≡◌, ◌≤◌, ◌∷◌, ℕ, List, None, Ok, Some, drop, length, map};
 ghost use Rattle.xm_base.specs.declared.limits.TheConstants.{TICKS};
 ghost use Rattle.xm_container.specs.Reading.{unpacked};
+ghost use Rattle.whole_system.specs.State.{with_inputs};
 ghost use Rattle.xm_commands.specs.Boards.{IsLeft, Leaves};
 ghost use Rattle.xm_commands.specs.Cores.{AreInside};
+ghost use Rattle.xm_commands.specs.Numbers.{HaveTold, IsMade, TellsIn, TellsOf, TellsShort};
 ghost use Rattle.xm_commands.specs.Scripts.{made_output};
 ghost use Rattle.file_commands.specs.Inputs.{inputs_for};
-ghost use Rattle.file_commands.specs.Outcome.{content, first_long, outcome_of, ran, ran_with, run_outcome};
+ghost use Rattle.file_commands.specs.Outcome.{content, first_long, outcome_of, ran, ran_with, run_outcome, ticks_asked};
 ghost use Rattle.file_commands.specs.Packing.{names_of};
 ghost use Rattle.file_commands.specs.Told.{bytes_of, ending_of};
 ghost use Rattle.file_commands.specs.Work.{Comes, IsDone, outside};
 ghost use Rattle.xm_words.specs.Grammar.{count_of};
 ghost use Rattle.xm_words.specs.Seen.{seen_files, seen_options};
-ghost use Rattle.xm_words.specs.Words.{Run, inputs_in, span_in};
+ghost use Rattle.xm_words.specs.Words.{Run, inputs_in, scripts_in, span_in};
 
 use crate::readiness::{ReadyRun, ready_run};
 use crate::running::run_system;
@@ -39,6 +41,7 @@ pub(crate) fn run_container<'a, S: Store, O: Sink>(
         (outside (S.files files.old) (S.read_faults files.old) (S.write_faults files.old) (S.calls files.old) (O.got out.old) (O.faults out.old))
         (outside (S.files files.new) (S.read_faults files.new) (S.write_faults files.new) (S.calls files.new) (O.got out.new) (O.faults out.new)) }
     ensures board { IsLeft (ending_of result) (Some (Run container.now (seen_options options.entry))) (S.files files.old) (O.got out.old) (O.got out.new) (⟦<Board as ViewBoard>⟧.board_view board.old) (⟦<Board as ViewBoard>⟧.board_view board.new) }
+    ensures numbers { IsMade (ending_of result) → TellsOf container.now (seen_options options.entry) (S.files files.old) }
 {
     match read_files(alloc, container, options.inputs(), files) {
         Ok(contents) => run_files(alloc, container, options, &contents, files, out, board),
@@ -61,6 +64,7 @@ fn run_files<'a, S: Store, O: Sink>(
         (outside (S.files files.old) (S.read_faults files.old) (S.write_faults files.old) (S.calls files.old) (O.got out.old) (O.faults out.old))
         (outside (S.files files.new) (S.read_faults files.new) (S.write_faults files.new) (S.calls files.new) (O.got out.new) (O.faults out.new)) }
     ensures board { Leaves (ending_of result) (outcome_of (Run container.now (seen_options options.entry)) (map bytes_of contents.now)).run (O.got out.old) (O.got out.new) (⟦<Board as ViewBoard>⟧.board_view board.old) (⟦<Board as ViewBoard>⟧.board_view board.new) }
+    ensures numbers { IsMade (ending_of result) → TellsShort container.now (seen_options options.entry) (map bytes_of contents.now) }
 {
     match first_long(container, options.inputs(), contents) {
         Some(file) => Ending::Denied {
@@ -88,6 +92,7 @@ fn run_packed<'a, S: Store, O: Sink>(
         (outside (S.files files.new) (S.read_faults files.new) (S.write_faults files.new) (S.calls files.new) (O.got out.new) (O.faults out.new)) }
     ensures board { Leaves (ending_of result) (run_outcome container.now (seen_options options.entry) (content 0 (map bytes_of contents.now)) (drop 1 (map bytes_of contents.now))).run (O.got out.old) (O.got out.new)
         (⟦<Board as ViewBoard>⟧.board_view board.old) (⟦<Board as ViewBoard>⟧.board_view board.new) }
+    ensures numbers { IsMade (ending_of result) → TellsIn (seen_options options.entry) (map bytes_of contents.now) }
 {
     let (bytes, _) = split_contents(contents);
     match unpack(alloc, bytes) {
@@ -118,6 +123,8 @@ fn run_unpacked<'a, S: Store, O: Sink>(
         (outside (S.files files.new) (S.read_faults files.new) (S.write_faults files.new) (S.calls files.new) (O.got out.new) (O.faults out.new)) }
     ensures board { Leaves (ending_of result)
         (ran_with container.now (seen_options options.entry) system (inputs_for (length system.conf.parts) (seen_options options.entry) (drop 1 (map bytes_of contents.now)))).run (O.got out.old) (O.got out.new) (⟦<Board as ViewBoard>⟧.board_view board.old) (⟦<Board as ViewBoard>⟧.board_view board.new) }
+    ensures numbers { IsMade (ending_of result) → (inputs : List (List ℕ)) → inputs_for (length system.conf.parts) (seen_options options.entry) (drop 1 (map bytes_of contents.now)) ≡ Ok inputs
+        → HaveTold (with_inputs system inputs) (ticks_asked (span_in (seen_options options.entry)) system.conf) (scripts_in (seen_options options.entry)) }
 {
     match ready_run(alloc, container, options, contents, &system) {
         Ok(ready) => run_ready(alloc, ready, options.cores(), system, files, out, board),

@@ -5,6 +5,7 @@ ghost use Rattle.xm_commands.specs.Boards.{IsLeft};
 ghost use Rattle.file_commands.specs.Told.{ending_of};
 ghost use Rattle.xm_commands.specs.Ticks.{HasTicks};
 ghost use Rattle.file_commands.specs.Work.{IsWorked, outside};
+ghost use Rattle.xm_commands.specs.Numbers.{IsMade, Tells};
 ghost use Rattle.xm_words.specs.Seen.{seen};
 ghost use Rattle.xm_words.specs.Words.{command_of};
 
@@ -35,6 +36,7 @@ pub(crate) fn work<'a, S: Store, O: Sink>(
         (outside (S.files files.old) (S.read_faults files.old) (S.write_faults files.old) (S.calls files.old) (O.got out.old) (O.faults out.old))
         (outside (S.files files.new) (S.read_faults files.new) (S.write_faults files.new) (S.calls files.new) (O.got out.new) (O.faults out.new)) }
     ensures board { IsLeft (ending_of result) (command_of words.now) (S.files files.old) (O.got out.old) (O.got out.new) (⟦<Board as ViewBoard>⟧.board_view board.old) (⟦<Board as ViewBoard>⟧.board_view board.new) }
+    ensures numbers { IsMade (ending_of result) → Tells (command_of words.now) (S.files files.old) }
 {
     grammar();
     match command(words) {
@@ -56,6 +58,7 @@ fn carry_out<'a, S: Store, O: Sink>(
         (outside (S.files files.old) (S.read_faults files.old) (S.write_faults files.old) (S.calls files.old) (O.got out.old) (O.faults out.old))
         (outside (S.files files.new) (S.read_faults files.new) (S.write_faults files.new) (S.calls files.new) (O.got out.new) (O.faults out.new)) }
     ensures board { IsLeft (ending_of result) (seen (Some command.entry)) (S.files files.old) (O.got out.old) (O.got out.new) (⟦<Board as ViewBoard>⟧.board_view board.old) (⟦<Board as ViewBoard>⟧.board_view board.new) }
+    ensures numbers { IsMade (ending_of result) → Tells (seen (Some command.entry)) (S.files files.old) }
 {
     match command {
         Bare { image, ticks } => run_file(alloc, image, ticks, files, out, board),

@@ -4,6 +4,7 @@ use Rattle.xm_words.specs.Words.{Run}
 use Rattle.file_commands.specs.Told.{bytes_of, ending_of}
 use Rattle.xm_commands.proofs.BoardLemmas.{left_by, left_not_all_read}
 use Rattle.file_commands.specs.CommandLemmas.{comes_from, done_by, not_all_read_done}
+use Rattle.xm_commands.proofs.NumberLemmas.{told_whole, unread_unmade}
 use Rattle.xm_commands.proofs.unpacking.run_container.Goals as goal
 
 pub returns-in-Ok-clause-done : goal.returns-in-Ok-clause-done
@@ -30,3 +31,14 @@ pub returns-in-Err-clause-board : goal.returns-in-Err-clause-board
 returns-in-Err-clause-board g c =
     let not_read = rw c.inputs.ensures.value at c.in-Err.ensures (g.O.Sink.got c.args.out.now) (g.O.Sink.faults c.args.out.now) in
     left_not_all_read (ending_of c.in-Err.ending) (Run c.args.container.now (seen_options c.args.options)) _ _ _ _ _ _ (record { places = _; marks = _ }) not_read
+
+pub returns-in-Ok-clause-numbers : goal.returns-in-Ok-clause-numbers
+returns-in-Ok-clause-numbers g c = λ made.
+    let read = rw c.inputs.ensures.value at c.in-Ok.ensures (g.O.Sink.got c.args.out.now) (g.O.Sink.faults c.args.out.now) in
+    let numbers = rw c.deref.ensures.value at c.run_files.ensures.numbers in
+    told_whole c.args.container.now (seen_options c.args.options) _ (map bytes_of c.in-Ok.contents.items) read.0 (numbers made)
+
+pub returns-in-Err-clause-numbers : goal.returns-in-Err-clause-numbers
+returns-in-Err-clause-numbers g c = λ made.
+    let not_read = rw c.inputs.ensures.value at c.in-Err.ensures (g.O.Sink.got c.args.out.now) (g.O.Sink.faults c.args.out.now) in
+    absurd (unread_unmade (ending_of c.in-Err.ending) _ _ _ not_read made)

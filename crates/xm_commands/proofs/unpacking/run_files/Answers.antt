@@ -22,3 +22,8 @@ returns-in-None-clause-board g c =
     let command = Run c.args.container.now (seen_options c.args.options) in
     let short = rw c.inputs.ensures.value at c.in-None.ensures.value in
     rw (outcome-short command (map bytes_of c.args.contents.now) (sym short)) c.run_packed.ensures.board
+
+pub returns-in-None-clause-numbers : goal.returns-in-None-clause-numbers
+returns-in-None-clause-numbers g c = λ made.
+    let short = rw c.inputs.ensures.value at c.in-None.ensures.value in
+    record { short = sym short; told = c.run_packed.ensures.numbers made }

@@ -7,6 +7,7 @@ use Rattle.file_commands.specs.Told.{bytes_of}
 use Rattle.xm_commands.proofs.BoardLemmas.{unmade_leaves}
 use Rattle.file_maker.specs.ImagingLemmas.{container_unmade}
 use Rattle.xm_commands.proofs.InputLemmas.{rest_short}
+use Rattle.xm_commands.proofs.NumberLemmas.{never_unpacked, told_system}
 use Rattle.xm_commands.proofs.WorkLemmas.{fault_text_by, outcome-unpacked, unmade_runs}
 use Rattle.xm_commands.proofs.unpacking.run_packed.Goals as goal
 
@@ -35,3 +36,11 @@ returns-in-Ok-clause-board g c =
 
 pub returns-in-Err-clause-board : goal.returns-in-Err-clause-board
 returns-in-Err-clause-board g c = unmade_leaves _ c.args.container.now c.no_container.result _ _ _ (record { places = _; marks = _ }) c.unmade.ensures
+
+pub returns-in-Ok-clause-numbers : goal.returns-in-Ok-clause-numbers
+returns-in-Ok-clause-numbers g c = λ made system inputs unpacks given.
+    let exact = rw c.split_contents.ensures.first at c.in-Ok.ensures.exact in
+    told_system (seen_options c.args.options) (map bytes_of c.args.contents.now) c.in-Ok.system exact (c.run_unpacked.ensures.numbers made) system inputs unpacks given
+
+pub returns-in-Err-clause-numbers : goal.returns-in-Err-clause-numbers
+returns-in-Err-clause-numbers g c = λ made system inputs unpacks given. absurd (never_unpacked _ c.args.container.now c.no_container.result c.unmade.ensures made)

@@ -1,5 +1,5 @@
 use Rattle.file_commands.specs.Told.{ending_of}
-use Rattle.xm_commands.proofs.ReadyLemmas.{refusing_comes, refusing_leaves}
+use Rattle.xm_commands.proofs.ReadyLemmas.{refusing_comes, refusing_leaves, refusing_unmade}
 use Rattle.xm_commands.proofs.unpacking.run_unpacked.Goals as goal
 
 pub returns-in-Ok-clause-comes : goal.returns-in-Ok-clause-comes
@@ -13,3 +13,9 @@ returns-clause-comes g c = refusing_comes (ending_of c.in-Err.ending) _ _ c.in-E
 
 pub returns-clause-board : goal.returns-clause-board
 returns-clause-board g c = refusing_leaves (ending_of c.in-Err.ending) _ _ _ (record { places = _; marks = _ }) c.in-Err.ensures.value
+
+pub returns-in-Ok-clause-numbers : goal.returns-in-Ok-clause-numbers
+returns-in-Ok-clause-numbers g c = λ made inputs given. c.in-Ok.ensures.numbers inputs given
+
+pub returns-clause-numbers : goal.returns-clause-numbers
+returns-clause-numbers g c = λ made inputs given. absurd (refusing_unmade (ending_of c.in-Err.ending) _ c.in-Err.ensures.value made)

@@ -40,3 +40,6 @@ returns-in-Generate-clause-board g c =
     let done =
     generate_done (ending_of c.generate.result) c.in-Generate.number (g.S.Store.files c.args.files.now) (g.S.Store.read_faults c.args.files.now) (g.S.Store.write_faults c.args.files.now) (g.S.Store.calls c.args.files.now) _ _ _ _ c.generate.ensures in
     rw c.in-Generate.is (left_still (ending_of c.generate.result) (Generate c.in-Generate.number) _ _ _ _ (record { places = _; marks = _ }) (generate_runs c.in-Generate.number) done)
+
+pub returns-in-Run-clause-numbers : goal.returns-in-Run-clause-numbers
+returns-in-Run-clause-numbers g c = rw c.in-Run.is c.run_container.ensures.numbers
