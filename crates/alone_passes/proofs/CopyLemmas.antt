@@ -6,7 +6,7 @@ use Rattle.std.proofs.lemmas.Option.{same_Some}
 use Rattle.xm_base.specs.Options.{on}
 use Rattle.xm_conf.specs.Configuration.{Chan, Conf}
 use Rattle.xm_conf.specs.View.{channel_of}
-use Rattle.xm_ports.specs.Channels.{Content, cleared, put, taken}
+use Rattle.xm_ports.specs.Channels.{Content, cleared, put, first_taken}
 use Rattle.machine_model.specs.Lists.{each, is_number, table, then_some}
 use Rattle.machine_model.specs.Machine.{Machine}
 use Rattle.machine_model.specs.Told.{OwnPuts, OwnStill, OwnTakes, OwnTraffic}
@@ -120,12 +120,12 @@ take_copied conf p time q channels r o is None its = refl
 take_copied conf p time q channels r (Some c) is (Some d) its =
     content_each (after_traffic time (Takes c)) channels d
     ∙ on_same (after_traffic time (Takes c) d) (after_own time (OwnTakes q) r) (content_if channels (Some d))
-    (λ x. ap (λ (b : Bool). if b then taken x else x) (same_names conf p q r c d is its))
+    (λ x. ap (λ (b : Bool). if b then first_taken x else x) (same_names conf p q r c d is its))
 take_copied conf p time q channels r None is (Some d) its =
     content_each (after_traffic time Still) channels d
     ∙ on_same (after_traffic time Still d) (after_own time (OwnTakes q) r) (content_if channels (Some d)) (λ x. by (q == r) refl x)
   where
-    by : (b : Bool) → (q == r) ≡ b → (x : Content) → x ≡ (if b then taken x else x)
+    by : (b : Bool) → (q == r) ≡ b → (x : Content) → x ≡ (if b then first_taken x else x)
     by true same x = absurd (let e : None ≡ Some d = sym is ∙ ap (named conf p) (eqb-true q r same) ∙ its in cc)
     by false other x = refl
 

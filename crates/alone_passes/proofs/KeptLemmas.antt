@@ -14,7 +14,7 @@ use Rattle.xm_ports.specs.Channels.{cleared}
 use Rattle.machine_model.specs.Cue.{Cue}
 use Rattle.machine_model.specs.Facts.{AreFacts, HasFacts, IsClocked, IsTimed, KeepsClocked, begun}
 use Rattle.machine_model.specs.Health.{Worked}
-use Rattle.machine_model.specs.Machine.{Machine, Turn, after, booted_part, happened, happened_by, is_halt, local, local_in, next_clock, step, turn_of}
+use Rattle.machine_model.specs.Machine.{Machine, SlotTurn, after, booted_part, happened, happened_by, is_halt, local, local_in, next_clock, step, turn_of}
 use Rattle.machine_model.specs.Partition.{PartitionState, is_halted, reset}
 use Rattle.machine_model.specs.Structures.{flag}
 use Rattle.machine_model.specs.Told.{OwnPuts, OwnStill, OwnTakes, OwnTraffic}
@@ -209,7 +209,7 @@ past_timed AllHalted g timed = timed
 abbrev bare : Machine → Machine
 bare g = record g { parts = []; halted = false }
 
-none_local : (g : Machine) (o : Option Turn) → local_in (bare g) o ≡ None
+none_local : (g : Machine) (o : Option SlotTurn) → local_in (bare g) o ≡ None
 none_local g None = refl
 none_local g (Some turn) = refl
 
@@ -217,15 +217,15 @@ bare_step : (g : Machine) → step (bare g) ≡ after (bare g) (happened_by g.sy
 unfolding step happened local
 bare_step g = ap (λ tick. after (bare g) (happened_by g.system.conf (turn_of (bare g)) tick)) (none_local g (turn_of (bare g)))
 
-bare_clock : (g : Machine) (o : Option Turn) → (after (bare g) (happened_by g.system.conf o None)).clock ≡ ended g.system.conf g.clock g.time
+bare_clock : (g : Machine) (o : Option SlotTurn) → (after (bare g) (happened_by g.system.conf o None)).clock ≡ ended g.system.conf g.clock g.time
 unfolding after happened_by next_clock
 bare_clock g o = refl
 
-bare_time : (g : Machine) (o : Option Turn) → (after (bare g) (happened_by g.system.conf o None)).time ≡ g.time + 1
+bare_time : (g : Machine) (o : Option SlotTurn) → (after (bare g) (happened_by g.system.conf o None)).time ≡ g.time + 1
 unfolding after happened_by
 bare_time g o = refl
 
-bare_system : (g : Machine) (o : Option Turn) → (after (bare g) (happened_by g.system.conf o None)).system ≡ g.system
+bare_system : (g : Machine) (o : Option SlotTurn) → (after (bare g) (happened_by g.system.conf o None)).system ≡ g.system
 unfolding after
 bare_system g o = refl
 

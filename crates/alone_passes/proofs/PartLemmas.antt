@@ -18,7 +18,7 @@ use Rattle.machine_model.specs.View.{PartitionView, name_of, named, part_of, vie
 use Rattle.machine_model.specs.Whole.{AllHalted, AllReset, NoEvent, WholeEvent, after_event, content_after, ticks_after, time_after}
 use Rattle.slot_runs.specs.Passes.{part_at, traded, with_part, with_traffic}
 use Rattle.virt_traps.specs.Virtual.{raised}
-use Rattle.alone_passes.specs.Laws.{IsCalled}
+use Rattle.alone_passes.specs.Laws.{IsOwnChannel}
 use Rattle.alone_passes.specs.Passes.{event_met, part_in, tick_past}
 use Rattle.alone_passes.proofs.CopyLemmas.{cleared_copies, each_id, named_name, on_id, on_same, own_copies}
 
@@ -83,14 +83,14 @@ takes_heard view conf p (Some c) ps = by (name_of conf p c)
     by None = refl
     by (Some q) = refl
 
-own_heard : (view : PartitionView) (conf : Conf) (p : ℕ) (own : OwnTraffic) (ps : PartitionState) → IsCalled conf p own
+own_heard : (view : PartitionView) (conf : Conf) (p : ℕ) (own : OwnTraffic) (ps : PartitionState) → IsOwnChannel conf p own
     → hearing view (heard_as (name_of conf p) (told_as (named conf p) own)) ps ≡ hearing view own ps
 own_heard view conf p OwnStill ps is = refl
 own_heard view conf p (OwnPuts q bytes) ps is = ap (λ heard. hearing view heard ps) (puts_heard conf p q bytes is.0 is.1)
 own_heard view conf p (OwnTakes q) ps is = takes_heard view conf p (named conf p q) ps
 
 -- traffic under the partition's own names
-pub part_traded : (g : Machine) (p : ℕ) (own : OwnTraffic) → p < length g.parts → IsCalled g.system.conf p own
+pub part_traded : (g : Machine) (p : ℕ) (own : OwnTraffic) → p < length g.parts → IsOwnChannel g.system.conf p own
     → part_in (traded (told_as (named g.system.conf p) own) g) p ≡ alone_of (hearing (view_of g.system p) own (part_at p g)) (copies_after g.time own (copies g p)) g.ticks g.time
 unfolding copies
 part_traded g p own below is =

@@ -2,7 +2,7 @@
 use Rattle.std.proofs.Common.{◌≡◌, ℕ, Bool, true, false, None, Some, refl, sym, ap, ◌∙◌}
 use Rattle.std.specs.Prelude.{◌&&◌, if◌then◌else◌}
 use Rattle.machine_model.specs.Alone.{Alone, alone_local, alone_local_in}
-use Rattle.machine_model.specs.Cue.{Away, Cue, Mine, Slot}
+use Rattle.machine_model.specs.Cue.{Away, Cue, Mine, CueSlot}
 use Rattle.machine_model.specs.Health.{Worked}
 use Rattle.machine_model.specs.Laws.{part}
 use Rattle.machine_model.specs.LocalTick.{bounded, local_tick, seen_outside, worked}
@@ -23,7 +23,7 @@ and_true true = refl
 and_true false = refl
 
 -- the tests of a cue, by its fields
-abbrev tested_by : PartitionView → Alone → OwnTraffic → Slot → Sight → WholeEvent → Bool
+abbrev tested_by : PartitionView → Alone → OwnTraffic → CueSlot → Sight → WholeEvent → Bool
 tested_by view a traffic mine seen whole =
     takes_traffic view a.copies traffic && takes_sight view (asked_in mine view a) seen && takes_event mine (alone_local_in mine view a seen) whole
 
@@ -35,7 +35,7 @@ pub takes_away : TakesAway
 unfolding part
 takes_away g p cue away unseen =
     tested (view_of g.system p) (part_in g p) cue
-    ∙ ap (λ (mine : Slot). tested_by (view_of g.system p) (part_in g p) cue.traffic mine cue.seen cue.whole) away
+    ∙ ap (λ (mine : CueSlot). tested_by (view_of g.system p) (part_in g p) cue.traffic mine cue.seen cue.whole) away
     ∙ ap (λ (seen : Sight). tested_by (view_of g.system p) (part_in g p) cue.traffic Away seen cue.whole) unseen
     ∙ ap (λ (b : Bool). b && true) (and_true (takes_traffic (view_of g.system p) (copies g p) cue.traffic))
     ∙ and_true (takes_traffic (view_of g.system p) (copies g p) cue.traffic)
@@ -50,7 +50,7 @@ in_slot : (view : PartitionView) (a : Alone) (cue : Cue) (first : Bool) → cue.
     → takes_cue view a cue ≡ (takes_sight view (asked_in (Mine first) view a) cue.seen && takes_event (Mine first) (alone_local_in (Mine first) view a cue.seen) cue.whole)
 in_slot view a cue first own still =
     tested view a cue
-    ∙ ap (λ (mine : Slot). tested_by view a cue.traffic mine cue.seen cue.whole) own
+    ∙ ap (λ (mine : CueSlot). tested_by view a cue.traffic mine cue.seen cue.whole) own
     ∙ ap (λ (traffic : OwnTraffic). tested_by view a traffic (Mine first) cue.seen cue.whole) still
     ∙ sight_and_event (takes_sight view (asked_in (Mine first) view a) cue.seen) (takes_event (Mine first) (alone_local_in (Mine first) view a cue.seen) cue.whole)
 

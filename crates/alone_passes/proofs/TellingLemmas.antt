@@ -16,9 +16,9 @@ use Rattle.machine_model.specs.Alone.{Alone, alone_start, alone_step}
 use Rattle.machine_model.specs.Cue.{Away, Cue, Mine, cue, cue_in, script, script_unless, slot_of, unless_own}
 use Rattle.machine_model.specs.Facts.{BootsComplete, BootsWithFacts, BootsWithShapes, KeepsFacts, KeepsNumbers, KeepsShapes}
 use Rattle.machine_model.specs.Laws.{ActsWithinBounds, BootsAlone, OneTick, part}
-use Rattle.machine_model.specs.Laws.{part_at as model_part_at}
+use Rattle.machine_model.specs.Laws.{alone_part_at as model_part_at}
 use Rattle.machine_model.specs.LocalTick.{LocalTick, bounded, local_tick, worked}
-use Rattle.machine_model.specs.Machine.{Machine, Turn, act_of, answer_to, booted_part, copies, happened, happened_by, if_its_turn, is_turn_of, local, local_in, local_of, sight, sight_for, sight_in, sight_of_state, start, step, system_traffic, taken_by, tick_of, turn_of, with_room}
+use Rattle.machine_model.specs.Machine.{Machine, SlotTurn, act_of, answer_to, booted_part, copies, happened, happened_by, if_its_turn, is_turn_of, local, local_in, local_of, sight, sight_for, sight_in, sight_of_state, start, step, system_traffic, taken_by, tick_of, turn_of, with_room}
 use Rattle.machine_model.specs.Observed.{CurrentPlan, HealthCounts, HealthEntryOf, Observation, PartitionStatus, PlanStatus, Question, SystemStatus, TraceCounts, TraceEntryOf, asks}
 use Rattle.machine_model.specs.Partition.{PartitionState, takes_turns}
 use Rattle.machine_model.specs.Told.{Act, AllHalted, AllReset, NoEvent, NotKept, OwnPuts, OwnStill, OwnTakes, OwnTraffic, Sight, Unseen, WholeEvent, Words}
@@ -27,12 +27,12 @@ use Rattle.machine_model.specs.View.{PartitionView, PortChannel, System, name_of
 use Rattle.machine_model.specs.Whole.{event_of}
 use Rattle.slot_runs.specs.Passes.{part_at}
 use Rattle.alone_passes.specs.Passes.{part_in}
-use Rattle.alone_passes.specs.Taking.{first_untaken, is_empty, is_empty_copy, is_entry, is_full, is_full_copy, is_no_sight, is_same_event, may_write, takes_cue, takes_sight, takes_traffic}
+use Rattle.alone_passes.specs.Taking.{first_untaken, is_empty, is_empty_copy, asks_entry, is_queue_full, is_full_copy, is_no_sight, is_same_event, may_write, takes_cue, takes_sight, takes_traffic}
 use Rattle.alone_passes.specs.TellingLaws.{BootedScriptIsTaken, IsSound, ScriptIsTaken, TellsWhatIsTaken}
 use Rattle.alone_passes.proofs.TakingLemmas.{takes_away, takes_resting, takes_working}
 
 -- a queue that takes one more is not full, and one in which a message waits is not empty
-more_fits : (of : ChanKind) (content : Content) → TakesMore of content → is_full of content ≡ false
+more_fits : (of : ChanKind) (content : Content) → TakesMore of content → is_queue_full of content ≡ false
 unfolding TakesMore
 more_fits (kind.Sampling refresh) content more = refl
 more_fits (kind.Queuing most) (Sampling sample) more = refl
@@ -68,7 +68,7 @@ unless_own_taken view contents true own taken = refl
 unless_own_taken view contents false own taken = taken
 
 -- a call that is answered is shown what it takes
-entry_is : (question : Question) → IsForEntry question → is_entry question ≡ true
+entry_is : (question : Question) → IsForEntry question → asks_entry question ≡ true
 entry_is (PartitionStatus id) entry = absurd entry
 entry_is SystemStatus entry = absurd entry
 entry_is CurrentPlan entry = absurd entry
@@ -105,7 +105,7 @@ same_event (AllReset mode.Warm) = refl
 same_event AllHalted = refl
 
 -- what a partition is told in a tick, by whose turn it is
-abbrev told_by : Machine → ℕ → Option Turn → Cue
+abbrev told_by : Machine → ℕ → Option SlotTurn → Cue
 told_by g p o = record {
   mine = slot_of o p;
   traffic = unless_own (is_some (if_its_turn (is_turn_of o p) (local_in g o))) (heard_as (name_of g.system.conf p) (system_traffic g.system.conf o (traffic_of (act_of (local_in g o)))));
@@ -119,11 +119,11 @@ unfolding cue cue_in happened happened_by local sight tick_of
 told_is g p = refl
 
 -- in a tick that is not in its slot
-away_slot : (o : Option Turn) (p : ℕ) → is_turn_of o p ≡ false → slot_of o p ≡ Away
+away_slot : (o : Option SlotTurn) (p : ℕ) → is_turn_of o p ≡ false → slot_of o p ≡ Away
 away_slot None p other = refl
 away_slot (Some turn) p other = ap (λ (b : Bool). if b then Mine turn.first else Away) other
 
-away_sight : (g : Machine) (p : ℕ) (o : Option Turn) (there : Option PartitionState) → is_turn_of o p ≡ false → sight_in g p o there ≡ Unseen
+away_sight : (g : Machine) (p : ℕ) (o : Option SlotTurn) (there : Option PartitionState) → is_turn_of o p ≡ false → sight_in g p o there ≡ Unseen
 away_sight g p None there other = refl
 away_sight g p (Some turn) None other = refl
 away_sight g p (Some turn) (Some ps) other = ap (λ (b : Bool). if b then sight_of_state g p turn.first ps else Unseen) other
@@ -153,7 +153,7 @@ record IsInSlot (g : Machine) (p : ℕ) (first : Bool) (ps : PartitionState) (ti
   seen : (cue g p).seen ≡ sight_of_state g p first ps
 
 -- what it is told there, with the partition's own turn and its state
-same_turn : (turn : Turn) (p : ℕ) → (turn.part == p) ≡ true → turn ≡ record { part = p; first = turn.first }
+same_turn : (turn : SlotTurn) (p : ℕ) → (turn.part == p) ≡ true → turn ≡ record { part = p; first = turn.first }
 same_turn turn p is = ap (λ (q : ℕ). record { part = q; first = turn.first }) (eqb-true turn.part p is)
 
 itself : (p : ℕ) → (p == p) ≡ true
@@ -243,12 +243,12 @@ own_taken g p first answers acts sound below turn = at (takes_turns (part_at p g
 pub tick_taken : HearsWhatIsAllowed → AnswersCalls → ActsWithinBounds → TellsWhatIsTaken
 tick_taken hears answers acts g p sound below = at (turn_of g) refl
   where
-    by : (turn : Turn) → turn_of g ≡ Some turn → (b : Bool) → (turn.part == p) ≡ b → takes_cue (view_of g.system p) (part_in g p) (cue g p) ≡ true
+    by : (turn : SlotTurn) → turn_of g ≡ Some turn → (b : Bool) → (turn.part == p) ≡ b → takes_cue (view_of g.system p) (part_in g p) (cue g p) ≡ true
     by turn is true its = own_taken g p turn.first answers acts sound below (is ∙ ap Some (same_turn turn p its))
-    by turn is false other = away_taken g p hears sound (ap (λ (o : Option Turn). is_turn_of o p) is ∙ other)
+    by turn is false other = away_taken g p hears sound (ap (λ (o : Option SlotTurn). is_turn_of o p) is ∙ other)
 
-    at : (o : Option Turn) → turn_of g ≡ o → takes_cue (view_of g.system p) (part_in g p) (cue g p) ≡ true
-    at None is = away_taken g p hears sound (ap (λ (o : Option Turn). is_turn_of o p) is)
+    at : (o : Option SlotTurn) → turn_of g ≡ o → takes_cue (view_of g.system p) (part_in g p) (cue g p) ≡ true
+    at None is = away_taken g p hears sound (ap (λ (o : Option SlotTurn). is_turn_of o p) is)
     at (Some turn) is = by turn is (turn.part == p) refl
 
 -- a tick leaves such a machine, with as many partitions

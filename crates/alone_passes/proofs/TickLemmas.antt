@@ -8,7 +8,7 @@ use Rattle.xm_base.specs.declared.partition.Order.{Order}
 use Rattle.xm_ports.specs.Channels.{Content}
 use Rattle.xm_report.specs.Report.{ReportLine}
 use Rattle.machine_model.specs.Alone.{Alone, alone_after, alone_lines_of, alone_local, alone_local_in, alone_step, alone_step_lines, alone_step_said}
-use Rattle.machine_model.specs.Cue.{Away, Cue, Mine, Slot}
+use Rattle.machine_model.specs.Cue.{Away, Cue, Mine, CueSlot}
 use Rattle.machine_model.specs.Health.{Worked}
 use Rattle.machine_model.specs.Laws.{part}
 use Rattle.machine_model.specs.Lines.{local_said}
@@ -22,7 +22,7 @@ use Rattle.machine_model.specs.Traffic.{after_own, copies_after, hearing, told_a
 use Rattle.machine_model.specs.View.{PartitionView, System, named, view_of}
 use Rattle.machine_model.specs.Whole.{NoEvent, WholeEvent, after_event, content_after, event_lines, event_of, ticks_after, time_after}
 use Rattle.slot_runs.specs.Passes.{part_at, traded, traffic_in, with_part}
-use Rattle.alone_passes.specs.Laws.{AwayTicks, IsCalled, RestingTicks, WorkingTicks}
+use Rattle.alone_passes.specs.Laws.{AwayTicks, IsOwnChannel, RestingTicksAlone, WorkingTicks}
 use Rattle.alone_passes.specs.Passes.{away_passed, event_met, obeyed_by, part_in, rested_in, tick_past, told_traffic, work_passed}
 use Rattle.alone_passes.proofs.CopyLemmas.{its_channel, on_id}
 use Rattle.alone_passes.proofs.PartLemmas.{alone_of, met_length, part_is, part_met, part_past, part_put, part_traded, told_alike, traded_length, traded_system}
@@ -95,12 +95,12 @@ step_rests view a cue none = ap (alone_after view a cue) none
 
 away_local : (view : PartitionView) (a : Alone) (cue : Cue) → cue.mine ≡ Away → alone_local view a cue ≡ None
 unfolding alone_local
-away_local view a cue away = ap (λ (mine : Slot). alone_local_in mine view a cue.seen) away
+away_local view a cue away = ap (λ (mine : CueSlot). alone_local_in mine view a cue.seen) away
 
 resting_local : (view : PartitionView) (a : Alone) (cue : Cue) (first : Bool) → cue.mine ≡ Mine first → takes_turns a.state.state ≡ false → alone_local view a cue ≡ None
 unfolding alone_local
 resting_local view a cue first own rests =
-    ap (λ (mine : Slot). alone_local_in mine view a cue.seen) own
+    ap (λ (mine : CueSlot). alone_local_in mine view a cue.seen) own
     ∙ ap (λ (b : Bool). if b then Some (local_tick view a.state a.copies a.ticks a.time first cue.seen) else None) rests
 
 -- the lines and the console bytes of a tick without a local one
@@ -114,7 +114,7 @@ unfolding alone_step_said
 rests_said view a cue none = ap local_said none
 
 -- a tick in the slot of another partition, or in a gap
-away_part : (g : Machine) (p : ℕ) (cue : Cue) → p < length g.parts → IsCalled g.system.conf p cue.traffic
+away_part : (g : Machine) (p : ℕ) (cue : Cue) → p < length g.parts → IsOwnChannel g.system.conf p cue.traffic
     → part_in (away_passed p cue g) p ≡ rested_alone (view_of g.system p) (part_in g p) cue.traffic cue.order cue.whole
 unfolding part
 away_part g p cue below called =
@@ -134,7 +134,7 @@ away_part g p cue below called =
     let is4 = then_rested g3 p _ _ _ _ below3 is3 in
     then_past g4 p cue.whole _ _ _ _ is4
 
-away_told : (g : Machine) (p : ℕ) (cue : Cue) → p < length g.parts → IsCalled g.system.conf p cue.traffic
+away_told : (g : Machine) (p : ℕ) (cue : Cue) → p < length g.parts → IsOwnChannel g.system.conf p cue.traffic
     → obeyed_told cue.order (part_at p g) ≡ obeyed_told cue.order (part_at p (told_traffic p cue.traffic g))
 away_told g p cue below called =
     sym (ap (obeyed_told cue.order) (state_of (told_traffic p cue.traffic g) p _ _ _ _ (part_traded g p cue.traffic below called)) ∙ told_alike (view_of g.system p) cue.traffic cue.order (part_at p g))
@@ -174,7 +174,7 @@ resting_part g p below =
     event_none (None ∷ contents) = rw (event_none contents) refl
     event_none (Some x ∷ contents) = rw (event_none contents) refl
 
-pub resting_ticks : RestingTicks
+pub resting_ticks : RestingTicksAlone
 unfolding part
 resting_ticks g p first cue below own still unordered quiet rests =
     let none = resting_local (view_of g.system p) (part_in g p) cue first own rests in
@@ -197,7 +197,7 @@ turning_local : (view : PartitionView) (a : Alone) (cue : Cue) (first : Bool) �
     → alone_local view a cue ≡ Some (local_tick view a.state a.copies a.ticks a.time first cue.seen)
 unfolding alone_local
 turning_local view a cue first own turns =
-    ap (λ (mine : Slot). alone_local_in mine view a cue.seen) own
+    ap (λ (mine : CueSlot). alone_local_in mine view a cue.seen) own
     ∙ ap (λ (b : Bool). if b then Some (local_tick view a.state a.copies a.ticks a.time first cue.seen) else None) turns
 
 -- the local tick of a partition that came to this work
@@ -211,7 +211,7 @@ tick_is view ps contents n time first seen work is bounds =
     ap (seen_outside view n) (sym is) ∙ ap (λ (act : Act). record { after = work.after; lines = map (line_of n view.id) work.told; said = flat_map said_in work.told; act = act }) bounds
 
 -- what a partition's own message is on is a channel that it has
-called_if : (g : Machine) (p : ℕ) (act : Act) → bounded (view_of g.system p) act ≡ act → IsCalled g.system.conf p (traffic_of act)
+called_if : (g : Machine) (p : ℕ) (act : Act) → bounded (view_of g.system p) act ≡ act → IsOwnChannel g.system.conf p (traffic_of act)
 called_if g p told.Nothing is = tt
 called_if g p (told.Trades OwnStill) is = tt
 called_if g p (told.Trades (OwnPuts q bytes)) is = at (has_name (slice_index_or (view_of g.system p).channels q None) q) refl is

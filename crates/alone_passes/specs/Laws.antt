@@ -16,10 +16,10 @@ use Rattle.xm_report.specs.Report.{ReportLine}
 use Rattle.alone_passes.specs.Passes.{away_passed, part_in, rested_in, tick_past, told_traffic, work_passed}
 
 -- a message that others put is on a channel that the partition has under this name
-abbrev pub IsCalled : Conf → ℕ → OwnTraffic → Type 0
-IsCalled conf p OwnStill = Unit {0}
-IsCalled conf p (OwnPuts name bytes) = (c : ℕ) × (named conf p name ≡ Some c)
-IsCalled conf p (OwnTakes name) = Unit {0}
+abbrev pub IsOwnChannel : Conf → ℕ → OwnTraffic → Type 0
+IsOwnChannel conf p OwnStill = Unit {0}
+IsOwnChannel conf p (OwnPuts name bytes) = (c : ℕ) × (named conf p name ≡ Some c)
+IsOwnChannel conf p (OwnTakes name) = Unit {0}
 
 -- a tick leaves of partition p's part what the partition alone makes of it under this cue, with these lines and console bytes
 pub record IsTickAlone (p : ℕ) (cue : Cue) (old new : Machine) (told : List ReportLine) (bytes : List ℕ) : Type 0 where
@@ -34,12 +34,12 @@ away_lines p cue g = map (line_of g.ticks p) (obeyed_told cue.order (part_at p (
 -- a tick in the slot of another partition, or in a gap
 abbrev pub AwayTicks : Type 0
 AwayTicks =
-    (g : Machine) (p : ℕ) (cue : Cue) → p < length g.parts → cue.mine ≡ Away → IsCalled g.system.conf p cue.traffic →
+    (g : Machine) (p : ℕ) (cue : Cue) → p < length g.parts → cue.mine ≡ Away → IsOwnChannel g.system.conf p cue.traffic →
     IsTickAlone p cue g (away_passed p cue g) (away_lines p cue g) []
 
 -- a tick in a slot of a partition that takes no turns
-abbrev pub RestingTicks : Type 0
-RestingTicks =
+abbrev pub RestingTicksAlone : Type 0
+RestingTicksAlone =
     (g : Machine) (p : ℕ) (first : Bool) (cue : Cue) → p < length g.parts → cue.mine ≡ Mine first → cue.traffic ≡ OwnStill → cue.order ≡ None →
     cue.whole ≡ NoEvent → takes_turns (part_at p g).state ≡ false → IsTickAlone p cue g (tick_past NoEvent (rested_in p g)) [] []
 

@@ -7,7 +7,7 @@ use Rattle.xm_conf.specs.declared.channel.ChanKind.{ChanKind}
 use Rattle.xm_conf.specs.declared.channel.ChanKind.TheVariants as kind
 use Rattle.xm_ports.specs.Channels.{Content, Queuing, Sampling}
 use Rattle.machine_model.specs.Alone.{Alone, alone_local, alone_step}
-use Rattle.machine_model.specs.Cue.{Away, Cue, Mine, Slot}
+use Rattle.machine_model.specs.Cue.{Away, Cue, Mine, CueSlot}
 use Rattle.machine_model.specs.LocalTick.{LocalTick}
 use Rattle.machine_model.specs.Machine.{act_of}
 use Rattle.machine_model.specs.Observed.{CurrentPlan, HealthCounts, HealthEntryOf, Observation, PartitionStatus, PlanStatus, Question, SystemStatus, TraceCounts, TraceEntryOf, asks}
@@ -17,10 +17,10 @@ use Rattle.machine_model.specs.View.{PartitionView, PortChannel}
 use Rattle.machine_model.specs.Whole.{event_of}
 
 -- whether a queue of this kind holds as many messages as it may; a sampling channel never does
-abbrev pub is_full : ChanKind → Content → Bool
-is_full (kind.Sampling refresh) content = false
-is_full (kind.Queuing most) (Sampling sample) = false
-is_full (kind.Queuing most) (Queuing messages) = not (nat_lt (length messages) most)
+abbrev pub is_queue_full : ChanKind → Content → Bool
+is_queue_full (kind.Sampling refresh) content = false
+is_queue_full (kind.Queuing most) (Sampling sample) = false
+is_queue_full (kind.Queuing most) (Queuing messages) = not (nat_lt (length messages) most)
 
 -- whether it is a queue in which no message waits
 abbrev pub is_empty : Content → Bool
@@ -32,7 +32,7 @@ is_empty (Queuing (first ∷ later)) = false
 abbrev pub is_full_copy : Option PortChannel → Option Content → Bool
 is_full_copy None copy = false
 is_full_copy (Some channel) None = false
-is_full_copy (Some channel) (Some content) = is_full channel.shape.kind content
+is_full_copy (Some channel) (Some content) = is_queue_full channel.shape.kind content
 
 -- whether it is a queue that is empty
 abbrev pub is_empty_copy : Option Content → Bool
@@ -46,20 +46,20 @@ takes_traffic view copies (OwnPuts name bytes) = not (is_full_copy (slice_index_
 takes_traffic view copies (OwnTakes name) = not (is_empty_copy (slice_index_or copies name None))
 
 -- the observing call that the partition makes in the tick, where it makes one
-abbrev pub asked_in : Slot → PartitionView → Alone → Option Observation
+abbrev pub asked_in : CueSlot → PartitionView → Alone → Option Observation
 asked_in Away view a = None
 asked_in (Mine first) view a = if takes_turns a.state.state then asks view a.state a.time first else None
 
 -- whether a call asks for an entry of a log
-abbrev pub is_entry : Question → Bool
-is_entry (PartitionStatus id) = false
-is_entry SystemStatus = false
-is_entry CurrentPlan = false
-is_entry PlanStatus = false
-is_entry (TraceEntryOf id number) = true
-is_entry (TraceCounts id) = false
-is_entry (HealthEntryOf id number) = true
-is_entry (HealthCounts id) = false
+abbrev pub asks_entry : Question → Bool
+asks_entry (PartitionStatus id) = false
+asks_entry SystemStatus = false
+asks_entry CurrentPlan = false
+asks_entry PlanStatus = false
+asks_entry (TraceEntryOf id number) = true
+asks_entry (TraceCounts id) = false
+asks_entry (HealthEntryOf id number) = true
+asks_entry (HealthCounts id) = false
 
 -- whether the answer to a call may all be written at its place
 abbrev pub may_write : PartitionView → Observation → Bool
@@ -76,7 +76,7 @@ is_no_sight (Words bytes) = false
 abbrev pub takes_sight : PartitionView → Option Observation → Sight → Bool
 takes_sight view None seen = is_no_sight seen
 takes_sight view (Some call) Unseen = not (may_write view call)
-takes_sight view (Some call) NotKept = is_entry call.question
+takes_sight view (Some call) NotKept = asks_entry call.question
 takes_sight view (Some call) (Words bytes) = may_write view call && length bytes == call.size
 
 -- whether two resets of the hypervisor are the same
@@ -99,7 +99,7 @@ is_same_event AllHalted (AllReset other) = false
 is_same_event AllHalted AllHalted = true
 
 -- whether a hypervisor event can be: in a slot of its own it is that of the partition's own act, and none where it does no work
-abbrev pub takes_event : Slot → Option LocalTick → WholeEvent → Bool
+abbrev pub takes_event : CueSlot → Option LocalTick → WholeEvent → Bool
 takes_event Away tick event = true
 takes_event (Mine first) tick event = is_same_event (event_of (act_of tick)) event
 

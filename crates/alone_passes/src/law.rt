@@ -1,7 +1,7 @@
 //! The laws on one tick of one partition without the others.
 
 ghost use Rattle.alone_passes.specs.Kept.{PassesKeep};
-ghost use Rattle.alone_passes.specs.Laws.{AwayTicks, RestingTicks, WorkingTicks};
+ghost use Rattle.alone_passes.specs.Laws.{AwayTicks, RestingTicksAlone, WorkingTicks};
 ghost use Rattle.alone_passes.specs.TakingLaws.{TakesAway, TakesResting, TakesWorking};
 ghost use Rattle.alone_passes.specs.TakingRows.{AskedRows, EventRows, QueueRows, SightRows};
 ghost use Rattle.alone_passes.specs.TellingLaws.{BootedScriptIsTaken, ScriptIsTaken, TellsWhatIsTaken};
@@ -18,7 +18,7 @@ pub fn away_ticks()
 
 /// A tick in a slot of a partition that takes no turns.
 pub fn resting_ticks_alone()
-    ensures law { RestingTicks }
+    ensures law { RestingTicksAlone }
 {}
 
 /// A tick in which a partition takes its turn.

@@ -3,7 +3,7 @@ use Rattle.std.proofs.Common.{◌≡◌, ℕ, ◌%◌, ◌<◌, ◌≤◌, Bool,
 use Rattle.std.specs.Prelude.{slice_index_or}
 use Rattle.std.proofs.lemmas.Bool.Decides.{nat_tests}
 use Rattle.std.proofs.lemmas.List.{get_or-set_same, length-replicate}
-use Rattle.xm_base.specs.Cursor.{Place, start as begin}
+use Rattle.xm_base.specs.Cursor.{Place, cursor_start as begin}
 use Rattle.xef_images.specs.Steps.{◌>>=◌}
 use Rattle.xm_conf.specs.Configuration.{Conf}
 use Rattle.xm_conf.specs.Description.{described}
@@ -13,8 +13,8 @@ use Rattle.xm_conf.specs.Rules.{first_broken}
 use Rattle.xm_conf.specs.declared.item.Broken.{Broken}
 use Rattle.bin_config.specs.Reading as bin
 use Rattle.bin_config.specs.declared.fault.XmcFault.{XmcFault}
-use Rattle.cue_scripts.specs.Laws.{WrittenIsRead}
-use Rattle.cue_scripts.specs.Reading.{script as read_script}
+use Rattle.cue_scripts.specs.Laws.{WrittenScriptIsRead}
+use Rattle.cue_scripts.specs.Reading.{script_read as read_script}
 use Rattle.cue_scripts.specs.Script.{IsScript}
 use Rattle.alone_passes.specs.Taking.{first_untaken}
 use Rattle.alone_passes.specs.TellingLaws.{BootedScriptIsTaken}
@@ -33,7 +33,7 @@ use Rattle.xm_alone.specs.Replay.{cue_lines, replay_lines, replayed}
 use Rattle.loaded_system.specs.Inside.{first_outside}
 use Rattle.xm_container.specs.Entries.{Entries}
 use Rattle.xm_container.specs.Numbers.{extra, missing}
-use Rattle.xm_container.specs.Reading.{as_config, assigned, bytes_at, conf_at, fields_of, length_at, signed, system_in, table_at, unless, unless_some, unpacked}
+use Rattle.xm_container.specs.Reading.{as_config, assigned, bytes_at, conf_at, container_fields, length_at, signed, system_in, image_table_at, unless, unless_some, unpacked}
 use Rattle.xm_container.specs.declared.fault.BoxFault.{BoxFault}
 use Rattle.alone_replay.specs.OfRun.{RunIsReplayed}
 use Rattle.alone_replay.specs.Ready.{NoPartition, fitting, inputs_given, replay_of, with_container, with_input, with_script, with_system}
@@ -60,7 +60,7 @@ unbroken_meets law conf (Some broken) some = tt
 
 read_meets : IsBrokenUnlessFits → (bytes : List ℕ) → IfOk (bin.read_of bytes) Meets
 unfolding bin.read_of
-read_meets law bytes = last_has Meets (bin.fields_of bytes) (λ conf. bin.unbroken conf (first_broken (described conf))) (λ conf. unbroken_meets law conf (first_broken (described conf)) refl)
+read_meets law bytes = last_has Meets (bin.conf_fields bytes) (λ conf. bin.unbroken conf (first_broken (described conf))) (λ conf. unbroken_meets law conf (first_broken (described conf)) refl)
 
 as_config_meets : (r : Result Conf XmcFault) → IfOk r Meets → IfOk (as_config r) Meets
 as_config_meets (Ok conf) meets = meets
@@ -80,10 +80,10 @@ unless_meets : {T : Type 0} (test : Bool) (fault : BoxFault) (value : Conf × T)
 unless_meets true fault value meets = meets
 unless_meets false fault value meets = tt
 
-fields_meet : IsBrokenUnlessFits → (bytes : List ℕ) → IfOk (fields_of bytes) ConfMeets
-unfolding fields_of
+fields_meet : IsBrokenUnlessFits → (bytes : List ℕ) → IfOk (container_fields bytes) ConfMeets
+unfolding container_fields
 fields_meet law bytes =
-    then_has ConfMeets ConfMeets (conf_at (begin bytes)) _ (conf_meets law (begin bytes)) (λ conf meets. last_has ConfMeets (table_at conf.1) _ (λ entries. unless_meets _ _ (conf.0, entries.0) meets))
+    then_has ConfMeets ConfMeets (conf_at (begin bytes)) _ (conf_meets law (begin bytes)) (λ conf meets. last_has ConfMeets (image_table_at conf.1) _ (λ entries. unless_meets _ _ (conf.0, entries.0) meets))
 
 -- of a system that was read
 abbrev SystemMeets : loaded.System → Type 0
@@ -101,7 +101,7 @@ assigned_meets conf entries meets =
 unpacked_meets : IsBrokenUnlessFits → (bytes : List ℕ) → IfOk (unpacked bytes) SystemMeets
 unfolding unpacked system_in
 unpacked_meets law bytes =
-    last_has SystemMeets (signed bytes) system_in (λ front. then_has ConfMeets SystemMeets (fields_of front) _ (fields_meet law front) (λ fields meets. assigned_meets fields.0 fields.1 meets))
+    last_has SystemMeets (signed bytes) system_in (λ front. then_has ConfMeets SystemMeets (container_fields front) _ (fields_meet law front) (λ fields meets. assigned_meets fields.0 fields.1 meets))
 
 system_fits : IsBrokenUnlessFits → (bytes : List ℕ) (system : loaded.System) → unpacked bytes ≡ Ok system → Fits (described system.conf)
 system_fits law bytes system unpacks = subst (λ (r : Result loaded.System BoxFault). IfOk r SystemMeets) unpacks (unpacked_meets law bytes)
@@ -158,7 +158,7 @@ own_end : (system : System) (p : ℕ) (cues : List Cue) → replay_lines (view_o
 unfolding view_of
 own_end system p cues = refl
 
-pub runs_replayed : IsBrokenUnlessFits → OwnLines → SameCoreFile → BootedScriptIsTaken → TellsBootedScripts → WrittenIsRead → RunIsReplayed
+pub runs_replayed : IsBrokenUnlessFits → OwnLines → SameCoreFile → BootedScriptIsTaken → TellsBootedScripts → WrittenScriptIsRead → RunIsReplayed
 runs_replayed law lines_law core_law takes tells reads container p bytes input system inputs ticks is =
     let booted = with_inputs system inputs in
     let lone = with_inputs system (lone_inputs (length system.conf.parts) p input) in

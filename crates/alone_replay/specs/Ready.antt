@@ -1,8 +1,8 @@
 -- What a container, a script and input words come to, by which a partition is to be replayed.
 use Rattle.std.specs.Prelude.{ℕ, ◌%◌, nat_eq, nat_le, if◌then◌else◌, List, [], length, replicate, slice_set, Option, Some, None, Result, Ok, Err}
 use Rattle.alone_passes.specs.Taking.{first_untaken}
-use Rattle.cue_scripts.specs.Reading.{script}
-use Rattle.cue_scripts.specs.Texts.{text}
+use Rattle.cue_scripts.specs.Reading.{script_read}
+use Rattle.cue_scripts.specs.Texts.{script_fault_text}
 use Rattle.cue_scripts.specs.declared.fault.ScriptFault.{ScriptFault}
 use Rattle.cue_scripts.specs.declared.fault.ScriptFault.TheVariants as fault
 use Rattle.loaded_system.specs.System as loaded
@@ -36,7 +36,7 @@ inputs_given parts p bytes = if nat_eq (length bytes % 4) 0 then Ok (slice_set (
 -- a script fits, or this is the first cue that cannot be taken
 abbrev pub fitting : System → ℕ → List Cue → Option ℕ → Result Replay Unready
 fitting system p cues None = Ok (record { system = system; p = p; cues = cues })
-fitting system p cues (Some tick) = Err (NoScript (text (fault.Cue tick)))
+fitting system p cues (Some tick) = Err (NoScript (script_fault_text (fault.Cue tick)))
 
 -- a script is tried on the partition with these input words
 abbrev pub with_input : loaded.System → ℕ → List Cue → Result (List (List ℕ)) Unready → Result Replay Unready
@@ -46,12 +46,12 @@ with_input system p cues (Ok inputs) =
 
 -- the input words, behind a script that was read
 abbrev pub with_script : loaded.System → ℕ → List ℕ → Result (List Cue) ScriptFault → Result Replay Unready
-with_script system p input (Err fault) = Err (NoScript (text fault))
+with_script system p input (Err fault) = Err (NoScript (script_fault_text fault))
 with_script system p input (Ok cues) = with_input system p cues (inputs_given (length system.conf.parts) p input)
 
 -- the partition and its script, in a system
 abbrev pub with_system : ℕ → List ℕ → List ℕ → loaded.System → Result Replay Unready
-with_system p bytes input system = if nat_le (length system.conf.parts) p then Err NoPartition else with_script system p input (script system.conf p bytes)
+with_system p bytes input system = if nat_le (length system.conf.parts) p then Err NoPartition else with_script system p input (script_read system.conf p bytes)
 
 -- a container that was unpacked
 abbrev pub with_container : ℕ → List ℕ → List ℕ → Result loaded.System BoxFault → Result Replay Unready

@@ -1,8 +1,8 @@
 //! What is said of a script that is refused.
 
 ghost use Rattle.std.specs.Prelude.{◌≡◌};
-ghost use Rattle.cue_scripts.specs.Texts.{text};
-ghost use Rattle.file_maker.specs.Makes.{IsTold};
+ghost use Rattle.cue_scripts.specs.Texts.{script_fault_text};
+ghost use Rattle.file_maker.specs.Makes.{IsRefusalText};
 
 use cue_scripts::ScriptFault;
 use file_maker::Unmade;
@@ -10,7 +10,7 @@ use std::alloc::Global;
 
 /// What is said of a file that is no script, or of a script that is not written or does not fit.
 pub fn no_script(alloc: Global, fault: ScriptFault) -> Unmade
-    ensures text { IsTold result (text fault) }
+    ensures text { IsRefusalText result (script_fault_text fault) }
     ensures memory { fault ≡ ScriptFault.Memory → result ≡ Unmade.Memory }
 {
     match fault {

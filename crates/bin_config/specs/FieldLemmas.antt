@@ -9,9 +9,9 @@ use Rattle.std.proofs.lemmas.List.Elements.{All-from_recursion, recursion_from_A
 use Rattle.std.proofs.lemmas.Nat.{be_bytes_2, be_bytes_4, from_be_bytes-to_be_bytes_2, from_be_bytes-to_be_bytes_4}
 use Rattle.xm_base.specs.Bytes.{AreBytes, spelled_1}
 use Rattle.xm_base.specs.Cursor.{Place, ahead, left, next, past}
-use Rattle.bin_config.specs.Reading.{Read, ◌>>=◌, number_at, byte_at, half_word_at, word_at, or_fault, elements_at, counted_at}
-use Rattle.bin_config.specs.Spelled.{IsByte, IsHalfWord, IsWord, AreFew}
-use Rattle.bin_config.specs.Xmc.{half_word, word, counted}
+use Rattle.bin_config.specs.Reading.{Read, ◌>>=◌, number_at, byte_field_at, half_word_at, word_field_at, or_fault, elements_at, counted_at}
+use Rattle.bin_config.specs.Spelled.{IsByte, IsHalfWord, HasFourBytes, AreFew}
+use Rattle.bin_config.specs.Xmc.{half_word, word_field, list_field}
 use Rattle.bin_config.specs.declared.fault.XmcFault.{XmcFault}
 use Rattle.bin_config.specs.declared.fault.XmcFault.TheVariants.{Short}
 
@@ -69,7 +69,7 @@ pub record Reads {X : Type 0} (read : Read X) (value : X) (rest : List ℕ) : Ty
   pub ahead : ahead after ≡ rest
 
 -- a reader reads exactly what is spelled: what it gives is spelled so where it stood, and what is spelled is read
-pub record Spells {X : Type 0} (read : Place → Read X) (spell : X → List ℕ) (P : X → Type 0) : Type 0 where
+pub record IsReaderOf {X : Type 0} (read : Place → Read X) (spell : X → List ℕ) (P : X → Type 0) : Type 0 where
   pub takes : (place : Place) (x : X) (after : Place) → AreBytes (ahead place) → read place ≡ Ok (x, after) → Takes place (spell x) after × P x
   pub again : (place : Place) (x : X) (rest : List ℕ) → P x → ahead place ≡ spell x ++ rest → Reads (read place) x rest
 
@@ -86,14 +86,14 @@ next_take count place each enough =
     )
 
 -- bytes that stand at a place are the next ones, so many
-pub record Stands (count : ℕ) (place : Place) (bytes rest : List ℕ) : Type 0 where
+pub record StandsNext (count : ℕ) (place : Place) (bytes rest : List ℕ) : Type 0 where
   pub enough : ltb (left place) count ≡ false
   pub next : next count place ≡ bytes
   pub ahead : ahead (past count place) ≡ rest
 
 -- bytes that stand at a place are the next ones
-pub stands : (count : ℕ) (place : Place) (bytes rest : List ℕ) → length bytes ≡ count → ahead place ≡ bytes ++ rest → Stands count place bytes rest
-stands count place bytes rest counted is = record {
+pub stands_next : (count : ℕ) (place : Place) (bytes rest : List ℕ) → length bytes ≡ count → ahead place ≡ bytes ++ rest → StandsNext count place bytes rest
+stands_next count place bytes rest counted is = record {
   enough = le-ltb _ _ (omega (arith, counted, ap length is, length-append bytes rest));
   next = rw is (take_at bytes rest count counted);
   ahead = sym (drop-drop count place.at place.bytes) ∙ ap (drop count) is ∙ drop_at bytes rest count counted;
@@ -144,7 +144,7 @@ number_takes w count limit wide place n after each e =
 -- a number whose bytes stand there is read
 number_again : (w : Width) (count limit : ℕ) (wide : IsWide w count limit) (place : Place) (n : ℕ) (rest : List ℕ) → n < limit → ahead place ≡ to_be_bytes w n ++ rest → Reads (number_at w count place) n rest
 number_again w count limit wide place n rest below is =
-    let s = stands count place (to_be_bytes w n) rest (wide.size n) is in
+    let s = stands_next count place (to_be_bytes w n) rest (wide.size n) is in
     record {
       after = past count place;
       is = rw (s.enough, s.next, wide.again n below) refl;
@@ -152,12 +152,12 @@ number_again w count limit wide place n rest below is =
     }
 
 -- a number is read as it is spelled
-number_spells : (w : Width) (count limit : ℕ) → IsWide w count limit → Spells (number_at w count) (to_be_bytes w) (λ n. n < limit)
+number_spells : (w : Width) (count limit : ℕ) → IsWide w count limit → IsReaderOf (number_at w count) (to_be_bytes w) (λ n. n < limit)
 number_spells w count limit wide = record { takes = number_takes w count limit wide; again = number_again w count limit wide }
 
 -- another word for a spelling, and for what can be spelled
-pub spells-like : {X : Type 0} (read : Place → Read X) (spell text_of : X → List ℕ) (P Q : X → Type 0) → Spells read spell P
-    → ((x : X) → P x → (spell x ≡ text_of x) × Q x) → ((x : X) → Q x → P x) → Spells read text_of Q
+pub spells-like : {X : Type 0} (read : Place → Read X) (spell text_of : X → List ℕ) (P Q : X → Type 0) → IsReaderOf read spell P
+    → ((x : X) → P x → (spell x ≡ text_of x) × Q x) → ((x : X) → Q x → P x) → IsReaderOf read text_of Q
 spells-like read spell text_of P Q s there back = record {
   takes = λ place x after each e.
       let t = s.takes place x after each e in
@@ -167,25 +167,25 @@ spells-like read spell text_of P Q s there back = record {
 }
 
 -- a number of one byte
-pub byte_spells : Spells byte_at (λ n. n ∷ []) IsByte
-unfolding byte_at
+pub byte_spells : IsReaderOf byte_field_at (λ n. n ∷ []) IsByte
+unfolding byte_field_at
 byte_spells = spells-like (number_at w8 1) (to_be_bytes w8) (λ n. n ∷ []) (λ n. n < 256) IsByte (number_spells w8 1 256 wide8)
     (λ n below. let same : n % 256 ≡ n = omega (arith, below) in (ap (λ b. b ∷ []) same, below)) (λ n below. below)
 
 -- a number of two bytes
-pub half_word_spells : Spells half_word_at half_word IsHalfWord
+pub half_word_spells : IsReaderOf half_word_at half_word IsHalfWord
 unfolding half_word_at
 half_word_spells = number_spells w16 2 (2 ^ 16) wide16
 
 -- a number of four bytes
-pub word_spells : Spells word_at word IsWord
-unfolding word_at
+pub word_spells : IsReaderOf word_field_at word_field HasFourBytes
+unfolding word_field_at
 word_spells = number_spells w32 4 (2 ^ 32) wide32
 
 -- a value that has a code
-pub coded_spells : {A X : Type 0} (read : Place → Read A) (spell : A → List ℕ) (P : A → Type 0) (value : A → Option X) (code : X → A) (Q : X → Type 0) → Spells read spell P
+pub coded_spells : {A X : Type 0} (read : Place → Read A) (spell : A → List ℕ) (P : A → Type 0) (value : A → Option X) (code : X → A) (Q : X → Type 0) → IsReaderOf read spell P
     → ((a : A) (x : X) → P a → value a ≡ Some x → (a ≡ code x) × Q x) → ((x : X) → Q x → (value (code x) ≡ Some x) × P (code x))
-    → Spells (λ place. read place >>= λ a. or_fault place.at a.1 (value a.0)) (λ x. spell (code x)) Q
+    → IsReaderOf (λ place. read place >>= λ a. or_fault place.at a.1 (value a.0)) (λ x. spell (code x)) Q
 coded_spells read spell P value code Q s there back = record {
   takes = λ place x after each e.
       let a = stepped (read place) (λ a. or_fault place.at a.1 (value a.0)) (x, after) e in
@@ -200,7 +200,7 @@ coded_spells read spell P value code Q s there back = record {
 }
 
 -- so many elements are spelled one after another
-pub elements_takes : {X : Type 0} (read : Place → Read X) (spell : X → List ℕ) (P : X → Type 0) → Spells read spell P → (count : ℕ) (place : Place) (xs : List X) (after : Place)
+pub elements_takes : {X : Type 0} (read : Place → Read X) (spell : X → List ℕ) (P : X → Type 0) → IsReaderOf read spell P → (count : ℕ) (place : Place) (xs : List X) (after : Place)
     → AreBytes (ahead place) → elements_at read count place ≡ Ok (xs, after) → Takes place (flat_map spell xs) after × (length xs ≡ count) × AllByRecursion P xs
 elements_takes {X} read spell P s zero place xs after each e =
     let R : List X × Place → Type 0 = λ x. Takes place (flat_map spell x.0) x.1 × (length x.0 ≡ 0) × AllByRecursion P x.0 in
@@ -215,7 +215,7 @@ elements_takes {X} read spell P s (suc count) place xs after each e =
     subst R {x = (a.value.0 ∷ b.value.0, b.value.1)} (ok_is (a.value.0 ∷ b.value.0, b.value.1) (xs, after) b.led) (rw flat_map-cons both, ap suc others.1, (first.1, others.2))
 
 -- elements that are spelled one after another are read
-pub elements_again : {X : Type 0} (read : Place → Read X) (spell : X → List ℕ) (P : X → Type 0) → Spells read spell P → (place : Place) (xs : List X) (rest : List ℕ)
+pub elements_again : {X : Type 0} (read : Place → Read X) (spell : X → List ℕ) (P : X → Type 0) → IsReaderOf read spell P → (place : Place) (xs : List X) (rest : List ℕ)
     → AllByRecursion P xs → ahead place ≡ flat_map spell xs ++ rest → Reads (elements_at read (length xs) place) xs rest
 elements_again read spell P s place [] rest each is = record { after = place; is = refl; ahead = is }
 elements_again read spell P s place (x ∷ xs) rest each is =
@@ -226,18 +226,18 @@ elements_again read spell P s place (x ∷ xs) rest each is =
     record { after = others.after; is = rw (first.is, others.is) refl; ahead = others.ahead }
 
 -- so many elements
-pub elements_spells : {X : Type 0} (read : Place → Read X) (spell : X → List ℕ) (P : X → Type 0) (count : ℕ) → Spells read spell P
-    → Spells (elements_at read count) (flat_map spell) (λ xs. (length xs ≡ count) × AllByRecursion P xs)
+pub elements_spells : {X : Type 0} (read : Place → Read X) (spell : X → List ℕ) (P : X → Type 0) (count : ℕ) → IsReaderOf read spell P
+    → IsReaderOf (elements_at read count) (flat_map spell) (λ xs. (length xs ≡ count) × AllByRecursion P xs)
 elements_spells read spell P count s = record {
   takes = λ place xs after each e. let t = elements_takes read spell P s count place xs after each e in (t.0, (t.1, t.2));
   again = λ place xs rest q is. subst (λ (n : ℕ). Reads (elements_at read n place) xs rest) q.0 (elements_again read spell P s place xs rest q.1 is);
 }
 
 -- a byte with the number of elements, and each of them
-pub counted_spells : {X : Type 0} (read : Place → Read X) (spell : X → List ℕ) (P : X → Type 0) → Spells read spell P → Spells (counted_at read) (counted spell) (AreFew P)
+pub counted_spells : {X : Type 0} (read : Place → Read X) (spell : X → List ℕ) (P : X → Type 0) → IsReaderOf read spell P → IsReaderOf (counted_at read) (list_field spell) (AreFew P)
 counted_spells read spell P s = record {
   takes = λ place xs after each e.
-      let a = stepped (byte_at place) (λ count. elements_at read count.0 count.1) (xs, after) e in
+      let a = stepped (byte_field_at place) (λ count. elements_at read count.0 count.1) (xs, after) e in
       let first = byte_spells.takes place a.value.0 a.value.1 each a.is in
       let others = elements_takes read spell P s a.value.0 a.value.1 xs after first.0.rest a.led in
       let both = takes_both place (a.value.0 ∷ []) a.value.1 (flat_map spell xs) after first.0 others.0 in (

@@ -3,12 +3,12 @@ use Rattle.std.proofs.Common.{◌≡◌, ℕ, List, ◌++◌, Result, Ok, refl, 
 use Rattle.xm_base.specs.Bytes.{AreBytes}
 use Rattle.xm_base.specs.Cursor.{Place, ahead}
 use Rattle.bin_config.specs.Reading.{Read, ◌>>=◌}
-use Rattle.bin_config.specs.FieldLemmas.{Spells, Takes, stepped, ok_is, takes_both}
+use Rattle.bin_config.specs.FieldLemmas.{IsReaderOf, Takes, stepped, ok_is, takes_both}
 use Rattle.bin_config.specs.declared.fault.XmcFault.{XmcFault}
 
 -- fields before something: their values go to what follows, with the place behind them
-abbrev pub Front : Type 0 → Type 1
-Front T = (Y : Type 0) → (T → Place → Result Y XmcFault) → Place → Result Y XmcFault
+abbrev pub LeadingFields : Type 0 → Type 1
+LeadingFields T = (Y : Type 0) → (T → Place → Result Y XmcFault) → Place → Result Y XmcFault
 
 -- fields that did not fail: their values, the place behind them, and what followed
 pub record Opened {T Y : Type 0} (spell : T → List ℕ) (P : T → Type 0) (more : T → Place → Result Y XmcFault) (place : Place) (end : Y) : Type 0 where
@@ -25,24 +25,24 @@ pub record Reached {Y : Type 0} (read : Result Y XmcFault) (more : Place → Res
   pub ahead : ahead after ≡ rest
 
 -- fields are read exactly as they are spelled, whatever follows
-pub record Opens {T : Type 0} (front : Front T) (spell : T → List ℕ) (P : T → Type 0) : Type 1 where
+pub record Opens {T : Type 0} (front : LeadingFields T) (spell : T → List ℕ) (P : T → Type 0) : Type 1 where
   pub takes : (Y : Type 0) (more : T → Place → Result Y XmcFault) (place : Place) (end : Y) → AreBytes (ahead place) → front Y more place ≡ Ok end → Opened spell P more place end
   pub again : (Y : Type 0) (more : T → Place → Result Y XmcFault) (place : Place) (t : T) (rest : List ℕ) → P t → ahead place ≡ spell t ++ rest → Reached (front Y more place) (more t) rest
 
 -- one field
-abbrev pub first_of : {A : Type 0} → (Place → Read A) → Front A
-first_of read Y more place = read place >>= λ a. more a.0 a.1
+abbrev pub one_field : {A : Type 0} → (Place → Read A) → LeadingFields A
+one_field read Y more place = read place >>= λ a. more a.0 a.1
 
 -- one more field, which may depend on those before it
-abbrev pub then_of : {T B : Type 0} → Front T → (T → Place → Read B) → Front (T × B)
+abbrev pub then_of : {T B : Type 0} → LeadingFields T → (T → Place → Read B) → LeadingFields (T × B)
 then_of front read Y more place = front Y (λ t behind. read t behind >>= λ b. more (t, b.0) b.1) place
 
 -- all fields, as one value
-abbrev pub all_of : {T X : Type 0} → Front T → (T → X) → Place → Read X
-all_of {T} {X} front to place = front (X × Place) (λ t behind. Ok (to t, behind)) place
+abbrev pub all_fields : {T X : Type 0} → LeadingFields T → (T → X) → Place → Read X
+all_fields {T} {X} front to place = front (X × Place) (λ t behind. Ok (to t, behind)) place
 
 -- one field is read as it is spelled
-pub first : {A : Type 0} {read : Place → Read A} {spell : A → List ℕ} {P : A → Type 0} → Spells read spell P → Opens (first_of read) spell P
+pub first : {A : Type 0} {read : Place → Read A} {spell : A → List ℕ} {P : A → Type 0} → IsReaderOf read spell P → Opens (one_field read) spell P
 first {A} {read} {spell} {P} s = record {
   takes = λ Y more place end each e.
       let a = stepped (read place) (λ a. more a.0 a.1) end e in
@@ -54,8 +54,8 @@ first {A} {read} {spell} {P} s = record {
 }
 
 -- one more field is read as it is spelled
-pub followed : {T B : Type 0} {front : Front T} {spell : T → List ℕ} {P : T → Type 0} (read : T → Place → Read B) (text_of : B → List ℕ) (Q : T → B → Type 0)
-    → Opens front spell P → ((t : T) → Spells (read t) text_of (Q t)) → Opens (then_of front read) (λ x. spell x.0 ++ text_of x.1) (λ x. P x.0 × Q x.0 x.1)
+pub followed : {T B : Type 0} {front : LeadingFields T} {spell : T → List ℕ} {P : T → Type 0} (read : T → Place → Read B) (text_of : B → List ℕ) (Q : T → B → Type 0)
+    → Opens front spell P → ((t : T) → IsReaderOf (read t) text_of (Q t)) → Opens (then_of front read) (λ x. spell x.0 ++ text_of x.1) (λ x. P x.0 × Q x.0 x.1)
 followed {T} {B} {front} {spell} {P} read text_of Q opens s = record {
   takes = λ Y more place end each e.
       let o = opens.takes Y (λ t behind. read t behind >>= λ b. more (t, b.0) b.1) place end each e in
@@ -75,15 +75,15 @@ followed {T} {B} {front} {spell} {P} read text_of Q opens s = record {
 }
 
 -- one more field that is read as it is spelled, whatever stands before it
-pub then : {T B : Type 0} {front : Front T} {spell : T → List ℕ} {P : T → Type 0} {read : Place → Read B} {text_of : B → List ℕ} {Q : B → Type 0}
-    → Opens front spell P → Spells read text_of Q → Opens (then_of front (λ t. read)) (λ x. spell x.0 ++ text_of x.1) (λ x. P x.0 × Q x.1)
+pub then : {T B : Type 0} {front : LeadingFields T} {spell : T → List ℕ} {P : T → Type 0} {read : Place → Read B} {text_of : B → List ℕ} {Q : B → Type 0}
+    → Opens front spell P → IsReaderOf read text_of Q → Opens (then_of front (λ t. read)) (λ x. spell x.0 ++ text_of x.1) (λ x. P x.0 × Q x.1)
 then {T} {B} {front} {spell} {P} {read} {text_of} {Q} opens s = followed (λ t. read) text_of (λ t. Q) opens (λ t. s)
 
 -- a value is read as its fields are
-pub made : {T X : Type 0} {front : Front T} {spell : T → List ℕ} {P : T → Type 0} (to : T → X) (from : X → T) (text_of : X → List ℕ) (Q : X → Type 0)
+pub made_of_fields : {T X : Type 0} {front : LeadingFields T} {spell : T → List ℕ} {P : T → Type 0} (to : T → X) (from : X → T) (text_of : X → List ℕ) (Q : X → Type 0)
     → Opens front spell P → ((t : T) → P t → (from (to t) ≡ t) × Q (to t)) → ((x : X) → Q x → (to (from x) ≡ x) × P (from x)) → ((x : X) → Q x → spell (from x) ≡ text_of x)
-    → Spells (all_of front to) text_of Q
-made {T} {X} {front} {spell} {P} to from text_of Q opens there back same = record {
+    → IsReaderOf (all_fields front to) text_of Q
+made_of_fields {T} {X} {front} {spell} {P} to from text_of Q opens there back same = record {
   takes = λ place x after each e.
       let o = opens.takes (X × Place) (λ t behind. Ok (to t, behind)) place (x, after) each e in
       let h = there o.value o.is in

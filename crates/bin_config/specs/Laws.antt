@@ -5,7 +5,7 @@ use Rattle.xm_conf.specs.Configuration.{Conf}
 use Rattle.xm_conf.specs.Description.{described}
 use Rattle.xm_conf.specs.Fits.{Fits}
 use Rattle.bin_config.specs.Reading.{read_of}
-use Rattle.bin_config.specs.Spelled.{HasRanges, IsSpelled}
+use Rattle.bin_config.specs.Spelled.{HasConfRanges, IsSpelledConf}
 use Rattle.bin_config.specs.Xmc.{xmc}
 use Rattle.bin_config.specs.declared.fault.XmcFault.TheVariants.{Short, Trailing}
 
@@ -16,7 +16,7 @@ IsPrefixFree = (a b : Conf) (rest : List ℕ) → length (xmc b) < 2 ^ 32 → xm
 -- bytes are the one spelling of a configuration, which can be spelled and meets the rules
 pub record IsSpellingOf (bytes : List ℕ) (conf : Conf) : Type 0 where
   pub text : bytes ≡ xmc conf
-  pub spelled : IsSpelled conf
+  pub spelled : IsSpelledConf conf
   pub fits : Fits (described conf)
 
 -- what is read of bytes is what they spell
@@ -25,18 +25,18 @@ ReadIsSpelled = (bytes : List ℕ) (conf : Conf) → AreBytes bytes → read_of 
 
 -- a configuration whose numbers are in the ranges of their fields, and which meets the rules, is read of its spelling
 abbrev pub SpelledIsRead : Type 0
-SpelledIsRead = (conf : Conf) → HasRanges conf → Fits (described conf) → read_of (xmc conf) ≡ Ok conf
+SpelledIsRead = (conf : Conf) → HasConfRanges conf → Fits (described conf) → read_of (xmc conf) ≡ Ok conf
 
 -- nothing is read of a spelling with something behind it: that begins where the spelling ends
 abbrev pub MoreIsTrailing : Type 0
-MoreIsTrailing = (conf : Conf) (rest : List ℕ) → IsSpelled conf → rest ≢ [] → read_of (xmc conf ++ rest) ≡ Err (Trailing (length (xmc conf)))
+MoreIsTrailing = (conf : Conf) (rest : List ℕ) → IsSpelledConf conf → rest ≢ [] → read_of (xmc conf ++ rest) ≡ Err (Trailing (length (xmc conf)))
 
 -- a spelling that is cut behind its length field is short where it ends
 abbrev pub CutIsShort : Type 0
 CutIsShort =
-    (conf : Conf) (front rest : List ℕ) → IsSpelled conf → xmc conf ≡ front ++ rest → rest ≢ [] → 10 ≤ length front
+    (conf : Conf) (front rest : List ℕ) → IsSpelledConf conf → xmc conf ≡ front ++ rest → rest ≢ [] → 10 ≤ length front
     → read_of front ≡ Err (Short (length front))
 
 -- what can be spelled is shorter than what its length field tells
-abbrev pub IsShort : Type 0
-IsShort = (conf : Conf) → IsSpelled conf → length (xmc conf) < 2 ^ 32
+abbrev pub FitsItsLength : Type 0
+FitsItsLength = (conf : Conf) → IsSpelledConf conf → length (xmc conf) < 2 ^ 32

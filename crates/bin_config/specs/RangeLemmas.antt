@@ -9,7 +9,7 @@ use Rattle.xm_conf.specs.declared.part.Need.{Need}
 use Rattle.xm_conf.specs.declared.channel.ChanKind.{ChanKind}
 use Rattle.xm_conf.specs.declared.channel.ChanKind.TheVariants as chan_kind
 use Rattle.xm_conf.specs.declared.channel.End.{End}
-use Rattle.bin_config.specs.Spelled.{IsSpelledPlan, IsSpelledNeed, IsSpelledPart, IsSpelledChan, IsSpelled, HasPlanRanges, HasNeedRanges, HasPartRanges, HasChanRanges, HasRanges}
+use Rattle.bin_config.specs.Spelled.{IsSpelledPlan, IsSpelledNeed, IsSpelledPart, IsSpelledChan, IsSpelledConf, HasPlanRanges, HasNeedRanges, HasPartRanges, HasChanRanges, HasConfRanges}
 
 -- a plan with few slots
 plan_spelled : (plan : Plan) → HasPlanRanges plan → HasSome plan.slots 64 → IsSpelledPlan plan
@@ -41,7 +41,7 @@ few_dests (chan_kind.Sampling refresh) dests few is = omega (arith, few)
 few_dests (chan_kind.Queuing most) dests few is = omega (arith, is.0)
 
 -- what has its fields' ranges and meets the rules can be spelled
-pub spelled_if_fits : (conf : Conf) → HasRanges conf → Fits (described conf) → IsSpelled conf
+pub spelled_if_fits : (conf : Conf) → HasConfRanges conf → Fits (described conf) → IsSpelledConf conf
 unfolding described
 spelled_if_fits conf h fits = record {
   name = h.name;
@@ -107,7 +107,7 @@ chan_ranges : (chan : Chan) → IsSpelledChan chan → HasChanRanges chan
 chan_ranges chan is = record { kind = is.kind; length = is.length; source = is.source; dests = is.dests.each }
 
 -- what can be spelled has its fields' ranges
-pub ranges_if_spelled : (conf : Conf) → IsSpelled conf → HasRanges conf
+pub ranges_if_spelled : (conf : Conf) → IsSpelledConf conf → HasConfRanges conf
 ranges_if_spelled conf is = record {
   name = is.name;
   regions = is.regions.each;

@@ -2,10 +2,10 @@
 use Rattle.std.specs.Prelude.{ℕ, suc, zero, ◌==◌, Bool, true, false, ◌&&◌, ◌||◌, nat_lt, if◌then◌else◌, List, [], ◌∷◌, length, slice_get, codes, Option, Some, None, Result, Ok, Err}
 use Rattle.std.specs.Str.{bytes_eq}
 use Rattle.std.specs.Int.{Width, w8, w16, w32, from_be_bytes}
-use Rattle.xm_base.specs.Cursor.{Place, start, left, next, past}
+use Rattle.xm_base.specs.Cursor.{Place, cursor_start, left, next, past}
 use Rattle.xm_conf.specs.Configuration.{Plan, Part, Chan, Conf}
 use Rattle.xm_conf.specs.Health.{actions}
-use Rattle.xm_conf.specs.Name.{name_of}
+use Rattle.xm_conf.specs.Name.{name_from_bytes}
 use Rattle.xm_conf.specs.declared.health.Action.{Action}
 use Rattle.xm_conf.specs.declared.plan.Slot.{Slot}
 use Rattle.xm_conf.specs.declared.part.Area.{Area}
@@ -43,16 +43,16 @@ number_at width count place =
     if nat_lt (left place) count then Err (fault.Short place.at) else Ok (from_be_bytes width (next count place), past count place)
 
 -- a number of one byte
-unfoldable pub byte_at : Place → Read ℕ
-byte_at place = number_at w8 1 place
+unfoldable pub byte_field_at : Place → Read ℕ
+byte_field_at place = number_at w8 1 place
 
 -- a number of two bytes
 unfoldable pub half_word_at : Place → Read ℕ
 half_word_at place = number_at w16 2 place
 
 -- a number of four bytes
-unfoldable pub word_at : Place → Read ℕ
-word_at place = number_at w32 4 place
+unfoldable pub word_field_at : Place → Read ℕ
+word_field_at place = number_at w32 4 place
 
 -- a value where there is one; else the field at a place is at fault
 abbrev pub or_fault : {X : Type 0} → ℕ → Place → Option X → Read X
@@ -66,18 +66,18 @@ flag_of byte = if byte == 0 then Some false else if byte == 1 then Some true els
 -- a byte that is 0 or 1
 unfoldable pub flag_at : Place → Read Bool
 flag_at place = do
-  byte ← byte_at place
+  byte ← byte_field_at place
   or_fault place.at byte.1 (flag_of byte.0)
 
 -- the bytes of a text, where so many are left; the text begins at a place
 abbrev pub text_behind : ℕ → ℕ → Place → Read (List ℕ)
 text_behind at count place =
-    if nat_lt (left place) count then Err (fault.Short at) else or_fault at (past count place) (name_of (next count place))
+    if nat_lt (left place) count then Err (fault.Short at) else or_fault at (past count place) (name_from_bytes (next count place))
 
 -- a text
-unfoldable pub text_at : Place → Read (List ℕ)
-text_at place = do
-  count ← byte_at place
+unfoldable pub text_field_at : Place → Read (List ℕ)
+text_field_at place = do
+  count ← byte_field_at place
   text_behind place.at count.0 count.1
 
 -- so many elements, one after another
@@ -91,29 +91,29 @@ elements_at element (suc count) place = do
 -- a byte with the number of elements, and each of them
 abbrev pub counted_at : {X : Type 0} → (Place → Read X) → Place → Read (List X)
 counted_at element place = do
-  count ← byte_at place
+  count ← byte_field_at place
   elements_at element count.0 count.1
 
 -- a region
 unfoldable pub region_at : Place → Read Region
 region_at place = do
-  start ← word_at place
-  size ← word_at start.1
+  start ← word_field_at place
+  size ← word_field_at start.1
   Ok (record { start = start.0; size = size.0 }, size.1)
 
 -- a slot
-unfoldable pub slot_at : Place → Read Slot
-slot_at place = do
-  start ← word_at place
-  duration ← word_at start.1
-  part ← byte_at duration.1
+unfoldable pub slot_record_at : Place → Read Slot
+slot_record_at place = do
+  start ← word_field_at place
+  duration ← word_field_at start.1
+  part ← byte_field_at duration.1
   Ok (record { start = start.0; duration = duration.0; part = part.0 }, part.1)
 
 -- a plan
-unfoldable pub plan_at : Place → Read Plan
-plan_at place = do
-  frame ← word_at place
-  slots ← counted_at slot_at frame.1
+unfoldable pub plan_record_at : Place → Read Plan
+plan_record_at place = do
+  frame ← word_field_at place
+  slots ← counted_at slot_record_at frame.1
   Ok (record { frame = frame.0; slots = slots.0 }, slots.1)
 
 -- the UART of a console
@@ -121,8 +121,8 @@ abbrev pub console_of : ℕ → Option ℕ
 console_of byte = if byte == 255 then None else Some byte
 
 -- a requirement of a duration and a period, which stands at a place: both are 0 or neither
-abbrev pub need_of : ℕ → ℕ → Option (Option Need)
-need_of duration period =
+abbrev pub need_of_numbers : ℕ → ℕ → Option (Option Need)
+need_of_numbers duration period =
     if duration == 0 && period == 0 then Some None
     else if duration == 0 || period == 0 then None
     else Some (Some (record { duration = duration; period = period }))
@@ -130,58 +130,58 @@ need_of duration period =
 -- a requirement
 unfoldable pub need_at : Place → Read (Option Need)
 need_at place = do
-  duration ← word_at place
-  period ← word_at duration.1
-  or_fault duration.1.at period.1 (need_of duration.0 period.0)
+  duration ← word_field_at place
+  period ← word_field_at duration.1
+  or_fault duration.1.at period.1 (need_of_numbers duration.0 period.0)
 
 -- an action
 unfoldable pub action_at : Place → Read Action
 action_at place = do
-  byte ← byte_at place
+  byte ← byte_field_at place
   or_fault place.at byte.1 (slice_get actions byte.0)
 
 -- the flags of the events that are logged
-abbrev pub flags_of : ℕ → Option ℕ
-flags_of flags = if nat_lt flags 4096 then Some flags else None
+abbrev pub logged_flags : ℕ → Option ℕ
+logged_flags flags = if nat_lt flags 4096 then Some flags else None
 
 -- the flags of the events that are logged
 unfoldable pub flags_at : Place → Read ℕ
 flags_at place = do
   flags ← half_word_at place
-  or_fault place.at flags.1 (flags_of flags.0)
+  or_fault place.at flags.1 (logged_flags flags.0)
 
 -- an area
 unfoldable pub area_at : Place → Read Area
 area_at place = do
-  start ← word_at place
-  size ← word_at start.1
+  start ← word_field_at place
+  size ← word_field_at start.1
   read_only ← flag_at size.1
   Ok (record { start = start.0; size = size.0; read_only = read_only.0 }, read_only.1)
 
 -- the kind of a port that a byte means
-abbrev pub kind_of : ℕ → Option Kind
-kind_of byte = if byte == 0 then Some kind.Sampling else if byte == 1 then Some kind.Queuing else None
+abbrev pub kind_of_byte : ℕ → Option Kind
+kind_of_byte byte = if byte == 0 then Some kind.Sampling else if byte == 1 then Some kind.Queuing else None
 
 -- a port's kind
 unfoldable pub kind_at : Place → Read Kind
 kind_at place = do
-  byte ← byte_at place
-  or_fault place.at byte.1 (kind_of byte.0)
+  byte ← byte_field_at place
+  or_fault place.at byte.1 (kind_of_byte byte.0)
 
 -- the way of a port that a byte means
-abbrev pub way_of : ℕ → Option Way
-way_of byte = if byte == 0 then Some way.Source else if byte == 1 then Some way.Destination else None
+abbrev pub way_of_byte : ℕ → Option Way
+way_of_byte byte = if byte == 0 then Some way.Source else if byte == 1 then Some way.Destination else None
 
 -- a port's way
 unfoldable pub way_at : Place → Read Way
 way_at place = do
-  byte ← byte_at place
-  or_fault place.at byte.1 (way_of byte.0)
+  byte ← byte_field_at place
+  or_fault place.at byte.1 (way_of_byte byte.0)
 
 -- a port
-unfoldable pub port_at : Place → Read Port
-port_at place = do
-  name ← text_at place
+unfoldable pub port_record_at : Place → Read Port
+port_record_at place = do
+  name ← text_field_at place
   kind ← kind_at name.1
   way ← way_at kind.1
   Ok (record { name = name.0; kind = kind.0; way = way.0 }, way.1)
@@ -189,22 +189,22 @@ port_at place = do
 -- an end of a channel
 unfoldable pub end_at : Place → Read End
 end_at place = do
-  part ← byte_at place
-  port ← byte_at part.1
+  part ← byte_field_at place
+  port ← byte_field_at part.1
   Ok (record { part = part.0; port = port.0 }, port.1)
 
 -- what a channel's kind has beside it
 unfoldable pub keeps_at : Kind → Place → Read ChanKind
 keeps_at kind.Sampling place = do
-  refresh ← word_at place
+  refresh ← word_field_at place
   Ok (chan_kind.Sampling refresh.0, refresh.1)
 keeps_at kind.Queuing place = do
-  most ← byte_at place
+  most ← byte_field_at place
   Ok (chan_kind.Queuing most.0, most.1)
 
 -- a channel
-unfoldable pub chan_at : Place → Read Chan
-chan_at place = do
+unfoldable pub chan_record_at : Place → Read Chan
+chan_record_at place = do
   kind ← kind_at place
   length ← half_word_at kind.1
   keeps ← keeps_at kind.0 length.1
@@ -217,8 +217,8 @@ unfoldable pub event_count : ℕ
 event_count = 12
 
 -- a partition's table of health events
-unfoldable pub monitor_at : Place → Read HmTable
-monitor_at place = do
+unfoldable pub health_table_at : Place → Read HmTable
+health_table_at place = do
   actions ← elements_at action_at event_count place
   logged ← flags_at actions.1
   Ok (record { actions = actions.0; logged = logged.0 }, logged.1)
@@ -226,20 +226,20 @@ monitor_at place = do
 -- who a partition is, and what time it requires
 unfoldable pub identity_at : Place → Read Identity
 identity_at place = do
-  name ← text_at place
+  name ← text_field_at place
   system ← flag_at name.1
-  console ← byte_at system.1
+  console ← byte_field_at system.1
   need ← need_at console.1
-  trace_mask ← word_at need.1
+  trace_mask ← word_field_at need.1
   Ok (record { name = name.0; system = system.0; console = console_of console.0; need = need.0; trace_mask = trace_mask.0 }, trace_mask.1)
 
 -- a partition
-unfoldable pub part_at : Place → Read Part
-part_at place = do
+unfoldable pub part_record_at : Place → Read Part
+part_record_at place = do
   identity ← identity_at place
-  hm ← monitor_at identity.1
+  hm ← health_table_at identity.1
   areas ← counted_at area_at hm.1
-  ports ← counted_at port_at areas.1
+  ports ← counted_at port_record_at areas.1
   Ok (
     record {
       name = identity.0.name;
@@ -255,15 +255,15 @@ part_at place = do
   )
 
 -- what stands behind the length of the whole
-unfoldable pub conf_at : Place → Read Conf
-conf_at place = do
-  name ← text_at place
+unfoldable pub conf_body_at : Place → Read Conf
+conf_body_at place = do
+  name ← text_field_at place
   regions ← counted_at region_at name.1
-  hv_size ← word_at regions.1
-  uarts ← counted_at text_at hv_size.1
-  plans ← counted_at plan_at uarts.1
-  parts ← counted_at part_at plans.1
-  chans ← counted_at chan_at parts.1
+  hv_size ← word_field_at regions.1
+  uarts ← counted_at text_field_at hv_size.1
+  plans ← counted_at plan_record_at uarts.1
+  parts ← counted_at part_record_at plans.1
+  chans ← counted_at chan_record_at parts.1
   Ok (
     record {
       name = name.0;
@@ -295,8 +295,8 @@ version_at place = do
   known version
 
 -- the bytes are as many as they tell
-abbrev pub whole : ℕ → ℕ → Result (Unit {0}) XmcFault
-whole total told =
+abbrev pub is_whole : ℕ → ℕ → Result (Unit {0}) XmcFault
+is_whole total told =
     if nat_lt total told then Err (fault.Short total) else if nat_lt told total then Err (fault.Trailing told) else Ok tt
 
 -- the first fields: what comes first, the version, and the length of the whole
@@ -304,12 +304,12 @@ unfoldable pub head_at : Place → Read ℕ
 head_at place = do
   magic ← magic_at place
   version ← version_at magic.1
-  told ← word_at version.1
-  whole (length place.bytes) told.0 >>= λ all. Ok told
+  told ← word_field_at version.1
+  is_whole (length place.bytes) told.0 >>= λ all. Ok told
 
 -- nothing is left
-abbrev pub ended : (Conf × Place) → Result Conf XmcFault
-ended conf = if nat_lt 0 (left conf.1) then Err (fault.Trailing conf.1.at) else Ok conf.0
+abbrev pub nothing_left : (Conf × Place) → Result Conf XmcFault
+nothing_left conf = if nat_lt 0 (left conf.1) then Err (fault.Trailing conf.1.at) else Ok conf.0
 
 -- a configuration, where no rule is broken
 abbrev pub unbroken : Conf → Option Broken → Result Conf XmcFault
@@ -317,14 +317,14 @@ unbroken conf None = Ok conf
 unbroken conf (Some broken) = Err (fault.NotFit broken.rule)
 
 -- all fields, and nothing behind them
-unfoldable pub fields_of : List ℕ → Result Conf XmcFault
-fields_of bytes = do
-  head ← head_at (start bytes)
-  conf ← conf_at head.1
-  ended conf
+unfoldable pub conf_fields : List ℕ → Result Conf XmcFault
+conf_fields bytes = do
+  head ← head_at (cursor_start bytes)
+  conf ← conf_body_at head.1
+  nothing_left conf
 
 -- the configuration that bytes are, or the first fault
 unfoldable pub read_of : List ℕ → Result Conf XmcFault
 read_of bytes = do
-  conf ← fields_of bytes
+  conf ← conf_fields bytes
   unbroken conf (first_broken (described conf))

@@ -18,7 +18,7 @@ use Rattle.xm_conf.specs.declared.channel.ChanKind.{ChanKind}
 use Rattle.xm_conf.specs.declared.channel.ChanKind.TheVariants as chan_kind
 use Rattle.xm_conf.specs.declared.channel.End.{End}
 use Rattle.xm_conf.specs.declared.raw.Region.{Region}
-use Rattle.bin_config.specs.Spelled.{AreFew, IsSpelledRegion, IsSpelledSlot, IsSpelledPlan, IsSpelledMonitor, IsSpelledArea, IsSpelledPart, IsSpelledEnd, IsSpelledChan, IsSpelled}
+use Rattle.bin_config.specs.Spelled.{AreFew, IsSpelledRegion, IsSpelledSlot, IsSpelledPlan, IsSpelledMonitor, IsSpelledArea, IsSpelledPart, IsSpelledEnd, IsSpelledChan, IsSpelledConf}
 use Rattle.bin_config.specs.Xmc as xmc
 
 -- a text has at most so many bytes
@@ -38,7 +38,7 @@ half_word_short : (n : ℕ) → HasAtMost 2 (xmc.half_word n)
 half_word_short n = record { is = omega arith }
 
 -- a number of four bytes
-word_short : (n : ℕ) → HasAtMost 4 (xmc.word n)
+word_short : (n : ℕ) → HasAtMost 4 (xmc.word_field n)
 word_short n = record { is = omega arith }
 
 -- elements, each of them short
@@ -49,7 +49,7 @@ each_short spell P m short xs each =
     omega (arith, length-flat_map spell xs, sum)
 
 -- a list of elements, each of them short
-counted_short : {X : Type 0} (spell : X → List ℕ) (P : X → Type 0) (m : ℕ) → ((x : X) → P x → HasAtMost m (spell x)) → (xs : List X) → AreFew P xs → HasAtMost (1 + 255 * m) (xmc.counted spell xs)
+counted_short : {X : Type 0} (spell : X → List ℕ) (P : X → Type 0) (m : ℕ) → ((x : X) → P x → HasAtMost m (spell x)) → (xs : List X) → AreFew P xs → HasAtMost (1 + 255 * m) (xmc.list_field spell xs)
 counted_short spell P m short xs few =
     let all = each_short spell P m short xs few.each in
     let most = mul-le (length xs) m 255 m (omega (arith, few.few)) (omega arith) in
@@ -57,27 +57,27 @@ counted_short spell P m short xs few =
     both_short (byte_short (length xs)) (record { is = sum })
 
 -- a text
-text_short : (name : List ℕ) → IsName name → HasAtMost 32 (xmc.text name)
-unfolding xmc.text
+text_short : (name : List ℕ) → IsName name → HasAtMost 32 (xmc.text_field name)
+unfolding xmc.text_field
 text_short name is = both_short {n = 31} (byte_short (length name)) (record { is = is.most })
 
 -- a region
-region_short : (r : Region) → IsSpelledRegion r → HasAtMost 8 (xmc.region r)
-unfolding xmc.region
+region_short : (r : Region) → IsSpelledRegion r → HasAtMost 8 (xmc.region_record r)
+unfolding xmc.region_record
 region_short r is = both_short (word_short r.start) (word_short r.size)
 
 -- a slot
-slot_short : (s : Slot) → IsSpelledSlot s → HasAtMost 9 (xmc.slot s)
-unfolding xmc.slot
+slot_short : (s : Slot) → IsSpelledSlot s → HasAtMost 9 (xmc.slot_record s)
+unfolding xmc.slot_record
 slot_short s is = both_short (both_short (word_short s.start) (word_short s.duration)) (byte_short s.part)
 
 -- a plan
-plan_short : (p : Plan) → IsSpelledPlan p → HasAtMost 2300 (xmc.plan p)
-unfolding xmc.plan
-plan_short p is = both_short (word_short p.frame) (counted_short xmc.slot IsSpelledSlot 9 slot_short p.slots is.slots)
+plan_short : (p : Plan) → IsSpelledPlan p → HasAtMost 2300 (xmc.plan_record p)
+unfolding xmc.plan_record
+plan_short p is = both_short (word_short p.frame) (counted_short xmc.slot_record IsSpelledSlot 9 slot_short p.slots is.slots)
 
 -- a requirement
-need_short : (need : Option Need) → HasAtMost 8 (xmc.need need)
+need_short : (need : Option Need) → HasAtMost 8 (xmc.need_field need)
 need_short None = both_short (word_short 0) (word_short 0)
 need_short (Some need) = both_short (word_short need.duration) (word_short need.period)
 
@@ -94,13 +94,13 @@ monitor_short hm is =
     both_short {m = 12} (record { is = omega (arith, all, is.actions) }) (half_word_short hm.logged)
 
 -- an area
-area_short : (a : Area) → IsSpelledArea a → HasAtMost 9 (xmc.area a)
-unfolding xmc.area
-area_short a is = both_short (both_short (word_short a.start) (word_short a.size)) (byte_short (xmc.flag a.read_only))
+area_short : (a : Area) → IsSpelledArea a → HasAtMost 9 (xmc.area_record a)
+unfolding xmc.area_record
+area_short a is = both_short (both_short (word_short a.start) (word_short a.size)) (byte_short (xmc.flag_field a.read_only))
 
 -- a port
-port_short : (p : Port) → IsName p.name → HasAtMost 34 (xmc.port p)
-unfolding xmc.port
+port_short : (p : Port) → IsName p.name → HasAtMost 34 (xmc.port_record p)
+unfolding xmc.port_record
 port_short p is = both_short (both_short (text_short p.name is) (byte_short (xmc.kind_byte p.kind))) (byte_short (xmc.way_byte p.way))
 
 -- who a partition is
@@ -108,18 +108,18 @@ identity_short : (p : Part) → IsSpelledPart p → HasAtMost 46 (xmc.identity p
 unfolding xmc.identity
 identity_short p is =
     both_short
-    (both_short (both_short (both_short (text_short p.name is.name) (byte_short (xmc.flag p.system))) (byte_short (xmc.console p.console))) (need_short p.need))
+    (both_short (both_short (both_short (text_short p.name is.name) (byte_short (xmc.flag_field p.system))) (byte_short (xmc.console_field p.console))) (need_short p.need))
     (word_short p.trace_mask)
 
 -- what a partition has
 belongings_short : (p : Part) → IsSpelledPart p → HasAtMost 10967 (xmc.belongings p)
 unfolding xmc.belongings
 belongings_short p is =
-    both_short (counted_short xmc.area IsSpelledArea 9 area_short p.areas is.areas) (counted_short xmc.port (λ port. IsName port.name) 34 port_short p.ports is.ports)
+    both_short (counted_short xmc.area_record IsSpelledArea 9 area_short p.areas is.areas) (counted_short xmc.port_record (λ port. IsName port.name) 34 port_short p.ports is.ports)
 
 -- a partition
-part_short : (p : Part) → IsSpelledPart p → HasAtMost 11027 (xmc.part p)
-unfolding xmc.part
+part_short : (p : Part) → IsSpelledPart p → HasAtMost 11027 (xmc.part_record p)
+unfolding xmc.part_record
 part_short p is = both_short (both_short (identity_short p is) (monitor_short p.hm is.hm)) (belongings_short p is)
 
 -- what a channel's kind has beside it
@@ -141,15 +141,15 @@ chan_short c is =
     (counted_short xmc.end IsSpelledEnd 2 end_short c.dests is.dests)
 
 -- what stands behind the length of the whole
-pub body_short : (conf : Conf) → IsSpelled conf → HasAtMost 3541226 (xmc.body conf)
+pub body_short : (conf : Conf) → IsSpelledConf conf → HasAtMost 3541226 (xmc.body conf)
 unfolding xmc.body
 body_short conf is =
     both_short
     (both_short
     (both_short
     (both_short
-    (both_short (both_short (text_short conf.name is.name) (counted_short xmc.region IsSpelledRegion 8 region_short conf.regions is.regions)) (word_short conf.hv_size))
-    (counted_short xmc.text IsName 32 text_short conf.uarts is.uarts))
-    (counted_short xmc.plan IsSpelledPlan 2300 plan_short conf.plans is.plans))
-    (counted_short xmc.part IsSpelledPart 11027 part_short conf.parts is.parts))
+    (both_short (both_short (text_short conf.name is.name) (counted_short xmc.region_record IsSpelledRegion 8 region_short conf.regions is.regions)) (word_short conf.hv_size))
+    (counted_short xmc.text_field IsName 32 text_short conf.uarts is.uarts))
+    (counted_short xmc.plan_record IsSpelledPlan 2300 plan_short conf.plans is.plans))
+    (counted_short xmc.part_record IsSpelledPart 11027 part_short conf.parts is.parts))
     (counted_short xmc.chan IsSpelledChan 520 chan_short conf.chans is.chans)

@@ -20,8 +20,8 @@ abbrev pub IsHalfWord : ℕ → Type 0
 IsHalfWord n = n < 2 ^ 16
 
 -- a number has four bytes
-abbrev pub IsWord : ℕ → Type 0
-IsWord n = n < 2 ^ 32
+abbrev pub HasFourBytes : ℕ → Type 0
+HasFourBytes n = n < 2 ^ 32
 
 -- a list has no more elements than a byte can tell, and each is so
 pub record AreFew {X : Type 0} (P : X → Type 0) (xs : List X) : Type 0 where
@@ -30,24 +30,24 @@ pub record AreFew {X : Type 0} (P : X → Type 0) (xs : List X) : Type 0 where
 
 -- a region
 pub record IsSpelledRegion (region : Region) : Type 0 where
-  pub start : IsWord region.start
-  pub size : IsWord region.size
+  pub start : HasFourBytes region.start
+  pub size : HasFourBytes region.size
 
 -- a slot
 pub record IsSpelledSlot (slot : Slot) : Type 0 where
-  pub start : IsWord slot.start
-  pub duration : IsWord slot.duration
+  pub start : HasFourBytes slot.start
+  pub duration : HasFourBytes slot.duration
   pub part : IsByte slot.part
 
 -- a plan
 pub record IsSpelledPlan (plan : Plan) : Type 0 where
-  pub frame : IsWord plan.frame
+  pub frame : HasFourBytes plan.frame
   pub slots : AreFew IsSpelledSlot plan.slots
 
 -- a requirement: neither number is 0, since two zeros say that there is none
 pub record IsSpelledNeed (need : Need) : Type 0 where
-  pub duration : IsWord need.duration
-  pub period : IsWord need.period
+  pub duration : HasFourBytes need.duration
+  pub period : HasFourBytes need.period
   pub lasts : need.duration ≢ 0
   pub returns : need.period ≢ 0
 
@@ -58,15 +58,15 @@ pub record IsSpelledMonitor (hm : HmTable) : Type 0 where
 
 -- an area
 pub record IsSpelledArea (area : Area) : Type 0 where
-  pub start : IsWord area.start
-  pub size : IsWord area.size
+  pub start : HasFourBytes area.start
+  pub size : HasFourBytes area.size
 
 -- a partition. A console's UART is not 255, which says that there is none
 pub record IsSpelledPart (part : Part) : Type 0 where
   pub name : IsName part.name
   pub console : IfSome part.console (λ uart. uart < 255)
   pub need : IfSome part.need IsSpelledNeed
-  pub trace_mask : IsWord part.trace_mask
+  pub trace_mask : HasFourBytes part.trace_mask
   pub hm : IsSpelledMonitor part.hm
   pub areas : AreFew IsSpelledArea part.areas
   pub ports : AreFew (λ port. IsName port.name) part.ports
@@ -78,7 +78,7 @@ pub record IsSpelledEnd (end : End) : Type 0 where
 
 -- what a channel's kind has beside it
 abbrev pub IsSpelledKind : ChanKind → Type 0
-IsSpelledKind (chan_kind.Sampling refresh) = IsWord refresh
+IsSpelledKind (chan_kind.Sampling refresh) = HasFourBytes refresh
 IsSpelledKind (chan_kind.Queuing most) = IsByte most
 
 -- a channel
@@ -89,10 +89,10 @@ pub record IsSpelledChan (chan : Chan) : Type 0 where
   pub dests : AreFew IsSpelledEnd chan.dests
 
 -- a configuration
-pub record IsSpelled (conf : Conf) : Type 0 where
+pub record IsSpelledConf (conf : Conf) : Type 0 where
   pub name : IsName conf.name
   pub regions : AreFew IsSpelledRegion conf.regions
-  pub hv_size : IsWord conf.hv_size
+  pub hv_size : HasFourBytes conf.hv_size
   pub uarts : AreFew IsName conf.uarts
   pub plans : AreFew IsSpelledPlan conf.plans
   pub parts : AreFew IsSpelledPart conf.parts
@@ -100,19 +100,19 @@ pub record IsSpelled (conf : Conf) : Type 0 where
 
 -- a plan's numbers are in the ranges of their fields
 pub record HasPlanRanges (plan : Plan) : Type 0 where
-  pub frame : IsWord plan.frame
+  pub frame : HasFourBytes plan.frame
   pub slots : All IsSpelledSlot plan.slots
 
 -- a requirement's numbers are
 pub record HasNeedRanges (need : Need) : Type 0 where
-  pub duration : IsWord need.duration
-  pub period : IsWord need.period
+  pub duration : HasFourBytes need.duration
+  pub period : HasFourBytes need.period
 
 -- a partition's numbers are, its names are names, and it has an action for each of the twelve health events
 pub record HasPartRanges (part : Part) : Type 0 where
   pub name : IsName part.name
   pub need : IfSome part.need HasNeedRanges
-  pub trace_mask : IsWord part.trace_mask
+  pub trace_mask : HasFourBytes part.trace_mask
   pub actions : length part.hm.actions ≡ 12
   pub areas : All IsSpelledArea part.areas
   pub ports : All (λ port. IsName port.name) part.ports
@@ -125,10 +125,10 @@ pub record HasChanRanges (chan : Chan) : Type 0 where
   pub dests : All IsSpelledEnd chan.dests
 
 -- all numbers of a configuration are in the ranges of their fields, and its names are names
-pub record HasRanges (conf : Conf) : Type 0 where
+pub record HasConfRanges (conf : Conf) : Type 0 where
   pub name : IsName conf.name
   pub regions : All IsSpelledRegion conf.regions
-  pub hv_size : IsWord conf.hv_size
+  pub hv_size : HasFourBytes conf.hv_size
   pub uarts : All IsName conf.uarts
   pub plans : All HasPlanRanges conf.plans
   pub parts : All HasPartRanges conf.parts

@@ -23,43 +23,43 @@ abbrev pub half_word : ℕ → List ℕ
 half_word n = to_be_bytes w16 n
 
 -- four bytes of a number, the highest one first
-abbrev pub word : ℕ → List ℕ
-word n = to_be_bytes w32 n
+abbrev pub word_field : ℕ → List ℕ
+word_field n = to_be_bytes w32 n
 
 -- a text: a byte with its length, and its bytes
-unfoldable pub text : List ℕ → List ℕ
-text bytes = (length bytes ∷ []) ++ bytes
+unfoldable pub text_field : List ℕ → List ℕ
+text_field bytes = (length bytes ∷ []) ++ bytes
 
 -- a list: a byte with the number of its elements, and each of them
-abbrev pub counted : {X : Type 0} → (X → List ℕ) → List X → List ℕ
-counted f xs = (length xs ∷ []) ++ flat_map f xs
+abbrev pub list_field : {X : Type 0} → (X → List ℕ) → List X → List ℕ
+list_field f xs = (length xs ∷ []) ++ flat_map f xs
 
 -- whether something is so
-abbrev pub flag : Bool → ℕ
-flag true = 1
-flag false = 0
+abbrev pub flag_field : Bool → ℕ
+flag_field true = 1
+flag_field false = 0
 
 -- a region
-unfoldable pub region : Region → List ℕ
-region r = word r.start ++ word r.size
+unfoldable pub region_record : Region → List ℕ
+region_record r = word_field r.start ++ word_field r.size
 
 -- a slot
-unfoldable pub slot : Slot → List ℕ
-slot s = word s.start ++ word s.duration ++ (s.part ∷ [])
+unfoldable pub slot_record : Slot → List ℕ
+slot_record s = word_field s.start ++ word_field s.duration ++ (s.part ∷ [])
 
 -- a plan
-unfoldable pub plan : Plan → List ℕ
-plan p = word p.frame ++ counted slot p.slots
+unfoldable pub plan_record : Plan → List ℕ
+plan_record p = word_field p.frame ++ list_field slot_record p.slots
 
 -- the UART of a console, or 255 for none
-abbrev pub console : Option ℕ → ℕ
-console None = 255
-console (Some uart) = uart
+abbrev pub console_field : Option ℕ → ℕ
+console_field None = 255
+console_field (Some uart) = uart
 
 -- a requirement, or zeros for none
-abbrev pub need : Option Need → List ℕ
-need None = word 0 ++ word 0
-need (Some n) = word n.duration ++ word n.period
+abbrev pub need_field : Option Need → List ℕ
+need_field None = word_field 0 ++ word_field 0
+need_field (Some n) = word_field n.duration ++ word_field n.period
 
 -- an action's number
 unfoldable pub action : Action → List ℕ
@@ -70,8 +70,8 @@ unfoldable pub monitor : HmTable → List ℕ
 monitor hm = flat_map action hm.actions ++ half_word hm.logged
 
 -- an area
-unfoldable pub area : Area → List ℕ
-area a = word a.start ++ word a.size ++ (flag a.read_only ∷ [])
+unfoldable pub area_record : Area → List ℕ
+area_record a = word_field a.start ++ word_field a.size ++ (flag_field a.read_only ∷ [])
 
 -- a port's kind
 abbrev pub kind_byte : Kind → ℕ
@@ -84,20 +84,20 @@ way_byte way.Source = 0
 way_byte way.Destination = 1
 
 -- a port
-unfoldable pub port : Port → List ℕ
-port p = text p.name ++ (kind_byte p.kind ∷ []) ++ (way_byte p.way ∷ [])
+unfoldable pub port_record : Port → List ℕ
+port_record p = text_field p.name ++ (kind_byte p.kind ∷ []) ++ (way_byte p.way ∷ [])
 
 -- who a partition is, and what time it requires
 unfoldable pub identity : Part → List ℕ
-identity p = text p.name ++ (flag p.system ∷ []) ++ (console p.console ∷ []) ++ need p.need ++ word p.trace_mask
+identity p = text_field p.name ++ (flag_field p.system ∷ []) ++ (console_field p.console ∷ []) ++ need_field p.need ++ word_field p.trace_mask
 
 -- what a partition has
 unfoldable pub belongings : Part → List ℕ
-belongings p = counted area p.areas ++ counted port p.ports
+belongings p = list_field area_record p.areas ++ list_field port_record p.ports
 
 -- a partition
-unfoldable pub part : Part → List ℕ
-part p = identity p ++ monitor p.hm ++ belongings p
+unfoldable pub part_record : Part → List ℕ
+part_record p = identity p ++ monitor p.hm ++ belongings p
 
 -- a channel's kind
 abbrev pub chan_byte : ChanKind → ℕ
@@ -106,7 +106,7 @@ chan_byte (chan_kind.Queuing most) = 1
 
 -- what a channel's kind has beside it
 abbrev pub keeps : ChanKind → List ℕ
-keeps (chan_kind.Sampling refresh) = word refresh
+keeps (chan_kind.Sampling refresh) = word_field refresh
 keeps (chan_kind.Queuing most) = most ∷ []
 
 -- an end of a channel
@@ -115,17 +115,17 @@ end e = (e.part ∷ []) ++ (e.port ∷ [])
 
 -- a channel
 unfoldable pub chan : Chan → List ℕ
-chan c = (chan_byte c.kind ∷ []) ++ half_word c.length ++ keeps c.kind ++ end c.source ++ counted end c.dests
+chan c = (chan_byte c.kind ∷ []) ++ half_word c.length ++ keeps c.kind ++ end c.source ++ list_field end c.dests
 
 -- what stands behind the length of the whole
 unfoldable pub body : Conf → List ℕ
 body conf =
-    text conf.name ++ counted region conf.regions ++ word conf.hv_size ++ counted text conf.uarts ++ counted plan conf.plans
-    ++ counted part conf.parts ++ counted chan conf.chans
+    text_field conf.name ++ list_field region_record conf.regions ++ word_field conf.hv_size ++ list_field text_field conf.uarts ++ list_field plan_record conf.plans
+    ++ list_field part_record conf.parts ++ list_field chan conf.chans
 
 -- the first bytes of a file of so many bytes
 unfoldable pub head : ℕ → List ℕ
-head total = codes "XMCF" ++ half_word 1 ++ word total
+head total = codes "XMCF" ++ half_word 1 ++ word_field total
 
 -- the binary form
 unfoldable pub xmc : Conf → List ℕ

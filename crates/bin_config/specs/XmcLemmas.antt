@@ -10,17 +10,17 @@ use Rattle.std.proofs.lemmas.List.{append-nil, length-append, nil_from_length}
 use Rattle.std.proofs.lemmas.Nat.{from_be_bytes-to_be_bytes_4}
 use Rattle.std.proofs.lemmas.Slice.Eq.{bytes_eq-Decides}
 use Rattle.xm_base.specs.Bytes.{AreBytes}
-use Rattle.xm_base.specs.Cursor.{Place, ahead, left, next, past, start}
+use Rattle.xm_base.specs.Cursor.{Place, ahead, left, next, past, cursor_start}
 use Rattle.xm_conf.specs.Configuration.{Conf}
 use Rattle.xm_conf.specs.Description.{described}
 use Rattle.xm_conf.specs.Laws.{IsBrokenUnlessFits}
 use Rattle.xm_conf.specs.Rules.{first_broken}
 use Rattle.xm_conf.specs.declared.item.Broken.{Broken}
-use Rattle.bin_config.specs.Laws.{IsPrefixFree, ReadIsSpelled, SpelledIsRead, MoreIsTrailing, CutIsShort, IsShort}
-use Rattle.bin_config.specs.Reading.{Read, ◌>>=◌, magic_at, half_word_at, known, version_at, whole, head_at, conf_at, ended, unbroken, fields_of, read_of}
-use Rattle.bin_config.specs.Spelled.{IsSpelled}
-use Rattle.bin_config.specs.Xmc.{half_word, word, body, head, xmc}
-use Rattle.bin_config.specs.FieldLemmas.{Takes, Reads, Spells, stepped, ok_is, went_on, next_take, stands, takes_both, half_word_spells, word_spells}
+use Rattle.bin_config.specs.Laws.{IsPrefixFree, ReadIsSpelled, SpelledIsRead, MoreIsTrailing, CutIsShort, FitsItsLength}
+use Rattle.bin_config.specs.Reading.{Read, ◌>>=◌, magic_at, half_word_at, known, version_at, is_whole, head_at, conf_body_at, nothing_left, unbroken, conf_fields, read_of}
+use Rattle.bin_config.specs.Spelled.{IsSpelledConf}
+use Rattle.bin_config.specs.Xmc.{half_word, word_field, body, head, xmc}
+use Rattle.bin_config.specs.FieldLemmas.{Takes, Reads, IsReaderOf, stepped, ok_is, went_on, next_take, stands_next, takes_both, half_word_spells, word_spells}
 use Rattle.bin_config.specs.FrontLemmas.{Reached, first, then}
 use Rattle.bin_config.specs.RangeLemmas.{spelled_if_fits}
 use Rattle.bin_config.specs.RecordLemmas.{conf_spells}
@@ -38,11 +38,11 @@ unfolding xmc
 length-xmc conf = length-head (10 + length (body conf)) (body conf)
 
 -- the word behind the first six bytes
-abbrev total_at : List ℕ → ℕ
-total_at bytes = from_be_bytes w32 (take 4 (drop 6 bytes))
+abbrev length_word : List ℕ → ℕ
+length_word bytes = from_be_bytes w32 (take 4 (drop 6 bytes))
 
 -- a file tells its total
-total_at-head : (total : ℕ) (rest : List ℕ) → total < 2 ^ 32 → total_at (head total ++ rest) ≡ total
+total_at-head : (total : ℕ) (rest : List ℕ) → total < 2 ^ 32 → length_word (head total ++ rest) ≡ total
 unfolding head
 total_at-head total rest below = from_be_bytes-to_be_bytes_4 total below
 
@@ -53,10 +53,10 @@ prefix_free a b rest below is =
     let own_a : length (xmc a) ≡ 10 + length (body a) = length-xmc a in
     let own_b : length (xmc b) ≡ 10 + length (body b) = length-xmc b in
     let sum : length (xmc b) ≡ length (xmc a) + length rest = ap length is ∙ length-append (xmc a) rest in
-    let told_b : total_at (xmc b) ≡ 10 + length (body b) = total_at-head (10 + length (body b)) (body b) (omega arith) in
-    let told_a : total_at (xmc a ++ rest) ≡ 10 + length (body a) =
-    ap total_at (append_assoc (head (10 + length (body a))) (body a) rest) ∙ total_at-head (10 + length (body a)) (body a ++ rest) (omega arith) in
-    let same : 10 + length (body b) ≡ 10 + length (body a) = sym told_b ∙ ap total_at is ∙ told_a in
+    let told_b : length_word (xmc b) ≡ 10 + length (body b) = total_at-head (10 + length (body b)) (body b) (omega arith) in
+    let told_a : length_word (xmc a ++ rest) ≡ 10 + length (body a) =
+    ap length_word (append_assoc (head (10 + length (body a))) (body a) rest) ∙ total_at-head (10 + length (body a)) (body a ++ rest) (omega arith) in
+    let same : 10 + length (body b) ≡ 10 + length (body a) = sym told_b ∙ ap length_word is ∙ told_a in
     nil_from_length rest (omega arith)
 
 -- a list with something in it
@@ -70,9 +70,9 @@ unfolding head
 front_is size count long = omega (arith, long)
 
 -- a file of as many bytes as it tells
-whole_text : (bytes : List ℕ) (conf : Conf) → bytes ≡ head (length bytes) ++ body conf → bytes ≡ xmc conf
+text_of_whole : (bytes : List ℕ) (conf : Conf) → bytes ≡ head (length bytes) ++ body conf → bytes ≡ xmc conf
 unfolding xmc
-whole_text bytes conf parts = parts ∙ ap (λ size. head size ++ body conf) (ap length parts ∙ length-head (length bytes) (body conf))
+text_of_whole bytes conf parts = parts ∙ ap (λ size. head size ++ body conf) (ap length parts ∙ length-head (length bytes) (body conf))
 
 -- the parts of a file, and of a longer one
 xmc_is : (conf : Conf) (rest : List ℕ) → (xmc conf ≡ head (10 + length (body conf)) ++ body conf) × (xmc conf ++ rest ≡ head (10 + length (body conf)) ++ (body conf ++ rest))
@@ -80,9 +80,9 @@ unfolding xmc
 xmc_is conf rest = (refl, append_assoc (head (10 + length (body conf))) (body conf) rest)
 
 -- the first four bytes that are read
-magic_takes : (place : Place) (n : ℕ) (after : Place) → AreBytes (ahead place) → magic_at place ≡ Ok (n, after) → Takes place (codes "XMCF") after × (n ≡ 4)
+conf_magic_takes : (place : Place) (n : ℕ) (after : Place) → AreBytes (ahead place) → magic_at place ≡ Ok (n, after) → Takes place (codes "XMCF") after × (n ≡ 4)
 unfolding magic_at
-magic_takes place n after each e =
+conf_magic_takes place n after each e =
     let g = went_on (ltb (left place) 4) (fault.Short place.at) (cond {A = Read ℕ} (bytes_eq (next 4 place) (codes "XMCF")) (Ok (4, past 4 place)) (Err fault.Magic)) (n, after) e in
     let m = was (bytes_eq (next 4 place) (codes "XMCF")) g.1 in
     let t = next_take 4 place each (ltb-false _ _ g.0) in
@@ -98,17 +98,17 @@ magic_takes place n after each e =
 magic_again : (place : Place) (n : ℕ) (rest : List ℕ) → n ≡ 4 → ahead place ≡ codes "XMCF" ++ rest → Reads (magic_at place) n rest
 unfolding magic_at
 magic_again place n rest four is =
-    let s = stands 4 place (codes "XMCF") rest refl is in
+    let s = stands_next 4 place (codes "XMCF") rest refl is in
     record { after = past 4 place; is = rw (s.enough, s.next, four) refl; ahead = s.ahead }
 
 -- the first four bytes
-magic_spells : Spells magic_at (λ n. codes "XMCF") (λ n. n ≡ 4)
-magic_spells = record { takes = magic_takes; again = magic_again }
+magic_spells : IsReaderOf magic_at (λ n. codes "XMCF") (λ n. n ≡ 4)
+magic_spells = record { takes = conf_magic_takes; again = magic_again }
 
 -- the version that is read
-version_takes : (place : Place) (n : ℕ) (after : Place) → AreBytes (ahead place) → version_at place ≡ Ok (n, after) → Takes place (half_word 1) after × (n ≡ 1)
+conf_version_takes : (place : Place) (n : ℕ) (after : Place) → AreBytes (ahead place) → version_at place ≡ Ok (n, after) → Takes place (half_word 1) after × (n ≡ 1)
 unfolding version_at
-version_takes place n after each e =
+conf_version_takes place n after each e =
     let v = stepped (half_word_at place) known (n, after) e in
     let t = half_word_spells.takes place v.value.0 v.value.1 each v.is in
     let k = was (v.value.0 == 1) v.led in
@@ -128,22 +128,22 @@ version_again place n rest one is =
     record { after = r.after; is = rw (r.is, one) refl; ahead = r.ahead }
 
 -- the version
-version_spells : Spells version_at (λ n. half_word 1) (λ n. n ≡ 1)
-version_spells = record { takes = version_takes; again = version_again }
+version_spells : IsReaderOf version_at (λ n. half_word 1) (λ n. n ≡ 1)
+version_spells = record { takes = conf_version_takes; again = version_again }
 
 -- the first fields that are read: the bytes are as many as they tell
-head_takes : (bytes : List ℕ) (told : ℕ × Place) → AreBytes bytes → head_at (start bytes) ≡ Ok told → Takes (start bytes) (head (length bytes)) told.1
+head_takes : (bytes : List ℕ) (told : ℕ × Place) → AreBytes bytes → head_at (cursor_start bytes) ≡ Ok told → Takes (cursor_start bytes) (head (length bytes)) told.1
 unfolding head_at head
 head_takes bytes told each e =
     let fields = then (then (first magic_spells) version_spells) word_spells in
-    let o = fields.takes (ℕ × Place) (λ t behind. whole (length bytes) t.1 >>= λ all. Ok (t.1, behind)) (start bytes) told each e in
-    let w = stepped (whole (length bytes) o.value.1) (λ all. Ok (o.value.1, o.after)) told o.led in
+    let o = fields.takes (ℕ × Place) (λ t behind. is_whole (length bytes) t.1 >>= λ all. Ok (t.1, behind)) (cursor_start bytes) told each e in
+    let w = stepped (is_whole (length bytes) o.value.1) (λ all. Ok (o.value.1, o.after)) told o.led in
     let size : o.value.1 ≡ length bytes = whole_is (length bytes) o.value.1 w.value w.is in
     let behind : o.after ≡ told.1 = ap (λ x. x.1) (ok_is (o.value.1, o.after) told w.led) in
-    subst (λ (place : Place). Takes (start bytes) (codes "XMCF" ++ half_word 1 ++ word (length bytes)) place) behind
-    (subst (λ (n : ℕ). Takes (start bytes) (codes "XMCF" ++ half_word 1 ++ word n) o.after) size o.takes)
+    subst (λ (place : Place). Takes (cursor_start bytes) (codes "XMCF" ++ half_word 1 ++ word_field (length bytes)) place) behind
+    (subst (λ (n : ℕ). Takes (cursor_start bytes) (codes "XMCF" ++ half_word 1 ++ word_field n) o.after) size o.takes)
   where
-    whole_is : (total size : ℕ) (all : Unit {0}) → whole total size ≡ Ok all → size ≡ total
+    whole_is : (total size : ℕ) (all : Unit {0}) → is_whole total size ≡ Ok all → size ≡ total
     whole_is total size all is =
         let a = went_on (ltb total size) (fault.Short total) (cond (ltb size total) (Err (fault.Trailing size)) (Ok tt)) all is in
         let b = went_on (ltb size total) (fault.Trailing size) (Ok tt) all a.1 in
@@ -151,54 +151,54 @@ head_takes bytes told each e =
 
 -- the first fields, where they stand
 head_again : (bytes : List ℕ) (size : ℕ) (rest : List ℕ) → size < 2 ^ 32 → bytes ≡ head size ++ rest
-    → Reached (head_at (start bytes)) (λ behind. whole (length bytes) size >>= λ all. Ok (size, behind)) rest
+    → Reached (head_at (cursor_start bytes)) (λ behind. is_whole (length bytes) size >>= λ all. Ok (size, behind)) rest
 unfolding head_at head
 head_again bytes size rest below is =
     let fields = then (then (first magic_spells) version_spells) word_spells in
-    fields.again (ℕ × Place) (λ t behind. whole (length bytes) t.1 >>= λ all. Ok (t.1, behind)) (start bytes) ((4, 1), size) rest ((refl, refl), below) is
+    fields.again (ℕ × Place) (λ t behind. is_whole (length bytes) t.1 >>= λ all. Ok (t.1, behind)) (cursor_start bytes) ((4, 1), size) rest ((refl, refl), below) is
 
 -- fields that are read are a spelling
-fields_takes : (bytes : List ℕ) (conf : Conf) → AreBytes bytes → fields_of bytes ≡ Ok conf → (bytes ≡ xmc conf) × IsSpelled conf
-unfolding fields_of
+fields_takes : (bytes : List ℕ) (conf : Conf) → AreBytes bytes → conf_fields bytes ≡ Ok conf → (bytes ≡ xmc conf) × IsSpelledConf conf
+unfolding conf_fields
 fields_takes bytes conf each e =
-    let h = stepped (head_at (start bytes)) (λ head. conf_at head.1 >>= λ c. ended c) conf e in
-    let c = stepped (conf_at h.value.1) (λ c. ended c) conf h.led in
+    let h = stepped (head_at (cursor_start bytes)) (λ head. conf_body_at head.1 >>= λ c. nothing_left c) conf e in
+    let c = stepped (conf_body_at h.value.1) (λ c. nothing_left c) conf h.led in
     let n = went_on (ltb 0 (left c.value.1)) (fault.Trailing c.value.1.at) (Ok c.value.0) conf c.led in
     let is : c.value.0 ≡ conf = ok_is c.value.0 conf n.1 in
     let first = head_takes bytes h.value each h.is in
     let second = conf_spells.takes h.value.1 c.value.0 c.value.1 first.rest c.is in
     let none : ahead c.value.1 ≡ [] = nil_from_length (ahead c.value.1) (omega (arith, ltb-false 0 (left c.value.1) n.0)) in
-    let both = takes_both (start bytes) (head (length bytes)) h.value.1 (body c.value.0) c.value.1 first second.0 in
+    let both = takes_both (cursor_start bytes) (head (length bytes)) h.value.1 (body c.value.0) c.value.1 first second.0 in
     let parts : bytes ≡ head (length bytes) ++ body c.value.0
     = both.parts ∙ ap (λ rest. (head (length bytes) ++ body c.value.0) ++ rest) none ∙ append-nil (head (length bytes) ++ body c.value.0) in
-    let P : Conf → Type 0 = λ x. (bytes ≡ xmc x) × IsSpelled x in
-    subst P is (whole_text bytes c.value.0 parts, second.1)
+    let P : Conf → Type 0 = λ x. (bytes ≡ xmc x) × IsSpelledConf x in
+    subst P is (text_of_whole bytes c.value.0 parts, second.1)
 
 -- a spelling is read
-fields_again : (conf : Conf) → IsSpelled conf → length (xmc conf) < 2 ^ 32 → fields_of (xmc conf) ≡ Ok conf
-unfolding fields_of
+fields_again : (conf : Conf) → IsSpelledConf conf → length (xmc conf) < 2 ^ 32 → conf_fields (xmc conf) ≡ Ok conf
+unfolding conf_fields
 fields_again conf spelled below =
     let size : ℕ = 10 + length (body conf) in
     let r = head_again (xmc conf) size (body conf) (omega (arith, below, length-xmc conf)) (xmc_is conf []).0 in
     let c = conf_spells.again r.after conf [] spelled (r.ahead ∙ sym (append-nil (body conf))) in
-    let all : whole (length (xmc conf)) size ≡ Ok tt = ap (λ n. whole n size) (length-xmc conf) ∙ whole_same size in
+    let all : is_whole (length (xmc conf)) size ≡ Ok tt = ap (λ n. is_whole n size) (length-xmc conf) ∙ whole_same size in
     let none : ltb 0 (left c.after) ≡ false = ap (λ rest. ltb 0 (length rest)) c.ahead in
     rw (r.is, all, c.is, none) refl
   where
-    whole_same : (size : ℕ) → whole size size ≡ Ok tt
+    whole_same : (size : ℕ) → is_whole size size ≡ Ok tt
     whole_same size = let same : ltb size size ≡ false = le-ltb size size (omega arith) in rw same refl
 
 -- nothing is read of a spelling with something behind it
-fields_more : (conf : Conf) (rest : List ℕ) → length (xmc conf) < 2 ^ 32 → rest ≢ [] → fields_of (xmc conf ++ rest) ≡ Err (fault.Trailing (length (xmc conf)))
-unfolding fields_of
+fields_more : (conf : Conf) (rest : List ℕ) → length (xmc conf) < 2 ^ 32 → rest ≢ [] → conf_fields (xmc conf ++ rest) ≡ Err (fault.Trailing (length (xmc conf)))
+unfolding conf_fields
 fields_more conf rest below some =
     let size : ℕ = 10 + length (body conf) in
     let r = head_again (xmc conf ++ rest) size (body conf ++ rest) (omega (arith, below, length-xmc conf)) (xmc_is conf rest).1 in
     let more : size < length (xmc conf ++ rest) = omega (arith, length-xmc conf, length-append (xmc conf) rest, some_length rest some) in
-    let all : whole (length (xmc conf ++ rest)) size ≡ Err (fault.Trailing size) = whole_more (length (xmc conf ++ rest)) size more in
+    let all : is_whole (length (xmc conf ++ rest)) size ≡ Err (fault.Trailing size) = whole_more (length (xmc conf ++ rest)) size more in
     rw (r.is, all) (ap (λ n. Err (fault.Trailing n)) (sym (length-xmc conf)))
   where
-    whole_more : (total size : ℕ) → size < total → whole total size ≡ Err (fault.Trailing size)
+    whole_more : (total size : ℕ) → size < total → is_whole total size ≡ Err (fault.Trailing size)
     whole_more total size less =
         let long : ltb total size ≡ false = le-ltb total size (omega (arith, less)) in
         let short : ltb size total ≡ true = lt-ltb size total less in
@@ -206,8 +206,8 @@ fields_more conf rest below some =
 
 -- nothing is read of a front of a spelling that ends behind the length field
 fields_cut : (conf : Conf) (front rest : List ℕ) → length (xmc conf) < 2 ^ 32 → xmc conf ≡ front ++ rest → rest ≢ [] → 10 ≤ length front
-    → fields_of front ≡ Err (fault.Short (length front))
-unfolding fields_of
+    → conf_fields front ≡ Err (fault.Short (length front))
+unfolding conf_fields
 fields_cut conf front rest below is some long =
     let size : ℕ = 10 + length (body conf) in
     let sum : size ≡ length front + length rest = sym (length-xmc conf) ∙ ap length is ∙ length-append front rest in
@@ -218,16 +218,16 @@ fields_cut conf front rest below is some long =
     ∙ take-append-add (head size) (body conf) (length front - 10) in
     let r = head_again front size (take (length front - 10) (body conf)) (omega (arith, below, length-xmc conf)) begins in
     let less : length front < size = omega (arith, sum, some_length rest some) in
-    let all : whole (length front) size ≡ Err (fault.Short (length front)) = let test : ltb (length front) size ≡ true = lt-ltb (length front) size less in rw test refl in
+    let all : is_whole (length front) size ≡ Err (fault.Short (length front)) = let test : ltb (length front) size ≡ true = lt-ltb (length front) size less in rw test refl in
     rw (r.is, all) refl
 
 -- what is read of bytes is what they spell
 pub read_spelled : IsBrokenUnlessFits → ReadIsSpelled
 unfolding read_of
 read_spelled law bytes conf each e =
-    let f = stepped (fields_of bytes) (λ c. unbroken c (first_broken (described c))) conf e in
+    let f = stepped (conf_fields bytes) (λ c. unbroken c (first_broken (described c))) conf e in
     let u = was f.value (first_broken (described f.value)) f.led in
-    let fields : fields_of bytes ≡ Ok conf = f.is ∙ ap (λ c. Ok c) u.0 in
+    let fields : conf_fields bytes ≡ Ok conf = f.is ∙ ap (λ c. Ok c) u.0 in
     let t = fields_takes bytes conf each fields in
     record { text = t.0; spelled = t.1; fits = (law (described conf)).0 (ap (λ c. first_broken (described c)) (sym u.0) ∙ u.1) }
   where
@@ -236,14 +236,14 @@ read_spelled law bytes conf each e =
     was c (Some broken) is = absurd cc
 
 -- what can be spelled is shorter than what its length field tells
-pub xmc_short : IsShort
+pub xmc_short : FitsItsLength
 xmc_short conf spelled = omega (arith, length-xmc conf, (body_short conf spelled).is)
 
 -- a configuration that can be spelled and breaks no rule is read of its spelling
-pub unbroken_read : (conf : Conf) → IsSpelled conf → first_broken (described conf) ≡ None → read_of (xmc conf) ≡ Ok conf
+pub unbroken_read : (conf : Conf) → IsSpelledConf conf → first_broken (described conf) ≡ None → read_of (xmc conf) ≡ Ok conf
 unfolding read_of
 unbroken_read conf spelled none =
-    let fields : fields_of (xmc conf) ≡ Ok conf = fields_again conf spelled (xmc_short conf spelled) in
+    let fields : conf_fields (xmc conf) ≡ Ok conf = fields_again conf spelled (xmc_short conf spelled) in
     rw (fields, none) refl
 
 -- a configuration whose numbers are in the ranges of their fields, and which meets the rules, is read of its spelling

@@ -25,9 +25,9 @@ pub enum XmcFault {
 
 impl fmt::Display for XmcFault {
     ghost use Rattle.std.specs.Prelude.{Some};
-    ghost use Rattle.bin_config.specs.Texts.{fault_text};
+    ghost use Rattle.bin_config.specs.Texts.{xmc_fault_text};
 
-    ghost output = { λ fault. Some (fault_text fault) };
+    ghost output = { λ fault. Some (xmc_fault_text fault) };
 
     fn fmt<W: fmt::Write>(&self, f: &mut fmt::Formatter<W>) -> fmt::Result {
         match self {

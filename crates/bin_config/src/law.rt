@@ -3,7 +3,7 @@
 ghost use Rattle.bin_config.specs.Laws.{
   CutIsShort,
   IsPrefixFree,
-  IsShort,
+  FitsItsLength,
   MoreIsTrailing,
   ReadIsSpelled,
   SpelledIsRead,
@@ -42,5 +42,5 @@ pub fn prefix_free()
 
 /// The length of a spelling is one that it can tell.
 pub fn spelling_is_short()
-    ensures law { IsShort }
+    ensures law { FitsItsLength }
 {}

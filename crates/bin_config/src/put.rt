@@ -35,7 +35,7 @@ pub(crate) fn put_half_word(bytes: &mut Vec<u8>, number: u16) -> Result<(), Memo
 
 /// Puts a number of four bytes.
 pub(crate) fn put_word(bytes: &mut Vec<u8>, number: u32) -> Result<(), Memory>
-    ensures { Puts result bytes.old.items bytes.new.items (xmc.word number) }
+    ensures { Puts result bytes.old.items bytes.new.items (xmc.word_field number) }
 {
     let mut piece = [0; 4];
     BigEndian::write_u32(&mut piece, number);

@@ -20,9 +20,9 @@ use xm_conf::{
 };
 
 /// A number of one byte.
-#[tactic(auto, unfolding(crate::specs::Reading::byte_at))]
+#[tactic(auto, unfolding(crate::specs::Reading::byte_field_at))]
 fn byte(cursor: &mut Cursor<'_>) -> Result<u8, XmcFault>
-    ensures { Gives result cursor.new (reading.byte_at cursor.old) }
+    ensures { Gives result cursor.new (reading.byte_field_at cursor.old) }
 {
     Ok(cursor.u8()?)
 }
@@ -36,9 +36,9 @@ fn half_word(cursor: &mut Cursor<'_>) -> Result<u16, XmcFault>
 }
 
 /// A number of four bytes.
-#[tactic(auto, unfolding(crate::specs::Reading::word_at))]
+#[tactic(auto, unfolding(crate::specs::Reading::word_field_at))]
 fn word(cursor: &mut Cursor<'_>) -> Result<u32, XmcFault>
-    ensures { Gives result cursor.new (reading.word_at cursor.old) }
+    ensures { Gives result cursor.new (reading.word_field_at cursor.old) }
 {
     Ok(cursor.u32()?)
 }
@@ -54,9 +54,9 @@ fn region(cursor: &mut Cursor<'_>) -> Result<Region, XmcFault>
 }
 
 /// A slot.
-#[tactic(auto, unfolding(crate::specs::Reading::slot_at))]
+#[tactic(auto, unfolding(crate::specs::Reading::slot_record_at))]
 fn slot(cursor: &mut Cursor<'_>) -> Result<Slot, XmcFault>
-    ensures { Gives result cursor.new (reading.slot_at cursor.old) }
+    ensures { Gives result cursor.new (reading.slot_record_at cursor.old) }
 {
     let start = word(cursor)?;
     let duration = word(cursor)?;
@@ -108,9 +108,9 @@ fn text_behind(at: usize, count: u8, cursor: &mut Cursor<'_>) -> Result<Name, Xm
 }
 
 /// A text.
-#[tactic(auto, unfolding(crate::specs::Reading::text_at))]
+#[tactic(auto, unfolding(crate::specs::Reading::text_field_at))]
 fn text(cursor: &mut Cursor<'_>) -> Result<Name, XmcFault>
-    ensures { Gives result cursor.new (reading.text_at cursor.old) }
+    ensures { Gives result cursor.new (reading.text_field_at cursor.old) }
 {
     let at = cursor.at();
     let count = byte(cursor)?;
@@ -119,7 +119,7 @@ fn text(cursor: &mut Cursor<'_>) -> Result<Name, XmcFault>
 
 /// The kind of a port that a byte means.
 fn kind_of(byte: u8) -> Option<Kind>
-    ensures { result ≡ reading.kind_of byte }
+    ensures { result ≡ reading.kind_of_byte byte }
 {
     if byte == 0 {
         return Some(Kind::Sampling);
@@ -145,7 +145,7 @@ fn kind(cursor: &mut Cursor<'_>) -> Result<Kind, XmcFault>
 
 /// The way of a port that a byte means.
 fn way_of(byte: u8) -> Option<Way>
-    ensures { result ≡ reading.way_of byte }
+    ensures { result ≡ reading.way_of_byte byte }
 {
     if byte == 0 {
         return Some(Way::Source);
@@ -170,9 +170,9 @@ fn way(cursor: &mut Cursor<'_>) -> Result<Way, XmcFault>
 }
 
 /// A port.
-#[tactic(auto, unfolding(crate::specs::Reading::port_at))]
+#[tactic(auto, unfolding(crate::specs::Reading::port_record_at))]
 fn port(cursor: &mut Cursor<'_>) -> Result<Port, XmcFault>
-    ensures { Gives result cursor.new (reading.port_at cursor.old) }
+    ensures { Gives result cursor.new (reading.port_record_at cursor.old) }
 {
     let name = text(cursor)?;
     let kind = kind(cursor)?;
@@ -224,7 +224,7 @@ fn keeps(kind: Kind, cursor: &mut Cursor<'_>) -> Result<ChanKind, XmcFault>
 
 /// A requirement of a duration and a period: both are 0 or neither.
 fn need_of(duration: u32, period: u32) -> Option<Option<Need>>
-    ensures { result ≡ reading.need_of duration period }
+    ensures { result ≡ reading.need_of_numbers duration period }
 {
     if duration == 0 && period == 0 {
         return Some(None);
@@ -251,7 +251,7 @@ fn need(cursor: &mut Cursor<'_>) -> Result<Option<Need>, XmcFault>
 
 /// The flags of the events that are logged.
 fn flags_of(byte: u16) -> Option<u16>
-    ensures { result ≡ reading.flags_of byte }
+    ensures { result ≡ reading.logged_flags byte }
 {
     if byte < 4096 {
         return Some(byte);
@@ -296,7 +296,7 @@ fn regions(alloc: Global, cursor: &mut Cursor<'_>) -> Result<Vec<Region>, XmcFau
 /// Slots.
 #[tactic(auto, using(crate::proofs::ElementsLemmas::elements_loop))]
 fn each_slot(alloc: Global, count: u8, cursor: &mut Cursor<'_>) -> Result<Vec<Slot>, XmcFault>
-    ensures { GivesItems result cursor.new (reading.elements_at reading.slot_at count cursor.old) }
+    ensures { GivesItems result cursor.new (reading.elements_at reading.slot_record_at count cursor.old) }
 {
     let mut slots = Vec::new(alloc);
     for _ in 0..count {
@@ -308,16 +308,16 @@ fn each_slot(alloc: Global, count: u8, cursor: &mut Cursor<'_>) -> Result<Vec<Sl
 
 /// Slots.
 fn slots(alloc: Global, cursor: &mut Cursor<'_>) -> Result<Vec<Slot>, XmcFault>
-    ensures { GivesItems result cursor.new (reading.counted_at reading.slot_at cursor.old) }
+    ensures { GivesItems result cursor.new (reading.counted_at reading.slot_record_at cursor.old) }
 {
     let count = byte(cursor)?;
     each_slot(alloc, count, cursor)
 }
 
 /// A plan.
-#[tactic(auto, unfolding(crate::specs::Reading::plan_at))]
+#[tactic(auto, unfolding(crate::specs::Reading::plan_record_at))]
 fn plan(alloc: Global, cursor: &mut Cursor<'_>) -> Result<Plan, XmcFault>
-    ensures { Gives result cursor.new (reading.plan_at cursor.old) }
+    ensures { Gives result cursor.new (reading.plan_record_at cursor.old) }
 {
     let frame = word(cursor)?;
     let slots = slots(alloc, cursor)?;
@@ -327,7 +327,7 @@ fn plan(alloc: Global, cursor: &mut Cursor<'_>) -> Result<Plan, XmcFault>
 /// Plans.
 #[tactic(auto, using(crate::proofs::ElementsLemmas::elements_loop))]
 fn each_plan(alloc: Global, count: u8, cursor: &mut Cursor<'_>) -> Result<Vec<Plan>, XmcFault>
-    ensures { GivesItems result cursor.new (reading.elements_at reading.plan_at count cursor.old) }
+    ensures { GivesItems result cursor.new (reading.elements_at reading.plan_record_at count cursor.old) }
 {
     let mut plans = Vec::new(alloc);
     for _ in 0..count {
@@ -339,7 +339,7 @@ fn each_plan(alloc: Global, count: u8, cursor: &mut Cursor<'_>) -> Result<Vec<Pl
 
 /// Plans.
 fn plans(alloc: Global, cursor: &mut Cursor<'_>) -> Result<Vec<Plan>, XmcFault>
-    ensures { GivesItems result cursor.new (reading.counted_at reading.plan_at cursor.old) }
+    ensures { GivesItems result cursor.new (reading.counted_at reading.plan_record_at cursor.old) }
 {
     let count = byte(cursor)?;
     each_plan(alloc, count, cursor)
@@ -348,7 +348,7 @@ fn plans(alloc: Global, cursor: &mut Cursor<'_>) -> Result<Vec<Plan>, XmcFault>
 /// Names.
 #[tactic(auto, using(crate::proofs::ElementsLemmas::elements_loop))]
 fn each_text(alloc: Global, count: u8, cursor: &mut Cursor<'_>) -> Result<Vec<Name>, XmcFault>
-    ensures { GivesItems result cursor.new (reading.elements_at reading.text_at count cursor.old) }
+    ensures { GivesItems result cursor.new (reading.elements_at reading.text_field_at count cursor.old) }
 {
     let mut texts = Vec::new(alloc);
     for _ in 0..count {
@@ -360,7 +360,7 @@ fn each_text(alloc: Global, count: u8, cursor: &mut Cursor<'_>) -> Result<Vec<Na
 
 /// Names.
 fn texts(alloc: Global, cursor: &mut Cursor<'_>) -> Result<Vec<Name>, XmcFault>
-    ensures { GivesItems result cursor.new (reading.counted_at reading.text_at cursor.old) }
+    ensures { GivesItems result cursor.new (reading.counted_at reading.text_field_at cursor.old) }
 {
     let count = byte(cursor)?;
     each_text(alloc, count, cursor)
@@ -390,7 +390,7 @@ fn areas(alloc: Global, cursor: &mut Cursor<'_>) -> Result<Vec<Area>, XmcFault>
 /// Ports.
 #[tactic(auto, using(crate::proofs::ElementsLemmas::elements_loop))]
 fn each_port(alloc: Global, count: u8, cursor: &mut Cursor<'_>) -> Result<Vec<Port>, XmcFault>
-    ensures { GivesItems result cursor.new (reading.elements_at reading.port_at count cursor.old) }
+    ensures { GivesItems result cursor.new (reading.elements_at reading.port_record_at count cursor.old) }
 {
     let mut ports = Vec::new(alloc);
     for _ in 0..count {
@@ -402,7 +402,7 @@ fn each_port(alloc: Global, count: u8, cursor: &mut Cursor<'_>) -> Result<Vec<Po
 
 /// Ports.
 fn ports(alloc: Global, cursor: &mut Cursor<'_>) -> Result<Vec<Port>, XmcFault>
-    ensures { GivesItems result cursor.new (reading.counted_at reading.port_at cursor.old) }
+    ensures { GivesItems result cursor.new (reading.counted_at reading.port_record_at cursor.old) }
 {
     let count = byte(cursor)?;
     each_port(alloc, count, cursor)
@@ -430,9 +430,9 @@ fn ends(alloc: Global, cursor: &mut Cursor<'_>) -> Result<Vec<End>, XmcFault>
 }
 
 /// A channel.
-#[tactic(auto, unfolding(crate::specs::Reading::chan_at))]
+#[tactic(auto, unfolding(crate::specs::Reading::chan_record_at))]
 fn chan(alloc: Global, cursor: &mut Cursor<'_>) -> Result<Chan, XmcFault>
-    ensures { Gives result cursor.new (reading.chan_at cursor.old) }
+    ensures { Gives result cursor.new (reading.chan_record_at cursor.old) }
 {
     let kind = kind(cursor)?;
     let length = half_word(cursor)?;
@@ -450,7 +450,7 @@ fn chan(alloc: Global, cursor: &mut Cursor<'_>) -> Result<Chan, XmcFault>
 /// Channels.
 #[tactic(auto, using(crate::proofs::ElementsLemmas::elements_loop))]
 fn each_chan(alloc: Global, count: u8, cursor: &mut Cursor<'_>) -> Result<Vec<Chan>, XmcFault>
-    ensures { GivesItems result cursor.new (reading.elements_at reading.chan_at count cursor.old) }
+    ensures { GivesItems result cursor.new (reading.elements_at reading.chan_record_at count cursor.old) }
 {
     let mut chans = Vec::new(alloc);
     for _ in 0..count {
@@ -462,7 +462,7 @@ fn each_chan(alloc: Global, count: u8, cursor: &mut Cursor<'_>) -> Result<Vec<Ch
 
 /// Channels.
 fn chans(alloc: Global, cursor: &mut Cursor<'_>) -> Result<Vec<Chan>, XmcFault>
-    ensures { GivesItems result cursor.new (reading.counted_at reading.chan_at cursor.old) }
+    ensures { GivesItems result cursor.new (reading.counted_at reading.chan_record_at cursor.old) }
 {
     let count = byte(cursor)?;
     each_chan(alloc, count, cursor)
@@ -515,9 +515,9 @@ fn fill(places: &mut [Action], cursor: &mut Cursor<'_>) -> Result<(), XmcFault>
 }
 
 /// A partition's table of health events.
-#[tactic(auto, unfolding(crate::specs::Reading::monitor_at, crate::specs::Reading::event_count))]
+#[tactic(auto, unfolding(crate::specs::Reading::health_table_at, crate::specs::Reading::event_count))]
 fn monitor(cursor: &mut Cursor<'_>) -> Result<HmTable, XmcFault>
-    ensures { Gives result cursor.new (reading.monitor_at cursor.old) }
+    ensures { Gives result cursor.new (reading.health_table_at cursor.old) }
 {
     let mut actions = [Action::Ignore; 12];
     fill(&mut actions, cursor)?;
@@ -555,9 +555,9 @@ fn identity(cursor: &mut Cursor<'_>) -> Result<Identity, XmcFault>
 }
 
 /// A partition.
-#[tactic(auto, unfolding(crate::specs::Reading::part_at))]
+#[tactic(auto, unfolding(crate::specs::Reading::part_record_at))]
 fn part(alloc: Global, cursor: &mut Cursor<'_>) -> Result<Part, XmcFault>
-    ensures { Gives result cursor.new (reading.part_at cursor.old) }
+    ensures { Gives result cursor.new (reading.part_record_at cursor.old) }
 {
     let identity = identity(cursor)?;
     let hm = monitor(cursor)?;
@@ -578,7 +578,7 @@ fn part(alloc: Global, cursor: &mut Cursor<'_>) -> Result<Part, XmcFault>
 /// Partitions.
 #[tactic(auto, using(crate::proofs::ElementsLemmas::elements_loop))]
 fn each_part(alloc: Global, count: u8, cursor: &mut Cursor<'_>) -> Result<Vec<Part>, XmcFault>
-    ensures { GivesItems result cursor.new (reading.elements_at reading.part_at count cursor.old) }
+    ensures { GivesItems result cursor.new (reading.elements_at reading.part_record_at count cursor.old) }
 {
     let mut parts = Vec::new(alloc);
     for _ in 0..count {
@@ -590,16 +590,16 @@ fn each_part(alloc: Global, count: u8, cursor: &mut Cursor<'_>) -> Result<Vec<Pa
 
 /// Partitions.
 fn parts(alloc: Global, cursor: &mut Cursor<'_>) -> Result<Vec<Part>, XmcFault>
-    ensures { GivesItems result cursor.new (reading.counted_at reading.part_at cursor.old) }
+    ensures { GivesItems result cursor.new (reading.counted_at reading.part_record_at cursor.old) }
 {
     let count = byte(cursor)?;
     each_part(alloc, count, cursor)
 }
 
 /// What stands behind the length of the whole.
-#[tactic(auto, unfolding(crate::specs::Reading::conf_at))]
+#[tactic(auto, unfolding(crate::specs::Reading::conf_body_at))]
 fn conf(alloc: Global, cursor: &mut Cursor<'_>) -> Result<RawConf, XmcFault>
-    ensures { Gives result cursor.new (reading.conf_at cursor.old) }
+    ensures { Gives result cursor.new (reading.conf_body_at cursor.old) }
 {
     let name = text(cursor)?;
     let regions = regions(alloc, cursor)?;
@@ -666,7 +666,7 @@ fn head(total: usize, cursor: &mut Cursor<'_>) -> Result<u32, XmcFault>
 
 /// The bytes are as many as they tell.
 fn is_whole(total: usize, told: u32) -> Result<(), XmcFault>
-    ensures { GivesWhole result (reading.whole total told) }
+    ensures { GivesWhole result (reading.is_whole total told) }
 {
     let length = told as usize;
     if total < length {
@@ -679,9 +679,9 @@ fn is_whole(total: usize, told: u32) -> Result<(), XmcFault>
 }
 
 /// All fields, and nothing behind them.
-#[tactic(auto, unfolding(crate::specs::Reading::fields_of))]
+#[tactic(auto, unfolding(crate::specs::Reading::conf_fields))]
 fn fields(alloc: Global, bytes: &[u8]) -> Result<RawConf, XmcFault>
-    ensures { GivesWhole result (reading.fields_of bytes.now) }
+    ensures { GivesWhole result (reading.conf_fields bytes.now) }
 {
     let mut cursor = Cursor::new(bytes);
     head(bytes.len(), &mut cursor)?;

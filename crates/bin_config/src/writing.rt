@@ -19,9 +19,9 @@ use xm_conf::{
 };
 
 /// Puts a name: its length, and its bytes.
-#[tactic(auto, using(crate::proofs::PutsLemmas::put_then), unfolding(crate::specs::Xmc::text))]
+#[tactic(auto, using(crate::proofs::PutsLemmas::put_then), unfolding(crate::specs::Xmc::text_field))]
 fn put_text(bytes: &mut Vec<u8>, name: &Name) -> Result<(), Memory>
-    ensures bytes { Puts result bytes.old.items bytes.new.items (xmc.text name.now) }
+    ensures bytes { Puts result bytes.old.items bytes.new.items (xmc.text_field name.now) }
     ensures name { OnOk result (IsName name.now) }
 {
     let piece = name.bytes();
@@ -32,7 +32,7 @@ fn put_text(bytes: &mut Vec<u8>, name: &Name) -> Result<(), Memory>
 /// Puts names.
 #[tactic(auto, using(crate::proofs::PutsLemmas::put_loop))]
 fn put_each_text(bytes: &mut Vec<u8>, texts: &[Name]) -> Result<(), Memory>
-    ensures bytes { Puts result bytes.old.items bytes.new.items (flat_map xmc.text texts.now) }
+    ensures bytes { Puts result bytes.old.items bytes.new.items (flat_map xmc.text_field texts.now) }
     ensures names { OnOk result (All IsName texts.now) }
 {
     for text in texts {
@@ -45,7 +45,7 @@ fn put_each_text(bytes: &mut Vec<u8>, texts: &[Name]) -> Result<(), Memory>
 #[tactic(auto, using(crate::proofs::PutsLemmas::put_then))]
 fn put_texts(bytes: &mut Vec<u8>, texts: &[Name]) -> Result<(), Memory>
     requires { length texts.now ≤ 8 }
-    ensures bytes { Puts result bytes.old.items bytes.new.items (xmc.counted xmc.text texts.now) }
+    ensures bytes { Puts result bytes.old.items bytes.new.items (xmc.list_field xmc.text_field texts.now) }
     ensures names { OnOk result (All IsName texts.now) }
 {
     put_byte(bytes, texts.len() as u8)?;
@@ -53,9 +53,9 @@ fn put_texts(bytes: &mut Vec<u8>, texts: &[Name]) -> Result<(), Memory>
 }
 
 /// Puts a region.
-#[tactic(auto, using(crate::proofs::PutsLemmas::put_then), unfolding(crate::specs::Xmc::region))]
+#[tactic(auto, using(crate::proofs::PutsLemmas::put_then), unfolding(crate::specs::Xmc::region_record))]
 fn put_region(bytes: &mut Vec<u8>, region: &Region) -> Result<(), Memory>
-    ensures bytes { Puts result bytes.old.items bytes.new.items (xmc.region region.now) }
+    ensures bytes { Puts result bytes.old.items bytes.new.items (xmc.region_record region.now) }
     ensures ranges { OnOk result (spelled.IsSpelledRegion region.now) }
 {
     put_word(bytes, region.start)?;
@@ -65,7 +65,7 @@ fn put_region(bytes: &mut Vec<u8>, region: &Region) -> Result<(), Memory>
 /// Puts regions.
 #[tactic(auto, using(crate::proofs::PutsLemmas::put_loop))]
 fn put_each_region(bytes: &mut Vec<u8>, regions: &[Region]) -> Result<(), Memory>
-    ensures bytes { Puts result bytes.old.items bytes.new.items (flat_map xmc.region regions.now) }
+    ensures bytes { Puts result bytes.old.items bytes.new.items (flat_map xmc.region_record regions.now) }
     ensures ranges { OnOk result (All spelled.IsSpelledRegion regions.now) }
 {
     for region in regions {
@@ -78,7 +78,7 @@ fn put_each_region(bytes: &mut Vec<u8>, regions: &[Region]) -> Result<(), Memory
 #[tactic(auto, using(crate::proofs::PutsLemmas::put_then))]
 fn put_regions(bytes: &mut Vec<u8>, regions: &[Region]) -> Result<(), Memory>
     requires { length regions.now ≤ 8 }
-    ensures bytes { Puts result bytes.old.items bytes.new.items (xmc.counted xmc.region regions.now) }
+    ensures bytes { Puts result bytes.old.items bytes.new.items (xmc.list_field xmc.region_record regions.now) }
     ensures ranges { OnOk result (All spelled.IsSpelledRegion regions.now) }
 {
     put_byte(bytes, regions.len() as u8)?;
@@ -86,9 +86,9 @@ fn put_regions(bytes: &mut Vec<u8>, regions: &[Region]) -> Result<(), Memory>
 }
 
 /// Puts a slot.
-#[tactic(auto, using(crate::proofs::PutsLemmas::put_then), unfolding(crate::specs::Xmc::slot))]
+#[tactic(auto, using(crate::proofs::PutsLemmas::put_then), unfolding(crate::specs::Xmc::slot_record))]
 fn put_slot(bytes: &mut Vec<u8>, slot: &Slot) -> Result<(), Memory>
-    ensures bytes { Puts result bytes.old.items bytes.new.items (xmc.slot slot.now) }
+    ensures bytes { Puts result bytes.old.items bytes.new.items (xmc.slot_record slot.now) }
     ensures ranges { OnOk result (spelled.IsSpelledSlot slot.now) }
 {
     put_word(bytes, slot.start)?;
@@ -99,7 +99,7 @@ fn put_slot(bytes: &mut Vec<u8>, slot: &Slot) -> Result<(), Memory>
 /// Puts slots.
 #[tactic(auto, using(crate::proofs::PutsLemmas::put_loop))]
 fn put_each_slot(bytes: &mut Vec<u8>, slots: &[Slot]) -> Result<(), Memory>
-    ensures bytes { Puts result bytes.old.items bytes.new.items (flat_map xmc.slot slots.now) }
+    ensures bytes { Puts result bytes.old.items bytes.new.items (flat_map xmc.slot_record slots.now) }
     ensures ranges { OnOk result (All spelled.IsSpelledSlot slots.now) }
 {
     for slot in slots {
@@ -112,7 +112,7 @@ fn put_each_slot(bytes: &mut Vec<u8>, slots: &[Slot]) -> Result<(), Memory>
 #[tactic(auto, using(crate::proofs::PutsLemmas::put_then))]
 fn put_slots(bytes: &mut Vec<u8>, slots: &[Slot]) -> Result<(), Memory>
     requires { length slots.now ≤ 64 }
-    ensures bytes { Puts result bytes.old.items bytes.new.items (xmc.counted xmc.slot slots.now) }
+    ensures bytes { Puts result bytes.old.items bytes.new.items (xmc.list_field xmc.slot_record slots.now) }
     ensures ranges { OnOk result (All spelled.IsSpelledSlot slots.now) }
 {
     put_byte(bytes, slots.len() as u8)?;
@@ -120,10 +120,10 @@ fn put_slots(bytes: &mut Vec<u8>, slots: &[Slot]) -> Result<(), Memory>
 }
 
 /// Puts a plan.
-#[tactic(auto, using(crate::proofs::PutsLemmas::put_then), unfolding(crate::specs::Xmc::plan))]
+#[tactic(auto, using(crate::proofs::PutsLemmas::put_then), unfolding(crate::specs::Xmc::plan_record))]
 fn put_plan(bytes: &mut Vec<u8>, plan: &Plan) -> Result<(), Memory>
     requires { length plan.now.slots ≤ 64 }
-    ensures bytes { Puts result bytes.old.items bytes.new.items (xmc.plan plan.now) }
+    ensures bytes { Puts result bytes.old.items bytes.new.items (xmc.plan_record plan.now) }
     ensures ranges { OnOk result (spelled.HasPlanRanges plan.now) }
 {
     put_word(bytes, plan.frame)?;
@@ -134,7 +134,7 @@ fn put_plan(bytes: &mut Vec<u8>, plan: &Plan) -> Result<(), Memory>
 #[tactic(auto, using(crate::proofs::PutsLemmas::put_loop))]
 fn put_each_plan(bytes: &mut Vec<u8>, plans: &[Plan]) -> Result<(), Memory>
     requires { All (λ plan. length plan.slots ≤ 64) plans.now }
-    ensures bytes { Puts result bytes.old.items bytes.new.items (flat_map xmc.plan plans.now) }
+    ensures bytes { Puts result bytes.old.items bytes.new.items (flat_map xmc.plan_record plans.now) }
     ensures ranges { OnOk result (All spelled.HasPlanRanges plans.now) }
 {
     for plan in plans {
@@ -148,7 +148,7 @@ fn put_each_plan(bytes: &mut Vec<u8>, plans: &[Plan]) -> Result<(), Memory>
 fn put_plans(bytes: &mut Vec<u8>, plans: &[Plan]) -> Result<(), Memory>
     requires few { length plans.now ≤ 8 }
     requires slots { All (λ plan. length plan.slots ≤ 64) plans.now }
-    ensures bytes { Puts result bytes.old.items bytes.new.items (xmc.counted xmc.plan plans.now) }
+    ensures bytes { Puts result bytes.old.items bytes.new.items (xmc.list_field xmc.plan_record plans.now) }
     ensures ranges { OnOk result (All spelled.HasPlanRanges plans.now) }
 {
     put_byte(bytes, plans.len() as u8)?;
@@ -157,14 +157,14 @@ fn put_plans(bytes: &mut Vec<u8>, plans: &[Plan]) -> Result<(), Memory>
 
 /// The byte that tells whether something is so.
 fn flag(is: bool) -> u8
-    ensures { result ≡ xmc.flag is }
+    ensures { result ≡ xmc.flag_field is }
 {
     if is { 1 } else { 0 }
 }
 
 /// The byte of a console: the UART, or 255 for none.
 fn console(uart: Option<u8>) -> u8
-    ensures { result ≡ xmc.console uart }
+    ensures { result ≡ xmc.console_field uart }
 {
     match uart {
         Some(uart) => uart,
@@ -175,7 +175,7 @@ fn console(uart: Option<u8>) -> u8
 /// Puts two words.
 #[tactic(auto, using(crate::proofs::PutsLemmas::put_then))]
 fn put_words(bytes: &mut Vec<u8>, first: u32, second: u32) -> Result<(), Memory>
-    ensures { Puts result bytes.old.items bytes.new.items (xmc.word first ++ xmc.word second) }
+    ensures { Puts result bytes.old.items bytes.new.items (xmc.word_field first ++ xmc.word_field second) }
 {
     put_word(bytes, first)?;
     put_word(bytes, second)
@@ -183,7 +183,7 @@ fn put_words(bytes: &mut Vec<u8>, first: u32, second: u32) -> Result<(), Memory>
 
 /// Puts a requirement, or zeros for none.
 fn put_need(bytes: &mut Vec<u8>, need: Option<Need>) -> Result<(), Memory>
-    ensures bytes { Puts result bytes.old.items bytes.new.items (xmc.need need) }
+    ensures bytes { Puts result bytes.old.items bytes.new.items (xmc.need_field need) }
     ensures ranges { OnOk result (IfSome need spelled.HasNeedRanges) }
 {
     match need {
@@ -198,7 +198,7 @@ fn put_identity(bytes: &mut Vec<u8>, part: &Part) -> Result<(), Memory>
     ensures bytes { Puts result bytes.old.items bytes.new.items (xmc.identity part.now) }
     ensures name { OnOk result (IsName part.now.name) }
     ensures need { OnOk result (IfSome part.now.need spelled.HasNeedRanges) }
-    ensures trace_mask { OnOk result (spelled.IsWord part.now.trace_mask) }
+    ensures trace_mask { OnOk result (spelled.HasFourBytes part.now.trace_mask) }
 {
     put_text(bytes, &part.name)?;
     put_byte(bytes, flag(part.system))?;
@@ -237,9 +237,9 @@ fn put_monitor(bytes: &mut Vec<u8>, hm: &HmTable) -> Result<(), Memory>
 }
 
 /// Puts an area.
-#[tactic(auto, using(crate::proofs::PutsLemmas::put_then), unfolding(crate::specs::Xmc::area))]
+#[tactic(auto, using(crate::proofs::PutsLemmas::put_then), unfolding(crate::specs::Xmc::area_record))]
 fn put_area(bytes: &mut Vec<u8>, area: &Area) -> Result<(), Memory>
-    ensures bytes { Puts result bytes.old.items bytes.new.items (xmc.area area.now) }
+    ensures bytes { Puts result bytes.old.items bytes.new.items (xmc.area_record area.now) }
     ensures ranges { OnOk result (spelled.IsSpelledArea area.now) }
 {
     put_word(bytes, area.start)?;
@@ -250,7 +250,7 @@ fn put_area(bytes: &mut Vec<u8>, area: &Area) -> Result<(), Memory>
 /// Puts areas.
 #[tactic(auto, using(crate::proofs::PutsLemmas::put_loop))]
 fn put_each_area(bytes: &mut Vec<u8>, areas: &[Area]) -> Result<(), Memory>
-    ensures bytes { Puts result bytes.old.items bytes.new.items (flat_map xmc.area areas.now) }
+    ensures bytes { Puts result bytes.old.items bytes.new.items (flat_map xmc.area_record areas.now) }
     ensures ranges { OnOk result (All spelled.IsSpelledArea areas.now) }
 {
     for area in areas {
@@ -263,7 +263,7 @@ fn put_each_area(bytes: &mut Vec<u8>, areas: &[Area]) -> Result<(), Memory>
 #[tactic(auto, using(crate::proofs::PutsLemmas::put_then))]
 fn put_areas(bytes: &mut Vec<u8>, areas: &[Area]) -> Result<(), Memory>
     requires { length areas.now ≤ 8 }
-    ensures bytes { Puts result bytes.old.items bytes.new.items (xmc.counted xmc.area areas.now) }
+    ensures bytes { Puts result bytes.old.items bytes.new.items (xmc.list_field xmc.area_record areas.now) }
     ensures ranges { OnOk result (All spelled.IsSpelledArea areas.now) }
 {
     put_byte(bytes, areas.len() as u8)?;
@@ -291,9 +291,9 @@ fn way_byte(way: Way) -> u8
 }
 
 /// Puts a port.
-#[tactic(auto, using(crate::proofs::PutsLemmas::put_then), unfolding(crate::specs::Xmc::port))]
+#[tactic(auto, using(crate::proofs::PutsLemmas::put_then), unfolding(crate::specs::Xmc::port_record))]
 fn put_port(bytes: &mut Vec<u8>, port: &Port) -> Result<(), Memory>
-    ensures bytes { Puts result bytes.old.items bytes.new.items (xmc.port port.now) }
+    ensures bytes { Puts result bytes.old.items bytes.new.items (xmc.port_record port.now) }
     ensures name { OnOk result (IsName port.now.name) }
 {
     put_text(bytes, &port.name)?;
@@ -304,7 +304,7 @@ fn put_port(bytes: &mut Vec<u8>, port: &Port) -> Result<(), Memory>
 /// Puts ports.
 #[tactic(auto, using(crate::proofs::PutsLemmas::put_loop))]
 fn put_each_port(bytes: &mut Vec<u8>, ports: &[Port]) -> Result<(), Memory>
-    ensures bytes { Puts result bytes.old.items bytes.new.items (flat_map xmc.port ports.now) }
+    ensures bytes { Puts result bytes.old.items bytes.new.items (flat_map xmc.port_record ports.now) }
     ensures names { OnOk result (All (λ port. IsName port.name) ports.now) }
 {
     for port in ports {
@@ -317,7 +317,7 @@ fn put_each_port(bytes: &mut Vec<u8>, ports: &[Port]) -> Result<(), Memory>
 #[tactic(auto, using(crate::proofs::PutsLemmas::put_then))]
 fn put_ports(bytes: &mut Vec<u8>, ports: &[Port]) -> Result<(), Memory>
     requires { length ports.now ≤ 32 }
-    ensures bytes { Puts result bytes.old.items bytes.new.items (xmc.counted xmc.port ports.now) }
+    ensures bytes { Puts result bytes.old.items bytes.new.items (xmc.list_field xmc.port_record ports.now) }
     ensures names { OnOk result (All (λ port. IsName port.name) ports.now) }
 {
     put_byte(bytes, ports.len() as u8)?;
@@ -338,11 +338,11 @@ fn put_belongings(bytes: &mut Vec<u8>, part: &Part) -> Result<(), Memory>
 }
 
 /// Puts a partition.
-#[tactic(auto, using(crate::proofs::PutsLemmas::put_then), unfolding(crate::specs::Xmc::part))]
+#[tactic(auto, using(crate::proofs::PutsLemmas::put_then), unfolding(crate::specs::Xmc::part_record))]
 fn put_part(bytes: &mut Vec<u8>, part: &Part) -> Result<(), Memory>
     requires areas { length part.now.areas ≤ 8 }
     requires ports { length part.now.ports ≤ 32 }
-    ensures bytes { Puts result bytes.old.items bytes.new.items (xmc.part part.now) }
+    ensures bytes { Puts result bytes.old.items bytes.new.items (xmc.part_record part.now) }
     ensures ranges { OnOk result (spelled.HasPartRanges part.now) }
 {
     put_identity(bytes, part)?;
@@ -355,7 +355,7 @@ fn put_part(bytes: &mut Vec<u8>, part: &Part) -> Result<(), Memory>
 fn put_each_part(bytes: &mut Vec<u8>, parts: &[Part]) -> Result<(), Memory>
     requires areas { All (λ part. length part.areas ≤ 8) parts.now }
     requires ports { All (λ part. length part.ports ≤ 32) parts.now }
-    ensures bytes { Puts result bytes.old.items bytes.new.items (flat_map xmc.part parts.now) }
+    ensures bytes { Puts result bytes.old.items bytes.new.items (flat_map xmc.part_record parts.now) }
     ensures ranges { OnOk result (All spelled.HasPartRanges parts.now) }
 {
     for part in parts {
@@ -370,7 +370,7 @@ fn put_parts(bytes: &mut Vec<u8>, parts: &[Part]) -> Result<(), Memory>
     requires few { length parts.now ≤ 16 }
     requires areas { All (λ part. length part.areas ≤ 8) parts.now }
     requires ports { All (λ part. length part.ports ≤ 32) parts.now }
-    ensures bytes { Puts result bytes.old.items bytes.new.items (xmc.counted xmc.part parts.now) }
+    ensures bytes { Puts result bytes.old.items bytes.new.items (xmc.list_field xmc.part_record parts.now) }
     ensures ranges { OnOk result (All spelled.HasPartRanges parts.now) }
 {
     put_byte(bytes, parts.len() as u8)?;
@@ -424,7 +424,7 @@ fn put_each_end(bytes: &mut Vec<u8>, ends: &[End]) -> Result<(), Memory>
 #[tactic(auto, using(crate::proofs::PutsLemmas::put_then))]
 fn put_ends(bytes: &mut Vec<u8>, ends: &[End]) -> Result<(), Memory>
     requires { length ends.now ≤ 16 }
-    ensures bytes { Puts result bytes.old.items bytes.new.items (xmc.counted xmc.end ends.now) }
+    ensures bytes { Puts result bytes.old.items bytes.new.items (xmc.list_field xmc.end ends.now) }
     ensures ranges { OnOk result (All spelled.IsSpelledEnd ends.now) }
 {
     put_byte(bytes, ends.len() as u8)?;
@@ -463,7 +463,7 @@ fn put_each_chan(bytes: &mut Vec<u8>, chans: &[Chan]) -> Result<(), Memory>
 fn put_chans(bytes: &mut Vec<u8>, chans: &[Chan]) -> Result<(), Memory>
     requires few { length chans.now ≤ 64 }
     requires dests { All (λ chan. length chan.dests ≤ 16) chans.now }
-    ensures bytes { Puts result bytes.old.items bytes.new.items (xmc.counted xmc.chan chans.now) }
+    ensures bytes { Puts result bytes.old.items bytes.new.items (xmc.list_field xmc.chan chans.now) }
     ensures ranges { OnOk result (All spelled.HasChanRanges chans.now) }
 {
     put_byte(bytes, chans.len() as u8)?;
@@ -476,7 +476,7 @@ fn put_body(bytes: &mut Vec<u8>, raw: &RawConf) -> Result<(), Memory>
     requires counts { HasCounts raw.now }
     requires dests { All (λ chan. length chan.dests ≤ 16) raw.now.chans }
     ensures bytes { Puts result bytes.old.items bytes.new.items (xmc.body raw.now) }
-    ensures ranges { OnOk result (spelled.HasRanges raw.now) }
+    ensures ranges { OnOk result (spelled.HasConfRanges raw.now) }
 {
     put_text(bytes, &raw.name)?;
     put_regions(bytes, &raw.regions)?;
@@ -526,7 +526,7 @@ fn framed(alloc: Global, body: &[u8]) -> Result<Vec<u8>, Memory>
 #[tactic(auto, using(crate::proofs::FewLemmas::fitting))]
 fn body_of(alloc: Global, conf: &Conf) -> Result<Vec<u8>, Memory>
     ensures bytes { IfOk result (λ bytes. bytes.items ≡ xmc.body conf.now) }
-    ensures ranges { OnOk result (spelled.HasRanges conf.now) }
+    ensures ranges { OnOk result (spelled.HasConfRanges conf.now) }
     ensures fits { Fits (described conf.now) }
 {
     let mut body = Vec::new(alloc);
@@ -539,7 +539,7 @@ fn body_of(alloc: Global, conf: &Conf) -> Result<Vec<u8>, Memory>
 #[tactic(auto, unfolding(crate::specs::Xmc::xmc))]
 pub fn write_xmc(alloc: Global, conf: &Conf) -> Result<Vec<u8>, Memory>
     ensures exact { IfOk result (λ bytes. bytes.items ≡ xmc.xmc conf.now) }
-    ensures ranges { OnOk result (spelled.HasRanges conf.now) }
+    ensures ranges { OnOk result (spelled.HasConfRanges conf.now) }
     ensures read { IfOk result (λ bytes. read_of bytes.items ≡ Ok conf.now) }
 {
     spelled_is_read();

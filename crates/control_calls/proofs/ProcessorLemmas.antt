@@ -13,7 +13,7 @@ use Rattle.virt_traps.specs.declared.delivery.IretFault.{IretFault}
 use Rattle.virt_traps.specs.declared.windows.StackFault.{StackFault}
 use Rattle.whole_system.specs.ServedLemmas.{served_changed}
 use Rattle.whole_system.specs.Serving.{IsCaller, IsServed, caller_of}
-use Rattle.whole_system.specs.State.{OwnState, SysState, areas_in, memory_of, with_machine, with_memory, words_of}
+use Rattle.whole_system.specs.State.{OwnState, SysState, areas_in, memory_of, with_machine, with_memory, input_words_of}
 use Rattle.whole_system.specs.Stepping.{behind_flush, behind_return, flushed_in, returned_in}
 use Rattle.whole_system.specs.declared.call_site.CallSite.{CallSite}
 use Rattle.whole_system.specs.declared.served.Act.TheVariants as act
@@ -42,8 +42,8 @@ inputs_next (first ∷ words) zero word next = let same : first ≡ word = cc in
 inputs_next (first ∷ words) (suc used) word next = let on : suc used + 1 ≡ suc (used + 1) = omega arith in inputs_next words used word next ∙ ap (λ (n : ℕ). word ∷ drop n (first ∷ words)) (sym on)
 
 -- the words of the caller stay with that change
-pub words_stay : (p : ℕ) (old mid : SysState) (ps : PartitionState) → mid ≡ with_machine (with_part p ps old.machine) old → words_of p mid.machine ≡ words_of p old.machine
-words_stay p old mid ps changed = ap (λ (m : SysState). words_of p m.machine) changed
+pub words_stay : (p : ℕ) (old mid : SysState) (ps : PartitionState) → mid ≡ with_machine (with_part p ps old.machine) old → input_words_of p mid.machine ≡ input_words_of p old.machine
+words_stay p old mid ps changed = ap (λ (m : SysState). input_words_of p m.machine) changed
 
 -- an input word is asked for where there is no room for it
 pub input_refused : (p at value next : ℕ) (rest : List ℕ) (caller : Caller) (answer : code.Served) (old new : SysState) → at ≡ a_of caller → Some value ≡ room caller at 4
@@ -76,8 +76,8 @@ input_asked p inputs caller answer old new left served =
     subst (λ (words : List ℕ). IsServed p Unseen (input_read words caller) answer old new) (sym left) served
 
 -- those that are left, of a partition that has used so many
-pub inputs_left : (site : CallSite) (sys : SysState) (own : OwnState) → part_at site.part sys.machine ≡ with_memory own (memory_of site.part sys.machine) (words_of site.part sys.machine)
-    → (caller_of site sys).state.inputs ≡ drop own.used (words_of site.part sys.machine)
+pub inputs_left : (site : CallSite) (sys : SysState) (own : OwnState) → part_at site.part sys.machine ≡ with_memory own (memory_of site.part sys.machine) (input_words_of site.part sys.machine)
+    → (caller_of site sys).state.inputs ≡ drop own.used (input_words_of site.part sys.machine)
 unfolding caller_of
 inputs_left site sys own is = ap (λ (ps : PartitionState). ps.inputs) is
 

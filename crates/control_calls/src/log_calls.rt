@@ -3,7 +3,7 @@
 ghost use Rattle.std.specs.Prelude.{◌≡◌, ◌<◌, ◌==◌, if◌then◌else◌, [], ◌∷◌};
 ghost use Rattle.sparc_step.specs.Registers.{register_at};
 ghost use Rattle.xm_traces.specs.Ring.{noted};
-ghost use Rattle.machine_model.specs.Caller.{Acts, answering, bytes_of, not_available, with_answer};
+ghost use Rattle.machine_model.specs.Caller.{Acts, answering, caller_bytes, not_available, with_answer};
 ghost use Rattle.machine_model.specs.LogCalls.{hm_read, hm_status, raise_event, trace_event, trace_read, trace_status};
 ghost use Rattle.machine_model.specs.Told.{NotKept, Nothing, Trace, Unseen};
 ghost use Rattle.whole_system.specs.Serving.{IsCaller, IsServed, MayRead, caller_of};
@@ -52,7 +52,7 @@ fn trace_mask(sys: &Sys, site: CallSite) -> u32
 fn trace_entry(sys: &Sys, site: CallSite, bits: u32, at: u32) -> TraceEntry
     requires caller { IsCaller site sys.now }
     requires readable { MayRead (caller_of site sys.now) at 8 }
-    ensures { result ≡ record { time = (caller_of site sys.now).time; bits = bits; seq = (caller_of site sys.now).state.traces.next; load = bytes_of (caller_of site sys.now) at 8 } }
+    ensures { result ≡ record { time = (caller_of site sys.now).time; bits = bits; seq = (caller_of site sys.now).state.traces.next; load = caller_bytes (caller_of site sys.now) at 8 } }
 {
     let mut load = [0; 8];
     read(sys, site, at, &mut load);

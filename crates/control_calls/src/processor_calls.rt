@@ -3,7 +3,7 @@
 ghost use Rattle.std.specs.Prelude.{◌≡◌, ◌%◌, ◌/◌, ◌^◌, ◌==◌, ◌≤◌, ◌<◌, ◌∷◌, true, drop};
 ghost use Rattle.std.specs.Int.{bit_at, to_be_bytes, w32};
 ghost use Rattle.xm_base.specs.declared.limits.TheConstants.{CONSOLE_BYTES};
-ghost use Rattle.machine_model.specs.Caller.{a_of, answering, bytes_of, is_room, with_written};
+ghost use Rattle.machine_model.specs.Caller.{a_of, answering, caller_bytes, is_room, with_written};
 ghost use Rattle.machine_model.specs.ProcessorCalls.{
   clear_irqmask,
   flush_regwin,
@@ -20,7 +20,7 @@ ghost use Rattle.machine_model.specs.ProcessorCalls.{
 ghost use Rattle.machine_model.specs.Told.{Unseen};
 ghost use Rattle.sparc_step.specs.Registers.{with_icc};
 ghost use Rattle.whole_system.specs.Serving.{IsCaller, IsServed, MayRead, caller_of};
-ghost use Rattle.whole_system.specs.State.{words_of};
+ghost use Rattle.whole_system.specs.State.{input_words_of};
 
 use sparc_step::{Core, Processor};
 use virt_traps::IretFault;
@@ -89,7 +89,7 @@ fn print(sys: &mut Sys, site: CallSite, at: u32, size: u32) -> Served
     requires caller { IsCaller site sys.old }
     requires few { size ≤ CONSOLE_BYTES }
     requires readable { MayRead (caller_of site sys.old) at size }
-    ensures { IsServed site.part Unseen (record (answering size (caller_of site sys.old).state) { told = printed (bytes_of (caller_of site sys.old) at size) }) result sys.old sys.new }
+    ensures { IsServed site.part Unseen (record (answering size (caller_of site sys.old).state) { told = printed (caller_bytes (caller_of site sys.old) at size) }) result sys.old sys.new }
 {
     sys.part_mut(site.part).core.set(OUT_0, size);
     if size == 0 {
@@ -120,7 +120,7 @@ pub fn read_input(sys: &mut Sys, site: CallSite) -> Served
 fn hand_over(sys: &mut Sys, site: CallSite, at: u32, word: u32, used: usize) -> Served
     requires caller { IsCaller site sys.old }
     requires at { at ≡ a_of (caller_of site sys.old) }
-    ensures { IsServed site.part Unseen (input_read (word ∷ drop used (words_of site.part sys.old.machine)) (caller_of site sys.old)) result sys.old sys.new }
+    ensures { IsServed site.part Unseen (input_read (word ∷ drop used (input_words_of site.part sys.old.machine)) (caller_of site sys.old)) result sys.old sys.new }
 {
     match room(sys, site, at, 4) {
         Some(code) => answer(sys, site, code),
@@ -132,7 +132,7 @@ fn hand_over(sys: &mut Sys, site: CallSite, at: u32, word: u32, used: usize) -> 
 fn put_input(sys: &mut Sys, site: CallSite, at: u32, word: u32, used: usize) -> Served
     requires caller { IsCaller site sys.old }
     requires room { is_room (caller_of site sys.old) at 4 ≡ true }
-    ensures { IsServed site.part Unseen (answering 0 (record (with_written at (to_be_bytes w32 word) (caller_of site sys.old).state) { inputs = drop used (words_of site.part sys.old.machine) })) result sys.old sys.new }
+    ensures { IsServed site.part Unseen (answering 0 (record (with_written at (to_be_bytes w32 word) (caller_of site sys.old).state) { inputs = drop used (input_words_of site.part sys.old.machine) })) result sys.old sys.new }
 {
     write(sys, site, at, &word.to_be_bytes());
     use_inputs(sys, site, used)
@@ -142,7 +142,7 @@ fn put_input(sys: &mut Sys, site: CallSite, at: u32, word: u32, used: usize) -> 
 #[tactic(auto, unfolding(whole_system::specs::Serving::caller_of, machine_model::specs::Caller::with_answer))]
 fn use_inputs(sys: &mut Sys, site: CallSite, used: usize) -> Served
     requires { IsCaller site sys.old }
-    ensures { IsServed site.part Unseen (answering 0 (record (caller_of site sys.old).state { inputs = drop used (words_of site.part sys.old.machine) })) result sys.old sys.new }
+    ensures { IsServed site.part Unseen (answering 0 (record (caller_of site sys.old).state { inputs = drop used (input_words_of site.part sys.old.machine) })) result sys.old sys.new }
 {
     let own = sys.part_mut(site.part);
     own.used = used;

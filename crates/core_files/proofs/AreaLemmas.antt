@@ -4,8 +4,8 @@ use Rattle.std.specs.List.{flat_map, list_any, sum_by}
 use Rattle.std.proofs.lemmas.Bool.Decides.{nat_tests}
 use Rattle.std.proofs.lemmas.List.{get_or-map, length-map}
 use Rattle.std.proofs.lemmas.List.Sums.{sum_by_more, sum_by_more_le}
-use Rattle.guest_bus.specs.Memory.{Area, Memory, all_from, covers, is_readable}
-use Rattle.guest_memory.specs.Loading.{area_of, areas_of as part_areas}
+use Rattle.guest_bus.specs.Memory.{Area, Memory, all_from, holds_address, is_readable}
+use Rattle.guest_memory.specs.Loading.{area_of, memory_areas as part_areas}
 use Rattle.machine_model.specs.CoreFile.{area_bytes}
 use Rattle.machine_model.specs.Machine.{Machine}
 use Rattle.machine_model.specs.Partition.{areas_of}
@@ -30,8 +30,8 @@ inside : (areas : List Area) (i : ℕ) (d : Area) → i < length areas → (addr
     → all_from (is_readable areas) address count ≡ true
 inside areas i d below address zero from to = refl
 inside areas i d below address (suc count) from to =
-    let covered : covers address (get_or areas i d) ≡ true = grind (arith, nat_tests, from, to) in
-    let here : is_readable areas address ≡ true = any_at (covers address) areas i d below covered in
+    let covered : holds_address address (get_or areas i d) ≡ true = grind (arith, nat_tests, from, to) in
+    let here : is_readable areas address ≡ true = any_at (holds_address address) areas i d below covered in
     rw here (inside areas i d below (suc address) count (omega (arith, from)) (omega (arith, to)))
 
 module _ (areas : List configured.Area) (i : ℕ) (d : configured.Area) (below : i < length areas) where

@@ -11,7 +11,7 @@ use Rattle.health_monitor.specs.declared.entry.HealthEntry.{HealthEntry}
 use Rattle.virt_clocks.specs.declared.timer.Timer.{Timer}
 use Rattle.xm_traces.specs.Ring.{Kept}
 use Rattle.xm_traces.specs.declared.entry.TraceEntry.{TraceEntry}
-use Rattle.machine_model.specs.CoreFile.{area_bytes, bits_of, core_file, log_bytes, processor_bytes, standing_bytes, timer_bytes}
+use Rattle.machine_model.specs.CoreFile.{area_bytes, bits_of_flags, core_file, log_bytes, processor_bytes, standing_bytes, timer_bytes}
 use Rattle.machine_model.specs.Facts.{HaveEight}
 use Rattle.machine_model.specs.Partition.{PartitionState, areas_of}
 use Rattle.machine_model.specs.Structures.{counts_bytes, double, health_bytes, trace_bytes, word}
@@ -96,7 +96,7 @@ file_long view ps has =
     let two = after one (timer_bytes ps.clocks.hardware_timer) 17 (timer_long ps.clocks.hardware_timer) in
     let three = after two (timer_bytes ps.clocks.execution_timer) 17 (timer_long ps.clocks.execution_timer) in
     let four = after three (word (length ps.inputs)) 4 refl in
-    let five = after four (word (bits_of ps.made)) 4 refl in
+    let five = after four (word (bits_of_flags ps.made)) 4 refl in
     let six = after five (flat_map word ps.core.globals) 32 globals in
     let seven = after six (flat_map word ps.core.windows) 512 windows in
     let eight = after seven (log_bytes 24 trace_bytes ps.traces) 1544 traces in

@@ -2,7 +2,7 @@
 
 ghost use Rattle.std.specs.Prelude.{◌≡◌, ◌<◌, ◌∷◌, ◌++◌, length};
 ghost use Rattle.virt_clocks.specs.Clocks.{timer_of};
-ghost use Rattle.machine_model.specs.CoreFile.{bits_of, processor_bytes, standing_bytes, timer_bytes};
+ghost use Rattle.machine_model.specs.CoreFile.{bits_of_flags, processor_bytes, standing_bytes, timer_bytes};
 ghost use Rattle.machine_model.specs.Structures.{double, flag};
 ghost use Rattle.machine_model.specs.View.{view_of};
 ghost use Rattle.whole_system.specs.State.{part_at};
@@ -99,14 +99,14 @@ fn setting(armed: u8, deadline: u64, interval: u64) -> Structure
 /// The ports that a partition has made.
 pub(crate) fn made_ports(sys: &Sys, p: PartId) -> u32
     requires { p < length sys.now.machine.parts }
-    ensures { result ≡ bits_of (part_at p sys.now.machine).made }
+    ensures { result ≡ bits_of_flags (part_at p sys.now.machine).made }
 {
     port_bits(&sys.part(p).ports)
 }
 
 /// A bit for each port, which is set where the port is made; port 0 has the lowest.
 fn port_bits(ports: &Ports) -> u32
-    ensures { result ≡ bits_of ports.now }
+    ensures { result ≡ bits_of_flags ports.now }
 {
     // It tells that there are 32.
     let _first = ports.is_made(0);

@@ -10,11 +10,11 @@ use Rattle.xm_base.specs.declared.partition.Order.TheVariants as upon
 use Rattle.xm_conf.specs.Configuration.{Conf}
 use Rattle.xef_images.specs.FieldLemmas.{wide8, wide16, wide32}
 use Rattle.xef_images.specs.Steps.{◌>>=◌}
-use Rattle.machine_model.specs.Cue.{Away, Cue, Mine, Slot}
+use Rattle.machine_model.specs.Cue.{Away, Cue, Mine, CueSlot}
 use Rattle.machine_model.specs.Told.{AllHalted, AllReset, NoEvent, NotKept, OwnPuts, OwnStill, OwnTakes, OwnTraffic, Sight, Unseen, WholeEvent, Words}
 use Rattle.cue_scripts.specs.Script.{CanHear, CanSee, IsOrder, gives_queue, is_length, is_shown, most_heard}
 use Rattle.cue_scripts.specs.Spelling.{event_byte, order_text, reset_byte, sight_text, slot_byte, traffic_text}
-use Rattle.cue_scripts.specs.Reading.{bytes_at, event_at, event_of_byte, is_event, is_heard, is_sight, listed_at, message_at, number_at, order_at, order_of_kind, put_at, reset_at, sight_at, sight_of_kind, slot_at, slot_of_byte, take_at, traffic_at, traffic_of_kind, words_at}
+use Rattle.cue_scripts.specs.Reading.{bytes_at, event_at, event_of_byte, is_event, is_heard, is_sight, listed_at, message_at, number_at, order_at, order_of_kind, put_message_at, reset_at, cue_sight_at, sight_of_kind, cue_slot_at, slot_of_byte, take_at, traffic_at, traffic_of_kind, shown_words_at}
 use Rattle.cue_scripts.specs.declared.fault.ScriptFault.{ScriptFault}
 use Rattle.cue_scripts.proofs.FieldLemmas.{Reads, bytes_again, listed_again, number_again, one_byte}
 use Rattle.cue_scripts.proofs.ScriptLemmas.{few_shown}
@@ -32,8 +32,8 @@ leads test more place n rest small passes stands =
     record { after = b.after; is = rw b.is refl; ahead = b.ahead }
 
 -- a slot
-pub slot_again : (place : Place) (mine : Slot) (rest : List ℕ) → ahead place ≡ slot_byte mine ∷ rest → Reads (slot_at place) mine rest
-unfolding slot_at
+pub slot_again : (place : Place) (mine : CueSlot) (rest : List ℕ) → ahead place ≡ slot_byte mine ∷ rest → Reads (cue_slot_at place) mine rest
+unfolding cue_slot_at
 slot_again place Away rest stands =
     let k = leads (λ byte. nat_le byte 2) (λ byte behind. Ok (slot_of_byte byte, behind)) place 0 rest (omega arith) refl stands in
     record { after = k.after; is = k.is; ahead = k.ahead }
@@ -50,9 +50,9 @@ some_most None count e = absurd cc
 some_most (Some most) count e = refl
 
 -- traffic
-pub traffic_again : (conf : Conf) (p : ℕ) (mine : Slot) (place : Place) (traffic : OwnTraffic) (rest : List ℕ) → CanHear conf p traffic → InOwn mine (traffic ≡ OwnStill) → ahead place ≡ traffic_text traffic ++ rest
+pub traffic_again : (conf : Conf) (p : ℕ) (mine : CueSlot) (place : Place) (traffic : OwnTraffic) (rest : List ℕ) → CanHear conf p traffic → InOwn mine (traffic ≡ OwnStill) → ahead place ≡ traffic_text traffic ++ rest
     → Reads (traffic_at conf p mine place) traffic rest
-unfolding traffic_at put_at message_at take_at traffic_text
+unfolding traffic_at put_message_at message_at take_at traffic_text
 traffic_again conf p mine place OwnStill rest can still stands =
     let k = leads (is_heard 3 mine) (traffic_of_kind conf p) place 0 rest (omega arith) refl stands in
     record { after = k.after; is = k.is; ahead = k.ahead }
@@ -79,7 +79,7 @@ reset_again mode place status rest small stands =
     record { after = b.after; is = rw b.is refl; ahead = b.ahead }
 
 -- an order of a kind
-pub order_again : (mine : Slot) (place : Place) (order : Option Order) (rest : List ℕ) → IsOrder order → InOwn mine (order ≡ None) → ahead place ≡ order_text order ++ rest → Reads (order_at mine place) order rest
+pub order_again : (mine : CueSlot) (place : Place) (order : Option Order) (rest : List ℕ) → IsOrder order → InOwn mine (order ≡ None) → ahead place ≡ order_text order ++ rest → Reads (order_at mine place) order rest
 unfolding order_at order_text
 order_again mine place None rest is none stands =
     let k = leads (is_heard 6 mine) order_of_kind place 0 rest (omega arith) refl stands in
@@ -126,8 +126,8 @@ event_again false place AllHalted rest halts stands =
     absurd cc
 
 -- what was seen
-pub sight_again : (system : Bool) (mine : Slot) (place : Place) (seen : Sight) (rest : List ℕ) → CanSee system mine seen → ahead place ≡ sight_text seen ++ rest → Reads (sight_at system mine place) seen rest
-unfolding sight_at words_at sight_text
+pub sight_again : (system : Bool) (mine : CueSlot) (place : Place) (seen : Sight) (rest : List ℕ) → CanSee system mine seen → ahead place ≡ sight_text seen ++ rest → Reads (cue_sight_at system mine place) seen rest
+unfolding cue_sight_at shown_words_at sight_text
 sight_again system mine place Unseen rest can stands =
     let k = leads (is_sight system mine) sight_of_kind place 0 rest (omega arith) refl stands in
     record { after = k.after; is = k.is; ahead = k.ahead }

@@ -8,7 +8,7 @@ use Rattle.std.proofs.lemmas.Bool.{eqb-true}
 use Rattle.std.proofs.lemmas.List.{append-nil, nil_from_length}
 use Rattle.std.proofs.lemmas.Slice.Eq.{bytes_eq-Decides}
 use Rattle.xm_base.specs.Bytes.{AreBytes}
-use Rattle.xm_base.specs.Cursor.{Place, ahead, left, start}
+use Rattle.xm_base.specs.Cursor.{Place, ahead, left, cursor_start}
 use Rattle.xm_conf.specs.Configuration.{Conf}
 use Rattle.xef_images.specs.FieldLemmas.{Takes, takes_both, wide8, wide16}
 use Rattle.xef_images.specs.ImageLemmas.{Decides-nat_le}
@@ -17,8 +17,8 @@ use Rattle.xef_images.specs.Steps.{◌>>=◌}
 use Rattle.machine_model.specs.Cue.{Cue}
 use Rattle.cue_scripts.specs.Entries.{Entry, expanded, runs}
 use Rattle.cue_scripts.specs.Script.{IsScript}
-use Rattle.cue_scripts.specs.Spelling.{IsSpelled, entry_text, head_text, script_text}
-use Rattle.cue_scripts.specs.Reading.{body_at, bytes_at, entries_at, entries_of, id_at, listed_at, magic_at, number_at, script, total_at, unless, version_at}
+use Rattle.cue_scripts.specs.Spelling.{IsSpelledScript, entry_text, script_head_text, script_text}
+use Rattle.cue_scripts.specs.Reading.{body_at, bytes_at, script_entries_at, entries_of, partition_at, listed_at, magic_at, number_at, script_read, cue_count_at, unless, version_at}
 use Rattle.cue_scripts.specs.declared.fault.ScriptFault.TheVariants.{Field, Magic, Trailing, Version}
 use Rattle.cue_scripts.proofs.FieldLemmas.{bytes_take, listed_takes, number_takes, one_byte, passed, wide64}
 use Rattle.cue_scripts.proofs.RunLemmas.{runs_again}
@@ -46,8 +46,8 @@ version_takes place after each e =
     subst (λ (place' : Place). Takes place (to_be_bytes w16 1) place') p.is (subst (λ (n : ℕ). Takes place (to_be_bytes w16 n) s.value.1) same t.0)
 
 -- the partition's number that is read stands there
-id_takes : (p : ℕ) (place after : Place) → AreBytes (ahead place) → id_at p place ≡ Ok after → Takes place (p ∷ []) after
-unfolding id_at
+id_takes : (p : ℕ) (place after : Place) → AreBytes (ahead place) → partition_at p place ≡ Ok after → Takes place (p ∷ []) after
+unfolding partition_at
 id_takes p place after each e =
     let s = stepped (listed_at w8 (λ id. id == p) place) (λ field. Ok field.1) after e in
     let t = listed_takes w8 256 wide8 (λ id. id == p) place s.value.0 s.value.1 each s.is in
@@ -60,30 +60,30 @@ pub record IsRead (conf : Conf) (p : ℕ) (bytes : List ℕ) (entries : List Ent
   pub total : ℕ
   pub few : total ≤ 4000000000
   pub are : AreEntries conf p total None entries
-  pub text : bytes ≡ head_text p total ++ flat_map entry_text entries
+  pub text : bytes ≡ script_head_text p total ++ flat_map entry_text entries
 
 -- what is read of a file stands there
 pub file_takes : (conf : Conf) (p : ℕ) (bytes : List ℕ) (entries : List Entry) → AreBytes bytes → entries_of conf p bytes ≡ Ok entries → IsRead conf p bytes entries
-unfolding entries_of body_at total_at head_text
+unfolding entries_of body_at cue_count_at script_head_text
 file_takes conf p bytes entries each e =
-    let b = stepped (body_at conf p (start bytes)) (λ found. unless (left found.1 == 0) (Trailing found.1.at) found.0) entries e in
+    let b = stepped (body_at conf p (cursor_start bytes)) (λ found. unless (left found.1 == 0) (Trailing found.1.at) found.0) entries e in
     let q = passed (left b.value.1 == 0) (Trailing b.value.1.at) b.value.0 entries b.led in
-    let m = stepped (magic_at (start bytes)) (λ name. version_at name >>= λ version. id_at p version >>= λ id. total_at id >>= λ total. entries_at conf p total.0 total.0 None total.1) b.value b.is in
-    let v = stepped (version_at m.value) (λ version. id_at p version >>= λ id. total_at id >>= λ total. entries_at conf p total.0 total.0 None total.1) b.value m.led in
-    let i = stepped (id_at p v.value) (λ id. total_at id >>= λ total. entries_at conf p total.0 total.0 None total.1) b.value v.led in
-    let t = stepped (total_at i.value) (λ total. entries_at conf p total.0 total.0 None total.1) b.value i.led in
-    let first = magic_takes (start bytes) m.value each m.is in
+    let m = stepped (magic_at (cursor_start bytes)) (λ name. version_at name >>= λ version. partition_at p version >>= λ id. cue_count_at id >>= λ total. script_entries_at conf p total.0 total.0 None total.1) b.value b.is in
+    let v = stepped (version_at m.value) (λ version. partition_at p version >>= λ id. cue_count_at id >>= λ total. script_entries_at conf p total.0 total.0 None total.1) b.value m.led in
+    let i = stepped (partition_at p v.value) (λ id. cue_count_at id >>= λ total. script_entries_at conf p total.0 total.0 None total.1) b.value v.led in
+    let t = stepped (cue_count_at i.value) (λ total. script_entries_at conf p total.0 total.0 None total.1) b.value i.led in
+    let first = magic_takes (cursor_start bytes) m.value each m.is in
     let second = version_takes m.value v.value first.rest v.is in
     let third = id_takes p v.value i.value second.rest i.is in
     let fourth = listed_takes w64 (2 ^ 64) wide64 (λ total. nat_le total 4000000000) i.value t.value.0 t.value.1 third.rest t.is in
     let fifth = entries_take conf p t.value.0 t.value.0 None t.value.1 b.value.0 b.value.1 (omega arith) fourth.0.rest t.led in
     let numbered = takes_both v.value (p ∷ []) i.value (to_be_bytes w64 t.value.0) t.value.1 third fourth.0 in
     let versioned = takes_both m.value (to_be_bytes w16 1) v.value (p ∷ to_be_bytes w64 t.value.0) t.value.1 second numbered in
-    let head = takes_both (start bytes) (codes "XMSC") m.value (to_be_bytes w16 1 ++ p ∷ to_be_bytes w64 t.value.0) t.value.1 first versioned in
-    let whole = takes_both (start bytes) (head_text p t.value.0) t.value.1 (flat_map entry_text b.value.0) b.value.1 head fifth.0 in
+    let head = takes_both (cursor_start bytes) (codes "XMSC") m.value (to_be_bytes w16 1 ++ p ∷ to_be_bytes w64 t.value.0) t.value.1 first versioned in
+    let whole = takes_both (cursor_start bytes) (script_head_text p t.value.0) t.value.1 (flat_map entry_text b.value.0) b.value.1 head fifth.0 in
     let none : ahead b.value.1 ≡ [] = nil_from_length (ahead b.value.1) (eqb-true (left b.value.1) 0 q.true) in
-    let all : bytes ≡ head_text p t.value.0 ++ flat_map entry_text b.value.0
-    = whole.parts ∙ ap (λ rest. (head_text p t.value.0 ++ flat_map entry_text b.value.0) ++ rest) none ∙ append-nil (head_text p t.value.0 ++ flat_map entry_text b.value.0) in
+    let all : bytes ≡ script_head_text p t.value.0 ++ flat_map entry_text b.value.0
+    = whole.parts ∙ ap (λ rest. (script_head_text p t.value.0 ++ flat_map entry_text b.value.0) ++ rest) none ∙ append-nil (script_head_text p t.value.0 ++ flat_map entry_text b.value.0) in
     subst (λ found. IsRead conf p bytes found) q.is (
     record {
       total = t.value.0;
@@ -94,19 +94,19 @@ file_takes conf p bytes entries each e =
     )
 
 -- a file that is read is the one spelling of its cues
-pub file_spells : (conf : Conf) (p : ℕ) (bytes : List ℕ) (entries : List Entry) → IsRead conf p bytes entries → IsSpelled conf p bytes (expanded entries)
+pub file_spells : (conf : Conf) (p : ℕ) (bytes : List ℕ) (entries : List Entry) → IsRead conf p bytes entries → IsSpelledScript conf p bytes (expanded entries)
 unfolding script_text
 file_spells conf p bytes entries is =
     let counted : length (expanded entries) ≡ is.total = have_cues conf p is.total None entries is.are in
     let again : runs (expanded entries) ≡ entries = runs_again None entries (are_longest conf p is.total None entries is.are) in
     record {
       script = are_script conf p is.total entries is.few is.are;
-      text = is.text ∙ ap (λ n. head_text p n ++ flat_map entry_text entries) (sym counted) ∙ ap (λ xs. head_text p (length (expanded entries)) ++ flat_map entry_text xs) (sym again);
+      text = is.text ∙ ap (λ n. script_head_text p n ++ flat_map entry_text entries) (sym counted) ∙ ap (λ xs. script_head_text p (length (expanded entries)) ++ flat_map entry_text xs) (sym again);
     }
 
 -- what is read of bytes is what they spell
-pub script_takes : (conf : Conf) (p : ℕ) (bytes : List ℕ) (cues : List Cue) → AreBytes bytes → script conf p bytes ≡ Ok cues → IsSpelled conf p bytes cues
-unfolding script
+pub script_takes : (conf : Conf) (p : ℕ) (bytes : List ℕ) (cues : List Cue) → AreBytes bytes → script_read conf p bytes ≡ Ok cues → IsSpelledScript conf p bytes cues
+unfolding script_read
 script_takes conf p bytes cues each e =
     let s = stepped (entries_of conf p bytes) (λ entries. Ok (expanded entries)) cues e in
-    subst (λ found. IsSpelled conf p bytes found) (ok_is (expanded s.value) cues s.led) (file_spells conf p bytes s.value (file_takes conf p bytes s.value each s.is))
+    subst (λ found. IsSpelledScript conf p bytes found) (ok_is (expanded s.value) cues s.led) (file_spells conf p bytes s.value (file_takes conf p bytes s.value each s.is))

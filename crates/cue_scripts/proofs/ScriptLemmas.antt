@@ -5,11 +5,11 @@ use Rattle.std.specs.List.{AllByRecursion}
 use Rattle.std.proofs.lemmas.Bool.{eqb-true}
 use Rattle.std.proofs.lemmas.List.{length-append}
 use Rattle.xm_conf.specs.Configuration.{Conf}
-use Rattle.machine_model.specs.Cue.{Away, Cue, Mine, Slot}
+use Rattle.machine_model.specs.Cue.{Away, Cue, Mine, CueSlot}
 use Rattle.machine_model.specs.Told.{AllHalted, NoEvent, NotKept, OwnPuts, OwnStill, OwnTakes, OwnTraffic, Sight, Unseen, Words}
-use Rattle.cue_scripts.specs.Entries.{Alike, AreLongest, Entry, Other, count_of, cues_of, expanded, own_of, plain}
-use Rattle.cue_scripts.specs.Kept.{HasCueRanges, HasRanges, HasSightRange, HasTrafficRange, IsKept}
-use Rattle.cue_scripts.specs.Script.{CanHear, CanSee, HaltsLast, IsCue, IsScript, is_shown, is_system}
+use Rattle.cue_scripts.specs.Entries.{Alike, AreLongest, Entry, Other, cue_count, cues_of, expanded, plain_cue_of, bare_cue}
+use Rattle.cue_scripts.specs.Kept.{HasCueRanges, HasEntryRanges, HasSightRange, HasTrafficRange, AreKeptEntries}
+use Rattle.cue_scripts.specs.Script.{CanHear, CanSee, HaltsLast, IsCue, IsScript, is_shown, is_system_partition}
 use Rattle.cue_scripts.proofs.CountLemmas.{length_cues}
 use Rattle.cue_scripts.proofs.WholeTakeLemmas.{AreEntries, IsEntry}
 
@@ -20,7 +20,7 @@ are_longest conf p cues last (Alike own count ∷ later) are = ((are.0.0, are.0.
 are_longest conf p cues last (Other cue ∷ later) are = (are.0.0, are_longest conf p (cues - 1) None later are.2)
 
 -- an entry has no more cues than are left
-within : (conf : Conf) (p cues : ℕ) (last : Option Bool) (entry : Entry) → IsEntry conf p cues last entry → 1 ≤ cues → count_of entry ≤ cues
+within : (conf : Conf) (p cues : ℕ) (last : Option Bool) (entry : Entry) → IsEntry conf p cues last entry → 1 ≤ cues → cue_count entry ≤ cues
 within conf p cues last (Alike own count) is some = is.2
 within conf p cues last (Other cue) is some = some
 
@@ -29,7 +29,7 @@ pub have_cues : (conf : Conf) (p cues : ℕ) (last : Option Bool) (entries : Lis
 have_cues conf p cues last [] are = sym are
 have_cues conf p cues last (entry ∷ later) are =
     let some = within conf p cues last entry are.0 are.1 in
-    let others = have_cues conf p (cues - count_of entry) (own_of entry) later are.2 in
+    let others = have_cues conf p (cues - cue_count entry) (plain_cue_of entry) later are.2 in
     omega (arith, length-append (cues_of entry) (expanded later), length_cues entry, others, some)
 
 -- the bytes that were shown are few
@@ -50,19 +50,19 @@ hears conf p OwnStill can = tt
 hears conf p (OwnPuts name bytes) can = can.short
 hears conf p (OwnTakes name) can = tt
 
-sees : (system : Bool) (mine : Slot) (seen : Sight) → CanSee system mine seen → HasSightRange seen
+sees : (system : Bool) (mine : CueSlot) (seen : Sight) → CanSee system mine seen → HasSightRange seen
 sees system mine Unseen can = tt
 sees system mine NotKept can = tt
 sees system mine (Words bytes) can = few_shown (length bytes) can.2
 
-pub have_ranges : (conf : Conf) (p cues : ℕ) (last : Option Bool) (entries : List Entry) → AreEntries conf p cues last entries → AllByRecursion HasRanges entries
+pub have_ranges : (conf : Conf) (p cues : ℕ) (last : Option Bool) (entries : List Entry) → AreEntries conf p cues last entries → AllByRecursion HasEntryRanges entries
 have_ranges conf p cues last [] are = tt
 have_ranges conf p cues last (Alike own count ∷ later) are = (tt, have_ranges conf p (cues - count) (Some own) later are.2)
 have_ranges conf p cues last (Other cue ∷ later) are =
-    (record { traffic = hears conf p cue.traffic are.0.1.traffic; seen = sees (is_system conf p) cue.mine cue.seen are.0.1.seen }, have_ranges conf p (cues - 1) None later are.2)
+    (record { traffic = hears conf p cue.traffic are.0.1.traffic; seen = sees (is_system_partition conf p) cue.mine cue.seen are.0.1.seen }, have_ranges conf p (cues - 1) None later are.2)
 
 -- so they can be kept
-pub are_kept : (conf : Conf) (p cues : ℕ) (entries : List Entry) → cues ≤ 4000000000 → AreEntries conf p cues None entries → IsKept entries
+pub are_kept : (conf : Conf) (p cues : ℕ) (entries : List Entry) → cues ≤ 4000000000 → AreEntries conf p cues None entries → AreKeptEntries entries
 are_kept conf p cues entries few are = record {
   longest = are_longest conf p cues None entries are;
   few = subst (λ n. n ≤ 4000000000) (sym (have_cues conf p cues None entries are)) few;
@@ -70,13 +70,13 @@ are_kept conf p cues entries few are = record {
 }
 
 -- others may tell a plain cue
-plain_cue : (conf : Conf) (p : ℕ) (own : Bool) → IsCue conf p (plain own)
-unfolding plain
+plain_cue : (conf : Conf) (p : ℕ) (own : Bool) → IsCue conf p (bare_cue own)
+unfolding bare_cue
 plain_cue conf p true = record { traffic = tt; order = tt; alone = (refl, refl); seen = tt }
 plain_cue conf p false = record { traffic = tt; order = tt; alone = tt; seen = tt }
 
 -- and many of them, before others
-plain_cues : (conf : Conf) (p : ℕ) (own : Bool) (count : ℕ) (later : List Cue) → AllByRecursion (IsCue conf p) later → AllByRecursion (IsCue conf p) (replicate count (plain own) ++ later)
+plain_cues : (conf : Conf) (p : ℕ) (own : Bool) (count : ℕ) (later : List Cue) → AllByRecursion (IsCue conf p) later → AllByRecursion (IsCue conf p) (replicate count (bare_cue own) ++ later)
 plain_cues conf p own zero later each = each
 plain_cues conf p own (suc count) later each = (plain_cue conf p own, plain_cues conf p own count later each)
 
@@ -87,11 +87,11 @@ are_cues conf p cues last (Alike own count ∷ later) are = plain_cues conf p ow
 are_cues conf p cues last (Other cue ∷ later) are = (are.0.1, are_cues conf p (cues - 1) None later are.2)
 
 -- a plain cue does not halt the system
-no_halt : (own : Bool) → (plain own).whole ≡ AllHalted → ⊥
-unfolding plain
+no_halt : (own : Bool) → (bare_cue own).whole ≡ AllHalted → ⊥
+unfolding bare_cue
 no_halt own e = cc
 
-plain_halts : (own : Bool) (count : ℕ) (later : List Cue) → HaltsLast later → HaltsLast (replicate count (plain own) ++ later)
+plain_halts : (own : Bool) (count : ℕ) (later : List Cue) → HaltsLast later → HaltsLast (replicate count (bare_cue own) ++ later)
 plain_halts own zero later halts = halts
 plain_halts own (suc count) later halts = (λ e. absurd (no_halt own e), plain_halts own count later halts)
 

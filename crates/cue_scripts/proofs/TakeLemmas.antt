@@ -13,12 +13,12 @@ use Rattle.xm_conf.specs.Configuration.{Conf}
 use Rattle.xef_images.specs.FieldLemmas.{Takes, takes_both, wide16, wide32}
 use Rattle.xef_images.specs.StepLemmas.{stepped, ok_is}
 use Rattle.xef_images.specs.Steps.{◌>>=◌}
-use Rattle.machine_model.specs.Cue.{Away, Cue, Mine, Slot}
+use Rattle.machine_model.specs.Cue.{Away, Cue, Mine, CueSlot}
 use Rattle.machine_model.specs.Told.{AllHalted, AllReset, NoEvent, NotKept, OwnPuts, OwnStill, OwnTakes, OwnTraffic, Sight, Unseen, WholeEvent, Words}
 use Rattle.cue_scripts.specs.Entries.{is_away}
 use Rattle.cue_scripts.specs.Script.{CanHear, CanSee, IsOrder, gives_queue, is_length, is_shown, most_heard}
 use Rattle.cue_scripts.specs.Spelling.{event_byte, order_text, reset_byte, sight_text, slot_byte, traffic_text}
-use Rattle.cue_scripts.specs.Reading.{bytes_at, event_at, event_of_byte, is_event, is_heard, is_sight, listed_at, message_at, number_at, order_at, order_of_kind, put_at, reset_at, sight_at, sight_of_kind, signal_at, slot_at, slot_of_byte, take_at, traffic_at, traffic_of_kind, words_at}
+use Rattle.cue_scripts.specs.Reading.{bytes_at, event_at, event_of_byte, is_event, is_heard, is_sight, listed_at, message_at, number_at, order_at, order_of_kind, put_message_at, reset_at, cue_sight_at, sight_of_kind, signal_at, cue_slot_at, slot_of_byte, take_at, traffic_at, traffic_of_kind, shown_words_at}
 use Rattle.cue_scripts.specs.declared.fault.ScriptFault.TheVariants.{Field}
 use Rattle.cue_scripts.proofs.FieldLemmas.{AreBytes-front, begins, bytes_take, listed_takes, number_takes}
 
@@ -35,11 +35,11 @@ pub two : (n : ℕ) → nat_le n 2 ≡ true → (n == 0) ≡ false → (n == 1) 
 two n few f0 f1 = grind (arith, nat_tests, few, f0, f1)
 
 -- a slot that is read stands there
-pub slot_takes : (place : Place) (mine : Slot) (after : Place) → AreBytes (ahead place) → slot_at place ≡ Ok (mine, after) → Takes place (slot_byte mine ∷ []) after
-unfolding slot_at
+pub slot_takes : (place : Place) (mine : CueSlot) (after : Place) → AreBytes (ahead place) → cue_slot_at place ≡ Ok (mine, after) → Takes place (slot_byte mine ∷ []) after
+unfolding cue_slot_at
 slot_takes place mine after each e =
     let k = begins (λ byte. nat_le byte 2) (λ byte behind. Ok (slot_of_byte byte, behind)) place (mine, after) each e in
-    let P : Slot × Place → Type 0 = λ x. Takes place (slot_byte x.0 ∷ []) x.1 in
+    let P : CueSlot × Place → Type 0 = λ x. Takes place (slot_byte x.0 ∷ []) x.1 in
     subst P (ok_is (slot_of_byte k.kind, k.behind) (mine, after) k.led) (rw (slot_spelled k.kind k.passes) at k.first)
   where
     by : (n : ℕ) (a b : Bool) → (n == 0) ≡ a → (n == 2) ≡ b → nat_le n 2 ≡ true → n ≡ slot_byte (if a then Away else Mine b)
@@ -51,9 +51,9 @@ slot_takes place mine after each e =
     slot_spelled n few = ap (λ b. b ∷ []) (by n (n == 0) (n == 2) refl refl few)
 
 -- a message that is read behind its kind stands there
-pub put_takes : (conf : Conf) (p : ℕ) (place behind : Place) (traffic : OwnTraffic) (after : Place) → Takes place (1 ∷ []) behind → put_at conf p behind ≡ Ok (traffic, after)
+pub put_takes : (conf : Conf) (p : ℕ) (place behind : Place) (traffic : OwnTraffic) (after : Place) → Takes place (1 ∷ []) behind → put_message_at conf p behind ≡ Ok (traffic, after)
     → Takes place (traffic_text traffic) after × CanHear conf p traffic
-unfolding put_at message_at traffic_text
+unfolding put_message_at message_at traffic_text
 put_takes conf p place behind traffic after kind e =
     let n = begins (λ name. is_some (most_heard conf p name)) (λ name later. message_at (most_heard conf p name) name later) behind (traffic, after) kind.rest e in
     let most = most_heard conf p n.kind in

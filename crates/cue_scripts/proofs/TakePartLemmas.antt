@@ -14,34 +14,34 @@ use Rattle.xm_conf.specs.Configuration.{Conf}
 use Rattle.xef_images.specs.FieldLemmas.{Takes, takes_both, wide32}
 use Rattle.xef_images.specs.StepLemmas.{stepped, ok_is}
 use Rattle.xef_images.specs.Steps.{◌>>=◌}
-use Rattle.machine_model.specs.Cue.{Away, Cue, Mine, Slot}
+use Rattle.machine_model.specs.Cue.{Away, Cue, Mine, CueSlot}
 use Rattle.machine_model.specs.Told.{AllHalted, AllReset, NoEvent, NotKept, OwnStill, OwnTraffic, Sight, Unseen, WholeEvent, Words}
 use Rattle.cue_scripts.specs.Entries.{is_away}
 use Rattle.cue_scripts.specs.Script.{CanHear, CanSee, IsOrder, is_shown}
 use Rattle.cue_scripts.specs.Spelling.{event_byte, order_text, reset_byte, sight_text, traffic_text}
-use Rattle.cue_scripts.specs.Reading.{bytes_at, event_at, event_of_byte, is_event, is_heard, is_sight, number_at, order_at, order_of_kind, put_at, reset_at, signal_at, take_at, sight_at, sight_of_kind, traffic_at, traffic_of_kind, words_at}
+use Rattle.cue_scripts.specs.Reading.{bytes_at, event_at, event_of_byte, is_event, is_heard, is_sight, number_at, order_at, order_of_kind, put_message_at, reset_at, signal_at, take_at, cue_sight_at, sight_of_kind, traffic_at, traffic_of_kind, shown_words_at}
 use Rattle.cue_scripts.proofs.FieldLemmas.{AreBytes-front, begins, bytes_take, number_takes}
 use Rattle.cue_scripts.proofs.TakeLemmas.{is_this, no_signal, put_takes, take_takes, two}
 
 -- what holds in a slot of the partition's own alone
-abbrev pub InOwn : Slot → Type 0 → Type 0
+abbrev pub InOwn : CueSlot → Type 0 → Type 0
 InOwn Away P = Unit {0}
 InOwn (Mine first) P = P
 
 -- something that is heard is not heard in a slot of the partition's own
-not_own : (most : ℕ) (mine : Slot) (kind : ℕ) (P : Type 0) → (kind == 0) ≡ false → is_heard most mine kind ≡ true → InOwn mine P
+not_own : (most : ℕ) (mine : CueSlot) (kind : ℕ) (P : Type 0) → (kind == 0) ≡ false → is_heard most mine kind ≡ true → InOwn mine P
 not_own most Away kind P some heard = tt
 not_own most (Mine first) kind P some heard =
     let none = rw some at heard in
     absurd cc
 
 -- nothing is heard anywhere
-in_own : (mine : Slot) (P : Type 0) → P → InOwn mine P
+in_own : (mine : CueSlot) (P : Type 0) → P → InOwn mine P
 in_own Away P holds = tt
 in_own (Mine first) P holds = holds
 
 -- traffic that is read stands there
-pub traffic_takes : (conf : Conf) (p : ℕ) (mine : Slot) (place : Place) (traffic : OwnTraffic) (after : Place) → AreBytes (ahead place) → traffic_at conf p mine place ≡ Ok (traffic, after)
+pub traffic_takes : (conf : Conf) (p : ℕ) (mine : CueSlot) (place : Place) (traffic : OwnTraffic) (after : Place) → AreBytes (ahead place) → traffic_at conf p mine place ≡ Ok (traffic, after)
     → Takes place (traffic_text traffic) after × CanHear conf p traffic × InOwn mine (traffic ≡ OwnStill)
 unfolding traffic_at traffic_text
 traffic_takes conf p mine place traffic after each e =
@@ -50,7 +50,7 @@ traffic_takes conf p mine place traffic after each e =
   where
     at : (kind : ℕ) (behind : Place) → is_heard 3 mine kind ≡ true → Takes place (kind ∷ []) behind
         → (a b c : Bool) → (kind == 0) ≡ a → (kind == 1) ≡ b → (kind == 2) ≡ c
-        → (if a then Ok (OwnStill, behind) else if b then put_at conf p behind else if c then take_at conf p behind else signal_at behind) ≡ Ok (traffic, after)
+        → (if a then Ok (OwnStill, behind) else if b then put_message_at conf p behind else if c then take_at conf p behind else signal_at behind) ≡ Ok (traffic, after)
         → Takes place (traffic_text traffic) after × CanHear conf p traffic × InOwn mine (traffic ≡ OwnStill)
     at kind behind passes first true b c fa fb fc led =
         let P : OwnTraffic × Place → Type 0 = λ x. Takes place (traffic_text x.0) x.1 × CanHear conf p x.0 × InOwn mine (x.0 ≡ OwnStill) in
@@ -77,7 +77,7 @@ reset_takes mode place behind order after kind e =
     )
 
 -- of what is heard up to 6 it is the one that is left
-six : (mine : Slot) (n : ℕ) → is_heard 6 mine n ≡ true → (n == 0) ≡ false → (n == 1) ≡ false → (n == 2) ≡ false → (n == 3) ≡ false → (n == 4) ≡ false → (n == 5) ≡ false → n ≡ 6
+six : (mine : CueSlot) (n : ℕ) → is_heard 6 mine n ≡ true → (n == 0) ≡ false → (n == 1) ≡ false → (n == 2) ≡ false → (n == 3) ≡ false → (n == 4) ≡ false → (n == 5) ≡ false → n ≡ 6
 six Away n heard f0 f1 f2 f3 f4 f5 =
     let few : nat_le n 6 ≡ true = rw f0 at heard in
     grind (arith, nat_tests, few, f0, f1, f2, f3, f4, f5)
@@ -86,7 +86,7 @@ six (Mine first) n heard f0 f1 f2 f3 f4 f5 =
     absurd cc
 
 -- an order that is read stands there
-pub order_takes : (mine : Slot) (place : Place) (order : Option Order) (after : Place) → AreBytes (ahead place) → order_at mine place ≡ Ok (order, after)
+pub order_takes : (mine : CueSlot) (place : Place) (order : Option Order) (after : Place) → AreBytes (ahead place) → order_at mine place ≡ Ok (order, after)
     → Takes place (order_text order) after × IsOrder order × InOwn mine (order ≡ None)
 unfolding order_at order_text
 order_takes mine place order after each e =
@@ -154,7 +154,7 @@ event_takes last place whole after each e =
         (rw h.0 at first, λ halts. h.1)
 
 -- something that is seen is one of two, in a slot of a system partition's own
-in_sight : (system : Bool) (mine : Slot) (n : ℕ) → (n == 0) ≡ false → is_sight system mine n ≡ true → (is_away mine ≡ false) × (system ≡ true) × (nat_le n 2 ≡ true)
+in_sight : (system : Bool) (mine : CueSlot) (n : ℕ) → (n == 0) ≡ false → is_sight system mine n ≡ true → (is_away mine ≡ false) × (system ≡ true) × (nat_le n 2 ≡ true)
 in_sight system Away n some passes =
     let none = rw some at passes in
     absurd cc
@@ -164,9 +164,9 @@ in_sight false (Mine first) n some passes =
     absurd cc
 
 -- bytes that were shown, read behind their kind, stand there
-words_take : (system : Bool) (mine : Slot) (place behind : Place) (seen : Sight) (after : Place) → (is_away mine ≡ false) × (system ≡ true) → Takes place (2 ∷ []) behind → words_at behind ≡ Ok (seen, after)
+words_take : (system : Bool) (mine : CueSlot) (place behind : Place) (seen : Sight) (after : Place) → (is_away mine ≡ false) × (system ≡ true) → Takes place (2 ∷ []) behind → shown_words_at behind ≡ Ok (seen, after)
     → Takes place (sight_text seen) after × CanSee system mine seen
-unfolding words_at sight_text
+unfolding shown_words_at sight_text
 words_take system mine place behind seen after in_own_slot kind e =
     let n = begins is_shown (λ count later. bytes_at count later >>= λ bytes. Ok (Words bytes.0, bytes.1)) behind (seen, after) kind.rest e in
     let b = stepped (bytes_at n.kind n.behind) (λ bytes. Ok (Words bytes.0, bytes.1)) (seen, after) n.led in
@@ -180,9 +180,9 @@ words_take system mine place behind seen after in_own_slot kind e =
     )
 
 -- a sight that is read stands there
-pub sight_takes : (system : Bool) (mine : Slot) (place : Place) (seen : Sight) (after : Place) → AreBytes (ahead place) → sight_at system mine place ≡ Ok (seen, after)
+pub sight_takes : (system : Bool) (mine : CueSlot) (place : Place) (seen : Sight) (after : Place) → AreBytes (ahead place) → cue_sight_at system mine place ≡ Ok (seen, after)
     → Takes place (sight_text seen) after × CanSee system mine seen
-unfolding sight_at sight_text
+unfolding cue_sight_at sight_text
 sight_takes system mine place seen after each e =
     let k = begins (is_sight system mine) sight_of_kind place (seen, after) each e in
     let n = k.kind in
@@ -192,7 +192,7 @@ sight_takes system mine place seen after each e =
     P x = Takes place (sight_text x.0) x.1 × CanSee system mine x.0
 
     at : (n : ℕ) (behind : Place) → is_sight system mine n ≡ true → Takes place (n ∷ []) behind → (b0 b1 : Bool) → (n == 0) ≡ b0 → (n == 1) ≡ b1
-        → (if b0 then Ok (Unseen, behind) else if b1 then Ok (NotKept, behind) else words_at behind) ≡ Ok (seen, after)
+        → (if b0 then Ok (Unseen, behind) else if b1 then Ok (NotKept, behind) else shown_words_at behind) ≡ Ok (seen, after)
         → Takes place (sight_text seen) after × CanSee system mine seen
     at n behind passes first true b1 f0 f1 led = subst P {x = (Unseen, behind)} (ok_is (Unseen, behind) (seen, after) led) (rw (is_this n 0 f0) at first, tt)
     at n behind passes first false true f0 f1 led =

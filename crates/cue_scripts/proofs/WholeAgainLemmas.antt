@@ -8,18 +8,18 @@ use Rattle.std.proofs.lemmas.Bool.{eq-eqb}
 use Rattle.std.proofs.lemmas.Bool.Decides.{Decides-and}
 use Rattle.std.proofs.lemmas.List.{append-nil}
 use Rattle.std.proofs.lemmas.List.Concat.{flat_map-cons}
-use Rattle.xm_base.specs.Cursor.{Place, ahead, left, start}
+use Rattle.xm_base.specs.Cursor.{Place, ahead, left, cursor_start}
 use Rattle.xm_conf.specs.Configuration.{Conf}
 use Rattle.xef_images.specs.FieldLemmas.{wide16, wide32}
 use Rattle.xef_images.specs.ImageLemmas.{Decides-nat_le}
 use Rattle.xef_images.specs.Steps.{◌>>=◌}
-use Rattle.machine_model.specs.Cue.{Away, Cue, Mine, Slot}
+use Rattle.machine_model.specs.Cue.{Away, Cue, Mine, CueSlot}
 use Rattle.machine_model.specs.Told.{AllHalted, OwnStill, OwnTraffic}
 use Rattle.xm_base.specs.declared.partition.Order.{Order}
-use Rattle.cue_scripts.specs.Entries.{Alike, AreLongest, Entry, Other, count_of, own_of, plain_kind}
-use Rattle.cue_scripts.specs.Script.{IsAlone, IsCue, is_system}
+use Rattle.cue_scripts.specs.Entries.{Alike, AreLongest, Entry, Other, cue_count, plain_cue_of, plain_kind}
+use Rattle.cue_scripts.specs.Script.{HearsNothing, IsCue, is_system_partition}
 use Rattle.cue_scripts.specs.Spelling.{alike_byte, cue_text, entry_text, event_byte, order_text, sight_text, slot_byte, traffic_text}
-use Rattle.cue_scripts.specs.Reading.{alike_at, cue_at, entries_at, entry_at, entry_of_kind, is_kind, listed_at, other_at}
+use Rattle.cue_scripts.specs.Reading.{alike_at, cue_at, script_entries_at, script_entry_at, entry_of_kind, is_entry_kind, listed_at, other_at}
 use Rattle.cue_scripts.proofs.FieldLemmas.{Reads, listed_again}
 use Rattle.cue_scripts.proofs.AgainLemmas.{event_again, leads, order_again, sight_again, slot_again, traffic_again}
 use Rattle.cue_scripts.proofs.EntriesLemmas.{one_more, none_left}
@@ -27,11 +27,11 @@ use Rattle.cue_scripts.proofs.TakePartLemmas.{InOwn}
 use Rattle.cue_scripts.proofs.WholeTakeLemmas.{AreEntries, IsEntry}
 
 -- nothing of others in a slot of the partition's own
-still : (mine : Slot) (traffic : OwnTraffic) (order : Option Order) → IsAlone mine traffic order → InOwn mine (traffic ≡ OwnStill)
+still : (mine : CueSlot) (traffic : OwnTraffic) (order : Option Order) → HearsNothing mine traffic order → InOwn mine (traffic ≡ OwnStill)
 still Away traffic order alone = tt
 still (Mine first) traffic order alone = alone.0
 
-none : (mine : Slot) (traffic : OwnTraffic) (order : Option Order) → IsAlone mine traffic order → InOwn mine (order ≡ None)
+none : (mine : CueSlot) (traffic : OwnTraffic) (order : Option Order) → HearsNothing mine traffic order → InOwn mine (order ≡ None)
 none Away traffic order alone = tt
 none (Mine first) traffic order alone = alone.1
 
@@ -47,11 +47,11 @@ cue_again conf p last place cue rest is halts stands =
     (m.ahead ∙ append_assoc front tail rest ∙ append_assoc (traffic_text cue.traffic) (order_text cue.order) (tail ++ rest)) in
     let o = order_again cue.mine t.after cue.order (tail ++ rest) is.order (none cue.mine cue.traffic cue.order is.alone) t.ahead in
     let w = event_again last o.after cue.whole (sight_text cue.seen ++ rest) halts o.ahead in
-    let s = sight_again (is_system conf p) cue.mine w.after cue.seen rest is.seen w.ahead in
+    let s = sight_again (is_system_partition conf p) cue.mine w.after cue.seen rest is.seen w.ahead in
     record { after = s.after; is = rw (m.is, t.is, o.is, w.is, s.is) refl; ahead = s.ahead }
 
 -- a kind may stand after another one
-kind_alike : (last : Option Bool) (own : Bool) → last ≢ Some own → is_kind last (alike_byte own) ≡ true
+kind_alike : (last : Option Bool) (own : Bool) → last ≢ Some own → is_entry_kind last (alike_byte own) ≡ true
 kind_alike None true other = refl
 kind_alike None false other = refl
 kind_alike (Some true) true other = absurd (other refl)
@@ -59,7 +59,7 @@ kind_alike (Some true) false other = refl
 kind_alike (Some false) true other = refl
 kind_alike (Some false) false other = absurd (other refl)
 
-kind_other : (last : Option Bool) → is_kind last 2 ≡ true
+kind_other : (last : Option Bool) → is_entry_kind last 2 ≡ true
 kind_other None = refl
 kind_other (Some true) = refl
 kind_other (Some false) = refl
@@ -82,36 +82,36 @@ other_again conf p cues at place cue rest other is halts stands =
 
 -- an entry
 pub entry_again : (conf : Conf) (p cues : ℕ) (last : Option Bool) (place : Place) (entry : Entry) (rest : List ℕ) → cues < 2 ^ 32 → IsEntry conf p cues last entry → ahead place ≡ entry_text entry ++ rest
-    → Reads (entry_at conf p cues last place) entry rest
-unfolding entry_at entry_text
+    → Reads (script_entry_at conf p cues last place) entry rest
+unfolding script_entry_at entry_text
 entry_again conf p cues last place (Alike false count) rest small is stands =
-    let k = leads (is_kind last) (entry_of_kind conf p cues place.at) place 0 (to_be_bytes w32 count ++ rest) (omega arith) (kind_alike last false is.0) stands in
+    let k = leads (is_entry_kind last) (entry_of_kind conf p cues place.at) place 0 (to_be_bytes w32 count ++ rest) (omega arith) (kind_alike last false is.0) stands in
     let a = alike_again false cues k.after count rest small is.1 is.2 k.ahead in
     record { after = a.after; is = k.is ∙ a.is; ahead = a.ahead }
 entry_again conf p cues last place (Alike true count) rest small is stands =
-    let k = leads (is_kind last) (entry_of_kind conf p cues place.at) place 1 (to_be_bytes w32 count ++ rest) (omega arith) (kind_alike last true is.0) stands in
+    let k = leads (is_entry_kind last) (entry_of_kind conf p cues place.at) place 1 (to_be_bytes w32 count ++ rest) (omega arith) (kind_alike last true is.0) stands in
     let a = alike_again true cues k.after count rest small is.1 is.2 k.ahead in
     record { after = a.after; is = k.is ∙ a.is; ahead = a.ahead }
 entry_again conf p cues last place (Other cue) rest small is stands =
-    let k = leads (is_kind last) (entry_of_kind conf p cues place.at) place 2 (cue_text cue ++ rest) (omega arith) (kind_other last) stands in
+    let k = leads (is_entry_kind last) (entry_of_kind conf p cues place.at) place 2 (cue_text cue ++ rest) (omega arith) (kind_other last) stands in
     let o = other_again conf p cues place.at k.after cue rest is.0 is.1 is.2 k.ahead in
     record { after = o.after; is = k.is ∙ o.is; ahead = o.ahead }
 
 -- an entry has a cue
-counts : (conf : Conf) (p cues : ℕ) (last : Option Bool) (entry : Entry) → IsEntry conf p cues last entry → 1 ≤ count_of entry
+counts : (conf : Conf) (p cues : ℕ) (last : Option Bool) (entry : Entry) → IsEntry conf p cues last entry → 1 ≤ cue_count entry
 counts conf p cues last (Alike own count) is = is.1
 counts conf p cues last (Other cue) is = omega arith
 
 -- entries
 pub entries_again : (conf : Conf) (p most cues : ℕ) (last : Option Bool) (place : Place) (entries : List Entry) (rest : List ℕ) → cues ≤ most → cues < 2 ^ 32 → AreEntries conf p cues last entries
-    → ahead place ≡ flat_map entry_text entries ++ rest → Reads (entries_at conf p most cues last place) entries rest
+    → ahead place ≡ flat_map entry_text entries ++ rest → Reads (script_entries_at conf p most cues last place) entries rest
 entries_again conf p most cues last place [] rest enough small are stands =
-    record { after = place; is = ap (λ n. entries_at conf p most n last place) are ∙ none_left conf p most last place; ahead = stands }
+    record { after = place; is = ap (λ n. script_entries_at conf p most n last place) are ∙ none_left conf p most last place; ahead = stands }
 entries_again conf p zero cues last place (entry ∷ later) rest enough small are stands = absurd (omega (arith, enough, are.1))
 entries_again conf p (suc most) cues last place (entry ∷ later) rest enough small are stands =
     let regrouped : flat_map entry_text (entry ∷ later) ++ rest ≡ entry_text entry ++ (flat_map entry_text later ++ rest)
     = ap (λ x. x ++ rest) (flat_map-cons entry_text entry later) ∙ append_assoc (entry_text entry) (flat_map entry_text later) rest in
     let counted = counts conf p cues last entry are.0 in
     let a = entry_again conf p cues last place entry (flat_map entry_text later ++ rest) small are.0 (stands ∙ regrouped) in
-    let b = entries_again conf p most (cues - count_of entry) (own_of entry) a.after later rest (omega (arith, enough, counted, are.1)) (omega (arith, small)) are.2 a.ahead in
+    let b = entries_again conf p most (cues - cue_count entry) (plain_cue_of entry) a.after later rest (omega (arith, enough, counted, are.1)) (omega (arith, small)) are.2 a.ahead in
     record { after = b.after; is = one_more conf p most cues last place entry a.after are.1 a.is ∙ rw b.is refl; ahead = b.ahead }

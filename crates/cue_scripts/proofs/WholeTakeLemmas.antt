@@ -15,20 +15,20 @@ use Rattle.xef_images.specs.FieldLemmas.{Takes, takes_both, wide32}
 use Rattle.xef_images.specs.ImageLemmas.{Decides-nat_le}
 use Rattle.xef_images.specs.StepLemmas.{stepped, ok_is}
 use Rattle.xef_images.specs.Steps.{◌>>=◌}
-use Rattle.machine_model.specs.Cue.{Away, Cue, Mine, Slot}
+use Rattle.machine_model.specs.Cue.{Away, Cue, Mine, CueSlot}
 use Rattle.machine_model.specs.Told.{AllHalted, OwnStill, OwnTraffic}
 use Rattle.xm_base.specs.declared.partition.Order.{Order}
-use Rattle.cue_scripts.specs.Entries.{Alike, AreLongest, Entry, MayFollow, Other, count_of, own_of, plain_kind}
-use Rattle.cue_scripts.specs.Script.{IsAlone, IsCue, is_system}
+use Rattle.cue_scripts.specs.Entries.{Alike, AreLongest, Entry, MayFollow, Other, cue_count, plain_cue_of, plain_kind}
+use Rattle.cue_scripts.specs.Script.{HearsNothing, IsCue, is_system_partition}
 use Rattle.cue_scripts.specs.Spelling.{alike_byte, cue_text, entry_text, event_byte, order_text, sight_text, slot_byte, traffic_text}
-use Rattle.cue_scripts.specs.Reading.{alike_at, cue_at, entries_at, entry_at, entry_of_kind, event_at, is_kind, listed_at, order_at, other_at, sight_at, slot_at, traffic_at, unless}
+use Rattle.cue_scripts.specs.Reading.{alike_at, cue_at, script_entries_at, script_entry_at, entry_of_kind, event_at, is_entry_kind, listed_at, order_at, other_at, cue_sight_at, cue_slot_at, traffic_at, unless}
 use Rattle.cue_scripts.specs.declared.fault.ScriptFault.TheVariants.{Field}
 use Rattle.cue_scripts.proofs.FieldLemmas.{begins, listed_takes, passed}
 use Rattle.cue_scripts.proofs.TakeLemmas.{is_this, slot_takes, two}
 use Rattle.cue_scripts.proofs.TakePartLemmas.{InOwn, event_takes, order_takes, sight_takes, traffic_takes}
 
 -- nothing of others in a slot of the partition's own
-alone : (mine : Slot) (traffic : OwnTraffic) (order : Option Order) → InOwn mine (traffic ≡ OwnStill) → InOwn mine (order ≡ None) → IsAlone mine traffic order
+alone : (mine : CueSlot) (traffic : OwnTraffic) (order : Option Order) → InOwn mine (traffic ≡ OwnStill) → InOwn mine (order ≡ None) → HearsNothing mine traffic order
 alone Away traffic order still none = tt
 alone (Mine first) traffic order still none = (still, none)
 
@@ -37,20 +37,20 @@ pub cue_takes : (conf : Conf) (p : ℕ) (last : Bool) (place : Place) (cue : Cue
     → Takes place (cue_text cue) after × IsCue conf p cue × (cue.whole ≡ AllHalted → last ≡ true)
 unfolding cue_at cue_text
 cue_takes conf p last place cue after each e =
-    let m = stepped (slot_at place) (λ mine. traffic_at conf p mine.0 mine.1 >>= λ traffic. order_at mine.0 traffic.1 >>= λ order. event_at last order.1 >>= λ whole. sight_at (is_system conf p) mine.0 whole.1 >>= λ seen. Ok (record { mine = mine.0; traffic = traffic.0; order = order.0; whole = whole.0; seen = seen.0 }, seen.1)) (cue, after) e in
+    let m = stepped (cue_slot_at place) (λ mine. traffic_at conf p mine.0 mine.1 >>= λ traffic. order_at mine.0 traffic.1 >>= λ order. event_at last order.1 >>= λ whole. cue_sight_at (is_system_partition conf p) mine.0 whole.1 >>= λ seen. Ok (record { mine = mine.0; traffic = traffic.0; order = order.0; whole = whole.0; seen = seen.0 }, seen.1)) (cue, after) e in
     let mine = m.value.0 in
-    let t = stepped (traffic_at conf p mine m.value.1) (λ traffic. order_at mine traffic.1 >>= λ order. event_at last order.1 >>= λ whole. sight_at (is_system conf p) mine whole.1 >>= λ seen. Ok (record { mine = mine; traffic = traffic.0; order = order.0; whole = whole.0; seen = seen.0 }, seen.1)) (cue, after) m.led in
+    let t = stepped (traffic_at conf p mine m.value.1) (λ traffic. order_at mine traffic.1 >>= λ order. event_at last order.1 >>= λ whole. cue_sight_at (is_system_partition conf p) mine whole.1 >>= λ seen. Ok (record { mine = mine; traffic = traffic.0; order = order.0; whole = whole.0; seen = seen.0 }, seen.1)) (cue, after) m.led in
     let traffic = t.value.0 in
-    let o = stepped (order_at mine t.value.1) (λ order. event_at last order.1 >>= λ whole. sight_at (is_system conf p) mine whole.1 >>= λ seen. Ok (record { mine = mine; traffic = traffic; order = order.0; whole = whole.0; seen = seen.0 }, seen.1)) (cue, after) t.led in
+    let o = stepped (order_at mine t.value.1) (λ order. event_at last order.1 >>= λ whole. cue_sight_at (is_system_partition conf p) mine whole.1 >>= λ seen. Ok (record { mine = mine; traffic = traffic; order = order.0; whole = whole.0; seen = seen.0 }, seen.1)) (cue, after) t.led in
     let order = o.value.0 in
-    let w = stepped (event_at last o.value.1) (λ whole. sight_at (is_system conf p) mine whole.1 >>= λ seen. Ok (record { mine = mine; traffic = traffic; order = order; whole = whole.0; seen = seen.0 }, seen.1)) (cue, after) o.led in
+    let w = stepped (event_at last o.value.1) (λ whole. cue_sight_at (is_system_partition conf p) mine whole.1 >>= λ seen. Ok (record { mine = mine; traffic = traffic; order = order; whole = whole.0; seen = seen.0 }, seen.1)) (cue, after) o.led in
     let whole = w.value.0 in
-    let s = stepped (sight_at (is_system conf p) mine w.value.1) (λ seen. Ok (record { mine = mine; traffic = traffic; order = order; whole = whole; seen = seen.0 }, seen.1)) (cue, after) w.led in
+    let s = stepped (cue_sight_at (is_system_partition conf p) mine w.value.1) (λ seen. Ok (record { mine = mine; traffic = traffic; order = order; whole = whole; seen = seen.0 }, seen.1)) (cue, after) w.led in
     let first = slot_takes place mine m.value.1 each m.is in
     let second = traffic_takes conf p mine m.value.1 traffic t.value.1 first.rest t.is in
     let third = order_takes mine t.value.1 order o.value.1 second.0.rest o.is in
     let fourth = event_takes last o.value.1 whole w.value.1 third.0.rest w.is in
-    let fifth = sight_takes (is_system conf p) mine w.value.1 s.value.0 s.value.1 fourth.0.rest s.is in
+    let fifth = sight_takes (is_system_partition conf p) mine w.value.1 s.value.0 s.value.1 fourth.0.rest s.is in
     let made : Cue × Place = (record { mine = mine; traffic = traffic; order = order; whole = whole; seen = s.value.0 }, s.value.1) in
     let P : Cue × Place → Type 0 = λ x. Takes place (cue_text x.0) x.1 × IsCue conf p x.0 × (x.0.whole ≡ AllHalted → last ≡ true) in
     let tail = takes_both o.value.1 (event_byte whole ∷ []) w.value.1 (sight_text s.value.0) s.value.1 fourth.0 fifth.0 in
@@ -73,7 +73,7 @@ IsEntry conf p cues last (Alike own count) = (last ≢ Some own) × (1 ≤ count
 IsEntry conf p cues last (Other cue) = (plain_kind cue ≡ None) × IsCue conf p cue × (cue.whole ≡ AllHalted → cues ≡ 1)
 
 -- a kind is one of three
-few_kinds : (last : Option Bool) (n : ℕ) → is_kind last n ≡ true → nat_le n 2 ≡ true
+few_kinds : (last : Option Bool) (n : ℕ) → is_entry_kind last n ≡ true → nat_le n 2 ≡ true
 few_kinds None n passes = passes
 few_kinds (Some own) n passes = ((Decides-and (nat_le n 2) (not (n == alike_byte own)) (decides (nat_le n 2)) (decides (not (n == alike_byte own)))).0 passes).0
   where
@@ -81,7 +81,7 @@ few_kinds (Some own) n passes = ((Decides-and (nat_le n 2) (not (n == alike_byte
     decides b = (λ e. e, λ e. e)
 
 -- a kind that does not repeat the one before it
-differs : (last : Option Bool) (own : Bool) → is_kind last (alike_byte own) ≡ true → last ≢ Some own
+differs : (last : Option Bool) (own : Bool) → is_entry_kind last (alike_byte own) ≡ true → last ≢ Some own
 differs None own passes same = absurd cc
 differs (Some true) true passes same = absurd cc
 differs (Some true) false passes same = absurd cc
@@ -122,15 +122,15 @@ other_takes conf p cues last at place behind entry after kind e =
     )
 
 -- an entry that is read stands there
-pub entry_takes : (conf : Conf) (p cues : ℕ) (last : Option Bool) (place : Place) (entry : Entry) (after : Place) → AreBytes (ahead place) → entry_at conf p cues last place ≡ Ok (entry, after)
+pub entry_takes : (conf : Conf) (p cues : ℕ) (last : Option Bool) (place : Place) (entry : Entry) (after : Place) → AreBytes (ahead place) → script_entry_at conf p cues last place ≡ Ok (entry, after)
     → Takes place (entry_text entry) after × IsEntry conf p cues last entry
-unfolding entry_at
+unfolding script_entry_at
 entry_takes conf p cues last place entry after each e =
-    let k = begins (is_kind last) (entry_of_kind conf p cues place.at) place (entry, after) each e in
+    let k = begins (is_entry_kind last) (entry_of_kind conf p cues place.at) place (entry, after) each e in
     let n = k.kind in
     at n k.behind k.passes k.first (n == 0) (n == 1) refl refl k.led
   where
-    at : (n : ℕ) (behind : Place) → is_kind last n ≡ true → Takes place (n ∷ []) behind → (b0 b1 : Bool) → (n == 0) ≡ b0 → (n == 1) ≡ b1
+    at : (n : ℕ) (behind : Place) → is_entry_kind last n ≡ true → Takes place (n ∷ []) behind → (b0 b1 : Bool) → (n == 0) ≡ b0 → (n == 1) ≡ b1
         → (if b0 then alike_at false cues behind else if b1 then alike_at true cues behind else other_at conf p (cues == 1) place.at behind) ≡ Ok (entry, after)
         → Takes place (entry_text entry) after × IsEntry conf p cues last entry
     at n behind passes first true b1 f0 f1 led =
@@ -143,17 +143,17 @@ entry_takes conf p cues last place entry after each e =
 -- entries that stand one after the other, with so many cues
 abbrev pub AreEntries : Conf → ℕ → ℕ → Option Bool → List Entry → Type 0
 AreEntries conf p cues last [] = cues ≡ 0
-AreEntries conf p cues last (entry ∷ later) = IsEntry conf p cues last entry × (1 ≤ cues) × AreEntries conf p (cues - count_of entry) (own_of entry) later
+AreEntries conf p cues last (entry ∷ later) = IsEntry conf p cues last entry × (1 ≤ cues) × AreEntries conf p (cues - cue_count entry) (plain_cue_of entry) later
 
 -- an entry has a cue
-counts : (conf : Conf) (p cues : ℕ) (last : Option Bool) (entry : Entry) → IsEntry conf p cues last entry → 1 ≤ count_of entry
+counts : (conf : Conf) (p cues : ℕ) (last : Option Bool) (entry : Entry) → IsEntry conf p cues last entry → 1 ≤ cue_count entry
 counts conf p cues last (Alike own count) is = is.1
 counts conf p cues last (Other cue) is = omega arith
 
 -- entries that are read stand there
 pub entries_take : (conf : Conf) (p most cues : ℕ) (last : Option Bool) (place : Place) (entries : List Entry) (after : Place) → cues ≤ most → AreBytes (ahead place)
-    → entries_at conf p most cues last place ≡ Ok (entries, after) → Takes place (flat_map entry_text entries) after × AreEntries conf p cues last entries
-unfolding entries_at
+    → script_entries_at conf p most cues last place ≡ Ok (entries, after) → Takes place (flat_map entry_text entries) after × AreEntries conf p cues last entries
+unfolding script_entries_at
 entries_take conf p zero cues last place entries after enough each e =
     let none : 0 ≡ cues = omega (arith, enough) in
     let P : List Entry × Place → Type 0 = λ x. Takes place (flat_map entry_text x.0) x.1 × AreEntries conf p cues last x.0 in
@@ -162,11 +162,11 @@ entries_take conf p (suc most) zero last place entries after enough each e =
     let P : List Entry × Place → Type 0 = λ x. Takes place (flat_map entry_text x.0) x.1 × AreEntries conf p 0 last x.0 in
     subst P {x = ([], place)} (ok_is ([], place) (entries, after) e) (record { parts = refl; rest = each }, refl)
 entries_take conf p (suc most) (suc fewer) last place entries after enough each e =
-    let a = stepped (entry_at conf p (suc fewer) last place) (λ entry. entries_at conf p most (suc fewer - count_of entry.0) (own_of entry.0) entry.1 >>= λ later. Ok (entry.0 ∷ later.0, later.1)) (entries, after) (rw (eqb-suc-zero fewer) at e) in
-    let b = stepped (entries_at conf p most (suc fewer - count_of a.value.0) (own_of a.value.0) a.value.1) (λ later. Ok (a.value.0 ∷ later.0, later.1)) (entries, after) a.led in
+    let a = stepped (script_entry_at conf p (suc fewer) last place) (λ entry. script_entries_at conf p most (suc fewer - cue_count entry.0) (plain_cue_of entry.0) entry.1 >>= λ later. Ok (entry.0 ∷ later.0, later.1)) (entries, after) (rw (eqb-suc-zero fewer) at e) in
+    let b = stepped (script_entries_at conf p most (suc fewer - cue_count a.value.0) (plain_cue_of a.value.0) a.value.1) (λ later. Ok (a.value.0 ∷ later.0, later.1)) (entries, after) a.led in
     let first = entry_takes conf p (suc fewer) last place a.value.0 a.value.1 each a.is in
     let counted = counts conf p (suc fewer) last a.value.0 first.1 in
-    let others = entries_take conf p most (suc fewer - count_of a.value.0) (own_of a.value.0) a.value.1 b.value.0 b.value.1 (omega (arith, enough, counted)) first.0.rest b.is in
+    let others = entries_take conf p most (suc fewer - cue_count a.value.0) (plain_cue_of a.value.0) a.value.1 b.value.0 b.value.1 (omega (arith, enough, counted)) first.0.rest b.is in
     let both = takes_both place (entry_text a.value.0) a.value.1 (flat_map entry_text b.value.0) b.value.1 first.0 others.0 in
     let P : List Entry × Place → Type 0 = λ x. Takes place (flat_map entry_text x.0) x.1 × AreEntries conf p (suc fewer) last x.0 in
     subst P {x = (a.value.0 ∷ b.value.0, b.value.1)} (ok_is (a.value.0 ∷ b.value.0, b.value.1) (entries, after) b.led)

@@ -9,20 +9,20 @@ use Rattle.std.proofs.lemmas.List.Concat.{flat_map-cons}
 use Rattle.xm_base.specs.declared.limits.TheConstants.{FILE_BYTES}
 use Rattle.xef_images.specs.ImageLemmas.{Decides-nat_le}
 use Rattle.machine_model.specs.Cue.{Cue}
-use Rattle.cue_scripts.specs.Entries.{Alike, AreLongest, Entry, MayFollow, Other, cues_of, expanded, is_same, own_of, plain, plain_kind, runs}
-use Rattle.cue_scripts.specs.Spelling.{entry_text, head_text, script_text}
-use Rattle.cue_scripts.specs.Written.{AreWhole, IsWritten, Written, closed, closed_by, is_open, kept_within, last_own, nothing_written, opened, repeated, repeated_by, with_cue, with_entry, with_kind}
+use Rattle.cue_scripts.specs.Entries.{Alike, AreLongest, Entry, MayFollow, Other, cues_of, expanded, is_same, plain_cue_of, bare_cue, plain_kind, runs}
+use Rattle.cue_scripts.specs.Spelling.{entry_text, script_head_text, script_text}
+use Rattle.cue_scripts.specs.Written.{AreWholeEntries, IsWritten, Written, entry_closed, closed_by, is_open, kept_within, last_own, nothing_written, entry_opened, plain_repeated, repeated_by, with_cue, with_script_entry, with_kind}
 use Rattle.cue_scripts.proofs.RunLemmas.{plain_is, runs_again, runs_expand, runs_longest}
 
 -- entries and one more that may stand there are as long as they can be
 more_longest : (last : Option Bool) (entries : List Entry) (entry : Entry) → AreLongest last entries → MayFollow (last_own last entries) entry → AreLongest last (entries ++ entry ∷ [])
 more_longest last [] entry longest may = (may, tt)
-more_longest last (first ∷ later) entry longest may = (longest.0, more_longest (own_of first) later entry longest.1 may)
+more_longest last (first ∷ later) entry longest may = (longest.0, more_longest (plain_cue_of first) later entry longest.1 may)
 
 -- the last one may repeat its cue once more
 grown_longest : (last : Option Bool) (entries : List Entry) (own : Bool) (count : ℕ) → AreLongest last (entries ++ Alike own count ∷ []) → AreLongest last (entries ++ Alike own (suc count) ∷ [])
 grown_longest last [] own count longest = ((longest.0.0, omega arith), tt)
-grown_longest last (first ∷ later) own count longest = (longest.0, grown_longest (own_of first) later own count longest.1)
+grown_longest last (first ∷ later) own count longest = (longest.0, grown_longest (plain_cue_of first) later own count longest.1)
 
 -- the cues of entries and of one more
 expanded_more : (entries : List Entry) (entry : Entry) → expanded (entries ++ entry ∷ []) ≡ expanded entries ++ cues_of entry
@@ -35,9 +35,9 @@ replicate_more zero cue = refl
 replicate_more (suc count) cue = ap (λ rest. cue ∷ rest) (replicate_more count cue)
 
 -- which cue is repeated last
-last_more : (last : Option Bool) (entries : List Entry) (entry : Entry) → last_own last (entries ++ entry ∷ []) ≡ own_of entry
+last_more : (last : Option Bool) (entries : List Entry) (entry : Entry) → last_own last (entries ++ entry ∷ []) ≡ plain_cue_of entry
 last_more last [] entry = refl
-last_more last (first ∷ later) entry = last_more (own_of first) later entry
+last_more last (first ∷ later) entry = last_more (plain_cue_of first) later entry
 
 -- a cue of an entry of its own
 runs_more : (cues : List Cue) (cue : Cue) (entry : Entry) → cues_of entry ≡ cue ∷ [] → MayFollow (last_own None (runs cues)) entry → runs (cues ++ cue ∷ []) ≡ runs cues ++ entry ∷ []
@@ -47,13 +47,13 @@ runs_more cues cue entry one may =
     ap runs (sym all) ∙ runs_again None (runs cues ++ entry ∷ []) (more_longest None (runs cues) entry (runs_longest cues) may)
 
 -- a cue that the last entry repeats
-runs_longer : (cues : List Cue) (whole : List Entry) (own : Bool) (count : ℕ) → runs cues ≡ whole ++ Alike own count ∷ [] → runs (cues ++ plain own ∷ []) ≡ whole ++ Alike own (suc count) ∷ []
+runs_longer : (cues : List Cue) (whole : List Entry) (own : Bool) (count : ℕ) → runs cues ≡ whole ++ Alike own count ∷ [] → runs (cues ++ bare_cue own ∷ []) ≡ whole ++ Alike own (suc count) ∷ []
 runs_longer cues whole own count are =
     let longest = grown_longest None whole own count (subst (AreLongest None) are (runs_longest cues)) in
-    let before : expanded whole ++ replicate count (plain own) ≡ cues = sym (expanded_more whole (Alike own count)) ∙ ap expanded (sym are) ∙ runs_expand cues in
-    let all : expanded (whole ++ Alike own (suc count) ∷ []) ≡ cues ++ plain own ∷ [] =
-    expanded_more whole (Alike own (suc count)) ∙ ap (λ xs. expanded whole ++ xs) (replicate_more count (plain own))
-    ∙ sym (append_assoc (expanded whole) (replicate count (plain own)) (plain own ∷ [])) ∙ ap (λ xs. xs ++ plain own ∷ []) before in
+    let before : expanded whole ++ replicate count (bare_cue own) ≡ cues = sym (expanded_more whole (Alike own count)) ∙ ap expanded (sym are) ∙ runs_expand cues in
+    let all : expanded (whole ++ Alike own (suc count) ∷ []) ≡ cues ++ bare_cue own ∷ [] =
+    expanded_more whole (Alike own (suc count)) ∙ ap (λ xs. expanded whole ++ xs) (replicate_more count (bare_cue own))
+    ∙ sym (append_assoc (expanded whole) (replicate count (bare_cue own)) (bare_cue own ∷ [])) ∙ ap (λ xs. xs ++ bare_cue own ∷ []) before in
     ap runs (sym all) ∙ runs_again None (whole ++ Alike own (suc count) ∷ []) longest
 
 -- the text of entries and of one more
@@ -62,8 +62,8 @@ text_more entries entry =
     flat_map-append entry_text entries (entry ∷ []) ∙ ap (λ xs. flat_map entry_text entries ++ xs) (flat_map-cons entry_text entry [] ∙ append-nil (entry_text entry))
 
 -- an entry more is whole
-whole_more : (whole : List Entry) (entry : Entry) (w : Written) → AreWhole whole w → AreWhole (whole ++ entry ∷ []) (with_entry entry w)
-unfolding with_entry
+whole_more : (whole : List Entry) (entry : Entry) (w : Written) → AreWholeEntries whole w → AreWholeEntries (whole ++ entry ∷ []) (with_script_entry entry w)
+unfolding with_script_entry
 whole_more whole entry w are =
     let same = text_more whole entry in
     let sized : length (flat_map entry_text (whole ++ entry ∷ [])) ≡ w.size + length (entry_text entry) =
@@ -79,32 +79,32 @@ whole_more whole entry w are =
 -- the cues of what was written, whatever is counted
 record Covers (cues : List Cue) (w : Written) : Type 0 where
   pub whole : List Entry
-  pub are : AreWhole whole w
-  pub entries : runs cues ≡ whole ++ opened w.own w.count
+  pub are : AreWholeEntries whole w
+  pub entries : runs cues ≡ whole ++ entry_opened w.own w.count
 
 -- what was written, with no plain cue that may get more
 pub record IsClosed (cues : List Cue) (w : Written) : Type 0 where
-  pub are : AreWhole (runs cues) w
+  pub are : AreWholeEntries (runs cues) w
   pub own : w.own ≡ None
 
 -- closing it makes all entries whole
-closes : (cues : List Cue) (w : Written) → Covers cues w → IsClosed cues (closed w)
-unfolding closed
+closes : (cues : List Cue) (w : Written) → Covers cues w → IsClosed cues (entry_closed w)
+unfolding entry_closed
 closes cues w is = at w.own refl
   where
     at : (last : Option Bool) → w.own ≡ last → IsClosed cues (closed_by last w)
     at None e =
-        let all : is.whole ≡ runs cues = sym (append-nil is.whole) ∙ ap (λ last. is.whole ++ opened last w.count) (sym e) ∙ sym is.entries in
-        record { are = subst (λ entries. AreWhole entries w) all is.are; own = e }
+        let all : is.whole ≡ runs cues = sym (append-nil is.whole) ∙ ap (λ last. is.whole ++ entry_opened last w.count) (sym e) ∙ sym is.entries in
+        record { are = subst (λ entries. AreWholeEntries entries w) all is.are; own = e }
     at (Some own) e =
-        let all : is.whole ++ Alike own w.count ∷ [] ≡ runs cues = ap (λ last. is.whole ++ opened last w.count) (sym e) ∙ sym is.entries in
+        let all : is.whole ++ Alike own w.count ∷ [] ≡ runs cues = ap (λ last. is.whole ++ entry_opened last w.count) (sym e) ∙ sym is.entries in
         let more = whole_more is.whole (Alike own w.count) w is.are in
-        let are = subst (λ entries. AreWhole entries (with_entry (Alike own w.count) w)) all more in
+        let are = subst (λ entries. AreWholeEntries entries (with_script_entry (Alike own w.count) w)) all more in
         record { are = record { size = are.size; text = are.text }; own = refl }
 
 -- closing it keeps the number of cues
-closed_cues : (w : Written) → (closed w).cues ≡ w.cues
-unfolding closed with_entry
+closed_cues : (w : Written) → (entry_closed w).cues ≡ w.cues
+unfolding entry_closed with_script_entry
 closed_cues w = at w.own
   where
     at : (last : Option Bool) → (closed_by last w).cues ≡ w.cues
@@ -143,52 +143,52 @@ covered : (cues : List Cue) (w : Written) → IsWritten cues w → Covers cues (
 covered cues w is = record { whole = is.whole; are = record { size = is.are.size; text = is.are.text }; entries = is.entries }
 
 -- a plain cue more
-repeats : (cues : List Cue) (own : Bool) (w : Written) → IsWritten cues w → IsWritten (cues ++ plain own ∷ []) (repeated own (one_counted w))
-unfolding repeated
+repeats : (cues : List Cue) (own : Bool) (w : Written) → IsWritten cues w → IsWritten (cues ++ bare_cue own ∷ []) (plain_repeated own (one_counted w))
+unfolding plain_repeated
 repeats cues own w is = at (is_open w.own own) refl
   where
-    at : (test : Bool) → is_open w.own own ≡ test → IsWritten (cues ++ plain own ∷ []) (repeated_by test own (one_counted w))
+    at : (test : Bool) → is_open w.own own ≡ test → IsWritten (cues ++ bare_cue own ∷ []) (repeated_by test own (one_counted w))
     at true e =
         let last = same_own w.own own e in
         let next : w.count + 1 ≡ suc w.count = omega arith in
-        let longer = runs_longer cues is.whole own w.count (is.entries ∙ ap (λ last. is.whole ++ opened last w.count) last) in
+        let longer = runs_longer cues is.whole own w.count (is.entries ∙ ap (λ last. is.whole ++ entry_opened last w.count) last) in
         record {
           whole = is.whole;
           are = record { size = is.are.size; text = is.are.text };
-          entries = longer ∙ ap (λ count. is.whole ++ Alike own count ∷ []) (sym next) ∙ ap (λ last. is.whole ++ opened last (w.count + 1)) (sym last);
+          entries = longer ∙ ap (λ count. is.whole ++ Alike own count ∷ []) (sym next) ∙ ap (λ last. is.whole ++ entry_opened last (w.count + 1)) (sym last);
           last = ap (last_own None) longer ∙ last_more None is.whole (Alike own (suc w.count)) ∙ sym last;
-          count = counted cues (plain own) w.cues is.count;
+          count = counted cues (bare_cue own) w.cues is.count;
         }
     at false e =
         let other = other_own w.own own e in
-        let more = runs_more cues (plain own) (Alike own 1) refl ((λ same. other (sym is.last ∙ same)), omega arith) in
+        let more = runs_more cues (bare_cue own) (Alike own 1) refl ((λ same. other (sym is.last ∙ same)), omega arith) in
         let c = closes cues (one_counted w) (covered cues w is) in
         record {
           whole = runs cues;
           are = record { size = c.are.size; text = c.are.text };
           entries = more;
           last = ap (last_own None) more ∙ last_more None (runs cues) (Alike own 1);
-          count = closed_cues (one_counted w) ∙ counted cues (plain own) w.cues is.count;
+          count = closed_cues (one_counted w) ∙ counted cues (bare_cue own) w.cues is.count;
         }
 
 -- another cue more
-pub puts : (cues : List Cue) (cue : Cue) (w : Written) → plain_kind cue ≡ None → IsWritten cues w → IsWritten (cues ++ cue ∷ []) (with_entry (Other cue) (closed (one_counted w)))
-unfolding with_entry
+pub puts : (cues : List Cue) (cue : Cue) (w : Written) → plain_kind cue ≡ None → IsWritten cues w → IsWritten (cues ++ cue ∷ []) (with_script_entry (Other cue) (entry_closed (one_counted w)))
+unfolding with_script_entry
 puts cues cue w other is =
     let more = runs_more cues cue (Other cue) refl other in
     let c = closes cues (one_counted w) (covered cues w is) in
-    let whole = whole_more (runs cues) (Other cue) (closed (one_counted w)) c.are in
+    let whole = whole_more (runs cues) (Other cue) (entry_closed (one_counted w)) c.are in
     record {
       whole = runs cues ++ Other cue ∷ [];
       are = record { size = whole.size; text = whole.text };
-      entries = more ∙ sym (append-nil (runs cues ++ Other cue ∷ [])) ∙ ap (λ last. (runs cues ++ Other cue ∷ []) ++ opened last (closed (one_counted w)).count) (sym c.own);
+      entries = more ∙ sym (append-nil (runs cues ++ Other cue ∷ [])) ∙ ap (λ last. (runs cues ++ Other cue ∷ []) ++ entry_opened last (entry_closed (one_counted w)).count) (sym c.own);
       last = ap (last_own None) more ∙ last_more None (runs cues) (Other cue) ∙ sym c.own;
       count = closed_cues (one_counted w) ∙ counted cues cue w.cues is.count;
     }
 
 -- a plain cue more
-pub plain_written : (cues : List Cue) (cue : Cue) (own : Bool) (w : Written) → plain_kind cue ≡ Some own → IsWritten cues w → IsWritten (cues ++ cue ∷ []) (repeated own (one_counted w))
-plain_written cues cue own w kind is = subst (λ last. IsWritten (cues ++ last ∷ []) (repeated own (one_counted w))) (plain_is own cue kind) (repeats cues own w is)
+pub plain_written : (cues : List Cue) (cue : Cue) (own : Bool) (w : Written) → plain_kind cue ≡ Some own → IsWritten cues w → IsWritten (cues ++ cue ∷ []) (plain_repeated own (one_counted w))
+plain_written cues cue own w kind is = subst (λ last. IsWritten (cues ++ last ∷ []) (plain_repeated own (one_counted w))) (plain_is own cue kind) (repeats cues own w is)
 
 -- how long an entry of plain cues is
 alike_size : (own : Bool) (count : ℕ) → length (entry_text (Alike own count)) ≡ 5
@@ -205,8 +205,8 @@ after_close text size cues = record { text = text; size = size; own = None; coun
 
 -- its entry is kept
 pub close_kept : (text : List ℕ) (size count cues : ℕ) (last : Option Bool) (own : Bool) (new : List ℕ) → last ≡ Some own → size + 5 ≤ FILE_BYTES → new ≡ text ++ entry_text (Alike own count)
-    → after_close new (size + 5) cues ≡ closed (record { text = text; size = size; own = last; count = count; cues = cues })
-unfolding closed with_entry
+    → after_close new (size + 5) cues ≡ entry_closed (record { text = text; size = size; own = last; count = count; cues = cues })
+unfolding entry_closed with_script_entry
 close_kept text size count cues last own new is few added =
     let w : Written = record { text = text; size = size; own = last; count = count; cues = cues } in
     let sized : size + length (entry_text (Alike own count)) ≡ size + 5 = ap (λ n. size + n) (alike_size own count) in
@@ -217,8 +217,8 @@ close_kept text size count cues last own new is few added =
 
 -- its entry is not kept
 pub close_cut : (text : List ℕ) (size count cues : ℕ) (last : Option Bool) (own : Bool) → last ≡ Some own → FILE_BYTES < size + 5
-    → after_close text (size + 5) cues ≡ closed (record { text = text; size = size; own = last; count = count; cues = cues })
-unfolding closed with_entry
+    → after_close text (size + 5) cues ≡ entry_closed (record { text = text; size = size; own = last; count = count; cues = cues })
+unfolding entry_closed with_script_entry
 close_cut text size count cues last own is more =
     let w : Written = record { text = text; size = size; own = last; count = count; cues = cues } in
     let sized : size + length (entry_text (Alike own count)) ≡ size + 5 = ap (λ n. size + n) (alike_size own count) in
@@ -228,35 +228,35 @@ close_cut text size count cues last own is more =
     ∙ ap (λ last. closed_by last w) (sym is)
 
 -- how long the head of a script is
-head_size : (p count : ℕ) → length (head_text p count) ≡ 15
-unfolding head_text
+head_size : (p count : ℕ) → length (script_head_text p count) ≡ 15
+unfolding script_head_text
 head_size p count = refl
 
 -- the text of the script, where it is not too long, and how long it is
 pub record IsEnded (p : ℕ) (cues : List Cue) (w : Written) : Type 0 where
   pub size : 15 + w.size ≡ length (script_text p cues)
-  pub text : w.size ≤ FILE_BYTES → head_text p w.cues ++ w.text ≡ script_text p cues
+  pub text : w.size ≤ FILE_BYTES → script_head_text p w.cues ++ w.text ≡ script_text p cues
 
-pub ended : (p : ℕ) (cues : List Cue) (w : Written) → IsWritten cues w → IsEnded p cues (closed w)
+pub ended : (p : ℕ) (cues : List Cue) (w : Written) → IsWritten cues w → IsEnded p cues (entry_closed w)
 unfolding script_text
 ended p cues w is =
     let c = closes cues w (record { whole = is.whole; are = is.are; entries = is.entries }) in
-    let count : (closed w).cues ≡ length cues = closed_cues w ∙ is.count in
+    let count : (entry_closed w).cues ≡ length cues = closed_cues w ∙ is.count in
     record {
       size = ap (λ n. 15 + n) c.are.size
-          ∙ sym (length-append (head_text p (length cues)) (flat_map entry_text (runs cues)) ∙ ap (λ n. n + length (flat_map entry_text (runs cues))) (head_size p (length cues)));
-      text = λ few. ap (λ n. head_text p n ++ (closed w).text) count ∙ ap (λ text. head_text p (length cues) ++ text) (c.are.text few);
+          ∙ sym (length-append (script_head_text p (length cues)) (flat_map entry_text (runs cues)) ∙ ap (λ n. n + length (flat_map entry_text (runs cues))) (head_size p (length cues)));
+      text = λ few. ap (λ n. script_head_text p n ++ (entry_closed w).text) count ∙ ap (λ text. script_head_text p (length cues) ++ text) (c.are.text few);
     }
 
 -- the file, where the text is not too long
-pub file_whole : (p : ℕ) (cues : List Cue) (w new : Written) (file : List ℕ) → IsWritten cues w → new ≡ closed w → 15 + new.size ≤ FILE_BYTES → file ≡ head_text p new.cues ++ new.text
+pub file_whole : (p : ℕ) (cues : List Cue) (w new : Written) (file : List ℕ) → IsWritten cues w → new ≡ entry_closed w → 15 + new.size ≤ FILE_BYTES → file ≡ script_head_text p new.cues ++ new.text
     → (file ≡ script_text p cues) × (length (script_text p cues) ≤ FILE_BYTES)
 file_whole p cues w new file is closes few made =
     let e = subst (IsEnded p cues) (sym closes) (ended p cues w is) in
     (made ∙ e.text (omega (arith, few)), omega (arith, few, e.size))
 
 -- how long it is, where it is too long
-pub file_long : (p : ℕ) (cues : List Cue) (w new : Written) (found : ℕ) → IsWritten cues w → new ≡ closed w → found ≡ 15 + new.size → FILE_BYTES < found
+pub file_long : (p : ℕ) (cues : List Cue) (w new : Written) (found : ℕ) → IsWritten cues w → new ≡ entry_closed w → found ≡ 15 + new.size → FILE_BYTES < found
     → (found ≡ length (script_text p cues)) × (FILE_BYTES < length (script_text p cues))
 file_long p cues w new found is closes counted more =
     let e = subst (IsEnded p cues) (sym closes) (ended p cues w is) in

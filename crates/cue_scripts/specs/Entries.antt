@@ -1,6 +1,6 @@
 -- The entries of a script: cues that are alike stand together, so that four thousand million of them take five bytes.
 use Rattle.std.specs.Prelude.{◌≡◌, ◌≢◌, ℕ, suc, ◌≤◌, Bool, true, false, ◌&&◌, if◌then◌else◌, List, [], ◌∷◌, ◌++◌, replicate, Option, Some, None, is_none}
-use Rattle.machine_model.specs.Cue.{Away, Cue, Mine, Slot}
+use Rattle.machine_model.specs.Cue.{Away, Cue, Mine, CueSlot}
 use Rattle.machine_model.specs.Told.{AllHalted, AllReset, NoEvent, NotKept, OwnPuts, OwnStill, OwnTakes, OwnTraffic, Sight, Unseen, WholeEvent, Words}
 
 -- an entry: so many cues with nothing but whose slot it is, which began before where it is the partition's own; or one other cue
@@ -9,16 +9,16 @@ pub data Entry : Type 0 where
   Other : (cue : Cue) → Entry
 
 -- whose slot it is; one of the partition's own began before
-abbrev pub running : Bool → Slot
-running true = Mine false
-running false = Away
+abbrev pub running_slot : Bool → CueSlot
+running_slot true = Mine false
+running_slot false = Away
 
 -- the cue with nothing but whose slot it is
-unfoldable pub plain : Bool → Cue
-plain own = record { mine = running own; traffic = OwnStill; order = None; whole = NoEvent; seen = Unseen }
+unfoldable pub bare_cue : Bool → Cue
+bare_cue own = record { mine = running_slot own; traffic = OwnStill; order = None; whole = NoEvent; seen = Unseen }
 
 -- whether the slot is not the partition's own
-abbrev pub is_away : Slot → Bool
+abbrev pub is_away : CueSlot → Bool
 is_away Away = true
 is_away (Mine first) = false
 
@@ -45,7 +45,7 @@ unfoldable pub is_bare : Cue → Bool
 is_bare cue = is_still cue.traffic && is_none cue.order && is_no_event cue.whole && is_unseen cue.seen
 
 -- whose running slot it is; none where a slot of the partition's own begins
-abbrev pub running_in : Slot → Option Bool
+abbrev pub running_in : CueSlot → Option Bool
 running_in Away = Some false
 running_in (Mine false) = Some true
 running_in (Mine true) = None
@@ -55,18 +55,18 @@ unfoldable pub plain_kind : Cue → Option Bool
 plain_kind cue = if is_bare cue then running_in cue.mine else None
 
 -- how many cues an entry has
-abbrev pub count_of : Entry → ℕ
-count_of (Alike own count) = count
-count_of (Other cue) = 1
+abbrev pub cue_count : Entry → ℕ
+cue_count (Alike own count) = count
+cue_count (Other cue) = 1
 
 -- which plain cue an entry repeats, if it does
-abbrev pub own_of : Entry → Option Bool
-own_of (Alike own count) = Some own
-own_of (Other cue) = None
+abbrev pub plain_cue_of : Entry → Option Bool
+plain_cue_of (Alike own count) = Some own
+plain_cue_of (Other cue) = None
 
 -- the cues of an entry
 abbrev pub cues_of : Entry → List Cue
-cues_of (Alike own count) = replicate count (plain own)
+cues_of (Alike own count) = replicate count (bare_cue own)
 cues_of (Other cue) = cue ∷ []
 
 -- the cues of entries, one after the other
@@ -88,14 +88,14 @@ longer own (Alike kind count ∷ later) = if is_same kind own then Alike own (su
 longer own (Other cue ∷ later) = Alike own 1 ∷ Other cue ∷ later
 
 -- a cue before entries
-abbrev pub before : Option Bool → Cue → List Entry → List Entry
-before (Some own) cue later = longer own later
-before None cue later = Other cue ∷ later
+abbrev pub cue_before : Option Bool → Cue → List Entry → List Entry
+cue_before (Some own) cue later = longer own later
+cue_before None cue later = Other cue ∷ later
 
 -- the entries of cues: those that repeat a cue are as long as they can be
 unfoldable pub runs : List Cue → List Entry
 runs [] = []
-runs (cue ∷ later) = before (plain_kind cue) cue (runs later)
+runs (cue ∷ later) = cue_before (plain_kind cue) cue (runs later)
 
 -- an entry may stand after one that repeats a plain cue, or after another: it repeats a different one, once at least, or its cue is not plain
 abbrev pub MayFollow : Option Bool → Entry → Type 0
@@ -105,4 +105,4 @@ MayFollow last (Other cue) = plain_kind cue ≡ None
 -- each entry may stand after the one before it
 abbrev pub AreLongest : Option Bool → List Entry → Type 0
 AreLongest last [] = Unit {0}
-AreLongest last (entry ∷ later) = MayFollow last entry × AreLongest (own_of entry) later
+AreLongest last (entry ∷ later) = MayFollow last entry × AreLongest (plain_cue_of entry) later

@@ -1,7 +1,7 @@
 -- What a reader of a script answers, against what reading gives.
 use Rattle.std.specs.Prelude.{◌≡◌, Result, Ok, Err}
 use Rattle.xm_base.specs.Cursor.{Place}
-use Rattle.cue_scripts.specs.Reading.{Read}
+use Rattle.cue_scripts.specs.Reading.{ScriptRead}
 use Rattle.cue_scripts.specs.declared.fault.ScriptFault.{ScriptFault}
 use Rattle.cue_scripts.specs.declared.fault.ScriptFault.TheVariants as fault
 
@@ -22,6 +22,6 @@ Gives view (Ok value) read = read ≡ Ok (view value)
 Gives view (Err fault) read = Fails fault read
 
 -- the same for a cursor, which stands behind what was read
-abbrev pub GivesAt : {X Y : Type 0} → (X → Y) → Result X ScriptFault → Place → Read Y → Type 0
+abbrev pub GivesAt : {X Y : Type 0} → (X → Y) → Result X ScriptFault → Place → ScriptRead Y → Type 0
 GivesAt view (Ok value) place read = read ≡ Ok (view value, place)
 GivesAt view (Err fault) place read = Fails fault read

@@ -23,12 +23,12 @@ pub record HasCueRanges (cue : Cue) : Type 0 where
   pub seen : HasSightRange cue.seen
 
 -- the same for an entry
-abbrev pub HasRanges : Entry → Type 0
-HasRanges (Alike own count) = Unit {0}
-HasRanges (Other cue) = HasCueRanges cue
+abbrev pub HasEntryRanges : Entry → Type 0
+HasEntryRanges (Alike own count) = Unit {0}
+HasEntryRanges (Other cue) = HasCueRanges cue
 
 -- entries that are kept: each is as long as it can be, their cues are not too many, and their lengths are in the ranges of their fields
-pub record IsKept (entries : List Entry) : Type 0 where
+pub record AreKeptEntries (entries : List Entry) : Type 0 where
   pub longest : AreLongest None entries
   pub few : length (expanded entries) ≤ 4000000000
-  pub ranges : AllByRecursion HasRanges entries
+  pub ranges : AllByRecursion HasEntryRanges entries

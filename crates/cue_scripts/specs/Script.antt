@@ -7,19 +7,19 @@ use Rattle.xm_base.specs.declared.partition.Order.TheVariants as order
 use Rattle.xm_conf.specs.Configuration.{Chan, Conf}
 use Rattle.xm_conf.specs.declared.channel.ChanKind.{ChanKind}
 use Rattle.xm_conf.specs.declared.channel.ChanKind.TheVariants as kind
-use Rattle.machine_model.specs.Cue.{Away, Cue, Mine, Slot}
+use Rattle.machine_model.specs.Cue.{Away, Cue, Mine, CueSlot}
 use Rattle.machine_model.specs.Told.{AllHalted, NotKept, OwnPuts, OwnStill, OwnTakes, OwnTraffic, Sight, Unseen, Words}
 use Rattle.machine_model.specs.View.{named, part_of}
 use Rattle.cue_scripts.specs.Entries.{is_away}
 
 -- a channel by its number, where there is one
-abbrev pub chan_at : Conf → Option ℕ → Option Chan
-chan_at conf None = None
-chan_at conf (Some c) = slice_get conf.chans c
+abbrev pub numbered_chan : Conf → Option ℕ → Option Chan
+numbered_chan conf None = None
+numbered_chan conf (Some c) = slice_get conf.chans c
 
 -- the channel that partition p calls q
 unfoldable pub chan_called : Conf → ℕ → ℕ → Option Chan
-chan_called conf p q = chan_at conf (named conf p q)
+chan_called conf p q = numbered_chan conf (named conf p q)
 
 -- how many bytes a message has at most that others put where partition p hears it: p is a destination of the channel
 abbrev pub heard_in : ℕ → Option Chan → Option ℕ
@@ -45,8 +45,8 @@ unfoldable pub gives_queue : Conf → ℕ → ℕ → Bool
 gives_queue conf p q = gives_in p (chan_called conf p q)
 
 -- whether partition p is a system partition
-unfoldable pub is_system : Conf → ℕ → Bool
-is_system conf p = (part_of conf p).system
+unfoldable pub is_system_partition : Conf → ℕ → Bool
+is_system_partition conf p = (part_of conf p).system
 
 -- whether a message may have so many bytes, where it may have some at most
 abbrev pub is_length : Option ℕ → ℕ → Bool
@@ -54,7 +54,7 @@ is_length None count = false
 is_length (Some most) count = nat_le 1 count && nat_le count most
 
 -- a message that others put
-pub record IsMessage (most : Option ℕ) (name : ℕ) (bytes : List ℕ) : Type 0 where
+pub record IsHeardMessage (most : Option ℕ) (name : ℕ) (bytes : List ℕ) : Type 0 where
   pub called : name < 256
   pub fits : is_length most (length bytes) ≡ true
   pub short : length bytes < 2 ^ 16
@@ -63,7 +63,7 @@ pub record IsMessage (most : Option ℕ) (name : ℕ) (bytes : List ℕ) : Type 
 -- what others may do to the channels of partition p, under p's names
 abbrev pub CanHear : Conf → ℕ → OwnTraffic → Type 0
 CanHear conf p OwnStill = Unit {0}
-CanHear conf p (OwnPuts name bytes) = IsMessage (most_heard conf p name) name bytes
+CanHear conf p (OwnPuts name bytes) = IsHeardMessage (most_heard conf p name) name bytes
 CanHear conf p (OwnTakes name) = (name < 256) × (gives_queue conf p name ≡ true)
 
 -- an order's status is a word
@@ -76,16 +76,16 @@ IsOrder (Some order.Shutdown) = Unit {0}
 IsOrder (Some (order.Reset mode status)) = status < 2 ^ 32
 
 -- in a slot of its own a partition hears nothing of others, and has no order
-abbrev pub IsAlone : Slot → OwnTraffic → Option Order → Type 0
-IsAlone Away traffic order = Unit {0}
-IsAlone (Mine first) traffic order = (traffic ≡ OwnStill) × (order ≡ None)
+abbrev pub HearsNothing : CueSlot → OwnTraffic → Option Order → Type 0
+HearsNothing Away traffic order = Unit {0}
+HearsNothing (Mine first) traffic order = (traffic ≡ OwnStill) × (order ≡ None)
 
 -- whether a structure that an observing call writes has so many bytes
 abbrev pub is_shown : ℕ → Bool
 is_shown count = if count == 4 then true else if count == 8 then true else if count == 20 then true else count == 24
 
 -- what a partition is shown: something in its own slot alone, and a system partition alone
-abbrev pub CanSee : Bool → Slot → Sight → Type 0
+abbrev pub CanSee : Bool → CueSlot → Sight → Type 0
 CanSee system mine Unseen = Unit {0}
 CanSee system mine NotKept = (is_away mine ≡ false) × (system ≡ true)
 CanSee system mine (Words bytes) = (is_away mine ≡ false) × (system ≡ true) × (is_shown (length bytes) ≡ true) × AreBytes bytes
@@ -94,8 +94,8 @@ CanSee system mine (Words bytes) = (is_away mine ≡ false) × (system ≡ true)
 pub record IsCue (conf : Conf) (p : ℕ) (cue : Cue) : Type 0 where
   pub traffic : CanHear conf p cue.traffic
   pub order : IsOrder cue.order
-  pub alone : IsAlone cue.mine cue.traffic cue.order
-  pub seen : CanSee (is_system conf p) cue.mine cue.seen
+  pub alone : HearsNothing cue.mine cue.traffic cue.order
+  pub seen : CanSee (is_system_partition conf p) cue.mine cue.seen
 
 -- nothing stands after a halt of the whole system
 abbrev pub HaltsLast : List Cue → Type 0

@@ -1,7 +1,7 @@
 -- What the entries of a script that is kept are as values.
 use Rattle.std.specs.Prelude.{List, map}
 use Rattle.xm_base.specs.declared.partition.Mode.TheVariants as mode
-use Rattle.machine_model.specs.Cue.{Away, Cue, Mine, Slot}
+use Rattle.machine_model.specs.Cue.{Away, Cue, Mine, CueSlot}
 use Rattle.machine_model.specs.Told.{AllHalted, AllReset, NoEvent, NotKept, OwnPuts, OwnStill, OwnTakes, OwnTraffic, Sight, Unseen, WholeEvent, Words}
 use Rattle.cue_scripts.specs.Entries.{Alike, Entry, Other}
 use Rattle.cue_scripts.specs.declared.cue.ScriptCue as code_cue
@@ -17,15 +17,15 @@ use Rattle.cue_scripts.specs.declared.cue.ScriptEntry.{ScriptEntry}
 use Rattle.cue_scripts.specs.declared.cue.ScriptEntry.TheVariants as entry
 
 -- whose slot it is
-abbrev pub slot_value : ScriptSlot → Slot
-slot_value slot.Away = Away
-slot_value (slot.Mine first) = Mine first
+abbrev pub script_slot_value : ScriptSlot → CueSlot
+script_slot_value slot.Away = Away
+script_slot_value (slot.Mine first) = Mine first
 
 -- the traffic of others
-abbrev pub traffic_value : ScriptTraffic → OwnTraffic
-traffic_value traffic.Nothing = OwnStill
-traffic_value (traffic.Put chan bytes) = OwnPuts chan bytes.items
-traffic_value (traffic.Take chan) = OwnTakes chan
+abbrev pub script_traffic_value : ScriptTraffic → OwnTraffic
+script_traffic_value traffic.Nothing = OwnStill
+script_traffic_value (traffic.Put chan bytes) = OwnPuts chan bytes.items
+script_traffic_value (traffic.Take chan) = OwnTakes chan
 
 -- the hypervisor event
 abbrev pub event_value : ScriptEvent → WholeEvent
@@ -35,25 +35,25 @@ event_value event.Warm = AllReset mode.Warm
 event_value event.Halt = AllHalted
 
 -- what was shown
-abbrev pub sight_value : ScriptSight → Sight
-sight_value sight.Nothing = Unseen
-sight_value sight.NotKept = NotKept
-sight_value (sight.Words bytes) = Words bytes.items
+abbrev pub script_sight_value : ScriptSight → Sight
+script_sight_value sight.Nothing = Unseen
+script_sight_value sight.NotKept = NotKept
+script_sight_value (sight.Words bytes) = Words bytes.items
 
 -- a cue
-abbrev pub cue_value : code_cue.ScriptCue → Cue
-cue_value cue = record {
-  mine = slot_value cue.mine;
-  traffic = traffic_value cue.traffic;
+abbrev pub script_cue_value : code_cue.ScriptCue → Cue
+script_cue_value cue = record {
+  mine = script_slot_value cue.mine;
+  traffic = script_traffic_value cue.traffic;
   order = cue.order;
   whole = event_value cue.whole;
-  seen = sight_value cue.seen;
+  seen = script_sight_value cue.seen;
 }
 
 -- an entry
 abbrev pub entry_value : ScriptEntry → Entry
 entry_value (entry.Alike own count) = Alike own count
-entry_value (entry.Other cue) = Other (cue_value cue)
+entry_value (entry.Other cue) = Other (script_cue_value cue)
 
 -- entries
 abbrev pub entry_values : List ScriptEntry → List Entry

@@ -3,7 +3,7 @@ use Rattle.std.specs.Prelude.{◌≡◌, ℕ, ◌+◌, ◌*◌, ◌<◌, ◌≤�
 use Rattle.std.specs.List.{flat_map}
 use Rattle.xm_base.specs.declared.limits.TheConstants.{FILE_BYTES}
 use Rattle.machine_model.specs.Cue.{Cue}
-use Rattle.cue_scripts.specs.Entries.{Alike, Entry, Other, is_same, own_of, plain_kind, runs}
+use Rattle.cue_scripts.specs.Entries.{Alike, Entry, Other, is_same, plain_cue_of, plain_kind, runs}
 use Rattle.cue_scripts.specs.Spelling.{entry_text}
 use Rattle.cue_scripts.specs.declared.fault.ScriptFault.{ScriptFault}
 use Rattle.cue_scripts.specs.declared.fault.ScriptFault.TheVariants as fault
@@ -26,8 +26,8 @@ abbrev pub kept_within : Bool → List ℕ → List ℕ → List ℕ
 kept_within true text entry = text ++ entry
 kept_within false text entry = text
 
-unfoldable pub with_entry : Entry → Written → Written
-with_entry entry w = record w {
+unfoldable pub with_script_entry : Entry → Written → Written
+with_script_entry entry w = record w {
   text = kept_within (nat_le (w.size + length (entry_text entry)) FILE_BYTES) w.text (entry_text entry);
   size = w.size + length (entry_text entry);
 }
@@ -35,10 +35,10 @@ with_entry entry w = record w {
 -- no plain cue is repeated any more
 abbrev pub closed_by : Option Bool → Written → Written
 closed_by None w = w
-closed_by (Some own) w = record (with_entry (Alike own w.count) w) { own = None; count = 0 }
+closed_by (Some own) w = record (with_script_entry (Alike own w.count) w) { own = None; count = 0 }
 
-unfoldable pub closed : Written → Written
-closed w = closed_by w.own w
+unfoldable pub entry_closed : Written → Written
+entry_closed w = closed_by w.own w
 
 -- a plain cue more
 abbrev pub is_open : Option Bool → Bool → Bool
@@ -47,23 +47,23 @@ is_open (Some last) own = is_same last own
 
 abbrev pub repeated_by : Bool → Bool → Written → Written
 repeated_by true own w = record w { count = w.count + 1 }
-repeated_by false own w = record (closed w) { own = Some own; count = 1 }
+repeated_by false own w = record (entry_closed w) { own = Some own; count = 1 }
 
-unfoldable pub repeated : Bool → Written → Written
-repeated own w = repeated_by (is_open w.own own) own w
+unfoldable pub plain_repeated : Bool → Written → Written
+plain_repeated own w = repeated_by (is_open w.own own) own w
 
 -- a cue more
 abbrev pub with_kind : Option Bool → Cue → Written → Written
-with_kind (Some own) cue w = repeated own w
-with_kind None cue w = with_entry (Other cue) (closed w)
+with_kind (Some own) cue w = plain_repeated own w
+with_kind None cue w = with_script_entry (Other cue) (entry_closed w)
 
 unfoldable pub with_cue : Cue → Written → Written
 with_cue cue w = with_kind (plain_kind cue) cue (record w { cues = w.cues + 1 })
 
 -- the entry of plain cues that may still get more
-abbrev pub opened : Option Bool → ℕ → List Entry
-opened None count = []
-opened (Some own) count = Alike own count ∷ []
+abbrev pub entry_opened : Option Bool → ℕ → List Entry
+entry_opened None count = []
+entry_opened (Some own) count = Alike own count ∷ []
 
 -- a plain cue that is repeated stands there
 abbrev pub IsThere : Option Bool → ℕ → Type 0
@@ -79,29 +79,29 @@ pub record IsWithin (more : ℕ) (w : Written) : Type 0 where
 -- which plain cue entries repeat last
 abbrev pub last_own : Option Bool → List Entry → Option Bool
 last_own last [] = last
-last_own last (entry ∷ later) = last_own (own_of entry) later
+last_own last (entry ∷ later) = last_own (plain_cue_of entry) later
 
 -- these entries are whole
-pub record AreWhole (whole : List Entry) (w : Written) : Type 0 where
+pub record AreWholeEntries (whole : List Entry) (w : Written) : Type 0 where
   pub size : w.size ≡ length (flat_map entry_text whole)
   pub text : w.size ≤ FILE_BYTES → w.text ≡ flat_map entry_text whole
 
 -- these cues are written
 pub record IsWritten (cues : List Cue) (w : Written) : Type 0 where
   pub whole : List Entry
-  pub are : AreWhole whole w
-  pub entries : runs cues ≡ whole ++ opened w.own w.count
+  pub are : AreWholeEntries whole w
+  pub entries : runs cues ≡ whole ++ entry_opened w.own w.count
   pub last : last_own None (runs cues) ≡ w.own
   pub count : w.cues ≡ length cues
 
 -- a text is a file, unless there was no memory, or it is too long for one
-abbrev pub IsFile : {X : Type 0} → (X → List ℕ) → List ℕ → Result X ScriptFault → Type 0
-IsFile view text (Ok file) = (view file ≡ text) × (length text ≤ FILE_BYTES)
-IsFile view text (Err fault.Memory) = Unit {0}
-IsFile view text (Err fault.Magic) = ⊥
-IsFile view text (Err (fault.Version found)) = ⊥
-IsFile view text (Err (fault.Short at)) = ⊥
-IsFile view text (Err (fault.Trailing at)) = ⊥
-IsFile view text (Err (fault.Field at)) = ⊥
-IsFile view text (Err (fault.Length found)) = (found ≡ length text) × (FILE_BYTES < length text)
-IsFile view text (Err (fault.Cue tick)) = ⊥
+abbrev pub IsScriptFile : {X : Type 0} → (X → List ℕ) → List ℕ → Result X ScriptFault → Type 0
+IsScriptFile view text (Ok file) = (view file ≡ text) × (length text ≤ FILE_BYTES)
+IsScriptFile view text (Err fault.Memory) = Unit {0}
+IsScriptFile view text (Err fault.Magic) = ⊥
+IsScriptFile view text (Err (fault.Version found)) = ⊥
+IsScriptFile view text (Err (fault.Short at)) = ⊥
+IsScriptFile view text (Err (fault.Trailing at)) = ⊥
+IsScriptFile view text (Err (fault.Field at)) = ⊥
+IsScriptFile view text (Err (fault.Length found)) = (found ≡ length text) × (FILE_BYTES < length text)
+IsScriptFile view text (Err (fault.Cue tick)) = ⊥

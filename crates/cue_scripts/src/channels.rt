@@ -5,7 +5,7 @@ ghost use Rattle.std.specs.List.{list_any};
 ghost use Rattle.machine_model.specs.Lists.{is_number};
 ghost use Rattle.machine_model.specs.View.{name_of, named, part_of};
 ghost use Rattle.xm_conf.specs.View.{channel_of};
-ghost use Rattle.cue_scripts.specs.Script.{chan_called, gives_in, gives_queue, heard_in, is_queue, is_system, most_heard};
+ghost use Rattle.cue_scripts.specs.Script.{chan_called, gives_in, gives_queue, heard_in, is_queue, is_system_partition, most_heard};
 
 use xm_base::PartId;
 use xm_conf::{Chan, ChanKind, Conf, End, Part};
@@ -35,10 +35,10 @@ pub(crate) fn gives_queue(conf: &Conf, p: PartId, q: u8) -> bool
 }
 
 /// Whether partition `p` is a system partition.
-#[tactic(auto, unfolding(crate::specs::Script::is_system))]
+#[tactic(auto, unfolding(crate::specs::Script::is_system_partition))]
 pub(crate) fn is_system(conf: &Conf, p: PartId) -> bool
     requires { p < length conf.now.parts }
-    ensures { result ≡ is_system conf.now p }
+    ensures { result ≡ is_system_partition conf.now p }
 {
     configured(conf, p).system
 }

@@ -1,8 +1,8 @@
 //! What a partition is told in a tick, as a script keeps it.
 
 ghost use Rattle.std.specs.Prelude.{◌≡◌};
-ghost use Rattle.cue_scripts.specs.Entries.{count_of, is_no_event, is_still, is_unseen, own_of, plain_kind, running_in};
-ghost use Rattle.cue_scripts.specs.Values.{cue_value, entry_value, event_value, sight_value, slot_value, traffic_value};
+ghost use Rattle.cue_scripts.specs.Entries.{cue_count, is_no_event, is_still, is_unseen, plain_cue_of, plain_kind, running_in};
+ghost use Rattle.cue_scripts.specs.Values.{script_cue_value, entry_value, event_value, script_sight_value, script_slot_value, script_traffic_value};
 
 use xm_base::Order;
 
@@ -73,7 +73,7 @@ pub enum ScriptEntry {
 impl ScriptEntry {
     /// How many cues it has.
     pub fn count(&self) -> u32
-        ensures { result ≡ count_of (entry_value self.now) }
+        ensures { result ≡ cue_count (entry_value self.now) }
     {
         match self {
             ScriptEntry::Alike { count, .. } => *count,
@@ -83,7 +83,7 @@ impl ScriptEntry {
 
     /// Whose running slot it repeats, where its cues have nothing else.
     pub(crate) fn own(&self) -> Option<bool>
-        ensures { result ≡ own_of (entry_value self.now) }
+        ensures { result ≡ plain_cue_of (entry_value self.now) }
     {
         match self {
             ScriptEntry::Alike { own, .. } => Some(*own),
@@ -95,7 +95,7 @@ impl ScriptEntry {
 /// Whether a cue has nothing but whose running slot it is.
 #[tactic(auto, unfolding(crate::specs::Entries::plain_kind, crate::specs::Entries::is_bare))]
 pub(crate) fn plain_kind(cue: &ScriptCue) -> Option<bool>
-    ensures { result ≡ plain_kind (cue_value cue.now) }
+    ensures { result ≡ plain_kind (script_cue_value cue.now) }
 {
     if is_still(&cue.traffic)
         && cue.order.is_none()
@@ -110,7 +110,7 @@ pub(crate) fn plain_kind(cue: &ScriptCue) -> Option<bool>
 
 /// Whether nothing was put or taken.
 fn is_still(traffic: &ScriptTraffic) -> bool
-    ensures { result ≡ is_still (traffic_value traffic.now) }
+    ensures { result ≡ is_still (script_traffic_value traffic.now) }
 {
     match traffic {
         ScriptTraffic::Nothing => true,
@@ -130,7 +130,7 @@ fn is_no_event(event: ScriptEvent) -> bool
 
 /// Whether nothing was shown.
 fn is_unseen(seen: &ScriptSight) -> bool
-    ensures { result ≡ is_unseen (sight_value seen.now) }
+    ensures { result ≡ is_unseen (script_sight_value seen.now) }
 {
     match seen {
         ScriptSight::Nothing => true,
@@ -140,7 +140,7 @@ fn is_unseen(seen: &ScriptSight) -> bool
 
 /// Whose running slot it is; none where a slot of the partition's own begins.
 fn running_in(slot: ScriptSlot) -> Option<bool>
-    ensures { result ≡ running_in (slot_value slot) }
+    ensures { result ≡ running_in (script_slot_value slot) }
 {
     match slot {
         ScriptSlot::Away => Some(false),

@@ -27,9 +27,9 @@ pub enum ScriptFault {
 
 impl fmt::Display for ScriptFault {
     ghost use Rattle.std.specs.Prelude.{Some};
-    ghost use Rattle.cue_scripts.specs.Texts.{text};
+    ghost use Rattle.cue_scripts.specs.Texts.{script_fault_text};
 
-    ghost output = { λ fault. Some (text fault) };
+    ghost output = { λ fault. Some (script_fault_text fault) };
 
     fn fmt<W: fmt::Write>(&self, f: &mut fmt::Formatter<W>) -> fmt::Result {
         match self {

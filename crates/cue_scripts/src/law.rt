@@ -1,10 +1,10 @@
 //! Laws on scripts.
 
-ghost use Rattle.cue_scripts.specs.Laws.{NoneIsPrefix, ReadIsWritten, WrittenIsRead};
+ghost use Rattle.cue_scripts.specs.Laws.{NoneIsPrefix, ReadIsWritten, WrittenScriptIsRead};
 
 /// A script that was written is read back.
 pub fn written_is_read()
-    ensures { WrittenIsRead }
+    ensures { WrittenScriptIsRead }
 {}
 
 /// What is read of bytes is what they spell.

@@ -3,12 +3,12 @@
 ghost use Rattle.std.specs.Prelude.{◌≡◌, ◌==◌, ◌<◌, ◌≤◌, IfOk, List, None, Ok, length};
 ghost use Rattle.std.specs.Int.{w8};
 ghost use Rattle.machine_model.specs.Cue.{Cue};
-ghost use Rattle.cue_scripts.specs.Entries.{count_of, plain_kind};
+ghost use Rattle.cue_scripts.specs.Entries.{cue_count, plain_kind};
 ghost use Rattle.cue_scripts.specs.Gives.{Gives, GivesAt};
 ghost use Rattle.cue_scripts.specs.Reading as reading;
 ghost use Rattle.cue_scripts.specs.Script.{is_length, is_shown, most_heard};
-ghost use Rattle.cue_scripts.specs.Spelling.{IsSpelled, alike_byte};
-ghost use Rattle.cue_scripts.specs.Values.{cue_value, entry_value, entry_values, event_value, sight_value, slot_value, traffic_value};
+ghost use Rattle.cue_scripts.specs.Spelling.{IsSpelledScript, alike_byte};
+ghost use Rattle.cue_scripts.specs.Values.{script_cue_value, entry_value, entry_values, event_value, script_sight_value, script_slot_value, script_traffic_value};
 
 use crate::channels::{gives_queue, is_system, most_heard};
 use crate::cue::{
@@ -45,9 +45,9 @@ fn version(cursor: &mut Cursor<'_>) -> Result<(), ScriptFault>
 }
 
 /// The partition's number.
-#[tactic(auto, unfolding(crate::specs::Reading::id_at))]
+#[tactic(auto, unfolding(crate::specs::Reading::partition_at))]
 fn id(p: PartId, cursor: &mut Cursor<'_>) -> Result<(), ScriptFault>
-    ensures { Gives (λ _. cursor.new) result (reading.id_at p cursor.old) }
+    ensures { Gives (λ _. cursor.new) result (reading.partition_at p cursor.old) }
 {
     let at = cursor.at();
     if cursor.u8()? != p {
@@ -57,9 +57,9 @@ fn id(p: PartId, cursor: &mut Cursor<'_>) -> Result<(), ScriptFault>
 }
 
 /// The number of cues.
-#[tactic(auto, unfolding(crate::specs::Reading::total_at))]
+#[tactic(auto, unfolding(crate::specs::Reading::cue_count_at))]
 fn total(cursor: &mut Cursor<'_>) -> Result<u32, ScriptFault>
-    ensures { GivesAt (λ total. total) result cursor.new (reading.total_at cursor.old) }
+    ensures { GivesAt (λ total. total) result cursor.new (reading.cue_count_at cursor.old) }
 {
     let at = cursor.at();
     let total = cursor.u64()?;
@@ -70,9 +70,9 @@ fn total(cursor: &mut Cursor<'_>) -> Result<u32, ScriptFault>
 }
 
 /// Whose slot it is.
-#[tactic(auto, unfolding(crate::specs::Reading::slot_at))]
+#[tactic(auto, unfolding(crate::specs::Reading::cue_slot_at))]
 fn slot(cursor: &mut Cursor<'_>) -> Result<ScriptSlot, ScriptFault>
-    ensures { GivesAt (λ slot. slot_value slot) result cursor.new (reading.slot_at cursor.old) }
+    ensures { GivesAt (λ slot. script_slot_value slot) result cursor.new (reading.cue_slot_at cursor.old) }
 {
     let at = cursor.at();
     match cursor.u8()? {
@@ -85,7 +85,7 @@ fn slot(cursor: &mut Cursor<'_>) -> Result<ScriptSlot, ScriptFault>
 
 /// Whether a kind of at most so much may stand, which is none in a slot of the partition's own.
 fn is_heard(most: u8, mine: ScriptSlot, kind: u8) -> bool
-    ensures { result ≡ reading.is_heard most (slot_value mine) kind }
+    ensures { result ≡ reading.is_heard most (script_slot_value mine) kind }
 {
     if kind == 0 {
         return true;
@@ -98,7 +98,7 @@ fn is_heard(most: u8, mine: ScriptSlot, kind: u8) -> bool
 
 /// A kind of at most so much, which is none in a slot of the partition's own.
 fn heard_kind(most: u8, mine: ScriptSlot, cursor: &mut Cursor<'_>) -> Result<u8, ScriptFault>
-    ensures { GivesAt (λ kind. kind) result cursor.new (reading.listed_at w8 (reading.is_heard most (slot_value mine)) cursor.old) }
+    ensures { GivesAt (λ kind. kind) result cursor.new (reading.listed_at w8 (reading.is_heard most (script_slot_value mine)) cursor.old) }
 {
     let at = cursor.at();
     let kind = cursor.u8()?;
@@ -127,7 +127,7 @@ fn message(
     chan: u8,
     cursor: &mut Cursor<'_>,
 ) -> Result<ScriptTraffic, ScriptFault>
-    ensures { GivesAt (λ traffic. traffic_value traffic) result cursor.new (reading.message_at most chan cursor.old) }
+    ensures { GivesAt (λ traffic. script_traffic_value traffic) result cursor.new (reading.message_at most chan cursor.old) }
 {
     let at = cursor.at();
     let count = cursor.u16()?;
@@ -142,7 +142,7 @@ fn message(
 }
 
 /// A message that was put into a channel of which the partition is a destination.
-#[tactic(auto, unfolding(crate::specs::Reading::put_at))]
+#[tactic(auto, unfolding(crate::specs::Reading::put_message_at))]
 fn put(
     alloc: Global,
     conf: &Conf,
@@ -150,7 +150,7 @@ fn put(
     cursor: &mut Cursor<'_>,
 ) -> Result<ScriptTraffic, ScriptFault>
     requires { p < length conf.now.parts }
-    ensures { GivesAt (λ traffic. traffic_value traffic) result cursor.new (reading.put_at conf.now p cursor.old) }
+    ensures { GivesAt (λ traffic. script_traffic_value traffic) result cursor.new (reading.put_message_at conf.now p cursor.old) }
 {
     let at = cursor.at();
     let chan = cursor.u8()?;
@@ -165,7 +165,7 @@ fn put(
 #[tactic(auto, unfolding(crate::specs::Reading::take_at))]
 fn take(conf: &Conf, p: PartId, cursor: &mut Cursor<'_>) -> Result<ScriptTraffic, ScriptFault>
     requires { p < length conf.now.parts }
-    ensures { GivesAt (λ traffic. traffic_value traffic) result cursor.new (reading.take_at conf.now p cursor.old) }
+    ensures { GivesAt (λ traffic. script_traffic_value traffic) result cursor.new (reading.take_at conf.now p cursor.old) }
 {
     let at = cursor.at();
     let chan = cursor.u8()?;
@@ -179,7 +179,7 @@ fn take(conf: &Conf, p: PartId, cursor: &mut Cursor<'_>) -> Result<ScriptTraffic
 /// A signal: there are no links over which one comes.
 #[tactic(auto, unfolding(crate::specs::Reading::signal_at))]
 fn signal(cursor: &mut Cursor<'_>) -> Result<ScriptTraffic, ScriptFault>
-    ensures { GivesAt (λ traffic. traffic_value traffic) result cursor.new (reading.signal_at cursor.old) }
+    ensures { GivesAt (λ traffic. script_traffic_value traffic) result cursor.new (reading.signal_at cursor.old) }
 {
     let at = cursor.at();
     let _ = cursor.u8()?;
@@ -195,7 +195,7 @@ fn traffic_of_kind(
     cursor: &mut Cursor<'_>,
 ) -> Result<ScriptTraffic, ScriptFault>
     requires { p < length conf.now.parts }
-    ensures { GivesAt (λ traffic. traffic_value traffic) result cursor.new (reading.traffic_of_kind conf.now p kind cursor.old) }
+    ensures { GivesAt (λ traffic. script_traffic_value traffic) result cursor.new (reading.traffic_of_kind conf.now p kind cursor.old) }
 {
     match kind {
         0 => Ok(ScriptTraffic::Nothing),
@@ -215,7 +215,7 @@ fn traffic(
     cursor: &mut Cursor<'_>,
 ) -> Result<ScriptTraffic, ScriptFault>
     requires { p < length conf.now.parts }
-    ensures { GivesAt (λ traffic. traffic_value traffic) result cursor.new (reading.traffic_at conf.now p (slot_value mine) cursor.old) }
+    ensures { GivesAt (λ traffic. script_traffic_value traffic) result cursor.new (reading.traffic_at conf.now p (script_slot_value mine) cursor.old) }
 {
     let kind = heard_kind(3, mine, cursor)?;
     traffic_of_kind(alloc, conf, p, kind, cursor)
@@ -248,7 +248,7 @@ fn order_of_kind(kind: u8, cursor: &mut Cursor<'_>) -> Result<Option<Order>, Scr
 /// The order that another partition gave.
 #[tactic(auto, unfolding(crate::specs::Reading::order_at))]
 fn order(mine: ScriptSlot, cursor: &mut Cursor<'_>) -> Result<Option<Order>, ScriptFault>
-    ensures { GivesAt (λ order. order) result cursor.new (reading.order_at (slot_value mine) cursor.old) }
+    ensures { GivesAt (λ order. order) result cursor.new (reading.order_at (script_slot_value mine) cursor.old) }
 {
     let kind = heard_kind(6, mine, cursor)?;
     order_of_kind(kind, cursor)
@@ -295,9 +295,9 @@ fn is_shown(count: u8) -> bool
 }
 
 /// Bytes that were shown.
-#[tactic(auto, unfolding(crate::specs::Reading::words_at))]
+#[tactic(auto, unfolding(crate::specs::Reading::shown_words_at))]
 fn words(alloc: Global, cursor: &mut Cursor<'_>) -> Result<ScriptSight, ScriptFault>
-    ensures { GivesAt (λ seen. sight_value seen) result cursor.new (reading.words_at cursor.old) }
+    ensures { GivesAt (λ seen. script_sight_value seen) result cursor.new (reading.shown_words_at cursor.old) }
 {
     let at = cursor.at();
     let count = cursor.u8()?;
@@ -314,7 +314,7 @@ fn sight_of_kind(
     kind: u8,
     cursor: &mut Cursor<'_>,
 ) -> Result<ScriptSight, ScriptFault>
-    ensures { GivesAt (λ seen. sight_value seen) result cursor.new (reading.sight_of_kind kind cursor.old) }
+    ensures { GivesAt (λ seen. script_sight_value seen) result cursor.new (reading.sight_of_kind kind cursor.old) }
 {
     match kind {
         0 => Ok(ScriptSight::Nothing),
@@ -325,7 +325,7 @@ fn sight_of_kind(
 
 /// Whether a kind of sight may stand: something in a slot of a system partition's own alone.
 fn is_sight(system: bool, mine: ScriptSlot, kind: u8) -> bool
-    ensures { result ≡ reading.is_sight system (slot_value mine) kind }
+    ensures { result ≡ reading.is_sight system (script_slot_value mine) kind }
 {
     if kind == 0 {
         return true;
@@ -337,14 +337,14 @@ fn is_sight(system: bool, mine: ScriptSlot, kind: u8) -> bool
 }
 
 /// What was shown.
-#[tactic(auto, unfolding(crate::specs::Reading::sight_at))]
+#[tactic(auto, unfolding(crate::specs::Reading::cue_sight_at))]
 fn sight(
     alloc: Global,
     system: bool,
     mine: ScriptSlot,
     cursor: &mut Cursor<'_>,
 ) -> Result<ScriptSight, ScriptFault>
-    ensures { GivesAt (λ seen. sight_value seen) result cursor.new (reading.sight_at system (slot_value mine) cursor.old) }
+    ensures { GivesAt (λ seen. script_sight_value seen) result cursor.new (reading.cue_sight_at system (script_slot_value mine) cursor.old) }
 {
     let at = cursor.at();
     let kind = cursor.u8()?;
@@ -364,7 +364,7 @@ fn cue(
     cursor: &mut Cursor<'_>,
 ) -> Result<ScriptCue, ScriptFault>
     requires { p < length conf.now.parts }
-    ensures { GivesAt (λ cue. cue_value cue) result cursor.new (reading.cue_at conf.now p last cursor.old) }
+    ensures { GivesAt (λ cue. script_cue_value cue) result cursor.new (reading.cue_at conf.now p last cursor.old) }
 {
     let mine = slot(cursor)?;
     let traffic = traffic(alloc, conf, p, mine, cursor)?;
@@ -392,7 +392,7 @@ fn other(
 ) -> Result<ScriptEntry, ScriptFault>
     requires { p < length conf.now.parts }
     ensures value { GivesAt (λ entry. entry_value entry) result cursor.new (reading.other_at conf.now p last at cursor.old) }
-    ensures counted { IfOk result (λ entry. count_of (entry_value entry) ≡ 1) }
+    ensures counted { IfOk result (λ entry. cue_count (entry_value entry) ≡ 1) }
 {
     let cue = cue(alloc, conf, p, last, cursor)?;
     if plain_kind(&cue).is_some() {
@@ -405,7 +405,7 @@ fn other(
 #[tactic(auto, unfolding(crate::specs::Reading::alike_at))]
 fn alike(own: bool, cues: u32, cursor: &mut Cursor<'_>) -> Result<ScriptEntry, ScriptFault>
     ensures value { GivesAt (λ entry. entry_value entry) result cursor.new (reading.alike_at own cues cursor.old) }
-    ensures counted { IfOk result (λ entry. (1 ≤ count_of (entry_value entry)) × (count_of (entry_value entry) ≤ cues)) }
+    ensures counted { IfOk result (λ entry. (1 ≤ cue_count (entry_value entry)) × (cue_count (entry_value entry) ≤ cues)) }
 {
     let at = cursor.at();
     let count = cursor.u32()?;
@@ -417,7 +417,7 @@ fn alike(own: bool, cues: u32, cursor: &mut Cursor<'_>) -> Result<ScriptEntry, S
 
 /// Whether a byte is the kind of an entry after one that repeats a plain cue, or after another.
 fn is_kind(last: Option<bool>, kind: u8) -> bool
-    ensures { result ≡ reading.is_kind last kind }
+    ensures { result ≡ reading.is_entry_kind last kind }
 {
     match last {
         Some(own) => kind <= OTHER && kind != alike_byte(own),
@@ -445,7 +445,7 @@ fn entry_of_kind(
     requires part { p < length conf.now.parts }
     requires left { 1 ≤ cues }
     ensures value { GivesAt (λ entry. entry_value entry) result cursor.new (reading.entry_of_kind conf.now p cues at kind cursor.old) }
-    ensures counted { IfOk result (λ entry. (1 ≤ count_of (entry_value entry)) × (count_of (entry_value entry) ≤ cues)) }
+    ensures counted { IfOk result (λ entry. (1 ≤ cue_count (entry_value entry)) × (cue_count (entry_value entry) ≤ cues)) }
 {
     if kind == ALIKE {
         alike(false, cues, cursor)
@@ -457,7 +457,7 @@ fn entry_of_kind(
 }
 
 /// An entry, where so many cues are left.
-#[tactic(auto, unfolding(crate::specs::Reading::entry_at))]
+#[tactic(auto, unfolding(crate::specs::Reading::script_entry_at))]
 fn entry(
     alloc: Global,
     conf: &Conf,
@@ -468,8 +468,8 @@ fn entry(
 ) -> Result<ScriptEntry, ScriptFault>
     requires part { p < length conf.now.parts }
     requires left { 1 ≤ cues }
-    ensures value { GivesAt (λ entry. entry_value entry) result cursor.new (reading.entry_at conf.now p cues last cursor.old) }
-    ensures counted { IfOk result (λ entry. (1 ≤ count_of (entry_value entry)) × (count_of (entry_value entry) ≤ cues)) }
+    ensures value { GivesAt (λ entry. entry_value entry) result cursor.new (reading.script_entry_at conf.now p cues last cursor.old) }
+    ensures counted { IfOk result (λ entry. (1 ≤ cue_count (entry_value entry)) × (cue_count (entry_value entry) ≤ cues)) }
 {
     let at = cursor.at();
     let kind = cursor.u8()?;
@@ -488,7 +488,7 @@ fn entries(
     cursor: &mut Cursor<'_>,
 ) -> Result<Vec<ScriptEntry>, ScriptFault>
     requires { p < length conf.now.parts }
-    ensures { GivesAt (λ entries. entry_values entries.items) result cursor.new (reading.entries_at conf.now p total total None cursor.old) }
+    ensures { GivesAt (λ entries. entry_values entries.items) result cursor.new (reading.script_entries_at conf.now p total total None cursor.old) }
 {
     let mut entries = Vec::new(alloc);
     let mut cues = total;
@@ -548,11 +548,11 @@ pub fn read_script(
 ) -> Result<Script, ScriptFault>
     requires { p < length conf.now.parts }
     // What is read are the cues that the bytes spell.
-    ensures found { IfOk result (IsSpelled conf.now p bytes.now) }
+    ensures found { IfOk result (IsSpelledScript conf.now p bytes.now) }
     // What is spelled is read, unless there is no memory.
-    ensures only { (cues : List Cue) → IsSpelled conf.now p bytes.now cues → Gives (λ found. found) result (Ok cues) }
+    ensures only { (cues : List Cue) → IsSpelledScript conf.now p bytes.now cues → Gives (λ found. found) result (Ok cues) }
     // A fault is the first one.
-    ensures exact { Gives (λ found. found) result (reading.script conf.now p bytes.now) }
+    ensures exact { Gives (λ found. found) result (reading.script_read conf.now p bytes.now) }
 {
     let entries = whole(alloc, conf, p, bytes)?;
     Ok(Script { entries })

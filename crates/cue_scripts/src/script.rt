@@ -1,8 +1,8 @@
 //! A script: what a partition is told, tick by tick.
 
 ghost use Rattle.std.specs.Prelude.{◌≡◌, ◌≤◌, length, sum_by};
-ghost use Rattle.cue_scripts.specs.Entries.{count_of, expanded};
-ghost use Rattle.cue_scripts.specs.Kept.{IsKept};
+ghost use Rattle.cue_scripts.specs.Entries.{cue_count, expanded};
+ghost use Rattle.cue_scripts.specs.Kept.{AreKeptEntries};
 ghost use Rattle.cue_scripts.specs.Values.{entry_value, entry_values};
 
 use crate::cue::ScriptEntry;
@@ -18,21 +18,21 @@ impl Model for Script {
     ghost use Rattle.std.specs.Prelude.{List};
     ghost use Rattle.machine_model.specs.Cue.{Cue};
     ghost use Rattle.cue_scripts.specs.Entries.{expanded};
-    ghost use Rattle.cue_scripts.specs.Kept.{IsKept};
+    ghost use Rattle.cue_scripts.specs.Kept.{AreKeptEntries};
     ghost use Rattle.cue_scripts.specs.Values.{entry_values};
 
     ghost Value = { List Cue };
 
     ghost view = { λ script. expanded (entry_values script.entries.items) };
 
-    ghost invariant = { λ script. IsKept (entry_values script.entries.items) };
+    ghost invariant = { λ script. AreKeptEntries (entry_values script.entries.items) };
 }
 
 impl Script {
     /// Its entries: each has as many cues as it can.
     pub fn entries(&self) -> &[ScriptEntry]
         ensures value { expanded (entry_values result.now) ≡ self.now }
-        ensures kept { IsKept (entry_values result.now) }
+        ensures kept { AreKeptEntries (entry_values result.now) }
     {
         &self.entries
     }
@@ -47,8 +47,8 @@ impl Script {
 
 /// How many cues entries have.
 fn count_all(entries: &[ScriptEntry]) -> u32
-    requires { sum_by (λ entry. count_of (entry_value entry)) entries.now ≤ 4000000000 }
-    ensures { result ≡ sum_by (λ entry. count_of (entry_value entry)) entries.now }
+    requires { sum_by (λ entry. cue_count (entry_value entry)) entries.now ≤ 4000000000 }
+    ensures { result ≡ sum_by (λ entry. cue_count (entry_value entry)) entries.now }
 {
     let mut count = 0;
     for entry in entries {

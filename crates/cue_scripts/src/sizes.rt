@@ -4,7 +4,7 @@ ghost use Rattle.std.specs.Prelude.{◌≡◌, ◌≤◌, length};
 ghost use Rattle.cue_scripts.specs.Entries.{Other};
 ghost use Rattle.cue_scripts.specs.Kept.{HasCueRanges, HasSightRange, HasTrafficRange};
 ghost use Rattle.cue_scripts.specs.Spelling.{entry_text, order_text, sight_text, traffic_text};
-ghost use Rattle.cue_scripts.specs.Values.{cue_value, sight_value, traffic_value};
+ghost use Rattle.cue_scripts.specs.Values.{script_cue_value, script_sight_value, script_traffic_value};
 
 use crate::cue::{ScriptCue, ScriptSight, ScriptTraffic};
 use xm_base::Order;
@@ -12,8 +12,8 @@ use xm_base::Order;
 /// How long an entry of another cue is.
 #[tactic(auto, unfolding(crate::specs::Spelling::entry_text, crate::specs::Spelling::cue_text))]
 pub(crate) fn other_length(cue: &ScriptCue) -> u64
-    requires { HasCueRanges (cue_value cue.now) }
-    ensures value { result ≡ length (entry_text (Other (cue_value cue.now))) }
+    requires { HasCueRanges (script_cue_value cue.now) }
+    ensures value { result ≡ length (entry_text (Other (script_cue_value cue.now))) }
     ensures few { result ≤ 70000 }
 {
     3 + traffic_length(&cue.traffic) + order_length(cue.order) + sight_length(&cue.seen)
@@ -22,8 +22,8 @@ pub(crate) fn other_length(cue: &ScriptCue) -> u64
 /// How long traffic is.
 #[tactic(auto, unfolding(crate::specs::Spelling::traffic_text))]
 fn traffic_length(traffic: &ScriptTraffic) -> u64
-    requires { HasTrafficRange (traffic_value traffic.now) }
-    ensures value { result ≡ length (traffic_text (traffic_value traffic.now)) }
+    requires { HasTrafficRange (script_traffic_value traffic.now) }
+    ensures value { result ≡ length (traffic_text (script_traffic_value traffic.now)) }
     ensures few { result ≤ 65539 }
 {
     match traffic {
@@ -48,8 +48,8 @@ fn order_length(order: Option<Order>) -> u64
 /// How long a sight is.
 #[tactic(auto, unfolding(crate::specs::Spelling::sight_text))]
 fn sight_length(seen: &ScriptSight) -> u64
-    requires { HasSightRange (sight_value seen.now) }
-    ensures value { result ≡ length (sight_text (sight_value seen.now)) }
+    requires { HasSightRange (script_sight_value seen.now) }
+    ensures value { result ≡ length (sight_text (script_sight_value seen.now)) }
     ensures few { result ≤ 257 }
 {
     match seen {

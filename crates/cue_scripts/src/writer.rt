@@ -5,8 +5,8 @@ ghost use Rattle.machine_model.specs.Cue.{Cue};
 ghost use Rattle.cue_scripts.specs.Entries.{Other};
 ghost use Rattle.cue_scripts.specs.Kept.{HasCueRanges};
 ghost use Rattle.cue_scripts.specs.Spelling.{script_text};
-ghost use Rattle.cue_scripts.specs.Values.{cue_value};
-ghost use Rattle.cue_scripts.specs.Written.{IsFile, IsWithin, IsWritten, closed, is_open, nothing_written, repeated, with_cue, with_entry};
+ghost use Rattle.cue_scripts.specs.Values.{script_cue_value};
+ghost use Rattle.cue_scripts.specs.Written.{IsScriptFile, IsWithin, IsWritten, entry_closed, is_open, nothing_written, plain_repeated, with_cue, with_script_entry};
 
 use crate::cue::{ScriptCue, plain_kind};
 use crate::fault::ScriptFault;
@@ -69,10 +69,10 @@ impl ScriptWriter {
     /// Writes one cue more.
     #[tactic(auto, unfolding(crate::specs::Written::with_cue))]
     pub fn add(&mut self, cue: &ScriptCue) -> Result<(), Memory>
-        requires ranges { HasCueRanges (cue_value cue.now) }
+        requires ranges { HasCueRanges (script_cue_value cue.now) }
         requires few { self.old.cues < TICKS }
-        ensures value { OnOk result (self.new ≡ with_cue (cue_value cue.now) self.old) }
-        ensures written { (cues : List Cue) → IsWritten cues self.old → OnOk result (IsWritten (cues ++ cue_value cue.now ∷ []) self.new) }
+        ensures value { OnOk result (self.new ≡ with_cue (script_cue_value cue.now) self.old) }
+        ensures written { (cues : List Cue) → IsWritten cues self.old → OnOk result (IsWritten (cues ++ script_cue_value cue.now ∷ []) self.new) }
     {
         self.cues += 1;
         match plain_kind(cue) {
@@ -83,7 +83,7 @@ impl ScriptWriter {
 
     /// The file of the script of partition `p` with the cues that are written, where it is not too long for a file.
     pub fn finish(mut self, alloc: Global, p: PartId) -> Result<Vec<u8>, ScriptFault>
-        ensures { (cues : List Cue) → IsWritten cues self → IsFile (λ file. file.items) (script_text p cues) result }
+        ensures { (cues : List Cue) → IsWritten cues self → IsScriptFile (λ file. file.items) (script_text p cues) result }
     {
         self.close()?;
         let found = HEAD_BYTES + self.size;
@@ -97,10 +97,10 @@ impl ScriptWriter {
     }
 
     // Repeats a plain cue.
-    #[tactic(auto, unfolding(crate::specs::Written::repeated))]
+    #[tactic(auto, unfolding(crate::specs::Written::plain_repeated))]
     fn repeat(&mut self, own: bool) -> Result<(), Memory>
         requires { IsWithin 1 self.old }
-        ensures { OnOk result (self.new ≡ repeated own self.old) }
+        ensures { OnOk result (self.new ≡ plain_repeated own self.old) }
     {
         if is_open(self.own, own) {
             self.count += 1;
@@ -113,11 +113,11 @@ impl ScriptWriter {
     }
 
     // Puts another cue.
-    #[tactic(auto, unfolding(crate::specs::Written::with_entry))]
+    #[tactic(auto, unfolding(crate::specs::Written::with_script_entry))]
     fn put(&mut self, cue: &ScriptCue) -> Result<(), Memory>
-        requires ranges { HasCueRanges (cue_value cue.now) }
+        requires ranges { HasCueRanges (script_cue_value cue.now) }
         requires within { IsWithin 1 self.old }
-        ensures { OnOk result (self.new ≡ with_entry (Other (cue_value cue.now)) (closed self.old)) }
+        ensures { OnOk result (self.new ≡ with_script_entry (Other (script_cue_value cue.now)) (entry_closed self.old)) }
     {
         self.close()?;
         self.size += other_length(cue);
@@ -128,9 +128,9 @@ impl ScriptWriter {
     }
 
     // Puts the entry of the plain cue that is repeated, where there is one.
-    #[tactic(auto, unfolding(crate::specs::Written::closed, crate::specs::Written::with_entry))]
+    #[tactic(auto, unfolding(crate::specs::Written::entry_closed, crate::specs::Written::with_script_entry))]
     fn close(&mut self) -> Result<(), Memory>
-        ensures value { OnOk result (self.new ≡ closed self.old) }
+        ensures value { OnOk result (self.new ≡ entry_closed self.old) }
         ensures within { IsWithin 1 self.old → OnOk result (IsWithin 1 self.new) }
     {
         let Some(own) = self.own else {

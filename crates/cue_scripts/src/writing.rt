@@ -3,9 +3,9 @@
 ghost use Rattle.std.specs.Prelude.{◌≡◌, ◌++◌, All, IfOk, OnOk};
 ghost use Rattle.std.specs.List.{flat_map};
 ghost use Rattle.cue_scripts.specs.Entries.{Alike, Other};
-ghost use Rattle.cue_scripts.specs.Kept.{HasCueRanges, HasRanges, HasSightRange, HasTrafficRange};
-ghost use Rattle.cue_scripts.specs.Spelling.{cue_text, entry_text, event_byte, head_text, order_text, reset_byte, script_text, sight_text, slot_byte, traffic_text};
-ghost use Rattle.cue_scripts.specs.Values.{cue_value, entry_value, event_value, sight_value, slot_value, traffic_value};
+ghost use Rattle.cue_scripts.specs.Kept.{HasCueRanges, HasEntryRanges, HasSightRange, HasTrafficRange};
+ghost use Rattle.cue_scripts.specs.Spelling.{cue_text, entry_text, event_byte, script_head_text, order_text, reset_byte, script_text, sight_text, slot_byte, traffic_text};
+ghost use Rattle.cue_scripts.specs.Values.{script_cue_value, entry_value, event_value, script_sight_value, script_slot_value, script_traffic_value};
 
 use crate::cue::{ScriptCue, ScriptEntry, ScriptEvent, ScriptSight, ScriptSlot, ScriptTraffic};
 use crate::put::{put_double, put_half, put_word};
@@ -40,9 +40,9 @@ pub fn build_script(alloc: Global, p: PartId, script: &Script) -> Result<Vec<u8>
 }
 
 /// Puts the head of a script.
-#[tactic(auto, unfolding(crate::specs::Spelling::head_text))]
+#[tactic(auto, unfolding(crate::specs::Spelling::script_head_text))]
 pub(crate) fn put_head(out: &mut Vec<u8>, p: PartId, count: u32) -> Result<(), Memory>
-    ensures { OnOk result (out.new.items ≡ out.old.items ++ head_text p count) }
+    ensures { OnOk result (out.new.items ≡ out.old.items ++ script_head_text p count) }
 {
     out.extend_from_slice(&MAGIC)?;
     put_half(out, VERSION)?;
@@ -52,7 +52,7 @@ pub(crate) fn put_head(out: &mut Vec<u8>, p: PartId, count: u32) -> Result<(), M
 
 /// Puts entries, one after the other.
 fn put_entries(out: &mut Vec<u8>, entries: &[ScriptEntry]) -> Result<(), Memory>
-    requires { All (λ entry. HasRanges (entry_value entry)) entries.now }
+    requires { All (λ entry. HasEntryRanges (entry_value entry)) entries.now }
     ensures { OnOk result (out.new.items ≡ out.old.items ++ flat_map (λ entry. entry_text (entry_value entry)) entries.now) }
 {
     for entry in entries {
@@ -63,7 +63,7 @@ fn put_entries(out: &mut Vec<u8>, entries: &[ScriptEntry]) -> Result<(), Memory>
 
 /// Puts an entry.
 fn put_entry(out: &mut Vec<u8>, entry: &ScriptEntry) -> Result<(), Memory>
-    requires { HasRanges (entry_value entry.now) }
+    requires { HasEntryRanges (entry_value entry.now) }
     ensures { OnOk result (out.new.items ≡ out.old.items ++ entry_text (entry_value entry.now)) }
 {
     match entry {
@@ -84,8 +84,8 @@ pub(crate) fn put_alike(out: &mut Vec<u8>, own: bool, count: u32) -> Result<(), 
 /// Puts an entry of another cue.
 #[tactic(auto, unfolding(crate::specs::Spelling::entry_text))]
 pub(crate) fn put_other(out: &mut Vec<u8>, cue: &ScriptCue) -> Result<(), Memory>
-    requires { HasCueRanges (cue_value cue.now) }
-    ensures { OnOk result (out.new.items ≡ out.old.items ++ entry_text (Other (cue_value cue.now))) }
+    requires { HasCueRanges (script_cue_value cue.now) }
+    ensures { OnOk result (out.new.items ≡ out.old.items ++ entry_text (Other (script_cue_value cue.now))) }
 {
     out.push(OTHER)?;
     put_cue(out, cue)
@@ -94,8 +94,8 @@ pub(crate) fn put_other(out: &mut Vec<u8>, cue: &ScriptCue) -> Result<(), Memory
 /// Puts the five parts of a cue.
 #[tactic(auto, unfolding(crate::specs::Spelling::cue_text))]
 fn put_cue(out: &mut Vec<u8>, cue: &ScriptCue) -> Result<(), Memory>
-    requires { HasCueRanges (cue_value cue.now) }
-    ensures { OnOk result (out.new.items ≡ out.old.items ++ cue_text (cue_value cue.now)) }
+    requires { HasCueRanges (script_cue_value cue.now) }
+    ensures { OnOk result (out.new.items ≡ out.old.items ++ cue_text (script_cue_value cue.now)) }
 {
     out.push(slot_byte(cue.mine))?;
     put_traffic(out, &cue.traffic)?;
@@ -106,7 +106,7 @@ fn put_cue(out: &mut Vec<u8>, cue: &ScriptCue) -> Result<(), Memory>
 
 /// The byte of a slot.
 fn slot_byte(slot: ScriptSlot) -> u8
-    ensures { result ≡ slot_byte (slot_value slot) }
+    ensures { result ≡ slot_byte (script_slot_value slot) }
 {
     match slot {
         ScriptSlot::Away => 0,
@@ -118,8 +118,8 @@ fn slot_byte(slot: ScriptSlot) -> u8
 /// Puts traffic.
 #[tactic(auto, unfolding(crate::specs::Spelling::traffic_text))]
 fn put_traffic(out: &mut Vec<u8>, traffic: &ScriptTraffic) -> Result<(), Memory>
-    requires { HasTrafficRange (traffic_value traffic.now) }
-    ensures { OnOk result (out.new.items ≡ out.old.items ++ traffic_text (traffic_value traffic.now)) }
+    requires { HasTrafficRange (script_traffic_value traffic.now) }
+    ensures { OnOk result (out.new.items ≡ out.old.items ++ traffic_text (script_traffic_value traffic.now)) }
 {
     match traffic {
         ScriptTraffic::Nothing => out.push(0)?,
@@ -177,8 +177,8 @@ fn event_byte(event: ScriptEvent) -> u8
 /// Puts what was seen.
 #[tactic(auto, unfolding(crate::specs::Spelling::sight_text))]
 fn put_sight(out: &mut Vec<u8>, seen: &ScriptSight) -> Result<(), Memory>
-    requires { HasSightRange (sight_value seen.now) }
-    ensures { OnOk result (out.new.items ≡ out.old.items ++ sight_text (sight_value seen.now)) }
+    requires { HasSightRange (script_sight_value seen.now) }
+    ensures { OnOk result (out.new.items ≡ out.old.items ++ sight_text (script_sight_value seen.now)) }
 {
     match seen {
         ScriptSight::Nothing => out.push(0)?,

@@ -5,7 +5,7 @@ use Rattle.std.proofs.lemmas.Option.{get_or_from_slice_get, slice_get_within}
 use Rattle.std.proofs.lemmas.Bool.Decides.{nat_tests}
 use Rattle.xm_conf.specs.declared.plan.Slot.{Slot}
 use Rattle.xm_conf.specs.Fits.{InFrame, InTurn}
-use Rattle.cyclic_plans.specs.Slots.{Covers, covers, slot_from, gap_end, end_of, stretch_end}
+use Rattle.cyclic_plans.specs.Slots.{Covers, covers, slot_from, gap_end, slot_or_gap_end, stretch_end}
 use Rattle.cyclic_plans.proofs.SlotLemmas.{covers-true, covers-Covers, covers-before, covers-after, slot_from-found}
 
 -- the slots begin at or after a moment, and each at or after the end of the one before it
@@ -101,7 +101,7 @@ gap_stays frame moment later number (slot ∷ rest) goes below none =
 pub stretch_end-past : (frame moment : ℕ) (slots : List Slot) → moment < frame → moment < stretch_end frame moment slots
 stretch_end-past frame moment slots below = at (slot_from moment 0 slots) (slot_from-found moment 0 slots)
   where
-    at : (o : Option (ℕ × Slot)) → IfSome o (λ found. (0 ≤ found.0) × (slice_get slots (found.0 - 0) ≡ Some found.1) × Covers moment found.1) → moment < end_of frame moment slots o
+    at : (o : Option (ℕ × Slot)) → IfSome o (λ found. (0 ≤ found.0) × (slice_get slots (found.0 - 0) ≡ Some found.1) × Covers moment found.1) → moment < slot_or_gap_end frame moment slots o
     at None there = gap_end-past frame moment slots below
     at (Some found) there = there.2.1
 
@@ -109,7 +109,7 @@ stretch_end-past frame moment slots below = at (slot_from moment 0 slots) (slot_
 pub stretch_end-inside : (frame moment : ℕ) (slots : List Slot) → All (InFrame frame) slots → stretch_end frame moment slots ≤ frame
 stretch_end-inside frame moment slots inside = at (slot_from moment 0 slots) (slot_from-found moment 0 slots)
   where
-    at : (o : Option (ℕ × Slot)) → IfSome o (λ found. (0 ≤ found.0) × (slice_get slots (found.0 - 0) ≡ Some found.1) × Covers moment found.1) → end_of frame moment slots o ≤ frame
+    at : (o : Option (ℕ × Slot)) → IfSome o (λ found. (0 ≤ found.0) × (slice_get slots (found.0 - 0) ≡ Some found.1) × Covers moment found.1) → slot_or_gap_end frame moment slots o ≤ frame
     at None there = gap_end-inside frame moment slots
     at (Some found) there =
         let is = get_or_from_slice_get slots (found.0 - 0) found.1 found.1 there.1 in
@@ -122,6 +122,6 @@ stretch_end-alike frame moment later slots turn goes = at (slot_from moment 0 sl
   where
     at : (o : Option (ℕ × Slot)) → slot_from moment 0 slots ≡ o
         → IfSome o (λ found. later < found.1.start + found.1.duration → slot_from later 0 slots ≡ Some found)
-        → later < end_of frame moment slots o → slot_from later 0 slots ≡ o
+        → later < slot_or_gap_end frame moment slots o → slot_from later 0 slots ≡ o
     at None is stays below = gap_stays frame moment later 0 slots goes below is
     at (Some found) is stays below = stays below

@@ -29,13 +29,13 @@ plan_fits conf n fits below =
     }
 
 -- a plan stands at its number
-pub record StandsAt (conf : Conf) (n : ℕ) (plan : Plan) : Type 0 where
+pub record PlanStandsAt (conf : Conf) (n : ℕ) (plan : Plan) : Type 0 where
   pub slots : slots_of conf n ≡ plan.slots
   pub frame : frame_of conf n ≡ plan.frame
   pub few : length plan.slots ≤ 64
 
 -- the element at a place is the plan of that number
-pub stands_at : (conf : Conf) (n : ℕ) (plan : Plan) → Fits (described conf) → n < length conf.plans → plan ≡ slice_index_or conf.plans n plan → StandsAt conf n plan
+pub stands_at : (conf : Conf) (n : ℕ) (plan : Plan) → Fits (described conf) → n < length conf.plans → plan ≡ slice_index_or conf.plans n plan → PlanStandsAt conf n plan
 unfolding slots_of frame_of
 stands_at conf n plan fits below is =
     let there : slice_get conf.plans n ≡ Some plan = slice_get-get_or conf.plans n plan below ∙ ap (λ (p : Plan). Some p) (sym is) in

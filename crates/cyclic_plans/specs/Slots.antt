@@ -58,10 +58,10 @@ abbrev pub gap_end : ℕ → ℕ → List Slot → ℕ
 gap_end frame moment slots = fold min frame (filter (nat_lt moment) (map (λ slot. slot.start) slots))
 
 -- the end of the slot that was found, or of the gap where none was
-abbrev pub end_of : ℕ → ℕ → List Slot → Option (ℕ × Slot) → ℕ
-end_of frame moment slots None = gap_end frame moment slots
-end_of frame moment slots (Some found) = found.1.start + found.1.duration
+abbrev pub slot_or_gap_end : ℕ → ℕ → List Slot → Option (ℕ × Slot) → ℕ
+slot_or_gap_end frame moment slots None = gap_end frame moment slots
+slot_or_gap_end frame moment slots (Some found) = found.1.start + found.1.duration
 
 -- the end of the slot that runs at a moment, or of the gap
 abbrev pub stretch_end : ℕ → ℕ → List Slot → ℕ
-stretch_end frame moment slots = end_of frame moment slots (slot_from moment 0 slots)
+stretch_end frame moment slots = slot_or_gap_end frame moment slots (slot_from moment 0 slots)

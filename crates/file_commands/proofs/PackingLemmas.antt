@@ -7,10 +7,10 @@ use Rattle.xm_container.specs.declared.image.Image.{Image as Given}
 use Rattle.xm_words.specs.Words.{PartFile, Pack}
 use Rattle.file_commands.specs.Denial.{Denial}
 use Rattle.file_commands.specs.Ending.{Ending, Finished, Misused, Unread, Denied, Unwritten, Unsaved, Unheard, Starved}
-use Rattle.file_commands.specs.Outcome.{Outcome, content, first_long, outcome_of, packed_to, unless_long, worked}
-use Rattle.file_commands.specs.Packing.{container_of, images_of, limited, names_of}
+use Rattle.file_commands.specs.Outcome.{Outcome, content, first_long, outcome_of, packed_to, unless_long, outcome_of_contents}
+use Rattle.file_commands.specs.Packing.{container_of, images_of, limited, file_names}
 use Rattle.file_commands.specs.Read.{HasRead}
-use Rattle.file_commands.specs.Work.{Outside, AreNotRead, Comes, IsNotRead, IsStarved, ReadsFiles, called, called_for}
+use Rattle.file_commands.specs.Work.{Outside, AreNotRead, Comes, IsNotRead, IsStarved, ReadsFiles, after_store_call, called_for}
 use Rattle.file_commands.specs.OutputLemmas.{called_for-is}
 
 -- Files are read.
@@ -30,16 +30,16 @@ reads_more told (name ∷ first) [] file bytes read more = absurd read
 reads_more told (name ∷ first) (other ∷ contents) file bytes read more = (read.0, reads_more told first contents file bytes read.1 more)
 
 -- a call for one file more
-called_for-more : (first : List (List ℕ)) (file : List ℕ) (before : Outside) → called_for (first ++ file ∷ []) before ≡ called (called_for first before)
+called_for-more : (first : List (List ℕ)) (file : List ℕ) (before : Outside) → called_for (first ++ file ∷ []) before ≡ after_store_call (called_for first before)
 called_for-more [] file before = refl
-called_for-more (name ∷ first) file before = called_for-more first file (called before)
+called_for-more (name ∷ first) file before = called_for-more first file (after_store_call before)
 
 -- the files behind the one that is read next
 behind : (all first rest : List (List ℕ)) (file : List ℕ) → all ≡ first ++ file ∷ rest → all ≡ (first ++ file ∷ []) ++ rest
 behind all first rest file named = named ∙ sym (append_assoc first (file ∷ []) rest)
 
 -- the next file was read
-pub has_more : (all rest contents : List (List ℕ)) (file bytes : List ℕ) (before now next : Outside) → HasRead all (file ∷ rest) contents before now → ReadsFile now.files file FILE_BYTES bytes → next ≡ called now
+pub has_more : (all rest contents : List (List ℕ)) (file bytes : List ℕ) (before now next : Outside) → HasRead all (file ∷ rest) contents before now → ReadsFile now.files file FILE_BYTES bytes → next ≡ after_store_call now
     → HasRead all rest (contents ++ bytes ∷ []) before next
 has_more all rest contents file bytes before now next had read is =
     let files : now.files ≡ before.files = ap (λ (x : Outside). x.files) (had.outside ∙ called_for-is had.first before) in
@@ -47,11 +47,11 @@ has_more all rest contents file bytes before now next had read is =
       first = had.first ++ file ∷ [];
       named = behind all had.first rest file had.named;
       read = reads_more before.files had.first contents file bytes had.read (subst (λ (told : Option Files). ReadsFile told file FILE_BYTES bytes) files read);
-      outside = is ∙ ap called had.outside ∙ sym (called_for-more had.first file before);
+      outside = is ∙ ap after_store_call had.outside ∙ sym (called_for-more had.first file before);
     }
 
 -- the next file was read, where what is still to be read and what was read are known by other words
-pub has_next : (all rest names contents read : List (List ℕ)) (file bytes : List ℕ) (before now next : Outside) → HasRead all (file ∷ rest) contents before now → ReadsFile now.files file FILE_BYTES bytes → next ≡ called now
+pub has_next : (all rest names contents read : List (List ℕ)) (file bytes : List ℕ) (before now next : Outside) → HasRead all (file ∷ rest) contents before now → ReadsFile now.files file FILE_BYTES bytes → next ≡ after_store_call now
     → rest ≡ names → contents ++ bytes ∷ [] ≡ read → HasRead all names read before next
 has_next all rest names contents read file bytes before now next had reads is same pushed =
     subst (λ (files : List (List ℕ)). HasRead all files read before next) same
@@ -73,7 +73,7 @@ not_more Starved all rest contents file before now after had not_read = record {
   first = had.first ++ file ∷ [];
   rest = rest;
   named = behind all had.first rest file had.named;
-  outside = not_read ∙ ap called had.outside ∙ sym (called_for-more had.first file before);
+  outside = not_read ∙ ap after_store_call had.outside ∙ sym (called_for-more had.first file before);
 }
 
 -- there was no memory for what was read
@@ -115,18 +115,18 @@ no_more_contents read files contents none = ap (λ (c : List (List ℕ)). after_
 
 -- what a command comes to that packs
 outcome-pack : (configuration output : List ℕ) (images : List PartFile) (contents : List (List ℕ)) → outcome_of (Pack configuration output images) contents
-    ≡ packed_to output (limited (first_long (configuration ∷ names_of images) contents) (container_of configuration (content 0 contents) images (drop 1 contents)))
+    ≡ packed_to output (limited (first_long (configuration ∷ file_names images) contents) (container_of configuration (content 0 contents) images (drop 1 contents)))
 unfolding outcome_of
-outcome-pack configuration output images contents = at (first_long (configuration ∷ names_of images) contents)
+outcome-pack configuration output images contents = at (first_long (configuration ∷ file_names images) contents)
   where
-    at : (long : Option (List ℕ)) → unless_long long (worked (Pack configuration output images) contents) ≡ packed_to output (limited long (container_of configuration (content 0 contents) images (drop 1 contents)))
+    at : (long : Option (List ℕ)) → unless_long long (outcome_of_contents (Pack configuration output images) contents) ≡ packed_to output (limited long (container_of configuration (content 0 contents) images (drop 1 contents)))
     at None = refl
     at (Some file) = refl
 
 -- what is done with what is packed is what the command comes to, seen from another state that is the same
 pub comes_packed : (e : Ending) (configuration output : List ℕ) (images : List PartFile) (contents : List (List ℕ)) (mid other after : Outside) → mid ≡ other
-    → Comes e (packed_to output (limited (first_long (configuration ∷ names_of images) contents) (container_of configuration (content 0 contents) images (drop 1 contents)))) mid after
+    → Comes e (packed_to output (limited (first_long (configuration ∷ file_names images) contents) (container_of configuration (content 0 contents) images (drop 1 contents)))) mid after
     → Comes e (outcome_of (Pack configuration output images) contents) other after
 comes_packed e configuration output images contents mid other after same comes =
     subst (λ (outcome : Outcome). Comes e outcome other after) (sym (outcome-pack configuration output images contents))
-    (subst (λ (m : Outside). Comes e (packed_to output (limited (first_long (configuration ∷ names_of images) contents) (container_of configuration (content 0 contents) images (drop 1 contents)))) m after) same comes)
+    (subst (λ (m : Outside). Comes e (packed_to output (limited (first_long (configuration ∷ file_names images) contents) (container_of configuration (content 0 contents) images (drop 1 contents)))) m after) same comes)

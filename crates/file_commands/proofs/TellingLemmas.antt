@@ -1,6 +1,6 @@
 -- The commands that tell a file read it alone, and write none.
 use Rattle.std.proofs.Common.{◌≡◌, ℕ, List, [], ◌∷◌, None, refl}
-use Rattle.file_commands.specs.Outcome.{inputs_of, later_of, output_of, told, worked}
+use Rattle.file_commands.specs.Outcome.{inputs_of, later_of, output_of, text_reported, outcome_of_contents}
 use Rattle.file_maker.specs.Telling.{text_telling}
 use Rattle.file_commands.specs.Telling.{command_telling}
 use Rattle.file_maker.specs.declared.telling.Telling.{Telling}
@@ -30,7 +30,7 @@ none_later Plan file = refl
 none_later Verdicts file = refl
 none_later Groups file = refl
 
-pub told_so : (what : Telling) (file bytes : List ℕ) → worked (command_telling what file) (bytes ∷ []) ≡ told file (text_telling what bytes)
+pub told_so : (what : Telling) (file bytes : List ℕ) → outcome_of_contents (command_telling what file) (bytes ∷ []) ≡ text_reported file (text_telling what bytes)
 told_so Image file bytes = refl
 told_so Container file bytes = refl
 told_so Verdict file bytes = refl

@@ -8,23 +8,23 @@ use Rattle.xm_outside.specs.Files.{Files, ReadsFile}
 use Rattle.xm_outside.specs.Growth.{grown-nothing, GrewByPrefix}
 use Rattle.xm_words.specs.Words.{Command}
 use Rattle.file_commands.specs.Ending.{Ending, Finished, Misused, Unread, Denied, Unwritten, Unsaved, Unheard, Starved}
-use Rattle.file_commands.specs.Outcome.{Outcome, first_long, inputs_of, made, outcome_of, output_of, refused, told, unless_long, worked}
+use Rattle.file_commands.specs.Outcome.{Outcome, first_long, inputs_of, file_made, outcome_of, output_of, command_refused, text_reported, unless_long, outcome_of_contents}
 use Rattle.file_maker.specs.Makes.{IsUnmade}
 use Rattle.file_commands.specs.Makes.{IsUnmadeOf}
 use Rattle.file_maker.specs.declared.unmade.Unmade.{Unmade}
 use Rattle.file_maker.specs.declared.unmade.Unmade.TheVariants as unmade
 use Rattle.file_commands.specs.OutputLemmas.{called_for-is, no_output, output-named}
-use Rattle.file_commands.specs.Work.{Outside, AreNotRead, Comes, IsDone, IsNotRead, ReadsFiles, Reports, called, called_for, outside}
+use Rattle.file_commands.specs.Work.{Outside, AreNotRead, Comes, IsDone, IsNotRead, ReadsFiles, Reports, after_store_call, called_for, outside}
 
 -- What one file comes to.
 
 -- a file that is too long
-pub one-long : (command : Command) (file bytes : List ℕ) → inputs_of command ≡ file ∷ [] → FILE_BYTES < length bytes → outcome_of command (bytes ∷ []) ≡ refused file (codes "too-long")
+pub one-long : (command : Command) (file bytes : List ℕ) → inputs_of command ≡ file ∷ [] → FILE_BYTES < length bytes → outcome_of command (bytes ∷ []) ≡ command_refused file (codes "too-long")
 unfolding outcome_of
 one-long command file bytes one long = let test : nat_lt FILE_BYTES (length bytes) ≡ true = grind (arith, nat_tests) in rw (one, test) refl
 
 -- a file that is not too long
-pub one-short : (command : Command) (file bytes : List ℕ) → inputs_of command ≡ file ∷ [] → length bytes ≤ FILE_BYTES → outcome_of command (bytes ∷ []) ≡ worked command (bytes ∷ [])
+pub one-short : (command : Command) (file bytes : List ℕ) → inputs_of command ≡ file ∷ [] → length bytes ≤ FILE_BYTES → outcome_of command (bytes ∷ []) ≡ outcome_of_contents command (bytes ∷ [])
 unfolding outcome_of
 one-short command file bytes one short = let test : nat_lt FILE_BYTES (length bytes) ≡ false = grind (arith, nat_tests) in rw (one, test) refl
 
@@ -34,34 +34,34 @@ none_long [] contents none = refl
 none_long (name ∷ names) contents none = sym (ap (first_long (name ∷ names)) none)
 
 -- a file that is too long is refused
-pub outcome-long : (command : Command) (contents : List (List ℕ)) (file : List ℕ) → first_long (inputs_of command) contents ≡ Some file → outcome_of command contents ≡ refused file (codes "too-long")
+pub outcome-long : (command : Command) (contents : List (List ℕ)) (file : List ℕ) → first_long (inputs_of command) contents ≡ Some file → outcome_of command contents ≡ command_refused file (codes "too-long")
 unfolding outcome_of
-outcome-long command contents file long = ap (λ (o : Option (List ℕ)). unless_long o (worked command contents)) long
+outcome-long command contents file long = ap (λ (o : Option (List ℕ)). unless_long o (outcome_of_contents command contents)) long
 
 -- files none of which is too long
-pub outcome-short : (command : Command) (contents : List (List ℕ)) → first_long (inputs_of command) contents ≡ None → outcome_of command contents ≡ worked command contents
+pub outcome-short : (command : Command) (contents : List (List ℕ)) → first_long (inputs_of command) contents ≡ None → outcome_of command contents ≡ outcome_of_contents command contents
 unfolding outcome_of
-outcome-short command contents none = ap (λ (long : Option (List ℕ)). unless_long long (worked command contents)) none
+outcome-short command contents none = ap (λ (long : Option (List ℕ)). unless_long long (outcome_of_contents command contents)) none
 
 -- a command whose words name no file to be written writes none
 pub no-writes : (command : Command) (contents : List (List ℕ)) → output_of command ≡ None → (outcome_of command contents).output ≡ None
 no-writes command contents none = no_output _ (λ output is. (let named = output-named command contents output is in let no : ⊥ = cc in no))
 
 -- a command that is refused does nothing
-pub refused_comes : (file text : List ℕ) (before : Outside) → Comes (Denied file text) (refused file text) before before
+pub refused_comes : (file text : List ℕ) (before : Outside) → Comes (Denied file text) (command_refused file text) before before
 refused_comes file text before = (refl, sym (ap (λ (g : Option (List ℕ)). record before { got = g }) (grown-nothing before.got)))
 
 -- and its report has got nothing
-pub refused_reports : (file text : List ℕ) (had : Option (List ℕ)) (faults : ℕ) → Reports (Denied file text) (refused file text) had faults had faults
+pub refused_reports : (file text : List ℕ) (had : Option (List ℕ)) (faults : ℕ) → Reports (Denied file text) (command_refused file text) had faults had faults
 refused_reports file text had faults = (refl, sym (grown-nothing had), refl)
 
 -- where nothing was made, nothing is done
-pub unmade_comes : (e : Ending) (input output : List ℕ) (why : Unmade) (m : Result (List ℕ) (List ℕ)) (before : Outside) → IsUnmadeOf e input why → IsUnmade why m → Comes e (made input output m) before before
+pub unmade_comes : (e : Ending) (input output : List ℕ) (why : Unmade) (m : Result (List ℕ) (List ℕ)) (before : Outside) → IsUnmadeOf e input why → IsUnmade why m → Comes e (file_made input output m) before before
 unmade_comes e input output (unmade.Refused text) m before ends is = rw (ends, is) (refused_comes input _ before)
 unmade_comes e input output unmade.Memory m before ends is = rw ends refl
 
 -- and nothing is told
-pub unmade_reports : (e : Ending) (file : List ℕ) (why : Unmade) (m : Result (List ℕ) (List ℕ)) (had : Option (List ℕ)) (faults : ℕ) → IsUnmadeOf e file why → IsUnmade why m → Reports e (told file m) had faults had faults
+pub unmade_reports : (e : Ending) (file : List ℕ) (why : Unmade) (m : Result (List ℕ) (List ℕ)) (had : Option (List ℕ)) (faults : ℕ) → IsUnmadeOf e file why → IsUnmade why m → Reports e (text_reported file m) had faults had faults
 unmade_reports e file (unmade.Refused text) m had faults ends is = rw (ends, is) (refused_reports file _ had faults)
 unmade_reports e file unmade.Memory m had faults ends is = rw ends (refl, refl)
 
@@ -87,7 +87,7 @@ done_by (Unheard place) command contents before after read comes = record { carr
 done_by Starved command contents before after read comes = record { first = inputs_of command; rest = []; named = sym (append-nil (inputs_of command)); outside = comes }
 
 -- a command that reads one file did all of its work
-pub done_by_one : (e : Ending) (command : Command) (file bytes : List ℕ) (before after : Outside) → inputs_of command ≡ file ∷ [] → ReadsFile before.files file FILE_BYTES bytes → Comes e (outcome_of command (bytes ∷ [])) (called before) after → IsDone e command before after
+pub done_by_one : (e : Ending) (command : Command) (file bytes : List ℕ) (before after : Outside) → inputs_of command ≡ file ∷ [] → ReadsFile before.files file FILE_BYTES bytes → Comes e (outcome_of command (bytes ∷ [])) (after_store_call before) after → IsDone e command before after
 done_by_one e command file bytes before after one read comes = done_by e command (bytes ∷ []) before after (rw one (read, tt)) (rw one comes)
 
 -- a command whose files were not all read ends so

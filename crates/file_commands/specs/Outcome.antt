@@ -12,7 +12,7 @@ use Rattle.machine_model.specs.View.{System as Booted, view_of}
 use Rattle.generated_runs.specs.Told.{generated_text}
 use Rattle.whole_system.specs.State.{part_at, with_inputs}
 use Rattle.cue_scripts.specs.Spelling.{script_text}
-use Rattle.cue_scripts.specs.Texts.{text}
+use Rattle.cue_scripts.specs.Texts.{script_fault_text}
 use Rattle.cue_scripts.specs.declared.fault.ScriptFault.TheVariants as script_fault
 use Rattle.xm_alone.specs.Replay.{replay_lines, replayed}
 use Rattle.alone_replay.specs.Ready.{NoContainer, NoPartition, NoScript, OddInput, Replay as Readied, Unready, replay_of}
@@ -29,7 +29,7 @@ use Rattle.file_commands.specs.Ending.{input_text, length_text, partition_text, 
 use Rattle.file_maker.specs.Grouping.{groups_of}
 use Rattle.file_maker.specs.Imaging.{container_lines_of, container_verdict_of, image_lines_of, xef_of}
 use Rattle.file_commands.specs.Inputs.{inputs_for, no_inputs}
-use Rattle.file_commands.specs.Packing.{container_of, denial, names_of}
+use Rattle.file_commands.specs.Packing.{container_of, denial, file_names}
 use Rattle.file_maker.specs.Parsing.{xmc_of}
 use Rattle.file_maker.specs.Planning.{plan_lines_of, verdicts_of}
 
@@ -57,13 +57,13 @@ abbrev pub refused_by : Denial → Outcome
 refused_by denial = record { denial = Some denial; output = None; report = []; later = []; run = None }
 
 -- a command that is refused because of a file, and does nothing
-abbrev pub refused : List ℕ → List ℕ → Outcome
-refused file text = refused_by (record { file = file; text = text })
+abbrev pub command_refused : List ℕ → List ℕ → Outcome
+command_refused file text = refused_by (record { file = file; text = text })
 
 -- a file's name, where there is one
-abbrev pub name_in : Option (List ℕ) → List (List ℕ)
-name_in None = []
-name_in (Some file) = file ∷ []
+abbrev pub name_if_any : Option (List ℕ) → List (List ℕ)
+name_if_any None = []
+name_if_any (Some file) = file ∷ []
 
 -- the files that a command reads, in the order of its words
 abbrev pub inputs_of : Command → List (List ℕ)
@@ -71,15 +71,15 @@ inputs_of (Bare image ticks) = image ∷ []
 inputs_of (Parse description output) = description ∷ []
 inputs_of (BuildImage program output) = program ∷ []
 inputs_of (ReadImage image) = image ∷ []
-inputs_of (Pack configuration output images) = configuration ∷ names_of images
+inputs_of (Pack configuration output images) = configuration ∷ file_names images
 inputs_of (ListContainer container) = container ∷ []
 inputs_of (CheckContainer container) = container ∷ []
 inputs_of (MakePlan description) = description ∷ []
 inputs_of (CheckPlan description) = description ∷ []
 inputs_of (TellGroups description) = description ∷ []
 inputs_of (Generate number) = []
-inputs_of (Run container options) = container ∷ names_of (inputs_in options)
-inputs_of (Replay container part script further) = container ∷ script ∷ name_in (replay_input further)
+inputs_of (Run container options) = container ∷ file_names (inputs_in options)
+inputs_of (Replay container part script further) = container ∷ script ∷ name_if_any (replay_input further)
 
 -- the file that a command writes before its report
 abbrev pub output_of : Command → Option (List ℕ)
@@ -110,8 +110,8 @@ later_of (MakePlan description) = []
 later_of (CheckPlan description) = []
 later_of (TellGroups description) = []
 later_of (Generate number) = []
-later_of (Run container options) = names_of (cores_in options) ++ names_of (scripts_in options)
-later_of (Replay container part script further) = name_in (replay_core further)
+later_of (Run container options) = file_names (cores_in options) ++ file_names (scripts_in options)
+later_of (Replay container part script further) = name_if_any (replay_core further)
 
 -- the core file of a partition of a machine, under the name that is given for it
 abbrev pub core_output : Machine → PartFile → Output
@@ -132,7 +132,7 @@ script_output system ticks named = record { file = named.file; bytes = script_by
 -- the refusal of a script that has more bytes than a file may have
 abbrev pub script_denial : Booted → ℕ → PartFile → Option Denial
 script_denial system ticks named =
-    if nat_lt FILE_BYTES (length (script_bytes system ticks named.part)) then Some (denial named.file (text (script_fault.Length (length (script_bytes system ticks named.part)))))
+    if nat_lt FILE_BYTES (length (script_bytes system ticks named.part)) then Some (denial named.file (script_fault_text (script_fault.Length (length (script_bytes system ticks named.part)))))
     else None
 
 -- the first refusal of scripts in the order of their names, or else what comes of them
@@ -152,8 +152,8 @@ scripts_for system ticks (named ∷ scripts) =
     unless_denied (script_denial system ticks named) (script_before (script_output system ticks named) (scripts_for system ticks scripts))
 
 -- what a run of so many ticks comes to, of a system whose partitions have these input words, with these core files, and with scripts behind them
-unfoldable pub ran : ℕ → List PartFile → List Output → System → List (List ℕ) → Outcome
-ran ticks cores scripts system inputs = record {
+unfoldable pub outcome_of_run : ℕ → List PartFile → List Output → System → List (List ℕ) → Outcome
+outcome_of_run ticks cores scripts system inputs = record {
   denial = None;
   output = None;
   report = texts (report (with_inputs system inputs) ticks);
@@ -164,8 +164,8 @@ ran ticks cores scripts system inputs = record {
 -- what a raw image comes to, run for so many ticks without input words
 unfoldable pub bare_outcome : List ℕ → ℕ → List ℕ → Outcome
 bare_outcome file ticks image =
-    if (length image == 0) || nat_lt IMAGE_BYTES (length image) then refused file (length_text (length image))
-    else ran ticks [] [] (bare_system image) (no_inputs 1)
+    if (length image == 0) || nat_lt IMAGE_BYTES (length image) then command_refused file (length_text (length image))
+    else outcome_of_run ticks [] [] (bare_system image) (no_inputs 1)
 
 -- how many ticks a run asks for, under a configuration: major frames are those of plan 0
 abbrev pub ticks_asked : Span → Conf → ℕ
@@ -174,14 +174,14 @@ ticks_asked (Ticks count) conf = count
 
 -- what a run comes to with scripts, or the refusal of one of them
 abbrev pub ran_scripted : ℕ → List PartFile → System → List (List ℕ) → Result (List Output) Denial → Outcome
-ran_scripted ticks cores system inputs (Ok scripts) = ran ticks cores scripts system inputs
+ran_scripted ticks cores system inputs (Ok scripts) = outcome_of_run ticks cores scripts system inputs
 ran_scripted ticks cores system inputs (Err refusal) = refused_by refusal
 
 -- what a run comes to, of a container's system with these input words: it is refused where it asks for more ticks than a run may have, and
 -- where a script of it is too long
 abbrev pub ran_for : List ℕ → ℕ → List RunOption → System → List (List ℕ) → Outcome
 ran_for file asked options system inputs =
-    if nat_lt TICKS asked then refused file (ticks_text asked)
+    if nat_lt TICKS asked then command_refused file (ticks_text asked)
     else ran_scripted asked (cores_in options) system inputs (scripts_for (with_inputs system inputs) asked (scripts_in options))
 
 -- what a run comes to, by the ticks that its options ask for
@@ -197,7 +197,7 @@ ran_with file options system (Err refusal) = refused_by refusal
 abbrev pub run_by : List ℕ → List RunOption → List (List ℕ) → Result System BoxFault → Outcome
 run_by file options contents (Ok system) =
     ran_with file options system (inputs_for (length system.conf.parts) options contents)
-run_by file options contents (Err fault) = refused file (box_fault_text fault)
+run_by file options contents (Err fault) = command_refused file (box_fault_text fault)
 
 -- what the container of a file with these bytes comes to, run with options and inputs with these contents
 unfoldable pub run_outcome : List ℕ → List RunOption → List ℕ → List (List ℕ) → Outcome
@@ -213,7 +213,7 @@ played core replay = record {
   denial = None;
   output = None;
   report = texts (replay_lines (view_of replay.system replay.p) replay.cues);
-  later = map (replay_output replay) (name_in core);
+  later = map (replay_output replay) (name_if_any core);
   run = Some (Apart replay.system replay.p replay.cues);
 }
 
@@ -235,22 +235,22 @@ unready_denial container part script further (NoScript text) = denial script tex
 unready_denial container part script further (OddInput count) = denial (input_name (replay_input further)) (input_text count)
 
 -- what a replay comes to, or its refusal
-abbrev pub replay_by : List ℕ → ℕ → List ℕ → ReplayFiles → Result Readied Unready → Outcome
-replay_by container part script further (Ok replay) = played (replay_core further) replay
-replay_by container part script further (Err why) = refused_by (unready_denial container part script further why)
+abbrev pub replay_outcome_by : List ℕ → ℕ → List ℕ → ReplayFiles → Result Readied Unready → Outcome
+replay_outcome_by container part script further (Ok replay) = played (replay_core further) replay
+replay_outcome_by container part script further (Err why) = refused_by (unready_denial container part script further why)
 
 -- what a container, a script and input words with these contents come to, by which a partition is replayed
 unfoldable pub replay_outcome : List ℕ → ℕ → List ℕ → ReplayFiles → List ℕ → List ℕ → List ℕ → Outcome
-replay_outcome container part script further bytes told input = replay_by container part script further (replay_of bytes part told input)
+replay_outcome container part script further bytes told input = replay_outcome_by container part script further (replay_of bytes part told input)
 
 -- what is printed of a file that was made
 unfoldable pub made_text : ℕ → List ℕ
 made_text length = codes "ok length=" ++ decimal length ++ codes "\n"
 
 -- what a file comes to out of which another is made: that file, or a refusal
-abbrev pub made : List ℕ → List ℕ → Result (List ℕ) (List ℕ) → Outcome
-made input output (Ok bytes) = record { denial = None; output = Some (record { file = output; bytes = bytes }); report = made_text (length bytes); later = []; run = None }
-made input output (Err text) = refused input text
+abbrev pub file_made : List ℕ → List ℕ → Result (List ℕ) (List ℕ) → Outcome
+file_made input output (Ok bytes) = record { denial = None; output = Some (record { file = output; bytes = bytes }); report = made_text (length bytes); later = []; run = None }
+file_made input output (Err text) = command_refused input text
 
 -- what files come to that are packed: their container, or the refusal of one of them
 abbrev pub packed_to : List ℕ → Result (List ℕ) Denial → Outcome
@@ -258,33 +258,33 @@ packed_to output (Ok bytes) = record { denial = None; output = Some (record { fi
 packed_to output (Err denial) = refused_by denial
 
 -- what a command comes to that prints a text, and does nothing else
-abbrev pub printed : List ℕ → Outcome
-printed text = record { denial = None; output = None; report = text; later = []; run = None }
+abbrev pub outcome_of_print : List ℕ → Outcome
+outcome_of_print text = record { denial = None; output = None; report = text; later = []; run = None }
 
 -- what a file comes to that is told: its text, or a refusal
-abbrev pub told : List ℕ → Result (List ℕ) (List ℕ) → Outcome
-told file (Ok text) = printed text
-told file (Err text) = refused file text
+abbrev pub text_reported : List ℕ → Result (List ℕ) (List ℕ) → Outcome
+text_reported file (Ok text) = outcome_of_print text
+text_reported file (Err text) = command_refused file text
 
 -- the content of the file of this number
 abbrev pub content : ℕ → List (List ℕ) → List ℕ
 content n contents = slice_index_or contents n []
 
 -- what the contents of the files come to, where none of them is too long
-abbrev pub worked : Command → List (List ℕ) → Outcome
-worked (Bare image ticks) contents = bare_outcome image ticks (content 0 contents)
-worked (Parse description output) contents = made description output (xmc_of (content 0 contents))
-worked (BuildImage program output) contents = made program output (xef_of (content 0 contents))
-worked (ReadImage image) contents = told image (image_lines_of (content 0 contents))
-worked (Pack configuration output images) contents = packed_to output (container_of configuration (content 0 contents) images (drop 1 contents))
-worked (ListContainer container) contents = told container (container_lines_of (content 0 contents))
-worked (CheckContainer container) contents = told container (container_verdict_of (content 0 contents))
-worked (MakePlan description) contents = told description (plan_lines_of (content 0 contents))
-worked (CheckPlan description) contents = told description (verdicts_of (content 0 contents))
-worked (TellGroups description) contents = told description (groups_of (content 0 contents))
-worked (Generate number) contents = printed (generated_text number)
-worked (Run container options) contents = run_outcome container options (content 0 contents) (drop 1 contents)
-worked (Replay container part script further) contents = replay_outcome container part script further (content 0 contents) (content 1 contents) (input_bytes (replay_input further) (content 2 contents))
+abbrev pub outcome_of_contents : Command → List (List ℕ) → Outcome
+outcome_of_contents (Bare image ticks) contents = bare_outcome image ticks (content 0 contents)
+outcome_of_contents (Parse description output) contents = file_made description output (xmc_of (content 0 contents))
+outcome_of_contents (BuildImage program output) contents = file_made program output (xef_of (content 0 contents))
+outcome_of_contents (ReadImage image) contents = text_reported image (image_lines_of (content 0 contents))
+outcome_of_contents (Pack configuration output images) contents = packed_to output (container_of configuration (content 0 contents) images (drop 1 contents))
+outcome_of_contents (ListContainer container) contents = text_reported container (container_lines_of (content 0 contents))
+outcome_of_contents (CheckContainer container) contents = text_reported container (container_verdict_of (content 0 contents))
+outcome_of_contents (MakePlan description) contents = text_reported description (plan_lines_of (content 0 contents))
+outcome_of_contents (CheckPlan description) contents = text_reported description (verdicts_of (content 0 contents))
+outcome_of_contents (TellGroups description) contents = text_reported description (groups_of (content 0 contents))
+outcome_of_contents (Generate number) contents = outcome_of_print (generated_text number)
+outcome_of_contents (Run container options) contents = run_outcome container options (content 0 contents) (drop 1 contents)
+outcome_of_contents (Replay container part script further) contents = replay_outcome container part script further (content 0 contents) (content 1 contents) (input_bytes (replay_input further) (content 2 contents))
 
 -- the first of the files that has more bytes than a file may have
 abbrev pub first_long : List (List ℕ) → List (List ℕ) → Option (List ℕ)
@@ -295,8 +295,8 @@ first_long (file ∷ files) (bytes ∷ contents) = if nat_lt FILE_BYTES (length 
 -- a file that is too long is refused before any work is done
 abbrev pub unless_long : Option (List ℕ) → Outcome → Outcome
 unless_long None outcome = outcome
-unless_long (Some file) outcome = refused file (codes "too-long")
+unless_long (Some file) outcome = command_refused file (codes "too-long")
 
 -- what the contents of the files that a command reads come to
 unfoldable pub outcome_of : Command → List (List ℕ) → Outcome
-outcome_of command contents = unless_long (first_long (inputs_of command) contents) (worked command contents)
+outcome_of command contents = unless_long (first_long (inputs_of command) contents) (outcome_of_contents command contents)

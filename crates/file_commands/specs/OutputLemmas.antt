@@ -16,8 +16,8 @@ use Rattle.file_maker.specs.Parsing.{xmc_of}
 use Rattle.file_maker.specs.Planning.{plan_lines_of, verdicts_of}
 use Rattle.alone_replay.specs.Ready.{Replay as Readied, Unready, replay_of}
 use Rattle.file_commands.specs.Denial.{Denial}
-use Rattle.file_commands.specs.Outcome.{Output, bare_outcome, content, first_long, input_bytes, made, packed_to, played, ran, ran_for, ran_scripted, ran_with, ran_within, refused, replay_by, replay_outcome, run_by, run_outcome, told, inputs_of, outcome_of, output_of, scripts_for, ticks_asked, unless_long, worked}
-use Rattle.file_commands.specs.Work.{counted_by, Outside, called, called_for}
+use Rattle.file_commands.specs.Outcome.{Output, bare_outcome, content, first_long, input_bytes, file_made, packed_to, played, outcome_of_run, ran_for, ran_scripted, ran_with, ran_within, command_refused, replay_outcome_by, replay_outcome, run_by, run_outcome, text_reported, inputs_of, outcome_of, output_of, scripts_for, ticks_asked, unless_long, outcome_of_contents}
+use Rattle.file_commands.specs.Work.{counted_by, Outside, after_store_call, called_for}
 
 -- Calls.
 
@@ -28,12 +28,12 @@ with_calls calls before = record before { calls = calls }
 -- calls for files change nothing but the count of calls
 pub called_for-is : (files : List (List ℕ)) (before : Outside) → called_for files before ≡ with_calls (counted_by (length files) before.calls) before
 called_for-is [] before = refl
-called_for-is (file ∷ files) before = called_for-is files (called before)
+called_for-is (file ∷ files) before = called_for-is files (after_store_call before)
 
 -- What is written first.
 
 -- what is made is written where the words say
-made-output : (input file : List ℕ) (made_of : Result (List ℕ) (List ℕ)) (output : Output) → (made input file made_of).output ≡ Some output → Some file ≡ Some output.file
+made-output : (input file : List ℕ) (made_of : Result (List ℕ) (List ℕ)) (output : Output) → (file_made input file made_of).output ≡ Some output → Some file ≡ Some output.file
 made-output input file (Ok bytes) output e = (let same : record { file = file; bytes = bytes } ≡ output = cc in ap (λ (o : Output). Some o.file) same)
 made-output input file (Err text) output e = absurd (cc)
 
@@ -43,13 +43,13 @@ packed-output file (Ok bytes) output e = (let same : record { file = file; bytes
 packed-output file (Err refusal) output e = absurd (cc)
 
 -- what is told writes no file
-told-output : (file : List ℕ) (text : Result (List ℕ) (List ℕ)) (output : Output) → (told file text).output ≡ Some output → ⊥
+told-output : (file : List ℕ) (text : Result (List ℕ) (List ℕ)) (output : Output) → (text_reported file text).output ≡ Some output → ⊥
 told-output file (Ok text) output e = cc
 told-output file (Err text) output e = cc
 
 -- a run of a system writes no file
-ran-output : (ticks : ℕ) (cores : List PartFile) (scripts : List Output) (system : System) (inputs : List (List ℕ)) (output : Output) → (ran ticks cores scripts system inputs).output ≡ Some output → ⊥
-unfolding ran
+ran-output : (ticks : ℕ) (cores : List PartFile) (scripts : List Output) (system : System) (inputs : List (List ℕ)) (output : Output) → (outcome_of_run ticks cores scripts system inputs).output ≡ Some output → ⊥
+unfolding outcome_of_run
 ran-output ticks cores scripts system inputs output e = cc
 
 -- a run of an image writes no file
@@ -57,7 +57,7 @@ bare-output : (file : List ℕ) (ticks : ℕ) (image : List ℕ) (output : Outpu
 unfolding bare_outcome
 bare-output file ticks image output e = at ((length image == 0) || nat_lt IMAGE_BYTES (length image)) e
   where
-    at : (t : Bool) → (if t then refused file (length_text (length image)) else ran ticks [] [] (bare_system image) (no_inputs 1)).output ≡ Some output → ⊥
+    at : (t : Bool) → (if t then command_refused file (length_text (length image)) else outcome_of_run ticks [] [] (bare_system image) (no_inputs 1)).output ≡ Some output → ⊥
     at true e = cc
     at false e = ran-output ticks [] [] (bare_system image) (no_inputs 1) output e
 
@@ -71,7 +71,7 @@ within-output : (file : List ℕ) (options : List RunOption) (system : System) (
 unfolding ran_within
 within-output file options system inputs output e = at (ticks_asked (span_in options) system.conf) e
   where
-    by : (asked : ℕ) (t : Bool) (scripts : Result (List Output) Denial) → (if t then refused file (ticks_text asked) else ran_scripted asked (cores_in options) system inputs scripts).output ≡ Some output → ⊥
+    by : (asked : ℕ) (t : Bool) (scripts : Result (List Output) Denial) → (if t then command_refused file (ticks_text asked) else ran_scripted asked (cores_in options) system inputs scripts).output ≡ Some output → ⊥
     by asked true scripts e = cc
     by asked false scripts e = scripted-output asked (cores_in options) system inputs scripts output e
 
@@ -101,7 +101,7 @@ replay-output : (container : List ℕ) (part : ℕ) (script : List ℕ) (further
 unfolding replay_outcome
 replay-output container part script further bytes told input output e = at (replay_of bytes part told input) e
   where
-    at : (made_of : Result Readied Unready) → (replay_by container part script further made_of).output ≡ Some output → ⊥
+    at : (made_of : Result Readied Unready) → (replay_outcome_by container part script further made_of).output ≡ Some output → ⊥
     at (Ok replay) e = played-output (replay_core further) replay output e
     at (Err why) e = cc
 
@@ -110,7 +110,7 @@ pub output-named : (command : Command) (contents : List (List ℕ)) (output : Ou
 unfolding outcome_of
 output-named command contents output is = at command (first_long (inputs_of command) contents) is
   where
-    at : (command : Command) (long : Option (List ℕ)) → (unless_long long (worked command contents)).output ≡ Some output → output_of command ≡ Some output.file
+    at : (command : Command) (long : Option (List ℕ)) → (unless_long long (outcome_of_contents command contents)).output ≡ Some output → output_of command ≡ Some output.file
     at command (Some file) e = absurd (cc)
     at (Bare image ticks) None e = absurd (bare-output image ticks (content 0 contents) output e)
     at (Parse description out) None e = made-output description out (xmc_of (content 0 contents)) output e

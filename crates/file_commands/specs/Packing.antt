@@ -2,7 +2,7 @@
 use Rattle.std.specs.Prelude.{ℕ, List, [], ◌∷◌, map, codes, Option, Some, None, Result, Ok, Err}
 use Rattle.xm_conf.specs.Configuration.{Conf}
 use Rattle.bin_config.specs.Reading.{read_of}
-use Rattle.bin_config.specs.Texts.{fault_text as xmc_fault_text}
+use Rattle.bin_config.specs.Texts.{xmc_fault_text}
 use Rattle.bin_config.specs.declared.fault.XmcFault.{XmcFault}
 use Rattle.xef_images.specs.Image.{Image}
 use Rattle.xef_images.specs.Reading.{xef}
@@ -16,8 +16,8 @@ use Rattle.xm_words.specs.Words.{PartFile}
 use Rattle.file_commands.specs.Denial.{Denial}
 
 -- the names of files for partitions
-abbrev pub names_of : List PartFile → List (List ℕ)
-names_of files = map (λ named. named.file) files
+abbrev pub file_names : List PartFile → List (List ℕ)
+file_names files = map (λ named. named.file) files
 
 -- a refusal that names a file
 abbrev pub denial : List ℕ → List ℕ → Denial

@@ -6,7 +6,7 @@ use Rattle.xm_outside.specs.Files.{ReadsFile}
 use Rattle.file_commands.specs.Ending.{Ending, Finished, Misused, Unread, Denied, Unwritten, Unsaved, Unheard, Starved, input_text, length_text, partition_text, ticks_text}
 use Rattle.file_commands.specs.Denial.{Denial}
 use Rattle.file_commands.specs.Outcome.{Output}
-use Rattle.file_commands.specs.Work.{Outside, AreNotRead, AreNotSaved, IsNotRead, ReadsFiles, SavesAll, called, called_for}
+use Rattle.file_commands.specs.Work.{Outside, AreNotRead, AreNotSaved, IsNotRead, ReadsFiles, SavesAll, after_store_call, called_for}
 use Rattle.file_commands.specs.declared.ending.Refusal.{Refusal}
 use Rattle.file_commands.specs.declared.ending.Refusal.TheVariants.{TooLong, Length, Ticks, Partition, Input, Told}
 use Rattle.file_commands.specs.declared.ending.Ending as code
@@ -33,18 +33,18 @@ ending_of (variant.Unheard place) = Unheard place
 ending_of variant.Starved = Starved
 
 -- a file was read, or the call ends without it
-abbrev pub IsRead : {A : Type 0} → Result (Vec ℕ A) code.Ending → List ℕ → Outside → Outside → Type 0
-IsRead (Ok bytes) file before after = ReadsFile before.files file FILE_BYTES bytes.items × (after ≡ called before)
-IsRead (Err ending) file before after = IsNotRead (ending_of ending) file before after
+abbrev pub IsFileRead : {A : Type 0} → Result (Vec ℕ A) code.Ending → List ℕ → Outside → Outside → Type 0
+IsFileRead (Ok bytes) file before after = ReadsFile before.files file FILE_BYTES bytes.items × (after ≡ after_store_call before)
+IsFileRead (Err ending) file before after = IsNotRead (ending_of ending) file before after
 
 -- the bytes of a vector
-abbrev pub bytes_of : {A : Type 0} → Vec ℕ A → List ℕ
-bytes_of bytes = bytes.items
+abbrev pub vector_bytes : {A : Type 0} → Vec ℕ A → List ℕ
+vector_bytes bytes = bytes.items
 
 -- files were read, or the call ends without them
-abbrev pub AreRead : {A B : Type 0} → Result (Vec (Vec ℕ A) B) code.Ending → List (List ℕ) → Outside → Outside → Type 0
-AreRead (Ok contents) files before after = ReadsFiles before.files files (map bytes_of contents.items) × (after ≡ called_for files before)
-AreRead (Err ending) files before after = AreNotRead (ending_of ending) files before after
+abbrev pub AreFilesRead : {A B : Type 0} → Result (Vec (Vec ℕ A) B) code.Ending → List (List ℕ) → Outside → Outside → Type 0
+AreFilesRead (Ok contents) files before after = ReadsFiles before.files files (map vector_bytes contents.items) × (after ≡ called_for files before)
+AreFilesRead (Err ending) files before after = AreNotRead (ending_of ending) files before after
 
 -- files were written, or the call ends because one of them was not
 abbrev pub AreSaved : {T : Type 0} → Result T code.Ending → List Output → Outside → Outside → Type 0

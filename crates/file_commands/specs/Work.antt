@@ -30,13 +30,13 @@ outside files read_faults write_faults calls got faults = record {
 }
 
 -- the outside with one more call of the store
-abbrev pub called : Outside → Outside
-called before = record before { calls = counted before.calls }
+abbrev pub after_store_call : Outside → Outside
+after_store_call before = record before { calls = counted before.calls }
 
 -- the outside with a call of the store for each of these files
 abbrev pub called_for : List (List ℕ) → Outside → Outside
 called_for [] before = before
-called_for (file ∷ files) before = called_for files (called before)
+called_for (file ∷ files) before = called_for files (after_store_call before)
 
 -- a counter after so many calls
 abbrev pub counted_by : ℕ → ℕ → ℕ
@@ -92,7 +92,7 @@ pub record IsUnread (file : List ℕ) (files : List (List ℕ)) (before after : 
   pub contents : List (List ℕ)
   pub read : ReadsFiles before.files first contents
   pub cause : Rose before.read_faults after.read_faults ⊎ IsAbsent before.files file
-  pub outside : after ≡ with_read_faults after.read_faults (called (called_for first before))
+  pub outside : after ≡ with_read_faults after.read_faults (after_store_call (called_for first before))
 
 -- the files were read, and what they come to was done: the file that comes first is written, the report went out, and the files after it are
 -- written
@@ -124,7 +124,7 @@ pub record IsLostOf (file : List ℕ) (outputs : List Output) (before after : Ou
   pub named : file ≡ output.file
   pub cause : Rose before.write_faults after.write_faults
   pub others : OthersStay (wrote_all first before).files file after.files
-  pub outside : after ≡ with_files after.files after.write_faults (called (wrote_all first before))
+  pub outside : after ≡ with_files after.files after.write_faults (after_store_call (wrote_all first before))
 
 -- a file, where there is one
 abbrev pub file_in : Option Output → List Output
@@ -195,7 +195,7 @@ abbrev pub Saves : {T E : Type 0} → Result T E → Output → Outside → Outs
 Saves (Ok _) output before after = after ≡ wrote (Some output) before
 Saves (Err _) output before after =
     Rose before.write_faults after.write_faults × OthersStay before.files output.file after.files
-    × (after ≡ with_files after.files after.write_faults (called before))
+    × (after ≡ with_files after.files after.write_faults (after_store_call before))
 
 -- files are written one after another: all, or those before the first that is not
 abbrev pub SavesAll : Option (List ℕ) → List Output → Outside → Outside → Type 0
@@ -231,12 +231,12 @@ IsNotRead Finished file before after = ⊥
 IsNotRead Misused file before after = ⊥
 IsNotRead (Unread other) file before after =
     (other ≡ file) × (Rose before.read_faults after.read_faults ⊎ IsAbsent before.files file)
-    × (after ≡ with_read_faults after.read_faults (called before))
+    × (after ≡ with_read_faults after.read_faults (after_store_call before))
 IsNotRead (Denied other text) file before after = ⊥
 IsNotRead Unwritten file before after = ⊥
 IsNotRead (Unsaved other) file before after = ⊥
 IsNotRead (Unheard place) file before after = ⊥
-IsNotRead Starved file before after = after ≡ called before
+IsNotRead Starved file before after = after ≡ after_store_call before
 
 -- not all of these files were read, or there was no memory for them
 abbrev pub AreNotRead : Ending → List (List ℕ) → Outside → Outside → Type 0

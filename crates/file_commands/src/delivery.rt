@@ -6,8 +6,8 @@ ghost use Rattle.xm_outside.specs.Growth.{Writes};
 ghost use Rattle.file_commands.specs.Denial.{Denial};
 ghost use Rattle.file_maker.specs.Makes.{Makes};
 ghost use Rattle.file_commands.specs.Makes.{IsUnmadeOf};
-ghost use Rattle.file_commands.specs.Outcome.{made, made_text, packed_to, printed, told};
-ghost use Rattle.file_commands.specs.Told.{MakesOr, bytes_of, ending_of};
+ghost use Rattle.file_commands.specs.Outcome.{file_made, made_text, packed_to, outcome_of_print, text_reported};
+ghost use Rattle.file_commands.specs.Told.{MakesOr, vector_bytes, ending_of};
 ghost use Rattle.file_commands.specs.Work.{Comes, Reports, outside};
 
 use crate::ending::{Ending, Refusal};
@@ -23,7 +23,7 @@ pub(crate) fn deliver<'a, S: Store, O: Sink>(
     files: &mut S,
     out: &mut O,
 ) -> Ending<'a>
-    ensures { (m : Result (List ℕ) (List ℕ)) → Makes file m → Comes (ending_of result) (made input.now output.now m)
+    ensures { (m : Result (List ℕ) (List ℕ)) → Makes file m → Comes (ending_of result) (file_made input.now output.now m)
         (outside (S.files files.old) (S.read_faults files.old) (S.write_faults files.old) (S.calls files.old) (O.got out.old) (O.faults out.old))
         (outside (S.files files.new) (S.read_faults files.new) (S.write_faults files.new) (S.calls files.new) (O.got out.new) (O.faults out.new)) }
 {
@@ -40,7 +40,7 @@ pub(crate) fn put<'a, S: Store, O: Sink>(
     files: &mut S,
     out: &mut O,
 ) -> Ending<'a>
-    ensures { (m : Result (List ℕ) Denial) → MakesOr bytes_of container.entry m → Comes (ending_of result) (packed_to output.now m)
+    ensures { (m : Result (List ℕ) Denial) → MakesOr vector_bytes container.entry m → Comes (ending_of result) (packed_to output.now m)
         (outside (S.files files.old) (S.read_faults files.old) (S.write_faults files.old) (S.calls files.old) (O.got out.old) (O.faults out.old))
         (outside (S.files files.new) (S.read_faults files.new) (S.write_faults files.new) (S.calls files.new) (O.got out.new) (O.faults out.new)) }
 {
@@ -89,7 +89,7 @@ pub(crate) fn tell_made<'a, O: Sink>(
     text: Result<Vec<u8>, Unmade>,
     out: &mut O,
 ) -> Ending<'a>
-    ensures { (m : Result (List ℕ) (List ℕ)) → Makes text m → Reports (ending_of result) (told file.now m) (O.got out.old) (O.faults out.old) (O.got out.new) (O.faults out.new) }
+    ensures { (m : Result (List ℕ) (List ℕ)) → Makes text m → Reports (ending_of result) (text_reported file.now m) (O.got out.old) (O.faults out.old) (O.got out.new) (O.faults out.new) }
 {
     match text {
         Ok(text) => report(&text, out),
@@ -99,7 +99,7 @@ pub(crate) fn tell_made<'a, O: Sink>(
 
 /// Writes a text to the report, which is all that a command does.
 pub fn report<'a, O: Sink>(text: &[u8], out: &mut O) -> Ending<'a>
-    ensures { Reports (ending_of result) (printed text.now) (O.got out.old) (O.faults out.old) (O.got out.new) (O.faults out.new) }
+    ensures { Reports (ending_of result) (outcome_of_print text.now) (O.got out.old) (O.faults out.old) (O.got out.new) (O.faults out.new) }
 {
     match write_all(out, text) {
         Ok(()) => Ending::Finished,

@@ -1,14 +1,14 @@
 //! A configuration and the images of its partitions are packed into a container.
 
 ghost use Rattle.std.specs.Prelude.{◌≡◌, ◌∷◌, drop, map};
-ghost use Rattle.bin_config.specs.Texts.{fault_text as xmc_fault_text};
+ghost use Rattle.bin_config.specs.Texts.{xmc_fault_text};
 ghost use Rattle.xef_images.specs.Reading.{xef};
 ghost use Rattle.xm_container.specs.Pack.{packed};
 ghost use Rattle.xm_container.specs.Texts.{pack_fault_text};
-ghost use Rattle.file_maker.specs.Makes.{IsTold};
+ghost use Rattle.file_maker.specs.Makes.{IsRefusalText};
 ghost use Rattle.file_commands.specs.Outcome.{content, first_long};
-ghost use Rattle.file_commands.specs.Packing.{container_by, container_of, container_with, image_by, images_of, limited, names_of};
-ghost use Rattle.file_commands.specs.Told.{MakesOr, bytes_of, ending_of};
+ghost use Rattle.file_commands.specs.Packing.{container_by, container_of, container_with, image_by, images_of, limited, file_names};
+ghost use Rattle.file_commands.specs.Told.{MakesOr, vector_bytes, ending_of};
 ghost use Rattle.file_commands.specs.Work.{IsDone, outside};
 ghost use Rattle.xm_words.specs.Seen.{seen_file, seen_files};
 ghost use Rattle.xm_words.specs.Words.{Pack};
@@ -54,9 +54,9 @@ fn container<'a>(
     images: PartFiles<'a>,
     contents: &[Vec<u8>],
 ) -> Result<Vec<u8>, Ending<'a>>
-    ensures value { MakesOr bytes_of result
-        (limited (first_long (configuration.now ∷ names_of (seen_files images.entry)) (map bytes_of contents.now))
-        (container_of configuration.now (content 0 (map bytes_of contents.now)) (seen_files images.entry) (drop 1 (map bytes_of contents.now)))) }
+    ensures value { MakesOr vector_bytes result
+        (limited (first_long (configuration.now ∷ file_names (seen_files images.entry)) (map vector_bytes contents.now))
+        (container_of configuration.now (content 0 (map vector_bytes contents.now)) (seen_files images.entry) (drop 1 (map vector_bytes contents.now)))) }
 {
     match first_long(configuration, images, contents) {
         Some(file) => Err(Ending::Denied {
@@ -79,7 +79,7 @@ fn make_container<'a>(
     images: PartFiles<'a>,
     contents: &[Vec<u8>],
 ) -> Result<Vec<u8>, Ending<'a>>
-    ensures value { MakesOr bytes_of result (container_of configuration.now bytes.now (seen_files images.entry) (map bytes_of contents.now)) }
+    ensures value { MakesOr vector_bytes result (container_of configuration.now bytes.now (seen_files images.entry) (map vector_bytes contents.now)) }
 {
     match read_xmc(alloc, bytes) {
         Ok(conf) => container_with(alloc, configuration, &conf, images, contents),
@@ -95,7 +95,7 @@ fn container_with<'a>(
     images: PartFiles<'a>,
     contents: &[Vec<u8>],
 ) -> Result<Vec<u8>, Ending<'a>>
-    ensures value { MakesOr bytes_of result (container_with configuration.now conf.now (images_of (seen_files images.entry) (map bytes_of contents.now))) }
+    ensures value { MakesOr vector_bytes result (container_with configuration.now conf.now (images_of (seen_files images.entry) (map vector_bytes contents.now))) }
 {
     match read_images(alloc, images, contents) {
         Ok(images) => container_by(alloc, configuration, conf, &images),
@@ -110,7 +110,7 @@ fn container_by<'a>(
     conf: &Conf,
     images: &[Image],
 ) -> Result<Vec<u8>, Ending<'a>>
-    ensures value { MakesOr bytes_of result (container_by configuration.now (packed conf.now images.now)) }
+    ensures value { MakesOr vector_bytes result (container_by configuration.now (packed conf.now images.now)) }
 {
     match pack(alloc, conf, images) {
         Ok(bytes) => Ok(bytes),
@@ -124,7 +124,7 @@ fn read_images<'a>(
     images: PartFiles<'a>,
     contents: &[Vec<u8>],
 ) -> Result<Vec<Image>, Ending<'a>>
-    ensures value { MakesOr (λ images. images.items) result (images_of (seen_files images.entry) (map bytes_of contents.now)) }
+    ensures value { MakesOr (λ images. images.items) result (images_of (seen_files images.entry) (map vector_bytes contents.now)) }
 {
     let mut read = Vec::new(alloc);
     let mut rest = images;
@@ -160,7 +160,7 @@ fn read_image<'a>(alloc: Global, named: PartFile<'a>, bytes: &[u8]) -> Result<Xe
 
 // What is said of a file that is no configuration.
 fn no_configuration(alloc: Global, fault: XmcFault) -> Unmade
-    ensures text { IsTold result (xmc_fault_text fault) }
+    ensures text { IsRefusalText result (xmc_fault_text fault) }
     ensures memory { fault ≡ XmcFault.Memory → result ≡ Unmade.Memory }
 {
     match fault {
@@ -174,7 +174,7 @@ fn no_configuration(alloc: Global, fault: XmcFault) -> Unmade
 
 // What is said of a configuration and images that make no container.
 fn no_packing(alloc: Global, fault: PackFault) -> Unmade
-    ensures text { IsTold result (pack_fault_text fault) }
+    ensures text { IsRefusalText result (pack_fault_text fault) }
     ensures memory { fault ≡ PackFault.Memory → result ≡ Unmade.Memory }
 {
     match fault {

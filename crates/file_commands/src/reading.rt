@@ -1,9 +1,9 @@
 //! Files are read.
 
 ghost use Rattle.std.specs.Prelude.{◌≡◌, ◌∷◌, [], ℕ, List, None, Option, drop, map, option_copied};
-ghost use Rattle.file_commands.specs.Outcome.{content, first_long, name_in};
-ghost use Rattle.file_commands.specs.Packing.{names_of};
-ghost use Rattle.file_commands.specs.Told.{AreRead, IsRead, bytes_of};
+ghost use Rattle.file_commands.specs.Outcome.{content, first_long, name_if_any};
+ghost use Rattle.file_commands.specs.Packing.{file_names};
+ghost use Rattle.file_commands.specs.Told.{AreFilesRead, IsFileRead, vector_bytes};
 ghost use Rattle.file_commands.specs.Read.{HasRead, HasReadNext};
 ghost use Rattle.file_commands.specs.Work.{Outside, outside};
 ghost use Rattle.xm_words.specs.Seen.{seen_files};
@@ -20,7 +20,7 @@ pub fn read_file<'a, S: Store>(
     file: &'a str,
     files: &mut S,
 ) -> Result<Vec<u8>, Ending<'a>>
-    ensures { (got : Option (List ℕ)) (faults : ℕ) → IsRead result file.now
+    ensures { (got : Option (List ℕ)) (faults : ℕ) → IsFileRead result file.now
         (outside (S.files files.old) (S.read_faults files.old) (S.write_faults files.old) (S.calls files.old) got faults)
         (outside (S.files files.new) (S.read_faults files.new) (S.write_faults files.new) (S.calls files.new) got faults) }
 {
@@ -39,7 +39,7 @@ pub fn read_files<'a, S: Store>(
     others: PartFiles<'a>,
     files: &mut S,
 ) -> Result<Vec<Vec<u8>>, Ending<'a>>
-    ensures { (got : Option (List ℕ)) (faults : ℕ) → AreRead result (first.now ∷ names_of (seen_files others.entry))
+    ensures { (got : Option (List ℕ)) (faults : ℕ) → AreFilesRead result (first.now ∷ file_names (seen_files others.entry))
         (outside (S.files files.old) (S.read_faults files.old) (S.write_faults files.old) (S.calls files.old) got faults)
         (outside (S.files files.new) (S.read_faults files.new) (S.write_faults files.new) (S.calls files.new) got faults) }
 {
@@ -72,7 +72,7 @@ pub fn read_three<'a, S: Store>(
     third: Option<&'a str>,
     files: &mut S,
 ) -> Result<Vec<Vec<u8>>, Ending<'a>>
-    ensures { (got : Option (List ℕ)) (faults : ℕ) → AreRead result (first.now ∷ second.now ∷ name_in (option_copied third.entry))
+    ensures { (got : Option (List ℕ)) (faults : ℕ) → AreFilesRead result (first.now ∷ second.now ∷ name_if_any (option_copied third.entry))
         (outside (S.files files.old) (S.read_faults files.old) (S.write_faults files.old) (S.calls files.old) got faults)
         (outside (S.files files.new) (S.read_faults files.new) (S.write_faults files.new) (S.calls files.new) got faults) }
 {
@@ -99,8 +99,8 @@ fn read_last<'a, S: Store>(
     files: &mut S,
 ) -> Result<(), Ending<'a>>
     ensures { (got : Option (List ℕ)) (faults : ℕ) (all : List (List ℕ)) (before : Outside)
-        → HasRead all (name_in (option_copied file.entry)) (map bytes_of contents.old.items) before (outside (S.files files.old) (S.read_faults files.old) (S.write_faults files.old) (S.calls files.old) got faults)
-        → HasReadNext result all [] (map bytes_of contents.new.items) before (outside (S.files files.new) (S.read_faults files.new) (S.write_faults files.new) (S.calls files.new) got faults) }
+        → HasRead all (name_if_any (option_copied file.entry)) (map vector_bytes contents.old.items) before (outside (S.files files.old) (S.read_faults files.old) (S.write_faults files.old) (S.calls files.old) got faults)
+        → HasReadNext result all [] (map vector_bytes contents.new.items) before (outside (S.files files.new) (S.read_faults files.new) (S.write_faults files.new) (S.calls files.new) got faults) }
 {
     match file {
         Some(file) => read_next(alloc, file, contents, files),
@@ -116,8 +116,8 @@ fn read_next<'a, S: Store>(
     files: &mut S,
 ) -> Result<(), Ending<'a>>
     ensures { (got : Option (List ℕ)) (faults : ℕ) (all rest : List (List ℕ)) (before : Outside)
-        → HasRead all (file.now ∷ rest) (map bytes_of contents.old.items) before (outside (S.files files.old) (S.read_faults files.old) (S.write_faults files.old) (S.calls files.old) got faults)
-        → HasReadNext result all rest (map bytes_of contents.new.items) before (outside (S.files files.new) (S.read_faults files.new) (S.write_faults files.new) (S.calls files.new) got faults) }
+        → HasRead all (file.now ∷ rest) (map vector_bytes contents.old.items) before (outside (S.files files.old) (S.read_faults files.old) (S.write_faults files.old) (S.calls files.old) got faults)
+        → HasReadNext result all rest (map vector_bytes contents.new.items) before (outside (S.files files.new) (S.read_faults files.new) (S.write_faults files.new) (S.calls files.new) got faults) }
 {
     let bytes = match read_file(alloc, file, files) {
         Ok(bytes) => bytes,
@@ -136,7 +136,7 @@ pub fn first_long_of_three<'a>(
     third: Option<&'a str>,
     contents: &[Vec<u8>],
 ) -> Option<&'a str>
-    ensures value { option_copied result ≡ first_long (first.now ∷ second.now ∷ name_in (option_copied third.entry)) (map bytes_of contents.now) }
+    ensures value { option_copied result ≡ first_long (first.now ∷ second.now ∷ name_if_any (option_copied third.entry)) (map vector_bytes contents.now) }
 {
     let (bytes, others) = contents.split_first()?;
     if bytes.len() > FILE_BYTES {
@@ -160,7 +160,7 @@ pub fn first_long<'a>(
     others: PartFiles<'a>,
     contents: &[Vec<u8>],
 ) -> Option<&'a str>
-    ensures value { option_copied result ≡ first_long (first.now ∷ names_of (seen_files others.entry)) (map bytes_of contents.now) }
+    ensures value { option_copied result ≡ first_long (first.now ∷ file_names (seen_files others.entry)) (map vector_bytes contents.now) }
 {
     let (bytes, more) = contents.split_first()?;
     if bytes.len() > FILE_BYTES {
@@ -171,7 +171,7 @@ pub fn first_long<'a>(
 
 // The first of the files for partitions that is too long.
 fn first_long_for_parts<'a>(files: PartFiles<'a>, contents: &[Vec<u8>]) -> Option<&'a str>
-    ensures value { option_copied result ≡ first_long (names_of (seen_files files.entry)) (map bytes_of contents.now) }
+    ensures value { option_copied result ≡ first_long (file_names (seen_files files.entry)) (map vector_bytes contents.now) }
 {
     let mut rest = files;
     for bytes in contents {
@@ -188,8 +188,8 @@ fn first_long_for_parts<'a>(files: PartFiles<'a>, contents: &[Vec<u8>]) -> Optio
 
 /// The content of the first file, and those of the others.
 pub fn split_contents(contents: &[Vec<u8>]) -> (&[u8], &[Vec<u8>])
-    ensures first { result.0.now ≡ content 0 (map bytes_of contents.now) }
-    ensures others { map bytes_of result.1.now ≡ drop 1 (map bytes_of contents.now) }
+    ensures first { result.0.now ≡ content 0 (map vector_bytes contents.now) }
+    ensures others { map vector_bytes result.1.now ≡ drop 1 (map vector_bytes contents.now) }
 {
     match contents.split_first() {
         Some((first, others)) => (first, others),

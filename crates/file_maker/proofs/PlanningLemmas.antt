@@ -13,21 +13,21 @@ use Rattle.xm_conf.specs.Fits.{Fits, InFrame, InTurn, IsNeed, IsTime}
 use Rattle.xm_conf.specs.declared.part.Need.{Need}
 use Rattle.xm_conf.specs.declared.plan.Slot.{Slot}
 use Rattle.plan_maker.specs.Needed.{longest_common}
-use Rattle.plan_maker.specs.Planned.{Answers, IsAnswer, IsEnough, IsMet, IsMissed}
+use Rattle.plan_maker.specs.Planned.{GivesPlan, IsAnswer, IsEnough, IsMet, IsMissed}
 use Rattle.plan_maker.specs.Served.{window_time}
 use Rattle.plan_maker.specs.Texts.{plan_fault_text}
 use Rattle.plan_maker.specs.declared.answer.Met.{Met}
 use Rattle.plan_maker.specs.declared.answer.Met.TheVariants as met
 use Rattle.plan_maker.specs.declared.fault.PlanFault.{PlanFault}
 use Rattle.plan_maker.specs.declared.fault.PlanFault.TheVariants as variant
-use Rattle.file_maker.specs.Makes.{IsTold, IsUnmade}
+use Rattle.file_maker.specs.Makes.{IsRefusalText, IsUnmade}
 use Rattle.file_maker.specs.Planning.{first_plan, frame_text, met_by, met_from, plan_lines_by, verdicts_by}
 use Rattle.file_maker.specs.declared.unmade.Unmade.{Unmade}
 use Rattle.file_maker.specs.declared.unmade.Unmade.TheVariants.{Memory}
 use Rattle.file_maker.specs.ParsingLemmas.{starved_makes, told_makes}
 
 -- why no plan is made
-pub plan_unmade : (fault : PlanFault) (made : Result Plan PlanFault) (why : Unmade) → Answers (Err fault) made → IsTold why (plan_fault_text fault) → (fault ≡ variant.Memory → why ≡ Memory) → IsUnmade why (plan_lines_by made)
+pub plan_unmade : (fault : PlanFault) (made : Result Plan PlanFault) (why : Unmade) → GivesPlan (Err fault) made → IsRefusalText why (plan_fault_text fault) → (fault ≡ variant.Memory → why ≡ Memory) → IsUnmade why (plan_lines_by made)
 plan_unmade variant.NoNeed made why answers told memory = told_makes why _ _ (ap plan_lines_by answers) told
 plan_unmade (variant.Period part) made why answers told memory = told_makes why _ _ (ap plan_lines_by answers) told
 plan_unmade (variant.Overload demand period) made why answers told memory = told_makes why _ _ (ap plan_lines_by answers) told
@@ -35,7 +35,7 @@ plan_unmade (variant.Slots found) made why answers told memory = told_makes why 
 plan_unmade variant.Memory made why answers told memory = starved_makes why _ (memory refl)
 
 -- a plan whose frame is too long is not checked
-pub checked_not : (plan : Plan) (parts : List Part) (why : Unmade) (found : ℕ) → found ≡ plan.frame → 1000000 < found → IsTold why (frame_text found) → IsUnmade why (verdicts_by plan parts)
+pub checked_not : (plan : Plan) (parts : List Part) (why : Unmade) (found : ℕ) → found ≡ plan.frame → 1000000 < found → IsRefusalText why (frame_text found) → IsUnmade why (verdicts_by plan parts)
 unfolding verdicts_by longest_common
 checked_not plan parts why found is long told =
     let test : nat_lt 1000000 plan.frame ≡ true = grind (arith, nat_tests, is, long) in

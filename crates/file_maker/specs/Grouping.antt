@@ -1,7 +1,7 @@
 -- What is printed of the groups of a system description's partitions.
 use Rattle.std.specs.Prelude.{ℕ, zero, suc, Bool, true, false, List, [], ◌∷◌, ◌++◌, codes, decimal, Result, Ok}
 use Rattle.std.specs.List.{flat_map}
-use Rattle.xm_conf.specs.Along.{each}
+use Rattle.xm_conf.specs.Along.{added_by_each}
 use Rattle.xm_conf.specs.Configuration.{Conf, Part}
 use Rattle.xm_flows.specs.Masks.{group_of, members_of}
 use Rattle.xm_flows.specs.declared.answer.Group.{Group}
@@ -22,9 +22,9 @@ unfoldable pub next_text : ℕ → List ℕ
 next_text n = codes "," ++ decimal n
 
 -- numbers, joined by commas
-abbrev pub joined : List ℕ → List ℕ
-joined [] = []
-joined (n ∷ rest) = decimal n ++ flat_map next_text rest
+abbrev pub joined_by_commas : List ℕ → List ℕ
+joined_by_commas [] = []
+joined_by_commas (n ∷ rest) = decimal n ++ flat_map next_text rest
 
 -- whether a group is covered
 abbrev pub covered_text : Bool → List ℕ
@@ -33,7 +33,7 @@ covered_text false = codes " covered=no\n"
 
 -- the ids of a group's members
 unfoldable pub members_text : Group → List ℕ
-members_text found = joined (ids_below found.members 32)
+members_text found = joined_by_commas (ids_below found.members 32)
 
 -- the line of a partition with its group
 unfoldable pub group_line : ℕ → Group → List ℕ
@@ -45,7 +45,7 @@ group_line_in conf p part = group_line p (group_of conf p)
 
 -- the lines of the partitions of a configuration
 abbrev pub groups_for : Conf → Result (List ℕ) (List ℕ)
-groups_for conf = Ok (each (group_line_in conf) conf.parts)
+groups_for conf = Ok (added_by_each (group_line_in conf) conf.parts)
 
 -- the lines of the partitions of a text, or the text of its first fault
 unfoldable pub groups_of : List ℕ → Result (List ℕ) (List ℕ)

@@ -14,13 +14,13 @@ use Rattle.xm_container.specs.Texts.{box_fault_text}
 use Rattle.xm_container.specs.declared.fault.BoxFault.{BoxFault}
 use Rattle.xm_container.specs.declared.fault.BoxFault.TheVariants as box
 use Rattle.file_maker.specs.Imaging.{image_lines_by, xef_by}
-use Rattle.file_maker.specs.Makes.{IsTold, IsUnmade}
+use Rattle.file_maker.specs.Makes.{IsRefusalText, IsUnmade}
 use Rattle.file_maker.specs.declared.unmade.Unmade.{Unmade}
 use Rattle.file_maker.specs.declared.unmade.Unmade.TheVariants.{Memory}
 use Rattle.file_maker.specs.ParsingLemmas.{starved_makes, told_makes}
 
 -- a program's fault
-pub program_unmade : (fault : ElfFault) (read : Result Image ElfFault) (why : Unmade) → ElfFails fault read → IsTold why (elf_fault_text fault) → (fault ≡ elf.Memory → why ≡ Memory) → IsUnmade why (xef_by read)
+pub program_unmade : (fault : ElfFault) (read : Result Image ElfFault) (why : Unmade) → ElfFails fault read → IsRefusalText why (elf_fault_text fault) → (fault ≡ elf.Memory → why ≡ Memory) → IsUnmade why (xef_by read)
 program_unmade elf.Memory read why fails told memory = starved_makes why _ (memory refl)
 program_unmade elf.Magic read why fails told memory = told_makes why _ _ (ap xef_by fails) told
 program_unmade elf.Class read why fails told memory = told_makes why _ _ (ap xef_by fails) told
@@ -34,7 +34,7 @@ program_unmade (elf.Overlap address) read why fails told memory = told_makes why
 program_unmade (elf.Limit at) read why fails told memory = told_makes why _ _ (ap xef_by fails) told
 
 -- a fault of an image's file
-pub image_unmade : (fault : XefFault) (read : Result Image XefFault) (why : Unmade) → image_file.Fails fault read → IsTold why (xef_fault_text fault) → (fault ≡ xef.Memory → why ≡ Memory) → IsUnmade why (image_lines_by read)
+pub image_unmade : (fault : XefFault) (read : Result Image XefFault) (why : Unmade) → image_file.Fails fault read → IsRefusalText why (xef_fault_text fault) → (fault ≡ xef.Memory → why ≡ Memory) → IsUnmade why (image_lines_by read)
 image_unmade xef.Memory read why fails told memory = starved_makes why _ (memory refl)
 image_unmade xef.Magic read why fails told memory = told_makes why _ _ (ap image_lines_by fails) told
 image_unmade (xef.Version found) read why fails told memory = told_makes why _ _ (ap image_lines_by fails) told
@@ -44,7 +44,7 @@ image_unmade (xef.Digest stored found) read why fails told memory = told_makes w
 image_unmade (xef.Field at) read why fails told memory = told_makes why _ _ (ap image_lines_by fails) told
 
 -- a container's fault, whatever is said of a system
-pub container_unmade : (by : Result System BoxFault → Result (List ℕ) (List ℕ)) → ((fault : BoxFault) → by (Err fault) ≡ Err (box_fault_text fault)) → (fault : BoxFault) (read : Result System BoxFault) (why : Unmade) → container_file.Fails fault read → IsTold why (box_fault_text fault) → (fault ≡ box.Memory → why ≡ Memory) → IsUnmade why (by read)
+pub container_unmade : (by : Result System BoxFault → Result (List ℕ) (List ℕ)) → ((fault : BoxFault) → by (Err fault) ≡ Err (box_fault_text fault)) → (fault : BoxFault) (read : Result System BoxFault) (why : Unmade) → container_file.Fails fault read → IsRefusalText why (box_fault_text fault) → (fault ≡ box.Memory → why ≡ Memory) → IsUnmade why (by read)
 container_unmade by faults box.Memory read why fails told memory = starved_makes why _ (memory refl)
 container_unmade by faults box.Magic read why fails told memory = told_makes why _ _ (ap by fails ∙ faults box.Magic) told
 container_unmade by faults (box.Version found) read why fails told memory = told_makes why _ _ (ap by fails ∙ faults (box.Version found)) told

@@ -21,6 +21,6 @@ Describes (Ok conf) described = described ≡ Ok conf
 Describes (Err why) described = IsUnmade why described
 
 -- the text is that of the definition, or there was no memory
-abbrev pub IsTold : Unmade → List ℕ → Type 0
-IsTold (Refused text) told = string_bytes text ≡ told
-IsTold Memory told = ⊤
+abbrev pub IsRefusalText : Unmade → List ℕ → Type 0
+IsRefusalText (Refused text) told = string_bytes text ≡ told
+IsRefusalText Memory told = ⊤

@@ -3,7 +3,7 @@ use Rattle.std.specs.Prelude.{ℕ, List, Option, Some, None, Result, Ok, Err}
 use Rattle.xm_conf.specs.Configuration.{Conf}
 use Rattle.bin_config.specs.Xmc.{xmc}
 use Rattle.xmcf_reader.specs.Faults.{draft_of, xmcf_fault}
-use Rattle.xmcf_reader.specs.Texts.{fault_text}
+use Rattle.xmcf_reader.specs.Texts.{read_fault_text}
 use Rattle.xmcf_reader.specs.declared.draft.Entry.{Entry}
 use Rattle.xmcf_reader.specs.declared.fault.ReadFault.{ReadFault}
 use Rattle.xmcf_check.specs.Described.{description_of}
@@ -19,7 +19,7 @@ conf_by_verdict (Some fault) entries = Err (check_fault_text fault)
 -- the configuration of a text that was read, or the text of its first fault
 abbrev pub conf_by_reading : Option ReadFault → List ℕ → Result Conf (List ℕ)
 conf_by_reading None text = conf_by_verdict (verdict_of (draft_of text)) (draft_of text)
-conf_by_reading (Some fault) text = Err (fault_text fault)
+conf_by_reading (Some fault) text = Err (read_fault_text fault)
 
 -- the configuration that a text describes, or the text of its first fault
 unfoldable pub conf_of : List ℕ → Result Conf (List ℕ)

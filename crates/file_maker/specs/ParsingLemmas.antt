@@ -2,7 +2,7 @@
 use Rattle.std.proofs.Common.{◌≡◌, ◌⊎◌, ⊎_elim, ℕ, List, Option, Some, Result, Err, refl, sym, ap, ◌∙◌}
 use Rattle.xm_conf.specs.Configuration.{Conf}
 use Rattle.xmcf_reader.specs.Faults.{xmcf_fault}
-use Rattle.xmcf_reader.specs.Texts.{fault_text}
+use Rattle.xmcf_reader.specs.Texts.{read_fault_text}
 use Rattle.xmcf_reader.specs.declared.draft.Entry.{Entry}
 use Rattle.xmcf_reader.specs.declared.fault.ReadFault.{ReadFault}
 use Rattle.xmcf_reader.specs.declared.fault.ReadFault.TheVariants as read
@@ -10,13 +10,13 @@ use Rattle.xmcf_check.specs.Texts.{check_fault_text}
 use Rattle.xmcf_check.specs.Verdict.{IsVerdict, verdict_of}
 use Rattle.xmcf_check.specs.declared.fault.CheckFault.{CheckFault}
 use Rattle.xmcf_check.specs.declared.fault.CheckFault.TheVariants as check
-use Rattle.file_maker.specs.Makes.{IsTold, IsUnmade}
+use Rattle.file_maker.specs.Makes.{IsRefusalText, IsUnmade}
 use Rattle.file_maker.specs.Parsing.{conf_by_reading, conf_by_verdict, conf_of, of_conf}
 use Rattle.file_maker.specs.declared.unmade.Unmade.{Unmade}
 use Rattle.file_maker.specs.declared.unmade.Unmade.TheVariants.{Refused, Memory}
 
 -- a text that is told of a refusal is the refusal
-pub told_makes : {X : Type 0} (why : Unmade) (made : Result X (List ℕ)) (text : List ℕ) → made ≡ Err text → IsTold why text → IsUnmade why made
+pub told_makes : {X : Type 0} (why : Unmade) (made : Result X (List ℕ)) (text : List ℕ) → made ≡ Err text → IsRefusalText why text → IsUnmade why made
 told_makes (Refused told) made text is same = is ∙ ap Err (sym same)
 told_makes Memory made text is same = tt
 
@@ -31,12 +31,12 @@ unmade_of make (Refused text) described is = ap (of_conf make) is
 unmade_of make Memory described is = tt
 
 -- what is said of a draft that breaks a rule
-pub unfit_makes : (fault : CheckFault) (entries : List Entry) (why : Unmade) → IsVerdict (Err fault) entries → IsTold why (check_fault_text fault) → (fault ≡ check.Memory → why ≡ Memory) → IsUnmade why (conf_by_verdict (verdict_of entries) entries)
+pub unfit_makes : (fault : CheckFault) (entries : List Entry) (why : Unmade) → IsVerdict (Err fault) entries → IsRefusalText why (check_fault_text fault) → (fault ≡ check.Memory → why ≡ Memory) → IsUnmade why (conf_by_verdict (verdict_of entries) entries)
 unfit_makes check.Memory entries why verdict text memory = starved_makes why _ (memory refl)
 unfit_makes (check.Rule rule at and) entries why verdict text memory = told_makes why _ _ (ap (λ (v : Option CheckFault). conf_by_verdict v entries) verdict) text
 
 -- what is said of a text that is not read
-pub unread_makes : (fault : ReadFault) (text : List ℕ) (why : Unmade) → (fault ≡ read.Memory) ⊎ (xmcf_fault text ≡ Some fault) → IsTold why (fault_text fault) → (fault ≡ read.Memory → why ≡ Memory) → IsUnmade why (conf_of text)
+pub unread_makes : (fault : ReadFault) (text : List ℕ) (why : Unmade) → (fault ≡ read.Memory) ⊎ (xmcf_fault text ≡ Some fault) → IsRefusalText why (read_fault_text fault) → (fault ≡ read.Memory → why ≡ Memory) → IsUnmade why (conf_of text)
 unfolding conf_of
 unread_makes fault text why cause told memory =
     ⊎_elim (λ starved. starved_makes why _ (memory starved)) (λ found. told_makes why _ _ (ap (λ (v : Option ReadFault). conf_by_reading v text) found) told) cause

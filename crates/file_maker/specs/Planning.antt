@@ -1,6 +1,6 @@
 -- What is printed of plans: of one that is made from the requirements of a system description, and of one that is checked.
 use Rattle.std.specs.Prelude.{ℕ, zero, suc, ◌+◌, ◌/◌, ◌%◌, ◌==◌, nat_lt, if◌then◌else◌, List, ◌++◌, length, codes, decimal, Option, Some, None, Result, Ok, Err}
-use Rattle.xm_conf.specs.Along.{each}
+use Rattle.xm_conf.specs.Along.{added_by_each}
 use Rattle.xm_conf.specs.Configuration.{Conf, Part, Plan}
 use Rattle.xm_conf.specs.declared.part.Need.{Need}
 use Rattle.xm_conf.specs.declared.plan.Slot.{Slot}
@@ -25,12 +25,12 @@ slot_line id slot =
     ++ codes " part=" ++ decimal slot.part ++ codes "\n"
 
 -- the lines that tell a plan
-unfoldable pub plan_text : Plan → List ℕ
-plan_text plan = frame_line plan.frame (length plan.slots) ++ each slot_line plan.slots
+unfoldable pub lines_of_plan : Plan → List ℕ
+lines_of_plan plan = frame_line plan.frame (length plan.slots) ++ added_by_each slot_line plan.slots
 
 -- the lines of a plan that was made, or the text of why there is none
 abbrev pub plan_lines_by : Result Plan PlanFault → Result (List ℕ) (List ℕ)
-plan_lines_by (Ok plan) = Ok (plan_text plan)
+plan_lines_by (Ok plan) = Ok (lines_of_plan plan)
 plan_lines_by (Err fault) = Err (plan_fault_text fault)
 
 -- the lines of the plan that the requirements of a configuration make, or the text of why there is none
@@ -76,7 +76,7 @@ frame_text found = codes "frame found=" ++ decimal found
 
 -- the lines of partitions under a plan, or the text of why it is not checked: its frame is too long
 unfoldable pub verdicts_by : Plan → List Part → Result (List ℕ) (List ℕ)
-verdicts_by plan parts = if nat_lt longest_common plan.frame then Err (frame_text plan.frame) else Ok (each (part_line plan) parts)
+verdicts_by plan parts = if nat_lt longest_common plan.frame then Err (frame_text plan.frame) else Ok (added_by_each (part_line plan) parts)
 
 -- the lines of the partitions of a configuration under its plan 0, or the text of why there are none
 abbrev pub verdicts_for : Conf → Result (List ℕ) (List ℕ)

@@ -1,10 +1,10 @@
 //! The groups of a system description's partitions are told.
 
 ghost use Rattle.std.specs.Prelude.{◌≡◌, ◌++◌, ◌<◌, ◌≤◌, ◌&&◌, ◌^◌, [], IfOk, OnOk, length, not, ◌+◌, ◌*◌};
-ghost use Rattle.xm_conf.specs.Along.{each};
+ghost use Rattle.xm_conf.specs.Along.{added_by_each};
 ghost use Rattle.xm_report.specs.Report.{HasRoom};
 ghost use Rattle.xm_flows.specs.Masks.{group_of, members_of};
-ghost use Rattle.file_maker.specs.Grouping.{comma_unless, covered_text, group_line, group_line_in, groups_for, groups_of, id_text, ids_below, joined, members_text};
+ghost use Rattle.file_maker.specs.Grouping.{comma_unless, covered_text, group_line, group_line_in, groups_for, groups_of, id_text, ids_below, joined_by_commas, members_text};
 ghost use Rattle.file_maker.specs.Makes.{Makes};
 
 use crate::parsing::{parts_of, read_conf};
@@ -41,7 +41,7 @@ fn groups_for(alloc: Global, conf: &Conf) -> Result<Vec<u8>, Unmade>
 fn put_groups(alloc: Global, conf: &Conf, parts: &[Part]) -> Result<Vec<u8>, Memory>
     requires same { parts.now ≡ conf.now.parts }
     requires few { length parts.now ≤ 16 }
-    ensures { IfOk result (λ lines. lines.items ≡ each (group_line_in conf.now) parts.now) }
+    ensures { IfOk result (λ lines. lines.items ≡ added_by_each (group_line_in conf.now) parts.now) }
 {
     let mut lines = Vec::new(alloc);
     for (p, _) in parts.iter().enumerate() {
@@ -101,7 +101,7 @@ fn put_members(pen: &mut Pen, found: Group)
 fn put_ids(pen: &mut Pen, found: Group, count: u8)
     requires room { HasRoom pen.old 672 }
     requires few { count ≤ 32 }
-    ensures value { pen.new ≡ pen.old ++ joined (ids_below found.members count) }
+    ensures value { pen.new ≡ pen.old ++ joined_by_commas (ids_below found.members count) }
     ensures room { length pen.new ≤ length pen.old + 21 * count }
 {
     let mut first = true;

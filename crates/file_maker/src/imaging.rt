@@ -4,7 +4,7 @@ ghost use Rattle.std.specs.Prelude.{◌≡◌, [], IfErr, IfOk, length};
 ghost use Rattle.xef_images.specs.Texts.{elf_fault_text, xef_fault_text};
 ghost use Rattle.xm_container.specs.Texts.{box_fault_text};
 ghost use Rattle.file_maker.specs.Imaging.{checked_text, container_lines_of, container_verdict_of, image_lines_of, xef_of};
-ghost use Rattle.file_maker.specs.Makes.{IsTold, Makes};
+ghost use Rattle.file_maker.specs.Makes.{IsRefusalText, Makes};
 
 use crate::unmade::Unmade;
 use std::alloc::Global;
@@ -91,7 +91,7 @@ fn verdict_line(pen: &mut Pen, parts: usize)
 
 // What is said of a file that is no program.
 fn no_program(alloc: Global, fault: ElfFault) -> Unmade
-    ensures text { IsTold result (elf_fault_text fault) }
+    ensures text { IsRefusalText result (elf_fault_text fault) }
     ensures memory { fault ≡ ElfFault.Memory → result ≡ Unmade.Memory }
 {
     match fault {
@@ -105,7 +105,7 @@ fn no_program(alloc: Global, fault: ElfFault) -> Unmade
 
 /// What is said of a file that is no image.
 pub fn no_image(alloc: Global, fault: XefFault) -> Unmade
-    ensures text { IsTold result (xef_fault_text fault) }
+    ensures text { IsRefusalText result (xef_fault_text fault) }
     ensures memory { fault ≡ XefFault.Memory → result ≡ Unmade.Memory }
 {
     match fault {
@@ -119,7 +119,7 @@ pub fn no_image(alloc: Global, fault: XefFault) -> Unmade
 
 /// What is said of a file that is no container.
 pub fn no_container(alloc: Global, fault: BoxFault) -> Unmade
-    ensures text { IsTold result (box_fault_text fault) }
+    ensures text { IsRefusalText result (box_fault_text fault) }
     ensures memory { fault ≡ BoxFault.Memory → result ≡ Unmade.Memory }
 {
     match fault {

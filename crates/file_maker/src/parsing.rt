@@ -2,11 +2,11 @@
 
 ghost use Rattle.std.specs.Prelude.{◌≡◌, ◌<◌, ◌≤◌, ◌^◌, All, IfSome, length};
 ghost use Rattle.xm_conf.specs.Fits.{IsNeed};
-ghost use Rattle.file_maker.specs.Makes.{Describes, IsTold, Makes};
+ghost use Rattle.file_maker.specs.Makes.{Describes, IsRefusalText, Makes};
 ghost use Rattle.file_maker.specs.Parsing.{conf_by_verdict, conf_of, xmc_of};
 ghost use Rattle.xmcf_check.specs.Texts.{check_fault_text};
 ghost use Rattle.xmcf_check.specs.Verdict.{verdict_of};
-ghost use Rattle.xmcf_reader.specs.Texts.{fault_text};
+ghost use Rattle.xmcf_reader.specs.Texts.{read_fault_text};
 
 use crate::unmade::Unmade;
 use bin_config::write_xmc;
@@ -64,7 +64,7 @@ fn checked(alloc: Global, draft: &Draft) -> Result<Conf, Unmade>
 
 // What is said of a text that is no system description.
 fn unread(alloc: Global, fault: ReadFault) -> Unmade
-    ensures text { IsTold result (fault_text fault) }
+    ensures text { IsRefusalText result (read_fault_text fault) }
     ensures memory { fault ≡ ReadFault.Memory → result ≡ Unmade.Memory }
 {
     match fault {
@@ -78,7 +78,7 @@ fn unread(alloc: Global, fault: ReadFault) -> Unmade
 
 // What is said of a draft that breaks a rule.
 fn unfit(alloc: Global, fault: CheckFault) -> Unmade
-    ensures text { IsTold result (check_fault_text fault) }
+    ensures text { IsRefusalText result (check_fault_text fault) }
     ensures memory { fault ≡ CheckFault.Memory → result ≡ Unmade.Memory }
 {
     match fault {

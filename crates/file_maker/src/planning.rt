@@ -2,10 +2,10 @@
 
 ghost use Rattle.std.specs.Prelude.{◌≡◌, ◌++◌, ◌<◌, ◌≤◌, ◌^◌, [], All, IfErr, IfOk, IfSome, OnOk, length};
 ghost use Rattle.plan_maker.specs.Texts.{plan_fault_text};
-ghost use Rattle.xm_conf.specs.Along.{each};
+ghost use Rattle.xm_conf.specs.Along.{added_by_each};
 ghost use Rattle.xm_conf.specs.Fits.{InFrame, InTurn, IsNeed, IsTime};
-ghost use Rattle.file_maker.specs.Makes.{IsTold, Makes};
-ghost use Rattle.file_maker.specs.Planning.{first_plan, frame_line, frame_text, met_by, met_line, part_line, plan_lines_for, plan_lines_of, plan_text, slot_line, verdicts_by, verdicts_for, verdicts_of};
+ghost use Rattle.file_maker.specs.Makes.{IsRefusalText, Makes};
+ghost use Rattle.file_maker.specs.Planning.{first_plan, frame_line, frame_text, met_by, met_line, part_line, plan_lines_for, plan_lines_of, lines_of_plan, slot_line, verdicts_by, verdicts_for, verdicts_of};
 
 use crate::parsing::{parts_of, read_conf};
 use crate::unmade::Unmade;
@@ -42,7 +42,7 @@ fn lines_of_made(alloc: Global, conf: &Conf) -> Result<Vec<u8>, Unmade>
 
 // The lines that tell a plan.
 fn lines_of_plan(alloc: Global, plan: &Plan) -> Result<Vec<u8>, Unmade>
-    ensures lines { IfOk result (λ lines. lines.items ≡ plan_text plan.now) }
+    ensures lines { IfOk result (λ lines. lines.items ≡ lines_of_plan plan.now) }
     ensures memory { IfErr result (λ why. why ≡ Unmade.Memory) }
 {
     match put_plan(alloc, plan) {
@@ -52,9 +52,9 @@ fn lines_of_plan(alloc: Global, plan: &Plan) -> Result<Vec<u8>, Unmade>
 }
 
 // The lines that tell a plan, where there is memory for them.
-#[tactic(auto, unfolding(crate::specs::Planning::plan_text))]
+#[tactic(auto, unfolding(crate::specs::Planning::lines_of_plan))]
 fn put_plan(alloc: Global, plan: &Plan) -> Result<Vec<u8>, Memory>
-    ensures { IfOk result (λ lines. lines.items ≡ plan_text plan.now) }
+    ensures { IfOk result (λ lines. lines.items ≡ lines_of_plan plan.now) }
 {
     let mut lines = Vec::new(alloc);
     put_frame(&mut lines, plan.frame, plan.slots.len())?;
@@ -74,7 +74,7 @@ fn put_frame(lines: &mut Vec<u8>, frame: u32, slots: usize) -> Result<(), Memory
 
 // Puts the lines of slots behind others.
 fn put_slots(lines: &mut Vec<u8>, slots: &[Slot]) -> Result<(), Memory>
-    ensures { OnOk result (lines.new.items ≡ lines.old.items ++ each slot_line slots.now) }
+    ensures { OnOk result (lines.new.items ≡ lines.old.items ++ added_by_each slot_line slots.now) }
 {
     for (id, slot) in slots.iter().enumerate() {
         put_slot(lines, id, *slot)?;
@@ -124,7 +124,7 @@ fn slot_line(pen: &mut Pen, id: usize, slot: Slot)
 
 // What is said where no plan is made.
 fn no_plan(alloc: Global, fault: PlanFault) -> Unmade
-    ensures text { IsTold result (plan_fault_text fault) }
+    ensures text { IsRefusalText result (plan_fault_text fault) }
     ensures memory { fault ≡ PlanFault.Memory → result ≡ Unmade.Memory }
 {
     match fault {
@@ -188,7 +188,7 @@ fn verdicts_by(alloc: Global, plan: &Plan, parts: &[Part]) -> Result<Vec<u8>, Un
 // What is said of a plan whose frame is too long to be checked.
 #[tactic(auto, unfolding(crate::specs::Planning::frame_text))]
 fn too_long(alloc: Global, frame: u32) -> Unmade
-    ensures { IsTold result (frame_text frame) }
+    ensures { IsRefusalText result (frame_text frame) }
 {
     match format!(in alloc; "frame found={frame}") {
         Ok(text) => Unmade::Refused { text },
@@ -204,7 +204,7 @@ fn put_parts(alloc: Global, plan: &Plan, parts: &[Part]) -> Result<Vec<u8>, Memo
     requires in_turn { InTurn plan.now.slots }
     requires few { length parts.now ≤ 16 }
     requires needs { All (λ part. IfSome part.need IsNeed) parts.now }
-    ensures { IfOk result (λ lines. lines.items ≡ each (part_line plan.now) parts.now) }
+    ensures { IfOk result (λ lines. lines.items ≡ added_by_each (part_line plan.now) parts.now) }
 {
     let mut lines = Vec::new(alloc);
     for (id, part) in parts.iter().enumerate() {

@@ -15,7 +15,7 @@ use Rattle.xm_machine.specs.Outcome.{IsWholeRun, report_of}
 use Rattle.xm_machine.specs.declared.run.Ran.{Ran}
 use Rattle.xm_outside.specs.Causes.{Rose}
 use Rattle.xm_report.specs.Report.{ReportLine}
-use Rattle.generated_system.specs.Generated.{all_chans, all_parts, conf_of, conf_with, generated}
+use Rattle.generated_system.specs.Generated.{all_chans, all_parts, generated_conf, conf_with, generated}
 use Rattle.generated_runs.specs.Told.{generated_text, run_length, told_of, told_of_run, without_inputs}
 
 -- an output that takes all never fails
@@ -44,27 +44,27 @@ starts_with : (s : loaded_system.System) (words : List (List ℕ)) → (start (w
 unfolding start
 starts_with s words = refl
 
-conf_is : (number : ℕ) → (generated number).conf ≡ conf_of number
+conf_is : (number : ℕ) → (generated number).conf ≡ generated_conf number
 unfolding generated
 conf_is number = refl
 
-eight : (number : ℕ) → length (conf_of number).chans ≡ 8
-unfolding conf_of conf_with all_chans
+eight : (number : ℕ) → length (generated_conf number).chans ≡ 8
+unfolding generated_conf conf_with all_chans
 eight number = refl
 
 -- the machine that has run has the system's configuration, and its eight channels
 pub keeps_system : RunsKeepNumbers → BootsComplete → (number : ℕ) (system : loaded_system.System) (inputs : List (List ℕ)) (g : Machine) → system ≡ generated number → g ≡ run (start (with_inputs system inputs)) run_length
-    → (g.system.conf ≡ conf_of number) × (length g.channels ≡ 8)
+    → (g.system.conf ≡ generated_conf number) × (length g.channels ≡ 8)
 keeps_system keeps boots number system inputs g is state =
     let same = keeps (start (with_inputs system inputs)) run_length in
-    let conf : (start (with_inputs system inputs)).system.conf ≡ conf_of number = starts_with system inputs ∙ ap (λ (s : loaded_system.System). s.conf) is ∙ conf_is number in (
+    let conf : (start (with_inputs system inputs)).system.conf ≡ generated_conf number = starts_with system inputs ∙ ap (λ (s : loaded_system.System). s.conf) is ∙ conf_is number in (
       ap (λ (m : Machine). m.system.conf) state ∙ ap (λ (s : System). s.conf) same.system ∙ conf,
       ap (λ (m : Machine). length m.channels) state ∙ same.channels ∙ (boots (with_inputs system inputs)).channels ∙ ap (λ (c : Conf). length c.chans) conf ∙ eight number,
     )
 
 -- there are as many partitions as input words are given for
 pub sixteen : (number : ℕ) → length (generated number).conf.parts ≡ 16
-unfolding generated conf_of conf_with all_parts
+unfolding generated generated_conf conf_with all_parts
 sixteen number = refl
 
 -- the report of a run from the start is that of the system

@@ -2,7 +2,7 @@
 
 ghost use Rattle.std.specs.Prelude.{◌≡◌, false, IfOk, None, Ok, length};
 ghost use Rattle.generated_runs.specs.Told.{generated_text, run_length, told_of};
-ghost use Rattle.generated_system.specs.Generated.{conf_of, generated};
+ghost use Rattle.generated_system.specs.Generated.{generated_conf, generated};
 ghost use Rattle.xm_container.specs.Box.{box_text};
 ghost use Rattle.xm_container.specs.Reading.{unpacked};
 ghost use Rattle.xm_machine.specs.Outcome.{IsWholeRun};
@@ -66,7 +66,7 @@ fn lines_of(
     lines: u64,
     machine: &Machine,
 ) -> Result<Vec<u8>, Memory>
-    requires conf { machine.now.state.system.conf ≡ conf_of number }
+    requires conf { machine.now.state.system.conf ≡ generated_conf number }
     requires channels { length machine.now.state.channels ≡ 8 }
     ensures { IfOk result (λ text. text.items ≡ told_of number (length container.now) lines machine.now.state) }
 {

@@ -5,18 +5,18 @@ use Rattle.std.specs.Fmt.{digits}
 use Rattle.std.specs.Int.{to_be_bytes, w32}
 use Rattle.std.specs.List.{list_all}
 use Rattle.std.proofs.lemmas.Bool.{and_parts}
-use Rattle.bin_config.specs.Xmc.{action, area, belongings, body, chan, end, head, identity, monitor, part, plan, port, region, slot, text, xmc}
+use Rattle.bin_config.specs.Xmc.{action, area_record, belongings, body, chan, end, head, identity, monitor, part_record, plan_record, port_record, region_record, slot_record, text_field, xmc}
 use Rattle.xm_base.specs.declared.limits.TheConstants.{FILE_BYTES}
 use Rattle.xm_conf.specs.NameLemmas.{Decides-nat_le}
 use Rattle.xef_images.specs.Image.{Image, xef_length}
 use Rattle.xef_images.specs.Spelling.{xef_text}
 use Rattle.xef_images.specs.XefLemmas.{length-xef_text}
-use Rattle.xm_container.specs.Box.{box_length, entries_text, entry_text, fields_text, sized_text}
-use Rattle.generated_system.specs.Generated.{all_chans, all_images, all_parts, area_start, bytes_of, chan_of, conf_of, conf_with, first_word, generated, image_of, part_of, plan_with, port_name, program_of, receiving, sending, slot_drawn, slots_of, way_of}
+use Rattle.xm_container.specs.Box.{box_length, entries_text, image_entry_text, fields_text, sized_text}
+use Rattle.generated_system.specs.Generated.{all_chans, all_images, all_parts, area_start, image_bytes, chan_of, generated_conf, conf_with, first_word, generated, generated_image, generated_part, generated_plan, port_name, program_of, receiving_code, sending_code, slot_drawn, generated_slots, generated_way}
 
 -- the binary configuration is as long whatever the durations are
-length-xmc : (number : ℕ) → length (xmc (conf_of number)) ≡ 994
-unfolding digits xmc head body text region slot plan action monitor area port identity belongings part end chan conf_of conf_with plan_with slots_of slot_drawn all_parts all_chans part_of chan_of port_name way_of area_start
+length-xmc : (number : ℕ) → length (xmc (generated_conf number)) ≡ 994
+unfolding digits xmc head body text_field region_record slot_record plan_record action monitor area_record port_record identity belongings part_record end chan generated_conf conf_with generated_plan generated_slots slot_drawn all_parts all_chans generated_part chan_of port_name generated_way area_start
 length-xmc number = refl
 
 -- whether an image has few segments, and its file few bytes
@@ -24,12 +24,12 @@ unfoldable is_short : Image → Bool
 is_short image = nat_le (length image.segments) 8 && nat_le (xef_length image.segments) 131
 
 all_short : list_all is_short all_images ≡ true
-unfolding is_short all_images image_of area_start bytes_of first_word program_of sending receiving
+unfolding is_short all_images generated_image area_start image_bytes first_word program_of sending_code receiving_code
 all_short = refl
 
 -- an image with its number and its length
-length-entry : (id : ℕ) (image : Image) → is_short image ≡ true → length (entry_text id image) ≤ 136
-unfolding is_short entry_text sized_text
+length-entry : (id : ℕ) (image : Image) → is_short image ≡ true → length (image_entry_text id image) ≤ 136
+unfolding is_short image_entry_text sized_text
 length-entry id image short =
     let tests = and_parts (nat_le (length image.segments) 8) (nat_le (xef_length image.segments) 131) short in
     let few = (Decides-nat_le (length image.segments) 8).0 tests.0 in
@@ -45,7 +45,7 @@ length-entries : (id : ℕ) (images : List Image) → list_all is_short images �
 length-entries id [] short = omega arith
 length-entries id (image ∷ images) short =
     let tests = and_parts (is_short image) (list_all is_short images) short in
-    omega (arith, length-append (entry_text id image) (entries_text (id + 1) images), length-entry id image tests.0, length-entries (id + 1) images tests.1)
+    omega (arith, length-append (image_entry_text id image) (entries_text (id + 1) images), length-entry id image tests.0, length-entries (id + 1) images tests.1)
 
 length-all_images : length all_images ≡ 16
 unfolding all_images
@@ -57,8 +57,8 @@ unfolding fields_text sized_text generated
 fields_short number =
     omega (
       arith,
-      length-append (to_be_bytes w32 (length (xmc (conf_of number))) ++ xmc (conf_of number)) (length all_images ∷ entries_text 0 all_images),
-      length-append (to_be_bytes w32 (length (xmc (conf_of number)))) (xmc (conf_of number)),
+      length-append (to_be_bytes w32 (length (xmc (generated_conf number))) ++ xmc (generated_conf number)) (length all_images ∷ entries_text 0 all_images),
+      length-append (to_be_bytes w32 (length (xmc (generated_conf number)))) (xmc (generated_conf number)),
       length-xmc number,
       length-entries 0 all_images all_short,
       length-all_images,

@@ -7,39 +7,39 @@ use Rattle.xm_conf.specs.NameLemmas.{Decides-nat_le}
 use Rattle.loaded_system.specs.Inside.{first_outside, has_segment, is_inside}
 use Rattle.xm_container.specs.Box.{box_length, box_text, fields_text, sealed_text}
 use Rattle.xm_container.specs.Numbers.{extra, has_id, missing}
-use Rattle.xm_container.specs.Pack.{Packs, ids_of, in_order, packed, sealed, system_of}
+use Rattle.xm_container.specs.Pack.{Packs, partition_numbers, in_order, packed, sealed, system_of}
 use Rattle.xm_container.specs.declared.fault.PackFault.{PackFault}
 use Rattle.xm_container.specs.declared.fault.PackFault.TheVariants as variant
 use Rattle.xm_container.specs.declared.image.Image.{Image}
-use Rattle.generated_system.specs.Generated.{all_images, all_parts, area_start, bytes_of, conf_of, conf_with, first_word, generated, image_of, part_of, program_of, receiving, sending}
-use Rattle.generated_system.specs.Given.{all_given, given_of}
+use Rattle.generated_system.specs.Generated.{all_images, all_parts, area_start, image_bytes, generated_conf, conf_with, first_word, generated, generated_image, generated_part, program_of, receiving_code, sending_code}
+use Rattle.generated_system.specs.Given.{all_given, generated_given}
 use Rattle.generated_system.proofs.LengthLemmas.{fields_short}
 
 -- there are sixteen partitions, and an image for each
-length-parts : (number : ℕ) → length (conf_of number).parts ≡ 16
-unfolding conf_of conf_with all_parts
+length-parts : (number : ℕ) → length (generated_conf number).parts ≡ 16
+unfolding generated_conf conf_with all_parts
 length-parts number = refl
 
-none_extra : extra 16 (ids_of all_given) ≡ None
-unfolding extra has_id all_given given_of
+none_extra : extra 16 (partition_numbers all_given) ≡ None
+unfolding extra has_id all_given generated_given
 none_extra = refl
 
-none_missing : missing 16 (ids_of all_given) ≡ None
-unfolding missing has_id all_given given_of
+none_missing : missing 16 (partition_numbers all_given) ≡ None
+unfolding missing has_id all_given generated_given
 none_missing = refl
 
 -- in their order
 in_order_is : in_order all_given 0 16 ≡ all_images
-unfolding all_given given_of all_images
+unfolding all_given generated_given all_images
 in_order_is = refl
 
 -- and each lies inside its partition's area
 none_outside : first_outside all_parts all_images ≡ None
-unfolding first_outside has_segment is_inside all_parts part_of all_images image_of area_start bytes_of first_word program_of sending receiving
+unfolding first_outside has_segment is_inside all_parts generated_part all_images generated_image area_start image_bytes first_word program_of sending_code receiving_code
 none_outside = refl
 
-parts_are : (number : ℕ) → (conf_of number).parts ≡ all_parts
-unfolding conf_of conf_with
+parts_are : (number : ℕ) → (generated_conf number).parts ≡ all_parts
+unfolding generated_conf conf_with
 parts_are number = refl
 
 -- what is not too long is sealed
@@ -50,22 +50,22 @@ sealed_is fields short =
     rw fits refl
 
 -- what is packed is the generated system
-system_is : (number : ℕ) → system_of (conf_of number) all_given ≡ generated number
+system_is : (number : ℕ) → system_of (generated_conf number) all_given ≡ generated number
 unfolding generated
 system_is number =
-    ap (λ n. record { conf = conf_of number; images = in_order all_given 0 n }) (length-parts number)
-    ∙ ap (λ images. record { conf = conf_of number; images = images }) in_order_is
+    ap (λ n. record { conf = generated_conf number; images = in_order all_given 0 n }) (length-parts number)
+    ∙ ap (λ images. record { conf = generated_conf number; images = images }) in_order_is
 
-packed_so : (number : ℕ) → packed (conf_of number) all_given ≡ Ok (box_text (generated number))
+packed_so : (number : ℕ) → packed (generated_conf number) all_given ≡ Ok (box_text (generated number))
 unfolding packed box_text
 packed_so number =
     rw (system_is number, length-parts number, none_extra, none_missing, in_order_is, parts_are number, none_outside) (sealed_is (fields_text (generated number)) (fields_short number))
 
-pub packed_is : (number : ℕ) (conf : Conf) (images : List Image) → conf ≡ conf_of number → images ≡ all_given → packed conf images ≡ Ok (box_text (generated number))
-packed_is number conf images conf_is images_are = ap (λ c. packed c images) conf_is ∙ ap (packed (conf_of number)) images_are ∙ packed_so number
+pub packed_is : (number : ℕ) (conf : Conf) (images : List Image) → conf ≡ generated_conf number → images ≡ all_given → packed conf images ≡ Ok (box_text (generated number))
+packed_is number conf images conf_is images_are = ap (λ c. packed c images) conf_is ∙ ap (packed (generated_conf number)) images_are ∙ packed_so number
 
-pub system_so : (number : ℕ) (conf : Conf) (images : List Image) → conf ≡ conf_of number → images ≡ all_given → system_of conf images ≡ generated number
-system_so number conf images conf_is images_are = ap (λ c. system_of c images) conf_is ∙ ap (system_of (conf_of number)) images_are ∙ system_is number
+pub system_so : (number : ℕ) (conf : Conf) (images : List Image) → conf ≡ generated_conf number → images ≡ all_given → system_of conf images ≡ generated number
+system_so number conf images conf_is images_are = ap (λ c. system_of c images) conf_is ∙ ap (system_of (generated_conf number)) images_are ∙ system_is number
 
 -- where packing comes to a container, only memory can be out
 pub only_memory : {A : Type 0} (result : Result (Vec ℕ A) PackFault) (fault : PackFault) (expected : Result (List ℕ) PackFault) (text : List ℕ) → result ≡ Err fault → Packs result expected → expected ≡ Ok text

@@ -32,31 +32,31 @@ drawn number (suc i) = next_drawn (drawn number i)
 unfoldable pub slot_drawn : ℕ → ℕ → Slot
 slot_drawn i x = record { start = spaced 0 1000 i; duration = 100 + x % 901; part = i }
 
-abbrev pub slot_of : ℕ → ℕ → Slot
-slot_of number i = slot_drawn i (drawn number (suc i))
+abbrev pub generated_slot : ℕ → ℕ → Slot
+generated_slot number i = slot_drawn i (drawn number (suc i))
 
-unfoldable pub slots_of : ℕ → List Slot
-slots_of number = numbered (slot_of number) 16
+unfoldable pub generated_slots : ℕ → List Slot
+generated_slots number = numbered (generated_slot number) 16
 
 -- the plan of these slots
-unfoldable pub plan_with : List Slot → Plan
-plan_with slots = record { frame = 16000; slots = slots }
+unfoldable pub generated_plan : List Slot → Plan
+generated_plan slots = record { frame = 16000; slots = slots }
 
 -- where the area of partition i begins
 unfoldable pub area_start : ℕ → ℕ
 area_start i = spaced 0x4010_0000 4096 i
 
 -- the end of a channel that partition i has: even ones send, and odd ones receive
-unfoldable pub way_of : ℕ → Way
-way_of i = if i % 2 == 0 then way.Source else way.Destination
+unfoldable pub generated_way : ℕ → Way
+generated_way i = if i % 2 == 0 then way.Source else way.Destination
 
 -- the name of every port
 unfoldable pub port_name : List ℕ
 port_name = codes "q"
 
 -- partition i: it is no system partition, has no console and no requirement, one page, and one port
-unfoldable pub part_of : ℕ → Part
-part_of i = record {
+unfoldable pub generated_part : ℕ → Part
+generated_part i = record {
   name = codes "G" ++ decimal i;
   system = false;
   console = None;
@@ -64,11 +64,11 @@ part_of i = record {
   trace_mask = 0;
   hm = default_table;
   areas = record { start = area_start i; size = 4096; read_only = false } ∷ [];
-  ports = record { name = port_name; kind = kind.Queuing; way = way_of i } ∷ [];
+  ports = record { name = port_name; kind = kind.Queuing; way = generated_way i } ∷ [];
 }
 
 unfoldable pub all_parts : List Part
-all_parts = numbered part_of 16
+all_parts = numbered generated_part 16
 
 -- channel j, from one partition to the next: four messages of a byte
 unfoldable pub chan_of : ℕ → Chan
@@ -89,49 +89,49 @@ conf_with slots = record {
   regions = record { start = 0x4000_0000; size = 0x40_0000 } ∷ [];
   hv_size = 0x1_0000;
   uarts = [];
-  plans = plan_with slots ∷ [];
+  plans = generated_plan slots ∷ [];
   parts = all_parts;
   chans = all_chans;
 }
 
-unfoldable pub conf_of : ℕ → Conf
-conf_of number = conf_with (slots_of number)
+unfoldable pub generated_conf : ℕ → Conf
+generated_conf number = conf_with (generated_slots number)
 
 -- the first word of an image: SETHI of a register with the area's first addresses
 unfoldable pub first_word : ℕ → ℕ
 first_word i = spaced 0x0310_0400 4 i
 
 -- what a partition that sends does after it: its port is made, and a byte is sent again and again; the names stand at the end
-unfoldable pub sending : List ℕ
-sending =
+unfoldable pub sending_code : List ℕ
+sending_code =
     0x9210_6038 ∷ 0x9410_2004 ∷ 0x9610_2001 ∷ 0x9810_2000 ∷ 0x9010_2014 ∷ 0x91d0_2070
     ∷ 0x9210_2000 ∷ 0x9410_603c ∷ 0x9610_2001 ∷ 0x9010_2015 ∷ 0x91d0_2070 ∷ 0x10bf_fffb ∷ 0x0100_0000 ∷ 0x7100_0000 ∷ 0x6d00_0000 ∷ []
 
 -- and one that receives: its port is made, a byte is taken and written to the console, and it waits for its next slot, again and again
-unfoldable pub receiving : List ℕ
-receiving =
+unfoldable pub receiving_code : List ℕ
+receiving_code =
     0x9210_6050 ∷ 0x9410_2004 ∷ 0x9610_2001 ∷ 0x9810_2001 ∷ 0x9010_2014 ∷ 0x91d0_2070
     ∷ 0x9210_2000 ∷ 0x9410_6054 ∷ 0x9610_2001 ∷ 0x9010_2016 ∷ 0x91d0_2070
     ∷ 0x9210_6054 ∷ 0x9410_2001 ∷ 0x9010_2020 ∷ 0x91d0_2070 ∷ 0x9010_2007 ∷ 0x91d0_2070 ∷ 0x10bf_fff5 ∷ 0x0100_0000 ∷ 0x7100_0000 ∷ 0x0000_0000 ∷ []
 
 -- what partition i does after its first word
 unfoldable pub program_of : ℕ → List ℕ
-program_of i = if i % 2 == 0 then sending else receiving
+program_of i = if i % 2 == 0 then sending_code else receiving_code
 
 -- the bytes of partition i's image
-unfoldable pub bytes_of : ℕ → List ℕ
-bytes_of i = flat_map (to_be_bytes w32) (first_word i ∷ program_of i)
+unfoldable pub image_bytes : ℕ → List ℕ
+image_bytes i = flat_map (to_be_bytes w32) (first_word i ∷ program_of i)
 
 -- the image: one segment, loaded at the start of the area and entered there
-unfoldable pub image_of : ℕ → Image
-image_of i = record {
+unfoldable pub generated_image : ℕ → Image
+generated_image i = record {
   entry = area_start i;
-  segments = record { address = area_start i; memory = length (bytes_of i); bytes = bytes_of i } ∷ [];
+  segments = record { address = area_start i; memory = length (image_bytes i); bytes = image_bytes i } ∷ [];
 }
 
 unfoldable pub all_images : List Image
-all_images = numbered image_of 16
+all_images = numbered generated_image 16
 
 -- the system that is generated out of a number
 unfoldable pub generated : ℕ → System
-generated number = record { conf = conf_of number; images = all_images }
+generated number = record { conf = generated_conf number; images = all_images }

@@ -2,7 +2,7 @@
 
 ghost use Rattle.std.specs.Prelude.{◌≡◌, IfOk, IsTrue, codes};
 ghost use Rattle.xm_conf.specs.Name.{is_name};
-ghost use Rattle.generated_system.specs.Generated.{conf_of, conf_with};
+ghost use Rattle.generated_system.specs.Generated.{generated_conf, conf_with};
 
 use crate::channels::channels;
 use crate::parts::{name, parts};
@@ -20,7 +20,7 @@ const HYPERVISOR_BYTES: u32 = 0x0001_0000;
 
 /// The configuration of the system that is generated out of a number.
 pub(crate) fn configuration(alloc: Global, number: u32) -> Result<Conf, Memory>
-    ensures { IfOk result (λ conf. conf ≡ conf_of number) }
+    ensures { IfOk result (λ conf. conf ≡ generated_conf number) }
 {
     broken_unless_fits();
     let raw = raw(alloc, number)?;
@@ -31,9 +31,9 @@ pub(crate) fn configuration(alloc: Global, number: u32) -> Result<Conf, Memory>
 }
 
 // What it is made of.
-#[tactic(auto, unfolding(crate::specs::Generated::conf_of, crate::specs::Generated::conf_with))]
+#[tactic(auto, unfolding(crate::specs::Generated::generated_conf, crate::specs::Generated::conf_with))]
 fn raw(alloc: Global, number: u32) -> Result<RawConf, Memory>
-    ensures { IfOk result (λ raw. raw ≡ conf_of number) }
+    ensures { IfOk result (λ raw. raw ≡ generated_conf number) }
 {
     let region = Region {
         start: REGION_START,

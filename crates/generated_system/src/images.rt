@@ -2,7 +2,7 @@
 
 ghost use Rattle.std.specs.Prelude.{◌≡◌, ◌<◌, ◌++◌, IfOk, OnOk};
 ghost use Rattle.std.specs.Int.{to_be_bytes, w32};
-ghost use Rattle.generated_system.specs.Generated.{bytes_of, first_word, image_of, program_of};
+ghost use Rattle.generated_system.specs.Generated.{image_bytes, first_word, generated_image, program_of};
 ghost use Rattle.generated_system.specs.Given.{all_given};
 
 use crate::parts::{PARTS, area_start};
@@ -59,7 +59,7 @@ const RECEIVING: [u32; 21] = [
 ];
 
 /// The images of all partitions, each with the number of its own.
-#[tactic(auto, using(crate::proofs::NumberedLemmas::numbered_more), unfolding(crate::specs::Given::all_given, crate::specs::Given::given_of))]
+#[tactic(auto, using(crate::proofs::NumberedLemmas::numbered_more), unfolding(crate::specs::Given::all_given, crate::specs::Given::generated_given))]
 pub(crate) fn images(alloc: Global) -> Result<Vec<Image>, Memory>
     ensures { IfOk result (λ images. images.items ≡ all_given) }
 {
@@ -72,10 +72,10 @@ pub(crate) fn images(alloc: Global) -> Result<Vec<Image>, Memory>
 }
 
 // The image of a partition.
-#[tactic(auto, using(crate::proofs::ImageLemmas::loads), unfolding(crate::specs::Generated::image_of))]
+#[tactic(auto, using(crate::proofs::ImageLemmas::loads), unfolding(crate::specs::Generated::generated_image))]
 fn image(alloc: Global, p: PartId) -> Result<Xef, Memory>
     requires { p < 16 }
-    ensures { IfOk result (λ xef. xef ≡ image_of p) }
+    ensures { IfOk result (λ xef. xef ≡ generated_image p) }
 {
     let address = area_start(p);
     let bytes = bytes(alloc, p)?;
@@ -91,10 +91,10 @@ fn image(alloc: Global, p: PartId) -> Result<Xef, Memory>
 }
 
 // The bytes of a partition's image.
-#[tactic(auto, unfolding(crate::specs::Generated::bytes_of))]
+#[tactic(auto, unfolding(crate::specs::Generated::image_bytes))]
 fn bytes(alloc: Global, p: PartId) -> Result<Vec<u8>, Memory>
     requires { p < 16 }
-    ensures { IfOk result (λ bytes. bytes.items ≡ bytes_of p) }
+    ensures { IfOk result (λ bytes. bytes.items ≡ image_bytes p) }
 {
     let mut bytes = Vec::new(alloc);
     push_word(&mut bytes, first_word(p))?;
@@ -122,7 +122,7 @@ fn first_word(p: PartId) -> u32
 }
 
 // The other words: those of a partition that sends, or of one that receives.
-#[tactic(auto, unfolding(crate::specs::Generated::program_of, crate::specs::Generated::sending, crate::specs::Generated::receiving))]
+#[tactic(auto, unfolding(crate::specs::Generated::program_of, crate::specs::Generated::sending_code, crate::specs::Generated::receiving_code))]
 fn program(p: PartId) -> &'static [u32]
     ensures { result.now ≡ program_of p }
 {

@@ -2,7 +2,7 @@
 
 ghost use Rattle.std.specs.Prelude.{◌≡◌, ◌<◌, ◌++◌, IfOk, IsTrue, codes, decimal};
 ghost use Rattle.xm_conf.specs.Name.{is_name};
-ghost use Rattle.generated_system.specs.Generated.{all_parts, area_start, part_of, way_of};
+ghost use Rattle.generated_system.specs.Generated.{all_parts, area_start, generated_part, generated_way};
 
 use std::alloc::Global;
 use xm_base::{Memory, PartId};
@@ -30,10 +30,10 @@ pub(crate) fn parts(alloc: Global) -> Result<Vec<Part>, Memory>
 }
 
 // A partition.
-#[tactic(auto, unfolding(crate::specs::Generated::part_of, crate::specs::Generated::port_name))]
+#[tactic(auto, unfolding(crate::specs::Generated::generated_part, crate::specs::Generated::port_name))]
 fn part(alloc: Global, p: PartId) -> Result<Part, Memory>
     requires { p < 16 }
-    ensures { IfOk result (λ part. part ≡ part_of p) }
+    ensures { IfOk result (λ part. part ≡ generated_part p) }
 {
     let area = Area {
         start: area_start(p),
@@ -92,9 +92,9 @@ pub(crate) fn name(bytes: &[u8]) -> Name
 }
 
 // The end of a channel that a partition has.
-#[tactic(auto, unfolding(crate::specs::Generated::way_of))]
+#[tactic(auto, unfolding(crate::specs::Generated::generated_way))]
 fn way_of(p: PartId) -> Way
-    ensures { result ≡ way_of p }
+    ensures { result ≡ generated_way p }
 {
     if p % 2 == 0 {
         Way::Source

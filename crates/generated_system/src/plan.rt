@@ -1,7 +1,7 @@
 //! The plan: a slot for each partition, whose duration is drawn.
 
 ghost use Rattle.std.specs.Prelude.{◌≡◌, ◌<◌, IfOk};
-ghost use Rattle.generated_system.specs.Generated.{next_drawn, plan_with, slot_drawn, slots_of};
+ghost use Rattle.generated_system.specs.Generated.{next_drawn, generated_plan, slot_drawn, generated_slots};
 
 use crate::parts::PARTS;
 use std::alloc::Global;
@@ -17,9 +17,9 @@ const SHARE: u32 = 1000;
 const MODULUS: u32 = 65537;
 
 /// The plan of the system that is generated out of a number.
-#[tactic(auto, unfolding(crate::specs::Generated::plan_with))]
+#[tactic(auto, unfolding(crate::specs::Generated::generated_plan))]
 pub(crate) fn plan(alloc: Global, number: u32) -> Result<Plan, Memory>
-    ensures { IfOk result (λ plan. plan ≡ plan_with (slots_of number)) }
+    ensures { IfOk result (λ plan. plan ≡ generated_plan (generated_slots number)) }
 {
     Ok(Plan {
         frame: FRAME,
@@ -28,9 +28,9 @@ pub(crate) fn plan(alloc: Global, number: u32) -> Result<Plan, Memory>
 }
 
 // Its slots.
-#[tactic(auto, using(crate::proofs::NumberedLemmas::drawn_more, crate::proofs::NumberedLemmas::slots_more), unfolding(crate::specs::Generated::slots_of))]
+#[tactic(auto, using(crate::proofs::NumberedLemmas::drawn_more, crate::proofs::NumberedLemmas::slots_more), unfolding(crate::specs::Generated::generated_slots))]
 fn slots(alloc: Global, number: u32) -> Result<Vec<Slot>, Memory>
-    ensures { IfOk result (λ slots. slots.items ≡ slots_of number) }
+    ensures { IfOk result (λ slots. slots.items ≡ generated_slots number) }
 {
     let mut slots = Vec::new(alloc);
     let mut drawn = number % MODULUS;

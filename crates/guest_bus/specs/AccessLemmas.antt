@@ -3,7 +3,7 @@ use borrow.Rule.Slice.PartMut.{put_mid}
 use Rattle.std.proofs.Common.{◌≡◌, ℕ, zero, suc, ◌+◌, ◌*◌, ◌≤◌, List, [], ◌∷◌, length, take, drop, Option, Some, None, Ok, Err, refl, ap, arith, length-append}
 use Rattle.std.specs.Int.{w32, byte_len, bytes_high_first, from_be_bytes, to_be_bytes}
 use Rattle.guest_bus.specs.Access.{access_fault, after_store, fetched, loaded, memory_unless_refused, store_fault, unless_refused, width_of}
-use Rattle.guest_bus.specs.Memory.{Area, Memory, is_readable, memory_of}
+use Rattle.guest_bus.specs.Memory.{Area, Memory, is_readable, memory_of_bytes}
 use Rattle.guest_bus.specs.MemoryLemmas.{bytes_at-memory_of, with_bytes-put_mid}
 use Rattle.guest_bus.specs.Words.{bytes_of}
 use Rattle.guest_bus.specs.declared.bus.BusFault.{BusFault}
@@ -31,15 +31,15 @@ memory_unless_refused-free fault old new found none is = rw (none, is)
 
 -- an access that nothing refuses, at its place in the bytes of a memory
 module _ (areas : List Area) (start : ℕ) (bytes : List ℕ) (address at : ℕ) (lies : address ≡ start + at) where
-  pub fetched_at : access_fault (is_readable areas) address 4 ≡ None → at + 4 ≤ length bytes → fetched areas (memory_of start bytes) address ≡ Ok (from_be_bytes w32 (take 4 (drop at bytes)))
+  pub fetched_at : access_fault (is_readable areas) address 4 ≡ None → at + 4 ≤ length bytes → fetched areas (memory_of_bytes start bytes) address ≡ Ok (from_be_bytes w32 (take 4 (drop at bytes)))
   unfolding fetched
   fetched_at none fits = unless_refused-free _ _ _ none (ap (from_be_bytes w32) (bytes_at-memory_of start bytes at address 4 lies fits))
 
-  pub loaded_at : (size : Size) → access_fault (is_readable areas) address (byte_len (width_of size)) ≡ None → at + byte_len (width_of size) ≤ length bytes → loaded areas (memory_of start bytes) address size ≡ Ok (from_be_bytes (width_of size) (take (byte_len (width_of size)) (drop at bytes)))
+  pub loaded_at : (size : Size) → access_fault (is_readable areas) address (byte_len (width_of size)) ≡ None → at + byte_len (width_of size) ≤ length bytes → loaded areas (memory_of_bytes start bytes) address size ≡ Ok (from_be_bytes (width_of size) (take (byte_len (width_of size)) (drop at bytes)))
   unfolding loaded
   loaded_at size none fits = unless_refused-free _ _ _ none (ap (from_be_bytes (width_of size)) (bytes_at-memory_of start bytes at address (byte_len (width_of size)) lies fits))
 
-  pub stored_at : (size : Size) (value : ℕ) → store_fault areas address size ≡ None → at + byte_len (width_of size) ≤ length bytes → after_store areas (memory_of start bytes) address size value ≡ memory_of start (put_mid at (byte_len (width_of size)) bytes (to_be_bytes (width_of size) value))
+  pub stored_at : (size : Size) (value : ℕ) → store_fault areas address size ≡ None → at + byte_len (width_of size) ≤ length bytes → after_store areas (memory_of_bytes start bytes) address size value ≡ memory_of_bytes start (put_mid at (byte_len (width_of size)) bytes (to_be_bytes (width_of size) value))
   unfolding after_store
   stored_at size value none fits =
       memory_unless_refused-free _ _ _ _ none (with_bytes-put_mid start (to_be_bytes (width_of size) value) bytes at address (byte_len (width_of size)) lies (length-bytes_high_first (byte_len (width_of size)) value) fits)

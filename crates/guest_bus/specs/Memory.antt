@@ -30,16 +30,16 @@ abbrev pub no_others : Others
 no_others = record { number = 0; areas = []; memories = [] }
 
 -- the area holds the address
-abbrev pub covers : ℕ → Area → Bool
-covers address area = nat_le area.start address && nat_lt address (area.start + area.size)
+abbrev pub holds_address : ℕ → Area → Bool
+holds_address address area = nat_le area.start address && nat_lt address (area.start + area.size)
 
 -- the byte at the address may be read and fetched
 abbrev pub is_readable : List Area → ℕ → Bool
-is_readable areas address = list_any (covers address) areas
+is_readable areas address = list_any (holds_address address) areas
 
 -- the byte at the address may be written
 abbrev pub is_writable : List Area → ℕ → Bool
-is_writable areas address = list_any (λ area. covers address area && not area.read_only) areas
+is_writable areas address = list_any (λ area. holds_address address area && not area.read_only) areas
 
 -- each of so many addresses from one on passes
 abbrev pub all_from : (ℕ → Bool) → ℕ → ℕ → Bool
@@ -61,5 +61,5 @@ with_bytes memory address [] = memory
 with_bytes memory address (byte ∷ bytes) = with_bytes (insert memory address byte) (suc address) bytes
 
 -- a memory of these bytes from an address on, and nothing else
-unfoldable pub memory_of : ℕ → List ℕ → Memory
-memory_of address bytes = with_bytes empty address bytes
+unfoldable pub memory_of_bytes : ℕ → List ℕ → Memory
+memory_of_bytes address bytes = with_bytes empty address bytes

@@ -11,7 +11,7 @@ use Rattle.std.specs.Bool.{Decides}
 use Rattle.std.specs.Cmp.{nat_cmp_total}
 use Rattle.std.specs.FinMap.{get, insert, empty, get-insert, get-empty, same_map, nat_cmp-IsAntisymmetric}
 use Rattle.std.specs.Ordering.{nat_cmp, eq_by_cmp}
-use Rattle.guest_bus.specs.Memory.{Area, Memory, covers, is_readable, is_writable, all_from, byte_at, bytes_at, with_bytes, memory_of}
+use Rattle.guest_bus.specs.Memory.{Area, Memory, holds_address, is_readable, is_writable, all_from, byte_at, bytes_at, with_bytes, memory_of_bytes}
 
 -- an address ties with itself
 ties : (q k : ℕ) → q ≡ k → eq_by_cmp nat_cmp q k ≡ true
@@ -66,8 +66,8 @@ pub same_memory : (m n : Memory) → ((q : ℕ) → get m q ≡ get n q) → m �
 same_memory m n same = same_map nat_cmp_total nat_cmp-IsAntisymmetric m n same
 
 -- what a memory of bytes holds from its start on
-pub get-memory_of : (a : ℕ) (bs : List ℕ) (i q : ℕ) → q ≡ a + i → get (memory_of a bs) q ≡ slice_get bs i
-unfolding memory_of
+pub get-memory_of : (a : ℕ) (bs : List ℕ) (i q : ℕ) → q ≡ a + i → get (memory_of_bytes a bs) q ≡ slice_get bs i
+unfolding memory_of_bytes
 get-memory_of a bs i q e = ⊎_elim within above (cases_lt i (length bs))
   where
     within : i < length bs → get (with_bytes empty a bs) q ≡ slice_get bs i
@@ -77,16 +77,16 @@ get-memory_of a bs i q e = ⊎_elim within above (cases_lt i (length bs))
     above h = get-with_bytes_above empty a bs q (omega arith) ∙ get-empty nat_cmp q ∙ sym (slice_get_past bs i h)
 
 -- it holds nothing below its start
-pub get-memory_of_below : (a : ℕ) (bs : List ℕ) (q : ℕ) → q < a → get (memory_of a bs) q ≡ None
-unfolding memory_of
+pub get-memory_of_below : (a : ℕ) (bs : List ℕ) (q : ℕ) → q < a → get (memory_of_bytes a bs) q ≡ None
+unfolding memory_of_bytes
 get-memory_of_below a bs q h = get-with_bytes_below empty a bs q h ∙ get-empty nat_cmp q
 
 -- the byte at an address of it
-pub byte_at-memory_of : (a : ℕ) (bs : List ℕ) (i q : ℕ) → q ≡ a + i → byte_at (memory_of a bs) q ≡ get_or bs i 0
+pub byte_at-memory_of : (a : ℕ) (bs : List ℕ) (i q : ℕ) → q ≡ a + i → byte_at (memory_of_bytes a bs) q ≡ get_or bs i 0
 byte_at-memory_of a bs i q e = ap (λ found. unwrap_or found 0) (get-memory_of a bs i q e) ∙ unwrap_or-slice_get bs i 0
 
 -- a range of it is a part of its list
-pub bytes_at-memory_of : (a : ℕ) (bs : List ℕ) (i q n : ℕ) → q ≡ a + i → i + n ≤ length bs → bytes_at (memory_of a bs) q n ≡ take n (drop i bs)
+pub bytes_at-memory_of : (a : ℕ) (bs : List ℕ) (i q n : ℕ) → q ≡ a + i → i + n ≤ length bs → bytes_at (memory_of_bytes a bs) q n ≡ take n (drop i bs)
 bytes_at-memory_of a bs i q zero e h = refl
 bytes_at-memory_of a bs i q (suc n) e h =
     let first = byte_at-memory_of a bs i q e in
@@ -108,43 +108,43 @@ slice_get-set_same (x ∷ bs) zero b h = refl
 slice_get-set_same (x ∷ bs) (suc i) b h = slice_get-set_same bs i b (omega arith)
 
 -- to put in one byte is to set it in the list
-pub insert-memory_of : (a : ℕ) (bs : List ℕ) (i q b : ℕ) → q ≡ a + i → i < length bs → insert (memory_of a bs) q b ≡ memory_of a (set bs i b)
+pub insert-memory_of : (a : ℕ) (bs : List ℕ) (i q b : ℕ) → q ≡ a + i → i < length bs → insert (memory_of_bytes a bs) q b ≡ memory_of_bytes a (set bs i b)
 insert-memory_of a bs i q b e h = same_memory _ _ (λ p. ⊎_elim (below p) (from p) (cases_lt p a))
   where
-    below : (p : ℕ) → p < a → get (insert (memory_of a bs) q b) p ≡ get (memory_of a (set bs i b)) p
-    below p under = get-insert_other (memory_of a bs) q b p (omega arith) ∙ get-memory_of_below a bs p under ∙ sym (get-memory_of_below a (set bs i b) p under)
+    below : (p : ℕ) → p < a → get (insert (memory_of_bytes a bs) q b) p ≡ get (memory_of_bytes a (set bs i b)) p
+    below p under = get-insert_other (memory_of_bytes a bs) q b p (omega arith) ∙ get-memory_of_below a bs p under ∙ sym (get-memory_of_below a (set bs i b) p under)
 
-    other : (p : ℕ) → a ≤ p → p ≢ q → get (insert (memory_of a bs) q b) p ≡ get (memory_of a (set bs i b)) p
+    other : (p : ℕ) → a ≤ p → p ≢ q → get (insert (memory_of_bytes a bs) q b) p ≡ get (memory_of_bytes a (set bs i b)) p
     other p over ne =
         let ne_i : p - a ≢ i = omega arith in
-        get-insert_other (memory_of a bs) q b p ne
+        get-insert_other (memory_of_bytes a bs) q b p ne
         ∙ get-memory_of a bs (p - a) p (omega arith)
         ∙ sym (slice_get-set_other bs i (p - a) b ne_i)
         ∙ sym (get-memory_of a (set bs i b) (p - a) p (omega arith))
 
-    here : (p : ℕ) → p ≡ q → get (insert (memory_of a bs) q b) p ≡ get (memory_of a (set bs i b)) p
-    here p is = get-insert_same (memory_of a bs) q b p is ∙ sym (slice_get-set_same bs i b h) ∙ sym (get-memory_of a (set bs i b) i p (omega arith))
+    here : (p : ℕ) → p ≡ q → get (insert (memory_of_bytes a bs) q b) p ≡ get (memory_of_bytes a (set bs i b)) p
+    here p is = get-insert_same (memory_of_bytes a bs) q b p is ∙ sym (slice_get-set_same bs i b h) ∙ sym (get-memory_of a (set bs i b) i p (omega arith))
 
-    from : (p : ℕ) → a ≤ p → get (insert (memory_of a bs) q b) p ≡ get (memory_of a (set bs i b)) p
+    from : (p : ℕ) → a ≤ p → get (insert (memory_of_bytes a bs) q b) p ≡ get (memory_of_bytes a (set bs i b)) p
     from p over = ⊎_elim (here p) (other p over) (cases_eq p q)
 
 -- to put in bytes is to set them in the list, one after another
-pub with_bytes-sets : (a : ℕ) (new bs : List ℕ) (i q : ℕ) → q ≡ a + i → i + length new ≤ length bs → with_bytes (memory_of a bs) q new ≡ memory_of a (sets bs i new)
+pub with_bytes-sets : (a : ℕ) (new bs : List ℕ) (i q : ℕ) → q ≡ a + i → i + length new ≤ length bs → with_bytes (memory_of_bytes a bs) q new ≡ memory_of_bytes a (sets bs i new)
 with_bytes-sets a [] bs i q e h = refl
 with_bytes-sets a (b ∷ new) bs i q e h =
     let fits : suc i + length new ≤ length (set bs i b) = simp length-set (omega arith) in
     rw (insert-memory_of a bs i q b e (omega arith)) (with_bytes-sets a new (set bs i b) (suc i) (suc q) (omega arith) fits)
 
 -- that is to put them in place of a part of the list
-pub with_bytes-memory_of : (a : ℕ) (new bs : List ℕ) (i q : ℕ) → q ≡ a + i → i + length new ≤ length bs → with_bytes (memory_of a bs) q new ≡ memory_of a (take i bs ++ new ++ drop (i + length new) bs)
-with_bytes-memory_of a new bs i q e h = with_bytes-sets a new bs i q e h ∙ ap (memory_of a) (sets-eq new bs i h)
+pub with_bytes-memory_of : (a : ℕ) (new bs : List ℕ) (i q : ℕ) → q ≡ a + i → i + length new ≤ length bs → with_bytes (memory_of_bytes a bs) q new ≡ memory_of_bytes a (take i bs ++ new ++ drop (i + length new) bs)
+with_bytes-memory_of a new bs i q e h = with_bytes-sets a new bs i q e h ∙ ap (memory_of_bytes a) (sets-eq new bs i h)
 
 -- the same as what a write to a part of a slice leaves
-pub with_bytes-put_mid : (a : ℕ) (new bs : List ℕ) (i q n : ℕ) → q ≡ a + i → length new ≡ n → i + n ≤ length bs → with_bytes (memory_of a bs) q new ≡ memory_of a (put_mid i n bs new)
+pub with_bytes-put_mid : (a : ℕ) (new bs : List ℕ) (i q n : ℕ) → q ≡ a + i → length new ≡ n → i + n ≤ length bs → with_bytes (memory_of_bytes a bs) q new ≡ memory_of_bytes a (put_mid i n bs new)
 with_bytes-put_mid a new bs i q n e counted h =
     let fits : i + length new ≤ length bs = omega arith in
     let whole : (take i bs ++ new) ++ drop (i + length new) bs ≡ put_mid i n bs new = rw (counted, append_assoc, ← drop-drop n i bs) in
-    with_bytes-memory_of a new bs i q e fits ∙ ap (memory_of a) whole
+    with_bytes-memory_of a new bs i q e fits ∙ ap (memory_of_bytes a) whole
 
 -- a range has as many bytes as were asked for
 pub length-bytes_at : (m : Memory) (a n : ℕ) → length (bytes_at m a n) ≡ n
@@ -204,19 +204,19 @@ and_true true = refl
 and_true false = refl
 
 -- of one area a byte may be read where the area holds its address
-pub is_readable-one : (area : Area) (q : ℕ) → is_readable (area ∷ []) q ≡ covers q area
-is_readable-one area q = or_false (covers q area)
+pub is_readable-one : (area : Area) (q : ℕ) → is_readable (area ∷ []) q ≡ holds_address q area
+is_readable-one area q = or_false (holds_address q area)
 
 -- it may be written where it may be read, unless the area may only be read
 pub is_writable-one : (area : Area) (q : ℕ) → area.read_only ≡ false → is_writable (area ∷ []) q ≡ is_readable (area ∷ []) q
-is_writable-one area q writable = let both = and_true (covers q area) in rw (writable, both)
+is_writable-one area q writable = let both = and_true (holds_address q area) in rw (writable, both)
 
 -- the area holds the address
-covers-true : (area : Area) (q : ℕ) → area.start ≤ q → q < area.start + area.size → covers q area ≡ true
+covers-true : (area : Area) (q : ℕ) → area.start ≤ q → q < area.start + area.size → holds_address q area ≡ true
 covers-true area q over under = grind (arith, nat_tests)
 
 -- what it says that it holds it
-pub covers-within : (area : Area) (q : ℕ) → covers q area ≡ true → (area.start ≤ q) × (q < area.start + area.size)
+pub covers-within : (area : Area) (q : ℕ) → holds_address q area ≡ true → (area.start ≤ q) × (q < area.start + area.size)
 covers-within area q holds =
     let parts = and_parts (nat_le area.start q) (nat_lt q (area.start + area.size)) holds in
     (leb-true _ _ parts.0, ltb-true _ _ parts.1)
@@ -229,7 +229,7 @@ all_readable area address count after before =
 -- a range that may be read lies in it
 pub readable_within : (area : Area) (address count : ℕ) → 0 < count → all_from (is_readable (area ∷ [])) address count ≡ true → (area.start ≤ address) × (address + count ≤ area.start + area.size)
 readable_within area address count some allowed =
-    let one : (q : ℕ) → address ≤ q → q < address + count → covers q area ≡ true = λ q over under. sym (is_readable-one area q) ∙ all_from-each (is_readable (area ∷ [])) address count q allowed over under in
+    let one : (q : ℕ) → address ≤ q → q < address + count → holds_address q area ≡ true = λ q over under. sym (is_readable-one area q) ∙ all_from-each (is_readable (area ∷ [])) address count q allowed over under in
     let first = covers-within area address (one address (omega arith) (omega arith)) in
     let last = covers-within area (address + (count - 1)) (one (address + (count - 1)) (omega arith) (omega arith)) in
     (first.0, omega arith)

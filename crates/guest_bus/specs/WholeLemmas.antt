@@ -6,7 +6,7 @@ use Rattle.std.proofs.lemmas.Bool.{cases_lt, cases_eq}
 use Rattle.std.proofs.lemmas.Bool.Decides.{nat_tests}
 use Rattle.std.proofs.lemmas.Option.{slice_get-get_or, slice_get_past}
 use Rattle.std.specs.Ordering.{nat_cmp}
-use Rattle.guest_bus.specs.Memory.{Area, Memory, covers, is_readable, all_from, byte_at, bytes_at, with_bytes, memory_of}
+use Rattle.guest_bus.specs.Memory.{Area, Memory, holds_address, is_readable, all_from, byte_at, bytes_at, with_bytes, memory_of_bytes}
 use Rattle.guest_bus.specs.MemoryLemmas.{all_from-each, get-insert_other, get-insert_same, get-memory_of, get-memory_of_below, covers-within, get-with_bytes_above, get-with_bytes_below, get-with_bytes_within, is_readable-one, same_memory}
 use Rattle.guest_bus.specs.Whole.{HoldsByte, IsMemoryOf}
 
@@ -45,26 +45,26 @@ bytes_at-below memory address (suc count) holds zero = held_below (get memory ad
 bytes_at-below memory address (suc count) holds (suc i) = bytes_at-below memory (suc address) count (λ q over under. holds q (omega arith) (omega arith)) i
 
 -- an area that begins above the address, or ends at it or below, does not hold it
-outside : (area : Area) (q : ℕ) → covers q area ≡ false → (q < area.start) ⊎ (area.start + area.size ≤ q)
-outside area q not_held = ⊎_elim inl (λ from. ⊎_elim (λ under. absurd (inside from under)) inr (cases_lt q (area.start + area.size))) (cases_lt q area.start)
+not_covered : (area : Area) (q : ℕ) → holds_address q area ≡ false → (q < area.start) ⊎ (area.start + area.size ≤ q)
+not_covered area q not_held = ⊎_elim inl (λ from. ⊎_elim (λ under. absurd (inside from under)) inr (cases_lt q (area.start + area.size))) (cases_lt q area.start)
   where
     inside : area.start ≤ q → q < area.start + area.size → ⊥
-    inside from under = let is : covers q area ≡ true = grind (arith, nat_tests) in cc
+    inside from under = let is : holds_address q area ≡ true = grind (arith, nat_tests) in cc
 
 -- bytes in one area are its memory
-pub memory_of-IsMemoryOf : (area : Area) (bytes : List ℕ) → length bytes ≡ area.size → ((i : ℕ) → get_or bytes i 0 < 256) → IsMemoryOf (area ∷ []) (memory_of area.start bytes)
+pub memory_of-IsMemoryOf : (area : Area) (bytes : List ℕ) → length bytes ≡ area.size → ((i : ℕ) → get_or bytes i 0 < 256) → IsMemoryOf (area ∷ []) (memory_of_bytes area.start bytes)
 memory_of-IsMemoryOf area bytes sized small = record { held = held; nothing = nothing }
   where
-    held : (q : ℕ) → is_readable (area ∷ []) q ≡ true → HoldsByte (memory_of area.start bytes) q
+    held : (q : ℕ) → is_readable (area ∷ []) q ≡ true → HoldsByte (memory_of_bytes area.start bytes) q
     held q readable =
         let holds = covers-within area q (sym (is_readable-one area q) ∙ readable) in
         let found = get-memory_of area.start bytes (q - area.start) q (omega (arith, holds)) ∙ slice_get-get_or bytes (q - area.start) 0 (omega (arith, holds)) in
         rw found (small (q - area.start))
 
-    nothing : (q : ℕ) → is_readable (area ∷ []) q ≡ false → get (memory_of area.start bytes) q ≡ None
-    nothing q readable = ⊎_elim (get-memory_of_below area.start bytes q) above (outside area q (sym (is_readable-one area q) ∙ readable))
+    nothing : (q : ℕ) → is_readable (area ∷ []) q ≡ false → get (memory_of_bytes area.start bytes) q ≡ None
+    nothing q readable = ⊎_elim (get-memory_of_below area.start bytes q) above (not_covered area q (sym (is_readable-one area q) ∙ readable))
       where
-        above : area.start + area.size ≤ q → get (memory_of area.start bytes) q ≡ None
+        above : area.start + area.size ≤ q → get (memory_of_bytes area.start bytes) q ≡ None
         above past = get-memory_of area.start bytes (q - area.start) q (omega arith) ∙ slice_get_past bytes (q - area.start) (omega arith)
 
 -- no areas have no memory

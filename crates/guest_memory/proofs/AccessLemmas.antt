@@ -13,60 +13,60 @@ use Rattle.guest_bus.specs.declared.bus.BusFault.{BusFault}
 use Rattle.guest_bus.specs.declared.bus.BusFault.TheVariants.{Outside, Unaligned}
 use Rattle.guest_bus.specs.declared.bus.Size.{Size}
 use Rattle.guest_bus.specs.declared.bus.Size.TheVariants.{One, Two, Four, Eight}
-use Rattle.guest_memory.specs.Flat.{Accesses, Follow, IsAt, IsSpace, Stands, area_in, listed, memory_in}
-use Rattle.guest_memory.specs.Memories.{ArePlaced, IsPlaced, size_of}
+use Rattle.guest_memory.specs.Flat.{Accesses, Follow, StandsInArea, IsSpace, StandsInEntry, area_in, listed, memory_in}
+use Rattle.guest_memory.specs.Memories.{ArePlaced, IsPlaced, areas_size}
 use Rattle.guest_memory.specs.declared.entry.Entry.{Entry}
 use Rattle.guest_memory.specs.declared.entry.Place.{Place}
 use Rattle.guest_memory.proofs.AreaLemmas.{covers_at, listed_at, placed_at, readable_at, writable_at, writable_readable}
 use Rattle.guest_memory.proofs.FlatLemmas.{bytes_at-memory_in, ends_within, get-memory_in, memory_in-put}
 
 -- what follows from the area that has an address follows from its place
-pub by_entry : {P : Type 0} (entries : List Entry) (place : Place) (q n : ℕ) → IsAt q n place entries → ((entry : Entry) → slice_get entries place.area ≡ Some entry → Stands q n place entry → P) → P
+pub by_entry : {P : Type 0} (entries : List Entry) (place : Place) (q n : ℕ) → StandsInArea q n place entries → ((entry : Entry) → slice_get entries place.area ≡ Some entry → StandsInEntry q n place entry → P) → P
 by_entry {P} entries place q n stands follows = at (slice_get entries place.area) refl stands
   where
-    at : (found : Option Entry) → slice_get entries place.area ≡ found → IsSomeAnd found (Stands q n place) → P
+    at : (found : Option Entry) → slice_get entries place.area ≡ found → IsSomeAnd found (StandsInEntry q n place) → P
     at None is here = absurd here
     at (Some entry) is here = follows entry is here
 
 -- an address stands in the area of a number
-pub stands_there : (entries : List Entry) (k q : ℕ) (entry : Entry) (place : Place) → slice_get entries k ≡ Some entry → place.area ≡ k → Stands q 1 place entry → IsAt q 1 place entries
+pub stands_there : (entries : List Entry) (k q : ℕ) (entry : Entry) (place : Place) → slice_get entries k ≡ Some entry → place.area ≡ k → StandsInEntry q 1 place entry → StandsInArea q 1 place entries
 stands_there entries k q entry place is same stands = let e : slice_get entries place.area ≡ Some entry = ap (slice_get entries) same ∙ is in rw e stands
 
 -- an area's place is how many bytes the areas before it have
-pub follow_at : (place : ℕ) (entries : List Entry) (k : ℕ) (entry : Entry) → Follow place entries → slice_get entries k ≡ Some entry → entry.place ≡ place + size_of (take k (listed entries))
+pub follow_at : (place : ℕ) (entries : List Entry) (k : ℕ) (entry : Entry) → Follow place entries → slice_get entries k ≡ Some entry → entry.place ≡ place + areas_size (take k (listed entries))
 follow_at place [] k entry follow is = absurd cc
 follow_at place (x ∷ xs) zero entry follow is =
     let e : entry ≡ x = cc in
     let same : place ≡ place + 0 = omega arith in
     ap (λ (y : Entry). y.place) e ∙ follow.0 ∙ same
 follow_at place (x ∷ xs) (suc k) entry follow is =
-    let same : place + x.size + size_of (take k (listed xs)) ≡ place + (x.size + size_of (take k (listed xs))) = omega arith in
+    let same : place + x.size + areas_size (take k (listed xs)) ≡ place + (x.size + areas_size (take k (listed xs))) = omega arith in
     follow_at (place + x.size) xs k entry follow.1 is ∙ same
 
 -- the place of bytes in an area
-lies_at : (entries : List Entry) (place : Place) (entry : Entry) (q n : ℕ) → Follow 0 entries → slice_get entries place.area ≡ Some entry → Stands q n place entry → place.byte + entry.start ≡ size_of (take place.area (listed entries)) + q
+lies_at : (entries : List Entry) (place : Place) (entry : Entry) (q n : ℕ) → Follow 0 entries → slice_get entries place.area ≡ Some entry → StandsInEntry q n place entry → place.byte + entry.start ≡ areas_size (take place.area (listed entries)) + q
 lies_at entries place entry q n follow is here = let e = follow_at 0 entries place.area entry follow is in omega (arith, here.byte, e)
 
 -- so many bytes that stand in one area
-pub bytes_stand : (entries : List Entry) (bytes : List ℕ) (place : Place) (q n : ℕ) → IsSpace entries bytes → IsAt q n place entries → bytes_at (memory_in (listed entries) bytes) q n ≡ take n (drop place.byte bytes)
+pub bytes_stand : (entries : List Entry) (bytes : List ℕ) (place : Place) (q n : ℕ) → IsSpace entries bytes → StandsInArea q n place entries → bytes_at (memory_in (listed entries) bytes) q n ≡ take n (drop place.byte bytes)
 bytes_stand entries bytes place q n space stands = by_entry entries place q n stands (λ entry is here.
     bytes_at-memory_in (listed entries) place.area q n place.byte (area_in entry) bytes space.placed.apart (listed_at entries place.area entry is) space.whole here.from here.fits (lies_at entries place entry q n space.follow is here))
 
 -- they end within all bytes
-pub bytes_within : (entries : List Entry) (bytes : List ℕ) (place : Place) (q n : ℕ) → IsSpace entries bytes → IsAt q n place entries → place.byte + n ≤ length bytes
+pub bytes_within : (entries : List Entry) (bytes : List ℕ) (place : Place) (q n : ℕ) → IsSpace entries bytes → StandsInArea q n place entries → place.byte + n ≤ length bytes
 bytes_within entries bytes place q n space stands = by_entry entries place q n stands (λ entry is here.
     omega (arith, lies_at entries place entry q n space.follow is here, ends_within (listed entries) place.area (area_in entry) (listed_at entries place.area entry is), space.whole, here.fits))
 
 -- what is written there
-pub bytes_written : (entries : List Entry) (bytes new : List ℕ) (place : Place) (q n : ℕ) → IsSpace entries bytes → IsAt q n place entries → length new ≡ n
+pub bytes_written : (entries : List Entry) (bytes new : List ℕ) (place : Place) (q n : ℕ) → IsSpace entries bytes → StandsInArea q n place entries → length new ≡ n
     → memory_in (listed entries) (put_mid place.byte n bytes new) ≡ with_bytes (memory_in (listed entries) bytes) q new
 bytes_written entries bytes new place q n space stands counted = by_entry entries place q n stands (λ entry is here.
     memory_in-put (listed entries) place.area q n place.byte (area_in entry) bytes new space.placed.apart (listed_at entries place.area entry is) space.whole here.from here.fits (lies_at entries place entry q n space.follow is here) counted)
 
 -- the byte at an address
-pub byte_stands : (entries : List Entry) (bytes : List ℕ) (place : Place) (q byte : ℕ) → IsSpace entries bytes → IsAt q 1 place entries → slice_get bytes place.byte ≡ Some byte → Some byte ≡ get (memory_in (listed entries) bytes) q
+pub byte_stands : (entries : List Entry) (bytes : List ℕ) (place : Place) (q byte : ℕ) → IsSpace entries bytes → StandsInArea q 1 place entries → slice_get bytes place.byte ≡ Some byte → Some byte ≡ get (memory_in (listed entries) bytes) q
 byte_stands entries bytes place q byte space stands is_there = by_entry entries place q 1 stands (λ entry is here.
-    let at : size_of (take place.area (listed entries)) + (q - entry.start) ≡ place.byte = omega (arith, lies_at entries place entry q 1 space.follow is here, here.from) in
+    let at : areas_size (take place.area (listed entries)) + (q - entry.start) ≡ place.byte = omega (arith, lies_at entries place entry q 1 space.follow is here, here.from) in
     sym is_there ∙ ap (slice_get bytes) (sym at)
     ∙ sym (get-memory_in (listed entries) place.area q (area_in entry) bytes space.placed.apart (listed_at entries place.area entry is) space.whole here.from (omega (arith, here.fits))))
 
@@ -103,12 +103,12 @@ some_bytes Four = omega arith
 some_bytes Eight = omega arith
 
 -- an aligned access begins at its first byte, and nothing refuses it
-pub accesses_found : (entries : List Entry) (place : Place) (address : ℕ) (size : Size) → ArePlaced (listed entries) → IsAt address 1 place entries → address % byte_len (width_of size) ≡ 0
+pub accesses_found : (entries : List Entry) (place : Place) (address : ℕ) (size : Size) → ArePlaced (listed entries) → StandsInArea address 1 place entries → address % byte_len (width_of size) ≡ 0
     → Accesses (is_readable (listed entries)) entries place address (byte_len (width_of size))
 accesses_found entries place address size placed stands aligned = by_entry entries place address 1 stands (λ entry is here.
     let there = listed_at entries place.area entry is in
     let fits = aligned_fits (area_in entry) address size (placed_at (listed entries) place.area (area_in entry) placed.each there) aligned here.from here.fits in
-    let all : Stands address (byte_len (width_of size)) place entry = record { from = here.from; fits = fits; byte = here.byte; room = here.room; read_only = here.read_only } in
+    let all : StandsInEntry address (byte_len (width_of size)) place entry = record { from = here.from; fits = fits; byte = here.byte; room = here.room; read_only = here.read_only } in
     record {
       free = free_access (is_readable (listed entries)) address (byte_len (width_of size)) aligned (range_readable (listed entries) place.area address (byte_len (width_of size)) (area_in entry) there here.from fits);
       stands = rw is all;

@@ -14,8 +14,8 @@ use Rattle.xm_conf.specs.Rules.{addresses, area_stretch, most_memory, page, part
 use Rattle.xm_conf.specs.declared.item.Item.{Item}
 use Rattle.xm_conf.specs.declared.part.Area as configured
 use Rattle.xm_conf.specs.declared.raw.Region.{Region}
-use Rattle.guest_memory.specs.Loading.{area_of, areas_of}
-use Rattle.guest_memory.specs.Memories.{Apart, ArePlaced, IsPlaced, size_of, whole_size}
+use Rattle.guest_memory.specs.Loading.{area_of, memory_areas}
+use Rattle.guest_memory.specs.Memories.{AreasApart, ArePlaced, IsPlaced, areas_size, whole_size}
 
 -- pairs of all but the first
 pairs_tail : {X : Type 0} (R : X → X → Type 0) (x : X) (xs : List X) → AllPairs R (x ∷ xs) → AllPairs R xs
@@ -45,17 +45,17 @@ abbrev pub TellsApart : (Item × Region) → (Item × Region) → Type 0
 TellsApart a b = rules.Apart a.1 b.1
 
 -- an area that is apart from later stretches is apart from their areas
-apart_later : (p n : ℕ) (item : Item) (a : configured.Area) (areas : List configured.Area) → All (TellsApart (item, stretch a)) (each_from (area_stretch p) n areas) → All (Apart (area_of a)) (map area_of areas)
-apart_later p n item a [] all = All-nil (Apart (area_of a))
+apart_later : (p n : ℕ) (item : Item) (a : configured.Area) (areas : List configured.Area) → All (TellsApart (item, stretch a)) (each_from (area_stretch p) n areas) → All (AreasApart (area_of a)) (map area_of areas)
+apart_later p n item a [] all = All-nil (AreasApart (area_of a))
 apart_later p n item a (b ∷ areas) all =
-    All-cons (Apart (area_of a)) (area_of b) (map area_of areas) (all 0 (item, stretch b) (omega arith))
+    All-cons (AreasApart (area_of a)) (area_of b) (map area_of areas) (all 0 (item, stretch b) (omega arith))
     (apart_later p (n + 1) item a areas (λ k d below. all (suc k) d (omega (arith, below))))
 
 -- the areas of one partition are apart
-part_apart : (p n : ℕ) (item : Item) (areas : List configured.Area) → AllPairs TellsApart (each_from (area_stretch p) n areas) → AllPairs Apart (map area_of areas)
+part_apart : (p n : ℕ) (item : Item) (areas : List configured.Area) → AllPairs TellsApart (each_from (area_stretch p) n areas) → AllPairs AreasApart (map area_of areas)
 part_apart p n item [] pairs = λ i j d before below. absurd (omega (arith, below))
 part_apart p n item (a ∷ areas) pairs =
-    AllPairs-cons Apart (area_of a) (map area_of areas)
+    AllPairs-cons AreasApart (area_of a) (map area_of areas)
     (apart_later p (n + 1) item a areas (λ k d below. pairs 0 (suc k) d (omega arith) (omega (arith, below))))
     (part_apart p (n + 1) item areas (λ i j d before below. pairs (suc i) (suc j) d (omega (arith, before)) (omega (arith, below))))
 
@@ -78,11 +78,11 @@ areas_placed regions (area ∷ areas) each sized inside =
 
 -- and the areas of all partitions
 parts_placed : (regions : List Region) (n : ℕ) (item : Item) (parts : List Part) → All IsRegion regions → All (λ part. All (λ area. IsSized area.start area.size) part.areas) parts
-    → All (λ part. All (λ area. Any (LiesIn area) regions) part.areas) parts → AllPairs TellsApart (each_from part_stretches n parts) → All ArePlaced (map areas_of parts)
-unfolding areas_of part_stretches
+    → All (λ part. All (λ area. Any (LiesIn area) regions) part.areas) parts → AllPairs TellsApart (each_from part_stretches n parts) → All ArePlaced (map memory_areas parts)
+unfolding memory_areas part_stretches
 parts_placed regions n item [] each sized inside pairs = All-nil ArePlaced
 parts_placed regions n item (part ∷ parts) each sized inside pairs =
-    All-cons ArePlaced (map area_of part.areas) (map areas_of parts)
+    All-cons ArePlaced (map area_of part.areas) (map memory_areas parts)
     (record {
       each = areas_placed regions part.areas each (sized 0 part (omega arith)) (inside 0 part (omega arith));
       apart = part_apart n 0 item part.areas (pairs_front TellsApart (part_stretches n part) (each_from part_stretches (n + 1) parts) pairs);
@@ -91,24 +91,24 @@ parts_placed regions n item (part ∷ parts) each sized inside pairs =
     (pairs_behind TellsApart (part_stretches n part) (each_from part_stretches (n + 1) parts) pairs))
 
 -- the areas of a configuration that meets the rules
-pub fits_placed : (conf : Conf) (item : Item) → Fits (described conf) → All ArePlaced (map areas_of conf.parts)
+pub fits_placed : (conf : Conf) (item : Item) → Fits (described conf) → All ArePlaced (map memory_areas conf.parts)
 unfolding described stretches
 fits_placed conf item fits =
     parts_placed conf.regions 0 item conf.parts fits.regions_sized fits.areas_sized fits.areas_inside
     (pairs_behind TellsApart (whole_stretch (hypervisor conf.hv_size conf.regions)) (each_from part_stretches 0 conf.parts) fits.areas_apart)
 
 -- the bytes of areas, by the rules
-areas_sized : (areas : List configured.Area) → size_of (map area_of areas) ≡ sum_by (λ area. area.size) areas
+areas_sized : (areas : List configured.Area) → areas_size (map area_of areas) ≡ sum_by (λ area. area.size) areas
 areas_sized [] = refl
 areas_sized (area ∷ areas) = omega (arith, areas_sized areas, sum_by-cons (λ (a : configured.Area). a.size) area areas)
 
 -- the bytes of all partitions, by the rules
-parts_sized : (parts : List Part) → whole_size (map areas_of parts) ≡ sum_by part_size parts
-unfolding areas_of part_size
+parts_sized : (parts : List Part) → whole_size (map memory_areas parts) ≡ sum_by part_size parts
+unfolding memory_areas part_size
 parts_sized [] = refl
 parts_sized (part ∷ parts) = omega (arith, areas_sized part.areas, parts_sized parts, sum_by-cons part_size part parts)
 
 -- they are fewer than a place can tell
-pub fits_few : (conf : Conf) → Fits (described conf) → whole_size (map areas_of conf.parts) < 4294967296
+pub fits_few : (conf : Conf) → Fits (described conf) → whole_size (map memory_areas conf.parts) < 4294967296
 unfolding described most_memory
 fits_few conf fits = omega (arith, parts_sized conf.parts, fits.memory)

@@ -8,12 +8,12 @@ use Rattle.std.proofs.lemmas.Bool.{cases_lt}
 use Rattle.std.proofs.lemmas.List.{drop-drop, drop-take, length-take-le}
 use Rattle.std.proofs.lemmas.Option.{slice_get-get_or}
 use Rattle.std.proofs.lemmas.Slice.{drop-put_mid, take-put_mid_below}
-use Rattle.guest_bus.specs.Memory.{Area, Memory, covers, is_readable, bytes_at, memory_of, with_bytes}
+use Rattle.guest_bus.specs.Memory.{Area, Memory, holds_address, is_readable, bytes_at, memory_of_bytes, with_bytes}
 use Rattle.guest_bus.specs.MemoryLemmas.{bytes_at-memory_of, bytes_at-same, covers-within, get-memory_of, get-with_bytes_above, get-with_bytes_below, get-with_bytes_within, same_memory, with_bytes-put_mid}
 use Rattle.guest_bus.specs.Whole.{HoldsByte, IsMemoryOf}
 use Rattle.guest_bus.specs.WholeLemmas.{no_memory}
-use Rattle.guest_memory.specs.Flat.{AreBytes, memory_in}
-use Rattle.guest_memory.specs.Memories.{Apart, size_of}
+use Rattle.guest_memory.specs.Flat.{AllBytes, memory_in}
+use Rattle.guest_memory.specs.Memories.{AreasApart, areas_size}
 use Rattle.guest_memory.proofs.AreaLemmas.{apart_first, apart_tail, beside, covers_at, not_both}
 
 -- what stands in the front of a list
@@ -63,26 +63,26 @@ length-put_mid i n old new counted fits =
     omega (arith, length-append (take i old) (new ++ drop n (drop i old)), length-append new (drop n (drop i old)), length-take i old, length-drop n (drop i old), length-drop i old)
 
 -- the front of bytes is bytes
-pub bytes-take : (n : ℕ) (bytes : List ℕ) → AreBytes bytes → (i : ℕ) → get_or (take n bytes) i 0 < 256
+pub bytes-take : (n : ℕ) (bytes : List ℕ) → AllBytes bytes → (i : ℕ) → get_or (take n bytes) i 0 < 256
 bytes-take zero bytes small i = omega arith
 bytes-take (suc n) [] small i = omega arith
 bytes-take (suc n) (x ∷ xs) small zero = small 0
 bytes-take (suc n) (x ∷ xs) small (suc i) = bytes-take n xs (λ j. small (suc j)) i
 
 -- so is what stands behind it
-pub bytes-drop : (n : ℕ) (bytes : List ℕ) → AreBytes bytes → (i : ℕ) → get_or (drop n bytes) i 0 < 256
+pub bytes-drop : (n : ℕ) (bytes : List ℕ) → AllBytes bytes → (i : ℕ) → get_or (drop n bytes) i 0 < 256
 bytes-drop zero bytes small i = small i
 bytes-drop (suc n) [] small i = omega arith
 bytes-drop (suc n) (x ∷ xs) small i = bytes-drop n xs (λ j. small (suc j)) i
 
 -- bytes behind bytes
-bytes-append : (xs ys : List ℕ) → AreBytes xs → AreBytes ys → (i : ℕ) → get_or (xs ++ ys) i 0 < 256
+bytes-append : (xs ys : List ℕ) → AllBytes xs → AllBytes ys → (i : ℕ) → get_or (xs ++ ys) i 0 < 256
 bytes-append [] ys few small i = small i
 bytes-append (x ∷ xs) ys few small zero = few 0
 bytes-append (x ∷ xs) ys few small (suc i) = bytes-append xs ys (λ j. few (suc j)) small i
 
 -- bytes in which bytes are written
-pub bytes-put_mid : (i n : ℕ) (bytes new : List ℕ) → AreBytes bytes → AreBytes new → AreBytes (put_mid i n bytes new)
+pub bytes-put_mid : (i n : ℕ) (bytes new : List ℕ) → AllBytes bytes → AllBytes new → AllBytes (put_mid i n bytes new)
 bytes-put_mid i n bytes new small few =
     bytes-append (take i bytes) (new ++ drop n (drop i bytes)) (bytes-take i bytes small) (bytes-append new (drop n (drop i bytes)) few (bytes-drop n (drop i bytes) (bytes-drop i bytes small)))
 
@@ -93,7 +93,7 @@ bytes-zeros (suc n) zero = omega arith
 bytes-zeros (suc n) (suc i) = bytes-zeros n i
 
 -- an area ends within all bytes
-pub ends_within : (areas : List Area) (k : ℕ) (area : Area) → slice_get areas k ≡ Some area → size_of (take k areas) + area.size ≤ size_of areas
+pub ends_within : (areas : List Area) (k : ℕ) (area : Area) → slice_get areas k ≡ Some area → areas_size (take k areas) + area.size ≤ areas_size areas
 ends_within [] k area is = absurd cc
 ends_within (x ∷ xs) zero area is = let e : x ≡ area = cc in let same : x.size ≡ area.size = ap (λ (a : Area). a.size) e in omega arith
 ends_within (x ∷ xs) (suc k) area is = let later = ends_within xs k area is in omega arith
@@ -104,16 +104,16 @@ get-beside m start n bytes q counted (inl below) = get-with_bytes_below m start 
 get-beside m start n bytes q counted (inr above) = get-with_bytes_above m start bytes q (omega (arith, counted))
 
 -- as many bytes as the first area has
-front : (x : Area) (xs : List Area) (bytes : List ℕ) → length bytes ≡ x.size + size_of xs → length (take x.size bytes) ≡ x.size
+front : (x : Area) (xs : List Area) (bytes : List ℕ) → length bytes ≡ x.size + areas_size xs → length (take x.size bytes) ≡ x.size
 front x xs bytes sized = length-take-le x.size bytes (omega (arith, sized))
 
 -- and as many as the others have
-behind : (x : Area) (xs : List Area) (bytes : List ℕ) → length bytes ≡ x.size + size_of xs → length (drop x.size bytes) ≡ size_of xs
+behind : (x : Area) (xs : List Area) (bytes : List ℕ) → length bytes ≡ x.size + areas_size xs → length (drop x.size bytes) ≡ areas_size xs
 behind x xs bytes sized = omega (arith, length-drop x.size bytes, sized)
 
 -- what stands at an address of an area
-pub get-memory_in : (areas : List Area) (k q : ℕ) (area : Area) (bytes : List ℕ) → AllPairs Apart areas → slice_get areas k ≡ Some area → length bytes ≡ size_of areas → area.start ≤ q → q < area.start + area.size
-    → get (memory_in areas bytes) q ≡ slice_get bytes (size_of (take k areas) + (q - area.start))
+pub get-memory_in : (areas : List Area) (k q : ℕ) (area : Area) (bytes : List ℕ) → AllPairs AreasApart areas → slice_get areas k ≡ Some area → length bytes ≡ areas_size areas → area.start ≤ q → q < area.start + area.size
+    → get (memory_in areas bytes) q ≡ slice_get bytes (areas_size (take k areas) + (q - area.start))
 get-memory_in [] k q area bytes apart is sized from under = absurd cc
 get-memory_in (x ∷ xs) zero q area bytes apart is sized from under =
     let e : x ≡ area = cc in
@@ -125,53 +125,53 @@ get-memory_in (x ∷ xs) zero q area bytes apart is sized from under =
         get-with_bytes_within (memory_in xs (drop x.size bytes)) x.start (take x.size bytes) (q - x.start) q (omega arith) (omega (arith, front x xs bytes sized))
         ∙ slice_get-take x.size (q - x.start) bytes (omega arith) ∙ ap (slice_get bytes) same
 get-memory_in (x ∷ xs) (suc k) q area bytes apart is sized from under =
-    let same : x.size + (size_of (take k xs) + (q - area.start)) ≡ x.size + size_of (take k xs) + (q - area.start) = omega arith in
+    let same : x.size + (areas_size (take k xs) + (q - area.start)) ≡ x.size + areas_size (take k xs) + (q - area.start) = omega arith in
     get-beside (memory_in xs (drop x.size bytes)) x.start x.size (take x.size bytes) q (front x xs bytes sized) (not_both x area q (apart_first x xs k area apart is) (covers_at area q from under))
     ∙ get-memory_in xs k q area (drop x.size bytes) (apart_tail x xs apart) is (behind x xs bytes sized) from under
-    ∙ slice_get-drop x.size (size_of (take k xs) + (q - area.start)) bytes ∙ ap (slice_get bytes) same
+    ∙ slice_get-drop x.size (areas_size (take k xs) + (q - area.start)) bytes ∙ ap (slice_get bytes) same
 
 -- nothing stands where no area has the address
-pub get-memory_in_none : (areas : List Area) (bytes : List ℕ) (q : ℕ) → length bytes ≡ size_of areas → is_readable areas q ≡ false → get (memory_in areas bytes) q ≡ None
+pub get-memory_in_none : (areas : List Area) (bytes : List ℕ) (q : ℕ) → length bytes ≡ areas_size areas → is_readable areas q ≡ false → get (memory_in areas bytes) q ≡ None
 get-memory_in_none [] bytes q sized none = get-empty nat_cmp q
-get-memory_in_none (x ∷ xs) bytes q sized none = at (covers q x) refl (get-memory_in_none xs (drop x.size bytes) q (behind x xs bytes sized)) none
+get-memory_in_none (x ∷ xs) bytes q sized none = at (holds_address q x) refl (get-memory_in_none xs (drop x.size bytes) q (behind x xs bytes sized)) none
   where
-    at : (b : Bool) → covers q x ≡ b → (is_readable xs q ≡ false → get (memory_in xs (drop x.size bytes)) q ≡ None) → (b || is_readable xs q) ≡ false → get (memory_in (x ∷ xs) bytes) q ≡ None
+    at : (b : Bool) → holds_address q x ≡ b → (is_readable xs q ≡ false → get (memory_in xs (drop x.size bytes)) q ≡ None) → (b || is_readable xs q) ≡ false → get (memory_in (x ∷ xs) bytes) q ≡ None
     at true has later e = absurd cc
     at false has later e = get-beside (memory_in xs (drop x.size bytes)) x.start x.size (take x.size bytes) q (front x xs bytes sized) (beside x q has) ∙ later e
 
 -- so many bytes that stand in one area
-pub bytes_at-memory_in : (areas : List Area) (k q n byte : ℕ) (area : Area) (bytes : List ℕ) → AllPairs Apart areas → slice_get areas k ≡ Some area → length bytes ≡ size_of areas → area.start ≤ q → q + n ≤ area.start + area.size
-    → byte + area.start ≡ size_of (take k areas) + q → bytes_at (memory_in areas bytes) q n ≡ take n (drop byte bytes)
+pub bytes_at-memory_in : (areas : List Area) (k q n byte : ℕ) (area : Area) (bytes : List ℕ) → AllPairs AreasApart areas → slice_get areas k ≡ Some area → length bytes ≡ areas_size areas → area.start ≤ q → q + n ≤ area.start + area.size
+    → byte + area.start ≡ areas_size (take k areas) + q → bytes_at (memory_in areas bytes) q n ≡ take n (drop byte bytes)
 bytes_at-memory_in areas k q n byte area bytes apart is sized from fits lies =
     let ends = ends_within areas k area is in
-    let place : size_of (take k areas) + (q - area.start) ≡ byte = omega arith in
-    bytes_at-same (memory_in areas bytes) (memory_of area.start (drop (size_of (take k areas)) bytes)) q n (λ p over under.
-    get-memory_in areas k p area bytes apart is sized (omega arith) (omega arith) ∙ sym (slice_get-drop (size_of (take k areas)) (p - area.start) bytes)
-    ∙ sym (get-memory_of area.start (drop (size_of (take k areas)) bytes) (p - area.start) p (omega arith)))
-    ∙ bytes_at-memory_of area.start (drop (size_of (take k areas)) bytes) (q - area.start) q n (omega arith) (omega (arith, length-drop (size_of (take k areas)) bytes, ends, sized))
-    ∙ ap (take n) (drop-drop (q - area.start) (size_of (take k areas)) bytes ∙ ap (λ (i : ℕ). drop i bytes) place)
+    let place : areas_size (take k areas) + (q - area.start) ≡ byte = omega arith in
+    bytes_at-same (memory_in areas bytes) (memory_of_bytes area.start (drop (areas_size (take k areas)) bytes)) q n (λ p over under.
+    get-memory_in areas k p area bytes apart is sized (omega arith) (omega arith) ∙ sym (slice_get-drop (areas_size (take k areas)) (p - area.start) bytes)
+    ∙ sym (get-memory_of area.start (drop (areas_size (take k areas)) bytes) (p - area.start) p (omega arith)))
+    ∙ bytes_at-memory_of area.start (drop (areas_size (take k areas)) bytes) (q - area.start) q n (omega arith) (omega (arith, length-drop (areas_size (take k areas)) bytes, ends, sized))
+    ∙ ap (take n) (drop-drop (q - area.start) (areas_size (take k areas)) bytes ∙ ap (λ (i : ℕ). drop i bytes) place)
 
 -- the memory is that of the areas
-pub whole_in : (areas : List Area) (bytes : List ℕ) → length bytes ≡ size_of areas → AreBytes bytes → IsMemoryOf areas (memory_in areas bytes)
+pub whole_in : (areas : List Area) (bytes : List ℕ) → length bytes ≡ areas_size areas → AllBytes bytes → IsMemoryOf areas (memory_in areas bytes)
 whole_in [] bytes sized small = no_memory
 whole_in (x ∷ xs) bytes sized small = record {
   held = held (whole_in xs (drop x.size bytes) (behind x xs bytes sized) (bytes-drop x.size bytes small));
   nothing = λ q. get-memory_in_none (x ∷ xs) bytes q sized;
 }
   where
-    here : (q : ℕ) → covers q x ≡ true → HoldsByte (memory_in (x ∷ xs) bytes) q
+    here : (q : ℕ) → holds_address q x ≡ true → HoldsByte (memory_in (x ∷ xs) bytes) q
     here q has =
         let is = covers-within x q has in
         let found = get-with_bytes_within (memory_in xs (drop x.size bytes)) x.start (take x.size bytes) (q - x.start) q (omega (arith, is)) (omega (arith, is, front x xs bytes sized))
         ∙ slice_get-get_or (take x.size bytes) (q - x.start) 0 (omega (arith, is, front x xs bytes sized)) in
         rw found (bytes-take x.size bytes small (q - x.start))
 
-    at : IsMemoryOf xs (memory_in xs (drop x.size bytes)) → (q : ℕ) (b : Bool) → covers q x ≡ b → (b || is_readable xs q) ≡ true → HoldsByte (memory_in (x ∷ xs) bytes) q
+    at : IsMemoryOf xs (memory_in xs (drop x.size bytes)) → (q : ℕ) (b : Bool) → holds_address q x ≡ b → (b || is_readable xs q) ≡ true → HoldsByte (memory_in (x ∷ xs) bytes) q
     at later q true has e = here q has
     at later q false has e = rw (get-beside (memory_in xs (drop x.size bytes)) x.start x.size (take x.size bytes) q (front x xs bytes sized) (beside x q has)) (later.held q e)
 
     held : IsMemoryOf xs (memory_in xs (drop x.size bytes)) → (q : ℕ) → is_readable (x ∷ xs) q ≡ true → HoldsByte (memory_in (x ∷ xs) bytes) q
-    held later q readable = at later q (covers q x) refl readable
+    held later q readable = at later q (holds_address q x) refl readable
 
 -- what stands at an address after a write depends on what stood there alone
 with_bytes-agree : (m n : Memory) (a : ℕ) (bs : List ℕ) (q : ℕ) → get m q ≡ get n q → get (with_bytes m a bs) q ≡ get (with_bytes n a bs) q
@@ -204,7 +204,7 @@ with_bytes-part m a old new i q n lies counted fits = same_memory _ _ (λ p. ⊎
         get-with_bytes_within m a (put_mid i n old new) (p - a) p (omega arith) (omega (arith, sized))
         ∙ sym (get-memory_of a (put_mid i n old new) (p - a) p (omega arith))
         ∙ ap (λ (k : Memory). get k p) (sym (with_bytes-put_mid a new old i q n lies counted fits))
-        ∙ with_bytes-agree (memory_of a old) (with_bytes m a old) q new p (get-memory_of a old (p - a) p (omega arith) ∙ sym (get-with_bytes_within m a old (p - a) p (omega arith) (omega arith)))
+        ∙ with_bytes-agree (memory_of_bytes a old) (with_bytes m a old) q new p (get-memory_of a old (p - a) p (omega arith) ∙ sym (get-with_bytes_within m a old (p - a) p (omega arith) (omega arith)))
 
 -- writes to ranges that are apart may come in either order
 with_bytes-commute : (m : Memory) (a : ℕ) (xs : List ℕ) (b : ℕ) (ys : List ℕ) → ((a + length xs ≤ b) ⊎ (b + length ys ≤ a)) → with_bytes (with_bytes m a xs) b ys ≡ with_bytes (with_bytes m b ys) a xs
@@ -227,8 +227,8 @@ with_bytes-commute m a xs b ys apart = same_memory _ _ (λ p. ⊎_elim (below p)
         ∙ sym (beside_it p from h apart)
 
 -- a write of bytes to a part of one area
-pub memory_in-put : (areas : List Area) (k q n byte : ℕ) (area : Area) (bytes new : List ℕ) → AllPairs Apart areas → slice_get areas k ≡ Some area → length bytes ≡ size_of areas → area.start ≤ q → q + n ≤ area.start + area.size
-    → byte + area.start ≡ size_of (take k areas) + q → length new ≡ n → memory_in areas (put_mid byte n bytes new) ≡ with_bytes (memory_in areas bytes) q new
+pub memory_in-put : (areas : List Area) (k q n byte : ℕ) (area : Area) (bytes new : List ℕ) → AllPairs AreasApart areas → slice_get areas k ≡ Some area → length bytes ≡ areas_size areas → area.start ≤ q → q + n ≤ area.start + area.size
+    → byte + area.start ≡ areas_size (take k areas) + q → length new ≡ n → memory_in areas (put_mid byte n bytes new) ≡ with_bytes (memory_in areas bytes) q new
 memory_in-put [] k q n byte area bytes new apart is sized from fits lies counted = absurd cc
 memory_in-put (x ∷ xs) zero q n byte area bytes new apart is sized from fits lies counted =
     let e : area ≡ x = cc in
@@ -236,7 +236,7 @@ memory_in-put (x ∷ xs) zero q n byte area bytes new apart is sized from fits l
   where
     first : x.start ≤ q → q + n ≤ x.start + x.size → byte + x.start ≡ 0 + q → memory_in (x ∷ xs) (put_mid byte n bytes new) ≡ with_bytes (memory_in (x ∷ xs) bytes) q new
     first over ends at =
-        let long : length bytes ≡ x.size + size_of xs = sized in
+        let long : length bytes ≡ x.size + areas_size xs = sized in
         let rest : drop x.size (put_mid byte n bytes new) ≡ drop x.size bytes = drop-put_mid byte n bytes new x.size (omega arith) (omega (arith, long)) counted in
         let part : take x.size (put_mid byte n bytes new) ≡ put_mid byte n (take x.size bytes) new = take-put_in x.size byte n bytes new counted (omega arith) (omega (arith, long)) in
         ap (λ (r : List ℕ). with_bytes (memory_in xs r) x.start (take x.size (put_mid byte n bytes new))) rest
@@ -244,8 +244,8 @@ memory_in-put (x ∷ xs) zero q n byte area bytes new apart is sized from fits l
         ∙ with_bytes-part (memory_in xs (drop x.size bytes)) x.start (take x.size bytes) new byte q n (omega arith) counted (omega (arith, front x xs bytes sized))
 memory_in-put (x ∷ xs) (suc k) q n byte area bytes new apart is sized from fits lies counted =
     let ends = ends_within xs k area is in
-    let long : length bytes ≡ x.size + size_of xs = sized in
-    let at : byte + area.start ≡ x.size + size_of (take k xs) + q = lies in
+    let long : length bytes ≡ x.size + areas_size xs = sized in
+    let at : byte + area.start ≡ x.size + areas_size (take k xs) + q = lies in
     let on : byte ≡ x.size + (byte - x.size) = omega (arith, at) in
     let rest : drop x.size (put_mid byte n bytes new) ≡ put_mid (byte - x.size) n (drop x.size bytes) new =
     ap (λ (i : ℕ). drop x.size (put_mid i n bytes new)) on ∙ drop-put_behind x.size (byte - x.size) n bytes new (omega (arith, long)) in
@@ -256,6 +256,6 @@ memory_in-put (x ∷ xs) (suc k) q n byte area bytes new apart is sized from fit
     (memory_in-put xs k q n (byte - x.size) area (drop x.size bytes) new (apart_tail x xs apart) is (behind x xs bytes sized) from fits (omega (arith, at)) counted)
     ∙ with_bytes-commute (memory_in xs (drop x.size bytes)) q new x.start (take x.size bytes) (between (apart_first x xs k area apart is))
   where
-    between : Apart x area → ((q + length new ≤ x.start) ⊎ (x.start + length (take x.size bytes) ≤ q))
+    between : AreasApart x area → ((q + length new ≤ x.start) ⊎ (x.start + length (take x.size bytes) ≤ q))
     between (inl before) = inr (omega (arith, front x xs bytes sized))
     between (inr after) = inl (omega (arith, counted))

@@ -10,9 +10,9 @@ use Rattle.guest_bus.specs.AccessLemmas.{length-bytes_high_first}
 use Rattle.guest_bus.specs.Memory.{is_readable, is_writable}
 use Rattle.guest_bus.specs.declared.bus.Size.{Size}
 use Rattle.guest_bus.specs.declared.bus.Size.TheVariants.{Four}
-use Rattle.guest_memory.specs.Flat.{Accesses, IsAt, IsPartOf, SameAround, Stands, Table, area_in, areas_in, listed, memory_in, memory_of_part, part_in}
-use Rattle.guest_memory.specs.Memories.{ArePlaced, IsPlaced, size_of}
-use Rattle.guest_memory.specs.Near.{AreNear, AreWithin, FitsIn, IsHere, IsNear, IsStored, area_there, near_of, spot_of}
+use Rattle.guest_memory.specs.Flat.{Accesses, StandsInArea, IsPartOf, SameAround, StandsInEntry, Table, area_in, areas_of_tables, listed, memory_in, memory_of_part, bytes_of_part}
+use Rattle.guest_memory.specs.Memories.{ArePlaced, IsPlaced, areas_size}
+use Rattle.guest_memory.specs.Near.{AreNear, AreWithin, FitsIn, IsSpotOf, IsNear, IsStored, area_there, near_of, spot_of}
 use Rattle.guest_memory.specs.declared.entry.Entry.{Entry}
 use Rattle.guest_memory.specs.declared.entry.Place.{Place}
 use Rattle.guest_memory.specs.declared.near.Found.{Found}
@@ -24,14 +24,14 @@ use Rattle.guest_memory.proofs.FlatLemmas.{drop-put_behind, ends_within, take-pu
 use Rattle.guest_memory.proofs.MemoriesLemmas.{part_of_part}
 
 -- how many bytes a partition has among all
-part_sized : (table : Table) (whole : List ℕ) → IsPartOf table whole → table.size ≡ size_of (listed table.entries)
+part_sized : (table : Table) (whole : List ℕ) → IsPartOf table whole → table.size ≡ areas_size (listed table.entries)
 part_sized table whole part = omega (arith, length-take-le table.size (drop table.place whole) (omega (arith, length-drop table.place whole, part.within)), part.space.whole)
 
 -- an area that is looked at first lies among all bytes
 spot_within : (table : Table) (whole : List ℕ) (k : ℕ) → IsPartOf table whole → length whole < 4294967296 → FitsIn (spot_of table.place (slice_get table.entries k)) whole
 spot_within table whole k part few = of (slice_get table.entries k) refl
   where
-    sized : table.size ≡ size_of (listed table.entries)
+    sized : table.size ≡ areas_size (listed table.entries)
     sized = part_sized table whole part
 
     of : (found : Option Entry) → slice_get table.entries k ≡ found → FitsIn (spot_of table.place found) whole
@@ -52,7 +52,7 @@ near_within table near whole is part few =
     subst (λ (n : Near). AreWithin n whole) (sym is) (record { first = spot_within table whole 0 part few; second = spot_within table whole 1 part few })
 
 -- an aligned access that begins in an area that is looked at first ends among all bytes
-spot_room : (spot : Spot) (whole : List ℕ) (found : Found) (address : ℕ) (size : Size) → FitsIn spot whole → IsHere address found spot → address % byte_len (width_of size) ≡ 0 → found.byte + byte_len (width_of size) ≤ length whole
+spot_room : (spot : Spot) (whole : List ℕ) (found : Found) (address : ℕ) (size : Size) → FitsIn spot whole → IsSpotOf address found spot → address % byte_len (width_of size) ≡ 0 → found.byte + byte_len (width_of size) ≤ length whole
 spot_room spot whole found address size fits here aligned =
     let ends = aligned_fits (area_there spot) address size fits.placed aligned here.from (omega (arith, here.under)) in
     omega (arith, ends, here.byte, fits.within)
@@ -66,18 +66,18 @@ near_room near whole found address size within (inr here) aligned = spot_room ne
 pub record Inside (table : Table) (address : ℕ) (found : Found) : Type 0 where
   place : Place
   byte : found.byte ≡ table.place + place.byte
-  at : IsAt address 1 place table.entries
+  at : StandsInArea address 1 place table.entries
   only : place.read_only ≡ found.read_only
 
 -- in an area that is looked at first
-spot_inside : (table : Table) (address : ℕ) (found : Found) (k : ℕ) → IsHere address found (spot_of table.place (slice_get table.entries k)) → Inside table address found
+spot_inside : (table : Table) (address : ℕ) (found : Found) (k : ℕ) → IsSpotOf address found (spot_of table.place (slice_get table.entries k)) → Inside table address found
 spot_inside table address found k here = of (slice_get table.entries k) refl here
   where
-    of : (entry : Option Entry) → slice_get table.entries k ≡ entry → IsHere address found (spot_of table.place entry) → Inside table address found
+    of : (entry : Option Entry) → slice_get table.entries k ≡ entry → IsSpotOf address found (spot_of table.place entry) → Inside table address found
     of None is in_none = absurd (omega (arith, in_none.from, in_none.under))
     of (Some entry) is in_it =
         let place : Place = record { area = k; byte = entry.place + (address - entry.start); room = entry.start + entry.size - address; read_only = entry.read_only } in
-        let stands : Stands address 1 place entry = record { from = in_it.from; fits = omega (arith, in_it.under); byte = omega (arith, in_it.from); room = omega (arith, in_it.under); read_only = refl } in
+        let stands : StandsInEntry address 1 place entry = record { from = in_it.from; fits = omega (arith, in_it.under); byte = omega (arith, in_it.from); room = omega (arith, in_it.under); read_only = refl } in
         record { place = place; byte = omega (arith, in_it.byte, in_it.from); at = rw is stands; only = sym in_it.only }
 
 -- in one of the two
@@ -89,21 +89,21 @@ near_inside table near address found is here = at (subst (λ (n : Near). IsNear 
     at (inr second) = spot_inside table address found 1 second
 
 -- bytes of the partition are bytes among all
-pub part_taken : (table : Table) (whole : List ℕ) (at byte n : ℕ) → byte ≡ table.place + at → at + n ≤ table.size → take n (drop at (part_in table whole)) ≡ take n (drop byte whole)
+pub part_taken : (table : Table) (whole : List ℕ) (at byte n : ℕ) → byte ≡ table.place + at → at + n ≤ table.size → take n (drop at (bytes_of_part table whole)) ≡ take n (drop byte whole)
 part_taken table whole at byte n is within =
     part_of_part table.size at n (drop table.place whole) within ∙ ap (take n) (drop-drop at table.place whole) ∙ ap (λ (k : ℕ). take n (drop k whole)) (sym is)
 
 -- an access of so many bytes ends in the partition
-pub access_within : (table : Table) (whole : List ℕ) (place : Place) (address count : ℕ) → IsPartOf table whole → IsAt address count place table.entries → place.byte + count ≤ table.size
+pub access_within : (table : Table) (whole : List ℕ) (place : Place) (address count : ℕ) → IsPartOf table whole → StandsInArea address count place table.entries → place.byte + count ≤ table.size
 access_within table whole place address count part stands =
-    omega (arith, bytes_within table.entries (part_in table whole) place address count part.space stands, length-take-le table.size (drop table.place whole) (omega (arith, length-drop table.place whole, part.within)))
+    omega (arith, bytes_within table.entries (bytes_of_part table whole) place address count part.space stands, length-take-le table.size (drop table.place whole) (omega (arith, length-drop table.place whole, part.within)))
 
 -- an area of the partition has the address
 pub entry_inside : (table : Table) (k address byte : ℕ) (entry : Entry) → slice_get table.entries k ≡ Some entry → entry.start ≤ address → address < entry.start + entry.size
     → byte ≡ table.place + (entry.place + (address - entry.start)) → Inside table address (record { byte = byte; read_only = entry.read_only })
 entry_inside table k address byte entry is from under here =
     let place : Place = record { area = k; byte = entry.place + (address - entry.start); room = entry.start + entry.size - address; read_only = entry.read_only } in
-    let stands : Stands address 1 place entry = record { from = from; fits = omega (arith, under); byte = omega (arith, from); room = omega (arith, under); read_only = refl } in
+    let stands : StandsInEntry address 1 place entry = record { from = from; fits = omega (arith, under); byte = omega (arith, from); room = omega (arith, under); read_only = refl } in
     record { place = place; byte = here; at = rw is stands; only = refl }
 
 -- the word at an address
@@ -111,7 +111,7 @@ pub inside_fetched : (table : Table) (whole : List ℕ) (found : Found) (address
     → word ≡ from_be_bytes w32 (take 4 (drop found.byte whole)) → Ok word ≡ fetched (listed table.entries) (memory_of_part table whole) address
 inside_fetched table whole found address word part inside aligned value =
     let access = accesses_found table.entries inside.place address Four part.space.placed inside.at aligned in
-    fetched_in table.entries (part_in table whole) inside.place address word part.space access
+    fetched_in table.entries (bytes_of_part table whole) inside.place address word part.space access
     (value ∙ ap (from_be_bytes w32) (sym (part_taken table whole inside.place.byte found.byte 4 inside.byte (access_within table whole inside.place address 4 part access.stands))))
 
 -- the word that a fetch answers
@@ -126,11 +126,11 @@ pub near_loaded : (table : Table) (near : Near) (whole : List ℕ) (found : Foun
 near_loaded table near whole found address value size is part here aligned as_it_is =
     let inside = near_inside table near address found is here in
     let access = accesses_found table.entries inside.place address size part.space.placed inside.at aligned in
-    loaded_in table.entries (part_in table whole) inside.place address value size part.space access
+    loaded_in table.entries (bytes_of_part table whole) inside.place address value size part.space access
     (as_it_is ∙ ap (from_be_bytes (width_of size)) (sym (part_taken table whole inside.place.byte found.byte (byte_len (width_of size)) inside.byte (access_within table whole inside.place address (byte_len (width_of size)) part access.stands))))
 
 -- a write among the bytes of a partition is one in its part
-pub part_put : (table : Table) (whole new : List ℕ) (at byte n : ℕ) → IsPartOf table whole → length new ≡ n → byte ≡ table.place + at → at + n ≤ table.size → part_in table (put_mid byte n whole new) ≡ put_mid at n (part_in table whole) new
+pub part_put : (table : Table) (whole new : List ℕ) (at byte n : ℕ) → IsPartOf table whole → length new ≡ n → byte ≡ table.place + at → at + n ≤ table.size → bytes_of_part table (put_mid byte n whole new) ≡ put_mid at n (bytes_of_part table whole) new
 part_put table whole new at byte n part counted is within =
     ap (λ (k : ℕ). take table.size (drop table.place (put_mid k n whole new))) is
     ∙ ap (take table.size) (drop-put_behind table.place at n whole new (omega (arith, part.within)))
@@ -159,11 +159,11 @@ near_stored table near whole new found address value size is part here aligned f
     let within = access_within table whole inside.place address n part access.stands in
     record {
       free = access.free;
-      memory = value_written table.entries (part_in table whole) (part_in table new) inside.place address value size part.space access
-          (ap (part_in table) put ∙ part_put table whole bytes inside.place.byte found.byte n part counted inside.byte within);
+      memory = value_written table.entries (bytes_of_part table whole) (bytes_of_part table new) inside.place address value size part.space access
+          (ap (bytes_of_part table) put ∙ part_put table whole bytes inside.place.byte found.byte n part counted inside.byte within);
       others = put
           ∙ around_put table.place table.size found.byte n whole bytes (omega (arith, inside.byte)) (omega (arith, inside.byte, within)) part.within counted
-          ∙ ap (λ (l : List ℕ). put_mid table.place table.size whole (part_in table l)) (sym put);
+          ∙ ap (λ (l : List ℕ). put_mid table.place table.size whole (bytes_of_part table l)) (sym put);
     }
 
 -- a table that stands at a place of a list
@@ -188,5 +188,5 @@ pub near_selected : (tables : List Table) (p : ℕ) (table : Table) (near : Near
 near_selected tables p table near below here is = λ other other_is. is ∙ ap near_of (one_there tables p table other below here other_is)
 
 -- as many tables as partitions
-pub parts_counted : (tables : List Table) (p : ℕ) → p < length (areas_in tables) → p < length tables
+pub parts_counted : (tables : List Table) (p : ℕ) → p < length (areas_of_tables tables) → p < length tables
 parts_counted tables p below = omega (arith, below, length-map tables (λ (t : Table). listed t.entries))

@@ -6,10 +6,10 @@ use Rattle.std.proofs.lemmas.Bool.{and_parts}
 use Rattle.std.proofs.lemmas.List.{take_rest}
 use Rattle.std.proofs.lemmas.Slice.{take-put_mid}
 use Rattle.std.specs.FinMap.{insert}
-use Rattle.guest_bus.specs.Memory.{Area, Memory, covers, is_readable, all_from, bytes_at, with_bytes}
+use Rattle.guest_bus.specs.Memory.{Area, Memory, holds_address, is_readable, all_from, bytes_at, with_bytes}
 use Rattle.guest_bus.specs.MemoryLemmas.{all_from-each, all_from-true, length-bytes_at}
-use Rattle.guest_memory.specs.Flat.{IsAt, IsSpace, Stands, area_in, listed, memory_in}
-use Rattle.guest_memory.specs.Memories.{ArePlaced, allows, first_refused, refuses}
+use Rattle.guest_memory.specs.Flat.{StandsInArea, IsSpace, StandsInEntry, area_in, listed, memory_in}
+use Rattle.guest_memory.specs.Memories.{ArePlaced, allows_byte, first_refused, refuses}
 use Rattle.guest_memory.specs.declared.access.Access.{Access}
 use Rattle.guest_memory.specs.declared.access.Access.TheVariants.{Read, Write}
 use Rattle.guest_memory.specs.declared.entry.Entry.{Entry}
@@ -59,39 +59,39 @@ pub all_allowed : (allowed : ℕ → Bool) (address count : ℕ) → first_refus
 all_allowed allowed address count none = all_from-none allowed address count ∙ ap (λ (found : Option ℕ). not (is_some found)) none
 
 -- an access to an address that may not be read is not allowed
-pub nothing_allowed : (access : Access) (areas : List Area) (q : ℕ) → is_readable areas q ≡ false → allows access areas q ≡ false
+pub nothing_allowed : (access : Access) (areas : List Area) (q : ℕ) → is_readable areas q ≡ false → allows_byte access areas q ≡ false
 nothing_allowed Read areas q none = none
 nothing_allowed Write areas q none = writable_readable areas q none
 
 -- an access is allowed where the one area that has the address does not refuse it
-allowed_in : (access : Access) (areas : List Area) (k q : ℕ) (area : Area) → ArePlaced areas → slice_get areas k ≡ Some area → covers q area ≡ true → allows access areas q ≡ not (refuses access area.read_only)
+allowed_in : (access : Access) (areas : List Area) (k q : ℕ) (area : Area) → ArePlaced areas → slice_get areas k ≡ Some area → holds_address q area ≡ true → allows_byte access areas q ≡ not (refuses access area.read_only)
 allowed_in Read areas k q area placed is has = readable_at areas k q area is has
 allowed_in Write areas k q area placed is has = writable_at areas k q area placed.apart is has
 
 -- the rest of an area that does not refuse an access is allowed
-pub room_allowed : (access : Access) (entries : List Entry) (place : Place) (q : ℕ) → ArePlaced (listed entries) → IsAt q 1 place entries → refuses access place.read_only ≡ false
-    → all_from (allows access (listed entries)) q place.room ≡ true
+pub room_allowed : (access : Access) (entries : List Entry) (place : Place) (q : ℕ) → ArePlaced (listed entries) → StandsInArea q 1 place entries → refuses access place.read_only ≡ false
+    → all_from (allows_byte access (listed entries)) q place.room ≡ true
 room_allowed access entries place q placed stands free = by_entry entries place q 1 stands (λ entry is here.
-    all_from-true (allows access (listed entries)) q place.room (λ p from under.
+    all_from-true (allows_byte access (listed entries)) q place.room (λ p from under.
     allowed_in access (listed entries) place.area p (area_in entry) placed (listed_at entries place.area entry is) (covers_at (area_in entry) p (omega (arith, here.from)) (omega (arith, here.room)))
     ∙ ap (λ (only : Bool). not (refuses access only)) (sym here.read_only) ∙ ap not free))
 
 -- it ends at or below 2^32, and has at least one byte
-pub room_ends : (entries : List Entry) (place : Place) (q : ℕ) → ArePlaced (listed entries) → IsAt q 1 place entries → (0 < place.room) × (q + place.room ≤ 2 ^ 32)
+pub room_ends : (entries : List Entry) (place : Place) (q : ℕ) → ArePlaced (listed entries) → StandsInArea q 1 place entries → (0 < place.room) × (q + place.room ≤ 2 ^ 32)
 room_ends entries place q placed stands = by_entry entries place q 1 stands (λ entry is here.
     let whole = placed_at (listed entries) place.area (area_in entry) placed.each (listed_at entries place.area entry is) in
     (omega (arith, here.room, here.fits), omega (arith, here.room, whole.ends)))
 
 -- an area that refuses an access
-pub room_refused : (access : Access) (entries : List Entry) (place : Place) (q : ℕ) → ArePlaced (listed entries) → IsAt q 1 place entries → refuses access place.read_only ≡ true → allows access (listed entries) q ≡ false
+pub room_refused : (access : Access) (entries : List Entry) (place : Place) (q : ℕ) → ArePlaced (listed entries) → StandsInArea q 1 place entries → refuses access place.read_only ≡ true → allows_byte access (listed entries) q ≡ false
 room_refused access entries place q placed stands refused = by_entry entries place q 1 stands (λ entry is here.
     allowed_in access (listed entries) place.area q (area_in entry) placed (listed_at entries place.area entry is) (covers_at (area_in entry) q here.from (omega (arith, here.fits)))
     ∙ ap (λ (only : Bool). not (refuses access only)) (sym here.read_only) ∙ ap not refused)
 
 -- so many bytes up to the end of an area
-pub room_stands : (entries : List Entry) (place : Place) (q n : ℕ) → IsAt q 1 place entries → n ≤ place.room → IsAt q n place entries
+pub room_stands : (entries : List Entry) (place : Place) (q n : ℕ) → StandsInArea q 1 place entries → n ≤ place.room → StandsInArea q n place entries
 room_stands entries place q n stands within = by_entry entries place q 1 stands (λ entry is here.
-    let all : Stands q n place entry = record { from = here.from; fits = omega (arith, here.room); byte = here.byte; room = here.room; read_only = here.read_only } in
+    let all : StandsInEntry q n place entry = record { from = here.from; fits = omega (arith, here.room); byte = here.byte; room = here.room; read_only = here.read_only } in
     rw is all)
 
 -- the bytes of a range in two parts
@@ -113,7 +113,7 @@ with_bytes-append m a (x ∷ xs) ys =
     rw same (with_bytes-append (insert m a x) (suc a) xs ys)
 
 -- a piece of a range is read from the area that has its first address
-pub piece_read : (entries : List Entry) (bytes : List ℕ) (place : Place) (address count done : ℕ) (into new part : List ℕ) → IsSpace entries bytes → IsAt address 1 place entries → count ≤ place.room
+pub piece_read : (entries : List Entry) (bytes : List ℕ) (place : Place) (address count done : ℕ) (into new part : List ℕ) → IsSpace entries bytes → StandsInArea address 1 place entries → count ≤ place.room
     → part ≡ take count (drop place.byte bytes) → new ≡ put_mid done (length part) into part → new ≡ put_mid done count into (bytes_at (memory_in (listed entries) bytes) address count)
 piece_read entries bytes place address count done into new part space stands within part_is changed =
     let same : part ≡ bytes_at (memory_in (listed entries) bytes) address count = part_is ∙ sym (bytes_stand entries bytes place address count space (room_stands entries place address count stands within)) in
@@ -121,7 +121,7 @@ piece_read entries bytes place address count done into new part space stands wit
     ∙ ap (λ (n : ℕ). put_mid done n into (bytes_at (memory_in (listed entries) bytes) address count)) (length-bytes_at (memory_in (listed entries) bytes) address count)
 
 -- a piece of some bytes is written to the area that has the address
-pub piece_written : (entries : List Entry) (bytes new : List ℕ) (place : Place) (address count : ℕ) (from : List ℕ) → IsSpace entries bytes → IsAt address 1 place entries → count ≤ place.room → count ≤ length from
+pub piece_written : (entries : List Entry) (bytes new : List ℕ) (place : Place) (address count : ℕ) (from : List ℕ) → IsSpace entries bytes → StandsInArea address 1 place entries → count ≤ place.room → count ≤ length from
     → new ≡ put_mid place.byte (length (take count from)) bytes (take count from) → memory_in (listed entries) new ≡ with_bytes (memory_in (listed entries) bytes) address (take count from)
 piece_written entries bytes new place address count from space stands within fits put =
     let counted : length (take count from) ≡ count = omega (arith, length-take count from) in

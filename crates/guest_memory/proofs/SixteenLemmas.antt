@@ -10,7 +10,7 @@ use Rattle.guest_bus.specs.AccessLemmas.{length-bytes_high_first, length-bytes_o
 use Rattle.guest_bus.specs.Memory.{Area, Memory, bytes_at, is_readable, is_writable, with_bytes}
 use Rattle.guest_bus.specs.MemoryLemmas.{all_from-true}
 use Rattle.guest_bus.specs.Words.{MayStand, allows, bytes_of, words_at}
-use Rattle.guest_memory.specs.Flat.{AreKept, IsAt, IsPartOf, Stands, Table, area_in, areas_in, listed, memories_in, memory_in, memory_of_part, part_in}
+use Rattle.guest_memory.specs.Flat.{AreFlat, StandsInArea, IsPartOf, StandsInEntry, Table, area_in, areas_of_tables, listed, memories_in, memory_in, memory_of_part, bytes_of_part}
 use Rattle.guest_memory.specs.Memories.{areas_at, map_at, others_of}
 use Rattle.guest_memory.specs.Near.{AreRead, AreWithin, AreWritten, FitsIn, HasPart, IsNearPart, near_of, spot_of}
 use Rattle.guest_memory.specs.declared.entry.Entry.{Entry}
@@ -68,7 +68,7 @@ near_part near whole found address within (inr part) = spot_part near.second who
 record Inside (table : Table) (address : ℕ) (found : Found) : Type 0 where
   place : Place
   byte : found.byte ≡ table.place + place.byte
-  at : IsAt address 64 place table.entries
+  at : StandsInArea address 64 place table.entries
   only : place.read_only ≡ found.read_only
 
 spot_inside : (table : Table) (address : ℕ) (found : Found) (k : ℕ) → HasPart address found (spot_of table.place (slice_get table.entries k)) → Inside table address found
@@ -78,7 +78,7 @@ spot_inside table address found k part = of (slice_get table.entries k) refl par
     of None is in_none = absurd (omega (arith, in_none.within))
     of (Some entry) is in_it =
         let place : Place = record { area = k; byte = entry.place + (address - entry.start); room = entry.start + entry.size - address; read_only = entry.read_only } in
-        let stands : Stands address 64 place entry = record { from = in_it.here.from; fits = in_it.within; byte = omega (arith, in_it.here.from); room = omega (arith, in_it.within); read_only = refl } in
+        let stands : StandsInEntry address 64 place entry = record { from = in_it.here.from; fits = in_it.within; byte = omega (arith, in_it.here.from); room = omega (arith, in_it.within); read_only = refl } in
         record { place = place; byte = omega (arith, in_it.here.byte, in_it.here.from); at = rw is stands; only = sym in_it.here.only }
 
 near_inside : (table : Table) (near : Near) (address : ℕ) (found : Found) → near ≡ near_of table → IsNearPart address found near → Inside table address found
@@ -89,7 +89,7 @@ near_inside table near address found is part = at (subst (λ (n : Near). IsNearP
     at (inr second) = spot_inside table address found 1 second
 
 -- they may be read
-may_be_read : (table : Table) (whole : List ℕ) (address : ℕ) (place : Place) → IsPartOf table whole → IsAt address 64 place table.entries → address % 8 ≡ 0 → MayStand (is_readable (listed table.entries)) address
+may_be_read : (table : Table) (whole : List ℕ) (address : ℕ) (place : Place) → IsPartOf table whole → StandsInArea address 64 place table.entries → address % 8 ≡ 0 → MayStand (is_readable (listed table.entries)) address
 unfolding allows
 may_be_read table whole address place part at aligned = by_entry table.entries place address 64 at (λ entry is here.
     let there = listed_at table.entries place.area entry is in
@@ -101,7 +101,7 @@ may_be_read table whole address place part at aligned = by_entry table.entries p
     })
 
 -- they may be written, where their area may be
-may_be_written : (table : Table) (whole : List ℕ) (address : ℕ) (place : Place) → IsPartOf table whole → IsAt address 64 place table.entries → address % 8 ≡ 0 → place.read_only ≡ false → MayStand (is_writable (listed table.entries)) address
+may_be_written : (table : Table) (whole : List ℕ) (address : ℕ) (place : Place) → IsPartOf table whole → StandsInArea address 64 place table.entries → address % 8 ≡ 0 → place.read_only ≡ false → MayStand (is_writable (listed table.entries)) address
 unfolding allows
 may_be_written table whole address place part at aligned free = by_entry table.entries place address 64 at (λ entry is here.
     let there = listed_at table.entries place.area entry is in
@@ -122,11 +122,11 @@ near_written table near whole new words found address is part near_it aligned fr
     let within = access_within table whole inside.place address 64 part inside.at in
     record {
       free = may_be_written table whole address inside.place part inside.at aligned (inside.only ∙ free);
-      memory = ap (memory_in (listed table.entries)) (ap (part_in table) put ∙ part_put table whole (bytes_of words) inside.place.byte found.byte 64 part counted inside.byte within)
-          ∙ bytes_written table.entries (part_in table whole) (bytes_of words) inside.place address 64 part.space inside.at counted;
+      memory = ap (memory_in (listed table.entries)) (ap (bytes_of_part table) put ∙ part_put table whole (bytes_of words) inside.place.byte found.byte 64 part counted inside.byte within)
+          ∙ bytes_written table.entries (bytes_of_part table whole) (bytes_of words) inside.place address 64 part.space inside.at counted;
       others = put
           ∙ around_put table.place table.size found.byte 64 whole (bytes_of words) (omega (arith, inside.byte)) (omega (arith, inside.byte, within)) part.within counted
-          ∙ ap (λ (l : List ℕ). put_mid table.place table.size whole (part_in table l)) (sym put);
+          ∙ ap (λ (l : List ℕ). put_mid table.place table.size whole (bytes_of_part table l)) (sym put);
     }
 
 -- what is read of them
@@ -146,11 +146,11 @@ near_read table near whole words found address is part near_it aligned sixteen e
     word : (k : ℕ) → k < 16 → slice_index words k ≡ from_be_bytes w32 (bytes_at (memory_of_part table whole) (address + 4 * k) 4)
     word k below =
         let place : Place = record { area = inside.place.area; byte = inside.place.byte + 4 * k; room = inside.place.room - 4 * k; read_only = inside.place.read_only } in
-        let at : IsAt (address + 4 * k) 4 place table.entries = by_entry table.entries inside.place address 64 inside.at (λ entry is here.
+        let at : StandsInArea (address + 4 * k) 4 place table.entries = by_entry table.entries inside.place address 64 inside.at (λ entry is here.
         rw is (record { from = omega (arith, here.from); fits = omega (arith, here.fits); byte = omega (arith, here.byte); room = omega (arith, here.room, here.fits); read_only = here.read_only })) in
         each k below
         ∙ ap (from_be_bytes w32) (sym (part_taken table whole (inside.place.byte + 4 * k) (found.byte + 4 * k) 4 (omega (arith, inside.byte)) (omega (arith, within)))
-        ∙ sym (bytes_stand table.entries (part_in table whole) place (address + 4 * k) 4 part.space at))
+        ∙ sym (bytes_stand table.entries (bytes_of_part table whole) place (address + 4 * k) 4 part.space at))
 
 -- what follows where a test holds
 pub on_true : (b : Bool) (P Q : Type 0) → (P → Q) → OnTrue b P → OnTrue b Q
@@ -164,7 +164,7 @@ pub record PutOn (was : Bool) (tables : List Table) (bytes new : List ℕ) (p ad
   pub not_done : was ≡ false → map_at p (memories_in tables new p) ≡ map_at p (memories_in tables bytes p)
   pub others : others_of (memories_in tables new p) ≡ others_of (memories_in tables bytes p)
 
-pub put_on : (done : Bool) (tables : List Table) (bytes new : List ℕ) (p address : ℕ) (words : List ℕ) (table : Table) → AreKept tables bytes p → p < length (areas_in tables) → table ≡ get_or tables p table → length new ≡ length bytes
+pub put_on : (done : Bool) (tables : List Table) (bytes new : List ℕ) (p address : ℕ) (words : List ℕ) (table : Table) → AreFlat tables bytes p → p < length (areas_of_tables tables) → table ≡ get_or tables p table → length new ≡ length bytes
     → OnTrue done (AreWritten table bytes new address words) → (done ≡ false → new ≡ bytes) → PutOn done tables bytes new p address words
 put_on true tables bytes new p address words table kept below is same written not_written =
     let part = part_at tables bytes p p table kept below is in

@@ -6,8 +6,8 @@ use Rattle.guest_bus.specs.Access.{fetched}
 use Rattle.guest_bus.specs.Memory.{Area}
 use Rattle.guest_bus.specs.Words.{AreWords, swapped, word_address}
 use Rattle.guest_bus.specs.declared.words.Words.{Words}
-use Rattle.guest_memory.specs.Flat.{AreKept, Table, area_in, areas_in, listed, memories_in, memory_of_part}
-use Rattle.guest_memory.specs.Memories.{ArePlaced, IsPlaced, areas_at, map_at, others_of, size_of, whole_size}
+use Rattle.guest_memory.specs.Flat.{AreFlat, Table, area_in, areas_of_tables, listed, memories_in, memory_of_part}
+use Rattle.guest_memory.specs.Memories.{ArePlaced, IsPlaced, areas_at, map_at, others_of, areas_size, whole_size}
 use Rattle.guest_memory.specs.Near.{AreNearWords, AreReady, AreWithin, AreWordsIn, near_of, spot_of}
 use Rattle.guest_memory.specs.Words.{LieIn}
 use Rattle.guest_memory.specs.declared.entry.Entry.{Entry}
@@ -19,12 +19,12 @@ use Rattle.guest_memory.proofs.MemoriesLemmas.{IsPart, part_at}
 use Rattle.guest_memory.proofs.NearLemmas.{entry_inside, inside_fetched, near_within, parts_counted, there}
 
 -- areas are whole pages, and so is a front of them
-front_pages : (k : ℕ) (areas : List Area) → All IsPlaced areas → size_of (take k areas) % 4096 ≡ 0
+front_pages : (k : ℕ) (areas : List Area) → All IsPlaced areas → areas_size (take k areas) % 4096 ≡ 0
 front_pages zero areas all = refl
 front_pages (suc k) [] all = refl
 front_pages (suc k) (x ∷ xs) all = omega (arith, (all 0 x (omega arith)).size, front_pages k xs (λ i d below. all (suc i) d (omega (arith, below))))
 
-size_pages : (areas : List Area) → All IsPlaced areas → size_of areas % 4096 ≡ 0
+size_pages : (areas : List Area) → All IsPlaced areas → areas_size areas % 4096 ≡ 0
 size_pages [] all = refl
 size_pages (x ∷ xs) all = omega (arith, (all 0 x (omega arith)).size, size_pages xs (λ i d below. all (suc i) d (omega (arith, below))))
 
@@ -61,15 +61,15 @@ record LiesAt (table : Table) (bytes : List ℕ) (k place : ℕ) (entry : Entry)
   inside : entry.place + entry.size ≤ table.size
   within : place + entry.size ≤ length bytes
 
-lies_at : (tables : List Table) (bytes : List ℕ) (p k : ℕ) (table : Table) (entry : Entry) → AreKept tables bytes p → p < length (areas_in tables) → table ≡ get_or tables p table → slice_get table.entries k ≡ Some entry
-    → LiesAt table bytes k (whole_size (take p (areas_in tables)) + size_of (take k (listed table.entries))) entry
+lies_at : (tables : List Table) (bytes : List ℕ) (p k : ℕ) (table : Table) (entry : Entry) → AreFlat tables bytes p → p < length (areas_of_tables tables) → table ≡ get_or tables p table → slice_get table.entries k ≡ Some entry
+    → LiesAt table bytes k (whole_size (take p (areas_of_tables tables)) + areas_size (take k (listed table.entries))) entry
 lies_at tables bytes p k table entry are below is there =
     let part = part_at tables bytes p p table are below is in
     let follow = follow_at 0 table.entries k entry part.is.space.follow there in
     let placed = placed_at (listed table.entries) k (area_in entry) part.is.space.placed.each (listed_at table.entries k entry there) in
     let ends = ends_within (listed table.entries) k (area_in entry) (listed_at table.entries k entry there) in
     let front = front_pages k (listed table.entries) part.is.space.placed.each in
-    let parts = parts_pages p (areas_in tables) are.memories.placed in
+    let parts = parts_pages p (areas_of_tables tables) are.memories.placed in
     record {
       byte = omega (arith, part.place, follow);
       aligned = omega (arith, front, parts);
@@ -85,7 +85,7 @@ pub record Lie (tables : List Table) (bytes : List ℕ) (p : ℕ) (words : Words
   pub lie : LieIn (areas_at p (memories_in tables bytes p)) (others_of (memories_in tables bytes p)) words
   pub whole : AreWords words
 
-spot_lie : (tables : List Table) (bytes : List ℕ) (p k : ℕ) (table : Table) (words : Words) → AreKept tables bytes p → p < length (areas_in tables) → table ≡ get_or tables p table
+spot_lie : (tables : List Table) (bytes : List ℕ) (p k : ℕ) (table : Table) (words : Words) → AreFlat tables bytes p → p < length (areas_of_tables tables) → table ≡ get_or tables p table
     → 0 < (spot_of table.place (slice_get table.entries k)).size → AreWordsIn (spot_of table.place (slice_get table.entries k)) words → Lie tables bytes p words
 spot_lie tables bytes p k table words are below is some in_it = at (slice_get table.entries k) refl some in_it
   where
@@ -96,8 +96,8 @@ spot_lie tables bytes p k table words are below is some in_it = at (slice_get ta
     at None there large placed = absurd (omega (arith, large))
     at (Some entry) there large placed =
         let lies = lies_at tables bytes p k table entry are below is there in
-        let removed : whole_size (take p (remove (areas_in tables) p)) ≡ whole_size (take p (areas_in tables)) = ap whole_size (take_removed p (areas_in tables)) in
-        let front : size_of (take k (get_or (areas_in tables) p [])) ≡ size_of (take k (listed table.entries)) = ap (λ (a : List Area). size_of (take k a)) part.areas in
+        let removed : whole_size (take p (remove (areas_of_tables tables) p)) ≡ whole_size (take p (areas_of_tables tables)) = ap whole_size (take_removed p (areas_of_tables tables)) in
+        let front : areas_size (take k (get_or (areas_of_tables tables) p [])) ≡ areas_size (take k (listed table.entries)) = ap (λ (a : List Area). areas_size (take k a)) part.areas in
         record {
           lie = record {
             number = k;
@@ -114,7 +114,7 @@ spot_lie tables bytes p k table words are below is some in_it = at (slice_get ta
           };
         }
 
-pub near_lie : (tables : List Table) (bytes : List ℕ) (p : ℕ) (table : Table) (near : Near) (words : Words) → AreKept tables bytes p → p < length (areas_in tables) → table ≡ get_or tables p table → near ≡ near_of table
+pub near_lie : (tables : List Table) (bytes : List ℕ) (p : ℕ) (table : Table) (near : Near) (words : Words) → AreFlat tables bytes p → p < length (areas_of_tables tables) → table ≡ get_or tables p table → near ≡ near_of table
     → AreNearWords words near → Lie tables bytes p words
 near_lie tables bytes p table near words are below is same found = at (subst (λ (n : Near). AreNearWords words n) same found)
   where
@@ -127,15 +127,15 @@ pub record StandsAt (tables : List Table) (bytes : List ℕ) (p origin place : �
   pub within : 4 * place + 4 ≤ length bytes
   pub word : (word : ℕ) → word ≡ from_be_bytes w32 (take 4 (drop (4 * place) bytes)) → fetched (areas_at p (memories_in tables bytes p)) (map_at p (memories_in tables bytes p)) (word_address origin place) ≡ Ok word
 
-pub word_stands : (tables : List Table) (bytes : List ℕ) (p place : ℕ) (table : Table) (words : Words) → AreKept tables bytes p → p < length (areas_in tables) → table ≡ get_or tables p table
+pub word_stands : (tables : List Table) (bytes : List ℕ) (p place : ℕ) (table : Table) (words : Words) → AreFlat tables bytes p → p < length (areas_of_tables tables) → table ≡ get_or tables p table
     → LieIn (areas_at p (memories_in tables bytes p)) (others_of (memories_in tables bytes p)) words → words.begin ≤ place → place < words.end → StandsAt tables bytes p words.origin place
 unfolding word_address
 word_stands tables bytes p place table words are below is lie from under =
     let part = part_at tables bytes p p table are below is in
     let at = listed_back table.entries lie.number lie.area (ap (λ (a : List Area). slice_get a lie.number) (sym part.areas) ∙ lie.there) in
     let lies = lies_at tables bytes p lie.number table at.entry are below is at.is in
-    let removed : whole_size (take p (remove (areas_in tables) p)) ≡ whole_size (take p (areas_in tables)) = ap whole_size (take_removed p (areas_in tables)) in
-    let front : size_of (take lie.number (get_or (areas_in tables) p [])) ≡ size_of (take lie.number (listed table.entries)) = ap (λ (a : List Area). size_of (take lie.number a)) part.areas in
+    let removed : whole_size (take p (remove (areas_of_tables tables) p)) ≡ whole_size (take p (areas_of_tables tables)) = ap whole_size (take_removed p (areas_of_tables tables)) in
+    let front : areas_size (take lie.number (get_or (areas_of_tables tables) p [])) ≡ areas_size (take lie.number (listed table.entries)) = ap (λ (a : List Area). areas_size (take lie.number a)) part.areas in
     let size : lie.area.size ≡ at.entry.size = ap (λ (a : Area). a.size) at.same in
     let start : lie.area.start ≡ at.entry.start = ap (λ (a : Area). a.start) at.same in
     let begins : 4 * words.begin ≡ table.place + at.entry.place = omega (arith, lie.begin, removed, front, lies.byte) in

@@ -7,16 +7,16 @@ use Rattle.std.proofs.lemmas.Bool.{cases_lt}
 use Rattle.std.proofs.lemmas.Bool.Decides.{nat_tests}
 use Rattle.std.proofs.lemmas.List.{drop-replicate, get_or-replicate, length-replicate, take-replicate}
 use Rattle.std.proofs.lemmas.Option.{slice_get-get_or}
-use Rattle.guest_bus.specs.Memory.{Area, Memory, covers, is_readable, with_bytes}
+use Rattle.guest_bus.specs.Memory.{Area, Memory, holds_address, is_readable, with_bytes}
 use Rattle.guest_bus.specs.MemoryLemmas.{get-with_bytes_above, get-with_bytes_below, get-with_bytes_within, same_memory}
-use Rattle.guest_memory.specs.Flat.{AreBytes, AreKept, AreTables, Table, areas_in, maps_in, memories_in, memory_in}
+use Rattle.guest_memory.specs.Flat.{AllBytes, AreFlat, AreTables, Table, areas_of_tables, maps_in, memories_in, memory_in}
 use Rattle.guest_memory.specs.Loading.{with_zeros, zeros_in}
-use Rattle.guest_memory.specs.Memories.{ArePlaced, size_of, whole_size}
+use Rattle.guest_memory.specs.Memories.{ArePlaced, areas_size, whole_size}
 use Rattle.guest_memory.proofs.FlatLemmas.{bytes-zeros}
 use Rattle.guest_memory.proofs.MemoriesLemmas.{memories_whole}
 
 -- zeros at the addresses of an area
-zeros_at : (m : Memory) (start n q : ℕ) (read_only : Bool) → get (with_bytes m start (replicate n 0)) q ≡ cond (covers q (record { start = start; size = n; read_only = read_only })) (Some 0) (get m q)
+zeros_at : (m : Memory) (start n q : ℕ) (read_only : Bool) → get (with_bytes m start (replicate n 0)) q ≡ cond (holds_address q (record { start = start; size = n; read_only = read_only })) (Some 0) (get m q)
 zeros_at m start n q read_only = at (cases_lt q start)
   where
     counted : length (replicate {A = ℕ} n 0) ≡ n
@@ -49,7 +49,7 @@ with_zeros-at m [] q = refl
 with_zeros-at m (a ∷ areas) q =
     with_zeros-at (with_bytes m a.start (replicate a.size 0)) areas q
     ∙ ap (λ (found : Option ℕ). cond (is_readable areas q) (Some 0) found) (zeros_at m a.start a.size q a.read_only)
-    ∙ either (covers q a) (is_readable areas q) (Some 0) (get m q)
+    ∙ either (holds_address q a) (is_readable areas q) (Some 0) (get m q)
 
 -- two choices of one value, the other way round
 first_of_two : (a b : Bool) (x y : Option ℕ) → cond a x (cond b x y) ≡ cond (a || b) x y
@@ -65,49 +65,49 @@ rest_zeros : (m n : ℕ) → drop m (replicate (m + n) 0) ≡ replicate {A = ℕ
 rest_zeros m n = let e : m + n - m ≡ n = omega arith in drop-replicate m (m + n) 0 ∙ ap (λ (k : ℕ). replicate {A = ℕ} k 0) e
 
 -- what stands in areas of zeros
-zeroed-at : (areas : List Area) (q : ℕ) → get (memory_in areas (replicate (size_of areas) 0)) q ≡ cond (is_readable areas q) (Some 0) (get {R = nat_cmp} empty q)
+zeroed-at : (areas : List Area) (q : ℕ) → get (memory_in areas (replicate (areas_size areas) 0)) q ≡ cond (is_readable areas q) (Some 0) (get {R = nat_cmp} empty q)
 zeroed-at [] q = refl
 zeroed-at (x ∷ xs) q =
-    ap (λ (bytes : List ℕ). get (with_bytes (memory_in xs bytes) x.start (take x.size (replicate (x.size + size_of xs) 0))) q) (rest_zeros x.size (size_of xs))
-    ∙ ap (λ (bytes : List ℕ). get (with_bytes (memory_in xs (replicate (size_of xs) 0)) x.start bytes) q) (front_zeros x.size (size_of xs))
-    ∙ zeros_at (memory_in xs (replicate (size_of xs) 0)) x.start x.size q x.read_only
-    ∙ ap (λ (found : Option ℕ). cond (covers q x) (Some 0) found) (zeroed-at xs q)
-    ∙ first_of_two (covers q x) (is_readable xs q) (Some 0) (get {R = nat_cmp} empty q)
+    ap (λ (bytes : List ℕ). get (with_bytes (memory_in xs bytes) x.start (take x.size (replicate (x.size + areas_size xs) 0))) q) (rest_zeros x.size (areas_size xs))
+    ∙ ap (λ (bytes : List ℕ). get (with_bytes (memory_in xs (replicate (areas_size xs) 0)) x.start bytes) q) (front_zeros x.size (areas_size xs))
+    ∙ zeros_at (memory_in xs (replicate (areas_size xs) 0)) x.start x.size q x.read_only
+    ∙ ap (λ (found : Option ℕ). cond (holds_address q x) (Some 0) found) (zeroed-at xs q)
+    ∙ first_of_two (holds_address q x) (is_readable xs q) (Some 0) (get {R = nat_cmp} empty q)
 
 -- areas of zeros are a memory of zeros
-pub memory_in-zeros : (areas : List Area) → memory_in areas (replicate (size_of areas) 0) ≡ zeros_in areas
+pub memory_in-zeros : (areas : List Area) → memory_in areas (replicate (areas_size areas) 0) ≡ zeros_in areas
 memory_in-zeros areas = same_memory _ _ (λ q. zeroed-at areas q ∙ sym (with_zeros-at empty areas q))
 
 -- so are those of all partitions
 pub maps_in-zeros : (areas : List (List Area)) → maps_in areas (replicate (whole_size areas) 0) ≡ map zeros_in areas
 maps_in-zeros [] = refl
 maps_in-zeros (first ∷ others) =
-    ap (λ (bytes : List ℕ). memory_in first bytes ∷ maps_in others (drop (size_of first) (replicate (size_of first + whole_size others) 0))) (front_zeros (size_of first) (whole_size others))
-    ∙ ap (λ (bytes : List ℕ). memory_in first (replicate (size_of first) 0) ∷ maps_in others bytes) (rest_zeros (size_of first) (whole_size others))
+    ap (λ (bytes : List ℕ). memory_in first bytes ∷ maps_in others (drop (areas_size first) (replicate (areas_size first + whole_size others) 0))) (front_zeros (areas_size first) (whole_size others))
+    ∙ ap (λ (bytes : List ℕ). memory_in first (replicate (areas_size first) 0) ∷ maps_in others bytes) (rest_zeros (areas_size first) (whole_size others))
     ∙ ap (λ (m : Memory). m ∷ maps_in others (replicate (whole_size others) 0)) (memory_in-zeros first)
     ∙ ap (λ (maps : List Memory). zeros_in first ∷ maps) (maps_in-zeros others)
 
 -- new memories of partitions, with the first selected
-pub kept_new : (tables : List Table) (areas : List (List Area)) (n : ℕ) (bytes : List ℕ) → areas_in tables ≡ areas → AreTables 0 tables → n ≡ whole_size areas → n < 4294967296 → bytes ≡ replicate n 0
-    → 0 < length areas → length areas ≤ 16 → All ArePlaced areas → AreKept tables bytes 0
+pub kept_new : (tables : List Table) (areas : List (List Area)) (n : ℕ) (bytes : List ℕ) → areas_of_tables tables ≡ areas → AreTables 0 tables → n ≡ whole_size areas → n < 4294967296 → bytes ≡ replicate n 0
+    → 0 < length areas → length areas ≤ 16 → All ArePlaced areas → AreFlat tables bytes 0
 kept_new tables areas n bytes same rows sized few is some most placed = record {
-  memories = memories_whole (areas_in tables) bytes 0 (rw same some) (rw same most) (rw same placed) whole small;
+  memories = memories_whole (areas_of_tables tables) bytes 0 (rw same some) (rw same most) (rw same placed) whole small;
   rows = rows;
   whole = whole;
   few = omega (arith, ap length is, length-replicate {A = ℕ} n 0);
   small = small;
 }
   where
-    whole : length bytes ≡ whole_size (areas_in tables)
+    whole : length bytes ≡ whole_size (areas_of_tables tables)
     whole = ap length is ∙ length-replicate {A = ℕ} n 0 ∙ sized ∙ ap whole_size (sym same)
 
-    small : AreBytes bytes
-    small = subst (λ (b : List ℕ). AreBytes b) (sym is) (bytes-zeros n)
+    small : AllBytes bytes
+    small = subst (λ (b : List ℕ). AllBytes b) (sym is) (bytes-zeros n)
 
 -- as they are seen
-pub seen_new : (tables : List Table) (areas : List (List Area)) (n : ℕ) (bytes : List ℕ) → areas_in tables ≡ areas → n ≡ whole_size areas → bytes ≡ replicate n 0
+pub seen_new : (tables : List Table) (areas : List (List Area)) (n : ℕ) (bytes : List ℕ) → areas_of_tables tables ≡ areas → n ≡ whole_size areas → bytes ≡ replicate n 0
     → memories_in tables bytes 0 ≡ record { areas = areas; maps = map zeros_in areas; selected = 0 }
 seen_new tables areas n bytes same sized is = λ i. record { areas = same i; maps = maps i; selected = 0 }
   where
-    maps : maps_in (areas_in tables) bytes ≡ map zeros_in areas
-    maps = ap (maps_in (areas_in tables)) (is ∙ ap (λ (k : ℕ). replicate {A = ℕ} k 0) (sized ∙ ap whole_size (sym same))) ∙ maps_in-zeros (areas_in tables) ∙ ap (map zeros_in) same
+    maps : maps_in (areas_of_tables tables) bytes ≡ map zeros_in areas
+    maps = ap (maps_in (areas_of_tables tables)) (is ∙ ap (λ (k : ℕ). replicate {A = ℕ} k 0) (sized ∙ ap whole_size (sym same))) ∙ maps_in-zeros (areas_of_tables tables) ∙ ap (map zeros_in) same

@@ -3,15 +3,15 @@ use Rattle.std.specs.Prelude.{◌≡◌, ℕ, ◌+◌, ◌<◌, ◌≤◌, ⊤, 
 use borrow.Rule.Slice.PartMut.{put_mid}
 use Rattle.std.specs.FinMap.{empty}
 use Rattle.guest_bus.specs.Access.{access_fault}
-use Rattle.guest_bus.specs.Memory.{Area, Memory, covers, with_bytes}
+use Rattle.guest_bus.specs.Memory.{Area, Memory, holds_address, with_bytes}
 use Rattle.guest_bus.specs.declared.bus.BusFault.{BusFault}
-use Rattle.guest_memory.specs.Memories.{AreMemories, ArePlaced, Memories, size_of, whole_size}
+use Rattle.guest_memory.specs.Memories.{AreMemories, ArePlaced, Memories, areas_size, whole_size}
 use Rattle.guest_memory.specs.declared.entry.Entry.{Entry}
 use Rattle.guest_memory.specs.declared.entry.Place.{Place}
 
 -- numbers are bytes
-abbrev pub AreBytes : List ℕ → Type 0
-AreBytes bytes = (i : ℕ) → slice_index_or bytes i 0 < 256
+abbrev pub AllBytes : List ℕ → Type 0
+AllBytes bytes = (i : ℕ) → slice_index_or bytes i 0 < 256
 
 -- the bytes of areas by their addresses, where they lie one after the other
 abbrev pub memory_in : List Area → List ℕ → Memory
@@ -21,7 +21,7 @@ memory_in (area ∷ areas) bytes = with_bytes (memory_in areas (drop area.size b
 -- the bytes of each partition, where those of all lie one after the other
 abbrev pub maps_in : List (List Area) → List ℕ → List Memory
 maps_in [] bytes = []
-maps_in (areas ∷ others) bytes = memory_in areas (take (size_of areas) bytes) ∷ maps_in others (drop (size_of areas) bytes)
+maps_in (areas ∷ others) bytes = memory_in areas (take (areas_size areas) bytes) ∷ maps_in others (drop (areas_size areas) bytes)
 
 -- an area as a guest sees it
 abbrev pub area_in : Entry → Area
@@ -32,8 +32,8 @@ abbrev pub listed : List Entry → List Area
 listed entries = map area_in entries
 
 -- whether an area has the address
-abbrev pub holds : ℕ → Entry → Bool
-holds address entry = covers address (area_in entry)
+abbrev pub entry_holds : ℕ → Entry → Bool
+entry_holds address entry = holds_address address (area_in entry)
 
 -- each area's place is the end of the one before it
 abbrev pub Follow : ℕ → List Entry → Type 0
@@ -47,40 +47,40 @@ pub record Table : Type 0 where
   pub entries : List Entry
 
 -- the bytes of a partition lie from a place on
-pub record IsTable (place : ℕ) (table : Table) : Type 0 where
+pub record IsMemoryTable (place : ℕ) (table : Table) : Type 0 where
   pub placed : table.place ≡ place
-  pub sized : table.size ≡ size_of (listed table.entries)
+  pub sized : table.size ≡ areas_size (listed table.entries)
   pub follow : Follow 0 table.entries
 
 -- the bytes of partitions lie one after the other, from a place on
 abbrev pub AreTables : ℕ → List Table → Type 0
 AreTables place [] = ⊤
-AreTables place (table ∷ tables) = IsTable place table × AreTables (place + table.size) tables
+AreTables place (table ∷ tables) = IsMemoryTable place table × AreTables (place + table.size) tables
 
 -- the areas of each partition
-abbrev pub areas_in : List Table → List (List Area)
-areas_in tables = map (λ table. listed table.entries) tables
+abbrev pub areas_of_tables : List Table → List (List Area)
+areas_of_tables tables = map (λ table. listed table.entries) tables
 
 -- the memories of partitions that are kept so
 abbrev pub memories_in : List Table → List ℕ → ℕ → Memories
-memories_in tables bytes selected = record { areas = areas_in tables; maps = maps_in (areas_in tables) bytes; selected = selected }
+memories_in tables bytes selected = record { areas = areas_of_tables tables; maps = maps_in (areas_of_tables tables) bytes; selected = selected }
 
 -- the memories of partitions, in one list of bytes
-pub record AreKept (tables : List Table) (bytes : List ℕ) (selected : ℕ) : Type 0 where
+pub record AreFlat (tables : List Table) (bytes : List ℕ) (selected : ℕ) : Type 0 where
   pub memories : AreMemories (memories_in tables bytes selected)
   pub rows : AreTables 0 tables
-  pub whole : length bytes ≡ whole_size (areas_in tables)
+  pub whole : length bytes ≡ whole_size (areas_of_tables tables)
   pub few : length bytes < 4294967296
-  pub small : AreBytes bytes
+  pub small : AllBytes bytes
 
 -- the areas of one partition, and its bytes
 pub record IsSpace (entries : List Entry) (bytes : List ℕ) : Type 0 where
   pub placed : ArePlaced (listed entries)
   pub follow : Follow 0 entries
-  pub whole : length bytes ≡ size_of (listed entries)
+  pub whole : length bytes ≡ areas_size (listed entries)
 
 -- so many bytes from an address on stand in the area, and begin at the place
-pub record Stands (address count : ℕ) (place : Place) (entry : Entry) : Type 0 where
+pub record StandsInEntry (address count : ℕ) (place : Place) (entry : Entry) : Type 0 where
   pub from : entry.start ≤ address
   pub fits : address + count ≤ entry.start + entry.size
   pub byte : place.byte + entry.start ≡ entry.place + address
@@ -88,32 +88,32 @@ pub record Stands (address count : ℕ) (place : Place) (entry : Entry) : Type 0
   pub read_only : place.read_only ≡ entry.read_only
 
 -- so many bytes from an address on stand in one of the areas
-abbrev pub IsAt : ℕ → ℕ → Place → List Entry → Type 0
-IsAt address count place entries = IsSomeAnd (slice_get entries place.area) (Stands address count place)
+abbrev pub StandsInArea : ℕ → ℕ → Place → List Entry → Type 0
+StandsInArea address count place entries = IsSomeAnd (slice_get entries place.area) (StandsInEntry address count place)
 
 -- an access of so many bytes begins there, and nothing refuses it
 pub record Accesses (allowed : ℕ → Bool) (entries : List Entry) (place : Place) (address count : ℕ) : Type 0 where
   pub free : access_fault allowed address count ≡ None
-  pub stands : IsAt address count place entries
+  pub stands : StandsInArea address count place entries
 
 -- where an access begins, or what refuses it
-abbrev pub Places : (ℕ → Bool) → Result Place BusFault → List Entry → ℕ → ℕ → Type 0
-Places allowed (Ok place) entries address count = Accesses allowed entries place address count
-Places allowed (Err fault) entries address count = access_fault allowed address count ≡ Some fault
+abbrev pub FindsPlace : (ℕ → Bool) → Result Place BusFault → List Entry → ℕ → ℕ → Type 0
+FindsPlace allowed (Ok place) entries address count = Accesses allowed entries place address count
+FindsPlace allowed (Err fault) entries address count = access_fault allowed address count ≡ Some fault
 
 -- the bytes of a partition among those of all
-abbrev pub part_in : Table → List ℕ → List ℕ
-part_in table whole = take table.size (drop table.place whole)
+abbrev pub bytes_of_part : Table → List ℕ → List ℕ
+bytes_of_part table whole = take table.size (drop table.place whole)
 
 -- its memory
 abbrev pub memory_of_part : Table → List ℕ → Memory
-memory_of_part table whole = memory_in (listed table.entries) (part_in table whole)
+memory_of_part table whole = memory_in (listed table.entries) (bytes_of_part table whole)
 
 -- the bytes of a partition lie among those of all
 pub record IsPartOf (table : Table) (whole : List ℕ) : Type 0 where
   pub within : table.place + table.size ≤ length whole
-  pub space : IsSpace table.entries (part_in table whole)
+  pub space : IsSpace table.entries (bytes_of_part table whole)
 
 -- no byte before those of a partition or after them is another
 abbrev pub SameAround : Table → List ℕ → List ℕ → Type 0
-SameAround table old new = new ≡ put_mid table.place table.size old (part_in table new)
+SameAround table old new = new ≡ put_mid table.place table.size old (bytes_of_part table new)

@@ -11,8 +11,8 @@ abbrev pub area_of : configured.Area → Area
 area_of area = record { start = area.start; size = area.size; read_only = area.read_only }
 
 -- the areas of a partition's memory
-unfoldable pub areas_of : Part → List Area
-areas_of part = map area_of part.areas
+unfoldable pub memory_areas : Part → List Area
+memory_areas part = map area_of part.areas
 
 -- a memory with a zero at each address of these areas
 abbrev pub with_zeros : Memory → List Area → Memory
@@ -25,18 +25,18 @@ with_segments memory [] = memory
 with_segments memory (segment ∷ segments) = with_segments (with_bytes memory segment.address segment.bytes) segments
 
 -- an area has all addresses of a segment
-pub record HasSegment (segment : Segment) (area : Area) : Type 0 where
+pub record HoldsSegment (segment : Segment) (area : Area) : Type 0 where
   pub start : area.start ≤ segment.address
   pub end : end_of segment ≤ area.start + area.size
 
 -- each segment of an image lies inside one of these areas
-abbrev pub LiesIn : List Area → Image → Type 0
-LiesIn areas image = All (λ segment. Any (HasSegment segment) areas) image.segments
+abbrev pub LiesInAreas : List Area → Image → Type 0
+LiesInAreas areas image = All (λ segment. Any (HoldsSegment segment) areas) image.segments
 
 -- a memory of zeros in these areas, and nothing else
 abbrev pub zeros_in : List Area → Memory
 zeros_in areas = with_zeros empty areas
 
 -- these areas with an image loaded, and zeros in all other places
-unfoldable pub loaded : List Area → Image → Memory
-loaded areas image = with_segments (with_zeros empty areas) image.segments
+unfoldable pub areas_with_image : List Area → Image → Memory
+areas_with_image areas image = with_segments (with_zeros empty areas) image.segments

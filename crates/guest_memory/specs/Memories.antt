@@ -22,18 +22,18 @@ abbrev pub map_at : ℕ → Memories → Memory
 map_at p memories = slice_index_or memories.maps p empty
 
 -- how many bytes areas have
-abbrev pub size_of : List Area → ℕ
-size_of [] = 0
-size_of (area ∷ areas) = area.size + size_of areas
+abbrev pub areas_size : List Area → ℕ
+areas_size [] = 0
+areas_size (area ∷ areas) = area.size + areas_size areas
 
 -- how many bytes the areas of all partitions have
 abbrev pub whole_size : List (List Area) → ℕ
 whole_size [] = 0
-whole_size (areas ∷ others) = size_of areas + whole_size others
+whole_size (areas ∷ others) = areas_size areas + whole_size others
 
 -- how many bytes all areas have that stand before one of a partition
 abbrev pub place_at : ℕ → ℕ → Memories → ℕ
-place_at p area memories = whole_size (take p memories.areas) + size_of (take area (areas_at p memories))
+place_at p area memories = whole_size (take p memories.areas) + areas_size (take area (areas_at p memories))
 
 -- the memories with other bytes for one partition
 abbrev pub with_map : ℕ → Memory → Memories → Memories
@@ -56,8 +56,8 @@ abbrev pub SameElsewhere : ℕ → Memories → Memories → Type 0
 SameElsewhere p old new = (other : ℕ) → other ≢ p → map_at other new ≡ map_at other old
 
 -- one area ends before the other begins
-abbrev pub Apart : Area → Area → Type 0
-Apart a b = (a.start + a.size ≤ b.start) ⊎ (b.start + b.size ≤ a.start)
+abbrev pub AreasApart : Area → Area → Type 0
+AreasApart a b = (a.start + a.size ≤ b.start) ⊎ (b.start + b.size ≤ a.start)
 
 -- an area is whole pages, and ends at or below 2^32
 pub record IsPlaced (area : Area) : Type 0 where
@@ -68,7 +68,7 @@ pub record IsPlaced (area : Area) : Type 0 where
 -- the areas of one partition
 pub record ArePlaced (areas : List Area) : Type 0 where
   pub each : All IsPlaced areas
-  pub apart : AllPairs Apart areas
+  pub apart : AllPairs AreasApart areas
 
 -- memories of partitions: each has a byte at exactly the addresses of its areas
 pub record AreMemories (memories : Memories) : Type 0 where
@@ -91,9 +91,9 @@ HasAreas memories whole =
     → bytes_at (map_at p memories) area.start area.size ≡ take area.size (drop (place_at p k memories) whole)
 
 -- whether an access to the byte at an address is allowed
-abbrev pub allows : Access → List Area → ℕ → Bool
-allows Read areas = is_readable areas
-allows Write areas = is_writable areas
+abbrev pub allows_byte : Access → List Area → ℕ → Bool
+allows_byte Read areas = is_readable areas
+allows_byte Write areas = is_writable areas
 
 -- whether an access is refused in an area that may only be read, or in one that may be written
 abbrev pub refuses : Access → Bool → Bool

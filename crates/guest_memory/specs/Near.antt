@@ -6,7 +6,7 @@ use Rattle.guest_bus.specs.Memory.{Area, is_readable, is_writable, with_bytes}
 use Rattle.guest_bus.specs.Words.{MayStand, bytes_of, words_at}
 use Rattle.guest_bus.specs.declared.bus.Size.{Size}
 use Rattle.guest_bus.specs.declared.words.Words.{Words}
-use Rattle.guest_memory.specs.Flat.{AreBytes, AreKept, SameAround, Table, listed, memory_of_part}
+use Rattle.guest_memory.specs.Flat.{AllBytes, AreFlat, SameAround, Table, listed, memory_of_part}
 use Rattle.guest_memory.specs.Memories.{IsPlaced}
 use Rattle.guest_memory.specs.declared.entry.Entry.{Entry}
 use Rattle.guest_memory.specs.declared.near.Found.{Found}
@@ -38,7 +38,7 @@ pub record AreWithin (near : Near) (whole : List ℕ) : Type 0 where
   pub second : FitsIn near.second whole
 
 -- an area has the address, and the byte there is the one that was found
-pub record IsHere (address : ℕ) (found : Found) (spot : Spot) : Type 0 where
+pub record IsSpotOf (address : ℕ) (found : Found) (spot : Spot) : Type 0 where
   pub from : spot.start ≤ address
   pub under : address < spot.start + spot.size
   pub byte : found.byte + spot.start ≡ spot.place + address
@@ -46,11 +46,11 @@ pub record IsHere (address : ℕ) (found : Found) (spot : Spot) : Type 0 where
 
 -- one of the two has it
 abbrev pub IsNear : ℕ → Found → Near → Type 0
-IsNear address found near = IsHere address found near.first ⊎ IsHere address found near.second
+IsNear address found near = IsSpotOf address found near.first ⊎ IsSpotOf address found near.second
 
 -- so are the 63 bytes behind it
 pub record HasPart (address : ℕ) (found : Found) (spot : Spot) : Type 0 where
-  pub here : IsHere address found spot
+  pub here : IsSpotOf address found spot
   pub within : address + 64 ≤ spot.start + spot.size
 
 -- all 64 are in one of the two
@@ -80,7 +80,7 @@ AreNear near tables selected = (table : Table) → table ≡ slice_index_or tabl
 
 -- the memories of partitions, in one list of bytes, with the areas that are looked at first
 pub record AreReady (tables : List Table) (bytes : List ℕ) (selected : ℕ) (ready : Near) : Type 0 where
-  pub kept : AreKept tables bytes selected
+  pub kept : AreFlat tables bytes selected
   pub near : AreNear ready tables selected
 
 -- the words of an area, by their places among those of all

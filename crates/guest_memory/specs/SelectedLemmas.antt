@@ -11,9 +11,9 @@ rest_of [] = []
 rest_of (x ∷ xs) = xs
 
 -- its first element
-abbrev first_of : {X : Type 0} → X → List X → X
-first_of other [] = other
-first_of other (x ∷ xs) = x
+abbrev head_or : {X : Type 0} → X → List X → X
+head_or other [] = other
+head_or other (x ∷ xs) = x
 
 -- a list that is another one without the element at a place, and has some element there, is the other one with that element
 put_back : {X : Type 0} (new old : List X) (i : ℕ) (other : X) → i < length new → i < length old → remove new i ≡ remove old i → new ≡ set old i (get_or new i other)
@@ -21,7 +21,7 @@ put_back [] old i other within below same = absurd (omega (arith, within))
 put_back (x ∷ new) [] i other within below same = absurd (omega (arith, below))
 put_back {X} (x ∷ new) (y ∷ old) zero other within below same = ap (λ (rest : List X). x ∷ rest) same
 put_back {X} (x ∷ new) (y ∷ old) (suc i) other within below same =
-    let first : x ≡ y = ap (first_of x) same in
+    let first : x ≡ y = ap (head_or x) same in
     ap (λ (z : X). z ∷ new) first
     ∙ ap (λ (rest : List X). y ∷ rest) (put_back new old i other (omega (arith, within)) (omega (arith, below)) (ap rest_of same))
 

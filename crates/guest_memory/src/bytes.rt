@@ -5,7 +5,7 @@ ghost use Rattle.std.specs.Int.{byte_len, from_be_bytes, to_be_bytes, w16, w32, 
 ghost use borrow.Rule.Slice.PartMut.{put_mid};
 ghost use Rattle.guest_bus.specs.Access.{width_of};
 ghost use Rattle.guest_bus.specs.Words.{bytes_of, swapped};
-ghost use Rattle.guest_memory.specs.Flat.{AreBytes};
+ghost use Rattle.guest_memory.specs.Flat.{AllBytes};
 
 use guest_bus::Size;
 
@@ -87,7 +87,7 @@ fn double(bytes: &[u8], at: usize) -> u64
 pub(crate) fn put_value(bytes: &mut [u8], at: usize, size: Size, value: u64)
     requires { at + byte_len (width_of size) ≤ length bytes.old }
     ensures value { bytes.new ≡ put_mid at (byte_len (width_of size)) bytes.old (to_be_bytes (width_of size) value) }
-    ensures bytes { AreBytes bytes.new }
+    ensures bytes { AllBytes bytes.new }
 {
     let value = value.to_be_bytes();
     match size {
@@ -102,7 +102,7 @@ pub(crate) fn put_value(bytes: &mut [u8], at: usize, size: Size, value: u64)
 pub(crate) fn put(bytes: &mut [u8], at: usize, from: &[u8])
     requires { at + length from.now ≤ length bytes.old }
     ensures value { bytes.new ≡ put_mid at (length from.now) bytes.old from.now }
-    ensures bytes { AreBytes bytes.new }
+    ensures bytes { AllBytes bytes.new }
 {
     bytes[at..at + from.len()].copy_from_slice(from);
 }
@@ -112,7 +112,7 @@ pub(crate) fn put(bytes: &mut [u8], at: usize, from: &[u8])
 pub(crate) fn put_words(bytes: &mut [u8], at: usize, words: &[u32; 16])
     requires { at + 64 ≤ length bytes.old }
     ensures value { bytes.new ≡ put_mid at 64 bytes.old (bytes_of words.now) }
-    ensures bytes { AreBytes bytes.new }
+    ensures bytes { AllBytes bytes.new }
     ensures counted { length words.now ≡ 16 }
 {
     // They are put together first, so that they are written as one.

@@ -1,7 +1,7 @@
 //! Where an area's bytes lie.
 
 ghost use Rattle.std.specs.Prelude.{◌≡◌, true};
-ghost use Rattle.guest_memory.specs.Flat.{Stands, area_in, holds};
+ghost use Rattle.guest_memory.specs.Flat.{StandsInEntry, area_in, entry_holds};
 ghost use Rattle.guest_memory.specs.Loading.{area_of};
 
 use xm_conf::Area;
@@ -48,16 +48,16 @@ impl Entry {
 
     /// Whether it has an address.
     pub(crate) fn has(&self, address: u64) -> bool
-        ensures { result ≡ holds address self.now }
+        ensures { result ≡ entry_holds address self.now }
     {
         address.wrapping_sub(u64::from(self.start)) < u64::from(self.size)
     }
 
     /// Where the byte at an address of it lies, as the area of a number.
     pub(crate) fn place_of(&self, area: usize, address: u64) -> Place
-        requires { holds address self.now ≡ true }
+        requires { entry_holds address self.now ≡ true }
         ensures area { result.area ≡ area }
-        ensures stands { Stands address 1 result self.now }
+        ensures stands { StandsInEntry address 1 result self.now }
     {
         let at = address.wrapping_sub(u64::from(self.start)) as usize;
         Place {

@@ -4,8 +4,8 @@ ghost use Rattle.std.specs.Prelude.{◌≡◌, ◌+◌, ◌%◌, ◌<◌, ◌≤
 ghost use Rattle.std.specs.Bool.{OnTrue};
 ghost use Rattle.std.specs.Int.{byte_len};
 ghost use Rattle.guest_bus.specs.Access.{fetched, loaded, width_of};
-ghost use Rattle.guest_memory.specs.Flat.{AreBytes, IsPartOf, Table as Placed, listed, memory_of_part};
-ghost use Rattle.guest_memory.specs.Near.{AreNearWords, AreRead, AreWithin, AreWordsIn, AreWritten, IsHere, IsNear, IsNearPart, IsStored, near_of, spot_of};
+ghost use Rattle.guest_memory.specs.Flat.{AllBytes, IsPartOf, Table as Placed, listed, memory_of_part};
+ghost use Rattle.guest_memory.specs.Near.{AreNearWords, AreRead, AreWithin, AreWordsIn, AreWritten, IsSpotOf, IsNear, IsNearPart, IsStored, near_of, spot_of};
 
 use crate::bytes::{get_words, put_value, put_words, value_at, word};
 use crate::entry::Entry;
@@ -72,7 +72,7 @@ impl Spot {
         requires few { self.now.place ≤ 2 ^ 32 }
         requires from { self.now.start ≤ address }
         requires under { address < self.now.start + self.now.size }
-        ensures { IsHere address result self.now }
+        ensures { IsSpotOf address result self.now }
     {
         Found {
             byte: self.place + address.wrapping_sub(self.start) as usize,
@@ -187,7 +187,7 @@ impl Near {
     pub(crate) fn stored(&self, whole: &mut [u8], address: u32, size: Size, value: u64) -> bool
         requires { AreWithin self.now whole.old }
         ensures done { OnTrue result ((table : Placed) → self.now ≡ near_of table → IsPartOf table whole.old → IsStored table whole.old whole.new address value size) }
-        ensures bytes { OnTrue result (AreBytes whole.new) }
+        ensures bytes { OnTrue result (AllBytes whole.new) }
         ensures not_done { result ≡ false → whole.new ≡ whole.old }
     {
         if address % size.bytes() != 0 {
@@ -228,7 +228,7 @@ impl Near {
     pub(crate) fn put_words(&self, whole: &mut [u8], address: u32, words: &[u32; 16]) -> bool
         requires { AreWithin self.now whole.old }
         ensures done { OnTrue result ((table : Placed) → self.now ≡ near_of table → IsPartOf table whole.old → AreWritten table whole.old whole.new address words.now) }
-        ensures bytes { AreBytes whole.old → AreBytes whole.new }
+        ensures bytes { AllBytes whole.old → AllBytes whole.new }
         ensures not_done { result ≡ false → whole.new ≡ whole.old }
     {
         if address % 8 != 0 {

@@ -3,8 +3,8 @@
 ghost use Rattle.std.specs.Prelude.{◌≡◌, ◌<◌, OnErr, OnOk, length};
 ghost use Rattle.guest_bus.specs.Access.{Stores, after_store, store_fault};
 ghost use Rattle.guest_bus.specs.Memory.{is_writable, with_bytes};
-ghost use Rattle.guest_memory.specs.Flat.{AreBytes, IsPartOf, SameAround, listed, memory_of_part};
-ghost use Rattle.guest_memory.specs.Loading.{LiesIn, loaded};
+ghost use Rattle.guest_memory.specs.Flat.{AllBytes, IsPartOf, SameAround, listed, memory_of_part};
+ghost use Rattle.guest_memory.specs.Loading.{LiesInAreas, areas_with_image};
 ghost use Rattle.guest_memory.specs.Memories.{answer_by, first_refused};
 ghost use Rattle.guest_memory.specs.Near.{near_of};
 
@@ -32,7 +32,7 @@ pub(crate) fn store(
     ensures fault { Stores result (store_fault (listed table.now.entries) address size) }
     ensures memory { memory_of_part table.now whole.new ≡ after_store (listed table.now.entries) (memory_of_part table.now whole.old) address size value }
     ensures others { SameAround table.now whole.old whole.new }
-    ensures bytes { AreBytes whole.new }
+    ensures bytes { AllBytes whole.new }
 {
     if near.stored(whole, address, size, value) {
         Ok(())
@@ -55,7 +55,7 @@ fn search_and_store(
     ensures fault { Stores result (store_fault (listed table.now.entries) address size) }
     ensures memory { memory_of_part table.now whole.new ≡ after_store (listed table.now.entries) (memory_of_part table.now whole.old) address size value }
     ensures others { SameAround table.now whole.old whole.new }
-    ensures bytes { AreBytes whole.new }
+    ensures bytes { AllBytes whole.new }
 {
     let place = table.place() as usize;
     let end = place + table.size() as usize;
@@ -80,7 +80,7 @@ pub(crate) fn copy_out(
     ensures written { OnOk result (memory_of_part table.now whole.new ≡ with_bytes (memory_of_part table.now whole.old) address from.now) }
     ensures unchanged { OnErr result (whole.new ≡ whole.old) }
     ensures others { SameAround table.now whole.old whole.new }
-    ensures bytes { AreBytes whole.new }
+    ensures bytes { AllBytes whole.new }
 {
     let place = table.place() as usize;
     let end = place + table.size() as usize;
@@ -90,10 +90,10 @@ pub(crate) fn copy_out(
 /// Loads an image, with zeros in all other places.
 pub(crate) fn reload(table: &Table, whole: &mut [u8], image: &Xef)
     requires part { IsPartOf table.now whole.old }
-    requires inside { LiesIn (listed table.now.entries) image.now }
-    ensures memory { memory_of_part table.now whole.new ≡ loaded (listed table.now.entries) image.now }
+    requires inside { LiesInAreas (listed table.now.entries) image.now }
+    ensures memory { memory_of_part table.now whole.new ≡ areas_with_image (listed table.now.entries) image.now }
     ensures others { SameAround table.now whole.old whole.new }
-    ensures bytes { AreBytes whole.new }
+    ensures bytes { AllBytes whole.new }
 {
     let place = table.place() as usize;
     let end = place + table.size() as usize;

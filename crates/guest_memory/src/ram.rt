@@ -4,9 +4,9 @@ ghost use Rattle.std.specs.Prelude.{◌≡◌, ◌+◌, ◌<◌, ◌≤◌, ◌�
 ghost use Rattle.std.specs.FinMap.{get};
 ghost use Rattle.guest_bus.specs.Access.{fetched, loaded as loaded_at};
 ghost use Rattle.guest_bus.specs.Memory.{all_from, bytes_at, is_readable, is_writable, with_bytes};
-ghost use Rattle.guest_memory.specs.Loading.{LiesIn, areas_of, loaded, zeros_in};
-ghost use Rattle.guest_memory.specs.Flat.{AreTables, Follow, IsTable, areas_in, listed, memory_in};
-ghost use Rattle.guest_memory.specs.Memories.{AreMemories, ArePlaced, HasAreas, HasBytes, SameElsewhere, answer_by, areas_at, first_refused, map_at, others_of, place_at, size_of, whole_size, with_map, with_selected};
+ghost use Rattle.guest_memory.specs.Loading.{LiesInAreas, memory_areas, areas_with_image, zeros_in};
+ghost use Rattle.guest_memory.specs.Flat.{AreTables, Follow, IsMemoryTable, areas_of_tables, listed, memory_in};
+ghost use Rattle.guest_memory.specs.Memories.{AreMemories, ArePlaced, HasAreas, HasBytes, SameElsewhere, answer_by, areas_at, first_refused, map_at, others_of, place_at, areas_size, whole_size, with_map, with_selected};
 ghost use Rattle.guest_memory.specs.Words.{LieIn};
 ghost use Rattle.xm_conf.specs.Fits.{HasSome};
 
@@ -57,7 +57,7 @@ impl Ram {
     /// The memories of a configuration's partitions, all of zeros, with partition 0 selected. All memory is taken
     /// here: no other call needs any.
     pub fn new(alloc: Global, conf: &Conf) -> Result<Ram, Memory>
-        ensures value { IfOk result (λ ram. ram ≡ record { areas = map areas_of conf.now.parts; maps = map zeros_in (map areas_of conf.now.parts); selected = 0 }) }
+        ensures value { IfOk result (λ ram. ram ≡ record { areas = map memory_areas conf.now.parts; maps = map zeros_in (map memory_areas conf.now.parts); selected = 0 }) }
     {
         let made = tables_of(alloc, parts_of(conf))?;
         let bytes = zeros(alloc, made.1)?;
@@ -127,8 +127,8 @@ impl Ram {
     /// Loads an image into a partition's memory, and makes all other bytes of it zero.
     pub fn reload(&mut self, p: PartId, image: &Xef)
         requires partition { p < length self.old.areas }
-        requires inside { LiesIn (areas_at p self.old) image.now }
-        ensures value { self.new ≡ with_map p (loaded (areas_at p self.old) image.now) self.old }
+        requires inside { LiesInAreas (areas_at p self.old) image.now }
+        ensures value { self.new ≡ with_map p (areas_with_image (areas_at p self.old) image.now) self.old }
         ensures others { SameElsewhere p self.old self.new }
     {
         parts::reload(&self.tables[usize::from(p)], &mut self.bytes, image);
@@ -222,7 +222,7 @@ impl Ram {
     /// The bytes of a partition.
     fn part(&self, p: PartId) -> &[u8]
         requires { p < length self.now.areas }
-        ensures size { length result.now ≡ size_of (areas_at p self.now) }
+        ensures size { length result.now ≡ areas_size (areas_at p self.now) }
         ensures map { map_at p self.now ≡ memory_in (areas_at p self.now) result.now }
     {
         let table = &self.tables[usize::from(p)];
@@ -289,18 +289,18 @@ impl HasWords for Ram {
 fn parts_of(conf: &Conf) -> &[Part]
     ensures value { result.now ≡ conf.now.parts }
     ensures counted { HasSome result.now 16 }
-    ensures placed { All ArePlaced (map areas_of result.now) }
-    ensures few { whole_size (map areas_of result.now) < 4294967296 }
+    ensures placed { All ArePlaced (map memory_areas result.now) }
+    ensures few { whole_size (map memory_areas result.now) < 4294967296 }
 {
     &conf.raw().parts
 }
 
 /// The tables of partitions, and how many bytes these have together.
 fn tables_of(alloc: Global, parts: &[Part]) -> Result<(Vec<Table>, u32), Memory>
-    requires { whole_size (map areas_of parts.now) < 4294967296 }
-    ensures areas { IfOk result (λ made. areas_in made.0.items ≡ map areas_of parts.now) }
+    requires { whole_size (map memory_areas parts.now) < 4294967296 }
+    ensures areas { IfOk result (λ made. areas_of_tables made.0.items ≡ map memory_areas parts.now) }
     ensures tables { IfOk result (λ made. AreTables 0 made.0.items) }
-    ensures size { IfOk result (λ made. made.1 ≡ whole_size (map areas_of parts.now)) }
+    ensures size { IfOk result (λ made. made.1 ≡ whole_size (map memory_areas parts.now)) }
 {
     let mut tables = Vec::with_capacity(alloc, parts.len())?;
     let mut place = 0;
@@ -313,11 +313,11 @@ fn tables_of(alloc: Global, parts: &[Part]) -> Result<(Vec<Table>, u32), Memory>
 }
 
 /// The table of a partition whose bytes lie from a place on.
-#[tactic(auto, unfolding(crate::specs::Loading::areas_of))]
+#[tactic(auto, unfolding(crate::specs::Loading::memory_areas))]
 fn table_of(alloc: Global, part: &Part, place: u32) -> Result<Table, Memory>
-    requires { place + size_of (areas_of part.now) < 4294967296 }
-    ensures areas { IfOk result (λ table. listed table.entries ≡ areas_of part.now) }
-    ensures table { IfOk result (λ table. IsTable place table) }
+    requires { place + areas_size (memory_areas part.now) < 4294967296 }
+    ensures areas { IfOk result (λ table. listed table.entries ≡ memory_areas part.now) }
+    ensures table { IfOk result (λ table. IsMemoryTable place table) }
 {
     Ok(Table::new(alloc, &part.areas, place)?)
 }

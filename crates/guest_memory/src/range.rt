@@ -4,8 +4,8 @@ ghost use Rattle.std.specs.Prelude.{◌≡◌, ◌+◌, ◌<◌, ◌≤◌, ◌^
 ghost use borrow.Rule.Slice.PartMut.{put_mid};
 ghost use Rattle.guest_bus.specs.Memory.{all_from, bytes_at, is_readable, with_bytes};
 ghost use Rattle.guest_memory.specs.Flat.{IsSpace, listed, memory_in};
-ghost use Rattle.guest_memory.specs.Loading.{LiesIn, loaded};
-ghost use Rattle.guest_memory.specs.Memories.{ArePlaced, allows, first_refused};
+ghost use Rattle.guest_memory.specs.Loading.{LiesInAreas, areas_with_image};
+ghost use Rattle.guest_memory.specs.Memories.{ArePlaced, allows_byte, first_refused};
 
 use crate::access::Access;
 use crate::bytes::{clear, part, put};
@@ -17,9 +17,9 @@ use xef_images::Xef;
 fn room(entries: &[Entry], access: Access, address: u64) -> Option<usize>
     requires { ArePlaced (listed entries.now) }
     ensures some { IfSome result (λ room. 0 < room) }
-    ensures allowed { IfSome result (λ room. all_from (allows access (listed entries.now)) address room ≡ true) }
+    ensures allowed { IfSome result (λ room. all_from (allows_byte access (listed entries.now)) address room ≡ true) }
     ensures ends { IfSome result (λ room. address + room ≤ 2 ^ 32) }
-    ensures none { IsNone result → allows access (listed entries.now) address ≡ false }
+    ensures none { IsNone result → allows_byte access (listed entries.now) address ≡ false }
 {
     match place_of(entries, address) {
         Some(place) => {
@@ -36,7 +36,7 @@ fn room(entries: &[Entry], access: Access, address: u64) -> Option<usize>
 /// The first of so many addresses from one on that is not allowed.
 pub(crate) fn refused(entries: &[Entry], access: Access, address: u32, count: usize) -> Option<u64>
     requires { ArePlaced (listed entries.now) }
-    ensures value { result ≡ first_refused (allows access (listed entries.now)) address count }
+    ensures value { result ≡ first_refused (allows_byte access (listed entries.now)) address count }
     ensures ends { IsNone result → address + count ≤ 2 ^ 32 }
 {
     let mut at = u64::from(address);
@@ -123,8 +123,8 @@ fn write_piece(entries: &[Entry], bytes: &mut [u8], address: u64, from: &[u8]) -
 /// Loads an image, with zeros in all other places.
 pub(crate) fn load_image(entries: &[Entry], bytes: &mut [u8], image: &Xef)
     requires space { IsSpace entries.now bytes.old }
-    requires inside { LiesIn (listed entries.now) image.now }
-    ensures memory { memory_in (listed entries.now) bytes.new ≡ loaded (listed entries.now) image.now }
+    requires inside { LiesInAreas (listed entries.now) image.now }
+    ensures memory { memory_in (listed entries.now) bytes.new ≡ areas_with_image (listed entries.now) image.now }
     ensures length { length bytes.new ≡ length bytes.old }
 {
     clear(bytes);

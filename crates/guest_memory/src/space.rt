@@ -5,7 +5,7 @@ ghost use Rattle.std.specs.FinMap.{get};
 ghost use Rattle.std.specs.Int.{byte_len};
 ghost use Rattle.guest_bus.specs.Access.{Stores, after_store, fetched, loaded, store_fault, width_of};
 ghost use Rattle.guest_bus.specs.Memory.{bytes_at, is_readable, is_writable, with_bytes};
-ghost use Rattle.guest_memory.specs.Flat.{AreBytes, IsSpace, Places, listed, memory_in};
+ghost use Rattle.guest_memory.specs.Flat.{AllBytes, IsSpace, FindsPlace, listed, memory_in};
 ghost use Rattle.guest_memory.specs.Memories.{ArePlaced, answer_by, first_refused};
 
 use crate::access::Access;
@@ -31,7 +31,7 @@ pub(crate) fn byte(entries: &[Entry], bytes: &[u8], address: u32) -> Option<u8>
 /// Where an access of a size begins, or why it is refused.
 fn accessed(entries: &[Entry], address: u32, size: Size) -> Result<Place, BusFault>
     requires { ArePlaced (listed entries.now) }
-    ensures { Places (is_readable (listed entries.now)) result entries.now address (byte_len (width_of size)) }
+    ensures { FindsPlace (is_readable (listed entries.now)) result entries.now address (byte_len (width_of size)) }
 {
     if address % size.bytes() != 0 {
         return Err(BusFault::Unaligned);
@@ -72,7 +72,7 @@ pub(crate) fn load(
 /// Where a store of a size begins, or why it is refused.
 fn stored(entries: &[Entry], address: u32, size: Size) -> Result<Place, BusFault>
     requires { ArePlaced (listed entries.now) }
-    ensures { Places (is_writable (listed entries.now)) result entries.now address (byte_len (width_of size)) }
+    ensures { FindsPlace (is_writable (listed entries.now)) result entries.now address (byte_len (width_of size)) }
 {
     match accessed(entries, address, size) {
         Ok(place) => {
@@ -98,7 +98,7 @@ pub(crate) fn store(
     ensures fault { Stores result (store_fault (listed entries.now) address size) }
     ensures memory { memory_in (listed entries.now) bytes.new ≡ after_store (listed entries.now) (memory_in (listed entries.now) bytes.old) address size value }
     ensures length { length bytes.new ≡ length bytes.old }
-    ensures bytes { AreBytes bytes.new }
+    ensures bytes { AllBytes bytes.new }
 {
     match stored(entries, address, size) {
         Ok(place) => {
@@ -142,7 +142,7 @@ pub(crate) fn copy_out(
     ensures written { OnOk result (memory_in (listed entries.now) bytes.new ≡ with_bytes (memory_in (listed entries.now) bytes.old) address from.now) }
     ensures unchanged { OnErr result (bytes.new ≡ bytes.old) }
     ensures length { length bytes.new ≡ length bytes.old }
-    ensures bytes { AreBytes bytes.new }
+    ensures bytes { AllBytes bytes.new }
 {
     match refused(entries, Access::Write, address, from.len()) {
         Some(at) => Err(Outside::at(at)),

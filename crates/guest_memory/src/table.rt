@@ -1,9 +1,9 @@
 //! Where the bytes of a partition's areas lie.
 
 ghost use Rattle.std.specs.Prelude.{◌≡◌, ◌+◌, ◌<◌, IfOk, map};
-ghost use Rattle.guest_memory.specs.Flat.{IsTable, listed};
+ghost use Rattle.guest_memory.specs.Flat.{IsMemoryTable, listed};
 ghost use Rattle.guest_memory.specs.Loading.{area_of};
-ghost use Rattle.guest_memory.specs.Memories.{size_of};
+ghost use Rattle.guest_memory.specs.Memories.{areas_size};
 
 use crate::entry::Entry;
 use std::alloc::{AllocError, Global};
@@ -29,9 +29,9 @@ impl Model for Table {
 impl Table {
     /// The areas of a partition, whose bytes lie from a place on.
     pub(crate) fn new(alloc: Global, areas: &[Area], place: u32) -> Result<Table, AllocError>
-        requires { place + size_of (map area_of areas.now) < 4294967296 }
+        requires { place + areas_size (map area_of areas.now) < 4294967296 }
         ensures areas { IfOk result (λ table. listed table.entries ≡ map area_of areas.now) }
-        ensures table { IfOk result (λ table. IsTable place table) }
+        ensures table { IfOk result (λ table. IsMemoryTable place table) }
     {
         let mut entries = Vec::with_capacity(alloc, areas.len())?;
         let mut size = 0;

@@ -1,7 +1,7 @@
 //! Two partitions and their memories, at the edges of their areas.
 
 ghost use Rattle.std.specs.Prelude.{◌≡◌, ◌<◌, IfOk, IfSome, length, map};
-ghost use Rattle.guest_memory.specs.Loading.{areas_of};
+ghost use Rattle.guest_memory.specs.Loading.{memory_areas};
 
 use crate::{Outside, Ram};
 use guest_bus::{Bus, BusFault, Size};
@@ -367,7 +367,7 @@ fn system(rt: &impl Abort, alloc: Global) -> Result<System, Memory>
 
 /// Loads the image of a partition.
 fn reload(ram: &mut Ram, system: &System, p: PartId)
-    requires areas { ram.old.areas ≡ map areas_of system.now.conf.parts }
+    requires areas { ram.old.areas ≡ map memory_areas system.now.conf.parts }
     requires partition { p < length system.now.conf.parts }
     ensures areas { ram.new.areas ≡ ram.old.areas }
 {

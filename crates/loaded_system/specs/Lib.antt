@@ -1,5 +1,4 @@
 pub mod Bare
-pub mod BareLemmas
 pub mod Inside
 pub mod InsideLemmas
 pub mod System

@@ -7,7 +7,7 @@ use Rattle.sparc_step.specs.Registers.{Registers, advanced}
 use Rattle.sparc_step.specs.Undone.{turned-IsOrderly}
 use Rattle.sparc_step.specs.declared.outcome.Turn.{Turn}
 use Rattle.sparc_step.specs.declared.outcome.Turn.TheVariants.{Went, Trap, Call}
-use Rattle.virt_traps.specs.Moves.{Moved, fill_address, filled, made, refused, spill_address, spill_window, spilled}
+use Rattle.virt_traps.specs.Moves.{Moved, fill_address, filled, move_made, move_refused, spill_address, spill_window, spilled}
 use Rattle.virt_traps.specs.SaveArea.{is_usable}
 use Rattle.virt_traps.specs.Settled.{GoesOn, after_trap, again_or_trap, answered, made_again, settled}
 use Rattle.virt_traps.specs.declared.windows.StackFault.{StackFault}
@@ -25,7 +25,7 @@ spilled_stands : (areas : List Area) (core : Registers) (memory : Memory) → St
 unfolding spilled
 spilled_stands areas core memory = at (is_usable (is_writable areas) (spill_address core)) _
   where
-    at : (usable : Bool) (new : Memory) → Stands core (if usable then made (record core { inv = spill_window core }) new else refused core memory)
+    at : (usable : Bool) (new : Memory) → Stands core (if usable then move_made (record core { inv = spill_window core }) new else move_refused core memory)
     at true new = (refl, refl)
     at false new = (refl, refl)
 
@@ -33,7 +33,7 @@ filled_stands : (areas : List Area) (core : Registers) (memory : Memory) → Sta
 unfolding filled
 filled_stands areas core memory = at (is_usable (is_readable areas) (fill_address core)) _
   where
-    at : (usable : Bool) (windows : List ℕ) → Stands core (if usable then made (record core { windows = windows; inv = (core.inv + 1) % 8 }) memory else refused core memory)
+    at : (usable : Bool) (windows : List ℕ) → Stands core (if usable then move_made (record core { windows = windows; inv = (core.inv + 1) % 8 }) memory else move_refused core memory)
     at true windows = (refl, refl)
     at false windows = (refl, refl)
 

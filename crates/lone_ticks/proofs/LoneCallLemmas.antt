@@ -21,9 +21,9 @@ use Rattle.machine_model.specs.Traffic.{told_as, traffic_of}
 use Rattle.machine_model.specs.View.{PartitionView, named, view_of}
 use Rattle.machine_model.specs.Whole.{event_of}
 use Rattle.slot_runs.specs.Passes.{part_at, traded, traffic_in, with_part}
-use Rattle.alone_passes.specs.Taking.{is_entry, takes_sight}
+use Rattle.alone_passes.specs.Taking.{asks_entry, takes_sight}
 use Rattle.system_ticks.specs.Span.{CanTake}
-use Rattle.lone_ticks.specs.LoneWork.{IsLoneDone, IsLoneWork, IsUndone, asked_of, shown_state, shows_this}
+use Rattle.lone_ticks.specs.LoneWork.{IsLoneDone, IsLoneWork, IsWorkUndone, asked_of, shown_state, shows_this}
 use Rattle.system_ticks.specs.declared.beyond.Beyond.TheVariants as beyond
 use Rattle.lone_ticks.specs.declared.call.Asked.{Asked}
 use Rattle.lone_ticks.specs.declared.work.LoneWork.{LoneWork}
@@ -88,7 +88,7 @@ sight_shown : (view : PartitionView) (caller : Caller) (call : Observation) (ask
     → shows_this caller asked seen ≡ takes_sight view (Some call) seen
 sight_shown view caller call asked seen sees is = subst (λ (x : Asked). shows_this caller x seen ≡ takes_sight view (Some call) seen) (same_Some _ asked is) (plain seen)
   where
-    plain : (s : Sight) → shows_this caller (record { address = call.address; size = call.size; entry = is_entry call.question }) s ≡ takes_sight view (Some call) s
+    plain : (s : Sight) → shows_this caller (record { address = call.address; size = call.size; entry = asks_entry call.question }) s ≡ takes_sight view (Some call) s
     plain Unseen = ap (λ (v : PartitionView). takes_sight v (Some call) Unseen) sees
     plain NotKept = refl
     plain (Words bytes) = ap (λ (v : PartitionView). takes_sight v (Some call) (Words bytes)) sees
@@ -126,10 +126,10 @@ shows_done law site asked seen old mid new below asks shows mid_is new_is = at (
 -- one that may not
 pub shows_not : (site : CallSite) (asked : Asked) (seen : Sight) (old : SysState)
     → asked_of (observed_by (view_of old.machine.system site.part) (part_at site.part old.machine).core) ≡ Some asked → shows_this (caller_of site old) asked seen ≡ false
-    → (takes_sight (view_of old.machine.system site.part) (observed_by (view_of old.machine.system site.part) (part_at site.part old.machine).core) seen ≡ false) × IsUndone site.part old old
+    → (takes_sight (view_of old.machine.system site.part) (observed_by (view_of old.machine.system site.part) (part_at site.part old.machine).core) seen ≡ false) × IsWorkUndone site.part old old
 shows_not site asked seen old asks shows = at (observed_by (view_of old.machine.system site.part) (part_at site.part old.machine).core) asks
   where
-    at : (o : Option Observation) → asked_of o ≡ Some asked → (takes_sight (view_of old.machine.system site.part) o seen ≡ false) × IsUndone site.part old old
+    at : (o : Option Observation) → asked_of o ≡ Some asked → (takes_sight (view_of old.machine.system site.part) o seen ≡ false) × IsWorkUndone site.part old old
     at None is = absurd cc
     at (Some call) is =
         (sym (sight_shown (view_of old.machine.system site.part) (caller_of site old) call asked seen (site_view site old) is) ∙ shows, undone_same site.part old old refl)

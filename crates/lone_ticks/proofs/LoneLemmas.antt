@@ -8,9 +8,9 @@ use Rattle.xm_base.specs.declared.partition.Order.{Order}
 use Rattle.xm_conf.specs.Configuration.{Chan, Conf}
 use Rattle.xm_report.specs.Report.{ReportLine}
 use Rattle.cue_scripts.specs.Entries.{is_away}
-use Rattle.cue_scripts.specs.Script.{CanHear, CanSee, IsAlone, chan_at, chan_called, heard_in, is_length, most_heard}
+use Rattle.cue_scripts.specs.Script.{CanHear, CanSee, HearsNothing, numbered_chan, chan_called, heard_in, is_length, most_heard}
 use Rattle.machine_model.specs.Alone.{Alone, alone_local, alone_local_in, alone_step}
-use Rattle.machine_model.specs.Cue.{Away, Cue, Mine, Slot}
+use Rattle.machine_model.specs.Cue.{Away, Cue, Mine, CueSlot}
 use Rattle.machine_model.specs.Facts.{AreFacts, IsItsOwn, KeepsFactsAlone, begun}
 use Rattle.machine_model.specs.Laws.{part}
 use Rattle.machine_model.specs.LocalTick.{LocalTick, local_tick}
@@ -23,7 +23,7 @@ use Rattle.machine_model.specs.Whole.{AllHalted, AllReset, NoEvent, WholeEvent, 
 use Rattle.slot_runs.specs.Passes.{part_at, traded, with_part}
 use Rattle.xm_ports.specs.Channels.{shapes_of}
 use Rattle.alone_passes.specs.Kept.{IsKeptBy, PassesKeep}
-use Rattle.alone_passes.specs.Laws.{AwayTicks, IsCalled, RestingTicks, away_lines}
+use Rattle.alone_passes.specs.Laws.{AwayTicks, IsOwnChannel, RestingTicksAlone, away_lines}
 use Rattle.alone_passes.specs.Passes.{away_passed, event_met, part_in, rested_in, tick_past, told_traffic}
 use Rattle.alone_passes.specs.Taking.{is_no_sight, is_same_event, takes_cue, takes_traffic}
 use Rattle.alone_passes.specs.TakingLaws.{TakesAway, TakesResting}
@@ -41,15 +41,15 @@ length_some : (most : Option ℕ) (count : ℕ) → is_length most count ≡ tru
 length_some None count is = absurd cc
 length_some (Some m) count is = (m, refl)
 
-heard_there : (conf : Conf) (p : ℕ) (o : Option ℕ) (m : ℕ) → heard_in p (chan_at conf o) ≡ Some m → (c : ℕ) × (o ≡ Some c)
+heard_there : (conf : Conf) (p : ℕ) (o : Option ℕ) (m : ℕ) → heard_in p (numbered_chan conf o) ≡ Some m → (c : ℕ) × (o ≡ Some c)
 heard_there conf p None m is = absurd cc
 heard_there conf p (Some c) m is = (c, refl)
 
-pub called_by : (conf : Conf) (p : ℕ) (own : OwnTraffic) → CanHear conf p own → IsCalled conf p own
+pub called_by : (conf : Conf) (p : ℕ) (own : OwnTraffic) → CanHear conf p own → IsOwnChannel conf p own
 unfolding most_heard chan_called
 called_by conf p OwnStill can = tt
 called_by conf p (OwnPuts q bytes) can =
-    let some = length_some (heard_in p (chan_at conf (named conf p q))) (length bytes) can.fits in
+    let some = length_some (heard_in p (numbered_chan conf (named conf p q))) (length bytes) can.fits in
     heard_there conf p (named conf p q) some.0 some.1
 called_by conf p (OwnTakes q) can = tt
 
@@ -127,13 +127,13 @@ pub undone_machine : (old new : SysState) → new ≡ old → IsMachine old → 
 undone_machine old new is machine = subst IsMachine (sym is) machine
 
 -- in the slot of another partition, or in a gap, nothing is shown, and all that is told is of others
-pub unseen_away : (system : Bool) (mine : Slot) (seen : Sight) → mine ≡ Away → CanSee system mine seen → seen ≡ Unseen
+pub unseen_away : (system : Bool) (mine : CueSlot) (seen : Sight) → mine ≡ Away → CanSee system mine seen → seen ≡ Unseen
 unseen_away system mine Unseen away can = refl
 unseen_away system mine NotKept away can = absurd (let e : is_away mine ≡ true = ap is_away away in let no : true ≡ false = sym e ∙ can.0 in cc)
 unseen_away system mine (Words bytes) away can = absurd (let e : is_away mine ≡ true = ap is_away away in let no : true ≡ false = sym e ∙ can.0 in cc)
 
-pub its_away : (view : PartitionView) (a : Alone) (cue : Cue) (mine : Slot) → mine ≡ Away → IsItsOwn mine view a cue
-its_away view a cue mine away = subst (λ (slot : Slot). IsItsOwn slot view a cue) (sym away) tt
+pub its_away : (view : PartitionView) (a : Alone) (cue : Cue) (mine : CueSlot) → mine ≡ Away → IsItsOwn mine view a cue
+its_away view a cue mine away = subst (λ (slot : CueSlot). IsItsOwn slot view a cue) (sym away) tt
 
 -- there are as many partitions after each pass
 done_length : (b : Bool) (g : Machine) (p : ℕ) (own : OwnTraffic) → length (traffic_done b g p own).parts ≡ length g.parts
@@ -163,8 +163,8 @@ pub own_slot : (mine : code_mine.Mine) → mine ≢ its.Away → (first : Bool) 
 own_slot its.Away own = absurd (own refl)
 own_slot (its.Mine first) own = (first, refl)
 
-pub alone_in : (mine : Slot) (first : Bool) (traffic : OwnTraffic) (order : Option Order) → mine ≡ Mine first → IsAlone mine traffic order → (traffic ≡ OwnStill) × (order ≡ None)
-alone_in mine first traffic order own is = subst (λ (slot : Slot). IsAlone slot traffic order → (traffic ≡ OwnStill) × (order ≡ None)) (sym own) (λ both. both) is
+pub alone_in : (mine : CueSlot) (first : Bool) (traffic : OwnTraffic) (order : Option Order) → mine ≡ Mine first → HearsNothing mine traffic order → (traffic ≡ OwnStill) × (order ≡ None)
+alone_in mine first traffic order own is = subst (λ (slot : CueSlot). HearsNothing slot traffic order → (traffic ≡ OwnStill) × (order ≡ None)) (sym own) (λ both. both) is
 
 none_event : (event : WholeEvent) → is_same_event NoEvent event ≡ true → event ≡ NoEvent
 none_event NoEvent same = refl
@@ -175,8 +175,8 @@ both_true : (a b : Bool) → a ≡ true → b ≡ true → (a && b) ≡ true
 both_true a b one other = rw (one, other) refl
 
 -- a tick in a slot of a partition that takes no turns
-pub rest_done : RestingTicks → TakesResting → PassesKeep → (p : ℕ) (first : Bool) (cue : Cue) (old new : SysState) → p < length old.machine.parts → old.machine.halted ≡ false
-    → cue.mine ≡ Mine first → IsAlone cue.mine cue.traffic cue.order → is_no_sight cue.seen ≡ true → is_same_event NoEvent cue.whole ≡ true → takes_turns (part_at p old.machine).state ≡ false
+pub rest_done : RestingTicksAlone → TakesResting → PassesKeep → (p : ℕ) (first : Bool) (cue : Cue) (old new : SysState) → p < length old.machine.parts → old.machine.halted ≡ false
+    → cue.mine ≡ Mine first → HearsNothing cue.mine cue.traffic cue.order → is_no_sight cue.seen ≡ true → is_same_event NoEvent cue.whole ≡ true → takes_turns (part_at p old.machine).state ≡ false
     → new ≡ with_machine (tick_past NoEvent (rested_in p old.machine)) old → IsLoneTick (Some note.Nothing) p cue old.machine new.machine []
 rest_done ticks takes keeps p first cue old new below runs own is unseen quiet rests done =
     let alone = alone_in cue.mine first cue.traffic cue.order own is in
@@ -195,21 +195,21 @@ rest_done ticks takes keeps p first cue old new below runs own is unseen quiet r
     }
 
 -- what it is told there is its own
-pub its_rest : (view : PartitionView) (a : Alone) (cue : Cue) (first : Bool) → cue.mine ≡ Mine first → IsAlone cue.mine cue.traffic cue.order → is_same_event NoEvent cue.whole ≡ true
+pub its_rest : (view : PartitionView) (a : Alone) (cue : Cue) (first : Bool) → cue.mine ≡ Mine first → HearsNothing cue.mine cue.traffic cue.order → is_same_event NoEvent cue.whole ≡ true
     → takes_turns a.state.state ≡ false → IsItsOwn cue.mine view a cue
 unfolding alone_local
 its_rest view a cue first own is quiet rests =
     let alone = alone_in cue.mine first cue.traffic cue.order own is in
     let none : alone_local_in cue.mine view a cue.seen ≡ None =
-    ap (λ (mine : Slot). alone_local_in mine view a cue.seen) own ∙ ap (λ (b : Bool). if b then Some (local_tick view a.state a.copies a.ticks a.time first cue.seen) else None) rests in
-    subst (λ (slot : Slot). IsItsOwn slot view a cue) (sym own) (alone.1, none_event cue.whole quiet ∙ sym (ap (λ (o : Option LocalTick). event_of (act_of o)) none))
+    ap (λ (mine : CueSlot). alone_local_in mine view a cue.seen) own ∙ ap (λ (b : Bool). if b then Some (local_tick view a.state a.copies a.ticks a.time first cue.seen) else None) rests in
+    subst (λ (slot : CueSlot). IsItsOwn slot view a cue) (sym own) (alone.1, none_event cue.whole quiet ∙ sym (ap (λ (o : Option LocalTick). event_of (act_of o)) none))
 
-pub its_own : (p : ℕ) (g : Machine) (cue : Cue) (first : Bool) → cue.mine ≡ Mine first → IsAlone cue.mine cue.traffic cue.order → is_same_event NoEvent cue.whole ≡ true
+pub its_own : (p : ℕ) (g : Machine) (cue : Cue) (first : Bool) → cue.mine ≡ Mine first → HearsNothing cue.mine cue.traffic cue.order → is_same_event NoEvent cue.whole ≡ true
     → takes_turns (part_at p g).state ≡ false → IsItsOwn cue.mine (view_of g.system p) (part_in g p) cue
 unfolding part
 its_own p g cue first own is quiet rests = its_rest (view_of g.system p) (part_in g p) cue first own is quiet rests
 
-pub rest_part : RestingTicks → (g : Machine) (p : ℕ) (first : Bool) (cue : Cue) → p < length g.parts → cue.mine ≡ Mine first → IsAlone cue.mine cue.traffic cue.order
+pub rest_part : RestingTicksAlone → (g : Machine) (p : ℕ) (first : Bool) (cue : Cue) → p < length g.parts → cue.mine ≡ Mine first → HearsNothing cue.mine cue.traffic cue.order
     → is_same_event NoEvent cue.whole ≡ true → takes_turns (part_at p g).state ≡ false → part_in (tick_past NoEvent (rested_in p g)) p ≡ alone_step (view_of g.system p) (part_in g p) cue
 rest_part ticks g p first cue below own is quiet rests =
     let alone = alone_in cue.mine first cue.traffic cue.order own is in

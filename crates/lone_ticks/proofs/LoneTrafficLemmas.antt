@@ -4,7 +4,7 @@ use Rattle.std.specs.Prelude.{All, IfSome, IsSome, IsSomeAnd, ◌==◌, ◌&&◌
 use Rattle.std.proofs.lemmas.Bool.{eqb-true}
 use Rattle.std.proofs.lemmas.Bool.Decides.{nat_tests}
 use Rattle.std.proofs.lemmas.Option.{get_or_from_slice_get, same_Some}
-use Rattle.cue_scripts.specs.Script.{chan_at, chan_called, gives_in, gives_queue, heard_in, is_length, is_queue, most_heard}
+use Rattle.cue_scripts.specs.Script.{numbered_chan, chan_called, gives_in, gives_queue, heard_in, is_length, is_queue, most_heard}
 use Rattle.std.specs.List.{list_any}
 use Rattle.whole_system.specs.State.{SysState, with_machine}
 use Rattle.xm_conf.specs.Configuration.{Chan, Conf}
@@ -18,8 +18,8 @@ use Rattle.machine_model.specs.Told.{OwnPuts, OwnTakes}
 use Rattle.machine_model.specs.Traffic.{content_if, copies_of, puts_at, takes_at}
 use Rattle.machine_model.specs.View.{PortChannel, if_named, name_from, name_of, named, part_of, port_channel, view_of, with_its_name, with_name}
 use Rattle.slot_runs.specs.Passes.{traded}
-use Rattle.alone_passes.specs.Taking.{is_empty_copy, is_full, is_full_copy, takes_traffic}
-use Rattle.lone_ticks.specs.LoneWork.{IsChannelFor, IsKind, has_first, has_room, is_full_in, put_in, taken_in, traffic_done}
+use Rattle.alone_passes.specs.Taking.{is_empty_copy, is_queue_full, is_full_copy, takes_traffic}
+use Rattle.lone_ticks.specs.LoneWork.{IsChannelFor, IsChannelOfKind, has_first, has_room, is_full_in, put_in, taken_in, traffic_done}
 
 -- the number that an option has
 number_is : (o : Option ℕ) (n : ℕ) → is_number o n ≡ true → o ≡ Some n
@@ -124,7 +124,7 @@ length_in (Some m) count is = by (nat_le 1 count) (nat_le count m) refl refl is
     by true false one other both = absurd cc
     by false b one other both = absurd cc
 
-heard_at : (conf : Conf) (p q count m : ℕ) (o : Option ℕ) (found : Option Chan) → named conf p q ≡ o → chan_at conf o ≡ found → heard_in p found ≡ Some m → 1 ≤ count → count ≤ m → IsHeardOn conf p q count
+heard_at : (conf : Conf) (p q count m : ℕ) (o : Option ℕ) (found : Option Chan) → named conf p q ≡ o → numbered_chan conf o ≡ found → heard_in p found ≡ Some m → 1 ≤ count → count ≤ m → IsHeardOn conf p q count
 heard_at conf p q count m None found is there heard some fits = absurd (let e : found ≡ None = sym there in let f : heard_in p found ≡ None = ap (heard_in p) e in let no : None ≡ Some m = sym f ∙ heard in cc)
 heard_at conf p q count m (Some c) None is there heard some fits = absurd cc
 heard_at conf p q count m (Some c) (Some chan) is there heard some fits = at (list_any (λ end. end.part == p) chan.dests) heard
@@ -136,8 +136,8 @@ heard_at conf p q count m (Some c) (Some chan) is there heard some fits = at (li
 pub heard_on : (conf : Conf) (p q count : ℕ) → is_length (most_heard conf p q) count ≡ true → IsHeardOn conf p q count
 unfolding most_heard chan_called
 heard_on conf p q count is =
-    let most = length_in (heard_in p (chan_at conf (named conf p q))) count is in
-    heard_at conf p q count most.0 (named conf p q) (chan_at conf (named conf p q)) refl refl most.1 most.2 most.3
+    let most = length_in (heard_in p (numbered_chan conf (named conf p q))) count is in
+    heard_at conf p q count most.0 (named conf p q) (numbered_chan conf (named conf p q)) refl refl most.1 most.2 most.3
 
 -- and one is taken only from a queue that it calls so
 pub record IsGivenOn (conf : Conf) (p q : ℕ) : Type 0 where
@@ -147,7 +147,7 @@ pub record IsGivenOn (conf : Conf) (p q : ℕ) : Type 0 where
   pub there : slice_get conf.chans c ≡ Some chan
   pub queue : is_queue chan.kind ≡ true
 
-given_at : (conf : Conf) (p q : ℕ) (o : Option ℕ) (found : Option Chan) → named conf p q ≡ o → chan_at conf o ≡ found → gives_in p found ≡ true → IsGivenOn conf p q
+given_at : (conf : Conf) (p q : ℕ) (o : Option ℕ) (found : Option Chan) → named conf p q ≡ o → numbered_chan conf o ≡ found → gives_in p found ≡ true → IsGivenOn conf p q
 given_at conf p q None found is there gives = absurd (let e : gives_in p found ≡ false = ap (gives_in p) (sym there) in let no : false ≡ true = sym e ∙ gives in cc)
 given_at conf p q (Some c) None is there gives = absurd cc
 given_at conf p q (Some c) (Some chan) is there gives = record { c = c; is = is; chan = chan; there = there; queue = first_of (is_queue chan.kind) (chan.source.part == p) gives }
@@ -158,7 +158,7 @@ given_at conf p q (Some c) (Some chan) is there gives = record { c = c; is = is;
 
 pub given_on : (conf : Conf) (p q : ℕ) → gives_queue conf p q ≡ true → IsGivenOn conf p q
 unfolding gives_queue chan_called
-given_on conf p q gives = given_at conf p q (named conf p q) (chan_at conf (named conf p q)) refl refl gives
+given_on conf p q gives = given_at conf p q (named conf p q) (numbered_chan conf (named conf p q)) refl refl gives
 
 -- the channel that the code finds is that one
 pub record IsFor (conf : Conf) (p q code : ℕ) (bytes : List ℕ) : Type 0 where
@@ -226,7 +226,7 @@ queuing : (kind : ChanKind) → is_queue kind ≡ true → IsQueuing kind
 queuing (kinds.Sampling refresh) is = absurd cc
 queuing (kinds.Queuing most) is = tt
 
-pub take_kind : (conf : Conf) (p q code : ℕ) → gives_queue conf p q ≡ true → channel_of conf p q ≡ Some code → IsKind IsQueuing conf code
+pub take_kind : (conf : Conf) (p q code : ℕ) → gives_queue conf p q ≡ true → channel_of conf p q ≡ Some code → IsChannelOfKind IsQueuing conf code
 take_kind conf p q code gives found =
     let its = take_from conf p q code gives found in
     subst (λ (o : Option Chan). IsSomeAnd o (λ (chan : Chan). IsQueuing chan.kind)) (sym its.there) (queuing its.chan.kind its.queue)
@@ -246,7 +246,7 @@ kind_mapped Of [] c is = is
 kind_mapped Of (chan ∷ chans) zero is = is
 kind_mapped Of (chan ∷ chans) (suc c) is = kind_mapped Of chans c is
 
-pub kind_shape : (Of : ChanKind → Type 0) (conf : Conf) (shapes : List Shape) (c : ℕ) → shapes ≡ shapes_of conf → IsKind Of conf c → IsSomeAnd (slice_get shapes c) (λ shape. Of shape.kind)
+pub kind_shape : (Of : ChanKind → Type 0) (conf : Conf) (shapes : List Shape) (c : ℕ) → shapes ≡ shapes_of conf → IsChannelOfKind Of conf c → IsSomeAnd (slice_get shapes c) (λ shape. Of shape.kind)
 unfolding shapes_of
 kind_shape Of conf shapes c same is = subst (λ (xs : List Shape). IsSomeAnd (slice_get xs c) (λ shape. Of shape.kind)) (sym same) (kind_mapped Of conf.chans c is)
 
@@ -301,7 +301,7 @@ kind_some : (conf : Conf) (c : ℕ) (o : Option Chan) → slice_get conf.chans c
 kind_some conf c None is kind = absurd kind
 kind_some conf c (Some chan) is kind = (chan, is, kind)
 
-pub queue_at : (conf : Conf) (table : ChannelTable) (c : ℕ) → IsTable table → table.shapes ≡ shapes_of conf → IsKind IsQueuing conf c → IsQueueAt conf table c
+pub queue_at : (conf : Conf) (table : ChannelTable) (c : ℕ) → IsTable table → table.shapes ≡ shapes_of conf → IsChannelOfKind IsQueuing conf c → IsQueueAt conf table c
 unfolding shapes_of
 queue_at conf table c is shapes kind =
     let found = kind_some conf c (slice_get conf.chans c) refl kind in
@@ -316,7 +316,7 @@ room_is : (g : Machine) (table : ChannelTable) (c : ℕ) (at : IsQueueAt g.syste
 room_is g table c at same =
     ap (λ (o : Option Chan). not (is_full_in o (slice_get g.channels c))) at.there
     ∙ ap (λ (o : Option Content). not (is_full_in (Some at.chan) o)) (ap (λ (xs : List Content). slice_get xs c) (sym same) ∙ at.held)
-    ∙ ap (λ (k : ChanKind). not (is_full k (Queuing at.messages))) at.kind
+    ∙ ap (λ (k : ChanKind). not (is_queue_full k (Queuing at.messages))) at.kind
 
 -- a full queue, as the channels tell it
 full_is : (conf : Conf) (table : ChannelTable) (shapes : List Shape) (contents : List Content) (c : ℕ) (at : IsQueueAt conf table c) → shapes ≡ shapes_of conf → table.contents ≡ contents

@@ -14,9 +14,9 @@ use Rattle.xm_ports.specs.Channels.{shapes_of}
 use Rattle.xm_report.specs.Report.{ReportLine}
 use Rattle.xm_traces.specs.Ring.{Kept}
 use Rattle.xm_traces.specs.declared.entry.TraceEntry.{TraceEntry}
-use Rattle.cue_scripts.specs.Script.{IsAlone, IsCue}
+use Rattle.cue_scripts.specs.Script.{HearsNothing, IsCue}
 use Rattle.machine_model.specs.Alone.{Alone, alone_local, alone_local_in, alone_step, alone_step_lines}
-use Rattle.machine_model.specs.Cue.{Cue, Mine, Slot}
+use Rattle.machine_model.specs.Cue.{Cue, Mine, CueSlot}
 use Rattle.machine_model.specs.Facts.{AreEnds, AreFacts, AreLast, HaveEight, IsItsOwn, KeepsFactsAlone, begun}
 use Rattle.machine_model.specs.Health.{Worked}
 use Rattle.machine_model.specs.Laws.{ActsWithinBounds, part}
@@ -37,11 +37,11 @@ use Rattle.alone_passes.specs.Passes.{event_met, part_in, tick_past, work_passed
 use Rattle.alone_passes.specs.Step.{IsLone, IsOfSystem}
 use Rattle.alone_passes.specs.Taking.{is_same_event, is_same_mode, takes_cue, takes_sight}
 use Rattle.alone_passes.specs.TakingLaws.{TakesWorking}
-use Rattle.lone_ticks.specs.LoneWork.{IsLoneDone, IsLoneTick, IsLoneTicked, IsLoneWork, IsUncounted, IsUndone}
+use Rattle.lone_ticks.specs.LoneWork.{IsLoneDone, IsLoneTick, IsLoneTicked, IsLoneWork, IsUncounted, IsWorkUndone}
 use Rattle.system_ticks.specs.CueValues.{cue_value, slot_value}
 use Rattle.system_ticks.specs.Machine.{IsMachine}
 use Rattle.system_ticks.specs.Span.{CanTake}
-use Rattle.system_ticks.specs.Work.{TellsAlone, act_of, console_told}
+use Rattle.system_ticks.specs.Work.{TellsAlone, act_beyond, console_told}
 use Rattle.system_ticks.specs.declared.beyond.Beyond.{Beyond}
 use Rattle.system_ticks.specs.declared.cue.Cue as code
 use Rattle.system_ticks.specs.declared.cue.Mine.TheVariants as its
@@ -147,9 +147,9 @@ its_turn law g p first cue own unordered turns =
     let w : Worked = worked view (copies g p) g.time first cue.seen (part_at p g) in
     let a : Alone = part_in g p in
     let local : alone_local_in cue.mine view a cue.seen ≡ Some (local_tick view (part_at p g) (copies g p) g.ticks g.time first cue.seen) =
-    ap (λ (mine : Slot). alone_local_in mine view a cue.seen) own
+    ap (λ (mine : CueSlot). alone_local_in mine view a cue.seen) own
     ∙ ap (λ (b : Bool). if b then Some (local_tick view (part_at p g) (copies g p) g.ticks g.time first cue.seen) else None) turns in
-    subst (λ (slot : Slot). IsItsOwn slot view a (with_event cue (event_of w.act))) (sym own)
+    subst (λ (slot : CueSlot). IsItsOwn slot view a (with_event cue (event_of w.act))) (sym own)
     (unordered, sym (ap (λ (o : Option LocalTick). event_of (act_in o)) local ∙ ap event_of (law g.system p (part_at p g) (copies g p) g.ticks g.time first cue.seen)))
 
 -- the system behind the end of a tick in which the partition did its work
@@ -161,7 +161,7 @@ worked_state p w event old mid new mid_is event_is new_is =
     ∙ ap (λ (s : SysState). with_machine (tick_past (event_of w.act) (event_met p (event_of w.act) s.machine)) s) mid_is
 
 -- the bytes for the console still stand in the partition's memory
-console_stands : (p : ℕ) (w : Worked) (a_note : Note) (reach : Beyond) (g : Machine) → p < length g.parts → TellsAlone a_note reach → event_of w.act ≡ event_of (act_of reach)
+console_stands : (p : ℕ) (w : Worked) (a_note : Note) (reach : Beyond) (g : Machine) → p < length g.parts → TellsAlone a_note reach → event_of w.act ≡ event_of (act_beyond reach)
     → console_told a_note (memory_of p (work_passed p w g)) ≡ console_told a_note w.after.memory
 console_stands p w note.Nothing reach g below alone same = refl
 console_stands p w (note.Console at size) reach g below alone same =
@@ -181,7 +181,7 @@ pub record IsTurn (p : ℕ) (first : Bool) (cue : Cue) (old : SysState) : Type 0
   pub running : old.machine.halted ≡ false
   pub more : old.machine.ticks < 4000000000
   pub own : cue.mine ≡ Mine first
-  pub alone : IsAlone cue.mine cue.traffic cue.order
+  pub alone : HearsNothing cue.mine cue.traffic cue.order
   pub turns : takes_turns (part_at p old.machine).state ≡ true
 
 pub is_turn : (p : ℕ) (first : Bool) (cue : code.Cue) (old : SysState) → IsMachine old → p < length old.machine.parts → old.machine.halted ≡ false → old.machine.ticks < 4000000000
@@ -193,7 +193,7 @@ module _ (ticks : WorkingTicks) (takes : TakesWorking) (keeps : PassesKeep) (bou
   module _ (p : ℕ) (first : Bool) (cue : Cue) (work : LoneWork) (event : WholeEvent) (old mid new : SysState) (had got : List ReportLine) (is : IsTurn p first cue old)
       (sees : takes_sight (view_of old.machine.system p) (asks (view_of old.machine.system p) (part_at p old.machine) old.machine.time first) cue.seen ≡ true)
       (done : IsLoneDone p (worked (view_of old.machine.system p) (copies old.machine p) old.machine.time first cue.seen (part_at p old.machine)) work old mid had)
-      (event_is : event ≡ event_of (act_of work.reach))
+      (event_is : event ≡ event_of (act_beyond work.reach))
       (new_is : new ≡ with_machine (tick_past event (event_met p event mid.machine)) mid)
       (got_is : got ≡ had ++ event_lines mid.machine.ticks event p) where
     abbrev w : Worked
@@ -286,7 +286,7 @@ uncounted_facts view n ps x same is =
       made = subst (AreEnds view) (sym same.made) is.made;
     }
 
-pub undone_machine : (p : ℕ) (old new : SysState) → IsMachine old → p < length old.machine.parts → IsUndone p old new → IsMachine new
+pub undone_machine : (p : ℕ) (old new : SysState) → IsMachine old → p < length old.machine.parts → IsWorkUndone p old new → IsMachine new
 undone_machine p old new is below undone =
     subst IsMachine (sym undone.state) (record {
       shapes = is.shapes;
@@ -301,7 +301,7 @@ undone_machine p old new is below undone =
       };
     })
 
-pub undone_system : (p : ℕ) (old new : SysState) → IsUndone p old new → IsOfSystem old.machine new.machine
+pub undone_system : (p : ℕ) (old new : SysState) → IsWorkUndone p old new → IsOfSystem old.machine new.machine
 undone_system p old new undone = record {
   system = ap (λ (s : SysState). s.machine.system) undone.state;
   parts = ap (λ (s : SysState). length s.machine.parts) undone.state ∙ length-set old.machine.parts p undone.after;

@@ -22,7 +22,7 @@ use Rattle.xm_report.specs.Report.{ReportLine}
 use Rattle.machine_model.specs.Caller.{Caller}
 use Rattle.machine_model.specs.Facts.{AreEnds}
 use Rattle.machine_model.specs.Health.{Worked, event_handled, interrupt_delivered, quiet}
-use Rattle.machine_model.specs.LocalTick.{by_turn, called, clocked, delivered_or_executed, executed, goes_on, turned_state, with_interrupts, worked, worked_if}
+use Rattle.machine_model.specs.LocalTick.{by_turn, called, clocked, delivered_or_executed, executed_in_tick, goes_on, turned_state, with_interrupts, worked, worked_if}
 use Rattle.machine_model.specs.Machine.{Machine, copies, sight_for}
 use Rattle.machine_model.specs.Observed.{Observation, asked_by, asks, if_call, observed_by, unless_delivered}
 use Rattle.machine_model.specs.Partition.{PartitionState, areas_of, execution_looked_at, hardware_looked_at, is_halted, takes_turns}
@@ -33,9 +33,9 @@ use Rattle.machine_model.specs.Whole.{event_of}
 use Rattle.slot_runs.specs.Meeting.{awake}
 use Rattle.slot_runs.specs.Passes.{part_at, traded, traffic_in, with_part}
 use Rattle.alone_passes.specs.Taking.{is_no_sight, takes_sight}
-use Rattle.lone_ticks.specs.LoneWork.{IsLoneDone, IsLoneWork, IsUncounted, IsUndone}
+use Rattle.lone_ticks.specs.LoneWork.{IsLoneDone, IsLoneWork, IsUncounted, IsWorkUndone}
 use Rattle.system_ticks.specs.Span.{CanTake}
-use Rattle.system_ticks.specs.Work.{IsWorked, TellsAlone, act_of, console_told}
+use Rattle.system_ticks.specs.Work.{IsTickWorked, TellsAlone, act_beyond, console_told}
 use Rattle.system_ticks.specs.declared.beyond.Beyond.{Beyond}
 use Rattle.system_ticks.specs.declared.beyond.Beyond.TheVariants as beyond
 use Rattle.lone_ticks.specs.declared.work.LoneWork.{LoneWork}
@@ -51,7 +51,7 @@ event_plain (told.UponAll event) = refl
 
 -- work on the whole system is the work of the partition without the others
 pub lone_done : (p : ℕ) (w : Worked) (a_note : Note) (reach : Beyond) (old new : SysState) (got : List ReportLine)
-    → IsWorked p w a_note reach old new got → TellsAlone a_note reach → length got ≤ 4 → IsLoneDone p w (record { note = a_note; reach = reach }) old new got
+    → IsTickWorked p w a_note reach old new got → TellsAlone a_note reach → length got ≤ 4 → IsLoneDone p w (record { note = a_note; reach = reach }) old new got
 lone_done p w a_note reach old new got worked alone few = record {
   state = worked.state;
   lines = worked.lines;
@@ -76,7 +76,7 @@ unseeing p pc npc seen sys none is =
     (unseen_is seen is ∙ sym (ap (λ (asked : Option Observation). sight_for sys.machine (view_of sys.machine.system p) asked) none))
 
 -- work that was not done changed nothing
-pub undone_same : (p : ℕ) (old new : SysState) → new ≡ old → IsUndone p old new
+pub undone_same : (p : ℕ) (old new : SysState) → new ≡ old → IsWorkUndone p old new
 undone_same p old new is = record {
   after = part_at p old.machine;
   state = is ∙ sym (put_back p old);
@@ -85,7 +85,7 @@ undone_same p old new is = record {
 
 -- a system in which the partition's own state was changed before
 pub undone_after : (p : ℕ) (x : PartitionState) (old mid new : SysState) → p < length old.machine.parts → mid ≡ with_machine (with_part p x old.machine) old
-    → IsUncounted (part_at p old.machine) x → IsUndone p mid new → IsUndone p old new
+    → IsUncounted (part_at p old.machine) x → IsWorkUndone p mid new → IsWorkUndone p old new
 undone_after p x old mid new below is same undone = record {
   after = undone.after;
   state = undone.state
@@ -147,7 +147,7 @@ delivers (Some k) false n view contents time seen ps is = absurd cc
 
 pub executes : (o : Option ℕ) (enabled : Bool) (view : PartitionView) (contents : List (Option Content)) (time : ℕ) (seen : Sight) (ps : PartitionState)
     → (if enabled then o else None) ≡ None
-    → (asked_by view ps ≡ unless_delivered o enabled view ps) × (executed view contents time seen ps ≡ delivered_or_executed o enabled view contents time seen ps)
+    → (asked_by view ps ≡ unless_delivered o enabled view ps) × (executed_in_tick view contents time seen ps ≡ delivered_or_executed o enabled view contents time seen ps)
 executes None true view contents time seen ps is = (refl, refl)
 executes None false view contents time seen ps is = (refl, refl)
 executes (Some k) true view contents time seen ps is = absurd cc
@@ -240,8 +240,8 @@ pub turned_work : (p : ℕ) (turn : Turn) (work : Option LoneWork) (asked : Opti
     → w ≡ by_turn turn (view_of old.machine.system p) (copies old.machine p) old.machine.time seen (part_at p old.machine) (part_at p mid.machine)
     → IsLoneWork work p asked seen w mid new got
     → IsLoneWork work p (asked_by (view_of old.machine.system p) (part_at p old.machine)) seen
-    (executed (view_of old.machine.system p) (copies old.machine p) old.machine.time seen (part_at p old.machine)) old new got
-unfolding asked_by executed
+    (executed_in_tick (view_of old.machine.system p) (copies old.machine p) old.machine.time seen (part_at p old.machine)) old new got
+unfolding asked_by executed_in_tick
 turned_work p turn work asked seen w old mid new got below turn_is mid_is asked_is w_is given =
     let view : PartitionView = view_of old.machine.system p in
     let ps : PartitionState = part_at p old.machine in
@@ -293,7 +293,7 @@ lone_silent p work asked seen w old new had empty is = subst (λ (got : List Rep
 -- a call that asks for nothing and is shown nothing
 pub unseeing_done : (p pc npc : ℕ) (seen : Sight) (a_note : Note) (reach : Beyond) (old new : SysState) (got : List ReportLine)
     → observed_by (view_of old.machine.system p) (part_at p old.machine).core ≡ None → is_no_sight seen ≡ true
-    → IsWorked p (called (caller_at p pc npc old)) a_note reach old new got → TellsAlone a_note reach → length got ≤ 4
+    → IsTickWorked p (called (caller_at p pc npc old)) a_note reach old new got → TellsAlone a_note reach → length got ≤ 4
     → IsLoneWork (Some (record { note = a_note; reach = reach })) p None seen (called (record (caller_at p pc npc old) { sight = seen })) old new got
 unseeing_done p pc npc seen a_note reach old new got none is worked alone few = (
   is,

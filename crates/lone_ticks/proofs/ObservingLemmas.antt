@@ -16,7 +16,7 @@ use Rattle.machine_model.specs.TimeCalls.{get_plan_status, switch_sched_plan}
 use Rattle.machine_model.specs.Told as told
 use Rattle.machine_model.specs.Told.{NotKept, Sight, Unseen, Words}
 use Rattle.machine_model.specs.View.{PartitionView}
-use Rattle.alone_passes.specs.Taking.{is_entry}
+use Rattle.alone_passes.specs.Taking.{asks_entry}
 use Rattle.lone_ticks.specs.LoneWork.{asked_of, shown_state, shows_this}
 use Rattle.lone_ticks.specs.declared.call.Asked.{Asked}
 
@@ -32,7 +32,7 @@ tested_mild (None ∷ tests) caller comes mild = tested_mild tests caller comes 
 
 -- where it is told that an entry is not kept, that is its answer
 abbrev Misses : Caller → Observation → Served → Type 0
-Misses caller call comes = caller.sight ≡ NotKept → is_entry call.question ≡ true → comes.after ≡ with_answer not_available caller.state
+Misses caller call comes = caller.sight ≡ NotKept → asks_entry call.question ≡ true → comes.after ≡ with_answer not_available caller.state
 
 pub record IsObserved (caller : Caller) (call : Observation) (comes : Served) : Type 0 where
   pub mild : IsMild comes
@@ -49,9 +49,9 @@ apart false true is = (refl, refl)
 apart false false is = absurd cc
 
 -- a call that asks for no entry is not told so
-asks_none : (caller : Caller) (x call : Observation) (comes : Served) → x ≡ call → is_entry x.question ≡ false → Misses caller call comes
+asks_none : (caller : Caller) (x call : Observation) (comes : Served) → x ≡ call → asks_entry x.question ≡ false → Misses caller call comes
 asks_none caller x call comes same none seen entry =
-    absurd (let no : true ≡ false = sym entry ∙ sym (ap (λ (o : Observation). is_entry o.question) same) ∙ none in cc)
+    absurd (let no : true ≡ false = sym entry ∙ sym (ap (λ (o : Observation). asks_entry o.question) same) ∙ none in cc)
 
 -- a call for an entry that is told so
 misses : {T : Type 0} (size : ℕ) (bytes : T → List ℕ) (kept : Kept T) (caller : Caller) → caller.view.part.system ≡ true
@@ -137,7 +137,7 @@ module _ (caller : Caller) (call : Observation) (system : caller.view.part.syste
   is_call n same it = subst (λ (k : ℕ). IsObserved caller call (call_numbered k caller)) (sym (eqb-true number n same)) it
 
   -- one about another partition that asks for no entry
-  about : (n : ℕ) (question : Question) (address size : ℕ) → (number == n) ≡ true → about_other view a question address size ≡ Some call → is_entry question ≡ false
+  about : (n : ℕ) (question : Question) (address size : ℕ) → (number == n) ≡ true → about_other view a question address size ≡ Some call → asks_entry question ≡ false
       → IsMild (call_numbered n caller) → Comes
   about n question address size same is none mild =
       is_call n same (record { mild = mild; missing = asks_none caller _ call (call_numbered n caller) (some_is _ _ call is).1 none })
@@ -222,7 +222,7 @@ shown_after law caller call asked seen is asks shows =
     (by seen (subst (λ (x : Asked). shows_this caller x seen ≡ true) (sym (same_Some _ asked asks)) shows))
   where
     its : Asked
-    its = record { address = call.address; size = call.size; entry = is_entry call.question }
+    its = record { address = call.address; size = call.size; entry = asks_entry call.question }
 
     no_room : (b : Bool) → not b ≡ true → b ≡ false
     no_room true none = absurd cc

@@ -9,7 +9,7 @@ use Rattle.sparc_step.specs.declared.outcome.Turn.TheVariants.{Call, Trap}
 use Rattle.virt_traps.specs.Settled.{GoesOn, settled}
 use Rattle.xm_report.specs.Report.{ReportLine}
 use Rattle.xm_conf.specs.Configuration.{Conf}
-use Rattle.cue_scripts.specs.Entries.{plain}
+use Rattle.cue_scripts.specs.Entries.{bare_cue}
 use Rattle.cue_scripts.specs.Script.{IsCue}
 use Rattle.machine_model.specs.Facts.{KeepsFactsAlone}
 use Rattle.machine_model.specs.Health.{Worked, event_handled}
@@ -32,8 +32,8 @@ use Rattle.alone_passes.specs.Passes.{event_met, tick_past}
 use Rattle.alone_passes.specs.Taking.{is_same_event}
 use Rattle.alone_passes.specs.TakingLaws.{TakesWorking}
 use Rattle.system_ticks.specs.Span.{CanTake}
-use Rattle.system_ticks.specs.Work.{act_of}
-use Rattle.lone_ticks.specs.LoneSpan.{CanEnd, HasTurned, HasWorked, IsEnded}
+use Rattle.system_ticks.specs.Work.{act_beyond}
+use Rattle.lone_ticks.specs.LoneSpan.{CanEnd, HasTurnedAlone, HasWorked, IsLoneSpanEnded}
 use Rattle.lone_ticks.specs.LoneWork.{IsLoneDone, IsLoneWork}
 use Rattle.lone_ticks.specs.declared.work.LoneWork.{LoneWork}
 use Rattle.lone_ticks.proofs.GoesOnLemmas.{call_goes_on}
@@ -43,8 +43,8 @@ use Rattle.lone_ticks.proofs.PutLemmas.{IsTraded, is_traded}
 use Rattle.lone_ticks.proofs.StillLemmas.{ready_call, ready_work}
 
 -- it is a turn of the partition
-is_turn : (p : ℕ) (work : Option LoneWork) (before now : SysState) (got : List ReportLine) → HasWorked p work before now got → IsTurn p false (plain true) before
-unfolding plain
+is_turn : (p : ℕ) (work : Option LoneWork) (before now : SysState) (got : List ReportLine) → HasWorked p work before now got → IsTurn p false (bare_cue true) before
+unfolding bare_cue
 is_turn p work before now got is = record {
   machine = is.machine;
   below = is.partition;
@@ -57,28 +57,28 @@ is_turn p work before now got is = record {
 
 -- work that was done
 pub work_ended : WorkingTicks → TakesWorking → PassesKeep → ActsWithinBounds → KeepsFactsAlone → (p : ℕ) (work : LoneWork) (event : WholeEvent) (before mid new : SysState) (had got : List ReportLine) (told : Option Note) (same : Bool)
-    → HasWorked p (Some work) before mid had → event ≡ event_of (act_of work.reach) → new ≡ with_machine (tick_past event (event_met p event mid.machine)) mid
-    → got ≡ had ++ event_lines mid.machine.ticks event p → same ≡ is_same_event event NoEvent → told ≡ (if same then Some work.note else None) → length got ≤ 24 → IsEnded told p before new got
-unfolding plain
+    → HasWorked p (Some work) before mid had → event ≡ event_of (act_beyond work.reach) → new ≡ with_machine (tick_past event (event_met p event mid.machine)) mid
+    → got ≡ had ++ event_lines mid.machine.ticks event p → same ≡ is_same_event event NoEvent → told ≡ (if same then Some work.note else None) → length got ≤ 24 → IsLoneSpanEnded told p before new got
+unfolding bare_cue
 work_ended ticks takes keeps bounds facts p work event before mid new had got told same is event_is new_is got_is same_is told_is few =
-    let turn : IsTurn p false (plain true) before = is_turn p (Some work) before mid had is in
+    let turn : IsTurn p false (bare_cue true) before = is_turn p (Some work) before mid had is in
     record {
-      tick = turn_noted ticks takes keeps bounds facts p false (plain true) work event before mid new had got turn is.work.0 is.work.1 event_is new_is got_is told same same_is told_is few;
-      machine = turn_machine ticks takes keeps bounds facts p false (plain true) work event before mid new had got turn is.work.0 is.work.1 event_is new_is got_is;
-      system = turn_system ticks takes keeps bounds facts p false (plain true) work event before mid new had got turn is.work.0 is.work.1 event_is new_is got_is;
+      tick = turn_noted ticks takes keeps bounds facts p false (bare_cue true) work event before mid new had got turn is.work.0 is.work.1 event_is new_is got_is told same same_is told_is few;
+      machine = turn_machine ticks takes keeps bounds facts p false (bare_cue true) work event before mid new had got turn is.work.0 is.work.1 event_is new_is got_is;
+      system = turn_system ticks takes keeps bounds facts p false (bare_cue true) work event before mid new had got turn is.work.0 is.work.1 event_is new_is got_is;
     }
 
 -- work that was not
-pub work_missed : TakesWorking → ActsWithinBounds → (p : ℕ) (before now : SysState) (got more : List ReportLine) → HasWorked p None before now got → IsEnded None p before now more
-unfolding plain
+pub work_missed : TakesWorking → ActsWithinBounds → (p : ℕ) (before now : SysState) (got more : List ReportLine) → HasWorked p None before now got → IsLoneSpanEnded None p before now more
+unfolding bare_cue
 work_missed takes bounds p before now got more is = record {
-  tick = not_seen takes bounds p false (plain true) before (is_turn p None before now got is) is.work.0;
+  tick = not_seen takes bounds p false (bare_cue true) before (is_turn p None before now got is) is.work.0;
   machine = undone_machine p before now is.machine is.partition is.work.1;
   system = undone_system p before now is.work.1;
 }
 
 -- the work of an instruction that came to a turn
-pub turn_worked : (p : ℕ) (turn : Turn) (pc : ℕ) (work : Option LoneWork) (asked : Option Observation) (w : Worked) (before now new : SysState) (got : List ReportLine) → HasTurned p turn pc before now
+pub turn_worked : (p : ℕ) (turn : Turn) (pc : ℕ) (work : Option LoneWork) (asked : Option Observation) (w : Worked) (before now new : SysState) (got : List ReportLine) → HasTurnedAlone p turn pc before now
     → asked ≡ if_call turn (view_of before.machine.system p) (part_at p now.machine).core
     → w ≡ by_turn turn (view_of before.machine.system p) (copies before.machine p) before.machine.time Unseen (part_at p before.machine) (part_at p now.machine)
     → IsLoneWork work p asked Unseen w now new got → HasWorked p work before new got
@@ -94,31 +94,31 @@ turn_worked p turn pc work asked w before now new got is asked_is w_is given = r
       (turned_work p turn work asked Unseen w before now new got is.partition is.came is.state asked_is w_is given);
 }
 
-pub trap_worked : (p type pc : ℕ) (work : Option LoneWork) (before now new : SysState) (got : List ReportLine) → HasTurned p (Trap type) pc before now
+pub trap_worked : (p type pc : ℕ) (work : Option LoneWork) (before now new : SysState) (got : List ReportLine) → HasTurnedAlone p (Trap type) pc before now
     → IsLoneWork work p None Unseen (event_handled (view_of now.machine.system p) now.machine.time (event_of_type type) pc (Some type) (clocked (part_at p now.machine))) now new got
     → HasWorked p work before new got
 trap_worked p type pc work before now new got is given =
     turn_worked p (Trap type) pc work None _ before now new got is refl (trap_as p type pc _ Unseen before now is.state is.at) given
 
-pub call_worked : (p pc npc : ℕ) (work : Option LoneWork) (before now new : SysState) (got : List ReportLine) → HasTurned p Call pc before now → npc ≡ (part_at p before.machine).core.npc
+pub call_worked : (p pc npc : ℕ) (work : Option LoneWork) (before now new : SysState) (got : List ReportLine) → HasTurnedAlone p Call pc before now → npc ≡ (part_at p before.machine).core.npc
     → IsLoneWork work p (observed_by (view_of now.machine.system p) (part_at p now.machine).core) Unseen (called (record (caller_at p pc npc now) { sight = Unseen })) now new got
     → HasWorked p work before new got
 call_worked p pc npc work before now new got is npc_is given =
     turn_worked p Call pc work _ _ before now new got is (observed_as p _ before now is.state) (call_as p pc npc _ Unseen before now is.state is.at npc_is) given
 
 -- what the tick needs
-pub turned_takes : (p : ℕ) (turn : Turn) (pc : ℕ) (before now : SysState) → HasTurned p turn pc before now → CanTake p 1 now
+pub turned_takes : (p : ℕ) (turn : Turn) (pc : ℕ) (before now : SysState) → HasTurnedAlone p turn pc before now → CanTake p 1 now
 turned_takes p turn pc before now is =
     uncounted_takes p _ before now (can_take p before is.machine is.partition is.running is.more) is.state (record { traces = refl; health = refl; execution = refl; inputs = refl; made = refl; awake = refl })
 
 -- after an instruction that called the program goes on
-pub call_next : (p pc : ℕ) (before now : SysState) → HasTurned p Call pc before now → GoesOn (part_at p before.machine).core (part_at p now.machine).core
+pub call_next : (p pc : ℕ) (before now : SysState) → HasTurnedAlone p Call pc before now → GoesOn (part_at p before.machine).core (part_at p now.machine).core
 call_next p pc before now is =
     subst (λ (x : PartitionState). GoesOn (part_at p before.machine).core x.core) (sym (part_set before now p _ is.partition is.state))
     (call_goes_on (areas_in p before.machine) (part_at p before.machine).core (memory_of p before.machine) (sym is.came))
 
 -- and so it can be served
-pub call_serves : (p pc : ℕ) (before now : SysState) → HasTurned p Call pc before now → (part_at p now.machine).core.npc ≡ ((part_at p now.machine).core.pc + 4) % 2 ^ 32
+pub call_serves : (p pc : ℕ) (before now : SysState) → HasTurnedAlone p Call pc before now → (part_at p now.machine).core.npc ≡ ((part_at p now.machine).core.pc + 4) % 2 ^ 32
 call_serves p pc before now is =
     let goes : GoesOn (part_at p before.machine).core (part_at p now.machine).core = call_next p pc before now is in
     goes.1 ∙ ap (λ n. (n + 4) % 2 ^ 32) (sym goes.0)
@@ -144,6 +144,6 @@ can_end_if p (Some work) asked w old mid got can is = work_can_end p w work old 
 can_end_if p None asked w old mid got can is = tt
 
 -- a partition may be told nothing but that a slot of its own runs
-pub plain_cue : (conf : Conf) (p : ℕ) → IsCue conf p (plain true)
-unfolding plain
+pub plain_cue : (conf : Conf) (p : ℕ) → IsCue conf p (bare_cue true)
+unfolding bare_cue
 plain_cue conf p = record { traffic = tt; order = tt; alone = (refl, refl); seen = tt }

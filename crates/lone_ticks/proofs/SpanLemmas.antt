@@ -16,7 +16,7 @@ use Rattle.virt_traps.specs.Virtual.{due}
 use Rattle.xm_base.specs.declared.partition.State.TheVariants.{Ready}
 use Rattle.xm_conf.specs.Configuration.{Conf}
 use Rattle.xm_report.specs.Report.{ReportLine}
-use Rattle.cue_scripts.specs.Entries.{plain}
+use Rattle.cue_scripts.specs.Entries.{bare_cue}
 use Rattle.machine_model.specs.Alone.{Alone, alone_from, alone_lines, alone_said, alone_step, alone_step_lines}
 use Rattle.machine_model.specs.Facts.{AreFacts, HasFacts, KeepsFactsAlone, begun}
 use Rattle.machine_model.specs.Laws.{part}
@@ -39,7 +39,7 @@ use Rattle.alone_passes.specs.Taking.{takes_cue}
 use Rattle.system_ticks.specs.KeptLemmas.{facts_at, facts_with}
 use Rattle.system_ticks.specs.Machine.{IsMachine}
 use Rattle.system_ticks.specs.Span.{counted_on}
-use Rattle.lone_ticks.specs.LoneSpan.{AreSilent, AreTaken, CanSpan, DoesSpan, HasTurned, IsEnded, IsLoneSpan, NoneDueAfter, NoneDueIn, aged, ended_at}
+use Rattle.lone_ticks.specs.LoneSpan.{AreSilent, AreTaken, CanSpan, DoesSpan, HasTurnedAlone, IsLoneSpanEnded, IsLoneSpan, NoneDueAfter, NoneDueIn, aged, ended_at}
 use Rattle.lone_ticks.specs.LoneWork.{IsLoneTick}
 use Rattle.lone_ticks.specs.declared.span.LoneSpan.{LoneSpan}
 use Rattle.lone_ticks.proofs.PutLemmas.{put_then}
@@ -85,8 +85,8 @@ asks_ended conf clock now asks = by (ends_frame conf clock now)
     by false = asks
 
 -- a plain cue halts nothing
-no_halt : (own : Bool) → is_halt (plain own).whole ≡ false
-unfolding plain
+no_halt : (own : Bool) → is_halt (bare_cue own).whole ≡ false
+unfolding bare_cue
 no_halt own = refl
 
 -- ticks of one frame, of which each is still
@@ -103,15 +103,15 @@ module _ (law : KeepsFactsAlone) (p most ticks : ℕ) (own : Bool) (sys : SysSta
   some_still : (k : ℕ) → k ≤ ticks → AreStill (view_of sys.machine.system p) own k (f 0) (f k)
   some_still k few = stills (view_of sys.machine.system p) own k f (λ j below. each j (omega (arith, below, few)))
 
-  pub silent : (k : ℕ) → k ≤ ticks → AreSilent p (replicate k (plain own)) sys.machine (aged k p (x k) sys.machine)
+  pub silent : (k : ℕ) → k ≤ ticks → AreSilent p (replicate k (bare_cue own)) sys.machine (aged k p (x k) sys.machine)
   silent k few =
       let view : PartitionView = view_of sys.machine.system p in
       let still : AreStill view own k (f 0) (f k) = some_still k few in
       record {
-        taken = subst (λ (a : Alone). AreTaken view a (replicate k (plain own))) (sym starts) still.taken;
-        part = part_aged k p (x k) sys.machine can.partition ∙ sym still.step ∙ ap (λ (a : Alone). alone_from view a (replicate k (plain own))) (sym starts);
-        lines = ap (λ (a : Alone). alone_lines view a (replicate k (plain own))) starts ∙ still.lines;
-        said = ap (λ (a : Alone). alone_said view a (replicate k (plain own))) starts ∙ still.said;
+        taken = subst (λ (a : Alone). AreTaken view a (replicate k (bare_cue own))) (sym starts) still.taken;
+        part = part_aged k p (x k) sys.machine can.partition ∙ sym still.step ∙ ap (λ (a : Alone). alone_from view a (replicate k (bare_cue own))) (sym starts);
+        lines = ap (λ (a : Alone). alone_lines view a (replicate k (bare_cue own))) starts ∙ still.lines;
+        said = ap (λ (a : Alone). alone_said view a (replicate k (bare_cue own))) starts ∙ still.said;
         system = record { system = refl; parts = length-set sys.machine.parts p (x k) };
         running = can.running;
       }
@@ -158,11 +158,11 @@ module _ (law : KeepsFactsAlone) (p most ticks : ℕ) (own : Bool) (sys : SysSta
       counted = refl;
       last = record {
         lone = record {
-          taken = ap (λ (a : Alone). takes_cue view a (plain own)) before_is ∙ last.taken;
-          part = ap (λ (s : SysState). part_in s.machine p) is ∙ part_ended ticks p (x ticks) sys.machine can.partition ∙ sym steps ∙ ap (λ (a : Alone). alone_step view a (plain own)) (sym before_is);
+          taken = ap (λ (a : Alone). takes_cue view a (bare_cue own)) before_is ∙ last.taken;
+          part = ap (λ (s : SysState). part_in s.machine p) is ∙ part_ended ticks p (x ticks) sys.machine can.partition ∙ sym steps ∙ ap (λ (a : Alone). alone_step view a (bare_cue own)) (sym before_is);
           halted = ap (λ (s : SysState). s.machine.halted) is ∙ can.running ∙ sym (no_halt own);
         };
-        lines = ap (λ (a : Alone). alone_step_lines view a (plain own)) before_is ∙ last.lines;
+        lines = ap (λ (a : Alone). alone_step_lines view a (bare_cue own)) before_is ∙ last.lines;
         readable = tt;
         few = omega arith;
       };
@@ -192,7 +192,7 @@ module _ (law : KeepsFactsAlone) (p most ticks : ℕ) (own : Bool) (sys : SysSta
       last : IsStill view own (f (ticks - 1)) (f (suc (ticks - 1)))
       last = each (ticks - 1) (omega (arith, some))
 
-      steps : alone_step view (f (ticks - 1)) (plain own) ≡ f ticks
+      steps : alone_step view (f (ticks - 1)) (bare_cue own) ≡ f ticks
       steps = last.step ∙ ap f one
 
       before_is : part_in (aged (ticks - 1) p (x (ticks - 1)) sys.machine) p ≡ f (ticks - 1)
@@ -301,7 +301,7 @@ module _ (law : KeepsFactsAlone) (p most ticks : ℕ) (sys : SysState) (can : Ca
   pub gone_turned : (turn : Turn) (pc : ℕ) (now : SysState) → ticks < most
       → turn ≡ (settled (areas_in p sys.machine) (goes ticks).core (goes ticks).memory).turn
       → now ≡ with_machine (aged ticks p (turned_state (settled (areas_in p sys.machine) (goes ticks).core (goes ticks).memory) (goes ticks)) sys.machine) sys
-      → pc ≡ (goes ticks).core.pc → HasTurned p turn pc (with_machine (aged ticks p (goes ticks) sys.machine) sys) now
+      → pc ≡ (goes ticks).core.pc → HasTurnedAlone p turn pc (with_machine (aged ticks p (goes ticks) sys.machine) sys) now
   gone_turned turn pc now fewer came is at = record {
     machine = gone_machine fewer;
     partition = subst (λ n. p < n) (sym (length-set sys.machine.parts p (goes ticks))) can.partition;
@@ -320,14 +320,14 @@ module _ (law : KeepsFactsAlone) (p most ticks : ℕ) (sys : SysState) (can : Ca
   }
 
   -- and a span that ends with it
-  pub turned_span : (told : Option Note) (new : SysState) (got : List ReportLine) → ticks < most → IsEnded told p (with_machine (aged ticks p (goes ticks) sys.machine) sys) new got
+  pub turned_span : (told : Option Note) (new : SysState) (got : List ReportLine) → ticks < most → IsLoneSpanEnded told p (with_machine (aged ticks p (goes ticks) sys.machine) sys) new got
       → DoesSpan (record { ticks = ticks + 1; told = told }) p true most sys new got
   turned_span told new got fewer ended = record {
     some = omega arith;
     within = omega (arith, fewer);
     span = record {
       before = aged ticks p (goes ticks) sys.machine;
-      silent = subst (λ n. AreSilent p (replicate n (plain true)) sys.machine (aged ticks p (goes ticks) sys.machine)) (one ticks)
+      silent = subst (λ n. AreSilent p (replicate n (bare_cue true)) sys.machine (aged ticks p (goes ticks) sys.machine)) (one ticks)
           (silent law p most ticks true sys can within goes begins each_goes ticks (omega arith));
       counted = ap (λ n. sys.machine.ticks + n) (one ticks);
       last = ended.tick;
@@ -404,7 +404,7 @@ module _ (law : KeepsFactsAlone) (p most w pc : ℕ) (sys mid counted : SysState
     abbrev pub before : SysState
     before = with_machine (aged w p (gone_on w (areas_of (view_of sys.machine.system p)) (part_at p sys.machine)) sys.machine) sys
 
-    pub steps_turned : HasTurned p turn pc before now
+    pub steps_turned : HasTurnedAlone p turn pc before now
     steps_turned =
         gone_turned law p most w sys can (omega (arith, fewer)) ready undelivered none has_gone turn pc now fewer
         (sym came ∙ ap (λ (areas : List Area). (settled (areas_in p sys.machine) (steps areas).core (steps areas).memory).turn) (areas_same p sys.machine))
@@ -415,5 +415,5 @@ module _ (law : KeepsFactsAlone) (p most w pc : ℕ) (sys mid counted : SysState
         (areas_same p sys.machine))
         (at ∙ ap (λ (areas : List Area). (steps areas).core.pc) (areas_same p sys.machine))
 
-    pub steps_span : (told : Option Note) (new : SysState) (got : List ReportLine) → IsEnded told p before new got → DoesSpan (record { ticks = w + 1; told = told }) p true most sys new got
+    pub steps_span : (told : Option Note) (new : SysState) (got : List ReportLine) → IsLoneSpanEnded told p before new got → DoesSpan (record { ticks = w + 1; told = told }) p true most sys new got
     steps_span told new got ended = turned_span law p most w sys can (omega (arith, fewer)) ready undelivered none has_gone told new got fewer ended

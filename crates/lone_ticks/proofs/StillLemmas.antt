@@ -16,14 +16,14 @@ use Rattle.xm_base.specs.Options.{on}
 use Rattle.xm_base.specs.declared.partition.State.{State}
 use Rattle.xm_base.specs.declared.partition.State.TheVariants.{Ready}
 use Rattle.xm_ports.specs.Channels.{Content}
-use Rattle.cue_scripts.specs.Entries.{plain}
+use Rattle.cue_scripts.specs.Entries.{bare_cue}
 use Rattle.machine_model.specs.Alone.{Alone, alone_after, alone_from, alone_lines, alone_lines_of, alone_local, alone_local_in, alone_said, alone_step, alone_step_lines, alone_step_said}
 use Rattle.machine_model.specs.Cue.{Cue, Mine}
 use Rattle.machine_model.specs.Facts.{AreFacts, IsItsOwn, KeepsFactsAlone}
 use Rattle.machine_model.specs.Health.{Worked, quiet}
 use Rattle.machine_model.specs.Lines.{local_said}
 use Rattle.machine_model.specs.Lists.{each}
-use Rattle.machine_model.specs.LocalTick.{LocalTick, clocked, delivered_or_executed, executed, by_turn, goes_on, local_tick, seen_outside, turned_state, with_interrupts, worked, worked_if}
+use Rattle.machine_model.specs.LocalTick.{LocalTick, clocked, delivered_or_executed, executed_in_tick, by_turn, goes_on, local_tick, seen_outside, turned_state, with_interrupts, worked, worked_if}
 use Rattle.machine_model.specs.Machine.{act_of, after_tick}
 use Rattle.machine_model.specs.Observed.{Observation, asked_by, asks, if_call, unless_delivered}
 use Rattle.machine_model.specs.Partition.{PartitionState, areas_of, execution_looked_at, execution_timer, hardware_looked_at, hardware_timer, is_halted, raised_if, rested, takes_turns}
@@ -42,18 +42,18 @@ passed s a = record a { state = s; ticks = a.ticks + 1; time = a.time + 1 }
 
 -- a partition can take a plain cue, which leaves this of it; it prints and says nothing, and what it is told is its own
 pub record IsStill (view : PartitionView) (own : Bool) (a b : Alone) : Type 0 where
-  pub taken : takes_cue view a (plain own) ≡ true
-  pub step : alone_step view a (plain own) ≡ b
-  pub lines : alone_step_lines view a (plain own) ≡ []
-  pub said : alone_step_said view a (plain own) ≡ []
-  pub its : IsItsOwn (plain own).mine view a (plain own)
+  pub taken : takes_cue view a (bare_cue own) ≡ true
+  pub step : alone_step view a (bare_cue own) ≡ b
+  pub lines : alone_step_lines view a (bare_cue own) ≡ []
+  pub said : alone_step_said view a (bare_cue own) ≡ []
+  pub its : IsItsOwn (bare_cue own).mine view a (bare_cue own)
 
 -- the same of so many
 pub record AreStill (view : PartitionView) (own : Bool) (count : ℕ) (a b : Alone) : Type 0 where
-  pub taken : AreTaken view a (replicate count (plain own))
-  pub step : alone_from view a (replicate count (plain own)) ≡ b
-  pub lines : alone_lines view a (replicate count (plain own)) ≡ []
-  pub said : alone_said view a (replicate count (plain own)) ≡ []
+  pub taken : AreTaken view a (replicate count (bare_cue own))
+  pub step : alone_from view a (replicate count (bare_cue own)) ≡ b
+  pub lines : alone_lines view a (replicate count (bare_cue own)) ≡ []
+  pub said : alone_said view a (replicate count (bare_cue own)) ≡ []
 
 none_more : (k : ℕ) → k < 0 → ⊥
 none_more k below = omega (arith, below)
@@ -65,10 +65,10 @@ stills view own (suc count) f each =
     let one : IsStill view own (f 0) (f 1) = each 0 (omega arith) in
     let later : AreStill view own count (f 1) (f (suc count)) = stills view own count (λ k. f (suc k)) (λ k below. each (suc k) (omega (arith, below))) in
     record {
-      taken = (one.taken, subst (λ (s : Alone). AreTaken view s (replicate count (plain own))) (sym one.step) later.taken);
-      step = ap (λ (s : Alone). alone_from view s (replicate count (plain own))) one.step ∙ later.step;
-      lines = both (alone_step_lines view (f 0) (plain own)) _ one.lines (ap (λ (s : Alone). alone_lines view s (replicate count (plain own))) one.step ∙ later.lines);
-      said = both (alone_step_said view (f 0) (plain own)) _ one.said (ap (λ (s : Alone). alone_said view s (replicate count (plain own))) one.step ∙ later.said);
+      taken = (one.taken, subst (λ (s : Alone). AreTaken view s (replicate count (bare_cue own))) (sym one.step) later.taken);
+      step = ap (λ (s : Alone). alone_from view s (replicate count (bare_cue own))) one.step ∙ later.step;
+      lines = both (alone_step_lines view (f 0) (bare_cue own)) _ one.lines (ap (λ (s : Alone). alone_lines view s (replicate count (bare_cue own))) one.step ∙ later.lines);
+      said = both (alone_step_said view (f 0) (bare_cue own)) _ one.said (ap (λ (s : Alone). alone_said view s (replicate count (bare_cue own))) one.step ∙ later.said);
     }
   where
     both : {X : Type 0} (xs ys : List X) → xs ≡ [] → ys ≡ [] → xs ++ ys ≡ []
@@ -85,7 +85,7 @@ still_facts law view own (suc count) n f each is =
     let one : IsStill view own (f 0) (f 1) = each 0 (omega arith) in
     subst (λ (m : ℕ). AreFacts view m (f (suc count)).state) (sum n count)
     (still_facts law view own count (n + 1) (λ k. f (suc k)) (λ k below. each (suc k) (omega (arith, below)))
-    (subst (λ (s : Alone). AreFacts view (n + 1) s.state) one.step (law view (f 0) (plain own) n one.its is)))
+    (subst (λ (s : Alone). AreFacts view (n + 1) s.state) one.step (law view (f 0) (bare_cue own) n one.its is)))
   where
     sum : (m k : ℕ) → (m + 1) + k ≡ m + suc k
     sum m k = omega arith
@@ -107,29 +107,29 @@ same_copies : (time : ℕ) (copies : List (Option Content)) → map (on (content
 same_copies time copies = each_same (λ q copy. on (after_own time OwnStill q) copy) copies (same_copy time)
 
 -- a partition that did no work in a tick rests, and prints and says nothing
-rest_step : (view : PartitionView) (own : Bool) (a : Alone) → alone_local view a (plain own) ≡ None → alone_step view a (plain own) ≡ passed (rested a.time a.state) a
-unfolding alone_step alone_after after_tick plain copies_after
-rest_step view own a none = ap (alone_after view a (plain own)) none ∙ (λ i. record { state = rested a.time a.state; copies = same_copies a.time a.copies i; ticks = a.ticks + 1; time = a.time + 1 })
+rest_step : (view : PartitionView) (own : Bool) (a : Alone) → alone_local view a (bare_cue own) ≡ None → alone_step view a (bare_cue own) ≡ passed (rested a.time a.state) a
+unfolding alone_step alone_after after_tick bare_cue copies_after
+rest_step view own a none = ap (alone_after view a (bare_cue own)) none ∙ (λ i. record { state = rested a.time a.state; copies = same_copies a.time a.copies i; ticks = a.ticks + 1; time = a.time + 1 })
 
-rest_lines : (view : PartitionView) (own : Bool) (a : Alone) → alone_local view a (plain own) ≡ None → alone_step_lines view a (plain own) ≡ []
-unfolding alone_step_lines alone_lines_of plain
-rest_lines view own a none = ap (alone_lines_of view a (plain own)) none
+rest_lines : (view : PartitionView) (own : Bool) (a : Alone) → alone_local view a (bare_cue own) ≡ None → alone_step_lines view a (bare_cue own) ≡ []
+unfolding alone_step_lines alone_lines_of bare_cue
+rest_lines view own a none = ap (alone_lines_of view a (bare_cue own)) none
 
-rest_said : (view : PartitionView) (own : Bool) (a : Alone) → alone_local view a (plain own) ≡ None → alone_step_said view a (plain own) ≡ []
+rest_said : (view : PartitionView) (own : Bool) (a : Alone) → alone_local view a (bare_cue own) ≡ None → alone_step_said view a (bare_cue own) ≡ []
 unfolding alone_step_said
 rest_said view own a none = ap local_said none
 
 -- in the slot of another partition, or in a gap
-away_local : (view : PartitionView) (a : Alone) → alone_local view a (plain false) ≡ None
-unfolding alone_local plain
+away_local : (view : PartitionView) (a : Alone) → alone_local view a (bare_cue false) ≡ None
+unfolding alone_local bare_cue
 away_local view a = refl
 
-away_taken : (view : PartitionView) (a : Alone) → takes_cue view a (plain false) ≡ true
-unfolding takes_cue plain
+away_taken : (view : PartitionView) (a : Alone) → takes_cue view a (bare_cue false) ≡ true
+unfolding takes_cue bare_cue
 away_taken view a = refl
 
-away_its : (view : PartitionView) (a : Alone) → IsItsOwn (plain false).mine view a (plain false)
-unfolding plain
+away_its : (view : PartitionView) (a : Alone) → IsItsOwn (bare_cue false).mine view a (bare_cue false)
+unfolding bare_cue
 away_its view a = tt
 
 pub away_still : (view : PartitionView) (a : Alone) → IsStill view false a (passed (rested a.time a.state) a)
@@ -142,17 +142,17 @@ away_still view a = record {
 }
 
 -- in a slot of its own, where it takes no turns
-resting_local : (view : PartitionView) (a : Alone) → takes_turns a.state.state ≡ false → alone_local view a (plain true) ≡ None
-unfolding alone_local plain
+resting_local : (view : PartitionView) (a : Alone) → takes_turns a.state.state ≡ false → alone_local view a (bare_cue true) ≡ None
+unfolding alone_local bare_cue
 resting_local view a rests = ap (λ b. if b then Some (local_tick view a.state a.copies a.ticks a.time false Unseen) else None) rests
 
-resting_taken : (view : PartitionView) (a : Alone) → takes_turns a.state.state ≡ false → takes_cue view a (plain true) ≡ true
-unfolding takes_cue alone_local plain
+resting_taken : (view : PartitionView) (a : Alone) → takes_turns a.state.state ≡ false → takes_cue view a (bare_cue true) ≡ true
+unfolding takes_cue alone_local bare_cue
 resting_taken view a rests =
     ap (λ b. (takes_sight view (if b then asks view a.state a.time false else None) Unseen && takes_event (Mine false) (if b then Some (local_tick view a.state a.copies a.ticks a.time false Unseen) else None) NoEvent)) rests
 
-own_its : (view : PartitionView) (a : Alone) → event_of (act_of (alone_local view a (plain true))) ≡ NoEvent → IsItsOwn (plain true).mine view a (plain true)
-unfolding plain
+own_its : (view : PartitionView) (a : Alone) → event_of (act_of (alone_local view a (bare_cue true))) ≡ NoEvent → IsItsOwn (bare_cue true).mine view a (bare_cue true)
+unfolding bare_cue
 own_its view a none = (refl, sym none)
 
 pub resting_still : (view : PartitionView) (a : Alone) → takes_turns a.state.state ≡ false → IsStill view true a (passed (rested a.time a.state) a)
@@ -188,36 +188,36 @@ rested_turns (suc k) time ps = ap takes_turns (rest_state (time + k) ps)
 
 -- work that told nothing and does not reach beyond the partition
 turn_local : (view : PartitionView) (a : Alone) (s : PartitionState) → takes_turns a.state.state ≡ true → worked view a.copies a.time false Unseen a.state ≡ quiet s
-    → alone_local view a (plain true) ≡ Some (seen_outside view a.ticks (quiet s))
-unfolding alone_local local_tick plain
+    → alone_local view a (bare_cue true) ≡ Some (seen_outside view a.ticks (quiet s))
+unfolding alone_local local_tick bare_cue
 turn_local view a s turns work =
     ap (λ b. if b then Some (local_tick view a.state a.copies a.ticks a.time false Unseen) else None) turns
     ∙ ap (λ (w : Worked). Some (seen_outside view a.ticks w)) work
 
-turn_step : (view : PartitionView) (a : Alone) (s : PartitionState) → alone_local view a (plain true) ≡ Some (seen_outside view a.ticks (quiet s)) → alone_step view a (plain true) ≡ passed s a
-unfolding alone_step alone_after after_tick plain copies_after
-turn_step view a s local = ap (alone_after view a (plain true)) local ∙ (λ i. record { state = s; copies = same_copies a.time a.copies i; ticks = a.ticks + 1; time = a.time + 1 })
+turn_step : (view : PartitionView) (a : Alone) (s : PartitionState) → alone_local view a (bare_cue true) ≡ Some (seen_outside view a.ticks (quiet s)) → alone_step view a (bare_cue true) ≡ passed s a
+unfolding alone_step alone_after after_tick bare_cue copies_after
+turn_step view a s local = ap (alone_after view a (bare_cue true)) local ∙ (λ i. record { state = s; copies = same_copies a.time a.copies i; ticks = a.ticks + 1; time = a.time + 1 })
 
-turn_lines : (view : PartitionView) (a : Alone) (s : PartitionState) → alone_local view a (plain true) ≡ Some (seen_outside view a.ticks (quiet s)) → alone_step_lines view a (plain true) ≡ []
-unfolding alone_step_lines alone_lines_of plain
-turn_lines view a s local = ap (alone_lines_of view a (plain true)) local
+turn_lines : (view : PartitionView) (a : Alone) (s : PartitionState) → alone_local view a (bare_cue true) ≡ Some (seen_outside view a.ticks (quiet s)) → alone_step_lines view a (bare_cue true) ≡ []
+unfolding alone_step_lines alone_lines_of bare_cue
+turn_lines view a s local = ap (alone_lines_of view a (bare_cue true)) local
 
-turn_said : (view : PartitionView) (a : Alone) (s : PartitionState) → alone_local view a (plain true) ≡ Some (seen_outside view a.ticks (quiet s)) → alone_step_said view a (plain true) ≡ []
+turn_said : (view : PartitionView) (a : Alone) (s : PartitionState) → alone_local view a (bare_cue true) ≡ Some (seen_outside view a.ticks (quiet s)) → alone_step_said view a (bare_cue true) ≡ []
 unfolding alone_step_said
 turn_said view a s local = ap local_said local
 
 turn_taken : (view : PartitionView) (a : Alone) (s : PartitionState) → takes_turns a.state.state ≡ true → asks view a.state a.time false ≡ None
-    → alone_local view a (plain true) ≡ Some (seen_outside view a.ticks (quiet s)) → takes_cue view a (plain true) ≡ true
-unfolding takes_cue plain
+    → alone_local view a (bare_cue true) ≡ Some (seen_outside view a.ticks (quiet s)) → takes_cue view a (bare_cue true) ≡ true
+unfolding takes_cue bare_cue
 turn_taken view a s turns none local =
-    ap (λ (asked : Option Observation). (takes_sight view asked Unseen && takes_event (Mine false) (alone_local view a (plain true)) NoEvent))
+    ap (λ (asked : Option Observation). (takes_sight view asked Unseen && takes_event (Mine false) (alone_local view a (bare_cue true)) NoEvent))
     (ap (λ b. if b then asks view a.state a.time false else None) turns ∙ none)
     ∙ ap (λ (t : Option LocalTick). is_same_event (event_of (act_of t)) NoEvent) local
 
 turn_still : (view : PartitionView) (a : Alone) (s : PartitionState) → takes_turns a.state.state ≡ true → asks view a.state a.time false ≡ None
     → worked view a.copies a.time false Unseen a.state ≡ quiet s → IsStill view true a (passed s a)
 turn_still view a s turns none work =
-    let local : alone_local view a (plain true) ≡ Some (seen_outside view a.ticks (quiet s)) = turn_local view a s turns work in
+    let local : alone_local view a (bare_cue true) ≡ Some (seen_outside view a.ticks (quiet s)) = turn_local view a s turns work in
     record {
       taken = turn_taken view a s turns none local;
       step = turn_step view a s local;
@@ -268,7 +268,7 @@ ready_again : (ps : PartitionState) → ps.state ≡ Ready → record ps { state
 ready_again ps is = λ i. record ps { state = sym is i }
 
 undelivered_work : (waiting : Option ℕ) (enabled : Bool) (view : PartitionView) (contents : List (Option Content)) (time : ℕ) (ps : PartitionState) → (waiting ≡ None) ⊎ (enabled ≡ false)
-    → delivered_or_executed waiting enabled view contents time Unseen ps ≡ executed view contents time Unseen ps
+    → delivered_or_executed waiting enabled view contents time Unseen ps ≡ executed_in_tick view contents time Unseen ps
 undelivered_work None enabled view contents time ps none = refl
 undelivered_work (Some n) true view contents time ps (inl none) = absurd cc
 undelivered_work (Some n) true view contents time ps (inr none) = absurd cc
@@ -281,7 +281,7 @@ undelivered_call (Some n) true view ps (inr none) = absurd cc
 undelivered_call (Some n) false view ps none = refl
 
 pub ready_work : (view : PartitionView) (contents : List (Option Content)) (time : ℕ) (ps : PartitionState) → with_interrupts time false ps ≡ ps → ps.state ≡ Ready → NoDelivery ps.traps
-    → worked view contents time false Unseen ps ≡ executed view contents time Unseen ps
+    → worked view contents time false Unseen ps ≡ executed_in_tick view contents time Unseen ps
 unfolding worked
 ready_work view contents time ps met is none =
     ap (λ (ready : PartitionState). worked_if (goes_on ready.state false (due ready.traps)) view contents time Unseen ready) met
@@ -298,8 +298,8 @@ ready_call view time ps met is none =
 
 -- an instruction that goes
 went_work : (view : PartitionView) (contents : List (Option Content)) (time : ℕ) (ps : PartitionState) → (settled (areas_of view) ps.core ps.memory).turn ≡ Went
-    → executed view contents time Unseen ps ≡ quiet (clocked (turned_state (settled (areas_of view) ps.core ps.memory) ps))
-unfolding executed
+    → executed_in_tick view contents time Unseen ps ≡ quiet (clocked (turned_state (settled (areas_of view) ps.core ps.memory) ps))
+unfolding executed_in_tick
 went_work view contents time ps went =
     ap (λ (turn : Turn). by_turn turn view contents time Unseen ps (turned_state (settled (areas_of view) ps.core ps.memory) ps)) went
 

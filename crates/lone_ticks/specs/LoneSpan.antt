@@ -3,11 +3,11 @@ use Rattle.std.specs.Prelude.{◌≡◌, ℕ, ◌+◌, ◌-◌, ◌<◌, ◌≤�
 use Rattle.cyclic_plans.specs.PlanClock.{IsInFrame, ended}
 use Rattle.cyclic_plans.specs.Slots.{frame_of}
 use Rattle.sparc_step.specs.declared.outcome.Turn.{Turn}
-use Rattle.virt_clocks.specs.Clocks.{PartitionClocks, counted, is_due}
+use Rattle.virt_clocks.specs.Clocks.{PartitionClocks, if_counting, is_due}
 use Rattle.virt_traps.specs.Settled.{settled}
 use Rattle.xm_base.specs.declared.partition.State.TheVariants.{Ready}
 use Rattle.xm_report.specs.Report.{ReportLine}
-use Rattle.cue_scripts.specs.Entries.{plain}
+use Rattle.cue_scripts.specs.Entries.{bare_cue}
 use Rattle.machine_model.specs.Alone.{Alone, alone_from, alone_lines, alone_said, alone_step}
 use Rattle.machine_model.specs.Cue.{Cue}
 use Rattle.machine_model.specs.LocalTick.{turned_state, with_interrupts, worked}
@@ -46,9 +46,9 @@ pub record AreSilent (p : ℕ) (cues : List Cue) (old new : Machine) : Type 0 wh
 -- the last came to this
 pub record IsLoneSpan (told : Option Note) (ticks p : ℕ) (own : Bool) (old new : Machine) (got : List ReportLine) : Type 0 where
   pub before : Machine
-  pub silent : AreSilent p (replicate (ticks - 1) (plain own)) old before
+  pub silent : AreSilent p (replicate (ticks - 1) (bare_cue own)) old before
   pub counted : before.ticks ≡ old.ticks + (ticks - 1)
-  pub last : IsLoneTick told p (plain own) before new got
+  pub last : IsLoneTick told p (bare_cue own) before new got
 
 -- at least one tick was done, and so many at most
 pub record DoesSpan (done : LoneSpan) (p : ℕ) (own : Bool) (most : ℕ) (old new : SysState) (got : List ReportLine) : Type 0 where
@@ -70,7 +70,7 @@ pub record CanSpan (p most : ℕ) (sys : SysState) : Type 0 where
 -- no timer is due when so many ticks have passed, in which the partition runs or does not
 pub record NoneDueAfter (time ticks : ℕ) (running : Bool) (clocks : PartitionClocks) : Type 0 where
   pub hardware : is_due (time + ticks) clocks.hardware_timer ≡ false
-  pub execution : is_due (clocks.execution + ticks) (counted running clocks.execution_timer) ≡ false
+  pub execution : is_due (clocks.execution + ticks) (if_counting running clocks.execution_timer) ≡ false
 
 -- nor earlier: none of so many ticks has one
 abbrev pub NoneDueIn : ℕ → ℕ → Bool → PartitionClocks → Type 0
@@ -87,8 +87,8 @@ pub record HasWorked (p : ℕ) (came : Option LoneWork) (before now : SysState) 
       (worked (view_of before.machine.system p) (copies before.machine p) before.machine.time false Unseen (part_at p before.machine)) before now got
 
 -- the end of a tick of partition p that came to a work or to none, where it is told of no hypervisor event
-pub record IsEnded (told : Option Note) (p : ℕ) (before new : SysState) (got : List ReportLine) : Type 0 where
-  pub tick : IsLoneTick told p (plain true) before.machine new.machine got
+pub record IsLoneSpanEnded (told : Option Note) (p : ℕ) (before new : SysState) (got : List ReportLine) : Type 0 where
+  pub tick : IsLoneTick told p (bare_cue true) before.machine new.machine got
   pub machine : IsMachine new
   pub system : IsOfSystem before.machine new.machine
 
@@ -110,7 +110,7 @@ aged ticks p ps g = record (with_part p ps g) { time = g.time + ticks; ticks = g
 
 -- an instruction of partition p came to this turn in a tick of a slot that began before, in which it met no interrupt; the registers and the
 -- memory are those that it left
-pub record HasTurned (p : ℕ) (turn : Turn) (pc : ℕ) (before now : SysState) : Type 0 where
+pub record HasTurnedAlone (p : ℕ) (turn : Turn) (pc : ℕ) (before now : SysState) : Type 0 where
   pub machine : IsMachine before
   pub partition : p < length before.machine.parts
   pub running : before.machine.halted ≡ false

@@ -21,8 +21,8 @@ use Rattle.whole_system.specs.State.{SysState, areas_in, memory_of, with_machine
 use Rattle.whole_system.specs.declared.served.Note.{Note}
 use Rattle.alone_passes.specs.Passes.{part_in}
 use Rattle.alone_passes.specs.Step.{IsLone}
-use Rattle.alone_passes.specs.Taking.{is_empty_copy, is_entry, is_full, takes_cue, takes_sight}
-use Rattle.system_ticks.specs.Work.{TellsAlone, act_of, console_told}
+use Rattle.alone_passes.specs.Taking.{is_empty_copy, asks_entry, is_queue_full, takes_cue, takes_sight}
+use Rattle.system_ticks.specs.Work.{TellsAlone, act_beyond, console_told}
 use Rattle.lone_ticks.specs.declared.call.Asked.{Asked}
 use Rattle.lone_ticks.specs.declared.work.LoneWork.{LoneWork}
 
@@ -38,14 +38,14 @@ pub record IsChannelFor (conf : Conf) (c : ℕ) (bytes : List ℕ) : Type 0 wher
   pub fits : IsMessage chan.length bytes
 
 -- the configuration has the channel, of such a kind
-abbrev pub IsKind : (ChanKind → Type 0) → Conf → ℕ → Type 0
-IsKind Of conf c = IsSomeAnd (slice_get conf.chans c) (λ (chan : Chan). Of chan.kind)
+abbrev pub IsChannelOfKind : (ChanKind → Type 0) → Conf → ℕ → Type 0
+IsChannelOfKind Of conf c = IsSomeAnd (slice_get conf.chans c) (λ (chan : Chan). Of chan.kind)
 
 -- whether what a channel holds is a full queue
 abbrev pub is_full_in : Option Chan → Option Content → Bool
 is_full_in None content = false
 is_full_in (Some chan) None = false
-is_full_in (Some chan) (Some content) = is_full chan.kind content
+is_full_in (Some chan) (Some content) = is_queue_full chan.kind content
 
 -- whether a channel takes a message
 abbrev pub has_room : Machine → ℕ → Bool
@@ -68,7 +68,7 @@ taken_in false g c = g
 -- what an observing call asks for, as far as its tests tell it
 abbrev pub asked_of : Option Observation → Option Asked
 asked_of None = None
-asked_of (Some call) = Some (record { address = call.address; size = call.size; entry = is_entry call.question })
+asked_of (Some call) = Some (record { address = call.address; size = call.size; entry = asks_entry call.question })
 
 -- whether this is what the call of a caller is shown
 abbrev pub shows_this : Caller → Asked → Sight → Bool
@@ -86,7 +86,7 @@ shown_state asked (Words bytes) ps = with_answer 0 (with_written asked.address b
 pub record IsLoneDone (p : ℕ) (w : Worked) (work : LoneWork) (old new : SysState) (got : List ReportLine) : Type 0 where
   pub state : new ≡ with_machine (traded (traffic_in old.machine p w.act) (with_part p w.after old.machine)) old
   pub lines : map (line_of old.machine.ticks p) w.told ≡ map (line_of old.machine.ticks p) (console_told work.note w.after.memory) ++ got
-  pub event : event_of w.act ≡ event_of (act_of work.reach)
+  pub event : event_of w.act ≡ event_of (act_beyond work.reach)
   pub readable : CanBeTold work.note (areas_in p old.machine)
   pub alone : TellsAlone work.note work.reach
   pub few : length got ≤ 4
@@ -101,7 +101,7 @@ pub record IsUncounted (before after : PartitionState) : Type 0 where
   pub awake : is_halted after.state ≡ is_halted before.state
 
 -- the work was not done
-pub record IsUndone (p : ℕ) (old new : SysState) : Type 0 where
+pub record IsWorkUndone (p : ℕ) (old new : SysState) : Type 0 where
   pub after : PartitionState
   pub state : new ≡ with_machine (with_part p after old.machine) old
   pub same : IsUncounted (part_at p old.machine) after
@@ -109,7 +109,7 @@ pub record IsUndone (p : ℕ) (old new : SysState) : Type 0 where
 -- the work of partition p, which is to be shown this by what it asks for: it is done where that may be shown
 abbrev pub IsLoneWork : Option LoneWork → ℕ → Option Observation → Sight → Worked → SysState → SysState → List ReportLine → Type 0
 IsLoneWork (Some work) p asked seen w old new got = (takes_sight (view_of old.machine.system p) asked seen ≡ true) × IsLoneDone p w work old new got
-IsLoneWork None p asked seen w old new got = (takes_sight (view_of old.machine.system p) asked seen ≡ false) × IsUndone p old new
+IsLoneWork None p asked seen w old new got = (takes_sight (view_of old.machine.system p) asked seen ≡ false) × IsWorkUndone p old new
 
 -- a tick of partition p without the others that was done: what it leaves of the partition, the lines that it adds, but for that of bytes for
 -- the console, and what its call told

@@ -16,7 +16,7 @@ ghost use Rattle.alone_passes.specs.Passes.{event_met, rested_in, tick_past};
 ghost use Rattle.lone_ticks.specs.LoneWork.{IsLoneTick};
 ghost use Rattle.system_ticks.specs.Machine.{IsMachine};
 ghost use Rattle.alone_passes.specs.Taking.{is_same_event};
-ghost use Rattle.system_ticks.specs.Work.{IsDone, act_of};
+ghost use Rattle.system_ticks.specs.Work.{IsPartDone, act_beyond};
 
 use crate::traffic::hear;
 use crate::work::{is_unseen, work_alone};
@@ -143,7 +143,7 @@ pub(crate) fn end_turn(sys: &mut Sys, lines: &mut Lines, p: PartId, reach: Beyon
     requires ticks { sys.old.machine.ticks + 1 < 2 ^ 64 }
     requires frame { IsInFrame sys.old.machine.system.conf sys.old.machine.clock sys.old.machine.time }
     requires room { length lines.old < 24 }
-    ensures event { whole_value result ≡ event_of (act_of reach) }
+    ensures event { whole_value result ≡ event_of (act_beyond reach) }
     ensures state { sys.new ≡ with_machine (tick_past (whole_value result) (event_met p (whole_value result) sys.old.machine)) sys.old }
     ensures lines { lines.new ≡ lines.old ++ event_lines sys.old.machine.ticks (whole_value result) p }
     ensures few { length lines.new ≤ length lines.old + 1 }
@@ -190,7 +190,7 @@ fn rest_in_slot(sys: &mut Sys, p: PartId, cue: &Cue<'_>) -> Option<Note>
 fn obey_other(sys: &mut Sys, lines: &mut Lines, p: PartId, order: Option<Order>)
     requires partition { p < length sys.old.machine.parts }
     requires room { length lines.old < 24 }
-    ensures done { IsDone p (obeyed (view_of sys.old.machine.system p) order (part_at p sys.old.machine)) (obeyed_told order (part_at p sys.old.machine)) sys.old sys.new lines.old lines.new }
+    ensures done { IsPartDone p (obeyed (view_of sys.old.machine.system p) order (part_at p sys.old.machine)) (obeyed_told order (part_at p sys.old.machine)) sys.old sys.new lines.old lines.new }
     ensures few { length lines.new ≤ length lines.old + 1 }
 {
     match order {

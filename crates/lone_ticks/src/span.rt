@@ -1,7 +1,7 @@
 //! Many ticks of one partition without the others, in each of which it is told nothing but whether the slot is its own.
 
 ghost use Rattle.std.specs.Prelude.{◌≡◌, ◌+◌, ◌-◌, ◌%◌, ◌^◌, ◌<◌, ◌≤◌, [], IfSome, IsTrue, None, Some, false, length, true};
-ghost use Rattle.cue_scripts.specs.Entries.{plain};
+ghost use Rattle.cue_scripts.specs.Entries.{bare_cue};
 ghost use Rattle.cyclic_plans.specs.PlanClock.{IsInFrame};
 ghost use Rattle.cyclic_plans.specs.Slots.{frame_of};
 ghost use Rattle.machine_model.specs.LocalTick.{goes_on};
@@ -14,7 +14,7 @@ ghost use Rattle.alone_passes.specs.Step.{IsOfSystem};
 ghost use Rattle.system_ticks.specs.CueValues.{cue_value};
 ghost use Rattle.system_ticks.specs.Machine.{IsMachine};
 ghost use Rattle.system_ticks.specs.Span.{CanTake, counted_on};
-ghost use Rattle.lone_ticks.specs.LoneSpan.{CanEnd, CanSpan, DoesSpan, HasTurned, HasWorked, IsEnded, IsLoneSpan, NoneDueAfter, NoneDueIn, ended_at};
+ghost use Rattle.lone_ticks.specs.LoneSpan.{CanEnd, CanSpan, DoesSpan, HasTurnedAlone, HasWorked, IsLoneSpanEnded, IsLoneSpan, NoneDueAfter, NoneDueIn, ended_at};
 
 use crate::alone::{end_turn, is_same_event, note_if, turn_in_slot};
 use crate::call::call_alone;
@@ -158,9 +158,9 @@ fn turn_once(sys: &mut Sys, lines: &mut Lines, p: PartId) -> LoneSpan
 }
 
 // The cue with nothing but that a slot of its own runs.
-#[tactic(auto, unfolding(cue_scripts::specs::Entries::plain))]
+#[tactic(auto, unfolding(cue_scripts::specs::Entries::bare_cue))]
 fn own_cue() -> Cue<'static>
-    ensures value { cue_value result ≡ plain true }
+    ensures value { cue_value result ≡ bare_cue true }
     ensures own { result.mine ≡ Mine.Mine false }
 {
     Cue {
@@ -224,7 +224,7 @@ fn execute_many(sys: &mut Sys, lines: &mut Lines, p: PartId, most: u64) -> LoneS
 fn trap_last(sys: &mut Sys, lines: &mut Lines, p: PartId, tt: u8, pc: u32) -> Option<Note>
     requires take { CanTake p 1 sys.old }
     requires empty { lines.old ≡ [] }
-    ensures { (before : SysState) → HasTurned p (Turn.Trap tt) pc before sys.old → IsEnded result p before sys.new lines.new }
+    ensures { (before : SysState) → HasTurnedAlone p (Turn.Trap tt) pc before sys.old → IsLoneSpanEnded result p before sys.new lines.new }
 {
     let work = trap_alone(sys, lines, p, tt, pc, Sight::Nothing);
     end_work(sys, lines, p, work)
@@ -236,7 +236,7 @@ fn call_last(sys: &mut Sys, lines: &mut Lines, p: PartId, pc: u32) -> Option<Not
     requires pc { pc % 4 ≡ 0 }
     requires next { (part_at p sys.old.machine).core.npc ≡ ((part_at p sys.old.machine).core.pc + 4) % 2 ^ 32 }
     requires empty { lines.old ≡ [] }
-    ensures { (before : SysState) → HasTurned p Turn.Call pc before sys.old → IsEnded result p before sys.new lines.new }
+    ensures { (before : SysState) → HasTurnedAlone p Turn.Call pc before sys.old → IsLoneSpanEnded result p before sys.new lines.new }
 {
     let work = call_alone(sys, lines, p, pc, Sight::Nothing);
     end_work(sys, lines, p, work)
@@ -245,7 +245,7 @@ fn call_last(sys: &mut Sys, lines: &mut Lines, p: PartId, pc: u32) -> Option<Not
 // The end of a tick in which the partition came to this work, and was told of no hypervisor event.
 fn end_work(sys: &mut Sys, lines: &mut Lines, p: PartId, work: Option<LoneWork>) -> Option<Note>
     requires { IfSome work (λ done. CanEnd p sys.old lines.old) }
-    ensures { (before : SysState) → HasWorked p work before sys.old lines.old → IsEnded result p before sys.new lines.new }
+    ensures { (before : SysState) → HasWorked p work before sys.old lines.old → IsLoneSpanEnded result p before sys.new lines.new }
 {
     working_ticks();
     takes_cues();

@@ -1,14 +1,14 @@
 //! What others do to the channels of one partition.
 
 ghost use Rattle.std.specs.Prelude.{◌≡◌, ◌<◌, IsSome, Some, length, slice_get, true};
-ghost use Rattle.cue_scripts.specs.Script.{CanHear, IsMessage, gives_queue, most_heard};
+ghost use Rattle.cue_scripts.specs.Script.{CanHear, IsHeardMessage, gives_queue, most_heard};
 ghost use Rattle.machine_model.specs.Machine.{copies};
 ghost use Rattle.machine_model.specs.Told.{OwnPuts, OwnTakes};
 ghost use Rattle.machine_model.specs.View.{view_of};
 ghost use Rattle.whole_system.specs.State.{with_machine};
 ghost use Rattle.xm_base.specs.Options.{on};
 ghost use Rattle.system_ticks.specs.CueValues.{traffic_value};
-ghost use Rattle.lone_ticks.specs.LoneWork.{IsChannelFor, IsKind, has_first, has_room, put_in, taken_in, traffic_done};
+ghost use Rattle.lone_ticks.specs.LoneWork.{IsChannelFor, IsChannelOfKind, has_first, has_room, put_in, taken_in, traffic_done};
 ghost use Rattle.alone_passes.specs.Taking.{takes_traffic};
 ghost use Rattle.xm_ports.specs.Channels.{IsQueuing, IsSampling, shapes_of};
 
@@ -39,7 +39,7 @@ pub(crate) fn hear(sys: &mut Sys, p: PartId, traffic: Traffic<'_>) -> bool
 fn hear_put(sys: &mut Sys, p: PartId, name: u8, bytes: &[u8]) -> bool
     requires partition { p < length sys.old.machine.parts }
     requires shapes { sys.old.shapes ≡ shapes_of sys.old.machine.system.conf }
-    requires cue { IsMessage (most_heard sys.old.machine.system.conf p name) name bytes.now }
+    requires cue { IsHeardMessage (most_heard sys.old.machine.system.conf p name) name bytes.now }
     ensures taken { result ≡ takes_traffic (view_of sys.old.machine.system p) (copies sys.old.machine p) (OwnPuts name bytes.now) }
     ensures heard { sys.new ≡ with_machine (traffic_done result sys.old.machine p (OwnPuts name bytes.now)) sys.old }
 {
@@ -80,7 +80,7 @@ fn put(sys: &mut Sys, chan: u8, bytes: &[u8]) -> bool
 fn put_sample(sys: &mut Sys, chan: u8, bytes: &[u8]) -> bool
     requires shapes { sys.old.shapes ≡ shapes_of sys.old.machine.system.conf }
     requires channel { IsChannelFor sys.old.machine.system.conf chan bytes.now }
-    requires kind { IsKind IsSampling sys.old.machine.system.conf chan }
+    requires kind { IsChannelOfKind IsSampling sys.old.machine.system.conf chan }
     ensures taken { result ≡ has_room sys.old.machine chan }
     ensures put { sys.new ≡ with_machine (put_in result sys.old.machine chan bytes.now) sys.old }
 {
@@ -92,7 +92,7 @@ fn put_sample(sys: &mut Sys, chan: u8, bytes: &[u8]) -> bool
 fn put_message(sys: &mut Sys, chan: u8, bytes: &[u8]) -> bool
     requires shapes { sys.old.shapes ≡ shapes_of sys.old.machine.system.conf }
     requires channel { IsChannelFor sys.old.machine.system.conf chan bytes.now }
-    requires kind { IsKind IsQueuing sys.old.machine.system.conf chan }
+    requires kind { IsChannelOfKind IsQueuing sys.old.machine.system.conf chan }
     ensures taken { result ≡ has_room sys.old.machine chan }
     ensures put { sys.new ≡ with_machine (put_in result sys.old.machine chan bytes.now) sys.old }
 {
@@ -107,7 +107,7 @@ fn put_message(sys: &mut Sys, chan: u8, bytes: &[u8]) -> bool
 // The first message is taken from a queue, unless that is empty.
 fn take(sys: &mut Sys, chan: u8) -> bool
     requires shapes { sys.old.shapes ≡ shapes_of sys.old.machine.system.conf }
-    requires kind { IsKind IsQueuing sys.old.machine.system.conf chan }
+    requires kind { IsChannelOfKind IsQueuing sys.old.machine.system.conf chan }
     ensures taken { result ≡ has_first sys.old.machine chan }
     ensures given { sys.new ≡ with_machine (taken_in result sys.old.machine chan) sys.old }
 {

@@ -3,7 +3,7 @@
 ghost use Rattle.std.specs.Prelude.{◌≡◌, ◌<◌, if◌then◌else◌, None, Some, [], true};
 ghost use Rattle.health_monitor.specs.Monitor.{event_of_type};
 ghost use Rattle.machine_model.specs.Health.{event_handled, interrupt_delivered, quiet};
-ghost use Rattle.machine_model.specs.LocalTick.{clocked, delivered_or_executed, executed, worked};
+ghost use Rattle.machine_model.specs.LocalTick.{clocked, delivered_or_executed, executed_in_tick, worked};
 ghost use Rattle.machine_model.specs.Machine.{copies};
 ghost use Rattle.machine_model.specs.Observed.{asked_by, asks, unless_delivered};
 ghost use Rattle.machine_model.specs.Partition.{takes_turns};
@@ -123,7 +123,7 @@ fn take_interrupt_alone(
 fn execute_alone(sys: &mut Sys, lines: &mut Lines, p: PartId, seen: Sight<'_>) -> Option<LoneWork>
     requires take { CanTake p 1 sys.old }
     requires empty { lines.old ≡ [] }
-    ensures { IsLoneWork result p (asked_by (view_of sys.old.machine.system p) (part_at p sys.old.machine)) (sight_value seen.entry) (executed (view_of sys.old.machine.system p) (copies sys.old.machine p) sys.old.machine.time (sight_value seen.entry) (part_at p sys.old.machine)) sys.old sys.new lines.new }
+    ensures { IsLoneWork result p (asked_by (view_of sys.old.machine.system p) (part_at p sys.old.machine)) (sight_value seen.entry) (executed_in_tick (view_of sys.old.machine.system p) (copies sys.old.machine p) sys.old.machine.time (sight_value seen.entry) (part_at p sys.old.machine)) sys.old sys.new lines.new }
 {
     let pc = program_counter(sys, p);
     match sys.step_core(p) {

@@ -18,7 +18,7 @@ use Rattle.xm_conf.specs.declared.health.Action.TheVariants as action
 use Rattle.xm_conf.specs.declared.health.Event.{Event}
 use Rattle.xm_ports.specs.Channels.{Content}
 use Rattle.machine_model.specs.Facts.{BootsClocked, IsClocked, KeepsClocked, RunsClocked}
-use Rattle.machine_model.specs.Machine.{Machine, Turn, act_of, after, clock_after, copies, happened, happened_by, local, local_in, local_of, next_clock, run, sight_of_state, start, step, taken_by, turn_of}
+use Rattle.machine_model.specs.Machine.{Machine, SlotTurn, act_of, after, clock_after, copies, happened, happened_by, local, local_in, local_of, next_clock, run, sight_of_state, start, step, taken_by, turn_of}
 use Rattle.machine_model.specs.Partition.{PartitionState, takes_turns}
 use Rattle.machine_model.specs.Told as told
 use Rattle.machine_model.specs.Told.{Act, AllHalted, AllReset, Asked, Maintenance, NoEvent}
@@ -95,7 +95,7 @@ taken_fits g p first (Some ps) fits = at (takes_turns ps.state)
         fits_plans g.system p (copies g p) (local_of g p first ps).act fits (local_within g.system p ps (copies g p) g.ticks g.time first (sight_of_state g p first ps))
     at false = tt
 
-turn_fits : (g : Machine) (o : Option Turn) → Fits (described g.system.conf) → FitsPlans g.system.conf (act_of (local_in g o))
+turn_fits : (g : Machine) (o : Option SlotTurn) → Fits (described g.system.conf) → FitsPlans g.system.conf (act_of (local_in g o))
 turn_fits g None fits = tt
 turn_fits g (Some turn) fits = taken_fits g turn.part turn.first (slice_get g.parts turn.part) fits
 

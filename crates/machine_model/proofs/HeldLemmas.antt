@@ -8,9 +8,9 @@ use Rattle.guest_bus.specs.Memory.{Memory, bytes_at, is_readable, with_bytes}
 use Rattle.guest_bus.specs.MemoryLemmas.{bytes_at-with_bytes, bytes_at-with_bytes_apart}
 use Rattle.xm_conf.specs.Configuration.{Part}
 use Rattle.guest_memory.specs.Loading.{area_of}
-use Rattle.machine_model.specs.Rows.{CanHold, Holds, HoldsAll, plain, with_words}
+use Rattle.machine_model.specs.Rows.{CanHold, Holds, HoldsAll, plain_part, with_words}
 use Rattle.machine_model.specs.CallRows.{caller}
-use Rattle.machine_model.specs.HealthRows.{answering, raise_words, raising}
+use Rattle.machine_model.specs.HealthRows.{part_with_action, raise_words, raising}
 use Rattle.machine_model.specs.SlotRows.{first_part, loop_words, planner, second_part}
 use Rattle.machine_model.specs.TrapRows.{saver, saves, stray_load}
 use Rattle.machine_model.specs.WordRows.{WordsCanBeHeld}
@@ -55,9 +55,9 @@ words_can_be_held = record {
   second_loops = can_hold second_part 0x40000100 loop_words (omega arith, refl, (omega arith, refl, tt));
   first_loads = can_hold first_part 0x40000000 stray_load (omega arith, refl, (omega arith, refl, tt));
   plans = can_hold planner 0x40000000 (0x91d02070 ∷ []) (omega arith, refl, tt);
-  is_illegal = λ an_action. can_hold (answering an_action) 0x40000000 (0 ∷ []) (omega arith, refl, tt);
+  is_illegal = λ an_action. can_hold (part_with_action an_action) 0x40000000 (0 ∷ []) (omega arith, refl, tt);
   raises = can_hold raising 0x40100000 raise_words (omega arith, refl, (omega arith, refl, (omega arith, refl, tt)));
-  traps = can_hold (plain 0x40000000 4) 0x40000000 (0 ∷ []) (omega arith, refl, tt);
+  traps = can_hold (plain_part 0x40000000 4) 0x40000000 (0 ∷ []) (omega arith, refl, tt);
   saves = can_hold saver 0x40000000 saves (omega arith, refl, (omega arith, refl, (omega arith, refl, (omega arith, refl, (omega arith, refl, (omega arith, refl, (omega arith, refl, tt)))))));
   calls = λ is_system. can_hold (caller is_system) 0x40000000 (0x91d02070 ∷ []) (omega arith, refl, tt);
 }

@@ -8,7 +8,7 @@ use Rattle.xm_ports.specs.Channels.{Shape}
 use Rattle.machine_model.specs.Facts.{HasFacts}
 use Rattle.machine_model.specs.Laws.{HasLength}
 use Rattle.machine_model.specs.Lengths.{PutsAtMost, PutsFewBytes, ShowsAtMost, ShowsFewBytes}
-use Rattle.machine_model.specs.Machine.{Machine, Turn, act_of, answer_to, copies, happened, happened_by, local, local_in, local_of, sight, sight_for, sight_in, sight_of_state, system_traffic, taken_by, turn_of, with_room}
+use Rattle.machine_model.specs.Machine.{Machine, SlotTurn, act_of, answer_to, copies, happened, happened_by, local, local_in, local_of, sight, sight_for, sight_in, sight_of_state, system_traffic, taken_by, turn_of, with_room}
 use Rattle.machine_model.specs.Observed.{Observation, asks}
 use Rattle.machine_model.specs.Partition.{PartitionState, areas_of, takes_turns}
 use Rattle.machine_model.specs.Told as told
@@ -59,7 +59,7 @@ taken_short g p first (Some ps) fits = at (takes_turns ps.state)
     at true = act_short g p (local_of g p first ps).act fits (local_within g.system p ps (copies g p) g.ticks g.time first (sight_of_state g p first ps))
     at false = tt
 
-turn_short : (g : Machine) (o : Option Turn) → Fits (described g.system.conf) → PutsAtMost 4096 (system_traffic g.system.conf o (traffic_of (act_of (local_in g o))))
+turn_short : (g : Machine) (o : Option SlotTurn) → Fits (described g.system.conf) → PutsAtMost 4096 (system_traffic g.system.conf o (traffic_of (act_of (local_in g o))))
 turn_short g None fits = tt
 turn_short g (Some turn) fits = taken_short g turn.part turn.first (slice_get g.parts turn.part) fits
 
@@ -94,7 +94,7 @@ state_short g p first ps facts = at (takes_turns ps.state)
     at true = asked_short g (view_of g.system p) (asks (view_of g.system p) ps g.time first) facts
     at false = tt
 
-sight_short : (g : Machine) (p : ℕ) (o : Option Turn) (state : Option PartitionState) → HasFacts g → ShowsAtMost 24 (sight_in g p o state)
+sight_short : (g : Machine) (p : ℕ) (o : Option SlotTurn) (state : Option PartitionState) → HasFacts g → ShowsAtMost 24 (sight_in g p o state)
 sight_short g p None state facts = tt
 sight_short g p (Some turn) None facts = tt
 sight_short g p (Some turn) (Some ps) facts = at (turn.part == p)

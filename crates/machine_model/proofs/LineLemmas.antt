@@ -12,7 +12,7 @@ use Rattle.machine_model.specs.Laws.{part}
 use Rattle.machine_model.specs.Lines.{lines_of, lines_unless, local_lines, local_said, order_lines, own, plan_lines, said_unless, step_lines, step_said, tag_of}
 use Rattle.machine_model.specs.Lists.{all_of, is_number}
 use Rattle.machine_model.specs.LocalTick.{LocalTick, local_tick, worked}
-use Rattle.machine_model.specs.Machine.{Happened, Machine, Turn, copies, happened, happened_by, if_its_turn, is_turn_of, local, local_in, local_of, next_clock, obeyed_told, order_upon, sight_of_state, taken_by, tick_of, turn_of, worked_in}
+use Rattle.machine_model.specs.Machine.{Happened, Machine, SlotTurn, copies, happened, happened_by, if_its_turn, is_turn_of, local, local_in, local_of, next_clock, obeyed_told, order_upon, sight_of_state, taken_by, tick_of, turn_of, worked_in}
 use Rattle.machine_model.specs.Partition.{PartitionState, takes_turns}
 use Rattle.machine_model.specs.Told as told
 use Rattle.machine_model.specs.Told.{Told, line_of}
@@ -126,7 +126,7 @@ taken_lines g q first (Some ps) l is = at (takes_turns ps.state) is
     at true is = ((worked (view_of g.system q) (copies g q) g.time first (sight_of_state g q first ps) ps).told, ap local_lines (sym is))
     at false is = ([], ap local_lines (sym is))
 
-local_own_in : (g : Machine) (p : ℕ) (o : Option Turn) → own p (local_lines (local_in g o)) ≡ local_lines (if_its_turn (is_turn_of o p) (local_in g o))
+local_own_in : (g : Machine) (p : ℕ) (o : Option SlotTurn) → own p (local_lines (local_in g o)) ≡ local_lines (if_its_turn (is_turn_of o p) (local_in g o))
 local_own_in g p None = own_nil p
 local_own_in g p (Some turn) =
     let told_lines = taken_lines g turn.part turn.first (slice_get g.parts turn.part) (taken_by g turn.part turn.first (slice_get g.parts turn.part)) refl in

@@ -9,7 +9,7 @@ use Rattle.xm_conf.specs.declared.port.Kind.TheVariants as kind
 use Rattle.machine_model.specs.Caller.{Caller, Served, a_of}
 use Rattle.machine_model.specs.Hypercalls.{served}
 use Rattle.machine_model.specs.Partition.{areas_of}
-use Rattle.machine_model.specs.PortCallRows.{Makes, PortCallRows}
+use Rattle.machine_model.specs.PortCallRows.{NamedComesTo, PortCallRows}
 use Rattle.machine_model.specs.PortCalls.{creating, name_at}
 use Rattle.machine_model.proofs.Computing.{computing}
 
@@ -48,7 +48,7 @@ name_is caller memory bytes is =
 -- a call that makes a port of this kind, way, length and number of messages, by the name that was put into memory
 makes : (the_kind : Kind) (the_way the_length the_most : ℕ) (caller : Caller) (comes : Served) (memory : Memory) (bytes : List ℕ)
     → served caller ≡ creating the_kind the_way the_length the_most (name_in caller) caller → caller.state.memory ≡ with_bytes memory (a_of caller) bytes
-    → creating the_kind the_way the_length the_most (name_by caller bytes) caller ≡ comes → Makes caller comes
+    → creating the_kind the_way the_length the_most (name_by caller bytes) caller ≡ comes → NamedComesTo caller comes
 makes the_kind the_way the_length the_most caller comes memory bytes calls is known = record {
   made = calls ∙ ap (λ name. creating the_kind the_way the_length the_most name caller) (name_is caller memory bytes is) ∙ known;
 }

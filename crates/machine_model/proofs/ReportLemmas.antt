@@ -7,7 +7,7 @@ use Rattle.xm_base.specs.Options.{on}
 use Rattle.xm_report.specs.Report.{EndWhole, ReportLine, SystemLine}
 use Rattle.machine_model.specs.Alone.{Alone, alone_from, alone_lines, alone_start}
 use Rattle.machine_model.specs.Cue.{script}
-use Rattle.machine_model.specs.Laws.{OwnLines, part, part_at}
+use Rattle.machine_model.specs.Laws.{OwnLines, part, alone_part_at}
 use Rattle.machine_model.specs.Lines.{end_line, end_lines, lines, own, report}
 use Rattle.machine_model.specs.Lists.{all_of}
 use Rattle.machine_model.specs.Machine.{Machine, run, start}
@@ -22,8 +22,8 @@ unfolding part
 state_at g p a None is = absurd cc
 state_at g p a (Some ps) is = ap (λ b. Some b.state) (same_Some (part g p ps) a is)
 
-pub state_there : (g : Machine) (p : ℕ) (a : Alone) → part_at g p ≡ Some a → slice_get g.parts p ≡ Some a.state
-unfolding part_at
+pub state_there : (g : Machine) (p : ℕ) (a : Alone) → alone_part_at g p ≡ Some a → slice_get g.parts p ≡ Some a.state
+unfolding alone_part_at
 state_there g p a is = state_at g p a (slice_get g.parts p) is
 
 -- the line of an end has its partition's tag

@@ -5,7 +5,7 @@ use Rattle.std.proofs.lemmas.Option.{same_Some}
 use Rattle.xm_base.specs.Options.{on}
 use Rattle.machine_model.specs.Alone.{alone_from, alone_lines, alone_said, alone_step, alone_step_lines, alone_step_said}
 use Rattle.machine_model.specs.Cue.{cue, script, script_unless}
-use Rattle.machine_model.specs.Laws.{AllTicks, LastCue, NoScript, OneTick, RunsAlone, part, part_at}
+use Rattle.machine_model.specs.Laws.{AllTicks, LastCue, NoScript, OneTick, RunsAlone, part, alone_part_at}
 use Rattle.machine_model.specs.Lines.{lines, lines_unless, own, said, said_unless, step_lines, step_said}
 use Rattle.machine_model.specs.Machine.{Machine, after, happened, part_after, run, step}
 use Rattle.machine_model.specs.Partition.{PartitionState}
@@ -73,14 +73,14 @@ last_cue g p zero runs halts some = absurd (omega (arith, some))
 last_cue g p (suc count) runs halts some = more_script g p count runs ∙ ap (λ rest. cue g p ∷ rest) (no_script (step g) p count halts)
 
 -- a partition's part of the machine, where it is there
-pub part_there : (g : Machine) (p : ℕ) (ps : PartitionState) → slice_get g.parts p ≡ Some ps → part_at g p ≡ Some (part g p ps)
-unfolding part_at
+pub part_there : (g : Machine) (p : ℕ) (ps : PartitionState) → slice_get g.parts p ≡ Some ps → alone_part_at g p ≡ Some (part g p ps)
+unfolding alone_part_at
 part_there g p ps there = ap (on (part g p)) there
 
 -- a run of a machine that has halted
 halted_alone : (g : Machine) (p : ℕ) (ps : PartitionState) (count : ℕ) → g.halted ≡ true → slice_get g.parts p ≡ Some ps → RunsAlone g p ps count
 halted_alone g p ps count halts there = record {
-  state = ap (λ m. part_at m p) (halted_run count g halts) ∙ part_there g p ps there
+  state = ap (λ m. alone_part_at m p) (halted_run count g halts) ∙ part_there g p ps there
       ∙ ap (λ cues. Some (alone_from (view_of g.system p) (part g p ps) cues)) (sym (no_script g p count halts));
   lines = ap (own p) (halted_lines count g halts) ∙ own_nil p ∙ ap (alone_lines (view_of g.system p) (part g p ps)) (sym (no_script g p count halts));
   said = halted_said count g p halts ∙ ap (alone_said (view_of g.system p) (part g p ps)) (sym (no_script g p count halts));

@@ -19,11 +19,11 @@ use Rattle.xm_conf.specs.declared.channel.End.{End}
 use Rattle.xm_conf.specs.declared.port.Kind.{Kind}
 use Rattle.xm_conf.specs.declared.port.Port.{Port}
 use Rattle.xm_conf.specs.declared.port.Way.TheVariants as way
-use Rattle.xm_ports.specs.Channels.{Content, IsMessage, IsQueue, Queuing, Sampling, Shape, Suits, SuitsKind, cleared, empty, empty_of, first_message, put, shape_of, shapes_of, taken}
+use Rattle.xm_ports.specs.Channels.{Content, IsMessage, IsQueue, Queuing, Sampling, Shape, Suits, SuitsKind, cleared, empty, empty_of, first_message, put, shape_of, shapes_of, first_taken}
 use Rattle.machine_model.specs.Allowed.{TakesMore}
 use Rattle.machine_model.specs.Facts.{BootsWithShapes, HasShapes, KeepsShapes, PortsHaveKinds, RunsWithShapes}
 use Rattle.machine_model.specs.Lists.{each, table}
-use Rattle.machine_model.specs.Machine.{Machine, Turn, act_of, after, channel_after, copies, happened, happened_by, local, local_in, local_of, run, sight_of_state, start, step, system_traffic, taken_by, turn_of}
+use Rattle.machine_model.specs.Machine.{Machine, SlotTurn, act_of, after, channel_after, copies, happened, happened_by, local, local_in, local_of, run, sight_of_state, start, step, system_traffic, taken_by, turn_of}
 use Rattle.machine_model.specs.Partition.{PartitionState, takes_turns}
 use Rattle.machine_model.specs.Told as told
 use Rattle.machine_model.specs.Told.{Act, OwnPuts, OwnStill, OwnTakes}
@@ -56,8 +56,8 @@ shorter most room (message ∷ messages) queue =
     let few : suc (length messages) ≤ most = queue.few in
     record { few = omega (arith, few); each = All-tail (IsMessage room) message messages queue.each }
 
-taken_suits : (of : ChanKind) (room : ℕ) (content : Content) → SuitsKind of room content → SuitsKind of room (taken content)
-unfolding taken
+taken_suits : (of : ChanKind) (room : ℕ) (content : Content) → SuitsKind of room content → SuitsKind of room (first_taken content)
+unfolding first_taken
 taken_suits (chan_kind.Sampling refresh) room (Sampling sample) suits = suits
 taken_suits (chan_kind.Sampling refresh) room (Queuing messages) suits = absurd suits
 taken_suits (chan_kind.Queuing most) room (Sampling sample) suits = absurd suits
@@ -269,7 +269,7 @@ taken_traffic g p first (Some ps) fits = at (takes_turns ps.state)
     at true = act_fits g p (local_of g p first ps).act fits (local_within g.system p ps (copies g p) g.ticks g.time first (sight_of_state g p first ps))
     at false = tt
 
-turn_traffic : (g : Machine) (o : Option Turn) → Fits (described g.system.conf) → FitsChannels g.system.conf g.channels (system_traffic g.system.conf o (traffic_of (act_of (local_in g o))))
+turn_traffic : (g : Machine) (o : Option SlotTurn) → Fits (described g.system.conf) → FitsChannels g.system.conf g.channels (system_traffic g.system.conf o (traffic_of (act_of (local_in g o))))
 unfolding FitsChannels
 turn_traffic g None fits = tt
 turn_traffic g (Some turn) fits = taken_traffic g turn.part turn.first (slice_get g.parts turn.part) fits
@@ -293,7 +293,7 @@ traffic_suits conf channels time (Puts d bytes) c chan content fits chan_there t
     at false other = suits
 traffic_suits conf channels time (Takes d) c chan content fits chan_there there suits = at (d == c)
   where
-    at : (b : Bool) → SuitsKind chan.kind chan.length (if b then taken content else content)
+    at : (b : Bool) → SuitsKind chan.kind chan.length (if b then first_taken content else content)
     at true = taken_suits chan.kind chan.length content suits
     at false = suits
 

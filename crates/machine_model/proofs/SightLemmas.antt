@@ -11,7 +11,7 @@ use Rattle.xm_base.specs.declared.partition.Order.{Order}
 use Rattle.machine_model.specs.Laws.{HasOwnTag, NeverUponItself, SeesNothing}
 use Rattle.machine_model.specs.Lines.{tag_of}
 use Rattle.machine_model.specs.LocalTick.{bounded, goes_on, local_tick, with_interrupts, worked}
-use Rattle.machine_model.specs.Machine.{Machine, Turn, sight, sight_for, sight_in, sight_of_state, turn_of}
+use Rattle.machine_model.specs.Machine.{Machine, SlotTurn, sight, sight_for, sight_in, sight_of_state, turn_of}
 use Rattle.machine_model.specs.Observed.{asked_by, asks, if_call, observed_by, unless_delivered}
 use Rattle.machine_model.specs.Partition.{PartitionState, areas_of, takes_turns}
 use Rattle.machine_model.specs.Told as told
@@ -57,7 +57,7 @@ plain_view : (g : Machine) (p : ℕ) → (part_of g.system.conf p).system ≡ fa
 unfolding view_of
 plain_view g p plain = plain
 
-seen_in : (g : Machine) (p : ℕ) (o : Option Turn) (there : Option PartitionState) → (view_of g.system p).part.system ≡ false → sight_in g p o there ≡ Unseen
+seen_in : (g : Machine) (p : ℕ) (o : Option SlotTurn) (there : Option PartitionState) → (view_of g.system p).part.system ≡ false → sight_in g p o there ≡ Unseen
 seen_in g p None there plain = refl
 seen_in g p (Some turn) None plain = refl
 seen_in g p (Some turn) (Some ps) plain = at (turn.part == p)

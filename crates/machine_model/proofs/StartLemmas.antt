@@ -7,7 +7,7 @@ use Rattle.xm_conf.specs.View.{channel_of}
 use Rattle.xm_ports.specs.Channels.{Content, empty, shape_of, shapes_of}
 use Rattle.machine_model.specs.Alone.{Alone, alone_from, alone_lines, alone_said, alone_start, empty_copy}
 use Rattle.machine_model.specs.Cue.{script}
-use Rattle.machine_model.specs.Laws.{BootsAlone, TwoRuns, part, part_at}
+use Rattle.machine_model.specs.Laws.{BootsAlone, TwoRuns, part, alone_part_at}
 use Rattle.machine_model.specs.Lines.{lines, own, said}
 use Rattle.machine_model.specs.Lists.{each, is_number, then_some}
 use Rattle.machine_model.specs.Machine.{booted_part, copies, run, start}
@@ -84,7 +84,7 @@ start_system system = refl
 
 -- a run from the start is, for a partition, its run alone from its start
 pub record StartsAlone (system : System) (p count : ℕ) : Type 0 where
-  pub state : part_at (run (start system) count) p ≡ Some (alone_from (view_of system p) (alone_start (view_of system p)) (script (start system) p count))
+  pub state : alone_part_at (run (start system) count) p ≡ Some (alone_from (view_of system p) (alone_start (view_of system p)) (script (start system) p count))
   pub lines : own p (lines (start system) count) ≡ alone_lines (view_of system p) (alone_start (view_of system p)) (script (start system) p count)
   pub said : said (start system) count p ≡ alone_said (view_of system p) (alone_start (view_of system p)) (script (start system) p count)
 

@@ -15,7 +15,7 @@ use Rattle.machine_model.specs.Lines.{report}
 use Rattle.machine_model.specs.Machine.{Machine, start}
 use Rattle.guest_memory.specs.Loading.{area_of, with_zeros}
 use Rattle.machine_model.specs.Partition.{areas_of, booted}
-use Rattle.machine_model.specs.Rows.{Holds, Prints, at, plain}
+use Rattle.machine_model.specs.Rows.{Holds, Prints, at, plain_part}
 use Rattle.machine_model.specs.StartRows.{BeginsAtEntry, HaltsAfterHi, ReportsHi, StaysHalted, hi, hi_bytes}
 use Rattle.machine_model.specs.View.{view_of}
 use Rattle.machine_model.proofs.Computing.{computing}
@@ -48,7 +48,7 @@ said_lines ticks bytes = ConsoleLine 4 0 bytes ∷ MovedLine 7 0 move.Halt ∷ E
 
 -- a memory holds the word of the partition's program
 abbrev Has : Memory → ℕ → ℕ → Type 0
-Has memory address word = Holds (plain 0x40000000 34) memory address word
+Has memory address word = Holds (plain_part 0x40000000 34) memory address word
 
 -- it holds all words of the program
 record HasAll (memory : Memory) : Type 0 where
@@ -94,9 +94,9 @@ abbrev full : Memory
 full = with_bytes bare 0x40000000 hi_bytes
 
 -- the memory of the program as it boots has its words
-has : (i q word : ℕ) → q ≡ 0x40000000 + i → i + 4 ≤ length hi_bytes → access_fault (is_readable (map area_of (plain 0x40000000 34).areas)) q 4 ≡ None
+has : (i q word : ℕ) → q ≡ 0x40000000 + i → i + 4 ≤ length hi_bytes → access_fault (is_readable (map area_of (plain_part 0x40000000 34).areas)) q 4 ≡ None
     → from_be_bytes w32 (take 4 (drop i hi_bytes)) ≡ word → Has full q word
-has i q word e h allowed spells = fetched_within (map area_of (plain 0x40000000 34).areas) bare 0x40000000 hi_bytes i q word e h allowed spells
+has i q word e h allowed spells = fetched_within (map area_of (plain_part 0x40000000 34).areas) bare 0x40000000 hi_bytes i q word e h allowed spells
 
 has_all : HasAll full
 has_all = record {

@@ -7,9 +7,9 @@ use Rattle.xm_base.specs.Options.{on}
 use Rattle.xm_ports.specs.Channels.{Content}
 use Rattle.machine_model.specs.Alone.{Alone, alone_after, alone_local, alone_local_in, alone_step, alone_traffic}
 use Rattle.machine_model.specs.Cue.{Away, Mine, cue, cue_in, slot_of, unless_own}
-use Rattle.machine_model.specs.Laws.{part, part_at}
+use Rattle.machine_model.specs.Laws.{part, alone_part_at}
 use Rattle.machine_model.specs.LocalTick.{LocalTick, bounded, local_tick, worked}
-use Rattle.machine_model.specs.Machine.{Machine, Turn, act_of, after, after_tick, channel_after, copies, happened, happened_by, if_its_turn, is_turn_of, local, local_in, local_of, order_upon, part_after, sight, sight_in, sight_of_state, step, step_unless, system_traffic, taken_by, tick_of, turn_of, worked_in}
+use Rattle.machine_model.specs.Machine.{Machine, SlotTurn, act_of, after, after_tick, channel_after, copies, happened, happened_by, if_its_turn, is_turn_of, local, local_in, local_of, order_upon, part_after, sight, sight_in, sight_of_state, step, step_unless, system_traffic, taken_by, tick_of, turn_of, worked_in}
 use Rattle.machine_model.specs.Partition.{PartitionState, takes_turns}
 use Rattle.machine_model.specs.Told.{Act, Sight}
 use Rattle.machine_model.specs.Traffic.{copies_after, copies_of, heard_as, traffic_of}
@@ -29,7 +29,7 @@ unfolding step
 step_halted g halts = ap (λ b. step_unless b g) halts
 
 -- what partition p is shown in its slot
-shown_is : (g : Machine) (p : ℕ) (ps : PartitionState) (turn : Turn) (o : Option PartitionState) → o ≡ Some ps → (turn.part == p) ≡ true → sight_in g p (Some turn) o ≡ sight_of_state g p turn.first ps
+shown_is : (g : Machine) (p : ℕ) (ps : PartitionState) (turn : SlotTurn) (o : Option PartitionState) → o ≡ Some ps → (turn.part == p) ≡ true → sight_in g p (Some turn) o ≡ sight_of_state g p turn.first ps
 shown_is g p ps turn None there its = absurd cc
 shown_is g p ps turn (Some other) there its = rw (its, same_Some other ps there) refl
 
@@ -41,7 +41,7 @@ ticked g p q ps first seen None same there shown = absurd cc
 ticked g p q ps first seen (Some other) same there shown = rw (same, same_Some other ps there, shown) refl
 
 -- what partition p does alone in a slot is its local tick, where it has it
-alone_in : (g : Machine) (p : ℕ) (ps : PartitionState) (o : Option Turn) → slice_get g.parts p ≡ Some ps
+alone_in : (g : Machine) (p : ℕ) (ps : PartitionState) (o : Option SlotTurn) → slice_get g.parts p ≡ Some ps
     → alone_local_in (slot_of o p) (view_of g.system p) (part g p ps) (sight_in g p o (slice_get g.parts p)) ≡ if_its_turn (is_turn_of o p) (local_in g o)
 unfolding part
 alone_in g p ps None there = refl
@@ -76,7 +76,7 @@ acts g p first (Some ps) tick is = at (takes_turns ps.state) is
     at false is = absurd cc
 
 -- a partition's own traffic, told under the system's numbers, is the same under its own names
-own_same : (g : Machine) (p : ℕ) (o : Option Turn) (tick : LocalTick) → is_turn_of o p ≡ true → local_in g o ≡ Some tick
+own_same : (g : Machine) (p : ℕ) (o : Option SlotTurn) (tick : LocalTick) → is_turn_of o p ≡ true → local_in g o ≡ Some tick
     → heard_as (name_of g.system.conf p) (system_traffic g.system.conf o (traffic_of tick.act)) ≡ traffic_of tick.act
 own_same g p None tick its is = absurd cc
 own_same g p (Some turn) tick its is =
@@ -86,7 +86,7 @@ own_same g p (Some turn) tick its is =
     rw (same, found.1) (own_traffic g.system p found.0)
 
 -- the traffic of a tick as partition p meets it: its own where it had its local tick, else what it is told of others
-traffic_in : (g : Machine) (p : ℕ) (o : Option Turn) (b : Bool) (l : Option LocalTick) → is_turn_of o p ≡ b → local_in g o ≡ l
+traffic_in : (g : Machine) (p : ℕ) (o : Option SlotTurn) (b : Bool) (l : Option LocalTick) → is_turn_of o p ≡ b → local_in g o ≡ l
     → heard_as (name_of g.system.conf p) (system_traffic g.system.conf o (traffic_of (act_of l)))
     ≡ alone_traffic (if_its_turn b l) (unless_own (is_some (if_its_turn b l)) (heard_as (name_of g.system.conf p) (system_traffic g.system.conf o (traffic_of (act_of l)))))
 traffic_in g p o true None its is = refl
@@ -127,13 +127,13 @@ after_same g p ps =
 
 -- a partition that is there, after a tick
 after_at : (g : Machine) (p : ℕ) (ps : PartitionState) → slice_get g.parts p ≡ Some ps
-    → part_at (after g (happened g)) p ≡ Some (part (after g (happened g)) p (part_after g (happened g) p ps))
-unfolding part_at after
+    → alone_part_at (after g (happened g)) p ≡ Some (part (after g (happened g)) p (part_after g (happened g) p ps))
+unfolding alone_part_at after
 after_at g p ps there = ap (on (part (after g (happened g)) p)) (get_each (part_after g (happened g)) g.parts p ∙ ap (on (part_after g (happened g) p)) there)
 
 pub tick_state : (g : Machine) (p : ℕ) (ps : PartitionState) → g.halted ≡ false → slice_get g.parts p ≡ Some ps
-    → part_at (step g) p ≡ Some (alone_step (view_of g.system p) (part g p ps) (cue g p))
+    → alone_part_at (step g) p ≡ Some (alone_step (view_of g.system p) (part g p ps) (cue g p))
 unfolding alone_step
 tick_state g p ps runs there =
-    ap (λ m. part_at m p) (step_runs g runs) ∙ after_at g p ps there ∙ ap Some (after_same g p ps)
+    ap (λ m. alone_part_at m p) (step_runs g runs) ∙ after_at g p ps there ∙ ap Some (after_same g p ps)
     ∙ ap (λ tick. Some (alone_after (view_of g.system p) (part g p ps) (cue g p) tick)) (sym (alone_local_is g p ps there))

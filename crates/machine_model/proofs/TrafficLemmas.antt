@@ -5,7 +5,7 @@ use Rattle.std.proofs.lemmas.Bool.{eqb-true}
 use Rattle.std.proofs.lemmas.Option.{same_Some}
 use Rattle.xm_base.specs.Options.{on}
 use Rattle.xm_conf.specs.Configuration.{Conf}
-use Rattle.xm_ports.specs.Channels.{Content, put, taken}
+use Rattle.xm_ports.specs.Channels.{Content, put, first_taken}
 use Rattle.machine_model.specs.Lists.{each}
 use Rattle.machine_model.specs.LocalTick.{bounded, has_name}
 use Rattle.machine_model.specs.Told as told
@@ -46,11 +46,11 @@ take_same : (conf : Conf) (p q c : ℕ) → name_of conf p c ≡ Some q → (tim
     → after_own time (own_takes_at name) q content ≡ after_traffic time (Takes d) c content
 take_same conf p q c named_c time d None is content = at (d == c) refl
   where
-    at : (b : Bool) → (d == c) ≡ b → content ≡ (if b then taken content else content)
+    at : (b : Bool) → (d == c) ≡ b → content ≡ (if b then first_taken content else content)
     at true same = absurd (let e : name_of conf p c ≡ None = ap (name_of conf p) (sym (eqb-true d c same)) ∙ is in let f = sym e ∙ named_c in cc)
     at false other = refl
 take_same conf p q c named_c time d (Some name) is content =
-    same_choice (name == q) (d == c) (taken content) content
+    same_choice (name == q) (d == c) (first_taken content) content
     (λ same. let e : name_of conf p d ≡ Some q = is ∙ ap Some (eqb-true name q same) in
     let f : d ≡ c = same_channel conf p q d c e named_c in rw f (grind (arith)))
     (λ same. let e : Some name ≡ Some q = sym is ∙ ap (name_of conf p) (eqb-true d c same) ∙ named_c in

@@ -10,7 +10,7 @@ use Rattle.health_monitor.specs.declared.effects.Whole.TheVariants as whole
 use Rattle.sparc_step.specs.declared.outcome.Turn.{Turn}
 use Rattle.sparc_step.specs.declared.outcome.Turn.TheVariants.{Went, Trap, Call}
 use Rattle.virt_traps.specs.Delivery.{Delivered, Returned, delivered, returned}
-use Rattle.virt_traps.specs.Moves.{made}
+use Rattle.virt_traps.specs.Moves.{move_made}
 use Rattle.virt_traps.specs.Settled.{settled}
 use Rattle.virt_traps.specs.Virtual.{due}
 use Rattle.virt_traps.specs.declared.delivery.IretFault.{IretFault}
@@ -27,18 +27,18 @@ use Rattle.xm_conf.specs.declared.port.Kind.{Kind}
 use Rattle.xm_conf.specs.declared.port.Kind.TheVariants as kind
 use Rattle.xm_conf.specs.declared.port.Port.{Port}
 use Rattle.xm_ports.specs.Channels.{Content, HeldSample, IsMessage, Shape, first_message, messages_of, most_of, sample_of}
-use Rattle.xm_ports.specs.Ports.{created_over, is_kind, is_made}
+use Rattle.xm_ports.specs.Ports.{created_over, are_same_kind, is_made}
 use Rattle.xm_ports.specs.declared.ports.CreateFault.{CreateFault}
-use Rattle.machine_model.specs.Caller.{Acts, Caller, Meets, Served, Test, Upshot, a_of, acting, answering, b_of, bytes_of, c_of, d_of, invalid_parameter, not_available, number_of, refused_if, room, tested, text, with_written}
+use Rattle.machine_model.specs.Caller.{Acts, Caller, Meets, Served, Test, Upshot, a_of, acting, answering, b_of, caller_bytes, c_of, d_of, invalid_parameter, not_available, number_of, refused_if, room, tested, text, with_written}
 use Rattle.machine_model.specs.Health.{answered_by, by_interrupt, done_to_all, event_handled, interrupt_delivered, quiet, self_ordered, undelivered}
 use Rattle.machine_model.specs.Hypercalls.{served}
 use Rattle.machine_model.specs.Laws.{ActsWithinBounds}
 use Rattle.machine_model.specs.Lists.{and_then, is_number, table}
-use Rattle.machine_model.specs.LocalTick.{bounded, by_act, by_turn, by_upshot, called, clocked, delivered_or_executed, executed, goes_on, has_name, local_tick, turned_state, with_interrupts, worked, worked_if}
+use Rattle.machine_model.specs.LocalTick.{bounded, by_act, by_turn, by_upshot, called, clocked, delivered_or_executed, executed_in_tick, goes_on, has_name, local_tick, turned_state, with_interrupts, worked, worked_if}
 use Rattle.machine_model.specs.LogCalls.{hm_read, hm_status, raise_event, trace_event, trace_read, trace_status}
 use Rattle.machine_model.specs.Partition.{PartitionState, areas_of}
 use Rattle.machine_model.specs.PartitionCalls.{get_partition_status, get_self, get_system_status, halt_partition, halt_system, idle_self, reset_partition, reset_system, resume_partition, shutdown_partition, suspend_partition}
-use Rattle.machine_model.specs.PortCalls.{MadePort, by_created, create_queuing_port, create_sampling_port, creating, destination_only, first_read, get_queuing_port_status, get_sampling_port_status, held_read, is_full, made_port, name_given, on_port, putting, read_sampling_message, receive_queuing_message, send_queuing_message, shape_at, size_fits, source_only, with_channel, with_content, write_sampling_message}
+use Rattle.machine_model.specs.PortCalls.{MadePort, by_created, create_queuing_port, create_sampling_port, creating, destination_only, first_read, get_queuing_port_status, get_sampling_port_status, held_read, is_full, made_port, name_given, on_port, putting, read_sampling_message, receive_queuing_message, send_queuing_message, shape_at, size_fits, source_only, with_channel, port_with_content, write_sampling_message}
 use Rattle.machine_model.specs.ProcessorCalls.{by_flush, by_return, clear_irqmask, flush_regwin, flushed, input_read, iret, read_input, set_irqmask, set_psr, set_tbr, write_console}
 use Rattle.machine_model.specs.Structures.{queuing_status, sampling_status}
 use Rattle.machine_model.specs.TimeCalls.{get_plan_status, get_time, set_timer, switch_sched_plan}
@@ -146,7 +146,7 @@ pub record IsTaking (view : PartitionView) (contents : List (Option Content)) (n
   pub waits : IsSome (first_message content)
 
 -- two kinds that are one have the same room
-same_room : (one other : Kind) (of : ChanKind) (content : Content) → is_kind one other ≡ true → HasRoom other of content → HasRoom one of content
+same_room : (one other : Kind) (of : ChanKind) (content : Content) → are_same_kind one other ≡ true → HasRoom other of content → HasRoom one of content
 same_room kind.Sampling kind.Sampling of content is has_room = tt
 same_room kind.Sampling kind.Queuing of content is has_room = tt
 same_room kind.Queuing kind.Sampling of content is has_room = absurd cc
@@ -182,7 +182,7 @@ record IsMadePort (caller : Caller) (the_kind : Kind) (made : MadePort) : Type 0
   named : IsName caller.view.channels made.name
   port : Port
   port_there : slice_get caller.view.part.ports (a_of caller) ≡ Some port
-  kind_is : is_kind port.kind the_kind ≡ true
+  kind_is : are_same_kind port.kind the_kind ≡ true
   channel : PortChannel
   channel_there : slice_index_or caller.view.channels (a_of caller) None ≡ Some channel
   shape_is : made.shape ≡ channel.shape
@@ -194,8 +194,8 @@ IsPort caller the_kind None = Unit {0}
 IsPort caller the_kind (Some made) = IsMadePort caller the_kind made
 
 content_port : (caller : Caller) (the_kind : Kind) (port : Port) (channel : PortChannel) (o : Option Content) → slice_get caller.view.part.ports (a_of caller) ≡ Some port
-    → is_kind port.kind the_kind ≡ true → slice_index_or caller.view.channels (a_of caller) None ≡ Some channel → IsName caller.view.channels channel.name
-    → slice_index_or caller.contents channel.name None ≡ o → IsPort caller the_kind (with_content port channel o)
+    → are_same_kind port.kind the_kind ≡ true → slice_index_or caller.view.channels (a_of caller) None ≡ Some channel → IsName caller.view.channels channel.name
+    → slice_index_or caller.contents channel.name None ≡ o → IsPort caller the_kind (port_with_content port channel o)
 content_port caller the_kind port channel None port_there kind_is channel_there named held = tt
 content_port caller the_kind port channel (Some content) port_there kind_is channel_there named held = record {
   named = named;
@@ -212,9 +212,9 @@ content_port caller the_kind port channel (Some content) port_there kind_is chan
 channel_port : (caller : Caller) (the_kind : Kind) (port : Port) (o : Option PortChannel) → slice_get caller.view.part.ports (a_of caller) ≡ Some port
     → slice_index_or caller.view.channels (a_of caller) None ≡ o → HasName caller.view.channels o → IsPort caller the_kind (with_channel caller the_kind port o)
 channel_port caller the_kind port None port_there channel_there named = tt
-channel_port caller the_kind port (Some channel) port_there channel_there named = at (is_kind port.kind the_kind) refl
+channel_port caller the_kind port (Some channel) port_there channel_there named = at (are_same_kind port.kind the_kind) refl
   where
-    at : (b : Bool) → is_kind port.kind the_kind ≡ b → IsPort caller the_kind (if b then with_content port channel (slice_index_or caller.contents channel.name None) else None)
+    at : (b : Bool) → are_same_kind port.kind the_kind ≡ b → IsPort caller the_kind (if b then port_with_content port channel (slice_index_or caller.contents channel.name None) else None)
     at true kind_is = content_port caller the_kind port channel (slice_index_or caller.contents channel.name None) port_there kind_is channel_there named refl
     at false kind_is = tt
 
@@ -246,10 +246,10 @@ size_is port size fits = at (size == 0) (nat_lt port.shape.length size) refl ref
     at false false zero_is more said = (grind (arith, nat_tests), grind (arith, nat_tests))
 
 putting_within : (the_kind : Kind) (caller : Caller) (made : MadePort) → IsMadePort caller the_kind made → size_fits made (c_of caller) ≡ None → HasRoom the_kind made.shape.kind made.content
-    → IsPutting caller.view caller.contents made.name (bytes_of caller (b_of caller) (c_of caller))
+    → IsPutting caller.view caller.contents made.name (caller_bytes caller (b_of caller) (c_of caller))
 putting_within the_kind caller made is fits has_room =
     let size = size_is made (c_of caller) fits in
-    let long : length (bytes_of caller (b_of caller) (c_of caller)) ≡ c_of caller = length-bytes_at caller.state.memory (b_of caller) (c_of caller) in
+    let long : length (caller_bytes caller (b_of caller) (c_of caller)) ≡ c_of caller = length-bytes_at caller.state.memory (b_of caller) (c_of caller) in
     record {
       named = is.named;
       number = a_of caller;
@@ -260,7 +260,7 @@ putting_within the_kind caller made is fits has_room =
       name_is = is.name_is;
       content = made.content;
       held = is.held;
-      message = subst (λ (shape : Shape). IsMessage shape.length (bytes_of caller (b_of caller) (c_of caller))) is.shape_is
+      message = subst (λ (shape : Shape). IsMessage shape.length (caller_bytes caller (b_of caller) (c_of caller))) is.shape_is
           (record { some = subst (λ (n : ℕ). 1 ≤ n) (sym long) size.0; fit = subst (λ (n : ℕ). n ≤ made.shape.length) (sym long) size.1 });
       room = subst (λ (shape : Shape). HasRoom is.port.kind shape.kind made.content) is.shape_is (same_room is.port.kind the_kind made.shape.kind made.content is.kind_is has_room);
     }
@@ -462,7 +462,7 @@ set_tbr_stays caller names = record { within = tt }
 
 flush_regwin_stays : (caller : Caller) → AreNames caller.view.channels → Stays caller.view caller.contents (flush_regwin caller)
 unfolding flush_regwin
-flush_regwin_stays caller names = record { within = let moved = flushed 8 (areas_of caller.view) (made caller.state.core caller.state.memory) in flush_within caller.view caller.contents moved.answer (record caller.state { core = moved.core; memory = moved.memory }) caller }
+flush_regwin_stays caller names = record { within = let moved = flushed 8 (areas_of caller.view) (move_made caller.state.core caller.state.memory) in flush_within caller.view caller.contents moved.answer (record caller.state { core = moved.core; memory = moved.memory }) caller }
 
 -- the call with a number, or a later one
 choice_stays : (view : PartitionView) (contents : List (Option Content)) (b : Bool) (one other : Served) → Stays view contents one → Stays view contents other → Stays view contents (if b then one else other)
@@ -560,8 +560,8 @@ interrupt_bounded view (Ok made) time n d ps = refl
 interrupt_bounded view (Err fault) time n d ps = refl
 
 executed_bounded : (view : PartitionView) (contents : List (Option Content)) (time : ℕ) (sight : Sight) (ps : PartitionState) → AreNames view.channels
-    → IsBounded view (executed view contents time sight ps).act
-unfolding executed
+    → IsBounded view (executed_in_tick view contents time sight ps).act
+unfolding executed_in_tick
 executed_bounded view contents time sight ps names =
     let t = settled (areas_of view) ps.core ps.memory in
     turn_bounded t.turn view contents time sight ps (turned_state t ps) names
@@ -641,8 +641,8 @@ interrupt_within view contents (Ok made) time n d ps = tt
 interrupt_within view contents (Err fault) time n d ps = tt
 
 executed_within : (view : PartitionView) (contents : List (Option Content)) (time : ℕ) (sight : Sight) (ps : PartitionState) → AreNames view.channels
-    → IsWithin view contents (executed view contents time sight ps).act
-unfolding executed
+    → IsWithin view contents (executed_in_tick view contents time sight ps).act
+unfolding executed_in_tick
 executed_within view contents time sight ps names =
     let t = settled (areas_of view) ps.core ps.memory in
     turn_within t.turn view contents time sight ps (turned_state t ps) names

@@ -13,8 +13,8 @@ use Rattle.xm_ports.specs.Channels.{Content}
 use Rattle.xm_report.specs.Report.{ReportLine}
 use Rattle.machine_model.specs.Health.{Worked, interrupt_delivered}
 use Rattle.machine_model.specs.Lines.{end_lines, lines, lines_of, lines_unless, step_lines}
-use Rattle.machine_model.specs.LocalTick.{LocalTick, by_turn, clocked, delivered_or_executed, executed, goes_on, local_tick, seen_outside, turned_state, with_interrupts, worked, worked_if}
-use Rattle.machine_model.specs.Machine.{Happened, Machine, Turn, after, copies, happened, happened_by, local, local_in, local_of, run, sight_for, sight_of_state, step, step_unless, taken_by, turn_of}
+use Rattle.machine_model.specs.LocalTick.{LocalTick, by_turn, clocked, delivered_or_executed, executed_in_tick, goes_on, local_tick, seen_outside, turned_state, with_interrupts, worked, worked_if}
+use Rattle.machine_model.specs.Machine.{Happened, Machine, SlotTurn, after, copies, happened, happened_by, local, local_in, local_of, run, sight_for, sight_of_state, step, step_unless, taken_by, turn_of}
 use Rattle.machine_model.specs.Observed.{Observation, asked_by, asks, if_call, unless_delivered}
 use Rattle.machine_model.specs.Partition.{PartitionState, areas_of, execution_looked_at, hardware_looked_at, takes_turns}
 use Rattle.machine_model.specs.Rows.{Leaves, Prints}
@@ -71,7 +71,7 @@ taken_by_fetch fetch g p first None = None
 taken_by_fetch fetch g p first (Some ps) =
     if takes_turns ps.state then Some (local_of_by (settled_by fetch (areas_of (view_of g.system p)) ps.core ps.memory) g p first ps) else None
 
-abbrev pub local_by_fetch : Result ℕ BusFault → Machine → Option Turn → Option LocalTick
+abbrev pub local_by_fetch : Result ℕ BusFault → Machine → Option SlotTurn → Option LocalTick
 local_by_fetch fetch g None = None
 local_by_fetch fetch g (Some turn) = taken_by_fetch fetch g turn.part turn.first (slice_get g.parts turn.part)
 
@@ -85,7 +85,7 @@ abbrev pub AnswersPart : Result ℕ BusFault → Machine → ℕ → Option Part
 AnswersPart fetch g p None = Unit {0}
 AnswersPart fetch g p (Some ps) = fetched (areas_of (view_of g.system p)) ps.memory ps.core.pc ≡ fetch
 
-abbrev pub Answers : Result ℕ BusFault → Machine → Option Turn → Type 0
+abbrev pub Answers : Result ℕ BusFault → Machine → Option SlotTurn → Type 0
 Answers fetch g None = Unit {0}
 Answers fetch g (Some turn) = AnswersPart fetch g turn.part (slice_get g.parts turn.part)
 
@@ -116,7 +116,7 @@ asks_same view ps time first =
 
 executed_same : (o : Option ℕ) (enabled : Bool) (view : PartitionView) (contents : List (Option Content)) (time : ℕ) (sight : Sight) (ps : PartitionState)
     → delivered_or_executed_by (settled (areas_of view) ps.core ps.memory) o enabled view contents time sight ps ≡ delivered_or_executed o enabled view contents time sight ps
-unfolding executed
+unfolding executed_in_tick
 executed_same None enabled view contents time sight ps = refl
 executed_same (Some n) true view contents time sight ps = refl
 executed_same (Some n) false view contents time sight ps = refl
@@ -157,7 +157,7 @@ taken_in : (fetch : Result ℕ BusFault) (g : Machine) (p : ℕ) (first : Bool) 
 taken_in fetch g p first None is = refl
 taken_in fetch g p first (Some ps) is = taken_same fetch g p first ps is
 
-local_same_in : (fetch : Result ℕ BusFault) (g : Machine) (o : Option Turn) → Answers fetch g o → local_by_fetch fetch g o ≡ local_in g o
+local_same_in : (fetch : Result ℕ BusFault) (g : Machine) (o : Option SlotTurn) → Answers fetch g o → local_by_fetch fetch g o ≡ local_in g o
 local_same_in fetch g None is = refl
 local_same_in fetch g (Some turn) is = taken_in fetch g turn.part turn.first (slice_get g.parts turn.part) is
 

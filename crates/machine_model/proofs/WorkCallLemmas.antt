@@ -9,7 +9,7 @@ use Rattle.virt_clocks.specs.declared.timer.Clock.{Clock}
 use Rattle.virt_clocks.specs.declared.timer.Clock.TheVariants.{Exec, Hw}
 use Rattle.virt_clocks.specs.declared.timer.Timer.{Timer}
 use Rattle.virt_traps.specs.Delivery.{Returned, returned}
-use Rattle.virt_traps.specs.Moves.{made}
+use Rattle.virt_traps.specs.Moves.{move_made}
 use Rattle.virt_traps.specs.declared.delivery.IretFault.{IretFault}
 use Rattle.virt_traps.specs.declared.delivery.IretFault.TheVariants.{Stack, Unaligned}
 use Rattle.virt_traps.specs.declared.windows.StackFault.{StackFault}
@@ -23,7 +23,7 @@ use Rattle.xm_ports.specs.declared.ports.CreateFault.{CreateFault}
 use Rattle.xm_traces.specs.Ring.{Kept, RING_ENTRIES, noted}
 use Rattle.xm_traces.specs.declared.entry.TraceEntry.{TraceEntry}
 use Rattle.machine_model.specs.Caller.{Caller, Served, Test, a_of, answering, b_of, c_of, d_of, e_of, invalid_parameter, is_neither, no_action, not_available, number_of, refused_if, room, tested, text, with_answer, with_written}
-use Rattle.machine_model.specs.Facts.{AreEnds, AreLast, HaveEight, IsEnd}
+use Rattle.machine_model.specs.Facts.{AreEnds, AreLast, HaveEight, IsChannelEnd}
 use Rattle.machine_model.specs.Hypercalls.{served}
 use Rattle.machine_model.specs.LogCalls.{hm_read, hm_status, raise_event, trace_entry, trace_event, trace_read, trace_status, tracing}
 use Rattle.machine_model.specs.Partition.{PartitionState, areas_of}
@@ -163,30 +163,30 @@ port_there : (way : ℕ) (o : Option Port) → is_way_of way o ≡ true → IsSo
 port_there way None is = absurd cc
 port_there way (Some port) is = refl
 
-is_granted : (view : PartitionView) (way length most : ℕ) (made : List Bool) (port r : ℕ) → granted view.part.ports (shape_at view) way length most made port ≡ Ok r → IsEnd view r
+is_granted : (view : PartitionView) (way length most : ℕ) (made : List Bool) (port r : ℕ) → granted view.part.ports (shape_at view) way length most made port ≡ Ok r → IsChannelEnd view r
 unfolding granted
 is_granted view way length most made port r is =
     by (is_way_of way (slice_get view.part.ports port)) (agrees_end length most (shape_at view port)) (shape_at view port) (is_made port made) refl refl refl is
   where
     by : (a b : Bool) (o : Option Shape) (already : Bool) → is_way_of way (slice_get view.part.ports port) ≡ a → shape_at view port ≡ o → is_made port made ≡ already
-        → unless_differs (a && b) o made port ≡ Ok r → IsEnd view r
+        → unless_differs (a && b) o made port ≡ Ok r → IsChannelEnd view r
     by false b o already its shape made_is said = absurd cc
     by true false o already its shape made_is said = absurd cc
     by true true None already its shape made_is said = absurd cc
     by true true (Some some) already its shape made_is said = at (is_made port made) said
       where
-        at : (c : Bool) → unless_made c port ≡ Ok r → IsEnd view r
+        at : (c : Bool) → unless_made c port ≡ Ok r → IsChannelEnd view r
         at true said = absurd cc
         at false said =
             let same : port ≡ r = cc in
-            subst (IsEnd view) same (record { port = port_there way (slice_get view.part.ports port) its; channel = channel_there (slice_index_or view.channels port None) some shape })
+            subst (IsChannelEnd view) same (record { port = port_there way (slice_get view.part.ports port) its; channel = channel_there (slice_index_or view.channels port None) some shape })
 
 is_created : (view : PartitionView) (name : List ℕ) (the_kind : Kind) (way length most : ℕ) (made : List Bool) (r : ℕ)
-    → created_over view.part.ports (shape_at view) name the_kind way length most made ≡ Ok r → IsEnd view r
+    → created_over view.part.ports (shape_at view) name the_kind way length most made ≡ Ok r → IsChannelEnd view r
 unfolding created_over
 is_created view name the_kind way length most made r is = by (port_with name the_kind view.part.ports) is
   where
-    by : (o : Option ℕ) → unless_missing (granted view.part.ports (shape_at view) way length most made) o ≡ Ok r → IsEnd view r
+    by : (o : Option ℕ) → unless_missing (granted view.part.ports (shape_at view) way length most made) o ≡ Ok r → IsChannelEnd view r
     by None said = absurd cc
     by (Some port) said = is_granted view way length most made port r said
 
@@ -205,7 +205,7 @@ creating_leaves the_kind way size most (Some name) caller =
         ran = omega arith;
         loaded = λ eight. eight;
         read = record { used = []; is = refl };
-        made = λ ends. made_or (IsEnd caller.view) caller.state.made r (is_created caller.view name the_kind way size most caller.state.made r is) ends;
+        made = λ ends. made_or (IsChannelEnd caller.view) caller.state.made r (is_created caller.view name the_kind way size most caller.state.made r is) ends;
       };
     }
 
@@ -363,7 +363,7 @@ set_tbr_leaves caller = keeps caller (set_tbr caller) (refl)
 
 flush_regwin_leaves : (caller : Caller) → Leaves caller (flush_regwin caller)
 unfolding flush_regwin with_answer with_written
-flush_regwin_leaves caller = let moved = flushed 8 (areas_of caller.view) (made caller.state.core caller.state.memory) in let ps : PartitionState = record caller.state { core = moved.core; memory = moved.memory } in keeps caller (by_flush moved.answer ps caller) (flush_keeps moved.answer ps caller refl)
+flush_regwin_leaves caller = let moved = flushed 8 (areas_of caller.view) (move_made caller.state.core caller.state.memory) in let ps : PartitionState = record caller.state { core = moved.core; memory = moved.memory } in keeps caller (by_flush moved.answer ps caller) (flush_keeps moved.answer ps caller refl)
 
 -- the call with a number, or a later one
 choice_leaves : (caller : Caller) (b : Bool) (one other : Served) → Leaves caller one → Leaves caller other → Leaves caller (if b then one else other)

@@ -31,14 +31,14 @@ use Rattle.xm_traces.specs.Ring.{Kept, entry_at, first_kept, noted, nothing_kept
 use Rattle.xm_traces.specs.declared.entry.TraceEntry.{TraceEntry}
 use Rattle.machine_model.specs.Caller.{Acts, Caller, Meets, Upshot}
 use Rattle.machine_model.specs.Alone.{Alone, alone_after, alone_local, alone_local_in, alone_step}
-use Rattle.machine_model.specs.Cue.{Away, Cue, Mine, Slot}
+use Rattle.machine_model.specs.Cue.{Away, Cue, Mine, CueSlot}
 use Rattle.machine_model.specs.Facts.{AreEnds, AreFacts, AreLast, BootsWithFacts, HasFacts, HaveEight, IsItsOwn, KeepsFacts, KeepsFactsAlone, RunsWithFacts, ShowsItsSizeInRuns, begun}
-use Rattle.machine_model.specs.Health.{Worked, answered_by, behind, by_delivery, by_interrupt, done_to_all, done_to_itself, entered, entered_if, event_handled, interrupt_delivered, is_passed_over, passed_over_if, propagated, quiet, self_ordered, trap_delivered, undelivered}
+use Rattle.machine_model.specs.Health.{Worked, answered_by, after_delivery, by_delivery, by_interrupt, done_to_all, done_to_itself, entered, entered_if, event_handled, interrupt_delivered, is_passed_over, passed_over_if, propagated, quiet, self_ordered, trap_delivered, undelivered}
 use Rattle.machine_model.specs.Hypercalls.{served}
 use Rattle.machine_model.specs.Laws.{HasLoads}
 use Rattle.machine_model.specs.Lists.{table}
-use Rattle.machine_model.specs.LocalTick.{LocalTick, bounded, by_act, by_turn, by_upshot, called, clocked, delivered_or_executed, executed, goes_on, local_tick, turned_state, with_interrupts, worked, worked_if}
-use Rattle.machine_model.specs.Machine.{Machine, Turn, act_of, after, after_tick, booted_part, copies, happened, happened_by, if_its_turn, is_halt, is_turn_of, local, local_in, local_of, obeyed, order_upon, part_after, rested_unless, run, sight_of_state, start, step, system_traffic, taken_by, tick_of, turn_of, worked_in}
+use Rattle.machine_model.specs.LocalTick.{LocalTick, bounded, by_act, by_turn, by_upshot, called, clocked, delivered_or_executed, executed_in_tick, goes_on, local_tick, turned_state, with_interrupts, worked, worked_if}
+use Rattle.machine_model.specs.Machine.{Machine, SlotTurn, act_of, after, after_tick, booted_part, copies, happened, happened_by, if_its_turn, is_halt, is_turn_of, local, local_in, local_of, obeyed, order_upon, part_after, rested_unless, run, sight_of_state, start, step, system_traffic, taken_by, tick_of, turn_of, worked_in}
 use Rattle.machine_model.specs.Partition.{PartitionState, applies, areas_of, booted, carried_out, disarmed, execution_looked_at, hardware_looked_at, is_halted, ordered, reset, rested, takes_turns}
 use Rattle.machine_model.specs.Structures.{flag}
 use Rattle.machine_model.specs.Told as told
@@ -162,7 +162,7 @@ abbrev Tries : PartitionView → PartitionState → PartitionState → Type 0
 Tries view before after = Goes view 0 0 0 before after ⊎ Fails view before after
 
 delivery_tries : (answer : Result (Unit {0}) StackFault) (view : PartitionView) (time : ℕ) (d : Delivered) (ps : PartitionState) → Tries view ps (by_delivery answer view time d ps).after
-delivery_tries (Ok made) view time d ps = inl (same_goes view 0 0 0 ps (behind d ps) refl)
+delivery_tries (Ok made) view time d ps = inl (same_goes view 0 0 0 ps (after_delivery d ps) refl)
 delivery_tries (Err fault) view time d ps = inr (undelivered_fails view time ps)
 
 interrupt_goes : (answer : Result (Unit {0}) StackFault) (view : PartitionView) (time n : ℕ) (d : Delivered) (ps : PartitionState) → Goes view 0 1 0 ps (by_interrupt answer view time n d ps).after
@@ -295,8 +295,8 @@ turn_works (Trap type) view contents time sight before ps =
 turn_works Call view contents time sight before ps =
     called_works (record { view = view; state = ps; contents = contents; time = time; sight = sight; pc = before.core.pc; npc = before.core.npc })
 
-executed_works : (view : PartitionView) (contents : List (Option Content)) (time : ℕ) (sight : Sight) (ps : PartitionState) → IsWork view 1 1 ps (executed view contents time sight ps)
-unfolding executed
+executed_works : (view : PartitionView) (contents : List (Option Content)) (time : ℕ) (sight : Sight) (ps : PartitionState) → IsWork view 1 1 ps (executed_in_tick view contents time sight ps)
+unfolding executed_in_tick
 executed_works view contents time sight ps =
     let t = settled (areas_of view) ps.core ps.memory in
     works_then (same_goes view 0 0 0 ps (turned_state t ps) refl) (turn_works t.turn view contents time sight ps (turned_state t ps))
@@ -418,13 +418,13 @@ work_ticks view time traffic o e before after act awake works quiet_after = reco
         subst (λ (last : PartitionState). last.health.next + flag (is_halted before.state) ≤ before.health.next + 1 + flag (is_halted last.state)) (sym same) (omega (arith, one, two, none))
 
 -- what a tick leaves of a partition, by the local tick of the machine and the one of this partition
-abbrev left_by : Machine → ℕ → Option Turn → Option LocalTick → Option LocalTick → PartitionState → PartitionState
+abbrev left_by : Machine → ℕ → Option SlotTurn → Option LocalTick → Option LocalTick → PartitionState → PartitionState
 left_by g p turn tick its ps =
     after_tick (view_of g.system p) g.time (is_some its) (heard_as (name_of g.system.conf p) (system_traffic g.system.conf turn (traffic_of (act_of tick)))) (order_upon (act_of tick) p)
     (event_of (act_of tick)) (worked_in its ps)
 
 -- a tick that reaches nothing leaves a partition as its work did
-nothing_follows : (g : Machine) (p : ℕ) (turn : Option Turn) (act : Act) (ps : PartitionState) → act ≡ told.Nothing
+nothing_follows : (g : Machine) (p : ℕ) (turn : Option SlotTurn) (act : Act) (ps : PartitionState) → act ≡ told.Nothing
     → after_tick (view_of g.system p) g.time true (heard_as (name_of g.system.conf p) (system_traffic g.system.conf turn (traffic_of act))) (order_upon act p) (event_of act) ps ≡ ps
 unfolding after_tick
 nothing_follows g p None act ps is = rw is refl
@@ -437,7 +437,7 @@ awake Suspended is = absurd cc
 awake Halted is = absurd cc
 
 -- the partition of the slot
-taken_ticks : (g : Machine) (p : ℕ) (ps : PartitionState) (turn : Option Turn) (first : Bool)
+taken_ticks : (g : Machine) (p : ℕ) (ps : PartitionState) (turn : Option SlotTurn) (first : Bool)
     → Ticks (view_of g.system p) ps (left_by g p turn (taken_by g p first (Some ps)) (taken_by g p first (Some ps)) ps)
 taken_ticks g p ps turn first = at (takes_turns ps.state) refl
   where
@@ -448,7 +448,7 @@ taken_ticks g p ps turn first = at (takes_turns ps.state) refl
     at true is = work_ticks (view_of g.system p) g.time _ _ _ ps tick.after tick.act (awake ps.state is) (local_works g p first ps) (nothing_follows g p turn tick.act tick.after)
     at false is = rest_ticks (view_of g.system p) g.time _ _ _ ps
 
-turn_ticks : (g : Machine) (p : ℕ) (ps : PartitionState) (turn : Option Turn) → slice_get g.parts p ≡ Some ps
+turn_ticks : (g : Machine) (p : ℕ) (ps : PartitionState) (turn : Option SlotTurn) → slice_get g.parts p ≡ Some ps
     → Ticks (view_of g.system p) ps (left_by g p turn (local_in g turn) (if_its_turn (is_turn_of turn p) (local_in g turn)) ps)
 turn_ticks g p ps None there = rest_ticks (view_of g.system p) g.time _ _ _ ps
 turn_ticks g p ps (Some turn) there = at (turn.part == p) refl
@@ -508,9 +508,9 @@ alone_works view a cue first turns unordered is event =
     tick = local_tick view a.state a.copies a.ticks a.time first cue.seen
 
 -- a tick of a partition alone, by whose slot it is
-alone_ticks : (view : PartitionView) (a : Alone) (cue : Cue) (mine : Slot) → cue.mine ≡ mine → IsItsOwn mine view a cue → Ticks view a.state (alone_step view a cue).state
+alone_ticks : (view : PartitionView) (a : Alone) (cue : Cue) (mine : CueSlot) → cue.mine ≡ mine → IsItsOwn mine view a cue → Ticks view a.state (alone_step view a cue).state
 unfolding alone_local
-alone_ticks view a cue Away is its = alone_rests view a cue (ap (λ (slot : Slot). alone_local_in slot view a cue.seen) is)
+alone_ticks view a cue Away is its = alone_rests view a cue (ap (λ (slot : CueSlot). alone_local_in slot view a cue.seen) is)
 alone_ticks view a cue (Mine first) is its = at (takes_turns a.state.state) refl
   where
     tick : LocalTick
@@ -518,9 +518,9 @@ alone_ticks view a cue (Mine first) is its = at (takes_turns a.state.state) refl
 
     at : (b : Bool) → takes_turns a.state.state ≡ b → Ticks view a.state (alone_step view a cue).state
     at true turns =
-        let local_is : alone_local view a cue ≡ Some tick = ap (λ (slot : Slot). alone_local_in slot view a cue.seen) is ∙ ap (λ (b : Bool). if b then Some tick else None) turns in
+        let local_is : alone_local view a cue ≡ Some tick = ap (λ (slot : CueSlot). alone_local_in slot view a cue.seen) is ∙ ap (λ (b : Bool). if b then Some tick else None) turns in
         alone_works view a cue first turns its.0 local_is (its.1 ∙ ap (λ (o : Option LocalTick). event_of (act_of o)) local_is)
-    at false rests = alone_rests view a cue (ap (λ (slot : Slot). alone_local_in slot view a cue.seen) is ∙ ap (λ (b : Bool). if b then Some tick else None) rests)
+    at false rests = alone_rests view a cue (ap (λ (slot : CueSlot). alone_local_in slot view a cue.seen) is ∙ ap (λ (b : Bool). if b then Some tick else None) rests)
 
 pub keeps_facts_alone : KeepsFactsAlone
 keeps_facts_alone view a cue n its facts = facts_after view n a.state (alone_step view a cue).state facts (alone_ticks view a cue cue.mine refl its)

@@ -2,7 +2,7 @@
 use Rattle.std.specs.Prelude.{ℕ, ◌==◌, if◌then◌else◌, List, [], ◌∷◌, ◌++◌, map, Option, Some, None, is_some}
 use Rattle.xm_ports.specs.Channels.{Content, empty}
 use Rattle.xm_report.specs.Report.{ReportLine}
-use Rattle.machine_model.specs.Cue.{Away, Cue, Mine, Slot}
+use Rattle.machine_model.specs.Cue.{Away, Cue, Mine, CueSlot}
 use Rattle.machine_model.specs.Lines.{local_lines, local_said}
 use Rattle.xm_base.specs.Options.{on}
 use Rattle.machine_model.specs.Lists.{each}
@@ -31,7 +31,7 @@ unfoldable pub alone_start : PartitionView → Alone
 alone_start view = record { state = booted view; copies = each empty_copy view.channels; ticks = 0; time = 0 }
 
 -- the local tick, where the slot is the partition's own and it takes its turn
-abbrev pub alone_local_in : Slot → PartitionView → Alone → Sight → Option LocalTick
+abbrev pub alone_local_in : CueSlot → PartitionView → Alone → Sight → Option LocalTick
 alone_local_in Away view a seen = None
 alone_local_in (Mine first) view a seen =
     if takes_turns a.state.state then Some (local_tick view a.state a.copies a.ticks a.time first seen) else None

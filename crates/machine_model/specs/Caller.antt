@@ -135,8 +135,8 @@ abbrev pub text : Caller → ℕ → ℕ → Test
 text caller address size = refused_if (not (all_from (is_readable (areas_of caller.view)) address size)) invalid_parameter
 
 -- the bytes of a range
-abbrev pub bytes_of : Caller → ℕ → ℕ → List ℕ
-bytes_of caller address size = bytes_at caller.state.memory address size
+abbrev pub caller_bytes : Caller → ℕ → ℕ → List ℕ
+caller_bytes caller address size = bytes_at caller.state.memory address size
 
 -- neither of the two numbers 0 and 1
 abbrev pub is_neither : ℕ → Bool

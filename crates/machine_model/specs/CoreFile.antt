@@ -15,9 +15,9 @@ timer_bytes None = 0 ∷ double 0 ++ double 0
 timer_bytes (Some timer) = 1 ∷ double timer.deadline ++ double timer.interval
 
 -- flags as the bits of a number, the first as the lowest
-abbrev pub bits_of : List Bool → ℕ
-bits_of [] = 0
-bits_of (one ∷ rest) = flag one + 2 * bits_of rest
+abbrev pub bits_of_flags : List Bool → ℕ
+bits_of_flags [] = 0
+bits_of_flags (one ∷ rest) = flag one + 2 * bits_of_flags rest
 
 -- a log: its counts, and 64 entries of so many bytes, the oldest first; zeros stand for those that are missing
 abbrev pub log_bytes : {T : Type 0} → ℕ → (T → List ℕ) → Kept T → List ℕ
@@ -42,6 +42,6 @@ standing_bytes view ps =
 unfoldable pub core_file : PartitionView → PartitionState → List ℕ
 core_file view ps =
     standing_bytes view ps ++ processor_bytes ps ++ timer_bytes ps.clocks.hardware_timer ++ timer_bytes ps.clocks.execution_timer
-    ++ word (length ps.inputs) ++ word (bits_of ps.made) ++ flat_map word ps.core.globals ++ flat_map word ps.core.windows
+    ++ word (length ps.inputs) ++ word (bits_of_flags ps.made) ++ flat_map word ps.core.globals ++ flat_map word ps.core.windows
     ++ log_bytes 24 trace_bytes ps.traces ++ log_bytes 20 health_bytes ps.health
     ++ length (areas_of view) ∷ [] ++ flat_map (area_bytes ps.memory) (areas_of view)

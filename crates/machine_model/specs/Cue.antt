@@ -1,28 +1,28 @@
 -- All that one partition is told of the others: the policy of information flow.
 use Rattle.std.specs.Prelude.{ℕ, zero, suc, ◌==◌, Bool, true, false, if◌then◌else◌, List, [], ◌∷◌, Option, Some, None, is_some}
 use Rattle.xm_base.specs.declared.partition.Order.{Order}
-use Rattle.machine_model.specs.Machine.{Happened, Machine, Turn, happened, order_upon, sight, step, tick_of}
+use Rattle.machine_model.specs.Machine.{Happened, Machine, SlotTurn, happened, order_upon, sight, step, tick_of}
 use Rattle.machine_model.specs.Told.{OwnStill, OwnTraffic, Sight}
 use Rattle.machine_model.specs.Traffic.{heard_as}
 use Rattle.machine_model.specs.View.{name_of}
 use Rattle.machine_model.specs.Whole.{WholeEvent}
 
 -- whether a tick is in a slot of the partition, and then whether the slot begins with it
-pub data Slot : Type 0 where
-  Away : Slot
-  Mine : (first : Bool) → Slot
+pub data CueSlot : Type 0 where
+  Away : CueSlot
+  Mine : (first : Bool) → CueSlot
 
 -- what a partition is told in a tick: whether the slot is its own, what others put into its channels or took from them, an order
 -- that another gave it, the hypervisor event, and what an observing call of a system partition is shown.
 -- There is nothing here of another partition's memory, registers, lines, image or state, nor of the plan
 pub record Cue : Type 0 where
-  pub mine : Slot
+  pub mine : CueSlot
   pub traffic : OwnTraffic
   pub order : Option Order
   pub whole : WholeEvent
   pub seen : Sight
 
-abbrev pub slot_of : Option Turn → ℕ → Slot
+abbrev pub slot_of : Option SlotTurn → ℕ → CueSlot
 slot_of None p = Away
 slot_of (Some turn) p = if turn.part == p then Mine turn.first else Away
 

@@ -3,7 +3,7 @@ use Rattle.std.specs.Prelude.{◌≡◌, ℕ, ◌-◌, ◌^◌, Bool, true, fals
 use Rattle.guest_bus.specs.Memory.{Memory}
 use Rattle.health_monitor.specs.Monitor.{event_of_type}
 use Rattle.health_monitor.specs.declared.entry.HealthEntry.{HealthEntry}
-use Rattle.sparc_step.specs.Registers.{Registers, in_window, started}
+use Rattle.sparc_step.specs.Registers.{Registers, in_window, registers_started}
 use Rattle.virt_clocks.specs.Clocks.{no_clocks}
 use Rattle.virt_traps.specs.Virtual.{VirtualTraps, no_traps}
 use Rattle.xm_base.specs.declared.partition.Mode.TheVariants as mode
@@ -18,10 +18,10 @@ use Rattle.xm_traces.specs.Ring.{kept_of}
 use Rattle.machine_model.specs.Health.{event_handled, interrupt_delivered}
 use Rattle.machine_model.specs.LocalTick.{called}
 use Rattle.machine_model.specs.LogCallRows.{health_3, health_4}
-use Rattle.machine_model.specs.Partition.{PartitionState, loaded}
+use Rattle.machine_model.specs.Partition.{PartitionState, loaded_memory}
 use Rattle.machine_model.specs.ProcessorCallRows.{below_top, in_trap, top_spilled, with_core}
 use Rattle.machine_model.specs.Rows.{at, with_outs}
-use Rattle.machine_model.specs.ServedRows.{calling_part, made_by, view_for, with_call, with_result}
+use Rattle.machine_model.specs.ServedRows.{calling_part, made_by, view_for, with_call, with_o0}
 use Rattle.machine_model.specs.TimeCallRows.{timer}
 use Rattle.machine_model.specs.Told.{Act, AllHalted, AllReset, Health, Maintenance, Moved, Nothing, Plans, Told, UponAll}
 use Rattle.machine_model.specs.View.{PartitionView}
@@ -43,7 +43,7 @@ view_with an_action logged = record (view_for false) {
 
 -- the registers of a partition in a window, in the delay slot of a jump
 abbrev pub struck_core : ℕ → Registers
-struck_core window = record (in_window (started 0x1010) window) { npc = 0x1020 }
+struck_core window = record (in_window (registers_started 0x1010) window) { npc = 0x1020 }
 
 -- its virtual traps, with interrupts 0 and 5 pending
 abbrev pub struck_traps : Bool → VirtualTraps
@@ -67,12 +67,12 @@ abbrev pub entry : ℕ → Event → Action → ℕ → HealthEntry
 entry seq an_event an_action word = record { time = 9; seq = seq; event = an_event; action = an_action; word = word }
 
 -- the partition with one further entry
-abbrev pub with_entry : HealthEntry → PartitionState → PartitionState
-with_entry one ps = record ps { health = kept_of 6 (health_3 ∷ health_4 ∷ one ∷ []) }
+abbrev pub with_health_entry : HealthEntry → PartitionState → PartitionState
+with_health_entry one ps = record ps { health = kept_of 6 (health_3 ∷ health_4 ∷ one ∷ []) }
 
 -- the partition after the instruction
-abbrev pub passed : PartitionState → PartitionState
-passed ps = record ps { core = record ps.core { pc = 0x1020; npc = 0x1024 } }
+abbrev pub after_instruction : PartitionState → PartitionState
+after_instruction ps = record ps { core = record ps.core { pc = 0x1020; npc = 0x1024 } }
 
 -- the partition that has halted, with its timer disarmed
 abbrev pub halted : PartitionState → PartitionState
@@ -81,7 +81,7 @@ halted ps = record ps { state = Halted; clocks = record no_clocks { execution = 
 -- the partition as it begins again, after so many resets
 abbrev pub restarted : ℕ → PartitionState → PartitionState
 restarted resets ps = record ps {
-  core = started 0x1000;
+  core = registers_started 0x1000;
   traps = no_traps;
   clocks = no_clocks;
   resets = resets;
@@ -96,9 +96,9 @@ Meets an_action logged ps after told act =
 
 -- an action changes the partition so, tells this further, and has this act. Where the flag of the event is set, which is bit 3, the event is entered
 -- and reported first, with this action; where it alone is not set it is neither
-abbrev pub Does : Action → ℕ → Bool → Action → (PartitionState → PartitionState) → List Told → Act → Type 0
-Does an_action resets enabled shown change told act = (memory : Memory) →
-    Meets an_action 8 (struck resets 7 enabled memory) (change (with_entry (entry 5 event.SparcIllegalInstruction shown 0x1010) (struck resets 7 enabled memory)))
+abbrev pub ActionDoes : Action → ℕ → Bool → Action → (PartitionState → PartitionState) → List Told → Act → Type 0
+ActionDoes an_action resets enabled shown change told act = (memory : Memory) →
+    Meets an_action 8 (struck resets 7 enabled memory) (change (with_health_entry (entry 5 event.SparcIllegalInstruction shown 0x1010) (struck resets 7 enabled memory)))
     (Health event.SparcIllegalInstruction 0x1010 shown ∷ told) act
     × Meets an_action 0xff7 (struck resets 7 enabled memory) (change (struck resets 7 enabled memory)) told act
 
@@ -111,36 +111,36 @@ in_table ps = record ps {
 
 -- what each action does; where traps are disabled PROPAGATE is HALT; a warm reset counts modulo 2^32
 pub record ActionRows : Type 0 where
-  pub ignore : Does action.Ignore 3 true action.Ignore passed [] Nothing
-  pub shutdown : Does action.Shutdown 3 true action.Shutdown (λ ps. record (passed ps) { traps = record ps.traps { pending = 37 } }) [] Nothing
-  pub cold_reset : Does action.PartitionColdReset 3 true action.PartitionColdReset
-      (λ ps. record (restarted 0 ps) { memory = loaded (view_with action.PartitionColdReset 0) }) (Moved move.Cold ∷ []) Nothing
-  pub warm_reset : Does action.PartitionWarmReset 3 true action.PartitionWarmReset (restarted 4) (Moved move.Warm ∷ []) Nothing
-  pub last_reset : Does action.PartitionWarmReset (2 ^ 32 - 1) true action.PartitionWarmReset (restarted 0) (Moved move.Warm ∷ []) Nothing
-  pub suspend : Does action.Suspend 3 true action.Suspend (λ ps. record (passed ps) { state = Suspended }) (Moved move.Suspend ∷ []) Nothing
-  pub halt : Does action.Halt 3 true action.Halt halted (Moved move.Halt ∷ []) Nothing
-  pub propagate : Does action.Propagate 3 true action.Propagate in_table [] Nothing
-  pub propagate_disabled : Does action.Propagate 3 false action.Halt halted (Moved move.Halt ∷ []) Nothing
-  pub hypervisor_cold_reset : Does action.HypervisorColdReset 3 true action.HypervisorColdReset (λ ps. ps) [] (UponAll (AllReset mode.Cold))
-  pub hypervisor_warm_reset : Does action.HypervisorWarmReset 3 true action.HypervisorWarmReset (λ ps. ps) [] (UponAll (AllReset mode.Warm))
-  pub hypervisor_halt : Does action.HypervisorHalt 3 true action.HypervisorHalt (λ ps. ps) [] (UponAll AllHalted)
-  pub maintenance : Does action.SwitchToMaintenance 3 true action.SwitchToMaintenance passed [] (Plans Maintenance)
+  pub ignore : ActionDoes action.Ignore 3 true action.Ignore after_instruction [] Nothing
+  pub shutdown : ActionDoes action.Shutdown 3 true action.Shutdown (λ ps. record (after_instruction ps) { traps = record ps.traps { pending = 37 } }) [] Nothing
+  pub cold_reset : ActionDoes action.PartitionColdReset 3 true action.PartitionColdReset
+      (λ ps. record (restarted 0 ps) { memory = loaded_memory (view_with action.PartitionColdReset 0) }) (Moved move.Cold ∷ []) Nothing
+  pub warm_reset : ActionDoes action.PartitionWarmReset 3 true action.PartitionWarmReset (restarted 4) (Moved move.Warm ∷ []) Nothing
+  pub last_reset : ActionDoes action.PartitionWarmReset (2 ^ 32 - 1) true action.PartitionWarmReset (restarted 0) (Moved move.Warm ∷ []) Nothing
+  pub suspend : ActionDoes action.Suspend 3 true action.Suspend (λ ps. record (after_instruction ps) { state = Suspended }) (Moved move.Suspend ∷ []) Nothing
+  pub halt : ActionDoes action.Halt 3 true action.Halt halted (Moved move.Halt ∷ []) Nothing
+  pub propagate : ActionDoes action.Propagate 3 true action.Propagate in_table [] Nothing
+  pub propagate_disabled : ActionDoes action.Propagate 3 false action.Halt halted (Moved move.Halt ∷ []) Nothing
+  pub hypervisor_cold_reset : ActionDoes action.HypervisorColdReset 3 true action.HypervisorColdReset (λ ps. ps) [] (UponAll (AllReset mode.Cold))
+  pub hypervisor_warm_reset : ActionDoes action.HypervisorWarmReset 3 true action.HypervisorWarmReset (λ ps. ps) [] (UponAll (AllReset mode.Warm))
+  pub hypervisor_halt : ActionDoes action.HypervisorHalt 3 true action.HypervisorHalt (λ ps. ps) [] (UponAll AllHalted)
+  pub maintenance : ActionDoes action.SwitchToMaintenance 3 true action.SwitchToMaintenance after_instruction [] (Plans Maintenance)
 
 -- a raised event: its word is that of the call, and the partition is past the call already
-abbrev pub Raises : Action → (PartitionState → PartitionState) → List Told → Act → Type 0
-Raises an_action change told act = (memory : Memory) →
+abbrev pub RaisesWithWord : Action → (PartitionState → PartitionState) → List Told → Act → Type 0
+RaisesWithWord an_action change told act = (memory : Memory) →
     event_handled (view_with an_action 1) 9 event.PartitionError 42 None (struck 3 7 true memory)
     ≡ record {
-      after = change (with_entry (entry 5 event.PartitionError an_action 42) (struck 3 7 true memory));
+      after = change (with_health_entry (entry 5 event.PartitionError an_action 42) (struck 3 7 true memory));
       told = Health event.PartitionError 42 an_action ∷ told;
       act = act;
     }
 
 pub record RaisedRows : Type 0 where
-  pub ignore : Raises action.Ignore (λ ps. ps) [] Nothing
-  pub suspend : Raises action.Suspend (λ ps. record ps { state = Suspended }) (Moved move.Suspend ∷ []) Nothing
-  pub halt : Raises action.Halt halted (Moved move.Halt ∷ []) Nothing
-  pub maintenance : Raises action.SwitchToMaintenance (λ ps. ps) [] (Plans Maintenance)
+  pub ignore : RaisesWithWord action.Ignore (λ ps. ps) [] Nothing
+  pub suspend : RaisesWithWord action.Suspend (λ ps. record ps { state = Suspended }) (Moved move.Suspend ∷ []) Nothing
+  pub halt : RaisesWithWord action.Halt halted (Moved move.Halt ∷ []) Nothing
+  pub maintenance : RaisesWithWord action.SwitchToMaintenance (λ ps. ps) [] (Plans Maintenance)
 
 -- a partition that has halted with these entries after its earlier ones
 abbrev pub halted_with : List HealthEntry → ℕ → PartitionState → PartitionState
@@ -213,7 +213,7 @@ pub record UndoneRows : Type 0 where
       }
   pub raised : (memory : Memory) → called (made_by (view_with action.Suspend 0) (with_call (27 ∷ 42 ∷ []) memory))
       ≡ record {
-        after = record (with_result 0 (with_call (27 ∷ 42 ∷ []) memory)) { state = Suspended; clocks = record no_clocks { execution = 1 } };
+        after = record (with_o0 0 (with_call (27 ∷ 42 ∷ []) memory)) { state = Suspended; clocks = record no_clocks { execution = 1 } };
         told = Moved move.Suspend ∷ [];
         act = Nothing;
       }

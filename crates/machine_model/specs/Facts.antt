@@ -10,7 +10,7 @@ use Rattle.xm_ports.specs.Channels.{Content, Suits, shape_of}
 use Rattle.xm_ports.specs.Ports.{is_made}
 use Rattle.xm_traces.specs.declared.entry.TraceEntry.{TraceEntry}
 use Rattle.machine_model.specs.Alone.{Alone, alone_local, alone_step}
-use Rattle.machine_model.specs.Cue.{Away, Cue, Mine, Slot}
+use Rattle.machine_model.specs.Cue.{Away, Cue, Mine, CueSlot}
 use Rattle.machine_model.specs.Laws.{HasLength}
 use Rattle.machine_model.specs.Machine.{Machine, act_of, answer_to, run, start, step}
 use Rattle.machine_model.specs.Observed.{Observation, observed_by}
@@ -25,13 +25,13 @@ pub record AreLast (rest all : List ℕ) : Type 0 where
   pub is : used ++ rest ≡ all
 
 -- a number is that of a port that there is, and that is an end of a channel
-pub record IsEnd (view : PartitionView) (r : ℕ) : Type 0 where
+pub record IsChannelEnd (view : PartitionView) (r : ℕ) : Type 0 where
   pub port : IsSome (slice_get view.part.ports r)
   pub channel : IsSome (slice_index_or view.channels r None)
 
 -- each port that is made is such a port
 abbrev pub AreEnds : PartitionView → List Bool → Type 0
-AreEnds view made = (r : ℕ) → is_made r made ≡ true → IsEnd view r
+AreEnds view made = (r : ℕ) → is_made r made ≡ true → IsChannelEnd view r
 
 -- each of these trace entries has eight bytes
 abbrev pub HaveEight : List TraceEntry → Type 0
@@ -65,7 +65,7 @@ abbrev pub KeepsFacts : Type 0
 KeepsFacts = (g : Machine) → HasFacts g → HasFacts (step g)
 
 -- in a slot of its own a partition has no order of others, and a hypervisor event is that of its own act
-abbrev pub IsItsOwn : Slot → PartitionView → Alone → Cue → Type 0
+abbrev pub IsItsOwn : CueSlot → PartitionView → Alone → Cue → Type 0
 IsItsOwn Away view a cue = Unit {0}
 IsItsOwn (Mine first) view a cue = (cue.order ≡ None) × (cue.whole ≡ event_of (act_of (alone_local view a cue)))
 

@@ -2,7 +2,7 @@
 use Rattle.std.specs.Prelude.{ℕ, ◌+◌, Bool, true, false, List, [], ◌∷◌, ◌++◌, Option, Some, None, Result, Ok, Err}
 use Rattle.sparc_step.specs.Registers.{advanced}
 use Rattle.virt_traps.specs.Delivery.{Delivered, delivered}
-use Rattle.virt_traps.specs.Virtual.{cleared, raised}
+use Rattle.virt_traps.specs.Virtual.{interrupt_cleared, raised}
 use Rattle.virt_traps.specs.declared.windows.StackFault.{StackFault}
 use Rattle.xm_base.specs.declared.partition.Order.{Order}
 use Rattle.xm_base.specs.declared.partition.Order.TheVariants as order
@@ -59,12 +59,12 @@ undelivered view time ps = record {
 }
 
 -- the partition behind a delivery
-abbrev pub behind : Delivered → PartitionState → PartitionState
-behind d ps = record ps { core = d.core; memory = d.memory; traps = d.traps }
+abbrev pub after_delivery : Delivered → PartitionState → PartitionState
+after_delivery d ps = record ps { core = d.core; memory = d.memory; traps = d.traps }
 
 -- a delivery that was made or refused
 abbrev pub by_delivery : Result (Unit {0}) StackFault → PartitionView → ℕ → Delivered → PartitionState → Worked
-by_delivery (Ok made) view time d ps = quiet (behind d ps)
+by_delivery (Ok made) view time d ps = quiet (after_delivery d ps)
 by_delivery (Err fault) view time d ps = undelivered view time ps
 
 -- a trap is delivered to the partition
@@ -75,7 +75,7 @@ trap_delivered view time type ps =
 
 -- the delivery of an interrupt clears its pending bit; one that could not be delivered stays pending
 abbrev pub by_interrupt : Result (Unit {0}) StackFault → PartitionView → ℕ → ℕ → Delivered → PartitionState → Worked
-by_interrupt (Ok made) view time n d ps = quiet (behind (record d { traps = cleared n d.traps }) ps)
+by_interrupt (Ok made) view time n d ps = quiet (after_delivery (record d { traps = interrupt_cleared n d.traps }) ps)
 by_interrupt (Err fault) view time n d ps = undelivered view time ps
 
 -- an interrupt is delivered to the partition; its trap type is 0xE0 and its number

@@ -19,19 +19,19 @@ use Rattle.xm_ports.specs.Channels.{Queuing}
 use Rattle.xm_report.specs.Report.{ReportLine, HealthLine, MovedLine, WholeLine, PlanLine, EndPart, EndWhole}
 use Rattle.xm_report.specs.declared.line.Move.TheVariants as move
 use Rattle.machine_model.specs.Machine.{Machine}
-use Rattle.machine_model.specs.Rows.{Holds, HoldsAll, Leaves, Prints, at, conf_of, halves, machine, of_part, plain, slot, table_of, whole_frame, with_answers, with_illegal}
+use Rattle.machine_model.specs.Rows.{Holds, HoldsAll, Leaves, Prints, at, small_conf, halves, machine, of_part, plain_part, slot, actions_table, whole_frame, with_answers, with_illegal}
 
 -- a partition whose table has this action for an illegal instruction
-abbrev pub answering : Action → Part
-answering an_action = record (plain 0x40000000 4) { hm = table_of (with_illegal an_action) }
+abbrev pub part_with_action : Action → Part
+part_with_action an_action = record (plain_part 0x40000000 4) { hm = actions_table (with_illegal an_action) }
 
 -- it alone, at a tick
-abbrev pub alone : Action → ℕ → Memory → Machine
-alone an_action tick memory = machine (conf_of (whole_frame ∷ []) (answering an_action ∷ []) []) (0x40000000 ∷ []) tick (at 0x40000000 memory ∷ [])
+abbrev pub alone_at_tick : Action → ℕ → Memory → Machine
+alone_at_tick an_action tick memory = machine (small_conf (whole_frame ∷ []) (part_with_action an_action ∷ []) []) (0x40000000 ∷ []) tick (at 0x40000000 memory ∷ [])
 
 -- its memory has a word that is no instruction where it begins
 abbrev pub IsIllegal : Action → Memory → Type 0
-IsIllegal an_action memory = Holds (answering an_action) memory 0x40000000 0
+IsIllegal an_action memory = Holds (part_with_action an_action) memory 0x40000000 0
 
 -- the line and the entry of an illegal instruction in tick 0, with the action that was taken
 abbrev pub illegal_line : Action → ReportLine
@@ -47,22 +47,22 @@ log_of p g = of_part (λ ps. ps.health.entries) p g
 -- HALT: the partition halts at the instruction, and has the event in its health log
 abbrev pub HaltsAtIllegal : Type 0
 HaltsAtIllegal = (memory : Memory) → IsIllegal action.Halt memory
-    → Prints (alone action.Halt 0 memory) 1
+    → Prints (alone_at_tick action.Halt 0 memory) 1
     (illegal_line action.Halt ∷ MovedLine 0 0 move.Halt ∷ EndPart 0 Halted 0 1 0x40000000 ∷ EndWhole false 0 1 1 ∷ [])
-    × Leaves (log_of 0) (alone action.Halt 0 memory) 1 (Some (illegal_entry action.Halt ∷ []))
+    × Leaves (log_of 0) (alone_at_tick action.Halt 0 memory) 1 (Some (illegal_entry action.Halt ∷ []))
 
 -- IGNORE: the partition goes on behind the instruction
 abbrev pub IgnoresIllegal : Type 0
 IgnoresIllegal = (memory : Memory) → IsIllegal action.Ignore memory
-    → Prints (alone action.Ignore 0 memory) 1 (illegal_line action.Ignore ∷ EndPart 0 Ready 0 1 0x40000004 ∷ EndWhole false 0 1 1 ∷ [])
-    × Leaves (log_of 0) (alone action.Ignore 0 memory) 1 (Some (illegal_entry action.Ignore ∷ []))
+    → Prints (alone_at_tick action.Ignore 0 memory) 1 (illegal_line action.Ignore ∷ EndPart 0 Ready 0 1 0x40000004 ∷ EndWhole false 0 1 1 ∷ [])
+    × Leaves (log_of 0) (alone_at_tick action.Ignore 0 memory) 1 (Some (illegal_entry action.Ignore ∷ []))
 
 -- PROPAGATE, where traps are disabled: the partition halts, and the line and the entry have HALT
 abbrev pub PropagatesToHalt : Type 0
 PropagatesToHalt = (memory : Memory) → IsIllegal action.Propagate memory
-    → Prints (alone action.Propagate 0 memory) 1
+    → Prints (alone_at_tick action.Propagate 0 memory) 1
     (illegal_line action.Halt ∷ MovedLine 0 0 move.Halt ∷ EndPart 0 Halted 0 1 0x40000000 ∷ EndWhole false 0 1 1 ∷ [])
-    × Leaves (log_of 0) (alone action.Propagate 0 memory) 1 (Some (illegal_entry action.Halt ∷ []))
+    × Leaves (log_of 0) (alone_at_tick action.Propagate 0 memory) 1 (Some (illegal_entry action.Halt ∷ []))
 
 -- a port of a queue
 abbrev pub queue_port : Way → Port
@@ -75,7 +75,7 @@ queue = record { kind = QueueOf 2; length = 8; source = record { part = 0; port 
 -- two partitions at the ends of a queue that holds a message; the first has this action for an illegal instruction
 abbrev pub ends_of_queue : Action → Memory → Memory → Machine
 ends_of_queue an_action one other =
-    record (machine (conf_of (halves ∷ []) (record (answering an_action) { ports = queue_port way.Source ∷ [] } ∷ record (plain 0x40000100 8) { ports = queue_port way.Destination ∷ [] } ∷ []) (queue ∷ []))
+    record (machine (small_conf (halves ∷ []) (record (part_with_action an_action) { ports = queue_port way.Source ∷ [] } ∷ record (plain_part 0x40000100 8) { ports = queue_port way.Destination ∷ [] } ∷ []) (queue ∷ []))
     (0x40000000 ∷ 0x40000100 ∷ []) 0 (at 0x40000000 one ∷ record (at 0x40000100 other) { clocks = record no_clocks { execution = 3 } } ∷ [])) {
       channels = Queuing ((0x68 ∷ 0x69 ∷ []) ∷ []) ∷ [];
     }
@@ -100,12 +100,12 @@ HaltsAll = (one other : Memory) → IsIllegal action.HypervisorHalt one
 
 -- a partition that raises an event of its own with the code 42, which resets the whole system warm
 abbrev pub raising : Part
-raising = record (plain 0x40100000 12) { hm = table_of (with_answers action.HypervisorWarmReset action.Propagate) }
+raising = record (plain_part 0x40100000 12) { hm = actions_table (with_answers action.HypervisorWarmReset action.Propagate) }
 
 -- it, and another one, each in a thousand ticks of two thousand
 abbrev pub raised_at : Memory → Memory → Machine
 raised_at one other =
-    machine (conf_of (record { frame = 2000; slots = slot 0 1000 0 ∷ slot 1000 1000 1 ∷ [] } ∷ []) (raising ∷ plain 0x40180000 8 ∷ []) [])
+    machine (small_conf (record { frame = 2000; slots = slot 0 1000 0 ∷ slot 1000 1000 1 ∷ [] } ∷ []) (raising ∷ plain_part 0x40180000 8 ∷ []) [])
     (0x40100000 ∷ 0x40180000 ∷ []) 0 (at 0x40100000 one ∷ at 0x40180000 other ∷ [])
 
 -- call 27 with the code 42
@@ -122,7 +122,7 @@ ResetsAllByCall = (one other : Memory) → HoldsAll raising one 0x40100000 raise
 -- a partition alone in the second tick of a frame of four, under three plans of which plan 2 is asked for
 abbrev pub in_mid_frame : Action → Memory → Machine
 in_mid_frame an_action memory =
-    record (machine (conf_of (whole_frame ∷ whole_frame ∷ whole_frame ∷ []) (answering an_action ∷ []) []) (0x40000000 ∷ []) 1 (at 0x40000000 memory ∷ [])) {
+    record (machine (small_conf (whole_frame ∷ whole_frame ∷ whole_frame ∷ []) (part_with_action an_action ∷ []) []) (0x40000000 ∷ []) 1 (at 0x40000000 memory ∷ [])) {
       clock = record (frame_from 0 0) { asked = Some 2 };
     }
 
@@ -137,7 +137,7 @@ SwitchesInMidFrame = (memory : Memory) → IsIllegal action.SwitchToMaintenance 
 -- two partitions, of which the first halts the hypervisor in a tick in which the second one's hardware timer is due
 abbrev pub halting_at_deadline : Memory → Memory → Machine
 halting_at_deadline one other =
-    machine (conf_of (whole_frame ∷ []) (answering action.HypervisorHalt ∷ plain 0x40000100 4 ∷ []) []) (0x40000000 ∷ 0x40000100 ∷ []) 1
+    machine (small_conf (whole_frame ∷ []) (part_with_action action.HypervisorHalt ∷ plain_part 0x40000100 4 ∷ []) []) (0x40000000 ∷ 0x40000100 ∷ []) 1
     (at 0x40000000 one ∷ record (at 0x40000100 other) { clocks = record no_clocks { hardware_timer = Some (record { deadline = 1; interval = 0 }) } } ∷ [])
 
 -- a partition rests in the tick in which the hypervisor halts, too: its timer is looked at

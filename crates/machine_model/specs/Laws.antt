@@ -23,12 +23,12 @@ unfoldable pub part : Machine → ℕ → PartitionState → Alone
 part g p ps = record { state = ps; copies = copies g p; ticks = g.ticks; time = g.time }
 
 -- partition p's part of the machine's state, where there is such a partition
-unfoldable pub part_at : Machine → ℕ → Option Alone
-part_at g p = on (part g p) (slice_get g.parts p)
+unfoldable pub alone_part_at : Machine → ℕ → Option Alone
+alone_part_at g p = on (part g p) (slice_get g.parts p)
 
 -- one tick of the machine is, for each partition, one tick of that partition alone under its cue: the state, the lines, and the console bytes
 pub record TicksAlone (g : Machine) (p : ℕ) (ps : PartitionState) : Type 0 where
-  pub state : part_at (step g) p ≡ Some (alone_step (view_of g.system p) (part g p ps) (cue g p))
+  pub state : alone_part_at (step g) p ≡ Some (alone_step (view_of g.system p) (part g p ps) (cue g p))
   pub lines : own p (step_lines g) ≡ alone_step_lines (view_of g.system p) (part g p ps) (cue g p)
   pub said : step_said g p ≡ alone_step_said (view_of g.system p) (part g p ps) (cue g p)
 
@@ -37,7 +37,7 @@ OneTick = (g : Machine) (p : ℕ) (ps : PartitionState) → g.halted ≡ false �
 
 -- a run of the machine is, for each partition, a run of that partition alone under its script
 pub record RunsAlone (g : Machine) (p : ℕ) (ps : PartitionState) (count : ℕ) : Type 0 where
-  pub state : part_at (run g count) p ≡ Some (alone_from (view_of g.system p) (part g p ps) (script g p count))
+  pub state : alone_part_at (run g count) p ≡ Some (alone_from (view_of g.system p) (part g p ps) (script g p count))
   pub lines : own p (lines g count) ≡ alone_lines (view_of g.system p) (part g p ps) (script g p count)
   pub said : said g count p ≡ alone_said (view_of g.system p) (part g p ps) (script g p count)
 
@@ -46,7 +46,7 @@ AllTicks = (count : ℕ) (g : Machine) (p : ℕ) (ps : PartitionState) → slice
 
 -- each partition boots as it boots alone
 abbrev pub BootsAlone : Type 0
-BootsAlone = (system : System) (p : ℕ) → p < length system.conf.parts → part_at (start system) p ≡ Some (alone_start (view_of system p))
+BootsAlone = (system : System) (p : ℕ) → p < length system.conf.parts → alone_part_at (start system) p ≡ Some (alone_start (view_of system p))
 
 -- two runs of two systems in which a partition has the same things of its own, and is told the same
 pub record AreAlike (one other : System) (p count : ℕ) : Type 0 where
@@ -57,7 +57,7 @@ pub record AreAlike (one other : System) (p count : ℕ) : Type 0 where
 
 -- it has the same state, the same lines and the same console bytes in both
 pub record AreEqual (one other : System) (p count : ℕ) : Type 0 where
-  pub state : part_at (run (start one) count) p ≡ part_at (run (start other) count) p
+  pub state : alone_part_at (run (start one) count) p ≡ alone_part_at (run (start other) count) p
   pub lines : own p (lines (start one) count) ≡ own p (lines (start other) count)
   pub said : said (start one) count p ≡ said (start other) count p
 

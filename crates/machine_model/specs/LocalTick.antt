@@ -80,16 +80,16 @@ abbrev pub turned_state : Turned → PartitionState → PartitionState
 turned_state t ps = record ps { core = t.core; memory = t.memory }
 
 -- one instruction, with the window that it needs
-unfoldable pub executed : PartitionView → List (Option Content) → ℕ → Sight → PartitionState → Worked
-executed view contents time sight ps =
+unfoldable pub executed_in_tick : PartitionView → List (Option Content) → ℕ → Sight → PartitionState → Worked
+executed_in_tick view contents time sight ps =
     let t = settled (areas_of view) ps.core ps.memory in
     by_turn t.turn view contents time sight ps (turned_state t ps)
 
 -- an interrupt that is due is delivered where traps are enabled; otherwise an instruction is executed
 abbrev pub delivered_or_executed : Option ℕ → Bool → PartitionView → List (Option Content) → ℕ → Sight → PartitionState → Worked
-delivered_or_executed None enabled view contents time sight ps = executed view contents time sight ps
+delivered_or_executed None enabled view contents time sight ps = executed_in_tick view contents time sight ps
 delivered_or_executed (Some n) true view contents time sight ps = interrupt_delivered view time n (clocked ps)
-delivered_or_executed (Some n) false view contents time sight ps = executed view contents time sight ps
+delivered_or_executed (Some n) false view contents time sight ps = executed_in_tick view contents time sight ps
 
 -- the work of a partition that goes on: it is ready
 abbrev pub worked_if : Bool → PartitionView → List (Option Content) → ℕ → Sight → PartitionState → Worked
@@ -123,10 +123,10 @@ has_name None name = false
 has_name (Some channel) name = channel.name == name
 
 -- the channel that traffic is on, where there is any
-abbrev pub name_in : OwnTraffic → Option ℕ
-name_in OwnStill = None
-name_in (OwnPuts name bytes) = Some name
-name_in (OwnTakes name) = Some name
+abbrev pub traffic_name : OwnTraffic → Option ℕ
+traffic_name OwnStill = None
+traffic_name (OwnPuts name bytes) = Some name
+traffic_name (OwnTakes name) = Some name
 
 -- whether traffic is on a channel that the partition has under this name
 abbrev pub is_its : PartitionView → Option ℕ → Bool
@@ -136,7 +136,7 @@ is_its view (Some name) = has_name (slice_index_or view.channels name None) name
 -- only channels of the partition are acted on, and only other partitions get orders
 abbrev pub bounded : PartitionView → Act → Act
 bounded view Nothing = Nothing
-bounded view (Trades traffic) = if is_its view (name_in traffic) then Trades traffic else Nothing
+bounded view (Trades traffic) = if is_its view (traffic_name traffic) then Trades traffic else Nothing
 bounded view (Upon id an_order) = if id == view.id then Nothing else Upon id an_order
 bounded view (Plans change) = Plans change
 bounded view (UponAll event) = UponAll event

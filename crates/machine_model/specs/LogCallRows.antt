@@ -8,7 +8,7 @@ use Rattle.xm_traces.specs.Ring.{kept_of}
 use Rattle.xm_traces.specs.declared.entry.TraceEntry.{TraceEntry}
 use Rattle.machine_model.specs.Caller.{Acts, Caller, Meets, Served}
 use Rattle.machine_model.specs.Partition.{PartitionState}
-use Rattle.machine_model.specs.ServedRows.{Answers, Comes, Writes, call, made_by, minus, shown_call, view_for, with_call, with_result}
+use Rattle.machine_model.specs.ServedRows.{AnswersWith, ComesTo, WritesAnswer, call, made_by, minus, shown_call, view_for, with_call, with_o0}
 use Rattle.machine_model.specs.Told.{NotKept, Nothing, Trace, Words}
 
 -- trace entries 3 and 4 of a partition
@@ -57,7 +57,7 @@ log_call outs memory = made_by (view_for false) (logging outs memory)
 -- call 24 enters and tells these bits and the eight bytes at an address, under number 5
 abbrev pub entering : ℕ → ℕ → Memory → Served
 entering bits address memory = record {
-  after = with_result 0 (record (logging (24 ∷ bits ∷ address ∷ []) memory) {
+  after = with_o0 0 (record (logging (24 ∷ bits ∷ address ∷ []) memory) {
     traces = kept_of 6 (trace_3 ∷ trace_4 ∷ record { time = 9; bits = bits; seq = 5; load = bytes_at memory address 8 } ∷ []);
   });
   told = Trace bits (bytes_at memory address 8) ∷ [];
@@ -67,64 +67,64 @@ entering bits address memory = record {
 -- call 24: eight bytes that have to be readable, and one bit at least in the mask, whose bits are 1 and 2
 abbrev pub Traces : Type 0
 Traces = (memory : Memory) →
-    Comes (log_call (24 ∷ 3 ∷ 0x1038 ∷ []) memory) (entering 3 0x1038 memory)
-    × Comes (log_call (24 ∷ 0xffff_fffd ∷ 0x2038 ∷ []) memory) (entering 0xffff_fffd 0x2038 memory)
-    × Answers (log_call (24 ∷ 3 ∷ 0x1039 ∷ []) memory) (minus 3)
-    × Answers (log_call (24 ∷ 1 ∷ 0x1039 ∷ []) memory) (minus 3)
-    × Answers (log_call (24 ∷ 1 ∷ 0x1038 ∷ []) memory) (minus 1)
-    × Answers (log_call (24 ∷ 0xffff_fff9 ∷ 0x1038 ∷ []) memory) (minus 1)
+    ComesTo (log_call (24 ∷ 3 ∷ 0x1038 ∷ []) memory) (entering 3 0x1038 memory)
+    × ComesTo (log_call (24 ∷ 0xffff_fffd ∷ 0x2038 ∷ []) memory) (entering 0xffff_fffd 0x2038 memory)
+    × AnswersWith (log_call (24 ∷ 3 ∷ 0x1039 ∷ []) memory) (minus 3)
+    × AnswersWith (log_call (24 ∷ 1 ∷ 0x1039 ∷ []) memory) (minus 3)
+    × AnswersWith (log_call (24 ∷ 1 ∷ 0x1038 ∷ []) memory) (minus 1)
+    × AnswersWith (log_call (24 ∷ 0xffff_fff9 ∷ 0x1038 ∷ []) memory) (minus 1)
 
 -- calls 25 and 28 read an entry of so many bytes that begins at the latest at an address: that it is kept is tested before its place
-abbrev pub Reads : ℕ → ℕ → List ℕ → List ℕ → Type 0
-Reads number last bytes_3 bytes_4 = (memory : Memory) →
-    Writes (log_call (number ∷ 2 ∷ 3 ∷ last ∷ []) memory) 0 last bytes_3
-    × Writes (log_call (number ∷ 2 ∷ 4 ∷ 0x1000 ∷ []) memory) 0 0x1000 bytes_4
-    × Answers (log_call (number ∷ 2 ∷ 2 ∷ 0x1000 ∷ []) memory) (minus 7)
-    × Answers (log_call (number ∷ 2 ∷ 5 ∷ 0x1000 ∷ []) memory) (minus 7)
-    × Answers (log_call (number ∷ 2 ∷ 2 ∷ 0x2000 ∷ []) memory) (minus 7)
-    × Answers (log_call (number ∷ 2 ∷ 3 ∷ 0x1040 ∷ []) memory) (minus 3)
-    × Answers (log_call (number ∷ 2 ∷ 3 ∷ 0x2000 ∷ []) memory) (minus 3)
-    × Answers (log_call (number ∷ 3 ∷ 2 ∷ 0x1000 ∷ []) memory) (minus 4)
+abbrev pub ReadsEntry : ℕ → ℕ → List ℕ → List ℕ → Type 0
+ReadsEntry number last bytes_3 bytes_4 = (memory : Memory) →
+    WritesAnswer (log_call (number ∷ 2 ∷ 3 ∷ last ∷ []) memory) 0 last bytes_3
+    × WritesAnswer (log_call (number ∷ 2 ∷ 4 ∷ 0x1000 ∷ []) memory) 0 0x1000 bytes_4
+    × AnswersWith (log_call (number ∷ 2 ∷ 2 ∷ 0x1000 ∷ []) memory) (minus 7)
+    × AnswersWith (log_call (number ∷ 2 ∷ 5 ∷ 0x1000 ∷ []) memory) (minus 7)
+    × AnswersWith (log_call (number ∷ 2 ∷ 2 ∷ 0x2000 ∷ []) memory) (minus 7)
+    × AnswersWith (log_call (number ∷ 2 ∷ 3 ∷ 0x1040 ∷ []) memory) (minus 3)
+    × AnswersWith (log_call (number ∷ 2 ∷ 3 ∷ 0x2000 ∷ []) memory) (minus 3)
+    × AnswersWith (log_call (number ∷ 3 ∷ 2 ∷ 0x1000 ∷ []) memory) (minus 4)
 
 -- the bytes of another partition's entry are those that are shown, and so is that it is not kept
 abbrev pub ReadsAnother : ℕ → ℕ → Type 0
 ReadsAnother number last = (memory : Memory) →
-    Writes (shown_call (Words (5 ∷ 6 ∷ [])) (number ∷ 3 ∷ 7 ∷ last ∷ []) memory) 0 last (5 ∷ 6 ∷ [])
-    × Answers (shown_call NotKept (number ∷ 3 ∷ 7 ∷ last ∷ []) memory) (minus 7)
-    × Answers (shown_call NotKept (number ∷ 3 ∷ 7 ∷ 0x2000 ∷ []) memory) (minus 7)
-    × Answers (call true (number ∷ 3 ∷ 7 ∷ 0x2000 ∷ []) memory) (minus 3)
-    × Answers (call true (number ∷ 4 ∷ 7 ∷ last ∷ []) memory) (minus 3)
+    WritesAnswer (shown_call (Words (5 ∷ 6 ∷ [])) (number ∷ 3 ∷ 7 ∷ last ∷ []) memory) 0 last (5 ∷ 6 ∷ [])
+    × AnswersWith (shown_call NotKept (number ∷ 3 ∷ 7 ∷ last ∷ []) memory) (minus 7)
+    × AnswersWith (shown_call NotKept (number ∷ 3 ∷ 7 ∷ 0x2000 ∷ []) memory) (minus 7)
+    × AnswersWith (call true (number ∷ 3 ∷ 7 ∷ 0x2000 ∷ []) memory) (minus 3)
+    × AnswersWith (call true (number ∷ 4 ∷ 7 ∷ last ∷ []) memory) (minus 3)
 
 -- one byte less than an entry needs
 abbrev pub LacksByte : ℕ → ℕ → Type 0
 LacksByte number late = (memory : Memory) →
-    Answers (log_call (number ∷ 2 ∷ 3 ∷ late ∷ []) memory) (minus 3) × Answers (call true (number ∷ 3 ∷ 3 ∷ late ∷ []) memory) (minus 3)
+    AnswersWith (log_call (number ∷ 2 ∷ 3 ∷ late ∷ []) memory) (minus 3) × AnswersWith (call true (number ∷ 3 ∷ 3 ∷ late ∷ []) memory) (minus 3)
 
 -- calls 26 and 29: the first number that is kept and the next number, in eight bytes that have to be writable
-abbrev pub Counts : ℕ → Type 0
-Counts number = (memory : Memory) →
-    Writes (log_call (number ∷ 2 ∷ 0x1038 ∷ []) memory) 0 0x1038 (0 ∷ 0 ∷ 0 ∷ 3 ∷ 0 ∷ 0 ∷ 0 ∷ 5 ∷ [])
-    × Answers (log_call (number ∷ 2 ∷ 0x1039 ∷ []) memory) (minus 3)
-    × Answers (log_call (number ∷ 2 ∷ 0x2000 ∷ []) memory) (minus 3)
-    × Answers (log_call (number ∷ 3 ∷ 0x1039 ∷ []) memory) (minus 4)
-    × Writes (shown_call (Words (5 ∷ 6 ∷ [])) (number ∷ 3 ∷ 0x1038 ∷ []) memory) 0 0x1038 (5 ∷ 6 ∷ [])
-    × Answers (call true (number ∷ 3 ∷ 0x1039 ∷ []) memory) (minus 3)
-    × Answers (call true (number ∷ 4 ∷ 0x1038 ∷ []) memory) (minus 3)
+abbrev pub GivesCounts : ℕ → Type 0
+GivesCounts number = (memory : Memory) →
+    WritesAnswer (log_call (number ∷ 2 ∷ 0x1038 ∷ []) memory) 0 0x1038 (0 ∷ 0 ∷ 0 ∷ 3 ∷ 0 ∷ 0 ∷ 0 ∷ 5 ∷ [])
+    × AnswersWith (log_call (number ∷ 2 ∷ 0x1039 ∷ []) memory) (minus 3)
+    × AnswersWith (log_call (number ∷ 2 ∷ 0x2000 ∷ []) memory) (minus 3)
+    × AnswersWith (log_call (number ∷ 3 ∷ 0x1039 ∷ []) memory) (minus 4)
+    × WritesAnswer (shown_call (Words (5 ∷ 6 ∷ [])) (number ∷ 3 ∷ 0x1038 ∷ []) memory) 0 0x1038 (5 ∷ 6 ∷ [])
+    × AnswersWith (call true (number ∷ 3 ∷ 0x1039 ∷ []) memory) (minus 3)
+    × AnswersWith (call true (number ∷ 4 ∷ 0x1038 ∷ []) memory) (minus 3)
 
 -- call 27: the result, and then the event with its word
 abbrev pub RaisesEvent : Type 0
 RaisesEvent = (memory : Memory) →
-    Comes (call false (27 ∷ 42 ∷ []) memory) (record { after = with_result 0 (with_call (27 ∷ 42 ∷ []) memory); told = []; upshot = Meets event.PartitionError 42 })
+    ComesTo (call false (27 ∷ 42 ∷ []) memory) (record { after = with_o0 0 (with_call (27 ∷ 42 ∷ []) memory); told = []; upshot = Meets event.PartitionError 42 })
 
 -- the rows of calls 24 to 29
 pub record LogCallRows : Type 0 where
   pub trace_event : Traces
-  pub trace_read : Reads 25 0x1028 bytes_of_trace_3 bytes_of_trace_4
+  pub trace_read : ReadsEntry 25 0x1028 bytes_of_trace_3 bytes_of_trace_4
   pub trace_read_of_another : ReadsAnother 25 0x1028
   pub trace_read_edge : LacksByte 25 0x1029
-  pub trace_status : Counts 26
+  pub trace_status : GivesCounts 26
   pub hm_raise_event : RaisesEvent
-  pub hm_read : Reads 28 0x102c bytes_of_health_3 bytes_of_health_4
+  pub hm_read : ReadsEntry 28 0x102c bytes_of_health_3 bytes_of_health_4
   pub hm_read_of_another : ReadsAnother 28 0x102c
   pub hm_read_edge : LacksByte 28 0x102d
-  pub hm_status : Counts 29
+  pub hm_status : GivesCounts 29

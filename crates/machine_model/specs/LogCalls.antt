@@ -3,7 +3,7 @@ use Rattle.std.specs.Prelude.{ℕ, ◌==◌, if◌then◌else◌, Bool, List, []
 use Rattle.xm_conf.specs.declared.health.Event.TheVariants.{PartitionError}
 use Rattle.xm_traces.specs.Ring.{Kept, entry_at, noted}
 use Rattle.xm_traces.specs.declared.entry.TraceEntry.{TraceEntry}
-use Rattle.machine_model.specs.Caller.{Caller, Meets, Served, a_of, answering, b_of, bytes_of, c_of, is_not_kept, no_action, not_available, refused_if, room, shown, target, tested, text, with_answer, with_written}
+use Rattle.machine_model.specs.Caller.{Caller, Meets, Served, a_of, answering, b_of, caller_bytes, c_of, is_not_kept, no_action, not_available, refused_if, room, shown, target, tested, text, with_answer, with_written}
 use Rattle.machine_model.specs.Structures.{counts_bytes, health_bytes, trace_bytes}
 use Rattle.machine_model.specs.Told.{Trace}
 
@@ -13,13 +13,13 @@ trace_entry caller = record {
   time = caller.time;
   bits = a_of caller;
   seq = caller.state.traces.next;
-  load = bytes_of caller (b_of caller) 8;
+  load = caller_bytes caller (b_of caller) 8;
 }
 
 -- the entry is noted and told
 abbrev pub tracing : Caller → Served
 tracing caller = record (answering 0 (record caller.state { traces = noted (trace_entry caller) caller.state.traces })) {
-  told = Trace (a_of caller) (bytes_of caller (b_of caller) 8) ∷ [];
+  told = Trace (a_of caller) (caller_bytes caller (b_of caller) 8) ∷ [];
 }
 
 -- call 24, XM_trace_event(a, b): entered where a bit of a is in the partition's trace mask
@@ -51,14 +51,14 @@ reading size bytes kept caller =
     (answering 0 (with_written (c_of caller) (entry_seen bytes caller kept) caller.state))
 
 -- the counts of a log: the caller's own, or what it is shown of another's
-abbrev pub counts_seen : {T : Type 0} → Caller → Kept T → List ℕ
-counts_seen caller kept = if is_own caller then counts_bytes kept else shown caller.sight
+abbrev pub log_counts : {T : Type 0} → Caller → Kept T → List ℕ
+log_counts caller kept = if is_own caller then counts_bytes kept else shown caller.sight
 
 -- the counts of a log are read to b
 abbrev pub counting : {T : Type 0} → Kept T → Caller → Served
 counting kept caller =
     tested (target caller (a_of caller) ∷ room caller (b_of caller) 8 ∷ []) caller
-    (answering 0 (with_written (b_of caller) (counts_seen caller kept) caller.state))
+    (answering 0 (with_written (b_of caller) (log_counts caller kept) caller.state))
 
 -- call 25, XM_trace_read(a, b, c): entry number b of partition a's traces, at c
 unfoldable pub trace_read : Caller → Served

@@ -52,24 +52,24 @@ unfoldable pub copies : Machine → ℕ → List (Option Content)
 copies g p = copies_of g.system.conf p (length (part_of g.system.conf p).ports) g.channels
 
 -- whose slot a tick is in
-pub record Turn : Type 0 where
+pub record SlotTurn : Type 0 where
   pub part : ℕ
   pub first : Bool
 
-abbrev pub turn_here : Option Here → Option Turn
+abbrev pub turn_here : Option Here → Option SlotTurn
 turn_here None = None
 turn_here (Some slot) = Some (record { part = slot.part; first = slot.first })
 
-unfoldable pub turn_of : Machine → Option Turn
+unfoldable pub turn_of : Machine → Option SlotTurn
 turn_of g = turn_here (here g.system.conf g.clock g.time)
 
 -- whether it is this partition's turn
-abbrev pub is_turn_of : Option Turn → ℕ → Bool
+abbrev pub is_turn_of : Option SlotTurn → ℕ → Bool
 is_turn_of None p = false
 is_turn_of (Some turn) p = turn.part == p
 
 -- whether the tick is the first of its slot
-abbrev pub is_first : Option Turn → Bool
+abbrev pub is_first : Option SlotTurn → Bool
 is_first None = false
 is_first (Some turn) = turn.first
 
@@ -112,7 +112,7 @@ unfoldable pub sight_of_state : Machine → ℕ → Bool → PartitionState → 
 sight_of_state g p first ps =
     if takes_turns ps.state then sight_for g (view_of g.system p) (asks (view_of g.system p) ps g.time first) else Unseen
 
-abbrev pub sight_in : Machine → ℕ → Option Turn → Option PartitionState → Sight
+abbrev pub sight_in : Machine → ℕ → Option SlotTurn → Option PartitionState → Sight
 sight_in g p None ps = Unseen
 sight_in g p (Some turn) None = Unseen
 sight_in g p (Some turn) (Some ps) = if turn.part == p then sight_of_state g p turn.first ps else Unseen
@@ -129,7 +129,7 @@ abbrev pub taken_by : Machine → ℕ → Bool → Option PartitionState → Opt
 taken_by g p first None = None
 taken_by g p first (Some ps) = if takes_turns ps.state then Some (local_of g p first ps) else None
 
-abbrev pub local_in : Machine → Option Turn → Option LocalTick
+abbrev pub local_in : Machine → Option SlotTurn → Option LocalTick
 local_in g None = None
 local_in g (Some turn) = taken_by g turn.part turn.first (slice_get g.parts turn.part)
 
@@ -142,7 +142,7 @@ act_of None = told.Nothing
 act_of (Some tick) = tick.act
 
 -- traffic under the channels' numbers in the system, of the partition whose turn it is
-abbrev pub system_traffic : Conf → Option Turn → OwnTraffic → Traffic
+abbrev pub system_traffic : Conf → Option SlotTurn → OwnTraffic → Traffic
 system_traffic conf None traffic = Still
 system_traffic conf (Some turn) traffic = told_as (named conf turn.part) traffic
 
@@ -156,14 +156,14 @@ order_upon act p = order_for (reach_of act).directed p
 
 -- all that a tick did
 pub record Happened : Type 0 where
-  pub turn : Option Turn
+  pub turn : Option SlotTurn
   pub local : Option LocalTick
   pub act : Act
   pub traffic : Traffic
   pub event : WholeEvent
 
 -- what a tick did, by whose slot it was in and by the local tick
-unfoldable pub happened_by : Conf → Option Turn → Option LocalTick → Happened
+unfoldable pub happened_by : Conf → Option SlotTurn → Option LocalTick → Happened
 happened_by conf turn tick = record {
   turn = turn;
   local = tick;
@@ -218,14 +218,14 @@ unfoldable pub channel_after : ℕ → Happened → ℕ → Content → Content
 channel_after time h c content = content_after h.event (after_traffic time h.traffic c content)
 
 -- the plan clock of the next tick, by what was done to the plan
-abbrev pub planned : Option PlanChange → Conf → CyclicClock → ℕ → CyclicClock
-planned None conf clock time = ended conf clock time
-planned (Some (Asked plan)) conf clock time = ended conf (record clock { asked = Some plan }) time
-planned (Some Maintenance) conf clock time = in_maintenance time
+abbrev pub next_plan_clock : Option PlanChange → Conf → CyclicClock → ℕ → CyclicClock
+next_plan_clock None conf clock time = ended conf clock time
+next_plan_clock (Some (Asked plan)) conf clock time = ended conf (record clock { asked = Some plan }) time
+next_plan_clock (Some Maintenance) conf clock time = in_maintenance time
 
 -- the plan clock of the next tick: a reset starts plan 0, and a halt stops the clock
 abbrev pub clock_after : WholeEvent → Conf → Act → CyclicClock → ℕ → CyclicClock
-clock_after NoEvent conf act clock time = planned (reach_of act).plan conf clock time
+clock_after NoEvent conf act clock time = next_plan_clock (reach_of act).plan conf clock time
 clock_after (AllReset mode) conf act clock time = started
 clock_after AllHalted conf act clock time = clock
 

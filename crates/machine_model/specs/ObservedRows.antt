@@ -4,7 +4,7 @@ use Rattle.cyclic_plans.specs.PlanClock.{CyclicClock}
 use Rattle.guest_bus.specs.Memory.{Memory, with_bytes}
 use Rattle.xm_base.specs.declared.partition.State.{State}
 use Rattle.xm_base.specs.declared.partition.State.TheVariants.{Ready, Idle, Suspended, Halted}
-use Rattle.machine_model.specs.CallRows.{Calls, answered, beside, caller, watched, watched_status}
+use Rattle.machine_model.specs.CallRows.{Calls, after_answer, in_second_tick, caller, watched, watched_status}
 use Rattle.machine_model.specs.LogCallRows.{bytes_of_health_3, bytes_of_health_4, bytes_of_trace_3, health_3, health_4, trace_3, trace_4}
 use Rattle.machine_model.specs.Machine.{Machine, answer_to, sight_for}
 use Rattle.machine_model.specs.Observed.{CurrentPlan, HealthCounts, HealthEntryOf, PartitionStatus, PlanStatus, Question, SystemStatus, TraceCounts, TraceEntryOf, asks, observed_by}
@@ -52,7 +52,7 @@ pub record AskingRows : Type 0 where
 -- two partitions, the second of which has a state of its own and entries, after 258 resets of the hypervisor, under plan 1 with plan 2 asked for
 abbrev pub observed_machine : Memory → Memory → Machine
 observed_machine one other =
-    record (beside true (at 0x40000000 one) (record (watched other) { traces = kept_of 5 (trace_3 ∷ trace_4 ∷ []); health = kept_of 6 (health_3 ∷ health_4 ∷ []) })) {
+    record (in_second_tick true (at 0x40000000 one) (record (watched other) { traces = kept_of 5 (trace_3 ∷ trace_4 ∷ []); health = kept_of 6 (health_3 ∷ health_4 ∷ []) })) {
       clock = record { plan = 1; frame_start = 0; asked = Some 2 };
       resets = 258;
     }
@@ -78,13 +78,13 @@ pub record AnswerRows : Type 0 where
   pub health_counts : Shows (HealthCounts 1) (Words (0 ∷ 0 ∷ 0 ∷ 4 ∷ 0 ∷ 0 ∷ 0 ∷ 6 ∷ []))
 
 -- the status of a plan: when its frame began, its number, the plan that is asked for, and the slot, each of the last two where there is one
-abbrev pub clock_of : Option ℕ → CyclicClock
-clock_of asked = record { plan = 3; frame_start = 0x0102_0304_0506_0708; asked = asked }
+abbrev pub plan_clock_with : Option ℕ → CyclicClock
+plan_clock_with asked = record { plan = 3; frame_start = 0x0102_0304_0506_0708; asked = asked }
 
 pub record PlanStatusRows : Type 0 where
-  pub asked : plan_status (clock_of (Some 2)) (Some (record { slot = 5; part = 1; first = true }))
+  pub asked : plan_status (plan_clock_with (Some 2)) (Some (record { slot = 5; part = 1; first = true }))
       ≡ 1 ∷ 2 ∷ 3 ∷ 4 ∷ 5 ∷ 6 ∷ 7 ∷ 8 ∷ 0 ∷ 0 ∷ 0 ∷ 3 ∷ 0 ∷ 0 ∷ 0 ∷ 2 ∷ 0 ∷ 0 ∷ 0 ∷ 5 ∷ []
-  pub in_gap : plan_status (clock_of None) None
+  pub in_gap : plan_status (plan_clock_with None) None
       ≡ 1 ∷ 2 ∷ 3 ∷ 4 ∷ 5 ∷ 6 ∷ 7 ∷ 8 ∷ 0 ∷ 0 ∷ 0 ∷ 3 ∷ 255 ∷ 255 ∷ 255 ∷ 255 ∷ 255 ∷ 255 ∷ 255 ∷ 255 ∷ []
 
 -- bytes are shown where the partition may write all of them; that an entry is not kept is shown in any case
@@ -117,6 +117,6 @@ pub record SilentRows : Type 0 where
 abbrev pub SeesPlan : Type 0
 SeesPlan = (memory : Memory) → Calls (caller true) memory
     → Leaves (λ g. g.parts) (record (by_itself (caller true) (calling 0x40000000 (15 ∷ 0x40000004 ∷ []) memory)) { clock = record { plan = 0; frame_start = 0; asked = Some 7 } }) 1
-    (record (answered 0 (calling 0x40000000 (15 ∷ 0x40000004 ∷ []) memory)) {
+    (record (after_answer 0 (calling 0x40000000 (15 ∷ 0x40000004 ∷ []) memory)) {
       memory = with_bytes memory 0x40000004 (replicate 8 0 ++ 0 ∷ 0 ∷ 0 ∷ 0 ∷ 0 ∷ 0 ∷ 0 ∷ 7 ∷ 0 ∷ 0 ∷ 0 ∷ 0 ∷ []);
     } ∷ [])

@@ -1,7 +1,7 @@
 -- Rows on the calls that a partition makes for itself, and on those that reach the whole system.
 use Rattle.std.specs.Prelude.{ℕ, ◌-◌, ◌^◌, true, false, List, [], ◌∷◌, Some}
 use Rattle.guest_bus.specs.Memory.{Memory, bytes_at, with_bytes}
-use Rattle.sparc_step.specs.Registers.{in_window, started}
+use Rattle.sparc_step.specs.Registers.{in_window, registers_started}
 use Rattle.virt_clocks.specs.Clocks.{no_clocks}
 use Rattle.xm_base.specs.declared.partition.State.TheVariants.{Ready, Idle}
 use Rattle.xm_conf.specs.Configuration.{Part}
@@ -10,21 +10,21 @@ use Rattle.xm_report.specs.declared.line.Move.TheVariants as move
 use Rattle.xm_traces.specs.Ring.{kept_of}
 use Rattle.machine_model.specs.Machine.{Machine}
 use Rattle.machine_model.specs.Partition.{PartitionState}
-use Rattle.machine_model.specs.Rows.{Leaves, Prints, at, calling, conf_of, machine, of_part, whole_frame, with_outs}
-use Rattle.machine_model.specs.CallRows.{Calls, answered, caller, healths}
+use Rattle.machine_model.specs.Rows.{Leaves, Prints, at, calling, small_conf, machine, of_part, whole_frame, with_outs}
+use Rattle.machine_model.specs.CallRows.{Calls, after_answer, caller, healths}
 use Rattle.machine_model.specs.TrapRows.{with_table}
 
 -- a partition alone, in the second tick of a frame
 abbrev pub by_itself : Part → PartitionState → Machine
-by_itself part ps = machine (conf_of (whole_frame ∷ []) (part ∷ []) []) (0x40000000 ∷ []) 1 (ps ∷ [])
+by_itself part ps = machine (small_conf (whole_frame ∷ []) (part ∷ []) []) (0x40000000 ∷ []) 1 (ps ∷ [])
 
 -- it makes a call with these arguments
 abbrev pub asking : List ℕ → Memory → Machine
 asking outs memory = by_itself (caller false) (calling 0x40000000 outs memory)
 
 -- it is the same as before but for what follows a call that answers so
-abbrev pub asked : ℕ → List ℕ → Memory → PartitionState
-asked value outs memory = answered value (calling 0x40000000 outs memory)
+abbrev pub after_request : ℕ → List ℕ → Memory → PartitionState
+after_request value outs memory = after_answer value (calling 0x40000000 outs memory)
 
 -- a partition whose trace mask has bit 0 alone
 abbrev pub tracer : Part
@@ -43,13 +43,13 @@ abbrev pub TracesNotElse : Type 0
 TracesNotElse = (memory : Memory) → Calls (caller false) memory
     → Prints (by_itself tracer (calling 0x40000000 (24 ∷ 2 ∷ 0x40000004 ∷ []) memory)) 1 (EndPart 0 Ready 0 1 0x40000004 ∷ EndWhole false 0 2 2 ∷ [])
     × Leaves (λ g. g.parts) (by_itself tracer (calling 0x40000000 (24 ∷ 2 ∷ 0x40000004 ∷ []) memory)) 1
-    (asked (2 ^ 32 - 1) (24 ∷ 2 ∷ 0x40000004 ∷ []) memory ∷ [])
+    (after_request (2 ^ 32 - 1) (24 ∷ 2 ∷ 0x40000004 ∷ []) memory ∷ [])
 
 -- a timer on the hardware clock is set with its deadline and its interval
 abbrev pub SetsTimer : Type 0
 SetsTimer = (memory : Memory) → Calls (caller false) memory
     → Leaves (λ g. g.parts) (asking (13 ∷ 0 ∷ 0 ∷ 5 ∷ 0 ∷ 2 ∷ []) memory) 1
-    (record (asked 0 (13 ∷ 0 ∷ 0 ∷ 5 ∷ 0 ∷ 2 ∷ []) memory) {
+    (record (after_request 0 (13 ∷ 0 ∷ 0 ∷ 5 ∷ 0 ∷ 2 ∷ []) memory) {
       clocks = record no_clocks { execution = 1; hardware_timer = Some (record { deadline = 5; interval = 2 }) };
     } ∷ [])
 
@@ -57,7 +57,7 @@ SetsTimer = (memory : Memory) → Calls (caller false) memory
 abbrev pub RefusesDeadline : Type 0
 RefusesDeadline = (memory : Memory) → Calls (caller false) memory
     → Leaves (λ g. g.parts) (asking (13 ∷ 0 ∷ 2 ^ 31 ∷ 0 ∷ 0 ∷ 0 ∷ []) memory) 1
-    (asked (2 ^ 32 - 3) (13 ∷ 0 ∷ 2 ^ 31 ∷ 0 ∷ 0 ∷ 0 ∷ []) memory ∷ [])
+    (after_request (2 ^ 32 - 3) (13 ∷ 0 ∷ 2 ^ 31 ∷ 0 ∷ 0 ∷ 0 ∷ []) memory ∷ [])
 
 -- a partition that asks for a clock, after seven ticks of its own
 abbrev pub timing : ℕ → Memory → PartitionState
@@ -72,31 +72,31 @@ ShowsClocks = (memory : Memory) → Calls (caller false) memory
     (Some (with_bytes memory 0x40000004 (0 ∷ 0 ∷ 0 ∷ 0 ∷ 0 ∷ 0 ∷ 0 ∷ 7 ∷ [])))
 
 -- a partition with these input words, which asks for one
-abbrev pub reading : List ℕ → Memory → PartitionState
-reading inputs memory = record (calling 0x40000000 (33 ∷ 0x40000004 ∷ []) memory) { inputs = inputs }
+abbrev pub part_reading_input : List ℕ → Memory → PartitionState
+part_reading_input inputs memory = record (calling 0x40000000 (33 ∷ 0x40000004 ∷ []) memory) { inputs = inputs }
 
 -- the first input word is written, and the others are left; where none is left the answer is -7
 abbrev pub ReadsInput : Type 0
 ReadsInput = (memory : Memory) → Calls (caller false) memory
-    → Leaves (λ g. g.parts) (by_itself (caller false) (reading (0x2a ∷ 7 ∷ []) memory)) 1
-    (record (answered 0 (reading (7 ∷ []) memory)) { memory = with_bytes memory 0x40000004 (0 ∷ 0 ∷ 0 ∷ 0x2a ∷ []) } ∷ [])
-    × Leaves (λ g. g.parts) (by_itself (caller false) (reading [] memory)) 1 (answered (2 ^ 32 - 7) (reading [] memory) ∷ [])
+    → Leaves (λ g. g.parts) (by_itself (caller false) (part_reading_input (0x2a ∷ 7 ∷ []) memory)) 1
+    (record (after_answer 0 (part_reading_input (7 ∷ []) memory)) { memory = with_bytes memory 0x40000004 (0 ∷ 0 ∷ 0 ∷ 0x2a ∷ []) } ∷ [])
+    × Leaves (λ g. g.parts) (by_itself (caller false) (part_reading_input [] memory)) 1 (after_answer (2 ^ 32 - 7) (part_reading_input [] memory) ∷ [])
 
 -- a partition that waits is idle from the next tick on
 abbrev pub Idles : Type 0
 Idles = (memory : Memory) → Calls (caller false) memory
-    → Leaves (λ g. g.parts) (asking (7 ∷ []) memory) 1 (record (asked 0 (7 ∷ []) memory) { state = Idle } ∷ [])
+    → Leaves (λ g. g.parts) (asking (7 ∷ []) memory) 1 (record (after_request 0 (7 ∷ []) memory) { state = Idle } ∷ [])
 
 -- a number that is no call's answers -2
 abbrev pub UnknownCall : Type 0
 UnknownCall = (memory : Memory) → Calls (caller false) memory
-    → Leaves (λ g. g.parts) (asking (38 ∷ []) memory) 1 (asked (2 ^ 32 - 2) (38 ∷ []) memory ∷ [])
-    × Leaves (λ g. g.parts) (asking (0 ∷ []) memory) 1 (asked (2 ^ 32 - 2) (0 ∷ []) memory ∷ [])
+    → Leaves (λ g. g.parts) (asking (38 ∷ []) memory) 1 (after_request (2 ^ 32 - 2) (38 ∷ []) memory ∷ [])
+    × Leaves (λ g. g.parts) (asking (0 ∷ []) memory) 1 (after_request (2 ^ 32 - 2) (0 ∷ []) memory ∷ [])
 
 -- a partition in the window of a trap that it took at 0x40000010, which returns from it
 abbrev pub returning : Memory → PartitionState
 returning memory = record (at 0x40000000 memory) {
-  core = with_outs 16 (0xa7 ∷ 0x40000010 ∷ 0x40000014 ∷ []) (with_outs 8 (34 ∷ []) (in_window (started 0x40000000) 6));
+  core = with_outs 16 (0xa7 ∷ 0x40000010 ∷ 0x40000014 ∷ []) (with_outs 8 (34 ∷ []) (in_window (registers_started 0x40000000) 6));
   traps = with_table false 0 0xffff_ffff;
 }
 
@@ -129,8 +129,8 @@ ResetsSystemCold = (memory : Memory) → Calls (caller true) memory
 -- a partition without the system flag may do neither: it is answered -4
 abbrev pub ReachesNotAll : Type 0
 ReachesNotAll = (memory : Memory) → Calls (caller false) memory
-    → Leaves (λ g. g.parts) (asking (9 ∷ []) memory) 1 (asked (2 ^ 32 - 4) (9 ∷ []) memory ∷ [])
-    × Leaves (λ g. g.parts) (asking (10 ∷ 0 ∷ []) memory) 1 (asked (2 ^ 32 - 4) (10 ∷ 0 ∷ []) memory ∷ [])
+    → Leaves (λ g. g.parts) (asking (9 ∷ []) memory) 1 (after_request (2 ^ 32 - 4) (9 ∷ []) memory ∷ [])
+    × Leaves (λ g. g.parts) (asking (10 ∷ 0 ∷ []) memory) 1 (after_request (2 ^ 32 - 4) (10 ∷ 0 ∷ []) memory ∷ [])
 
 -- a system partition is shown how often the hypervisor was reset, and how many partitions there are
 abbrev pub SeesSystem : Type 0

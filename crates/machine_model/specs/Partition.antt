@@ -1,8 +1,8 @@
 -- The state of one partition: how it boots, how it is reset, and what an order upon it does.
 use Rattle.std.specs.Prelude.{ℕ, ◌+◌, ◌%◌, ◌^◌, Bool, true, false, if◌then◌else◌, List, [], ◌∷◌, None}
 use Rattle.guest_bus.specs.Memory.{Area, Memory}
-use Rattle.guest_memory.specs.Loading.{areas_of as part_areas, loaded as loaded_in}
-use Rattle.sparc_step.specs.Registers.{Registers, started}
+use Rattle.guest_memory.specs.Loading.{memory_areas as part_areas, areas_with_image as loaded_in}
+use Rattle.sparc_step.specs.Registers.{Registers, registers_started}
 use Rattle.virt_traps.specs.Virtual.{VirtualTraps, no_traps, raised}
 use Rattle.virt_clocks.specs.Clocks.{PartitionClocks, is_due, looked_at, no_clocks}
 use Rattle.xm_base.specs.declared.partition.Mode.{Mode}
@@ -59,12 +59,12 @@ unfoldable pub areas_of : PartitionView → List Area
 areas_of view = part_areas view.part
 
 -- a partition's memory with its image loaded and zeros in all other places
-unfoldable pub loaded : PartitionView → Memory
-loaded view = loaded_in (areas_of view) view.image
+unfoldable pub loaded_memory : PartitionView → Memory
+loaded_memory view = loaded_in (areas_of view) view.image
 
 -- the memory behind a reset: a cold one loads the image anew
 abbrev pub memory_after : Mode → PartitionView → Memory → Memory
-memory_after Cold view memory = loaded view
+memory_after Cold view memory = loaded_memory view
 memory_after Warm view memory = memory
 
 -- the reset counter behind a reset: a cold one sets it to zero
@@ -75,7 +75,7 @@ resets_after Warm resets = (resets + 1) % 2 ^ 32
 -- a partition behind a reset; its traces, its health log and its input words stay
 unfoldable pub reset : PartitionView → Mode → ℕ → PartitionState → PartitionState
 reset view mode status ps = record ps {
-  core = started view.image.entry;
+  core = registers_started view.image.entry;
   memory = memory_after mode view ps.memory;
   traps = no_traps;
   clocks = no_clocks;
@@ -88,8 +88,8 @@ reset view mode status ps = record ps {
 -- a partition as it boots
 unfoldable pub booted : PartitionView → PartitionState
 booted view = record {
-  core = started view.image.entry;
-  memory = loaded view;
+  core = registers_started view.image.entry;
+  memory = loaded_memory view;
   traps = no_traps;
   clocks = no_clocks;
   state = Ready;

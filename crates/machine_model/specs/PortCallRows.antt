@@ -13,7 +13,7 @@ use Rattle.xm_ports.specs.Ports.{no_ports, with_port}
 use Rattle.machine_model.specs.Caller.{Caller, Served}
 use Rattle.machine_model.specs.Hypercalls.{served}
 use Rattle.machine_model.specs.Partition.{PartitionState}
-use Rattle.machine_model.specs.ServedRows.{Answers, Comes, Leads, Writes, calling_part, made_by, minus, served_so, view_for, with_call, written}
+use Rattle.machine_model.specs.ServedRows.{AnswersWith, ComesTo, Leads, WritesAnswer, calling_part, made_by, minus, served_so, view_for, with_call, written}
 use Rattle.machine_model.specs.Told.{Nothing, OwnPuts, OwnTakes, Trades}
 use Rattle.machine_model.specs.View.{PartitionView, PortChannel}
 
@@ -42,8 +42,8 @@ abbrev pub view_of_ports : ℕ → PartitionView
 view_of_ports refresh = record (view_for false) { part = record (calling_part false) { ports = ports }; channels = channels refresh }
 
 -- what its channels hold: a sample for d, the messages that q sent, and those that wait for r
-abbrev pub held : Option HeldSample → List (List ℕ) → List (List ℕ) → List (Option Content)
-held sample sent waiting =
+abbrev pub held_by_channels : Option HeldSample → List (List ℕ) → List (List ℕ) → List (Option Content)
+held_by_channels sample sent waiting =
     Some (Sampling None) ∷ Some (Sampling sample) ∷ Some (Queuing sent) ∷ Some (Queuing waiting) ∷ None ∷ None ∷ []
 
 -- all of its ports are made but x
@@ -60,29 +60,29 @@ port_call refresh contents outs memory = record (made_by (view_of_ports refresh)
 
 -- a call where no channel holds a message
 abbrev pub quiet_call : List ℕ → Memory → Caller
-quiet_call outs memory = port_call 0 (held None [] []) outs memory
+quiet_call outs memory = port_call 0 (held_by_channels None [] []) outs memory
 
 -- calls 17 and 21 put so many bytes at an address into the channel of this name
-abbrev pub Puts : Caller → ℕ → ℕ → ℕ → Type 0
-Puts caller name address size = Comes caller (served_so 0 (Trades (OwnPuts name (bytes_at caller.state.memory address size))) caller.state)
+abbrev pub PutsMessage : Caller → ℕ → ℕ → ℕ → Type 0
+PutsMessage caller name address size = ComesTo caller (served_so 0 (Trades (OwnPuts name (bytes_at caller.state.memory address size))) caller.state)
 
 -- a call on a port that is not made, that is none, or that is of the other kind
 abbrev pub RefusesOthers : ℕ → ℕ → Memory → Type 0
 RefusesOthers number other memory =
-    Answers (quiet_call (number ∷ 4 ∷ 0x1000 ∷ 1 ∷ 0x1000 ∷ []) memory) (minus 3)
-    × Answers (quiet_call (number ∷ 6 ∷ 0x1000 ∷ 1 ∷ 0x1000 ∷ []) memory) (minus 3)
-    × Answers (quiet_call (number ∷ 32 ∷ 0x1000 ∷ 1 ∷ 0x1000 ∷ []) memory) (minus 3)
-    × Answers (quiet_call (number ∷ other ∷ 0x1000 ∷ 1 ∷ 0x1000 ∷ []) memory) (minus 3)
+    AnswersWith (quiet_call (number ∷ 4 ∷ 0x1000 ∷ 1 ∷ 0x1000 ∷ []) memory) (minus 3)
+    × AnswersWith (quiet_call (number ∷ 6 ∷ 0x1000 ∷ 1 ∷ 0x1000 ∷ []) memory) (minus 3)
+    × AnswersWith (quiet_call (number ∷ 32 ∷ 0x1000 ∷ 1 ∷ 0x1000 ∷ []) memory) (minus 3)
+    × AnswersWith (quiet_call (number ∷ other ∷ 0x1000 ∷ 1 ∷ 0x1000 ∷ []) memory) (minus 3)
 
 -- call 17: from a source, 1 to 8 bytes that have to be readable
 abbrev pub WritesSample : Type 0
 WritesSample = (memory : Memory) →
-    Puts (quiet_call (17 ∷ 0 ∷ 0x1038 ∷ 8 ∷ []) memory) 0 0x1038 8
-    × Puts (quiet_call (17 ∷ 0 ∷ 0x203f ∷ 1 ∷ []) memory) 0 0x203f 1
-    × Answers (quiet_call (17 ∷ 0 ∷ 0x1000 ∷ 0 ∷ []) memory) (minus 3)
-    × Answers (quiet_call (17 ∷ 0 ∷ 0x1000 ∷ 9 ∷ []) memory) (minus 3)
-    × Answers (quiet_call (17 ∷ 0 ∷ 0x1039 ∷ 8 ∷ []) memory) (minus 3)
-    × Answers (quiet_call (17 ∷ 1 ∷ 0x1000 ∷ 0 ∷ []) memory) (minus 8)
+    PutsMessage (quiet_call (17 ∷ 0 ∷ 0x1038 ∷ 8 ∷ []) memory) 0 0x1038 8
+    × PutsMessage (quiet_call (17 ∷ 0 ∷ 0x203f ∷ 1 ∷ []) memory) 0 0x203f 1
+    × AnswersWith (quiet_call (17 ∷ 0 ∷ 0x1000 ∷ 0 ∷ []) memory) (minus 3)
+    × AnswersWith (quiet_call (17 ∷ 0 ∷ 0x1000 ∷ 9 ∷ []) memory) (minus 3)
+    × AnswersWith (quiet_call (17 ∷ 0 ∷ 0x1039 ∷ 8 ∷ []) memory) (minus 3)
+    × AnswersWith (quiet_call (17 ∷ 1 ∷ 0x1000 ∷ 0 ∷ []) memory) (minus 8)
     × RefusesOthers 17 2 memory
 
 -- three bytes that were written in a tick
@@ -92,12 +92,12 @@ sample_from time = Some (record { time = time; bytes = 5 ∷ 6 ∷ 7 ∷ [] })
 -- call 18 reads d in tick 9, with this refresh period, and tells so whether the message is valid
 abbrev pub ReadsValid : ℕ → ℕ → ℕ → Memory → Type 0
 ReadsValid refresh time valid memory =
-    Leads (port_call refresh (held (sample_from time) [] []) (18 ∷ 1 ∷ 0x103d ∷ 3 ∷ 0x103c ∷ []) memory) 3
+    Leads (port_call refresh (held_by_channels (sample_from time) [] []) (18 ∷ 1 ∷ 0x103d ∷ 3 ∷ 0x103c ∷ []) memory) 3
     (written 0x103c (0 ∷ 0 ∷ 0 ∷ valid ∷ []) (written 0x103d (5 ∷ 6 ∷ 7 ∷ []) (with_made all_made (18 ∷ 1 ∷ 0x103d ∷ 3 ∷ 0x103c ∷ []) memory)))
 
 -- a call where d has a message
 abbrev pub sampled_call : List ℕ → Memory → Caller
-sampled_call outs memory = port_call 0 (held (sample_from 4) [] []) outs memory
+sampled_call outs memory = port_call 0 (held_by_channels (sample_from 4) [] []) outs memory
 
 -- call 18: at a destination, first the message and then whether it is valid, both of which have to be writable; without a message -1.
 -- A message is valid up to the refresh period, and always where there is none
@@ -110,77 +110,77 @@ ReadsSample = (memory : Memory) →
     × ReadsValid 1 7 0 memory
     × Leads (sampled_call (18 ∷ 5 ∷ 0x1000 ∷ 8 ∷ 0x1008 ∷ []) memory) 3
     (written 0x1008 (0 ∷ 0 ∷ 0 ∷ 1 ∷ []) (written 0x1000 (5 ∷ 6 ∷ 7 ∷ []) (with_made all_made (18 ∷ 5 ∷ 0x1000 ∷ 8 ∷ 0x1008 ∷ []) memory)))
-    × Answers (sampled_call (18 ∷ 1 ∷ 0x1000 ∷ 2 ∷ 0x1008 ∷ []) memory) (minus 3)
-    × Answers (sampled_call (18 ∷ 1 ∷ 0x103e ∷ 3 ∷ 0x1008 ∷ []) memory) (minus 3)
-    × Answers (sampled_call (18 ∷ 1 ∷ 0x2000 ∷ 3 ∷ 0x1008 ∷ []) memory) (minus 3)
-    × Answers (sampled_call (18 ∷ 1 ∷ 0x1000 ∷ 3 ∷ 0x103d ∷ []) memory) (minus 3)
-    × Answers (sampled_call (18 ∷ 1 ∷ 0x1000 ∷ 3 ∷ 0x2000 ∷ []) memory) (minus 3)
-    × Answers (quiet_call (18 ∷ 1 ∷ 0x2000 ∷ 0 ∷ 0x2000 ∷ []) memory) (minus 1)
-    × Answers (sampled_call (18 ∷ 0 ∷ 0x2000 ∷ 0 ∷ 0x2000 ∷ []) memory) (minus 8)
+    × AnswersWith (sampled_call (18 ∷ 1 ∷ 0x1000 ∷ 2 ∷ 0x1008 ∷ []) memory) (minus 3)
+    × AnswersWith (sampled_call (18 ∷ 1 ∷ 0x103e ∷ 3 ∷ 0x1008 ∷ []) memory) (minus 3)
+    × AnswersWith (sampled_call (18 ∷ 1 ∷ 0x2000 ∷ 3 ∷ 0x1008 ∷ []) memory) (minus 3)
+    × AnswersWith (sampled_call (18 ∷ 1 ∷ 0x1000 ∷ 3 ∷ 0x103d ∷ []) memory) (minus 3)
+    × AnswersWith (sampled_call (18 ∷ 1 ∷ 0x1000 ∷ 3 ∷ 0x2000 ∷ []) memory) (minus 3)
+    × AnswersWith (quiet_call (18 ∷ 1 ∷ 0x2000 ∷ 0 ∷ 0x2000 ∷ []) memory) (minus 1)
+    × AnswersWith (sampled_call (18 ∷ 0 ∷ 0x2000 ∷ 0 ∷ 0x2000 ∷ []) memory) (minus 8)
     × RefusesOthers 18 3 memory
 
 -- call 19: the time of the message, its length, and whether it is valid, in 16 bytes that have to be writable
 abbrev pub SeesSampling : Type 0
 SeesSampling = (memory : Memory) →
-    Writes (port_call 5 (held (sample_from 4) [] []) (19 ∷ 1 ∷ 0x1030 ∷ []) memory) 0 0x1030
+    WritesAnswer (port_call 5 (held_by_channels (sample_from 4) [] []) (19 ∷ 1 ∷ 0x1030 ∷ []) memory) 0 0x1030
     (0 ∷ 0 ∷ 0 ∷ 0 ∷ 0 ∷ 0 ∷ 0 ∷ 4 ∷ 0 ∷ 0 ∷ 0 ∷ 3 ∷ 0 ∷ 0 ∷ 0 ∷ 1 ∷ [])
-    × Writes (port_call 4 (held (sample_from 4) [] []) (19 ∷ 5 ∷ 0x1000 ∷ []) memory) 0 0x1000
+    × WritesAnswer (port_call 4 (held_by_channels (sample_from 4) [] []) (19 ∷ 5 ∷ 0x1000 ∷ []) memory) 0 0x1000
     (0 ∷ 0 ∷ 0 ∷ 0 ∷ 0 ∷ 0 ∷ 0 ∷ 4 ∷ 0 ∷ 0 ∷ 0 ∷ 3 ∷ 0 ∷ 0 ∷ 0 ∷ 0 ∷ [])
-    × Writes (quiet_call (19 ∷ 0 ∷ 0x1030 ∷ []) memory) 0 0x1030 (replicate 16 0)
-    × Answers (quiet_call (19 ∷ 1 ∷ 0x1031 ∷ []) memory) (minus 3)
-    × Answers (quiet_call (19 ∷ 1 ∷ 0x2000 ∷ []) memory) (minus 3)
+    × WritesAnswer (quiet_call (19 ∷ 0 ∷ 0x1030 ∷ []) memory) 0 0x1030 (replicate 16 0)
+    × AnswersWith (quiet_call (19 ∷ 1 ∷ 0x1031 ∷ []) memory) (minus 3)
+    × AnswersWith (quiet_call (19 ∷ 1 ∷ 0x2000 ∷ []) memory) (minus 3)
     × RefusesOthers 19 3 memory
 
 -- one message and two
 abbrev pub one_message : List (List ℕ)
 one_message = (5 ∷ 6 ∷ 7 ∷ []) ∷ []
 
-abbrev pub two_messages : List (List ℕ)
-two_messages = (5 ∷ 6 ∷ 7 ∷ []) ∷ (8 ∷ []) ∷ []
+abbrev pub two_waiting : List (List ℕ)
+two_waiting = (5 ∷ 6 ∷ 7 ∷ []) ∷ (8 ∷ []) ∷ []
 
 -- a call where q has sent two messages
 abbrev pub full_call : List ℕ → Memory → Caller
-full_call outs memory = port_call 0 (held None two_messages []) outs memory
+full_call outs memory = port_call 0 (held_by_channels None two_waiting []) outs memory
 
 -- call 21: from a source, 1 to 8 bytes that have to be readable, and then room in the queue
 abbrev pub SendsMessage : Type 0
 SendsMessage = (memory : Memory) →
-    Puts (port_call 0 (held None one_message []) (21 ∷ 2 ∷ 0x1038 ∷ 8 ∷ []) memory) 2 0x1038 8
-    × Puts (quiet_call (21 ∷ 2 ∷ 0x203f ∷ 1 ∷ []) memory) 2 0x203f 1
-    × Answers (full_call (21 ∷ 2 ∷ 0x1038 ∷ 8 ∷ []) memory) (minus 7)
-    × Answers (full_call (21 ∷ 2 ∷ 0x1000 ∷ 0 ∷ []) memory) (minus 3)
-    × Answers (full_call (21 ∷ 2 ∷ 0x1000 ∷ 9 ∷ []) memory) (minus 3)
-    × Answers (full_call (21 ∷ 2 ∷ 0x1039 ∷ 8 ∷ []) memory) (minus 3)
-    × Answers (quiet_call (21 ∷ 3 ∷ 0x1000 ∷ 0 ∷ []) memory) (minus 8)
+    PutsMessage (port_call 0 (held_by_channels None one_message []) (21 ∷ 2 ∷ 0x1038 ∷ 8 ∷ []) memory) 2 0x1038 8
+    × PutsMessage (quiet_call (21 ∷ 2 ∷ 0x203f ∷ 1 ∷ []) memory) 2 0x203f 1
+    × AnswersWith (full_call (21 ∷ 2 ∷ 0x1038 ∷ 8 ∷ []) memory) (minus 7)
+    × AnswersWith (full_call (21 ∷ 2 ∷ 0x1000 ∷ 0 ∷ []) memory) (minus 3)
+    × AnswersWith (full_call (21 ∷ 2 ∷ 0x1000 ∷ 9 ∷ []) memory) (minus 3)
+    × AnswersWith (full_call (21 ∷ 2 ∷ 0x1039 ∷ 8 ∷ []) memory) (minus 3)
+    × AnswersWith (quiet_call (21 ∷ 3 ∷ 0x1000 ∷ 0 ∷ []) memory) (minus 8)
     × RefusesOthers 21 0 memory
 
 -- a call where two messages wait for r
 abbrev pub waited_call : List ℕ → Memory → Caller
-waited_call outs memory = port_call 0 (held None [] two_messages) outs memory
+waited_call outs memory = port_call 0 (held_by_channels None [] two_waiting) outs memory
 
 -- call 22: at a destination, the first message, where there is one, in bytes that have to be writable
 abbrev pub ReceivesMessage : Type 0
 ReceivesMessage = (memory : Memory) →
-    Comes (waited_call (22 ∷ 3 ∷ 0x103d ∷ 3 ∷ []) memory)
+    ComesTo (waited_call (22 ∷ 3 ∷ 0x103d ∷ 3 ∷ []) memory)
     (served_so 3 (Trades (OwnTakes 3)) (written 0x103d (5 ∷ 6 ∷ 7 ∷ []) (with_made all_made (22 ∷ 3 ∷ 0x103d ∷ 3 ∷ []) memory)))
-    × Answers (waited_call (22 ∷ 3 ∷ 0x1000 ∷ 2 ∷ []) memory) (minus 3)
-    × Answers (waited_call (22 ∷ 3 ∷ 0x103e ∷ 3 ∷ []) memory) (minus 3)
-    × Answers (waited_call (22 ∷ 3 ∷ 0x2000 ∷ 3 ∷ []) memory) (minus 3)
-    × Answers (quiet_call (22 ∷ 3 ∷ 0x2000 ∷ 0 ∷ []) memory) (minus 7)
-    × Answers (quiet_call (22 ∷ 2 ∷ 0x2000 ∷ 0 ∷ []) memory) (minus 8)
+    × AnswersWith (waited_call (22 ∷ 3 ∷ 0x1000 ∷ 2 ∷ []) memory) (minus 3)
+    × AnswersWith (waited_call (22 ∷ 3 ∷ 0x103e ∷ 3 ∷ []) memory) (minus 3)
+    × AnswersWith (waited_call (22 ∷ 3 ∷ 0x2000 ∷ 3 ∷ []) memory) (minus 3)
+    × AnswersWith (quiet_call (22 ∷ 3 ∷ 0x2000 ∷ 0 ∷ []) memory) (minus 7)
+    × AnswersWith (quiet_call (22 ∷ 2 ∷ 0x2000 ∷ 0 ∷ []) memory) (minus 8)
     × RefusesOthers 22 1 memory
 
 -- call 23: how many messages wait and how many may, in eight bytes that have to be writable
 abbrev pub SeesQueuing : Type 0
 SeesQueuing = (memory : Memory) →
-    Writes (port_call 0 (held None [] one_message) (23 ∷ 3 ∷ 0x1038 ∷ []) memory) 0 0x1038 (0 ∷ 0 ∷ 0 ∷ 1 ∷ 0 ∷ 0 ∷ 0 ∷ 2 ∷ [])
-    × Writes (quiet_call (23 ∷ 2 ∷ 0x1000 ∷ []) memory) 0 0x1000 (0 ∷ 0 ∷ 0 ∷ 0 ∷ 0 ∷ 0 ∷ 0 ∷ 2 ∷ [])
-    × Answers (quiet_call (23 ∷ 3 ∷ 0x1039 ∷ []) memory) (minus 3)
-    × Answers (quiet_call (23 ∷ 3 ∷ 0x2000 ∷ []) memory) (minus 3)
+    WritesAnswer (port_call 0 (held_by_channels None [] one_message) (23 ∷ 3 ∷ 0x1038 ∷ []) memory) 0 0x1038 (0 ∷ 0 ∷ 0 ∷ 1 ∷ 0 ∷ 0 ∷ 0 ∷ 2 ∷ [])
+    × WritesAnswer (quiet_call (23 ∷ 2 ∷ 0x1000 ∷ []) memory) 0 0x1000 (0 ∷ 0 ∷ 0 ∷ 0 ∷ 0 ∷ 0 ∷ 0 ∷ 2 ∷ [])
+    × AnswersWith (quiet_call (23 ∷ 3 ∷ 0x1039 ∷ []) memory) (minus 3)
+    × AnswersWith (quiet_call (23 ∷ 3 ∷ 0x2000 ∷ []) memory) (minus 3)
     × RefusesOthers 23 1 memory
 
 -- a call on a port whose name is in memory comes to this
-pub record Makes (caller : Caller) (comes : Served) : Type 0 where
+pub record NamedComesTo (caller : Caller) (comes : Served) : Type 0 where
   pub made : served caller ≡ comes
 
 -- a call of a partition with these ports made, and with these bytes at an address
@@ -190,12 +190,12 @@ naming made outs address bytes memory = made_by (view_of_ports 0) (with_made mad
 -- it makes port r
 abbrev pub MakesPort : List ℕ → ℕ → List ℕ → ℕ → Memory → Type 0
 MakesPort outs address bytes r memory =
-    Makes (naming no_ports outs address bytes memory) (served_so r Nothing (with_made (with_port r no_ports) outs (with_bytes memory address bytes)))
+    NamedComesTo (naming no_ports outs address bytes memory) (served_so r Nothing (with_made (with_port r no_ports) outs (with_bytes memory address bytes)))
 
 -- it is refused
 abbrev pub MakesNone : List Bool → List ℕ → ℕ → List ℕ → ℕ → Memory → Type 0
 MakesNone made outs address bytes code memory =
-    Makes (naming made outs address bytes memory) (served_so (minus code) Nothing (with_made made outs (with_bytes memory address bytes)))
+    NamedComesTo (naming made outs address bytes memory) (served_so (minus code) Nothing (with_made made outs (with_bytes memory address bytes)))
 
 -- call 16: a readable name that ends within 32 bytes, a sampling port of that name, its way and its length, a channel, and not made yet
 abbrev pub CreatesSampling : Type 0

@@ -7,10 +7,10 @@ use Rattle.xm_conf.specs.declared.port.Port.{Port}
 use Rattle.xm_conf.specs.declared.port.Way.{Way}
 use Rattle.xm_conf.specs.declared.port.Way.TheVariants as way
 use Rattle.xm_ports.specs.Channels.{Content, HeldSample, Shape, first_message, messages_of, most_of, sample_of}
-use Rattle.xm_ports.specs.Ports.{created_over, is_kind, is_made, with_port}
+use Rattle.xm_ports.specs.Ports.{created_over, are_same_kind, is_made, with_port}
 use Rattle.xm_ports.specs.declared.ports.CreateFault.{CreateFault}
 use Rattle.xm_ports.specs.declared.ports.CreateFault.TheVariants.{NoPort, Differs, NoChannel, Already}
-use Rattle.machine_model.specs.Caller.{Caller, Served, Test, a_of, acting, answering, b_of, bytes_of, c_of, d_of, invalid_configuration, invalid_parameter, no_action, not_allowed, not_available, refused_if, room, tested, text, with_written}
+use Rattle.machine_model.specs.Caller.{Caller, Served, Test, a_of, acting, answering, b_of, caller_bytes, c_of, d_of, invalid_configuration, invalid_parameter, no_action, not_allowed, not_available, refused_if, room, tested, text, with_written}
 use Rattle.xm_base.specs.Options.{on}
 use Rattle.machine_model.specs.Lists.{and_then}
 use Rattle.machine_model.specs.Partition.{areas_of}
@@ -68,15 +68,15 @@ pub record MadePort : Type 0 where
   pub content : Content
 
 -- a port with its channel, where what the channel holds is there
-abbrev pub with_content : Port → PortChannel → Option Content → Option MadePort
-with_content port channel None = None
-with_content port channel (Some content) = Some (record { way = port.way; shape = channel.shape; name = channel.name; content = content })
+abbrev pub port_with_content : Port → PortChannel → Option Content → Option MadePort
+port_with_content port channel None = None
+port_with_content port channel (Some content) = Some (record { way = port.way; shape = channel.shape; name = channel.name; content = content })
 
 -- a port of a kind with its channel
 abbrev pub with_channel : Caller → Kind → Port → Option PortChannel → Option MadePort
 with_channel caller the_kind port None = None
 with_channel caller the_kind port (Some channel) =
-    if is_kind port.kind the_kind then with_content port channel (slice_index_or caller.contents channel.name None) else None
+    if are_same_kind port.kind the_kind then port_with_content port channel (slice_index_or caller.contents channel.name None) else None
 
 -- the made port of a kind that the call names by a
 unfoldable pub made_port : Kind → Caller → Option MadePort
@@ -107,7 +107,7 @@ size_fits port size = refused_if (size == 0 || nat_lt port.shape.length size) in
 
 -- a message of c bytes at b is put into the port's channel
 abbrev pub putting : Caller → MadePort → Served
-putting caller port = acting (Trades (OwnPuts port.name (bytes_of caller (b_of caller) (c_of caller)))) 0 caller.state
+putting caller port = acting (Trades (OwnPuts port.name (caller_bytes caller (b_of caller) (c_of caller)))) 0 caller.state
 
 -- call 17, XM_write_sampling_message(a, b, c): c bytes at b
 unfoldable pub write_sampling_message : Caller → Served

@@ -2,7 +2,7 @@
 -- and each of its tests at its edge.
 use Rattle.std.specs.Prelude.{ℕ, Bool, true, false, List, [], ◌∷◌, ◌++◌, replicate}
 use Rattle.guest_bus.specs.Memory.{Memory, bytes_at}
-use Rattle.sparc_step.specs.Registers.{Registers, in_window, started}
+use Rattle.sparc_step.specs.Registers.{Registers, in_window, registers_started}
 use Rattle.guest_bus.specs.Words.{words_at}
 use Rattle.virt_traps.specs.SaveArea.{with_registers}
 use Rattle.virt_traps.specs.Virtual.{no_traps}
@@ -10,7 +10,7 @@ use Rattle.xm_conf.specs.declared.health.Event.TheVariants.{MemProtection}
 use Rattle.machine_model.specs.Caller.{Acts, Caller, Meets, Served}
 use Rattle.machine_model.specs.Partition.{PartitionState}
 use Rattle.machine_model.specs.Rows.{area, with_outs}
-use Rattle.machine_model.specs.ServedRows.{Answers, Comes, Leads, call, made_by, minus, view_for, with_call, with_result, written}
+use Rattle.machine_model.specs.ServedRows.{AnswersWith, ComesTo, Leads, call, made_by, minus, view_for, with_call, with_o0, written}
 use Rattle.machine_model.specs.Told.{Console, Nothing, Told}
 
 -- a partition with a mask of interrupts, which calls
@@ -30,7 +30,7 @@ Unmasks = (memory : Memory) →
 
 -- a call that tells this, is answered so, and changes nothing else
 abbrev pub telling : List Told → ℕ → PartitionState → Served
-telling told value ps = record { after = with_result value ps; told = told; upshot = Acts Nothing }
+telling told value ps = record { after = with_o0 value ps; told = told; upshot = Acts Nothing }
 
 -- a partition with 1025 bytes, which calls
 abbrev pub long_call : List ℕ → Memory → Caller
@@ -40,29 +40,29 @@ long_call outs memory =
 -- call 32: bytes that have to be readable, at most 1024; none print nothing
 abbrev pub WritesConsole : Type 0
 WritesConsole = (memory : Memory) →
-    Comes (call false (32 ∷ 0x1038 ∷ 8 ∷ []) memory) (telling (Console (bytes_at memory 0x1038 8) ∷ []) 8 (with_call (32 ∷ 0x1038 ∷ 8 ∷ []) memory))
-    × Comes (call false (32 ∷ 0x2038 ∷ 8 ∷ []) memory) (telling (Console (bytes_at memory 0x2038 8) ∷ []) 8 (with_call (32 ∷ 0x2038 ∷ 8 ∷ []) memory))
-    × Answers (call false (32 ∷ 0x1039 ∷ 8 ∷ []) memory) (minus 3)
-    × Answers (call false (32 ∷ 0 ∷ 0 ∷ []) memory) 0
-    × Comes (long_call (32 ∷ 0x1000 ∷ 1024 ∷ []) memory) (telling (Console (bytes_at memory 0x1000 1024) ∷ []) 1024 (with_call (32 ∷ 0x1000 ∷ 1024 ∷ []) memory))
-    × Answers (long_call (32 ∷ 0x1000 ∷ 1025 ∷ []) memory) (minus 3)
+    ComesTo (call false (32 ∷ 0x1038 ∷ 8 ∷ []) memory) (telling (Console (bytes_at memory 0x1038 8) ∷ []) 8 (with_call (32 ∷ 0x1038 ∷ 8 ∷ []) memory))
+    × ComesTo (call false (32 ∷ 0x2038 ∷ 8 ∷ []) memory) (telling (Console (bytes_at memory 0x2038 8) ∷ []) 8 (with_call (32 ∷ 0x2038 ∷ 8 ∷ []) memory))
+    × AnswersWith (call false (32 ∷ 0x1039 ∷ 8 ∷ []) memory) (minus 3)
+    × AnswersWith (call false (32 ∷ 0 ∷ 0 ∷ []) memory) 0
+    × ComesTo (long_call (32 ∷ 0x1000 ∷ 1024 ∷ []) memory) (telling (Console (bytes_at memory 0x1000 1024) ∷ []) 1024 (with_call (32 ∷ 0x1000 ∷ 1024 ∷ []) memory))
+    × AnswersWith (long_call (32 ∷ 0x1000 ∷ 1025 ∷ []) memory) (minus 3)
 
 -- a partition with these input words, which calls
-abbrev pub with_inputs : List ℕ → List ℕ → Memory → PartitionState
-with_inputs inputs outs memory = record (with_call outs memory) { inputs = inputs }
+abbrev pub caller_with_inputs : List ℕ → List ℕ → Memory → PartitionState
+caller_with_inputs inputs outs memory = record (with_call outs memory) { inputs = inputs }
 
 -- call 33: the next input word, in four bytes that have to be writable; that there is one is tested first
-abbrev pub ReadsInput : Type 0
-ReadsInput = (memory : Memory) →
-    Leads (made_by (view_for false) (with_inputs (0x0102_0304 ∷ 7 ∷ []) (33 ∷ 0x103c ∷ []) memory)) 0
-    (written 0x103c (1 ∷ 2 ∷ 3 ∷ 4 ∷ []) (with_inputs (7 ∷ []) (33 ∷ 0x103c ∷ []) memory))
-    × Answers (made_by (view_for false) (with_inputs (7 ∷ []) (33 ∷ 0x103d ∷ []) memory)) (minus 3)
-    × Answers (made_by (view_for false) (with_inputs (7 ∷ []) (33 ∷ 0x2000 ∷ []) memory)) (minus 3)
-    × Answers (made_by (view_for false) (with_inputs [] (33 ∷ 0x2000 ∷ []) memory)) (minus 7)
+abbrev pub CallReadsInput : Type 0
+CallReadsInput = (memory : Memory) →
+    Leads (made_by (view_for false) (caller_with_inputs (0x0102_0304 ∷ 7 ∷ []) (33 ∷ 0x103c ∷ []) memory)) 0
+    (written 0x103c (1 ∷ 2 ∷ 3 ∷ 4 ∷ []) (caller_with_inputs (7 ∷ []) (33 ∷ 0x103c ∷ []) memory))
+    × AnswersWith (made_by (view_for false) (caller_with_inputs (7 ∷ []) (33 ∷ 0x103d ∷ []) memory)) (minus 3)
+    × AnswersWith (made_by (view_for false) (caller_with_inputs (7 ∷ []) (33 ∷ 0x2000 ∷ []) memory)) (minus 3)
+    × AnswersWith (made_by (view_for false) (caller_with_inputs [] (33 ∷ 0x2000 ∷ []) memory)) (minus 7)
 
 -- the registers of a trap in a window: the PSR and the program counters that it saved, and the number of the call in %o0
 abbrev pub in_trap : ℕ → List ℕ → Registers
-in_trap window locals = with_outs 16 locals (with_outs 8 (34 ∷ []) (in_window (started 0x1020) window))
+in_trap window locals = with_outs 16 locals (with_outs 8 (34 ∷ []) (in_window (registers_started 0x1020) window))
 
 -- a partition with these registers
 abbrev pub with_core : Registers → Memory → PartitionState
@@ -92,13 +92,13 @@ taken_back ps = record {
 -- a program counter that is no multiple of 4 is refused, and where the window cannot be loaded the call is undone
 abbrev pub Returns : Type 0
 Returns = (memory : Memory) →
-    Comes (core_call (in_trap 6 (0x00a0_0020 ∷ 0x1010 ∷ 0x1018 ∷ [])) memory)
+    ComesTo (core_call (in_trap 6 (0x00a0_0020 ∷ 0x1010 ∷ 0x1018 ∷ [])) memory)
     (going_on (record (in_trap 6 (0x00a0_0020 ∷ 0x1010 ∷ 0x1018 ∷ [])) { pc = 0x1010; npc = 0x1018; icc = 10; cwp = 7 }) true memory)
-    × Comes (core_call (in_trap 6 (0xff5f_ffdf ∷ 0x1010 ∷ 0x1018 ∷ [])) memory)
+    × ComesTo (core_call (in_trap 6 (0xff5f_ffdf ∷ 0x1010 ∷ 0x1018 ∷ [])) memory)
     (going_on (record (in_trap 6 (0xff5f_ffdf ∷ 0x1010 ∷ 0x1018 ∷ [])) { pc = 0x1010; npc = 0x1018; icc = 5; cwp = 7 }) false memory)
-    × Answers (core_call (in_trap 6 (0 ∷ 0x1012 ∷ 0x1018 ∷ [])) memory) (minus 3)
-    × Answers (core_call (in_trap 6 (0 ∷ 0x1010 ∷ 0x1019 ∷ [])) memory) (minus 3)
-    × Comes (core_call (with_outs 30 (0x2000 ∷ []) (in_trap 7 (0 ∷ 0x1010 ∷ 0x1018 ∷ []))) memory)
+    × AnswersWith (core_call (in_trap 6 (0 ∷ 0x1012 ∷ 0x1018 ∷ [])) memory) (minus 3)
+    × AnswersWith (core_call (in_trap 6 (0 ∷ 0x1010 ∷ 0x1019 ∷ [])) memory) (minus 3)
+    × ComesTo (core_call (with_outs 30 (0x2000 ∷ []) (in_trap 7 (0 ∷ 0x1010 ∷ 0x1018 ∷ []))) memory)
     (going_on (record (with_outs 30 (0x2000 ∷ []) (in_trap 7 (0 ∷ 0x1010 ∷ 0x1018 ∷ []))) {
       pc = 0x1010;
       npc = 0x1018;
@@ -106,9 +106,9 @@ Returns = (memory : Memory) →
       inv = 1;
       windows = with_registers (with_outs 30 (0x2000 ∷ []) (in_trap 7 (0 ∷ 0x1010 ∷ 0x1018 ∷ []))).windows 0 16 (words_at memory 0x2000 16);
     }) false memory)
-    × Comes (core_call (with_outs 30 (0x1008 ∷ []) (in_trap 7 (0 ∷ 0x1010 ∷ 0x1018 ∷ []))) memory)
+    × ComesTo (core_call (with_outs 30 (0x1008 ∷ []) (in_trap 7 (0 ∷ 0x1010 ∷ 0x1018 ∷ []))) memory)
     (taken_back (with_core (with_outs 30 (0x1008 ∷ []) (in_trap 7 (0 ∷ 0x1010 ∷ 0x1018 ∷ []))) memory))
-    × Answers (core_call (with_outs 30 (0x1008 ∷ []) (in_trap 7 (0 ∷ 0x1012 ∷ 0x1018 ∷ []))) memory) (minus 3)
+    × AnswersWith (core_call (with_outs 30 (0x1008 ∷ []) (in_trap 7 (0 ∷ 0x1012 ∷ 0x1018 ∷ []))) memory) (minus 3)
 
 -- a partition with these condition codes and this flag, which calls
 abbrev pub with_conditions : ℕ → Bool → List ℕ → Memory → PartitionState
@@ -136,7 +136,7 @@ SetsTbr = (memory : Memory) →
 -- the registers of a partition that calls in a window below window 7, whose stack pointer is this; it has two values to be saved there
 abbrev pub below_top : ℕ → ℕ → Registers
 below_top window stack =
-    with_outs 8 (37 ∷ []) (in_window (with_outs 31 (0x0102_0304 ∷ []) (with_outs 16 (0x0a0b_0c0d ∷ []) (with_outs 14 (stack ∷ []) (in_window (started 0x1020) 7)))) window)
+    with_outs 8 (37 ∷ []) (in_window (with_outs 31 (0x0102_0304 ∷ []) (with_outs 16 (0x0a0b_0c0d ∷ []) (with_outs 14 (stack ∷ []) (in_window (registers_started 0x1020) 7)))) window)
 
 -- the 64 bytes that window 7 saves
 abbrev pub saved_bytes : List ℕ
@@ -151,16 +151,16 @@ abbrev pub FlushesWindows : Type 0
 FlushesWindows = (memory : Memory) →
     Leads (core_call (below_top 7 0x1000) memory) 0 (with_core (below_top 7 0x1000) memory)
     × Leads (core_call (below_top 6 0x1000) memory) 0 (top_spilled 6 0x1000 memory)
-    × Comes (core_call (below_top 6 0x1008) memory) (taken_back (with_core (below_top 6 0x1008) memory))
-    × Comes (core_call (below_top 6 0x2000) memory) (taken_back (with_core (below_top 6 0x2000) memory))
-    × Comes (core_call (below_top 5 0x1000) memory) (taken_back (top_spilled 5 0x1000 memory))
+    × ComesTo (core_call (below_top 6 0x1008) memory) (taken_back (with_core (below_top 6 0x1008) memory))
+    × ComesTo (core_call (below_top 6 0x2000) memory) (taken_back (with_core (below_top 6 0x2000) memory))
+    × ComesTo (core_call (below_top 5 0x1000) memory) (taken_back (top_spilled 5 0x1000 memory))
 
 -- the rows of calls 30 to 37
 pub record ProcessorCallRows : Type 0 where
   pub set_irqmask : Masks
   pub clear_irqmask : Unmasks
   pub write_console : WritesConsole
-  pub read_input : ReadsInput
+  pub read_input : CallReadsInput
   pub iret : Returns
   pub set_psr : SetsPsr
   pub set_tbr : SetsTbr

@@ -4,13 +4,13 @@ use Rattle.std.specs.Int.{bit_at, bit_not, w32}
 use Rattle.guest_bus.specs.Memory.{Area}
 use Rattle.sparc_step.specs.Registers.{with_icc}
 use Rattle.virt_traps.specs.Delivery.{Returned, returned}
-use Rattle.virt_traps.specs.Moves.{Moved, made, spilled}
+use Rattle.virt_traps.specs.Moves.{Moved, move_made, spilled}
 use Rattle.virt_traps.specs.declared.delivery.IretFault.{IretFault}
 use Rattle.virt_traps.specs.declared.delivery.IretFault.TheVariants.{Stack, Unaligned}
 use Rattle.virt_traps.specs.declared.windows.StackFault.{StackFault}
 use Rattle.xm_base.specs.declared.limits.TheConstants.{CONSOLE_BYTES}
 use Rattle.xm_conf.specs.declared.health.Event.TheVariants.{MemProtection}
-use Rattle.machine_model.specs.Caller.{Acts, Caller, Meets, Served, a_of, answering, b_of, bytes_of, invalid_parameter, not_available, refused_if, room, tested, text, with_written}
+use Rattle.machine_model.specs.Caller.{Acts, Caller, Meets, Served, a_of, answering, b_of, caller_bytes, invalid_parameter, not_available, refused_if, room, tested, text, with_written}
 use Rattle.machine_model.specs.Partition.{PartitionState, areas_of}
 use Rattle.machine_model.specs.Structures.{word}
 use Rattle.machine_model.specs.Told.{Console, Nothing, Told}
@@ -36,7 +36,7 @@ printed (byte ∷ bytes) = Console (byte ∷ bytes) ∷ []
 unfoldable pub write_console : Caller → Served
 write_console caller =
     tested (refused_if (nat_lt CONSOLE_BYTES (b_of caller)) invalid_parameter ∷ text caller (a_of caller) (b_of caller) ∷ []) caller
-    (record (answering (b_of caller) caller.state) { told = printed (bytes_of caller (a_of caller) (b_of caller)) })
+    (record (answering (b_of caller) caller.state) { told = printed (caller_bytes caller (a_of caller) (b_of caller)) })
 
 -- the next input word is written at a, and is used
 abbrev pub input_read : List ℕ → Caller → Served
@@ -101,5 +101,5 @@ by_flush (Err fault) ps caller = undone caller ps
 -- call 37, sparc_flush_regwin: all windows but the current one are spilled
 unfoldable pub flush_regwin : Caller → Served
 flush_regwin caller =
-    let moved = flushed 8 (areas_of caller.view) (made caller.state.core caller.state.memory) in
+    let moved = flushed 8 (areas_of caller.view) (move_made caller.state.core caller.state.memory) in
     by_flush moved.answer (record caller.state { core = moved.core; memory = moved.memory }) caller

@@ -5,7 +5,7 @@ use Rattle.std.specs.Int.{to_be_bytes, w32}
 use Rattle.cyclic_plans.specs.PlanClock.{frame_from}
 use Rattle.guest_bus.specs.Access.{fetched}
 use Rattle.guest_bus.specs.Memory.{Memory, with_bytes}
-use Rattle.sparc_step.specs.Registers.{Registers, started, with_register}
+use Rattle.sparc_step.specs.Registers.{Registers, registers_started, with_register}
 use Rattle.virt_clocks.specs.Clocks.{no_clocks}
 use Rattle.virt_traps.specs.Virtual.{no_traps}
 use Rattle.xm_base.specs.Options.{on}
@@ -35,8 +35,8 @@ abbrev pub area : ℕ → ℕ → Area
 area start size = record { start = start; size = size; read_only = false }
 
 -- a table of actions by the events' numbers, all of which are logged
-abbrev pub table_of : List Action → HmTable
-table_of actions = record { actions = actions; logged = 0xfff }
+abbrev pub actions_table : List Action → HmTable
+actions_table actions = record { actions = actions; logged = 0xfff }
 
 -- the actions where nothing else is said, but for an error of the partition's own and an illegal instruction
 abbrev pub with_answers : Action → Action → List Action
@@ -49,14 +49,14 @@ abbrev pub with_illegal : Action → List Action
 with_illegal illegal = with_answers action.Halt illegal
 
 -- a partition with one area, without ports
-abbrev pub plain : ℕ → ℕ → Part
-plain start size = record {
+abbrev pub plain_part : ℕ → ℕ → Part
+plain_part start size = record {
   name = [];
   system = false;
   console = None;
   need = None;
   trace_mask = 0;
-  hm = table_of (with_illegal action.Propagate);
+  hm = actions_table (with_illegal action.Propagate);
   areas = area start size ∷ [];
   ports = [];
 }
@@ -82,8 +82,8 @@ abbrev pub halves : Plan
 halves = record { frame = 4; slots = slot 0 2 0 ∷ slot 2 2 1 ∷ [] }
 
 -- a configuration of these plans, partitions and channels
-abbrev pub conf_of : List Plan → List Part → List Chan → Conf
-conf_of plans parts chans = record { name = []; regions = []; hv_size = 0; uarts = []; plans = plans; parts = parts; chans = chans }
+abbrev pub small_conf : List Plan → List Part → List Chan → Conf
+small_conf plans parts chans = record { name = []; regions = []; hv_size = 0; uarts = []; plans = plans; parts = parts; chans = chans }
 
 -- the registers with these values in the outs from a register on
 abbrev pub with_outs : ℕ → List ℕ → Registers → Registers
@@ -93,7 +93,7 @@ with_outs n (value ∷ values) core = with_outs (suc n) values (with_register co
 -- a partition at an address, with these values in its outs, of which a call has the first as its number, and with this memory
 abbrev pub calling : ℕ → List ℕ → Memory → PartitionState
 calling entry outs memory = record {
-  core = with_outs 8 outs (started entry);
+  core = with_outs 8 outs (registers_started entry);
   memory = memory;
   traps = no_traps;
   clocks = no_clocks;

@@ -7,7 +7,7 @@ use Rattle.xm_conf.specs.declared.conf.Seen.{Seen}
 use Rattle.machine_model.specs.Caller.{Acts, Caller, Served}
 use Rattle.machine_model.specs.Hypercalls.{served}
 use Rattle.machine_model.specs.Partition.{PartitionState}
-use Rattle.machine_model.specs.Rows.{area, calling, plain}
+use Rattle.machine_model.specs.Rows.{area, calling, plain_part}
 use Rattle.machine_model.specs.Told.{Act, Nothing, Sight, Unseen}
 use Rattle.machine_model.specs.View.{PartitionView, no_image}
 
@@ -17,7 +17,7 @@ minus n = 2 ^ 32 - n
 
 -- a partition with 64 bytes that may be written, and 64 that may only be read
 abbrev pub calling_part : Bool → Part
-calling_part is_system = record (plain 0x1000 64) {
+calling_part is_system = record (plain_part 0x1000 64) {
   system = is_system;
   areas = area 0x1000 64 ∷ record (area 0x2000 64) { read_only = true } ∷ [];
   trace_mask = 6;
@@ -56,33 +56,33 @@ abbrev pub shown_call : Sight → List ℕ → Memory → Caller
 shown_call sight outs memory = record (call true outs memory) { sight = sight }
 
 -- a partition with a result in %o0
-abbrev pub with_result : ℕ → PartitionState → PartitionState
-with_result value ps = record ps { core = with_register ps.core 8 value }
+abbrev pub with_o0 : ℕ → PartitionState → PartitionState
+with_o0 value ps = record ps { core = with_register ps.core 8 value }
 
 -- a call that tells nothing and has this act, with its result and what else it leaves of the partition
 abbrev pub served_so : ℕ → Act → PartitionState → Served
-served_so value act ps = record { after = with_result value ps; told = []; upshot = Acts act }
+served_so value act ps = record { after = with_o0 value ps; told = []; upshot = Acts act }
 
 -- a call comes to this
-abbrev pub Comes : Caller → Served → Type 0
-Comes caller comes = served caller ≡ comes
+abbrev pub ComesTo : Caller → Served → Type 0
+ComesTo caller comes = served caller ≡ comes
 
 -- a call is answered so, and nothing else of the partition changes
-abbrev pub Answers : Caller → ℕ → Type 0
-Answers caller value = Comes caller (served_so value Nothing caller.state)
+abbrev pub AnswersWith : Caller → ℕ → Type 0
+AnswersWith caller value = ComesTo caller (served_so value Nothing caller.state)
 
 -- a call is answered so, and leaves this of the partition
 abbrev pub Leads : Caller → ℕ → PartitionState → Type 0
-Leads caller value ps = Comes caller (served_so value Nothing ps)
+Leads caller value ps = ComesTo caller (served_so value Nothing ps)
 
 -- a partition with these bytes written at an address
 abbrev pub written : ℕ → List ℕ → PartitionState → PartitionState
 written address bytes ps = record ps { memory = with_bytes ps.memory address bytes }
 
 -- a call is answered so, and these bytes are written at an address
-abbrev pub Writes : Caller → ℕ → ℕ → List ℕ → Type 0
-Writes caller value address bytes = Leads caller value (written address bytes caller.state)
+abbrev pub WritesAnswer : Caller → ℕ → ℕ → List ℕ → Type 0
+WritesAnswer caller value address bytes = Leads caller value (written address bytes caller.state)
 
 -- a call is answered 0, and has this act
 abbrev pub DoesAct : Caller → Act → Type 0
-DoesAct caller act = Comes caller (served_so 0 act caller.state)
+DoesAct caller act = ComesTo caller (served_so 0 act caller.state)

@@ -9,18 +9,18 @@ use Rattle.xm_conf.specs.Configuration.{Conf, Part, Plan}
 use Rattle.xm_report.specs.Report.{PlanLine, EndPart, EndWhole}
 use Rattle.machine_model.specs.Machine.{Machine}
 use Rattle.machine_model.specs.Partition.{PartitionState}
-use Rattle.machine_model.specs.Rows.{Holds, HoldsAll, Leaves, Prints, at, calling, conf_of, halves, machine, plain, slot}
+use Rattle.machine_model.specs.Rows.{Holds, HoldsAll, Leaves, Prints, at, calling, small_conf, halves, machine, plain_part, slot}
 
 -- the two partitions of the rows
 abbrev pub first_part : Part
-first_part = plain 0x40000000 8
+first_part = plain_part 0x40000000 8
 
 abbrev pub second_part : Part
-second_part = plain 0x40000100 8
+second_part = plain_part 0x40000100 8
 
 -- each of them in two ticks of four
 abbrev pub in_turns : Conf
-in_turns = conf_of (halves ∷ []) (first_part ∷ second_part ∷ []) []
+in_turns = small_conf (halves ∷ []) (first_part ∷ second_part ∷ []) []
 
 -- a machine of two such partitions at a tick
 abbrev pub two_parts : ℕ → PartitionState → PartitionState → Machine
@@ -63,8 +63,8 @@ timed deadline interval memory = record (at 0x40000000 memory) {
 }
 
 -- a partition that is suspended
-abbrev pub held : Memory → PartitionState
-held memory = record (at 0x40000100 memory) { state = Suspended }
+abbrev pub suspended_partition : Memory → PartitionState
+suspended_partition memory = record (at 0x40000100 memory) { state = Suspended }
 
 -- interrupt 0 waits
 abbrev pub timer_pending : VirtualTraps
@@ -74,9 +74,9 @@ timer_pending = record no_traps { pending = 1 }
 -- or, with an interval, moved on. The other one is suspended, and its execution clock stays
 abbrev pub IsDueInAnothersSlot : Type 0
 IsDueInAnothersSlot = (one other : Memory)
-    → Leaves (λ g. g.parts) (two_parts 3 (timed 3 0 one) (held other)) 1 (record (at 0x40000000 one) { traps = timer_pending } ∷ held other ∷ [])
-    × Leaves (λ g. g.parts) (two_parts 3 (timed 3 5 one) (held other)) 1 (record (timed 8 5 one) { traps = timer_pending } ∷ held other ∷ [])
-    × Leaves (λ g. g.parts) (two_parts 2 (timed 3 0 one) (held other)) 1 (timed 3 0 one ∷ held other ∷ [])
+    → Leaves (λ g. g.parts) (two_parts 3 (timed 3 0 one) (suspended_partition other)) 1 (record (at 0x40000000 one) { traps = timer_pending } ∷ suspended_partition other ∷ [])
+    × Leaves (λ g. g.parts) (two_parts 3 (timed 3 5 one) (suspended_partition other)) 1 (record (timed 8 5 one) { traps = timer_pending } ∷ suspended_partition other ∷ [])
+    × Leaves (λ g. g.parts) (two_parts 2 (timed 3 0 one) (suspended_partition other)) 1 (timed 3 0 one ∷ suspended_partition other ∷ [])
 
 -- three plans of 2000 ticks, whose last ticks are in no slot
 abbrev pub three_plans : List Plan
@@ -86,12 +86,12 @@ three_plans =
 
 -- a system partition with room for a word behind its instruction
 abbrev pub planner : Part
-planner = record (plain 0x40000000 8) { system = true }
+planner = record (plain_part 0x40000000 8) { system = true }
 
 -- the system partition at a tick, about to ask for a plan, where this plan is asked for already
 abbrev pub planning : ℕ → ℕ → Option ℕ → Memory → Machine
 planning tick plan asked memory =
-    record (machine (conf_of three_plans (planner ∷ []) []) (0x40000000 ∷ []) tick (calling 0x40000000 (14 ∷ plan ∷ 0x40000004 ∷ []) memory ∷ [])) {
+    record (machine (small_conf three_plans (planner ∷ []) []) (0x40000000 ∷ []) tick (calling 0x40000000 (14 ∷ plan ∷ 0x40000004 ∷ []) memory ∷ [])) {
       clock = record (frame_from 0 0) { asked = asked };
     }
 
@@ -108,7 +108,7 @@ LastAskedStarts = (memory : Memory) → Holds planner memory 0x40000000 0x91d020
 
 -- two plans of one tick
 abbrev pub short_plans : Conf
-short_plans = conf_of (record { frame = 1; slots = slot 0 1 0 ∷ [] } ∷ record { frame = 1; slots = slot 0 1 0 ∷ [] } ∷ []) (planner ∷ []) []
+short_plans = small_conf (record { frame = 1; slots = slot 0 1 0 ∷ [] } ∷ record { frame = 1; slots = slot 0 1 0 ∷ [] } ∷ []) (planner ∷ []) []
 
 -- a plan that is asked for in the last tick of a frame starts with the next tick
 abbrev pub AskedInLastTick : Type 0

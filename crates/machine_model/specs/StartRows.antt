@@ -5,7 +5,7 @@ use Rattle.xm_report.specs.Report.{SystemLine, ConsoleLine, MovedLine, EndPart, 
 use Rattle.xm_report.specs.declared.line.Move.TheVariants as move
 use Rattle.machine_model.specs.Lines.{report}
 use Rattle.machine_model.specs.Machine.{start}
-use Rattle.machine_model.specs.Rows.{Prints, conf_of, image, plain, program, slot}
+use Rattle.machine_model.specs.Rows.{Prints, small_conf, image, plain_part, program, slot}
 use Rattle.machine_model.specs.View.{System}
 
 -- a program that writes the two bytes behind its words, `hi`, to the console, and halts
@@ -15,7 +15,7 @@ hi_bytes = program (0x13100000 ∷ 0x92126020 ∷ 0x94102002 ∷ 0x90102020 ∷ 
 -- the system of one partition with this program
 abbrev pub hi : System
 hi = record {
-  conf = conf_of (record { frame = 1000; slots = slot 0 1000 0 ∷ [] } ∷ []) (plain 0x40000000 34 ∷ []) [];
+  conf = small_conf (record { frame = 1000; slots = slot 0 1000 0 ∷ [] } ∷ []) (plain_part 0x40000000 34 ∷ []) [];
   images = image 0x40000000 hi_bytes ∷ [];
   inputs = [] ∷ [];
 }

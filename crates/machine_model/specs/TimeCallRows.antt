@@ -5,17 +5,17 @@ use Rattle.virt_clocks.specs.Clocks.{no_clocks}
 use Rattle.virt_clocks.specs.declared.timer.Timer.{Timer}
 use Rattle.machine_model.specs.Partition.{PartitionState}
 use Rattle.machine_model.specs.PartitionCallRows.{worn}
-use Rattle.machine_model.specs.ServedRows.{Answers, Comes, Leads, Writes, call, made_by, minus, served_so, shown_call, view_for, with_call, written}
+use Rattle.machine_model.specs.ServedRows.{AnswersWith, ComesTo, Leads, WritesAnswer, call, made_by, minus, served_so, shown_call, view_for, with_call, written}
 use Rattle.machine_model.specs.Told.{Asked, Plans, Words}
 
 -- call 12: the hardware clock or the execution clock, in eight bytes that have to be writable
 abbrev pub ShowsClock : Type 0
 ShowsClock = (memory : Memory) →
-    Writes (record (call false (12 ∷ 0 ∷ 0x1038 ∷ []) memory) { time = 0x0102_0304_0506_0708 }) 0 0x1038 (1 ∷ 2 ∷ 3 ∷ 4 ∷ 5 ∷ 6 ∷ 7 ∷ 8 ∷ [])
-    × Writes (made_by (view_for false) (worn (12 ∷ 1 ∷ 0x1038 ∷ []) memory)) 0 0x1038 (0 ∷ 0 ∷ 0 ∷ 0 ∷ 0 ∷ 0 ∷ 1 ∷ 2 ∷ [])
-    × Answers (call false (12 ∷ 2 ∷ 0x1038 ∷ []) memory) (minus 3)
-    × Answers (call false (12 ∷ 0 ∷ 0x1039 ∷ []) memory) (minus 3)
-    × Answers (call false (12 ∷ 1 ∷ 0x2000 ∷ []) memory) (minus 3)
+    WritesAnswer (record (call false (12 ∷ 0 ∷ 0x1038 ∷ []) memory) { time = 0x0102_0304_0506_0708 }) 0 0x1038 (1 ∷ 2 ∷ 3 ∷ 4 ∷ 5 ∷ 6 ∷ 7 ∷ 8 ∷ [])
+    × WritesAnswer (made_by (view_for false) (worn (12 ∷ 1 ∷ 0x1038 ∷ []) memory)) 0 0x1038 (0 ∷ 0 ∷ 0 ∷ 0 ∷ 0 ∷ 0 ∷ 1 ∷ 2 ∷ [])
+    × AnswersWith (call false (12 ∷ 2 ∷ 0x1038 ∷ []) memory) (minus 3)
+    × AnswersWith (call false (12 ∷ 0 ∷ 0x1039 ∷ []) memory) (minus 3)
+    × AnswersWith (call false (12 ∷ 1 ∷ 0x2000 ∷ []) memory) (minus 3)
 
 -- a timer of a deadline and an interval
 abbrev pub timer : ℕ → ℕ → Timer
@@ -35,41 +35,41 @@ abbrev pub SetsExecution : List ℕ → Timer → Memory → Type 0
 SetsExecution outs a_timer memory = Leads (call false outs memory) 0 (record (with_call outs memory) { clocks = record no_clocks { execution_timer = Some a_timer } })
 
 -- call 13 sets the timer of one clock; a deadline of 0 disarms it, and neither the deadline nor the interval may be below 0
-abbrev pub SetsTimer : Type 0
-SetsTimer = (memory : Memory) →
+abbrev pub CallSetsTimer : Type 0
+CallSetsTimer = (memory : Memory) →
     SetsHardware (13 ∷ 0 ∷ 0x7fff_ffff ∷ 0xffff_ffff ∷ 1 ∷ 2 ∷ []) (timer (2 ^ 63 - 1) (2 ^ 32 + 2)) memory
     × SetsExecution (13 ∷ 1 ∷ 0 ∷ 5 ∷ 0x7fff_ffff ∷ 0xffff_ffff ∷ []) (timer 5 (2 ^ 63 - 1)) memory
     × Leads (made_by (view_for false) (with_timers (13 ∷ 0 ∷ 0 ∷ 0 ∷ 0 ∷ 7 ∷ []) memory)) 0
     (record (with_call (13 ∷ 0 ∷ 0 ∷ 0 ∷ 0 ∷ 7 ∷ []) memory) { clocks = record no_clocks { execution_timer = Some (timer 200 2) } })
     × Leads (made_by (view_for false) (with_timers (13 ∷ 1 ∷ 0 ∷ 0 ∷ 0 ∷ 0 ∷ []) memory)) 0
     (record (with_call (13 ∷ 1 ∷ 0 ∷ 0 ∷ 0 ∷ 0 ∷ []) memory) { clocks = record no_clocks { hardware_timer = Some (timer 100 1) } })
-    × Answers (call false (13 ∷ 2 ∷ 0 ∷ 5 ∷ 0 ∷ 0 ∷ []) memory) (minus 3)
-    × Answers (call false (13 ∷ 0 ∷ 0x8000_0000 ∷ 0 ∷ 0 ∷ 0 ∷ []) memory) (minus 3)
-    × Answers (call false (13 ∷ 1 ∷ 0 ∷ 5 ∷ 0x8000_0000 ∷ 0 ∷ []) memory) (minus 3)
-    × Answers (call false (13 ∷ 0 ∷ 0 ∷ 0 ∷ 0x8000_0000 ∷ 0 ∷ []) memory) (minus 3)
+    × AnswersWith (call false (13 ∷ 2 ∷ 0 ∷ 5 ∷ 0 ∷ 0 ∷ []) memory) (minus 3)
+    × AnswersWith (call false (13 ∷ 0 ∷ 0x8000_0000 ∷ 0 ∷ 0 ∷ 0 ∷ []) memory) (minus 3)
+    × AnswersWith (call false (13 ∷ 1 ∷ 0 ∷ 5 ∷ 0x8000_0000 ∷ 0 ∷ []) memory) (minus 3)
+    × AnswersWith (call false (13 ∷ 0 ∷ 0 ∷ 0 ∷ 0x8000_0000 ∷ 0 ∷ []) memory) (minus 3)
 
 -- call 14: a system partition asks for a plan other than plan 0 and is shown the one that runs, in four bytes that have to be writable
 abbrev pub AsksForPlan : Type 0
 AsksForPlan = (memory : Memory) →
-    Comes (shown_call (Words (0 ∷ 0 ∷ 0 ∷ 1 ∷ [])) (14 ∷ 2 ∷ 0x103c ∷ []) memory)
+    ComesTo (shown_call (Words (0 ∷ 0 ∷ 0 ∷ 1 ∷ [])) (14 ∷ 2 ∷ 0x103c ∷ []) memory)
     (served_so 0 (Plans (Asked 2)) (written 0x103c (0 ∷ 0 ∷ 0 ∷ 1 ∷ []) (with_call (14 ∷ 2 ∷ 0x103c ∷ []) memory)))
-    × Answers (call true (14 ∷ 0 ∷ 0x103c ∷ []) memory) (minus 3)
-    × Answers (call true (14 ∷ 3 ∷ 0x103c ∷ []) memory) (minus 3)
-    × Answers (call true (14 ∷ 1 ∷ 0x103d ∷ []) memory) (minus 3)
-    × Answers (call true (14 ∷ 1 ∷ 0x2000 ∷ []) memory) (minus 3)
-    × Answers (call false (14 ∷ 0 ∷ 0x103c ∷ []) memory) (minus 4)
+    × AnswersWith (call true (14 ∷ 0 ∷ 0x103c ∷ []) memory) (minus 3)
+    × AnswersWith (call true (14 ∷ 3 ∷ 0x103c ∷ []) memory) (minus 3)
+    × AnswersWith (call true (14 ∷ 1 ∷ 0x103d ∷ []) memory) (minus 3)
+    × AnswersWith (call true (14 ∷ 1 ∷ 0x2000 ∷ []) memory) (minus 3)
+    × AnswersWith (call false (14 ∷ 0 ∷ 0x103c ∷ []) memory) (minus 4)
 
 -- call 15: what a system partition is shown of the plan; 20 bytes have to be writable
 abbrev pub SeesPlanStatus : Type 0
 SeesPlanStatus = (memory : Memory) →
-    Writes (shown_call (Words (5 ∷ 6 ∷ [])) (15 ∷ 0x102c ∷ []) memory) 0 0x102c (5 ∷ 6 ∷ [])
-    × Answers (call true (15 ∷ 0x102d ∷ []) memory) (minus 3)
-    × Answers (call true (15 ∷ 0x2000 ∷ []) memory) (minus 3)
-    × Answers (call false (15 ∷ 0x102d ∷ []) memory) (minus 4)
+    WritesAnswer (shown_call (Words (5 ∷ 6 ∷ [])) (15 ∷ 0x102c ∷ []) memory) 0 0x102c (5 ∷ 6 ∷ [])
+    × AnswersWith (call true (15 ∷ 0x102d ∷ []) memory) (minus 3)
+    × AnswersWith (call true (15 ∷ 0x2000 ∷ []) memory) (minus 3)
+    × AnswersWith (call false (15 ∷ 0x102d ∷ []) memory) (minus 4)
 
 -- the rows of calls 12 to 15
 pub record TimeCallRows : Type 0 where
   pub get_time : ShowsClock
-  pub set_timer : SetsTimer
+  pub set_timer : CallSetsTimer
   pub switch_sched_plan : AsksForPlan
   pub get_plan_status : SeesPlanStatus

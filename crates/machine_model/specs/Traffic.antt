@@ -6,7 +6,7 @@ use Rattle.xm_conf.specs.declared.channel.ChanKind.TheVariants as kind
 use Rattle.xm_conf.specs.declared.port.Port.{Port}
 use Rattle.xm_conf.specs.declared.port.Way.{Way}
 use Rattle.xm_conf.specs.declared.port.Way.TheVariants as way
-use Rattle.xm_ports.specs.Channels.{Content, put, taken}
+use Rattle.xm_ports.specs.Channels.{Content, put, first_taken}
 use Rattle.virt_traps.specs.Virtual.{raised}
 use Rattle.xm_base.specs.Options.{on}
 use Rattle.machine_model.specs.Lists.{each, table}
@@ -56,13 +56,13 @@ heard_as name_of (Takes channel) = own_takes_at (name_of channel)
 abbrev pub after_traffic : ℕ → Traffic → ℕ → Content → Content
 after_traffic time Still c content = content
 after_traffic time (Puts channel bytes) c content = if channel == c then put time bytes content else content
-after_traffic time (Takes channel) c content = if channel == c then taken content else content
+after_traffic time (Takes channel) c content = if channel == c then first_taken content else content
 
 -- what it leaves of a partition's copy of the channel that the partition calls q
 abbrev pub after_own : ℕ → OwnTraffic → ℕ → Content → Content
 after_own time OwnStill q content = content
 after_own time (OwnPuts name bytes) q content = if name == q then put time bytes content else content
-after_own time (OwnTakes name) q content = if name == q then taken content else content
+after_own time (OwnTakes name) q content = if name == q then first_taken content else content
 
 -- what a partition has of the channels: a copy of each under its own name
 abbrev pub content_if : List Content → Option ℕ → Option Content

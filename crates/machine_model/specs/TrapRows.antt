@@ -12,8 +12,8 @@ use Rattle.xm_report.specs.Report.{HealthLine, MovedLine, EndPart, EndWhole}
 use Rattle.xm_report.specs.declared.line.Move.TheVariants as move
 use Rattle.machine_model.specs.Machine.{Machine}
 use Rattle.machine_model.specs.Partition.{PartitionState}
-use Rattle.machine_model.specs.Rows.{Holds, HoldsAll, Leaves, Prints, at, conf_of, machine, of_part, plain, slot, whole_frame}
-use Rattle.machine_model.specs.SlotRows.{first_part, held, two_parts}
+use Rattle.machine_model.specs.Rows.{Holds, HoldsAll, Leaves, Prints, at, small_conf, machine, of_part, plain_part, slot, whole_frame}
+use Rattle.machine_model.specs.SlotRows.{first_part, suspended_partition, two_parts}
 
 -- virtual traps with a table at 0x40001000: enabled or not, with these interrupts pending and masked
 abbrev pub with_table : Bool → ℕ → ℕ → VirtualTraps
@@ -22,13 +22,13 @@ with_table enabled pending mask = record { enabled = enabled; base = 0x40001000;
 -- a partition alone that takes traps, in the second tick of its slot
 abbrev pub taking_traps : Memory → Machine
 taking_traps memory =
-    machine (conf_of (whole_frame ∷ []) (plain 0x40000000 4 ∷ []) []) (0x40000000 ∷ []) 1
+    machine (small_conf (whole_frame ∷ []) (plain_part 0x40000000 4 ∷ []) []) (0x40000000 ∷ []) 1
     (record (at 0x40000000 memory) { traps = with_table true 0 0xffff_ffff } ∷ [])
 
 -- an illegal instruction that goes on to the partition as trap 2: its program is at entry 2 of the table, in the window below, whose first
 -- locals have the virtual PSR and the two program counters, and takes no traps
 abbrev pub TakesTrap : Type 0
-TakesTrap = (memory : Memory) → Holds (plain 0x40000000 4) memory 0x40000000 0
+TakesTrap = (memory : Memory) → Holds (plain_part 0x40000000 4) memory 0x40000000 0
     → Prints (taking_traps memory) 1
     (HealthLine 1 0 event.SparcIllegalInstruction 0x40000000 action.Propagate ∷ EndPart 0 Ready 0 1 0x40001020 ∷ EndWhole false 0 2 2 ∷ [])
     × Leaves (of_part (λ ps. ps.core.cwp) 0) (taking_traps memory) 1 (Some 6)
@@ -45,23 +45,23 @@ timed_trap deadline memory = record (at 0x40000000 memory) {
 -- a timer that is due in the partition's own slot is delivered in that tick, in place of an instruction
 abbrev pub TimerIsDelivered : Type 0
 TimerIsDelivered = (one other : Memory)
-    → Prints (two_parts 1 (timed_trap 1 one) (held other)) 1 (EndPart 0 Ready 0 1 0x40001e00 ∷ EndPart 1 Suspended 0 0 0x40000100 ∷ EndWhole false 0 2 2 ∷ [])
-    × Leaves (of_part (λ ps. ps.traps) 0) (two_parts 1 (timed_trap 1 one) (held other)) 1 (Some (with_table false 0 0xffff_fffe))
+    → Prints (two_parts 1 (timed_trap 1 one) (suspended_partition other)) 1 (EndPart 0 Ready 0 1 0x40001e00 ∷ EndPart 1 Suspended 0 0 0x40000100 ∷ EndWhole false 0 2 2 ∷ [])
+    × Leaves (of_part (λ ps. ps.traps) 0) (two_parts 1 (timed_trap 1 one) (suspended_partition other)) 1 (Some (with_table false 0 0xffff_fffe))
 
 -- one that is due in another one's slot is delivered with the first tick of the partition's next slot, the start of which is pending then, too
 abbrev pub TimerWaitsForSlot : Type 0
 TimerWaitsForSlot = (one other : Memory)
-    → Prints (two_parts 2 (timed_trap 2 one) (held other)) 2 (EndPart 0 Ready 0 0 0x40000000 ∷ EndPart 1 Suspended 0 0 0x40000100 ∷ EndWhole false 0 4 4 ∷ [])
-    × Leaves (of_part (λ ps. ps.traps.pending) 0) (two_parts 2 (timed_trap 2 one) (held other)) 2 (Some 1)
-    × Prints (two_parts 2 (timed_trap 2 one) (held other)) 3 (EndPart 0 Ready 0 1 0x40001e00 ∷ EndPart 1 Suspended 0 0 0x40000100 ∷ EndWhole false 0 5 5 ∷ [])
-    × Leaves (of_part (λ ps. ps.traps) 0) (two_parts 2 (timed_trap 2 one) (held other)) 3 (Some (with_table false 32 0xffff_fffe))
+    → Prints (two_parts 2 (timed_trap 2 one) (suspended_partition other)) 2 (EndPart 0 Ready 0 0 0x40000000 ∷ EndPart 1 Suspended 0 0 0x40000100 ∷ EndWhole false 0 4 4 ∷ [])
+    × Leaves (of_part (λ ps. ps.traps.pending) 0) (two_parts 2 (timed_trap 2 one) (suspended_partition other)) 2 (Some 1)
+    × Prints (two_parts 2 (timed_trap 2 one) (suspended_partition other)) 3 (EndPart 0 Ready 0 1 0x40001e00 ∷ EndPart 1 Suspended 0 0 0x40000100 ∷ EndWhole false 0 5 5 ∷ [])
+    × Leaves (of_part (λ ps. ps.traps) 0) (two_parts 2 (timed_trap 2 one) (suspended_partition other)) 3 (Some (with_table false 32 0xffff_fffe))
 
 -- a partition of seven words, alone in a frame of ten ticks
 abbrev pub saver : Part
-saver = plain 0x40000000 28
+saver = plain_part 0x40000000 28
 
 abbrev pub saving : Memory → Machine
-saving memory = machine (conf_of (record { frame = 10; slots = slot 0 10 0 ∷ [] } ∷ []) (saver ∷ []) []) (0x40000000 ∷ []) 0 (at 0x40000000 memory ∷ [])
+saving memory = machine (small_conf (record { frame = 10; slots = slot 0 10 0 ∷ [] } ∷ []) (saver ∷ []) []) (0x40000000 ∷ []) 0 (at 0x40000000 memory ∷ [])
 
 -- seven times SAVE %sp, -96, %sp
 abbrev pub saves : List ℕ

@@ -17,9 +17,9 @@ use Rattle.machine_model.specs.CallRows.{Calls, caller}
 use Rattle.machine_model.specs.HealthRows.{IsIllegal, ends_of_queue, illegal_line}
 use Rattle.machine_model.specs.Lines.{console}
 use Rattle.machine_model.specs.Machine.{Machine}
-use Rattle.machine_model.specs.Partition.{PartitionState, loaded, ordered, ordered_told}
+use Rattle.machine_model.specs.Partition.{PartitionState, loaded_memory, ordered, ordered_told}
 use Rattle.machine_model.specs.PortCallRows.{all_made, view_of_ports, with_made}
-use Rattle.machine_model.specs.Rows.{Leaves, Prints, at, calling, conf_of, machine, of_part, plain, whole_frame}
+use Rattle.machine_model.specs.Rows.{Leaves, Prints, at, calling, small_conf, machine, of_part, plain_part, whole_frame}
 use Rattle.machine_model.specs.ServedRows.{view_for, with_call}
 use Rattle.machine_model.specs.Told.{Moved, OwnPuts, OwnTakes, Told}
 use Rattle.machine_model.specs.Traffic.{hearing}
@@ -54,25 +54,25 @@ states = Ready ∷ Idle ∷ Suspended ∷ Halted ∷ []
 abbrev pub LeavesStates : Order → List State → Memory → Type 0
 LeavesStates an_order after memory = map (λ state. (ordered (view_for false) an_order (in_state state no_ports memory)).state) states ≡ after
 
-abbrev pub Tells : Order → List (List Told) → Memory → Type 0
-Tells an_order told memory = map (λ state. ordered_told an_order (in_state state no_ports memory)) states ≡ told
+abbrev pub TellsInEach : Order → List (List Told) → Memory → Type 0
+TellsInEach an_order told memory = map (λ state. ordered_told an_order (in_state state no_ports memory)) states ≡ told
 
 -- whether an order makes interrupt 2 pending in each
-abbrev pub Raises : Order → List ℕ → Memory → Type 0
-Raises an_order pending memory = map (λ state. (ordered (view_for false) an_order (in_state state no_ports memory)).traps.pending) states ≡ pending
+abbrev pub RaisesInEach : Order → List ℕ → Memory → Type 0
+RaisesInEach an_order pending memory = map (λ state. (ordered (view_for false) an_order (in_state state no_ports memory)).traps.pending) states ≡ pending
 
 pub record OrderRows : Type 0 where
   pub halt : (memory : Memory) → LeavesStates order.Halt (Halted ∷ Halted ∷ Halted ∷ Halted ∷ []) memory
-      × Tells order.Halt ((Moved move.Halt ∷ []) ∷ (Moved move.Halt ∷ []) ∷ (Moved move.Halt ∷ []) ∷ [] ∷ []) memory
+      × TellsInEach order.Halt ((Moved move.Halt ∷ []) ∷ (Moved move.Halt ∷ []) ∷ (Moved move.Halt ∷ []) ∷ [] ∷ []) memory
   pub suspend : (memory : Memory) → LeavesStates order.Suspend (Suspended ∷ Suspended ∷ Suspended ∷ Halted ∷ []) memory
-      × Tells order.Suspend ((Moved move.Suspend ∷ []) ∷ (Moved move.Suspend ∷ []) ∷ [] ∷ [] ∷ []) memory
+      × TellsInEach order.Suspend ((Moved move.Suspend ∷ []) ∷ (Moved move.Suspend ∷ []) ∷ [] ∷ [] ∷ []) memory
   pub resume : (memory : Memory) → LeavesStates order.Resume (Ready ∷ Idle ∷ Ready ∷ Halted ∷ []) memory
-      × Tells order.Resume ([] ∷ [] ∷ (Moved move.Resume ∷ []) ∷ [] ∷ []) memory
+      × TellsInEach order.Resume ([] ∷ [] ∷ (Moved move.Resume ∷ []) ∷ [] ∷ []) memory
   pub shutdown : (memory : Memory) → LeavesStates order.Shutdown states memory
-      × Tells order.Shutdown ([] ∷ [] ∷ [] ∷ [] ∷ []) memory
-      × Raises order.Shutdown (4 ∷ 4 ∷ 4 ∷ 0 ∷ []) memory
+      × TellsInEach order.Shutdown ([] ∷ [] ∷ [] ∷ [] ∷ []) memory
+      × RaisesInEach order.Shutdown (4 ∷ 4 ∷ 4 ∷ 0 ∷ []) memory
   pub reset : (memory : Memory) → LeavesStates (order.Reset Cold 9) (Ready ∷ Ready ∷ Ready ∷ Ready ∷ []) memory
-      × Tells (order.Reset Warm 9) ((Moved move.Warm ∷ []) ∷ (Moved move.Warm ∷ []) ∷ (Moved move.Warm ∷ []) ∷ (Moved move.Warm ∷ []) ∷ []) memory
+      × TellsInEach (order.Reset Warm 9) ((Moved move.Warm ∷ []) ∷ (Moved move.Warm ∷ []) ∷ (Moved move.Warm ∷ []) ∷ (Moved move.Warm ∷ []) ∷ []) memory
 
 -- the counters of resets go on modulo 2^32: a partition's, and the hypervisor's
 pub record CounterRows : Type 0 where
@@ -95,7 +95,7 @@ ResetsAllCold = (one other : Memory) → IsIllegal action.HypervisorColdReset on
     → Prints (with_halted one other) 1
     (illegal_line action.HypervisorColdReset ∷ WholeLine 0 move.Cold ∷ MovedLine 0 0 move.Cold ∷ MovedLine 0 1 move.Cold
     ∷ EndPart 0 Ready 0 0 0x40000000 ∷ EndPart 1 Ready 0 0 0x40000100 ∷ EndWhole false 0 0 1 ∷ [])
-    × Leaves (of_part (λ ps. ps) 1) (with_halted one other) 1 (Some (at 0x40000100 (loaded (view_of (with_halted one other).system 1))))
+    × Leaves (of_part (λ ps. ps) 1) (with_halted one other) 1 (Some (at 0x40000100 (loaded_memory (view_of (with_halted one other).system 1))))
     × Leaves (λ g. g.channels) (with_halted one other) 1 (Queuing [] ∷ [])
     × Leaves (λ g. g.resets) (with_halted one other) 1 0
 
@@ -106,7 +106,7 @@ with_console uart part = record part { console = uart }
 -- two partitions in the slot of the first, which writes two bytes to its console
 abbrev pub consoles : Option ℕ → Option ℕ → Memory → Memory → Machine
 consoles uart other_uart one other =
-    machine (conf_of (whole_frame ∷ []) (with_console uart (caller false) ∷ with_console other_uart (plain 0x40000100 8) ∷ []) []) (0x40000000 ∷ 0x40000100 ∷ []) 1
+    machine (small_conf (whole_frame ∷ []) (with_console uart (caller false) ∷ with_console other_uart (plain_part 0x40000100 8) ∷ []) []) (0x40000000 ∷ 0x40000100 ∷ []) 1
     (calling 0x40000000 (32 ∷ 0x40000004 ∷ 2 ∷ []) one ∷ at 0x40000100 other ∷ [])
 
 -- a UART gets these bytes in that tick

@@ -4,7 +4,7 @@ use Rattle.std.specs.Prelude.{nat_lt, IfSome}
 use Rattle.std.specs.Option.{option_map}
 use Rattle.std.proofs.lemmas.Bool.Decides.{nat_tests}
 use Rattle.plan_maker.specs.Course.{earliest, sooner}
-use Rattle.plan_maker.specs.Turns.{first_due, sooner_due, spent, due_of}
+use Rattle.plan_maker.specs.Turns.{job_due_first, sooner_due, spent, due_of}
 use Rattle.plan_maker.specs.declared.jobs.Job.{Job}
 use Rattle.plan_maker.specs.declared.jobs.Due.{Due}
 use Rattle.plan_maker.proofs.EachLemmas.{Each}
@@ -180,8 +180,8 @@ due_first best [] = refl
 due_first best (k ∷ rest) = ap (λ (b : Option Due). fold sooner_due b rest) (due_sooner best k) ∙ due_first (sooner best k) rest
 
 -- what is due first is that of the job that goes first
-pub first_is : (jobs : List Job) → first_due jobs ≡ option_map due_of (earliest jobs)
-unfolding first_due earliest
+pub first_is : (jobs : List Job) → job_due_first jobs ≡ option_map due_of (earliest jobs)
+unfolding job_due_first earliest
 first_is jobs = due_first None jobs
 
 -- the jobs are of partitions from a number on, in the order of their numbers

@@ -3,7 +3,7 @@ use Rattle.std.proofs.Common.{◌≡◌, ℕ, ◌+◌, ◌-◌, ◌<◌, ◌≤�
 use Rattle.std.proofs.lemmas.Bool.Decides.{nat_tests}
 use Rattle.std.proofs.Math.Nat.{zero-div}
 use Rattle.xm_conf.specs.declared.plan.Slot.{Slot}
-use Rattle.plan_maker.specs.Course.{Course, after_tick, at_rest, job_at, jobs_at, run_slot, slots_so_far, window_start}
+use Rattle.plan_maker.specs.Course.{Course, course_after_tick, at_rest, job_at, jobs_at, run_slot, slots_so_far, window_start}
 use Rattle.plan_maker.specs.Needed.{ArePossible}
 use Rattle.plan_maker.specs.Served.{gives, runs_in, ticks_where, time_in}
 use Rattle.plan_maker.specs.Turns.{first_job, renewed, spent}
@@ -28,7 +28,7 @@ next_job tick turn job = renewed (tick + 1) (spent_by turn job)
 
 -- a tick runs its partition, and leaves the other ticks as they were
 pub runs_after_tick : (q tick t : ℕ) (turn : Option Job) (course : Course)
-    → runs_in q (slots_so_far (after_tick tick turn course)) t ≡ (runs_in q (slots_so_far course) t || (is_turn turn q && t == tick))
+    → runs_in q (slots_so_far (course_after_tick tick turn course)) t ≡ (runs_in q (slots_so_far course) t || (is_turn turn q && t == tick))
 runs_after_tick q tick t None course = sym (or_none (runs_in q (slots_so_far course) t))
   where
     or_none : (b : Bool) → (b || false) ≡ b
@@ -43,7 +43,7 @@ runs_after_tick q tick t (Some turn) course =
 
 -- the ticks before it are as they were
 runs_before : (q tick t : ℕ) (turn : Option Job) (course : Course) → t < tick
-    → runs_in q (slots_so_far (after_tick tick turn course)) t ≡ runs_in q (slots_so_far course) t
+    → runs_in q (slots_so_far (course_after_tick tick turn course)) t ≡ runs_in q (slots_so_far course) t
 runs_before q tick t turn course before = runs_after_tick q tick t turn course ∙ earlier (runs_in q (slots_so_far course) t) (is_turn turn q) t tick before
   where
     earlier : (a b : Bool) (t tick : ℕ) → t < tick → (a || (b && t == tick)) ≡ a
@@ -55,7 +55,7 @@ and_true false = refl
 
 -- in the tick the partition runs whose turn it is
 runs_here : (q tick : ℕ) (turn : Option Job) (course : Course) → Laid 0 tick (slots_so_far course)
-    → runs_in q (slots_so_far (after_tick tick turn course)) tick ≡ is_turn turn q
+    → runs_in q (slots_so_far (course_after_tick tick turn course)) tick ≡ is_turn turn q
 runs_here q tick turn course laid =
     runs_after_tick q tick tick turn course ∙ at (runs_in q (slots_so_far course) tick) (is_turn turn q) (runs_no_more q 0 tick tick (slots_so_far course) laid (omega arith))
   where
@@ -64,10 +64,10 @@ runs_here q tick turn course laid =
 
 -- the time in a window with one tick more
 pub time_more : (q start count tick : ℕ) (turn : Option Job) (course : Course) → Laid 0 tick (slots_so_far course) → start + count ≡ tick
-    → time_in q (slots_so_far (after_tick tick turn course)) start (count + 1) ≡ time_in q (slots_so_far course) start count + cond (is_turn turn q) 1 0
+    → time_in q (slots_so_far (course_after_tick tick turn course)) start (count + 1) ≡ time_in q (slots_so_far course) start count + cond (is_turn turn q) 1 0
 unfolding time_in
 time_more q start count tick turn course laid ends =
-    let new = slots_so_far (after_tick tick turn course) in
+    let new = slots_so_far (course_after_tick tick turn course) in
     let old = slots_so_far course in
     let same : ticks_where (runs_in q new) start count ≡ ticks_where (runs_in q old) start count =
     ticks_where_same (runs_in q new) (runs_in q old) start count (λ t from below. runs_before q tick t turn course (omega arith)) in
@@ -76,10 +76,10 @@ time_more q start count tick turn course laid ends =
 
 -- the time in a window that is over
 pub time_stays : (q start count tick : ℕ) (turn : Option Job) (course : Course) → start + count ≤ tick
-    → time_in q (slots_so_far (after_tick tick turn course)) start count ≡ time_in q (slots_so_far course) start count
+    → time_in q (slots_so_far (course_after_tick tick turn course)) start count ≡ time_in q (slots_so_far course) start count
 unfolding time_in
 time_stays q start count tick turn course ends =
-    ticks_where_same (runs_in q (slots_so_far (after_tick tick turn course))) (runs_in q (slots_so_far course)) start count
+    ticks_where_same (runs_in q (slots_so_far (course_after_tick tick turn course))) (runs_in q (slots_so_far course)) start count
     (λ t from below. runs_before q tick t turn course (omega arith))
 
 -- the time that a requirement had of the window of a tick
@@ -89,10 +89,10 @@ had tick slots r = time_in r.part slots (window_start tick r.period) (tick - win
 -- in a window that goes on
 pub had_goes_on : (tick : ℕ) (turn : Option Job) (course : Course) (r : Requirement) → 0 < r.period → Laid 0 tick (slots_so_far course)
     → tick + 1 < window_start tick r.period + r.period
-    → had (tick + 1) (slots_so_far (after_tick tick turn course)) r ≡ had tick (slots_so_far course) r + cond (is_turn turn r.part) 1 0
+    → had (tick + 1) (slots_so_far (course_after_tick tick turn course)) r ≡ had tick (slots_so_far course) r + cond (is_turn turn r.part) 1 0
 had_goes_on tick turn course r some laid goes =
     let start = window_start tick r.period in
-    let new = slots_so_far (after_tick tick turn course) in
+    let new = slots_so_far (course_after_tick tick turn course) in
     let holds = window_holds tick r.period some in
     let begun : start ≤ tick = holds.begun in
     let more : tick + 1 - start ≡ tick - start + 1 = omega arith in
@@ -110,10 +110,10 @@ had_begins tick slots r some ends =
 -- in a window that ends
 pub had_ends : (tick : ℕ) (turn : Option Job) (course : Course) (r : Requirement) → 0 < r.period → Laid 0 tick (slots_so_far course)
     → window_start tick r.period + r.period ≡ tick + 1
-    → time_in r.part (slots_so_far (after_tick tick turn course)) (window_start tick r.period) r.period ≡ had tick (slots_so_far course) r + cond (is_turn turn r.part) 1 0
+    → time_in r.part (slots_so_far (course_after_tick tick turn course)) (window_start tick r.period) r.period ≡ had tick (slots_so_far course) r + cond (is_turn turn r.part) 1 0
 had_ends tick turn course r some laid ends =
     let start = window_start tick r.period in
-    let new = slots_so_far (after_tick tick turn course) in
+    let new = slots_so_far (course_after_tick tick turn course) in
     let holds = window_holds tick r.period some in
     let begun : start ≤ tick = holds.begun in
     let whole : r.period ≡ tick - start + 1 = omega arith in
@@ -149,10 +149,10 @@ next_numbers tick turn r left end b is =
 -- the job of a window that goes on
 job_goes_on : (tick : ℕ) (turn : Option Job) (course : Course) (r : Requirement) → 0 < r.period → Laid 0 tick (slots_so_far course)
     → tick + 1 < window_start tick r.period + r.period
-    → job_at (tick + 1) (slots_so_far (after_tick tick turn course)) r
+    → job_at (tick + 1) (slots_so_far (course_after_tick tick turn course)) r
     ≡ numbered r (r.duration - had tick (slots_so_far course) r - cond (is_turn turn r.part) 1 0) (window_start tick r.period + r.period)
 job_goes_on tick turn course r some laid goes =
-    let new = slots_so_far (after_tick tick turn course) in
+    let new = slots_so_far (course_after_tick tick turn course) in
     job_numbers (tick + 1) new r
     ∙ ap (λ (start : ℕ). numbered r (r.duration - had (tick + 1) new r) (start + r.period)) (window_same tick r.period some goes)
     ∙ ap (λ (time : ℕ). numbered r (r.duration - time) (window_start tick r.period + r.period)) (had_goes_on tick turn course r some laid goes)
@@ -170,17 +170,17 @@ job_begins tick slots r some ends =
 
 -- the job of the next tick is what the tick leaves of it
 pub job_next : (tick : ℕ) (turn : Option Job) (course : Course) (r : Requirement) → 0 < r.period → Laid 0 tick (slots_so_far course)
-    → job_at (tick + 1) (slots_so_far (after_tick tick turn course)) r ≡ next_job tick turn (job_at tick (slots_so_far course) r)
+    → job_at (tick + 1) (slots_so_far (course_after_tick tick turn course)) r ≡ next_job tick turn (job_at tick (slots_so_far course) r)
 job_next tick turn course r some laid =
     at (window_start tick r.period + r.period == tick + 1) refl
     ∙ sym (ap (λ (job : Job). next_job tick turn job) (job_numbers tick (slots_so_far course) r))
   where
     at : (b : Bool) → (window_start tick r.period + r.period == tick + 1) ≡ b
-        → job_at (tick + 1) (slots_so_far (after_tick tick turn course)) r
+        → job_at (tick + 1) (slots_so_far (course_after_tick tick turn course)) r
         ≡ next_job tick turn (numbered r (r.duration - had tick (slots_so_far course) r) (window_start tick r.period + r.period))
     at true is =
         let ends : window_start tick r.period + r.period ≡ tick + 1 = grind (arith, nat_tests) in
-        job_begins tick (slots_so_far (after_tick tick turn course)) r some ends ∙ sym (next_numbers tick turn r (r.duration - had tick (slots_so_far course) r) (window_start tick r.period + r.period) true is)
+        job_begins tick (slots_so_far (course_after_tick tick turn course)) r some ends ∙ sym (next_numbers tick turn r (r.duration - had tick (slots_so_far course) r) (window_start tick r.period + r.period) true is)
     at false is =
         let holds = window_holds tick r.period some in
         let inside : tick < window_start tick r.period + r.period = holds.inside in
@@ -189,14 +189,14 @@ job_next tick turn course r some laid =
 
 -- the jobs of the next tick are what the tick leaves of them
 pub jobs_next : (tick low : ℕ) (turn : Option Job) (course : Course) (rs : List Requirement) → ArePossible low rs → Laid 0 tick (slots_so_far course)
-    → jobs_at rs (tick + 1) (after_tick tick turn course) ≡ map (next_job tick turn) (jobs_at rs tick course)
+    → jobs_at rs (tick + 1) (course_after_tick tick turn course) ≡ map (next_job tick turn) (jobs_at rs tick course)
 jobs_next tick low turn course [] possible laid = refl
 jobs_next tick low turn course (r ∷ rest) possible laid =
-    let rest_next : jobs_at rest (tick + 1) (after_tick tick turn course) ≡ map (next_job tick turn) (jobs_at rest tick course) =
+    let rest_next : jobs_at rest (tick + 1) (course_after_tick tick turn course) ≡ map (next_job tick turn) (jobs_at rest tick course) =
     jobs_next tick (r.part + 1) turn course rest possible.2 laid in
     let some : 0 < r.duration = possible.1.some in
     let inside : r.duration ≤ r.period = possible.1.inside in
-    let here : job_at (tick + 1) (slots_so_far (after_tick tick turn course)) r ≡ next_job tick turn (job_at tick (slots_so_far course) r) =
+    let here : job_at (tick + 1) (slots_so_far (course_after_tick tick turn course)) r ≡ next_job tick turn (job_at tick (slots_so_far course) r) =
     job_next tick turn course r (omega arith) laid in
     rw (here, rest_next) refl
 

@@ -7,7 +7,7 @@ use Rattle.xm_conf.specs.Fits.{InFrame, InTurn, IsTime}
 use Rattle.xm_conf.specs.Rules.{longest}
 use Rattle.xm_conf.specs.declared.plan.Slot.{Slot}
 use Rattle.plan_maker.specs.Needed.{ArePossible, common_period, demand, longest_common}
-use Rattle.plan_maker.specs.Planned.{Answers, AreNeverMet, IsHopeless, IsMet, IsRefused, IsServed, KeepsRules, frame_slots, most_slots, need_of, plan_in, plan_over, plan_with, planned}
+use Rattle.plan_maker.specs.Planned.{GivesPlan, AreNeverMet, IsHopeless, IsMet, IsPlanRefused, IsRequirementServed, KeepsRules, frame_slots, most_slots, need_of, plan_in, plan_over, plan_with, planned}
 use Rattle.plan_maker.specs.Served.{window_time}
 use Rattle.plan_maker.specs.declared.fault.PlanFault.{PlanFault}
 use Rattle.plan_maker.specs.declared.fault.PlanFault.TheVariants.{NoNeed, Period, Overload, Slots, Memory}
@@ -85,54 +85,54 @@ made_rules rs plan possible made =
     }
 
 -- the plan that is made serves each requirement
-pub made_served : (rs : List Requirement) (plan : Plan) → ArePossible 0 rs → IsMade rs plan → All (IsServed plan) rs
+pub made_served : (rs : List Requirement) (plan : Plan) → ArePossible 0 rs → IsMade rs plan → All (IsRequirementServed plan) rs
 unfolding frame_slots
 made_served rs plan possible made =
     let common = made_common rs plan possible made in
-    all_from_each (IsServed plan) rs
-    (each_both (IsWhole plan.frame) (HasWindows rs plan.frame) (IsServed plan) rs served common.whole (each_window 0 plan.frame rs possible common.some common.whole made.enough))
+    all_from_each (IsRequirementServed plan) rs
+    (each_both (IsWhole plan.frame) (HasWindows rs plan.frame) (IsRequirementServed plan) rs served common.whole (each_window 0 plan.frame rs possible common.some common.whole made.enough))
   where
-    served : (r : Requirement) → IsWhole plan.frame r → HasWindows rs plan.frame r → IsServed plan r
+    served : (r : Requirement) → IsWhole plan.frame r → HasWindows rs plan.frame r → IsRequirementServed plan r
     served r whole windows = record {
       whole = whole.whole;
       exact = λ window inside. subst (λ (slots : List Slot). window_time r.part slots r.period window ≡ r.duration) (sym made.slots_are) (windows window inside);
     }
 
-refused_with : (rs : List Requirement) (frame : ℕ) (fault : PlanFault) → common_period rs ≡ Ok frame → plan_with frame (frame_slots rs frame) ≡ Err fault → IsRefused rs fault
+refused_with : (rs : List Requirement) (frame : ℕ) (fault : PlanFault) → common_period rs ≡ Ok frame → plan_with frame (frame_slots rs frame) ≡ Err fault → IsPlanRefused rs fault
 refused_with rs frame fault common = at (nat_lt most_slots (length (frame_slots rs frame))) refl
   where
-    at : (b : Bool) → nat_lt most_slots (length (frame_slots rs frame)) ≡ b → cond b (Err (Slots (length (frame_slots rs frame)))) (Ok (frame_plan frame (frame_slots rs frame))) ≡ Err fault → IsRefused rs fault
+    at : (b : Bool) → nat_lt most_slots (length (frame_slots rs frame)) ≡ b → cond b (Err (Slots (length (frame_slots rs frame)))) (Ok (frame_plan frame (frame_slots rs frame))) ≡ Err fault → IsPlanRefused rs fault
     at true many is =
         let same : Slots (length (frame_slots rs frame)) ≡ fault = cc in
         let more : most_slots < length (frame_slots rs frame) = grind (arith, nat_tests) in
-        subst (λ (f : PlanFault). IsRefused rs f) same (frame, common, refl, more)
+        subst (λ (f : PlanFault). IsPlanRefused rs f) same (frame, common, refl, more)
     at false few is = absurd (let never : ⊥ = cc in never)
 
-refused_in : (rs : List Requirement) (frame : ℕ) (fault : PlanFault) → common_period rs ≡ Ok frame → plan_in rs frame ≡ Err fault → IsRefused rs fault
+refused_in : (rs : List Requirement) (frame : ℕ) (fault : PlanFault) → common_period rs ≡ Ok frame → plan_in rs frame ≡ Err fault → IsPlanRefused rs fault
 refused_in rs frame fault common = at (nat_lt frame (demand frame rs)) refl
   where
-    at : (b : Bool) → nat_lt frame (demand frame rs) ≡ b → cond b (Err (Overload (demand frame rs) frame)) (plan_with frame (frame_slots rs frame)) ≡ Err fault → IsRefused rs fault
+    at : (b : Bool) → nat_lt frame (demand frame rs) ≡ b → cond b (Err (Overload (demand frame rs) frame)) (plan_with frame (frame_slots rs frame)) ≡ Err fault → IsPlanRefused rs fault
     at true much is =
         let same : Overload (demand frame rs) frame ≡ fault = cc in
         let more : frame < demand frame rs = grind (arith, nat_tests) in
-        subst (λ (f : PlanFault). IsRefused rs f) same (common, refl, more)
+        subst (λ (f : PlanFault). IsPlanRefused rs f) same (common, refl, more)
     at false enough is = refused_with rs frame fault common is
 
-refused_over : (rs : List Requirement) (fault : PlanFault) (period : Result ℕ ℕ) → common_period rs ≡ period → plan_over rs period ≡ Err fault → IsRefused rs fault
+refused_over : (rs : List Requirement) (fault : PlanFault) (period : Result ℕ ℕ) → common_period rs ≡ period → plan_over rs period ≡ Err fault → IsPlanRefused rs fault
 refused_over rs fault (Err part) common is =
     let same : Period part ≡ fault = cc in
-    subst (λ (f : PlanFault). IsRefused rs f) same common
+    subst (λ (f : PlanFault). IsPlanRefused rs f) same common
 refused_over rs fault (Ok frame) common is = refused_in rs frame fault common is
 
 -- each refusal has its cause
-pub planned_refused : (rs : List Requirement) (fault : PlanFault) → planned rs ≡ Err fault → IsRefused rs fault
+pub planned_refused : (rs : List Requirement) (fault : PlanFault) → planned rs ≡ Err fault → IsPlanRefused rs fault
 planned_refused [] fault is =
     let same : NoNeed ≡ fault = cc in
-    subst (λ (f : PlanFault). IsRefused [] f) same refl
+    subst (λ (f : PlanFault). IsPlanRefused [] f) same refl
 planned_refused (first ∷ rest) fault is = refused_over (first ∷ rest) fault (common_period (first ∷ rest)) refl is
 
 -- an answer that is no plan has its cause
-pub answer_refused : (rs : List Requirement) (answer : Result Plan PlanFault) → Answers answer (planned rs) → IfErr answer (IsRefused rs)
+pub answer_refused : (rs : List Requirement) (answer : Result Plan PlanFault) → GivesPlan answer (planned rs) → IfErr answer (IsPlanRefused rs)
 answer_refused rs (Ok plan) is = tt
 answer_refused rs (Err NoNeed) is = planned_refused rs NoNeed is
 answer_refused rs (Err (Period part)) is = planned_refused rs (Period part) is
@@ -141,16 +141,16 @@ answer_refused rs (Err (Slots found)) is = planned_refused rs (Slots found) is
 answer_refused rs (Err Memory) is = tt
 
 -- an answer that is a plan keeps the rules, and serves each requirement
-pub answer_rules : (rs : List Requirement) (answer : Result Plan PlanFault) → ArePossible 0 rs → Answers answer (planned rs) → IfOk answer KeepsRules
+pub answer_rules : (rs : List Requirement) (answer : Result Plan PlanFault) → ArePossible 0 rs → GivesPlan answer (planned rs) → IfOk answer KeepsRules
 answer_rules rs (Ok plan) possible is = made_rules rs plan possible (planned_made rs plan is)
 answer_rules rs (Err fault) possible is = tt
 
-pub answer_served : (rs : List Requirement) (answer : Result Plan PlanFault) → ArePossible 0 rs → Answers answer (planned rs) → IfOk answer (λ plan. All (IsServed plan) rs)
+pub answer_served : (rs : List Requirement) (answer : Result Plan PlanFault) → ArePossible 0 rs → GivesPlan answer (planned rs) → IfOk answer (λ plan. All (IsRequirementServed plan) rs)
 answer_served rs (Ok plan) possible is = made_served rs plan possible (planned_made rs plan is)
 answer_served rs (Err fault) possible is = tt
 
 -- the requirements of an overload are never met
-overload_never : (rs : List Requirement) (demanded frame : ℕ) → ArePossible 0 rs → IsRefused rs (Overload demanded frame) → AreNeverMet rs
+overload_never : (rs : List Requirement) (demanded frame : ℕ) → ArePossible 0 rs → IsPlanRefused rs (Overload demanded frame) → AreNeverMet rs
 unfolding common_period
 overload_never rs demanded frame possible refused = λ plan rules met.
     let common = common_is 1 0 rs frame (omega arith) possible refused.0 in
@@ -160,7 +160,7 @@ overload_never rs demanded frame possible refused = λ plan rules met.
     (each_from_all (λ r. IsMet plan r.part (need_of r)) rs met))
 
 -- an answer that tells of an overload is one of requirements that are never met
-pub answer_hopeless : (rs : List Requirement) (answer : Result Plan PlanFault) → ArePossible 0 rs → Answers answer (planned rs) → IfErr answer (IsHopeless rs)
+pub answer_hopeless : (rs : List Requirement) (answer : Result Plan PlanFault) → ArePossible 0 rs → GivesPlan answer (planned rs) → IfErr answer (IsHopeless rs)
 answer_hopeless rs (Ok plan) possible is = tt
 answer_hopeless rs (Err NoNeed) possible is = tt
 answer_hopeless rs (Err (Period part)) possible is = tt
@@ -183,9 +183,9 @@ pub planned_long : (rs : List Requirement) (part : ℕ) → (length rs == 0) ≡
 planned_long rs part some is = planned_some rs some ∙ ap (λ (period : Result ℕ ℕ). plan_over rs period) (sym is)
 
 -- a common period with its plan
-pub planned_period : (rs : List Requirement) (frame : ℕ) (answer : Result Plan PlanFault) → (length rs == 0) ≡ false → Ok frame ≡ common_period rs → Answers answer (plan_in rs frame) → Answers answer (planned rs)
+pub planned_period : (rs : List Requirement) (frame : ℕ) (answer : Result Plan PlanFault) → (length rs == 0) ≡ false → Ok frame ≡ common_period rs → GivesPlan answer (plan_in rs frame) → GivesPlan answer (planned rs)
 planned_period rs frame answer some is answers =
-    subst (λ (expected : Result Plan PlanFault). Answers answer expected) (ap (λ (period : Result ℕ ℕ). plan_over rs period) is ∙ sym (planned_some rs some)) answers
+    subst (λ (expected : Result Plan PlanFault). GivesPlan answer expected) (ap (λ (period : Result ℕ ℕ). plan_over rs period) is ∙ sym (planned_some rs some)) answers
 
 -- a common period is at most the longest
 pub period_short : (rs : List Requirement) (frame : ℕ) → ArePossible 0 rs → Ok frame ≡ common_period rs → frame ≤ 1000000
@@ -206,7 +206,7 @@ plan_overload rs demanded frame is much =
 
 -- no overload
 pub plan_enough : (rs : List Requirement) (demanded frame : ℕ) (slots : List Slot) (answer : Result Plan PlanFault) → demanded ≡ demand frame rs → demanded ≤ frame → slots ≡ frame_slots rs frame
-    → Answers answer (plan_with frame slots) → Answers answer (plan_in rs frame)
+    → GivesPlan answer (plan_with frame slots) → GivesPlan answer (plan_in rs frame)
 plan_enough rs demanded frame slots answer is enough same answers =
     let less : nat_lt frame (demand frame rs) ≡ false = grind (arith, nat_tests) in
-    rw less (subst (λ (found : List Slot). Answers answer (plan_with frame found)) same answers)
+    rw less (subst (λ (found : List Slot). GivesPlan answer (plan_with frame found)) same answers)

@@ -3,7 +3,7 @@ use Rattle.std.proofs.Common.{◌≡◌, ℕ, zero, suc, ◌+◌, ◌-◌, ◌*�
 use Rattle.std.proofs.lemmas.Bool.Decides.{nat_tests}
 use Rattle.std.proofs.lemmas.Simd.{map-map}
 use Rattle.xm_conf.specs.declared.plan.Slot.{Slot}
-use Rattle.plan_maker.specs.Course.{Course, after_tick, course_of, earliest, job_at, jobs_at, slots_so_far, tick_done, window_start}
+use Rattle.plan_maker.specs.Course.{Course, course_after_tick, course_of, earliest, job_at, jobs_at, slots_so_far, tick_done, window_start}
 use Rattle.plan_maker.specs.Needed.{ArePossible, IsPossible, demand}
 use Rattle.plan_maker.specs.Served.{time_in, window_time}
 use Rattle.plan_maker.specs.Turns.{first_job, renewed}
@@ -33,11 +33,11 @@ pub course_laid : (rs : List Requirement) (tick : ℕ) → Laid 0 tick (slots_at
 course_laid rs zero = let none : 0 ≤ 0 = omega arith in none
 course_laid rs (suc tick) = at (turn_in rs tick) (course_laid rs tick)
   where
-    at : (turn : Option Job) → Laid 0 tick (slots_at rs tick) → Laid 0 (suc tick) (slots_so_far (after_tick tick turn (course_of rs tick)))
+    at : (turn : Option Job) → Laid 0 tick (slots_at rs tick) → Laid 0 (suc tick) (slots_so_far (course_after_tick tick turn (course_of rs tick)))
     at None laid = laid_later 0 tick (suc tick) (slots_at rs tick) laid (omega arith)
     at (Some turn) laid =
         let next : tick + 1 ≡ suc tick = omega arith in
-        subst (λ (end : ℕ). Laid 0 end (slots_so_far (after_tick tick (Some turn) (course_of rs tick)))) next
+        subst (λ (end : ℕ). Laid 0 end (slots_so_far (course_after_tick tick (Some turn) (course_of rs tick)))) next
         (laid_after turn.requirement.part tick 1 (course_of rs tick) (omega arith) laid)
 
 -- requirements of different partitions

@@ -1,7 +1,7 @@
 -- What jobs are after a partition had ticks.
 use Rattle.std.proofs.Common.{◌≡◌, ℕ, zero, suc, ◌+◌, ◌-◌, ◌^◌, ◌<◌, ◌≤◌, ◌==◌, Bool, true, false, cond, min, List, [], ◌∷◌, ◌++◌, length, map, get_or, set, take, drop, ap, sym, ◌∙◌, subst, refl, arith}
 use Rattle.std.proofs.lemmas.Bool.Decides.{nat_tests}
-use Rattle.plan_maker.specs.Turns.{HaveRoom, next_end, spent, spent_first}
+use Rattle.plan_maker.specs.Turns.{HaveWindowRoom, next_end, spent, spent_first}
 use Rattle.plan_maker.specs.declared.jobs.Job.{Job}
 use Rattle.plan_maker.proofs.EachLemmas.{Each, all_from_each, each_from_all}
 use Rattle.plan_maker.proofs.EarliestLemmas.{Rising, spent_end}
@@ -68,7 +68,7 @@ spent_fits part ticks (job ∷ rest) fits = at (job.requirement.part == part) (s
     at false later = (fits.0, later)
 
 -- jobs that spent ticks have room where they had it
-pub spent_room : (part ticks : ℕ) (jobs : List Job) → HaveRoom jobs → HaveRoom (spent_first part ticks jobs)
+pub spent_room : (part ticks : ℕ) (jobs : List Job) → HaveWindowRoom jobs → HaveWindowRoom (spent_first part ticks jobs)
 spent_room part ticks jobs room =
     all_from_each (λ job. job.end + job.requirement.period < 2 ^ 32) (spent_first part ticks jobs)
     (spent_fits part ticks jobs (each_from_all (λ job. job.end + job.requirement.period < 2 ^ 32) jobs room))

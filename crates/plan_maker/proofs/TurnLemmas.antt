@@ -5,10 +5,10 @@ use Rattle.std.specs.Prelude.{IfSome}
 use Rattle.std.proofs.lemmas.Bool.Decides.{nat_tests}
 use Rattle.xm_conf.specs.declared.plan.Slot.{Slot}
 use Rattle.xm_conf.specs.Rules.{longest}
-use Rattle.plan_maker.specs.Course.{Course, after_tick, continues, course_of, earliest, job_at, jobs_at, run_after, run_slot, slots_so_far, tick_done, window_start, with_run}
+use Rattle.plan_maker.specs.Course.{Course, course_after_tick, continues, course_of, earliest, job_at, jobs_at, run_after, run_slot, slots_so_far, tick_done, window_start, with_run}
 use Rattle.plan_maker.specs.Needed.{ArePossible, IsPossible}
 use Rattle.plan_maker.specs.Planned.{frame_slots}
-use Rattle.plan_maker.specs.Turns.{HaveRoom, IsGoing, IsMoment, Moment, begun, come, given, next_end, passed, ran, ran_until, renewed, running, spent, spent_first, due_of, turned}
+use Rattle.plan_maker.specs.Turns.{HaveWindowRoom, IsGoing, IsMoment, Moment, first_moment, come, given, next_end, window_passed, moment_after_run, ran_until, renewed, ticks_running, spent, spent_first, due_of, next_moment}
 use Rattle.plan_maker.specs.declared.jobs.Job.{Job}
 use Rattle.plan_maker.specs.declared.jobs.Requirement.{Requirement}
 use Rattle.plan_maker.specs.declared.jobs.Due.{Due}
@@ -85,13 +85,13 @@ pub record IsAt (rs : List Requirement) (tick : ℕ) (course : Course) (jobs : L
 
 -- one tick
 one_tick : (low : ℕ) (rs : List Requirement) (tick : ℕ) (course : Course) (jobs : List Job) (turn : Option Job) → ArePossible low rs → IsAt rs tick course jobs → earliest jobs ≡ turn
-    → IsAt rs (tick + 1) (after_tick tick turn course) (map (renewed (tick + 1)) (map (spent_by turn) jobs))
+    → IsAt rs (tick + 1) (course_after_tick tick turn course) (map (renewed (tick + 1)) (map (spent_by turn) jobs))
 one_tick low rs tick course jobs turn possible here is = record {
   course_is =
       next
-      ∙ ap (λ (jobs : List Job). after_tick tick (earliest jobs) (course_of rs tick)) here.jobs_are
-      ∙ ap (λ (turn : Option Job). after_tick tick turn (course_of rs tick)) is
-      ∙ ap (λ (course : Course). after_tick tick turn course) here.course_is;
+      ∙ ap (λ (jobs : List Job). course_after_tick tick (earliest jobs) (course_of rs tick)) here.jobs_are
+      ∙ ap (λ (turn : Option Job). course_after_tick tick turn (course_of rs tick)) is
+      ∙ ap (λ (course : Course). course_after_tick tick turn course) here.course_is;
   jobs_are =
       ap (λ (course : Course). jobs_at rs (tick + 1) course) next
       ∙ next_jobs low rs tick possible
@@ -183,13 +183,13 @@ moment_of frame rs tick course jobs end at ends =
 come_tick : (frame tick : ℕ) (moment : Moment) → (come frame tick moment).tick ≡ tick
 come_tick frame tick moment = at (tick == moment.end) refl
   where
-    at : (b : Bool) → (tick == moment.end) ≡ b → (let m : Moment = cond b (passed frame moment) (record moment { tick = tick }) in m).tick ≡ tick
+    at : (b : Bool) → (tick == moment.end) ≡ b → (let m : Moment = cond b (window_passed frame moment) (record moment { tick = tick }) in m).tick ≡ tick
     at true is = grind (arith, nat_tests)
     at false is = refl
 
 -- ticks in which a job runs, up to the next end, lead to a moment of the plan
 ran_moment : (low frame : ℕ) (rs : List Requirement) (moment : Moment) (part ticks : ℕ) → Rising low moment.jobs → moment.end ≡ next_end frame moment.jobs → moment.tick + ticks ≤ moment.end
-    → RanTo rs moment.tick moment.course moment.jobs part ticks → IsMoment frame rs (ran frame part ticks moment)
+    → RanTo rs moment.tick moment.course moment.jobs part ticks → IsMoment frame rs (moment_after_run frame part ticks moment)
 ran_moment low frame rs moment part ticks rising ends inside ran_to = at (moment.tick + ticks == moment.end) refl
   where
     course : Course
@@ -207,7 +207,7 @@ ran_moment low frame rs moment part ticks rising ends inside ran_to = at (moment
         (each_then (λ job. moment.end ≤ job.end) (λ job. moment.tick + ticks < (spent part ticks job).end) moment.jobs (λ job b. rw (spent_end part ticks job) (omega arith)) before)
 
     at : (b : Bool) → (moment.tick + ticks == moment.end) ≡ b
-        → IsMoment frame rs (cond b (passed frame (given part ticks moment)) (record { tick = moment.tick + ticks; jobs = spent_first part ticks moment.jobs; course = course; end = moment.end }))
+        → IsMoment frame rs (cond b (window_passed frame (given part ticks moment)) (record { tick = moment.tick + ticks; jobs = spent_first part ticks moment.jobs; course = course; end = moment.end }))
     at true is =
         let number : moment.tick + ticks ≡ moment.end = grind (arith, nat_tests) in
         let there : IsAt rs moment.end course (map (renewed moment.end) (map (spent part ticks) moment.jobs)) =
@@ -226,8 +226,8 @@ ran_moment low frame rs moment part ticks rising ends inside ran_to = at (moment
         moment_of frame rs (moment.tick + ticks) course (spent_first part ticks moment.jobs) moment.end own end
 
 -- a turn leads to a later moment of the plan
-pub turned_next : (low frame : ℕ) (rs : List Requirement) (moment : Moment) → ArePossible low rs → IsMoment frame rs moment → moment.tick < frame → IsNext rs frame moment (turned frame moment)
-unfolding turned
+pub turned_next : (low frame : ℕ) (rs : List Requirement) (moment : Moment) → ArePossible low rs → IsMoment frame rs moment → moment.tick < frame → IsNext rs frame moment (next_moment frame moment)
+unfolding next_moment
 turned_next low frame rs moment possible is before =
     subst (λ (turn : Option Due). IsNext rs frame moment (ran_until frame turn moment)) (sym (first_is moment.jobs)) (at (earliest moment.jobs) refl)
   where
@@ -249,7 +249,7 @@ turned_next low frame rs moment possible is before =
     ends : Each (λ job. moment.end ≤ job.end) moment.jobs
     ends = rw is.ends (end_before frame moment.jobs)
 
-    passes : earliest moment.jobs ≡ None → IsNext rs frame moment (passed frame moment)
+    passes : earliest moment.jobs ≡ None → IsNext rs frame moment (window_passed frame moment)
     passes none =
         let number : moment.tick + (moment.end - moment.tick) ≡ moment.end = omega (arith, later) in
         let idle = idle_ticks low rs moment.tick (moment.end - moment.tick) moment.course moment.jobs possible here none ahead
@@ -262,13 +262,13 @@ turned_next low frame rs moment possible is before =
         }
 
     runs : (count : ℕ) (turn : Job) → suc count ≤ turn.left → moment.tick + suc count ≤ moment.end → earliest moment.jobs ≡ Some turn
-        → IsNext rs frame moment (ran frame turn.requirement.part (suc count) moment)
+        → IsNext rs frame moment (moment_after_run frame turn.requirement.part (suc count) moment)
     runs count turn enough within first =
         let part = turn.requirement.part in
         let ran_to : RanTo rs moment.tick moment.course moment.jobs part (suc count) =
         run_ticks low rs moment.tick count moment.course moment.jobs turn possible here first (one_alone low moment.jobs turn rising (earliest_one moment.jobs turn first)) enough
         (each_then (λ job. moment.end ≤ job.end) (λ job. moment.tick + suc count ≤ job.end) moment.jobs (λ job e. omega arith) ends) in
-        let tick : (ran frame part (suc count) moment).tick ≡ moment.tick + suc count = come_tick frame (moment.tick + suc count) (given part (suc count) moment) in
+        let tick : (moment_after_run frame part (suc count) moment).tick ≡ moment.tick + suc count = come_tick frame (moment.tick + suc count) (given part (suc count) moment) in
         record {
           moment = ran_moment low frame rs moment part (suc count) rising is.ends within ran_to;
           later = subst (λ (n : ℕ). moment.tick < n) (sym tick) (omega arith);
@@ -276,7 +276,7 @@ turned_next low frame rs moment possible is before =
         }
 
     runs_for : (ticks : ℕ) (turn : Job) → 0 < ticks → ticks ≤ turn.left → moment.tick + ticks ≤ moment.end → earliest moment.jobs ≡ Some turn
-        → IsNext rs frame moment (ran frame turn.requirement.part ticks moment)
+        → IsNext rs frame moment (moment_after_run frame turn.requirement.part ticks moment)
     runs_for zero turn some enough within first = absurd (omega arith)
     runs_for (suc count) turn some enough within first = runs count turn enough within first
 
@@ -284,10 +284,10 @@ turned_next low frame rs moment possible is before =
     at None none = passes none
     at (Some turn) first =
         let wants : 0 < turn.left = earliest_wants moment.jobs turn first in
-        runs_for (running moment.end moment.tick (due_of turn)) turn (omega (arith, later)) (omega arith) (omega (arith, later)) first
+        runs_for (ticks_running moment.end moment.tick (due_of turn)) turn (omega (arith, later)) (omega arith) (omega (arith, later)) first
 
 -- the first moment
-pub begun_moment : (frame : ℕ) (rs : List Requirement) → IsMoment frame rs (begun frame rs)
+pub begun_moment : (frame : ℕ) (rs : List Requirement) → IsMoment frame rs (first_moment frame rs)
 begun_moment frame rs = record { course = refl; jobs = sym (jobs_first rs); ends = refl }
 
 -- the last slot has room for more ticks
@@ -305,7 +305,7 @@ moment_going low frame rs moment possible is short before = record {
   before = rw is.ends (end_after moment.tick frame moment.jobs before
       (rw is.jobs (each_then (IsAhead moment.tick) (λ job. moment.tick < job.end) (jobs_at rs moment.tick moment.course) (λ job a. a.end) (jobs_ahead moment.tick moment.course rs (each_possible low rs possible)))));
   room = record {
-    ends = subst (λ (jobs : List Job). HaveRoom jobs) (sym is.jobs) (all_from_each (λ job. job.end + job.requirement.period < 2 ^ 32) (jobs_at rs moment.tick moment.course)
+    ends = subst (λ (jobs : List Job). HaveWindowRoom jobs) (sym is.jobs) (all_from_each (λ job. job.end + job.requirement.period < 2 ^ 32) (jobs_at rs moment.tick moment.course)
         (each_image (λ job. job.end + job.requirement.period < 2 ^ 32) (job_at moment.tick (slots_so_far moment.course)) rs
         (each_then IsPossible (λ r. (job_at moment.tick (slots_so_far moment.course) r).end + (job_at moment.tick (slots_so_far moment.course) r).requirement.period < 2 ^ 32) rs fits (each_possible low rs possible))));
     last = subst (λ (course : Course). IfSome course.last (λ slot. slot.start + slot.duration ≤ moment.tick)) (sym is.course) (last_ends moment.tick (course_of rs moment.tick) (course_laid rs moment.tick));

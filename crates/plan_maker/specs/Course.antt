@@ -67,13 +67,13 @@ abbrev pub jobs_at : List Requirement → ℕ → Course → List Job
 jobs_at requirements tick course = map (job_at tick (slots_so_far course)) requirements
 
 -- the course after a tick in which a job runs, or none
-abbrev pub after_tick : ℕ → Option Job → Course → Course
-after_tick tick None course = course
-after_tick tick (Some job) course = with_run job.requirement.part tick 1 course
+abbrev pub course_after_tick : ℕ → Option Job → Course → Course
+course_after_tick tick None course = course
+course_after_tick tick (Some job) course = with_run job.requirement.part tick 1 course
 
 -- the course after a tick
 abbrev pub tick_done : List Requirement → ℕ → Course → Course
-tick_done requirements tick course = after_tick tick (earliest (jobs_at requirements tick course)) course
+tick_done requirements tick course = course_after_tick tick (earliest (jobs_at requirements tick course)) course
 
 -- the course after so many ticks
 abbrev pub course_of : List Requirement → ℕ → Course

@@ -1,6 +1,6 @@
 -- What the partitions of a configuration require, the period that is common to all, and what they demand of it.
 use Rattle.std.specs.Prelude.{ℕ, zero, suc, ◌+◌, ◌-◌, ◌*◌, ◌/◌, ◌%◌, ◌==◌, ◌<◌, ◌≤◌, ⊤, if◌then◌else◌, nat_lt, min, max, List, [], ◌∷◌, sum_by, Option, Some, None, Result, Ok, Err}
-use Rattle.xm_conf.specs.Along.{each}
+use Rattle.xm_conf.specs.Along.{added_by_each}
 use Rattle.xm_conf.specs.Configuration.{Conf, Part}
 use Rattle.xm_conf.specs.Rules.{longest}
 use Rattle.xm_conf.specs.declared.part.Need.{Need}
@@ -21,7 +21,7 @@ required_by number part = required number part.need
 
 -- the requirements of all partitions that have one, in the order of their numbers
 unfoldable pub requirements : Conf → List Requirement
-requirements conf = each required_by conf.parts
+requirements conf = added_by_each required_by conf.parts
 
 -- the first of these numbers that another one divides: one, and so many that follow it step by step; or else the last
 abbrev pub first_divided : ℕ → ℕ → ℕ → ℕ → ℕ

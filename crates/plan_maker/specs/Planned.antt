@@ -44,23 +44,23 @@ planned [] = Err NoNeed
 planned (first ∷ rest) = plan_over (first ∷ rest) (common_period (first ∷ rest))
 
 -- why no plan is made
-abbrev pub IsRefused : List Requirement → PlanFault → Type 0
-IsRefused requirements NoNeed = requirements ≡ []
-IsRefused requirements (Period part) = common_period requirements ≡ Err part
-IsRefused requirements (Overload demanded frame) =
+abbrev pub IsPlanRefused : List Requirement → PlanFault → Type 0
+IsPlanRefused requirements NoNeed = requirements ≡ []
+IsPlanRefused requirements (Period part) = common_period requirements ≡ Err part
+IsPlanRefused requirements (Overload demanded frame) =
     (common_period requirements ≡ Ok frame) × (demanded ≡ demand frame requirements) × (frame < demanded)
-IsRefused requirements (Slots found) =
+IsPlanRefused requirements (Slots found) =
     (frame : ℕ) × (common_period requirements ≡ Ok frame) × (found ≡ length (frame_slots requirements frame)) × (most_slots < found)
-IsRefused requirements Memory = ⊤
+IsPlanRefused requirements Memory = ⊤
 
 -- the answer is the plan or the refusal, unless memory ran out
-abbrev pub Answers : Result Plan PlanFault → Result Plan PlanFault → Type 0
-Answers (Ok plan) expected = expected ≡ Ok plan
-Answers (Err NoNeed) expected = expected ≡ Err NoNeed
-Answers (Err (Period part)) expected = expected ≡ Err (Period part)
-Answers (Err (Overload demanded frame)) expected = expected ≡ Err (Overload demanded frame)
-Answers (Err (Slots found)) expected = expected ≡ Err (Slots found)
-Answers (Err Memory) expected = ⊤
+abbrev pub GivesPlan : Result Plan PlanFault → Result Plan PlanFault → Type 0
+GivesPlan (Ok plan) expected = expected ≡ Ok plan
+GivesPlan (Err NoNeed) expected = expected ≡ Err NoNeed
+GivesPlan (Err (Period part)) expected = expected ≡ Err (Period part)
+GivesPlan (Err (Overload demanded frame)) expected = expected ≡ Err (Overload demanded frame)
+GivesPlan (Err (Slots found)) expected = expected ≡ Err (Slots found)
+GivesPlan (Err Memory) expected = ⊤
 
 -- a plan keeps the rules on its frame and its slots
 pub record KeepsRules (plan : Plan) : Type 0 where
@@ -70,7 +70,7 @@ pub record KeepsRules (plan : Plan) : Type 0 where
   pub few : length plan.slots ≤ most_slots
 
 -- in each window of a requirement its partition has exactly its duration, and the frame is whole windows
-pub record IsServed (plan : Plan) (requirement : Requirement) : Type 0 where
+pub record IsRequirementServed (plan : Plan) (requirement : Requirement) : Type 0 where
   pub whole : plan.frame % requirement.period ≡ 0
   pub exact : (window : ℕ) → (window + 1) * requirement.period ≤ plan.frame
       → window_time requirement.part plan.slots requirement.period window ≡ requirement.duration

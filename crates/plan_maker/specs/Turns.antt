@@ -34,8 +34,8 @@ sooner_due None job = if nat_lt 0 job.left then Some (due_of job) else None
 sooner_due (Some best) job = if nat_lt 0 job.left && nat_lt job.end best.end then Some (due_of job) else Some best
 
 -- what is due to the job that goes first, where one has ticks to get
-unfoldable pub first_due : List Job → Option Due
-first_due jobs = fold sooner_due None jobs
+unfoldable pub job_due_first : List Job → Option Due
+job_due_first jobs = fold sooner_due None jobs
 
 -- the tick at which the next window ends, or the frame
 abbrev pub next_end : ℕ → List Job → ℕ
@@ -46,13 +46,13 @@ abbrev pub first_job : Requirement → Job
 first_job requirement = record { requirement = requirement; left = requirement.duration; end = requirement.period }
 
 -- the first tick
-abbrev pub begun : ℕ → List Requirement → Moment
-begun frame requirements =
+abbrev pub first_moment : ℕ → List Requirement → Moment
+first_moment frame requirements =
     record { tick = 0; jobs = map first_job requirements; course = at_rest; end = next_end frame (map first_job requirements) }
 
 -- a moment in the tick at which the next window ends
-abbrev pub passed : ℕ → Moment → Moment
-passed frame moment = record {
+abbrev pub window_passed : ℕ → Moment → Moment
+window_passed frame moment = record {
   tick = moment.end;
   jobs = map (renewed moment.end) moment.jobs;
   course = moment.course;
@@ -61,7 +61,7 @@ passed frame moment = record {
 
 -- a moment in a later tick, up to the one at which the next window ends
 abbrev pub come : ℕ → ℕ → Moment → Moment
-come frame tick moment = if tick == moment.end then passed frame moment else record moment { tick = tick }
+come frame tick moment = if tick == moment.end then window_passed frame moment else record moment { tick = tick }
 
 -- jobs of which the first one of a partition had so many ticks
 abbrev pub spent_first : ℕ → ℕ → List Job → List Job
@@ -79,21 +79,21 @@ given part ticks moment = record {
 }
 
 -- a moment after a partition ran for so many ticks
-abbrev pub ran : ℕ → ℕ → ℕ → Moment → Moment
-ran frame part ticks moment = come frame (moment.tick + ticks) (given part ticks moment)
+abbrev pub moment_after_run : ℕ → ℕ → ℕ → Moment → Moment
+moment_after_run frame part ticks moment = come frame (moment.tick + ticks) (given part ticks moment)
 
 -- the ticks for which a job runs until an end: all that it has left, or those up to the end
-abbrev pub running : ℕ → ℕ → Due → ℕ
-running end tick due = min due.left (end - tick)
+abbrev pub ticks_running : ℕ → ℕ → Due → ℕ
+ticks_running end tick due = min due.left (end - tick)
 
 -- a moment after a job ran until the next window ends, or none
 abbrev pub ran_until : ℕ → Option Due → Moment → Moment
-ran_until frame None moment = passed frame moment
-ran_until frame (Some due) moment = ran frame due.part (running moment.end moment.tick due) moment
+ran_until frame None moment = window_passed frame moment
+ran_until frame (Some due) moment = moment_after_run frame due.part (ticks_running moment.end moment.tick due) moment
 
 -- the next moment in which something changes
-unfoldable pub turned : ℕ → Moment → Moment
-turned frame moment = ran_until frame (first_due moment.jobs) moment
+unfoldable pub next_moment : ℕ → Moment → Moment
+next_moment frame moment = ran_until frame (job_due_first moment.jobs) moment
 
 -- a moment of the plan of requirements: the jobs, the slots and the next end are those of its tick
 pub record IsMoment (frame : ℕ) (requirements : List Requirement) (moment : Moment) : Type 0 where
@@ -102,15 +102,15 @@ pub record IsMoment (frame : ℕ) (requirements : List Requirement) (moment : Mo
   pub ends : moment.end ≡ next_end frame moment.jobs
 
 -- the next windows of jobs end below the greatest number
-abbrev pub HaveRoom : List Job → Type 0
-HaveRoom jobs = All (λ job. job.end + job.requirement.period < 2 ^ 32) jobs
+abbrev pub HaveWindowRoom : List Job → Type 0
+HaveWindowRoom jobs = All (λ job. job.end + job.requirement.period < 2 ^ 32) jobs
 
 -- the numbers of a moment have room: the next windows end below the greatest number, and the last slot by the tick
-pub record HasRoom (moment : Moment) : Type 0 where
-  pub ends : HaveRoom moment.jobs
+pub record HasMomentRoom (moment : Moment) : Type 0 where
+  pub ends : HaveWindowRoom moment.jobs
   pub last : IfSome moment.course.last (λ slot. slot.start + slot.duration ≤ moment.tick)
 
 -- a moment before the end of a frame
 pub record IsGoing (moment : Moment) : Type 0 where
   pub before : moment.tick < moment.end
-  pub room : HasRoom moment
+  pub room : HasMomentRoom moment

@@ -1,11 +1,11 @@
 //! The plan that is made from the requirements of a configuration.
 
 ghost use Rattle.std.specs.Prelude.{◌≡◌, ◌+◌, ◌++◌, ◌<◌, ◌≤◌, All, IfErr, IfOk, Ok, length, vec_capacity, vec_len};
-ghost use Rattle.xm_conf.specs.Along.{each};
+ghost use Rattle.xm_conf.specs.Along.{added_by_each};
 ghost use Rattle.xm_conf.specs.Description.{described};
 ghost use Rattle.xm_conf.specs.Fits.{Fits};
 ghost use Rattle.plan_maker.specs.Needed.{ArePossible, common_period, required, required_by, requirements};
-ghost use Rattle.plan_maker.specs.Planned.{Answers, IsHopeless, IsRefused, IsServed, KeepsRules, frame_slots, plan_in, plan_with, planned};
+ghost use Rattle.plan_maker.specs.Planned.{GivesPlan, IsHopeless, IsPlanRefused, IsRequirementServed, KeepsRules, frame_slots, plan_in, plan_with, planned};
 
 use crate::fault::PlanFault;
 use crate::jobs::Requirement;
@@ -22,18 +22,18 @@ const MOST_SLOTS: u32 = 64;
 /// period ends first, of those that have not had their duration yet; of two whose periods end together, the one with the
 /// lower number. The frame is the least common multiple of the periods, in microseconds.
 pub fn make(alloc: Global, conf: &Conf) -> Result<Plan, PlanFault>
-    ensures answer { Answers result (planned (requirements conf.now)) }
-    ensures refused { IfErr result (IsRefused (requirements conf.now)) }
+    ensures answer { GivesPlan result (planned (requirements conf.now)) }
+    ensures refused { IfErr result (IsPlanRefused (requirements conf.now)) }
     ensures hopeless { IfErr result (IsHopeless (requirements conf.now)) }
     ensures rules { IfOk result KeepsRules }
-    ensures served { IfOk result (λ plan. All (IsServed plan) (requirements conf.now)) }
+    ensures served { IfOk result (λ plan. All (IsRequirementServed plan) (requirements conf.now)) }
 {
     made(alloc, conf)
 }
 
 /// The plan of a configuration.
 fn made(alloc: Global, conf: &Conf) -> Result<Plan, PlanFault>
-    ensures answer { Answers result (planned (requirements conf.now)) }
+    ensures answer { GivesPlan result (planned (requirements conf.now)) }
     ensures possible { ArePossible 0 (requirements conf.now) }
 {
     match requirements(alloc, conf) {
@@ -47,7 +47,7 @@ fn made(alloc: Global, conf: &Conf) -> Result<Plan, PlanFault>
 fn planned(alloc: Global, requirements: &[Requirement]) -> Result<Plan, PlanFault>
     requires possible { ArePossible 0 requirements.now }
     requires few { length requirements.now ≤ 16 }
-    ensures { Answers result (planned requirements.now) }
+    ensures { GivesPlan result (planned requirements.now) }
 {
     if requirements.is_empty() {
         return Err(PlanFault::NoNeed);
@@ -64,7 +64,7 @@ fn plan_in(alloc: Global, requirements: &[Requirement], frame: u32) -> Result<Pl
     requires possible { ArePossible 0 requirements.now }
     requires few { length requirements.now ≤ 16 }
     requires short { frame ≤ 1000000 }
-    ensures { Answers result (plan_in requirements.now frame) }
+    ensures { GivesPlan result (plan_in requirements.now frame) }
 {
     let needed = demand(frame, requirements);
     if needed > frame {
@@ -83,7 +83,7 @@ fn plan_in(alloc: Global, requirements: &[Requirement], frame: u32) -> Result<Pl
 #[tactic(auto, unfolding(crate::specs::Planned::most_slots))]
 fn plan_with(frame: u32, slots: Vec<Slot>) -> Result<Plan, PlanFault>
     requires { length slots.items ≤ 1000000 }
-    ensures { Answers result (plan_with frame slots.items) }
+    ensures { GivesPlan result (plan_with frame slots.items) }
 {
     let found = count(&slots);
     if found > MOST_SLOTS {
@@ -136,7 +136,7 @@ fn parts_of(conf: &Conf) -> &[Part]
 /// The requirements of those of the partitions that have one.
 fn required_of(alloc: Global, parts: &[Part]) -> Result<Vec<Requirement>, Memory>
     requires { length parts.now ≤ 16 }
-    ensures { IfOk result (λ found. found.items ≡ each required_by parts.now) }
+    ensures { IfOk result (λ found. found.items ≡ added_by_each required_by parts.now) }
 {
     let mut found = Vec::with_capacity(alloc, parts.len())?;
     for (number, part) in parts.iter().enumerate() {

@@ -1,7 +1,7 @@
 //! A plan that is being made, from one change to the next.
 
 ghost use Rattle.std.specs.Prelude.{◌≡◌, ◌+◌, ◌^◌, ◌<◌, ◌≤◌, IfOk, IfSome, OnOk, map};
-ghost use Rattle.plan_maker.specs.Turns.{HasRoom, HaveRoom, IsGoing, begun, come, first_job, given, passed, ran, running, turned};
+ghost use Rattle.plan_maker.specs.Turns.{HasMomentRoom, HaveWindowRoom, IsGoing, first_moment, come, first_job, given, window_passed, moment_after_run, ticks_running, next_moment};
 
 use crate::course::Course;
 use crate::jobs::{Due, Job, Requirement, first_due, next_end, renew, spend};
@@ -34,7 +34,7 @@ impl Moment {
         frame: u32,
         requirements: &[Requirement],
     ) -> Result<Moment, Memory>
-        ensures { IfOk result (λ moment. moment ≡ begun frame requirements.now) }
+        ensures { IfOk result (λ moment. moment ≡ first_moment frame requirements.now) }
     {
         let jobs = first_jobs(alloc, requirements)?;
         let end = next_end(frame, &jobs);
@@ -67,10 +67,10 @@ impl Moment {
     }
 
     /// Goes on to the next change: a job has had its ticks, or a window or the frame ends.
-    #[tactic(auto, unfolding(crate::specs::Turns::turned))]
+    #[tactic(auto, unfolding(crate::specs::Turns::next_moment))]
     pub(crate) fn turn(&mut self, frame: u32) -> Result<(), Memory>
         requires { IsGoing self.old }
-        ensures { OnOk result (self.new ≡ turned frame self.old) }
+        ensures { OnOk result (self.new ≡ next_moment frame self.old) }
     {
         match first_due(&self.jobs) {
             None => {
@@ -83,8 +83,8 @@ impl Moment {
 
     /// Nothing runs until the next window or the frame ends, and the windows that end then begin again.
     fn pass(&mut self, frame: u32)
-        requires { HaveRoom self.old.jobs }
-        ensures { self.new ≡ passed frame self.old }
+        requires { HaveWindowRoom self.old.jobs }
+        ensures { self.new ≡ window_passed frame self.old }
     {
         self.tick = self.end;
         renew(&mut self.jobs, self.tick);
@@ -94,9 +94,9 @@ impl Moment {
     /// A job runs until it has had its ticks, or until a window or the frame ends.
     #[tactic(auto, using(crate::proofs::SpentLemmas::spent_room, crate::proofs::TurnLemmas::last_room))]
     fn run(&mut self, frame: u32, due: Due) -> Result<(), Memory>
-        requires room { HasRoom self.old }
+        requires room { HasMomentRoom self.old }
         requires before { self.old.tick ≤ self.old.end }
-        ensures { OnOk result (self.new ≡ ran frame due.part (running self.old.end self.old.tick due) self.old) }
+        ensures { OnOk result (self.new ≡ moment_after_run frame due.part (ticks_running self.old.end self.old.tick due) self.old) }
     {
         let ticks = due.left.min(self.end - self.tick);
         self.give(due.part, ticks)?;
@@ -106,7 +106,7 @@ impl Moment {
 
     /// Goes on to a tick up to the one at which the next window or the frame ends.
     fn come(&mut self, frame: u32, tick: u32)
-        requires { HaveRoom self.old.jobs }
+        requires { HaveWindowRoom self.old.jobs }
         ensures { self.new ≡ come frame tick self.old }
     {
         if tick == self.end {

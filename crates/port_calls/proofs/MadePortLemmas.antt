@@ -14,7 +14,7 @@ use Rattle.xm_conf.specs.declared.port.Kind.TheVariants as kind
 use Rattle.xm_conf.specs.declared.port.Port.{Port}
 use Rattle.xm_conf.specs.declared.port.Way.{Way}
 use Rattle.xm_ports.specs.Channels.{ChannelTable, Content, IsTable, Queuing, content_at, shape_of, shapes_of}
-use Rattle.xm_ports.specs.Ports.{is_kind, is_made}
+use Rattle.xm_ports.specs.Ports.{are_same_kind, is_made}
 use Rattle.machine_model.specs.Caller.{Caller, a_of}
 use Rattle.machine_model.specs.Facts.{PortsHaveKinds}
 use Rattle.machine_model.specs.Lists.{and_then, is_number, table, then_some}
@@ -104,7 +104,7 @@ record IsFound (conf : Conf) (p r : ℕ) (the_kind : Kind) (port : found.MadePor
   same : port ≡ record { way = entry.way; chan = port.chan; kind = chan.kind; length = chan.length }
   its : IsNamed conf p port.chan
 
-same_kind : (a b : Kind) → is_kind a b ≡ true → a ≡ b
+same_kind : (a b : Kind) → are_same_kind a b ≡ true → a ≡ b
 same_kind kind.Sampling kind.Sampling is = refl
 same_kind kind.Sampling kind.Queuing is = absurd cc
 same_kind kind.Queuing kind.Sampling is = absurd cc
@@ -114,7 +114,7 @@ is_found : (conf : Conf) (p r : ℕ) (the_kind : Kind) (port : found.MadePort) �
 unfolding found_in
 is_found conf p r the_kind port is = by_port (slice_get (part_of conf p).ports r) refl is
   where
-    by_chan : (entry : Port) → slice_get (part_of conf p).ports r ≡ Some entry → is_kind entry.kind the_kind ≡ true → (c : ℕ) → channel_of conf p r ≡ Some c
+    by_chan : (entry : Port) → slice_get (part_of conf p).ports r ≡ Some entry → are_same_kind entry.kind the_kind ≡ true → (c : ℕ) → channel_of conf p r ≡ Some c
         → (o : Option Chan) → slice_get conf.chans c ≡ o → found_with entry.way c o ≡ Some port → IsFound conf p r the_kind port
     by_chan entry there of_kind c at None chan_there said = absurd cc
     by_chan entry there of_kind c at (Some chan) chan_there said =
@@ -130,19 +130,19 @@ is_found conf p r the_kind port is = by_port (slice_get (part_of conf p).ports r
           its = name_there conf p c r at (slice_get_within (part_of conf p).ports r entry there);
         })
 
-    by_number : (entry : Port) → slice_get (part_of conf p).ports r ≡ Some entry → is_kind entry.kind the_kind ≡ true
+    by_number : (entry : Port) → slice_get (part_of conf p).ports r ≡ Some entry → are_same_kind entry.kind the_kind ≡ true
         → (o : Option ℕ) → channel_of conf p r ≡ o → found_end conf entry.way o ≡ Some port → IsFound conf p r the_kind port
     by_number entry there of_kind None at said = absurd cc
     by_number entry there of_kind (Some c) at said = by_chan entry there of_kind c at (slice_get conf.chans c) refl said
 
-    by_kind : (entry : Port) → slice_get (part_of conf p).ports r ≡ Some entry → (b : Bool) → is_kind entry.kind the_kind ≡ b
+    by_kind : (entry : Port) → slice_get (part_of conf p).ports r ≡ Some entry → (b : Bool) → are_same_kind entry.kind the_kind ≡ b
         → (if b then found_end conf entry.way (channel_of conf p r) else None) ≡ Some port → IsFound conf p r the_kind port
     by_kind entry there true of_kind said = by_number entry there of_kind (channel_of conf p r) refl said
     by_kind entry there false other said = absurd cc
 
     by_port : (o : Option Port) → slice_get (part_of conf p).ports r ≡ o → found_port conf p r the_kind o ≡ Some port → IsFound conf p r the_kind port
     by_port None none said = absurd cc
-    by_port (Some entry) there said = by_kind entry there (is_kind entry.kind the_kind) refl said
+    by_port (Some entry) there said = by_kind entry there (are_same_kind entry.kind the_kind) refl said
 
 -- a port of a kind, as the caller has it
 pub AtPort : Kind → Caller → ℕ → Option MadePort
@@ -150,12 +150,12 @@ AtPort the_kind caller r = and_then (slice_get caller.view.part.ports r) (λ por
 
 -- it is there, or one of four things is not
 there : (the_kind : Kind) (caller : Caller) (r : ℕ) (entry : Port) (channel : PortChannel) (content : Content) → slice_get caller.view.part.ports r ≡ Some entry
-    → slice_index_or caller.view.channels r None ≡ Some channel → is_kind entry.kind the_kind ≡ true → slice_index_or caller.contents channel.name None ≡ Some content
+    → slice_index_or caller.view.channels r None ≡ Some channel → are_same_kind entry.kind the_kind ≡ true → slice_index_or caller.contents channel.name None ≡ Some content
     → AtPort the_kind caller r ≡ Some (record { way = entry.way; shape = channel.shape; name = channel.name; content = content })
 unfolding AtPort
 there the_kind caller r entry channel content port_there channel_there of_kind held = rw (port_there, channel_there, of_kind, held) refl
 
-other_kind : (the_kind : Kind) (caller : Caller) (entry : Port) (o : Option PortChannel) → is_kind entry.kind the_kind ≡ false → with_channel caller the_kind entry o ≡ None
+other_kind : (the_kind : Kind) (caller : Caller) (entry : Port) (o : Option PortChannel) → are_same_kind entry.kind the_kind ≡ false → with_channel caller the_kind entry o ≡ None
 other_kind the_kind caller entry None of_kind = refl
 other_kind the_kind caller entry (Some channel) of_kind = rw of_kind refl
 
@@ -172,7 +172,7 @@ pub none_found : (sys : SysState) (site : CallSite) (the_kind : Kind) (r : ℕ) 
 unfolding found_in caller_of view_of port_channel AtPort
 none_found sys site the_kind r none = by_port (slice_get (part_of sys.machine.system.conf site.part).ports r) refl none
   where
-    by_kind : (entry : Port) → r < length (part_of sys.machine.system.conf site.part).ports → (b : Bool) → is_kind entry.kind the_kind ≡ b
+    by_kind : (entry : Port) → r < length (part_of sys.machine.system.conf site.part).ports → (b : Bool) → are_same_kind entry.kind the_kind ≡ b
         → (if b then found_end sys.machine.system.conf entry.way (channel_of sys.machine.system.conf site.part r) else None) ≡ None
         → with_channel (caller_of site sys) the_kind entry (slice_index_or (caller_of site sys).view.channels r None) ≡ None
     by_kind entry below true of_kind said =
@@ -183,7 +183,7 @@ none_found sys site the_kind r none = by_port (slice_get (part_of sys.machine.sy
     by_port : (o : Option Port) → slice_get (part_of sys.machine.system.conf site.part).ports r ≡ o → found_port sys.machine.system.conf site.part r the_kind o ≡ None
         → and_then o (λ port. with_channel (caller_of site sys) the_kind port (slice_index_or (caller_of site sys).view.channels r None)) ≡ None
     by_port None is said = refl
-    by_port (Some entry) is said = by_kind entry (slice_get_within (part_of sys.machine.system.conf site.part).ports r entry is) (is_kind entry.kind the_kind) refl said
+    by_port (Some entry) is said = by_kind entry (slice_get_within (part_of sys.machine.system.conf site.part).ports r entry is) (are_same_kind entry.kind the_kind) refl said
 
 -- what the caller has of the channel that it calls q
 copy_at : (sys : SysState) (site : CallSite) (q c : ℕ) → q < length (part_of sys.machine.system.conf site.part).ports → named sys.machine.system.conf site.part q ≡ Some c
@@ -202,7 +202,7 @@ channel_at system p r the_kind port f =
     ∙ ap (λ o. with_name o (name_of system.conf p port.chan)) f.chan_there
     ∙ ap (with_name (Some f.chan)) f.its.is
 
-kind_is_one : (the_kind : Kind) → is_kind the_kind the_kind ≡ true
+kind_is_one : (the_kind : Kind) → are_same_kind the_kind the_kind ≡ true
 kind_is_one kind.Sampling = refl
 kind_is_one kind.Queuing = refl
 
@@ -228,7 +228,7 @@ port_found sys site the_kind r port is below =
     let f = is_found sys.machine.system.conf site.part r the_kind port is in
     there the_kind (caller_of site sys) r f.entry (record { shape = shape_of f.chan; name = f.its.name }) (content_at port.chan (table_in sys)) (ap (λ view. slice_get view.part.ports r) (sym (caller_seen sys site)) ∙ port_seen sys.machine.system site.part r f.entry f.there)
     (ap (λ view. slice_index_or view.channels r None) (sym (caller_seen sys site)) ∙ channel_at sys.machine.system site.part r the_kind port f)
-    (ap (λ one. is_kind one the_kind) f.of_kind ∙ kind_is_one the_kind)
+    (ap (λ one. are_same_kind one the_kind) f.of_kind ∙ kind_is_one the_kind)
     (copy_at sys site f.its.name port.chan f.its.below f.its.called ∙ held_at sys port.chan below)
     ∙ ap Some (sym (ap (port_in site.part sys) f.same ∙ named_so f.entry f.chan f.its.name f.its.is))
   where

@@ -4,7 +4,7 @@ use Rattle.std.specs.Prelude.{◌==◌, ◌||◌, not, nat_lt, slice_get}
 use Rattle.std.proofs.lemmas.Bool.Decides.{nat_tests}
 use Rattle.std.proofs.lemmas.Option.{get_or_from_slice_get, same_Some, slice_get_within}
 use Rattle.guest_bus.specs.Memory.{all_from, is_readable}
-use Rattle.machine_model.specs.Caller.{Caller, Served, Test, answering, b_of, bytes_of, c_of, invalid_parameter, not_allowed, not_available, refused_if, tested, text, with_answer}
+use Rattle.machine_model.specs.Caller.{Caller, Served, Test, answering, b_of, caller_bytes, c_of, invalid_parameter, not_allowed, not_available, refused_if, tested, text, with_answer}
 use Rattle.machine_model.specs.Partition.{areas_of}
 use Rattle.machine_model.specs.PortCalls.{MadePort, is_full, is_source, made_port, on_port, putting, send_queuing_message, size_fits, source_only}
 use Rattle.machine_model.specs.Told.{Unseen}
@@ -100,11 +100,11 @@ put_few site sys the_kind port made passed =
 -- a message that is put
 pub put_served : (site : CallSite) (old mid new : SysState) (port : found.MadePort) → named old.machine.system.conf site.part (port_in site.part old port).name ≡ Some port.chan → MayRead (caller_of site old) (b_of (caller_of site old)) (c_of (caller_of site old))
     → mid ≡ with_machine (with_part site.part (with_answer 0 (caller_of site old).state) old.machine) old
-    → new ≡ with_machine (with_traffic (Puts port.chan (bytes_of (caller_of site old) (b_of (caller_of site old)) (c_of (caller_of site old)))) mid.machine) mid
+    → new ≡ with_machine (with_traffic (Puts port.chan (caller_bytes (caller_of site old) (b_of (caller_of site old)) (c_of (caller_of site old)))) mid.machine) mid
     → IsServed site.part Unseen (putting (caller_of site old) (port_in site.part old port)) (record { note = note.Put port.chan (b_of (caller_of site old)) (c_of (caller_of site old)); act = act.Nothing }) old new
 unfolding with_answer caller_of view_of areas_of
 put_served site old mid new port called readable mid_is new_is =
-    let bytes = bytes_of (caller_of site old) (b_of (caller_of site old)) (c_of (caller_of site old)) in
+    let bytes = caller_bytes (caller_of site old) (b_of (caller_of site old)) (c_of (caller_of site old)) in
     record {
       state = new_is ∙ ap (λ (s : SysState). with_machine (with_traffic (Puts port.chan bytes) s.machine) s) mid_is;
       told = refl;
@@ -170,12 +170,12 @@ send_passed caller port is passed free =
 
 -- the same, as the call's arguments and its buffer are read
 pub put_by : (site : CallSite) (old mid new : SysState) (port : found.MadePort) (at size n : ℕ) (bytes : List ℕ) → named old.machine.system.conf site.part (port_in site.part old port).name ≡ Some port.chan
-    → None ≡ first_refusal (put_tests (caller_of site old) (port_in site.part old port)) → at ≡ b_of (caller_of site old) → size ≡ c_of (caller_of site old) → n ≡ size → bytes ≡ bytes_of (caller_of site old) at n
+    → None ≡ first_refusal (put_tests (caller_of site old) (port_in site.part old port)) → at ≡ b_of (caller_of site old) → size ≡ c_of (caller_of site old) → n ≡ size → bytes ≡ caller_bytes (caller_of site old) at n
     → mid ≡ with_machine (with_part site.part (with_answer 0 (caller_of site old).state) old.machine) old → new ≡ with_machine (with_traffic (Puts port.chan bytes) mid.machine) mid
     → IsServed site.part Unseen (putting (caller_of site old) (port_in site.part old port)) (record { note = note.Put port.chan at size; act = act.Nothing }) old new
 put_by site old mid new port at size n bytes called passed at_is size_is n_is bytes_is mid_is new_is =
     let caller = caller_of site old in
-    let all = bytes_is ∙ ap (bytes_of caller at) (n_is ∙ size_is) ∙ ap (λ b. bytes_of caller b (c_of caller)) at_is in
+    let all = bytes_is ∙ ap (caller_bytes caller at) (n_is ∙ size_is) ∙ ap (λ b. caller_bytes caller b (c_of caller)) at_is in
     rw (at_is, size_is)
     (put_served site old mid new port called (may_put caller (port_in site.part old port) passed).readable mid_is
     (new_is ∙ ap (λ (message : List ℕ). with_machine (with_traffic (Puts port.chan message) mid.machine) mid) all))

@@ -11,7 +11,7 @@ use Rattle.xm_conf.specs.declared.port.Kind.{Kind}
 use Rattle.xm_conf.specs.declared.port.Port.{Port}
 use Rattle.xm_ports.specs.Channels.{Shape, shape_of}
 use Rattle.xm_ports.specs.Ports.{agrees_end, chan_at, created, created_over, granted, is_called, is_way_of, port_with, ports_of, shape_of_port, unless_differs, unless_missing}
-use Rattle.machine_model.specs.Caller.{Caller, a_of, bytes_of}
+use Rattle.machine_model.specs.Caller.{Caller, a_of, caller_bytes}
 use Rattle.machine_model.specs.Partition.{areas_of}
 use Rattle.machine_model.specs.PortCalls.{name_at, name_given, shape_at}
 use Rattle.machine_model.specs.View.{System, name_of, no_part, part_of, view_of, with_its_name, with_name}
@@ -78,10 +78,10 @@ all_readable allowed address most count same all = record {
 }
 
 -- the name that the call gives
-pub name_read : (caller : Caller) (count : ℕ) → AreReadable (is_readable (areas_of caller.view)) (a_of caller) 32 count → name_in (bytes_of caller (a_of caller) count) ≡ name_given caller
+pub name_read : (caller : Caller) (count : ℕ) → AreReadable (is_readable (areas_of caller.view)) (a_of caller) 32 count → name_in (caller_bytes caller (a_of caller) count) ≡ name_given caller
 name_read caller count readable = read 32 readable
   where
-    read : (most : ℕ) → AreReadable (is_readable (areas_of caller.view)) (a_of caller) most count → name_in (bytes_of caller (a_of caller) count) ≡ name_at (is_readable (areas_of caller.view)) caller.state.memory (a_of caller) most
+    read : (most : ℕ) → AreReadable (is_readable (areas_of caller.view)) (a_of caller) most count → name_in (caller_bytes caller (a_of caller) count) ≡ name_at (is_readable (areas_of caller.view)) caller.state.memory (a_of caller) most
     read most readable = name_is (is_readable (areas_of caller.view)) caller.state.memory most count (a_of caller) readable.few readable.all readable.end
 
 -- the shape of a port's channel, in the configuration and in the view

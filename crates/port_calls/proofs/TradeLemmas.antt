@@ -9,7 +9,7 @@ use Rattle.xm_conf.specs.View.{channel_of}
 use Rattle.xm_conf.specs.declared.port.Port.{Port}
 use Rattle.xm_conf.specs.declared.channel.ChanKind.{ChanKind}
 use Rattle.xm_conf.specs.declared.channel.ChanKind.TheVariants as chan_kind
-use Rattle.xm_ports.specs.Channels.{ChannelTable, Content, HasQueue, HasSampling, IsQueuing, IsSampling, Queuing, Shape, changed, content_at, first_message, put, shape_of, shapes_of, taken, with_content}
+use Rattle.xm_ports.specs.Channels.{ChannelTable, Content, HasQueue, HasSampling, IsQueuing, IsSampling, Queuing, Shape, changed, content_at, first_message, put, shape_of, shapes_of, first_taken, with_content}
 use Rattle.xm_ports.specs.Ports.{is_made}
 use Rattle.machine_model.specs.Lists.{each, is_number, table, then_some}
 use Rattle.machine_model.specs.Machine.{Machine}
@@ -69,8 +69,8 @@ other_number n k differs = grind (arith, nat_tests)
 pub put_pass : (time chan : ℕ) (bytes : List ℕ) (contents : List Content) → changed (put time bytes) chan contents ≡ each (after_traffic time (Puts chan bytes)) contents
 put_pass time chan bytes contents = changed_pass (put time bytes) (λ k. chan == k) chan contents (itself chan) (λ k differs. other_number chan k differs)
 
-pub taken_pass : (time chan : ℕ) (contents : List Content) → changed taken chan contents ≡ each (after_traffic time (Takes chan)) contents
-taken_pass time chan contents = changed_pass taken (λ k. chan == k) chan contents (itself chan) (λ k differs. other_number chan k differs)
+pub taken_pass : (time chan : ℕ) (contents : List Content) → changed first_taken chan contents ≡ each (after_traffic time (Takes chan)) contents
+taken_pass time chan contents = changed_pass first_taken (λ k. chan == k) chan contents (itself chan) (λ k differs. other_number chan k differs)
 
 -- no port of these is a destination for which the test holds
 none_hears : (test : ℕ → Bool) (r : ℕ) (ports : List Port) → ((k j : ℕ) (port : Port) → j ≡ r + k → k < length ports → (is_destination port.way && test j) ≡ false)
@@ -233,7 +233,7 @@ put_trades g chan n bytes brings =
     (each_alike (heard_at g.system.conf chan n) (λ q ps. hearing (view_of g.system q) (heard_as (name_of g.system.conf q) (Puts chan bytes)) ps) g.parts (λ q ps. hears_as g chan n bytes q ps brings))
 
 -- the machine after a message that is taken
-pub take_trades : (g : Machine) (chan : ℕ) → record g { channels = changed taken chan g.channels } ≡ with_traffic (Takes chan) g
+pub take_trades : (g : Machine) (chan : ℕ) → record g { channels = changed first_taken chan g.channels } ≡ with_traffic (Takes chan) g
 take_trades g chan =
     ap (λ (contents : List Content). record g { channels = contents }) (taken_pass g.time chan g.channels)
     ∙ ap (λ (parts : List PartitionState). record g { parts = parts; channels = each (after_traffic g.time (Takes chan)) g.channels })
@@ -277,18 +277,18 @@ brings_queuing chan conf table shapes has = brings_by IsQueuing 4 chan conf tabl
 
 -- the system after a message that is taken
 take_by : (old new : SysState) (before after : ChannelTable) (chan : ℕ) (result : Option ℕ) (first : Option (List ℕ)) → before.contents ≡ old.machine.channels → before.shapes ≡ old.shapes → result ≡ option_map length first → IsSomeAnd first (λ message. length message ≤ 4096)
-    → OnSome result (after ≡ with_content taken chan before) → new ≡ record { machine = record old.machine { channels = after.contents }; shapes = after.shapes } → new ≡ with_machine (with_traffic (Takes chan) old.machine) old
+    → OnSome result (after ≡ with_content first_taken chan before) → new ≡ record { machine = record old.machine { channels = after.contents }; shapes = after.shapes } → new ≡ with_machine (with_traffic (Takes chan) old.machine) old
 take_by old new before after chan result None contents shapes result_is there after_is new_is = absurd there
 take_by old new before after chan result (Some message) contents shapes result_is there after_is new_is =
-    let is : after ≡ with_content taken chan before = rw result_is at after_is in
+    let is : after ≡ with_content first_taken chan before = rw result_is at after_is in
     new_is
     ∙ ap (λ (t : ChannelTable). record { machine = record old.machine { channels = t.contents }; shapes = t.shapes }) is
-    ∙ ap (λ (held : List Content). record { machine = record old.machine { channels = changed taken chan held }; shapes = before.shapes }) contents
-    ∙ ap (λ (s : List Shape). record { machine = record old.machine { channels = changed taken chan old.machine.channels }; shapes = s }) shapes
+    ∙ ap (λ (held : List Content). record { machine = record old.machine { channels = changed first_taken chan held }; shapes = before.shapes }) contents
+    ∙ ap (λ (s : List Shape). record { machine = record old.machine { channels = changed first_taken chan old.machine.channels }; shapes = s }) shapes
     ∙ ap (λ (g : Machine). with_machine g old) (take_trades old.machine chan)
 
 pub take_done : (old new : SysState) (before after : ChannelTable) (chan : ℕ) (result : Option ℕ) → before.contents ≡ old.machine.channels → before.shapes ≡ old.shapes → result ≡ option_map length (first_message (content_at chan before))
-    → IsSomeAnd (first_message (content_at chan (table_in old))) (λ message. length message ≤ 4096) → OnSome result (after ≡ with_content taken chan before) → new ≡ record { machine = record old.machine { channels = after.contents }; shapes = after.shapes }
+    → IsSomeAnd (first_message (content_at chan (table_in old))) (λ message. length message ≤ 4096) → OnSome result (after ≡ with_content first_taken chan before) → new ≡ record { machine = record old.machine { channels = after.contents }; shapes = after.shapes }
     → new ≡ with_machine (with_traffic (Takes chan) old.machine) old
 take_done old new before after chan result contents shapes result_is there after_is new_is =
     take_by old new before after chan result (first_message (content_at chan (table_in old))) contents shapes

@@ -7,7 +7,7 @@ use Rattle.xm_conf.specs.declared.port.Kind.TheVariants as kind
 use Rattle.xm_conf.specs.declared.port.Port.{Port}
 use Rattle.xm_conf.specs.declared.port.Way.{Way}
 use Rattle.xm_ports.specs.Channels.{ChannelTable, HasQueue, HasSampling, IsTable, content_at}
-use Rattle.xm_ports.specs.Ports.{is_kind}
+use Rattle.xm_ports.specs.Ports.{are_same_kind}
 use Rattle.machine_model.specs.PortCalls.{MadePort}
 use Rattle.machine_model.specs.View.{name_of, named, part_of}
 use Rattle.whole_system.specs.State.{SysState}
@@ -35,7 +35,7 @@ found_end conf way (Some c) = found_with way c (slice_get conf.chans c)
 -- a port that is of a kind
 abbrev pub found_port : Conf → ℕ → ℕ → Kind → Option Port → Option found.MadePort
 found_port conf p r the_kind None = None
-found_port conf p r the_kind (Some port) = if is_kind port.kind the_kind then found_end conf port.way (channel_of conf p r) else None
+found_port conf p r the_kind (Some port) = if are_same_kind port.kind the_kind then found_end conf port.way (channel_of conf p r) else None
 
 -- port r of a partition with its channel, where it is of a kind and the end of a channel
 unfoldable pub found_in : Conf → ℕ → ℕ → Kind → Option found.MadePort

@@ -10,7 +10,7 @@ ghost use Rattle.xm_conf.specs.Description.{described};
 ghost use Rattle.xm_conf.specs.Fits.{Fits};
 ghost use Rattle.xm_conf.specs.View.{channel_of};
 ghost use Rattle.xm_ports.specs.Channels.{IsTable, most_of, shapes_of};
-ghost use Rattle.xm_ports.specs.Ports.{is_kind, is_made};
+ghost use Rattle.xm_ports.specs.Ports.{are_same_kind, is_made};
 ghost use Rattle.xm_base.specs.Options.{on};
 ghost use Rattle.port_calls.specs.MadePorts.{HasKind, IsMade, found_end, found_in, port_in};
 ghost use Rattle.whole_system.specs.Serving.{IsCaller, caller_of};
@@ -136,7 +136,7 @@ pub(crate) fn most_of(kind: ChanKind) -> u8
 
 /// Whether two kinds are one.
 fn is_kind(a: Kind, b: Kind) -> bool
-    ensures { result ≡ is_kind a b }
+    ensures { result ≡ are_same_kind a b }
 {
     match a {
         Kind::Sampling => matches!(b, Kind::Sampling),

@@ -14,7 +14,7 @@ use Rattle.guest_bus.specs.Memory.{all_from, is_writable}
 use Rattle.machine_model.specs.LocalTick.{LocalTick, goes_on, local_tick, seen_outside, with_interrupts, worked, worked_if}
 use Rattle.machine_model.specs.Lines.{lines_of, local_lines, order_lines, plan_lines, step_lines, step_said}
 use Rattle.machine_model.specs.Lists.{all_of, each}
-use Rattle.machine_model.specs.Machine.{Happened, Machine, Turn, after, after_tick, answer_to, channel_after, happened, is_halt, happened_by, local, local_in, local_of, next_clock, copies, obeyed_told, order_upon, part_after, shown_entry, shown_of, sight_for, sight_of_state, step, taken_by, tick_of, turn_of, with_room, worked_in}
+use Rattle.machine_model.specs.Machine.{Happened, Machine, SlotTurn, after, after_tick, answer_to, channel_after, happened, is_halt, happened_by, local, local_in, local_of, next_clock, copies, obeyed_told, order_upon, part_after, shown_entry, shown_of, sight_for, sight_of_state, step, taken_by, tick_of, turn_of, with_room, worked_in}
 use Rattle.machine_model.specs.Observed.{CurrentPlan, HealthCounts, HealthEntryOf, Observation, PartitionStatus, PlanStatus, Question, SystemStatus, TraceCounts, TraceEntryOf, asks, unless_delivered}
 use Rattle.machine_model.specs.Partition.{PartitionState, applies, areas_of, hardware_looked_at, is_halted, order_told, ordered_told, rested, takes_turns}
 use Rattle.machine_model.specs.Structures.{counts_bytes, health_bytes, partition_status, trace_bytes}
@@ -149,7 +149,7 @@ taken_alike before g p first (Some ps) later =
     at false stays = refl
 
 -- in a slot or gap
-local_in_alike : (before : ℕ) (g : Machine) (turn : Option Turn) → before ≤ g.time → local_in (rested_at before g) turn ≡ local_in g turn
+local_in_alike : (before : ℕ) (g : Machine) (turn : Option SlotTurn) → before ≤ g.time → local_in (rested_at before g) turn ≡ local_in g turn
 local_in_alike before g None later = refl
 local_in_alike before g (Some turn) later =
     ap (taken_by (rested_at before g) turn.part turn.first) (get_on (rested before) g.parts turn.part)

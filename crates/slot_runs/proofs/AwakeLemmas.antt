@@ -6,7 +6,7 @@ use Rattle.virt_traps.specs.Virtual.{due}
 use Rattle.xm_base.specs.declared.partition.State.{State}
 use Rattle.xm_base.specs.declared.partition.State.TheVariants.{Ready, Idle, Suspended, Halted}
 use Rattle.xm_ports.specs.Channels.{Content}
-use Rattle.machine_model.specs.LocalTick.{delivered_or_executed, executed, goes_on, local_tick, seen_outside, with_interrupts, worked, worked_if}
+use Rattle.machine_model.specs.LocalTick.{delivered_or_executed, executed_in_tick, goes_on, local_tick, seen_outside, with_interrupts, worked, worked_if}
 use Rattle.machine_model.specs.Machine.{Machine, copies, local, local_of, sight, sight_of_state, taken_by, turn_of}
 use Rattle.machine_model.specs.Partition.{PartitionState, execution_looked_at, hardware_looked_at, takes_turns}
 use Rattle.machine_model.specs.Told.{Sight}
@@ -72,11 +72,11 @@ local_awake g p first ps s turn there wakes is =
 
 -- where no interrupt can be delivered, an instruction is executed
 pub undelivered_executes : (view : PartitionView) (contents : List (Option Content)) (time : ℕ) (sight : Sight) (ps : PartitionState) → NoDelivery ps.traps
-    → delivered_or_executed (due ps.traps) ps.traps.enabled view contents time sight ps ≡ executed view contents time sight ps
+    → delivered_or_executed (due ps.traps) ps.traps.enabled view contents time sight ps ≡ executed_in_tick view contents time sight ps
 undelivered_executes view contents time sight ps (inl none) = ap (λ o. delivered_or_executed o ps.traps.enabled view contents time sight ps) none
 undelivered_executes view contents time sight ps (inr disabled) =
     ap (λ b. delivered_or_executed (due ps.traps) b view contents time sight ps) disabled ∙ either (due ps.traps)
   where
-    either : (o : Option ℕ) → delivered_or_executed o false view contents time sight ps ≡ executed view contents time sight ps
+    either : (o : Option ℕ) → delivered_or_executed o false view contents time sight ps ≡ executed_in_tick view contents time sight ps
     either None = refl
     either (Some n) = refl

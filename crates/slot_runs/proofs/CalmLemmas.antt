@@ -8,7 +8,7 @@ use Rattle.xm_ports.specs.Channels.{Content}
 use Rattle.machine_model.specs.Lines.{lines_of, lines_unless, order_lines, step_lines}
 use Rattle.machine_model.specs.Lists.{all_of, each}
 use Rattle.machine_model.specs.LocalTick.{LocalTick}
-use Rattle.machine_model.specs.Machine.{Happened, Machine, Turn, act_of, after, after_tick, channel_after, happened, happened_by, if_its_turn, is_turn_of, local, next_clock, part_after, rested_unless, step, step_unless, system_traffic, tick_of, turn_of, worked_in}
+use Rattle.machine_model.specs.Machine.{Happened, Machine, SlotTurn, act_of, after, after_tick, channel_after, happened, happened_by, if_its_turn, is_turn_of, local, next_clock, part_after, rested_unless, step, step_unless, system_traffic, tick_of, turn_of, worked_in}
 use Rattle.machine_model.specs.Partition.{PartitionState}
 use Rattle.machine_model.specs.Told as told
 use Rattle.machine_model.specs.Traffic.{Still}
@@ -16,42 +16,42 @@ use Rattle.machine_model.specs.Whole.{NoEvent}
 use Rattle.slot_runs.proofs.ListLemmas.{each_same, none_of}
 
 -- all that a tick did that reached beyond no partition
-abbrev pub calm : Option Turn → Option LocalTick → Happened
+abbrev pub calm : Option SlotTurn → Option LocalTick → Happened
 calm turn tick = record { turn = turn; local = tick; act = told.Nothing; traffic = Still; event = NoEvent }
 
 -- no traffic is no traffic under every name
-still_for : (conf : Conf) (turn : Option Turn) → system_traffic conf turn told.OwnStill ≡ Still
+still_for : (conf : Conf) (turn : Option SlotTurn) → system_traffic conf turn told.OwnStill ≡ Still
 still_for conf None = refl
 still_for conf (Some turn) = refl
 
 -- what a tick did whose local tick reaches beyond no partition
-calm_by : (conf : Conf) (turn : Option Turn) (tick : Option LocalTick) → act_of tick ≡ told.Nothing → happened_by conf turn tick ≡ calm turn tick
+calm_by : (conf : Conf) (turn : Option SlotTurn) (tick : Option LocalTick) → act_of tick ≡ told.Nothing → happened_by conf turn tick ≡ calm turn tick
 unfolding happened_by
 calm_by conf turn tick nothing = rw (nothing, still_for conf turn) refl
 
 -- what such a tick did
-pub calm_is : (g : Machine) (turn : Option Turn) (tick : Option LocalTick) → turn_of g ≡ turn → local g ≡ tick → act_of tick ≡ told.Nothing → happened g ≡ calm turn tick
+pub calm_is : (g : Machine) (turn : Option SlotTurn) (tick : Option LocalTick) → turn_of g ≡ turn → local g ≡ tick → act_of tick ≡ told.Nothing → happened g ≡ calm turn tick
 unfolding happened
 calm_is g turn tick its_turn its_local nothing = rw (its_turn, its_local) (calm_by g.system.conf turn tick nothing)
 
 -- what it leaves of a partition
-pub part_is : (g : Machine) (turn : Option Turn) (tick : Option LocalTick) (k : ℕ) (ps : PartitionState) (mine : Option LocalTick) → if_its_turn (is_turn_of turn k) tick ≡ mine
+pub part_is : (g : Machine) (turn : Option SlotTurn) (tick : Option LocalTick) (k : ℕ) (ps : PartitionState) (mine : Option LocalTick) → if_its_turn (is_turn_of turn k) tick ≡ mine
     → part_after g (calm turn tick) k ps ≡ rested_unless (is_some mine) g.time (worked_in mine ps)
 unfolding part_after tick_of after_tick
 part_is g turn tick k ps mine is = rw is refl
 
 -- what it leaves of the channels
-pub channels_same : (time : ℕ) (turn : Option Turn) (tick : Option LocalTick) (channels : List Content) → each (channel_after time (calm turn tick)) channels ≡ channels
+pub channels_same : (time : ℕ) (turn : Option SlotTurn) (tick : Option LocalTick) (channels : List Content) → each (channel_after time (calm turn tick)) channels ≡ channels
 unfolding channel_after
 channels_same time turn tick channels = each_same (channel_after time (calm turn tick)) channels (λ k content there. refl)
 
 -- what it leaves of the plan clock
-pub clock_is : (g : Machine) (turn : Option Turn) (tick : Option LocalTick) → next_clock g (calm turn tick) ≡ ended g.system.conf g.clock g.time
+pub clock_is : (g : Machine) (turn : Option SlotTurn) (tick : Option LocalTick) → next_clock g (calm turn tick) ≡ ended g.system.conf g.clock g.time
 unfolding next_clock
 clock_is g turn tick = refl
 
 -- no order is given
-pub no_order_lines : (g : Machine) (turn : Option Turn) (tick : Option LocalTick) → all_of (order_lines g (calm turn tick)) g.parts ≡ []
+pub no_order_lines : (g : Machine) (turn : Option SlotTurn) (tick : Option LocalTick) → all_of (order_lines g (calm turn tick)) g.parts ≡ []
 unfolding order_lines
 no_order_lines g turn tick = none_of (order_lines g (calm turn tick)) g.parts (λ k ps. refl)
 
@@ -71,7 +71,7 @@ none_either true = refl
 none_either false = refl
 
 -- the local tick is not that of a partition whose turn it is not
-pub not_its : (turn : Turn) (tick : LocalTick) (k : ℕ) → k ≢ turn.part → if_its_turn (is_turn_of (Some turn) k) (Some tick) ≡ None
+pub not_its : (turn : SlotTurn) (tick : LocalTick) (k : ℕ) → k ≢ turn.part → if_its_turn (is_turn_of (Some turn) k) (Some tick) ≡ None
 not_its turn tick k other = ap (λ b. if_its_turn b (Some tick)) (not_same (turn.part == k) refl)
   where
     not_same : (b : Bool) → (turn.part == k) ≡ b → b ≡ false
@@ -79,5 +79,5 @@ not_its turn tick k other = ap (λ b. if_its_turn b (Some tick)) (not_same (turn
     not_same false is = refl
 
 -- and the local tick is that of the partition whose turn it is
-pub its : (turn : Turn) (tick : LocalTick) → if_its_turn (is_turn_of (Some turn) turn.part) (Some tick) ≡ Some tick
+pub its : (turn : SlotTurn) (tick : LocalTick) → if_its_turn (is_turn_of (Some turn) turn.part) (Some tick) ≡ Some tick
 its turn tick = ap (λ b. if_its_turn b (Some tick)) (eq-eqb turn.part turn.part refl)

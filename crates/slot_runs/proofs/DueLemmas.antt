@@ -25,24 +25,24 @@ both_kept true b c keeps both = ap (λ x. x && c) (keeps refl) ∙ both
 both_kept false b c keeps both = absurd cc
 
 -- an interrupt that is due is due when another is raised
-due_kept : (n i : ℕ) (v : VirtualTraps) → virtual.is_due i v ≡ true → virtual.is_due i (raised n v) ≡ true
+due_kept : (n i : ℕ) (v : VirtualTraps) → virtual.is_interrupt_due i v ≡ true → virtual.is_interrupt_due i (raised n v) ≡ true
 unfolding raised
 due_kept n i v waits =
     both_kept (bit_at v.pending i == 1) (bit_at (bit_or v.pending (2 ^ n)) i == 1) (bit_at v.mask i == 0) (test_kept v.pending (2 ^ n) i) waits
 
 -- where none is due of interrupts that include these, none of these is due
-none_first : (count from : ℕ) (v w : VirtualTraps) → ((i : ℕ) → virtual.is_due i v ≡ true → virtual.is_due i w ≡ true)
+none_first : (count from : ℕ) (v w : VirtualTraps) → ((i : ℕ) → virtual.is_interrupt_due i v ≡ true → virtual.is_interrupt_due i w ≡ true)
     → first_due from count w ≡ None → first_due from count v ≡ None
 none_first zero from v w keeps none = refl
-none_first (suc count) from v w keeps none = at (virtual.is_due from v) refl
+none_first (suc count) from v w keeps none = at (virtual.is_interrupt_due from v) refl
     (none_first count (suc from) v w keeps)
   where
-    at : (b : Bool) → virtual.is_due from v ≡ b → (first_due (suc from) count w ≡ None → first_due (suc from) count v ≡ None)
+    at : (b : Bool) → virtual.is_interrupt_due from v ≡ b → (first_due (suc from) count w ≡ None → first_due (suc from) count v ≡ None)
         → (if b then Some from else first_due (suc from) count v) ≡ None
     at true waits later = absurd (let now = ap (λ (t : Bool). if t then Some from else first_due (suc from) count w) (keeps from waits) in cc)
-    at false waits later = later (other (virtual.is_due from w) refl)
+    at false waits later = later (other (virtual.is_interrupt_due from w) refl)
       where
-        other : (b : Bool) → virtual.is_due from w ≡ b → first_due (suc from) count w ≡ None
+        other : (b : Bool) → virtual.is_interrupt_due from w ≡ b → first_due (suc from) count w ≡ None
         other true is = absurd (let now = ap (λ (t : Bool). if t then Some from else first_due (suc from) count w) is in cc)
         other false is = sym (ap (λ (t : Bool). if t then Some from else first_due (suc from) count w) is) ∙ none
 

@@ -4,7 +4,7 @@ use Rattle.std.specs.Prelude.{nat_lt, slice_get, slice_set}
 use Rattle.std.proofs.lemmas.Bool.Decides.{nat_tests}
 use Rattle.virt_traps.specs.Virtual.{due}
 use Rattle.machine_model.specs.LocalTick.{LocalTick, delivered_or_executed, seen_outside, with_interrupts}
-use Rattle.machine_model.specs.Machine.{Machine, Turn, copies, local, sight}
+use Rattle.machine_model.specs.Machine.{Machine, SlotTurn, copies, local, sight}
 use Rattle.machine_model.specs.Partition.{PartitionState, execution_looked_at, hardware_looked_at, rested}
 use Rattle.machine_model.specs.Told as told
 use Rattle.machine_model.specs.View.{PartitionView, view_of}
@@ -39,7 +39,7 @@ rests_more (suc k) g p first ps new =
     (λ x. rested_twice (g.time + k) (g.time + suc k) x (omega arith))
 
 -- the turn of such a tick
-abbrev pub its_turn : ℕ → ℕ → Bool → Turn
+abbrev pub its_turn : ℕ → ℕ → Bool → SlotTurn
 its_turn k p first = record { part = p; first = first_after k first }
 
 -- the local tick of such a tick

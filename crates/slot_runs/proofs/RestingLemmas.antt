@@ -1,7 +1,7 @@
 -- Ticks of a gap, and of the slot of a partition that takes no turns.
 use Rattle.std.proofs.Common.{◌≡◌, ℕ, zero, suc, ◌+◌, ◌≤◌, inl, inr, Bool, true, false, List, map, Option, None, Some, refl, ap, subst, ◌∙◌, arith}
 use Rattle.std.specs.Prelude.{if◌then◌else◌, slice_get}
-use Rattle.machine_model.specs.Machine.{Machine, Turn, local, local_in, local_of, taken_by, turn_of}
+use Rattle.machine_model.specs.Machine.{Machine, SlotTurn, local, local_in, local_of, taken_by, turn_of}
 use Rattle.machine_model.specs.Partition.{PartitionState, is_halted, rested, takes_turns}
 use Rattle.slot_runs.specs.Meeting.{first_after}
 use Rattle.slot_runs.specs.SpanLaws.{IsNobodys, RestingTicks, all_rested}
@@ -30,7 +30,7 @@ rested_more zero g = refl
 rested_more (suc k) g = map_twice (rested (g.time + k)) (rested (g.time + suc k)) g.parts (λ ps. rested_twice (g.time + k) (g.time + suc k) ps (omega arith))
 
 -- the local tick of a slot or gap
-pub local_by : (g : Machine) (turn : Option Turn) → turn_of g ≡ turn → local g ≡ local_in g turn
+pub local_by : (g : Machine) (turn : Option SlotTurn) → turn_of g ≡ turn → local g ≡ local_in g turn
 unfolding local
 local_by g turn is = ap (local_in g) is
 

@@ -17,9 +17,9 @@ use Rattle.machine_model.specs.Told.{Unseen}
 use Rattle.machine_model.specs.View.{PartitionView, view_of}
 
 -- what a partition is shown, by whose slot it is
-sight_by : (g : Machine) (q : ℕ) (turn : Option machine.Turn) → turn_of g ≡ turn → sight g q ≡ sight_in g q turn (slice_get g.parts q)
+sight_by : (g : Machine) (q : ℕ) (turn : Option machine.SlotTurn) → turn_of g ≡ turn → sight g q ≡ sight_in g q turn (slice_get g.parts q)
 unfolding sight
-sight_by g q turn is = ap (λ (t : Option machine.Turn). sight_in g q t (slice_get g.parts q)) is
+sight_by g q turn is = ap (λ (t : Option machine.SlotTurn). sight_in g q t (slice_get g.parts q)) is
 
 -- in a gap nobody is shown anything
 pub unseen_gap : (g : Machine) (q : ℕ) → turn_of g ≡ None → sight g q ≡ Unseen

@@ -9,7 +9,7 @@ use Rattle.xm_report.specs.Report.{ReportLine}
 use Rattle.machine_model.specs.Lines.{lines, lines_of, local_lines, local_said, order_lines, plan_lines, said, said_unless, step_lines, step_said}
 use Rattle.machine_model.specs.Lists.{all_of, each}
 use Rattle.machine_model.specs.LocalTick.{LocalTick}
-use Rattle.machine_model.specs.Machine.{Happened, Machine, Turn, after, happened, if_its_turn, is_turn_of, local, next_clock, part_after, run, step, tick_of, turn_of}
+use Rattle.machine_model.specs.Machine.{Happened, Machine, SlotTurn, after, happened, if_its_turn, is_turn_of, local, next_clock, part_after, run, step, tick_of, turn_of}
 use Rattle.machine_model.specs.Partition.{PartitionState, rested}
 use Rattle.machine_model.specs.Told as told
 use Rattle.machine_model.specs.Whole.{NoEvent, event_lines}
@@ -29,13 +29,13 @@ abbrev pub tick_plan_line : Machine → List ReportLine
 tick_plan_line g = plan_lines g.ticks g.clock.plan (ended g.system.conf g.clock g.time).plan
 
 -- a tick that reaches beyond no partition: it leaves these partitions, and tells what its local tick tells
-pub record IsTicked (g : Machine) (parts : List PartitionState) (turn : Option Turn) (tick : Option LocalTick) : Type 0 where
+pub record IsTicked (g : Machine) (parts : List PartitionState) (turn : Option SlotTurn) (tick : Option LocalTick) : Type 0 where
   pub state : step g ≡ ticked parts g
   pub lines : step_lines g ≡ local_lines tick ++ tick_plan_line g
   pub said : (p : ℕ) → step_said g p ≡ local_said (if_its_turn (is_turn_of turn p) tick)
 
 -- a machine after such a tick
-after_calm : (g : Machine) (turn : Option Turn) (tick : Option LocalTick) (parts : List PartitionState) → g.halted ≡ false
+after_calm : (g : Machine) (turn : Option SlotTurn) (tick : Option LocalTick) (parts : List PartitionState) → g.halted ≡ false
     → each (part_after g (calm turn tick)) g.parts ≡ parts → after g (calm turn tick) ≡ ticked parts g
 unfolding after
 after_calm g turn tick parts runs leaves = rw (leaves, channels_same g.time turn tick g.channels, clock_is g turn tick, runs) refl
@@ -46,7 +46,7 @@ first_and_last a b c d e no_b no_c no_d =
     rw (no_b, no_c, no_d) (ap (λ lines. lines ++ e) (append-nil (a ++ [] ++ []) ∙ append-nil (a ++ []) ∙ append-nil a))
 
 -- the lines of such a tick
-lines_calm : (g : Machine) (turn : Option Turn) (tick : Option LocalTick) → lines_of g (calm turn tick) ≡ local_lines tick ++ tick_plan_line g
+lines_calm : (g : Machine) (turn : Option SlotTurn) (tick : Option LocalTick) → lines_of g (calm turn tick) ≡ local_lines tick ++ tick_plan_line g
 unfolding lines_of
 lines_calm g turn tick =
     first_and_last (local_lines tick) (all_of (order_lines g (calm turn tick)) g.parts) [] (all_of (λ p ps. event_lines g.ticks NoEvent p) g.parts)
@@ -60,12 +60,12 @@ unfolding step_said
 said_as g h p runs is = ap (λ b. said_unless b g p) runs ∙ ap (λ x. local_said (tick_of x p)) is
 
 -- the local tick of a partition in such a tick
-tick_is : (turn : Option Turn) (tick : Option LocalTick) (p : ℕ) → tick_of (calm turn tick) p ≡ if_its_turn (is_turn_of turn p) tick
+tick_is : (turn : Option SlotTurn) (tick : Option LocalTick) (p : ℕ) → tick_of (calm turn tick) p ≡ if_its_turn (is_turn_of turn p) tick
 unfolding tick_of
 tick_is turn tick p = refl
 
 -- a tick with this local tick, which reaches beyond no partition
-ticked_by : (g : Machine) (turn : Option Turn) (tick : Option LocalTick) (parts : List PartitionState) → g.halted ≡ false → happened g ≡ calm turn tick
+ticked_by : (g : Machine) (turn : Option SlotTurn) (tick : Option LocalTick) (parts : List PartitionState) → g.halted ≡ false → happened g ≡ calm turn tick
     → each (part_after g (calm turn tick)) g.parts ≡ parts → IsTicked g parts turn tick
 ticked_by g turn tick parts runs happens leaves = record {
   state = step_as g (calm turn tick) runs happens ∙ after_calm g turn tick parts runs leaves;
@@ -74,13 +74,13 @@ ticked_by g turn tick parts runs happens leaves = record {
 }
 
 -- a tick without a local tick: all rest
-pub rest_tick : (g : Machine) (turn : Option Turn) → g.halted ≡ false → turn_of g ≡ turn → local g ≡ None → IsTicked g (map (rested g.time) g.parts) turn None
+pub rest_tick : (g : Machine) (turn : Option SlotTurn) → g.halted ≡ false → turn_of g ≡ turn → local g ≡ None → IsTicked g (map (rested g.time) g.parts) turn None
 rest_tick g turn runs its_turn none =
     ticked_by g turn None (map (rested g.time) g.parts) runs (calm_is g turn None its_turn none refl)
     (each_map (part_after g (calm turn None)) (rested g.time) g.parts (λ k ps. part_is g turn None k ps None (none_either (is_turn_of turn k))))
 
 -- a tick with a local tick: all others rest
-pub work_tick : (g : Machine) (turn : Turn) (tick : LocalTick) → g.halted ≡ false → turn_of g ≡ Some turn → local g ≡ Some tick → tick.act ≡ told.Nothing
+pub work_tick : (g : Machine) (turn : SlotTurn) (tick : LocalTick) → g.halted ≡ false → turn_of g ≡ Some turn → local g ≡ Some tick → tick.act ≡ told.Nothing
     → IsTicked g (slice_set (map (rested g.time) g.parts) turn.part tick.after) (Some turn) (Some tick)
 work_tick g turn tick runs its_turn works nothing =
     ticked_by g (Some turn) (Some tick) (slice_set (map (rested g.time) g.parts) turn.part tick.after) runs (calm_is g (Some turn) (Some tick) its_turn works nothing)
@@ -95,7 +95,7 @@ pub record IsQuietTick (g : Machine) (parts : List PartitionState) : Type 0 wher
   pub said : (p : ℕ) → step_said g p ≡ []
 
 -- such a tick without a local tick
-pub quiet_rest : (g : Machine) (parts : List PartitionState) (turn : Option Turn) → IsTicked g parts turn None → IsQuietTick g parts
+pub quiet_rest : (g : Machine) (parts : List PartitionState) (turn : Option SlotTurn) → IsTicked g parts turn None → IsQuietTick g parts
 quiet_rest g parts turn is = record {
   state = is.state;
   lines = is.lines;
@@ -108,7 +108,7 @@ none_said tick true none = none
 none_said tick false none = refl
 
 -- such a tick with a local tick that tells nothing
-pub quiet_work : (g : Machine) (parts : List PartitionState) (turn : Turn) (tick : LocalTick) → tick.lines ≡ [] → tick.said ≡ [] → IsTicked g parts (Some turn) (Some tick)
+pub quiet_work : (g : Machine) (parts : List PartitionState) (turn : SlotTurn) (tick : LocalTick) → tick.lines ≡ [] → tick.said ≡ [] → IsTicked g parts (Some turn) (Some tick)
     → IsQuietTick g parts
 quiet_work g parts turn tick no_lines no_bytes is = record {
   state = is.state;

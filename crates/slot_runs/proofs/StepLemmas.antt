@@ -9,7 +9,7 @@ use Rattle.sparc_step.specs.declared.outcome.Turn.TheVariants.{Went, Trap, Call}
 use Rattle.virt_traps.specs.Settled.{settled}
 use Rattle.xm_ports.specs.Channels.{Content}
 use Rattle.machine_model.specs.Health.{quiet}
-use Rattle.machine_model.specs.LocalTick.{by_turn, clocked, executed, turned_state}
+use Rattle.machine_model.specs.LocalTick.{by_turn, clocked, executed_in_tick, turned_state}
 use Rattle.machine_model.specs.Partition.{PartitionState, areas_of}
 use Rattle.machine_model.specs.Told.{Sight}
 use Rattle.machine_model.specs.View.{PartitionView}
@@ -40,8 +40,8 @@ gone_none areas ps = rw (add-zero ps.clocks.execution) refl
 
 -- an instruction that only goes
 executed_went : (view : PartitionView) (contents : List (Option Content)) (time : ℕ) (sight : Sight) (ps : PartitionState) (t : Turned)
-    → settled (areas_of view) ps.core ps.memory ≡ t → t.turn ≡ Went → executed view contents time sight ps ≡ quiet (clocked (turned_state t ps))
-unfolding executed
+    → settled (areas_of view) ps.core ps.memory ≡ t → t.turn ≡ Went → executed_in_tick view contents time sight ps ≡ quiet (clocked (turned_state t ps))
+unfolding executed_in_tick
 executed_went view contents time sight ps t is went =
     ap (λ (s : Turned). by_turn s.turn view contents time sight ps (turned_state s ps)) is
     ∙ ap (λ turn. by_turn turn view contents time sight ps (turned_state t ps)) went

@@ -9,7 +9,7 @@ use Rattle.machine_model.specs.Health.{Worked}
 use Rattle.machine_model.specs.Lines.{lines_of, order_lines, plan_lines}
 use Rattle.machine_model.specs.Lists.{all_of, each, is_number}
 use Rattle.machine_model.specs.LocalTick.{LocalTick, bounded, seen_outside}
-use Rattle.machine_model.specs.Machine.{Happened, Machine, Turn, after, after_tick, booted_part, channel_after, clock_after, happened, happened_by, if_its_turn, is_halt, local, next_clock, obeyed, obeyed_told, order_for, order_upon, part_after, rested_unless, run, tick_of, turn_of, worked_in}
+use Rattle.machine_model.specs.Machine.{Happened, Machine, SlotTurn, after, after_tick, booted_part, channel_after, clock_after, happened, happened_by, if_its_turn, is_halt, local, next_clock, obeyed, obeyed_told, order_for, order_upon, part_after, rested_unless, run, tick_of, turn_of, worked_in}
 use Rattle.machine_model.specs.Partition.{PartitionState, ordered, reset, rested, resets_after}
 use Rattle.machine_model.specs.Told.{Act, Directed, line_of, reach_of}
 use Rattle.machine_model.specs.Traffic.{Puts, Still, Takes, Traffic, after_traffic, heard_as, hearing, told_as, traffic_of}
@@ -116,7 +116,7 @@ happened_is : (g : Machine) (p : ℕ) (first : Bool) (work : Worked) → turn_of
     → local g ≡ Some (tick_for g p work) → bounded (view_of g.system p) work.act ≡ work.act → happened g ≡ did g p first work
 unfolding happened happened_by
 happened_is g p first work turn works within =
-    ap (λ (t : Option Turn). happened_by g.system.conf t (local g)) turn
+    ap (λ (t : Option SlotTurn). happened_by g.system.conf t (local g)) turn
     ∙ ap (happened_by g.system.conf (Some (record { part = p; first = first }))) works
     ∙ ap (λ (act : Act). record {
       turn = Some (record { part = p; first = first });

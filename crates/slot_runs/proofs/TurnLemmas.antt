@@ -8,7 +8,7 @@ use Rattle.cyclic_plans.specs.Slots.{covers, frame_of, here_in, slot_from, slots
 use Rattle.xm_base.specs.Options.{on}
 use Rattle.xm_conf.specs.Configuration.{Conf}
 use Rattle.xm_conf.specs.declared.plan.Slot.{Slot}
-use Rattle.machine_model.specs.Machine.{Machine, Turn, turn_here, turn_of}
+use Rattle.machine_model.specs.Machine.{Machine, SlotTurn, turn_here, turn_of}
 
 -- the clock goes on with its frame, unless this is the last tick of the frame
 pub clock_stays : (conf : Conf) (clock : CyclicClock) (time : ℕ) → clock.frame_start ≤ time → time + 1 < clock.frame_start + frame_of conf clock.plan → ended conf clock time ≡ clock
@@ -32,7 +32,7 @@ begun_slot now number (slot ∷ rest) found is = at (covers now slot) refl is (b
     at false ends same later = later same
 
 -- the turn of a slot
-abbrev pub turn_by : ℕ → Option (ℕ × Slot) → Option Turn
+abbrev pub turn_by : ℕ → Option (ℕ × Slot) → Option SlotTurn
 turn_by now found = turn_here (on (here_in now) found)
 
 -- a turn is that of the slot that runs
@@ -53,6 +53,6 @@ begins_not start frame now k begun within = at (start == now + suc k - frame) re
     at b is = grind (arith, nat_tests)
 
 -- the partition of a turn
-abbrev pub part_in : Option Turn → ℕ
+abbrev pub part_in : Option SlotTurn → ℕ
 part_in None = 0
 part_in (Some turn) = turn.part

@@ -3,7 +3,7 @@ use Rattle.std.specs.Prelude.{◌≡◌, ℕ, suc, Bool, true, false, Option, No
 use Rattle.virt_traps.specs.Virtual.{due}
 use Rattle.xm_base.specs.declared.partition.State.TheVariants.{Idle}
 use Rattle.machine_model.specs.LocalTick.{with_interrupts}
-use Rattle.machine_model.specs.Machine.{Machine, Turn, act_of, local, run, sight, turn_of}
+use Rattle.machine_model.specs.Machine.{Machine, SlotTurn, act_of, local, run, sight, turn_of}
 use Rattle.machine_model.specs.Partition.{PartitionState}
 use Rattle.machine_model.specs.Told as told
 use Rattle.machine_model.specs.Told.{Unseen}
@@ -14,7 +14,7 @@ use Rattle.slot_runs.specs.Spans.{IsSlotOf, IsSpan}
 use Rattle.slot_runs.specs.Undisturbed.{IsUndisturbed, NoneFallsDue}
 
 -- whose slot a tick is in, when so many of the slot or gap are done
-abbrev pub turn_after : ℕ → Option Turn → Option Turn
+abbrev pub turn_after : ℕ → Option SlotTurn → Option SlotTurn
 turn_after done None = None
 turn_after done (Some turn) = Some (record { part = turn.part; first = first_after done turn.first })
 

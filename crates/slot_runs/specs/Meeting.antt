@@ -6,7 +6,7 @@ use Rattle.virt_clocks.specs.Clocks.{is_due, looked_at}
 use Rattle.virt_traps.specs.Virtual.{VirtualTraps, due}
 use Rattle.xm_base.specs.declared.partition.State.TheVariants.{Ready}
 use Rattle.machine_model.specs.Partition.{PartitionState, areas_of, execution_timer, hardware_timer, raised_if, slot_start}
-use Rattle.machine_model.specs.LocalTick.{executed}
+use Rattle.machine_model.specs.LocalTick.{executed_in_tick}
 use Rattle.machine_model.specs.Told as told
 use Rattle.machine_model.specs.Told.{Sight, Told}
 use Rattle.machine_model.specs.View.{PartitionView}
@@ -69,4 +69,4 @@ first_after (suc done) first = false
 abbrev pub Executes : PartitionView → PartitionState → PartitionState → List Told → Type 0
 Executes view ps new tale =
     (contents : List (Option Content)) (time : ℕ) (sight : Sight) →
-    executed view contents time sight ps ≡ record { after = new; told = tale; act = told.Nothing }
+    executed_in_tick view contents time sight ps ≡ record { after = new; told = tale; act = told.Nothing }

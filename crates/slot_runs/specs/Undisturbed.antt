@@ -4,7 +4,7 @@ use Rattle.virt_clocks.specs.Clocks.{PartitionClocks, next_due}
 use Rattle.virt_traps.specs.Virtual.{due}
 use Rattle.xm_base.specs.declared.partition.State.TheVariants.{Idle}
 use Rattle.machine_model.specs.Health.{Worked}
-use Rattle.machine_model.specs.LocalTick.{bounded, executed, with_interrupts}
+use Rattle.machine_model.specs.LocalTick.{bounded, executed_in_tick, with_interrupts}
 use Rattle.machine_model.specs.Machine.{Machine, copies, run, sight}
 use Rattle.machine_model.specs.Partition.{PartitionState}
 use Rattle.machine_model.specs.Told as told
@@ -39,7 +39,7 @@ UndisturbedTicks =
 
 -- the work of a tick in which an instruction is executed
 abbrev pub next_instruction : Machine → ℕ → PartitionState → Worked
-next_instruction g p s = executed (view_of g.system p) (copies g p) g.time (sight g p) s
+next_instruction g p s = executed_in_tick (view_of g.system p) (copies g p) g.time (sight g p) s
 
 -- the tick after them
 abbrev pub UndisturbedNext : Type 0

@@ -4,7 +4,5 @@ pub mod Ranges
 pub mod Spells
 pub mod Decoded
 pub mod DecodedLemmas
-pub mod RangeLemmas
 pub mod Encoded
-pub mod EncodedLemmas
 pub mod Laws

@@ -6,28 +6,28 @@ use Rattle.sparc_code.specs.declared.instruction.Arith.TheVariants.{Add, And, Or
 use Rattle.sparc_code.specs.declared.instruction.Src.{Src}
 use Rattle.sparc_step.specs.Conditions.{carry, codes_of_difference, codes_of_result, codes_of_sum, codes_of_tagged_difference, codes_of_tagged_sum, differ, negative, overflow}
 use Rattle.sparc_step.specs.Operands.{value_of}
-use Rattle.sparc_step.specs.Outcome.{Outcome, trapped, went, with_result, with_result_and_codes}
+use Rattle.sparc_step.specs.Outcome.{RegisterOutcome, trapped, went, with_result, with_result_and_codes}
 use Rattle.sparc_step.specs.Registers.{Registers, register_at, with_y}
 use Rattle.sparc_step.specs.Words.{bit, difference, difference_overflows, is_tagged, quotient, quotient_overflows, shifted_arithmetically, shifted_left, shifted_right, signed_product, signed_quotient, signed_quotient_overflows, sum, sum_overflows}
 
 -- a result alone
-abbrev pub plain : ℕ → ℕ → Registers → Outcome
-plain rd value core = went (with_result rd value core)
+abbrev pub result_alone : ℕ → ℕ → Registers → RegisterOutcome
+result_alone rd value core = went (with_result rd value core)
 
 -- a result with condition codes
-abbrev pub coded : ℕ → ℕ → ℕ → Registers → Outcome
+abbrev pub coded : ℕ → ℕ → ℕ → Registers → RegisterOutcome
 coded rd value icc core = went (with_result_and_codes rd value icc core)
 
 -- a result of logic, which neither overflows nor carries
-abbrev pub logical : ℕ → ℕ → Registers → Outcome
+abbrev pub logical : ℕ → ℕ → Registers → RegisterOutcome
 logical rd value core = coded rd value (codes_of_result value false) core
 
 -- a double word: its low half is the result, its high half goes to Y
-abbrev pub wide : ℕ → ℕ → Registers → Outcome
-wide rd product core = plain rd (product % 2 ^ 32) (with_y core (product / 2 ^ 32))
+abbrev pub wide : ℕ → ℕ → Registers → RegisterOutcome
+wide rd product core = result_alone rd (product % 2 ^ 32) (with_y core (product / 2 ^ 32))
 
 -- the same with condition codes, of the low half
-abbrev pub wide_coded : ℕ → ℕ → Registers → Outcome
+abbrev pub wide_coded : ℕ → ℕ → Registers → RegisterOutcome
 wide_coded rd product core = logical rd (product % 2 ^ 32) (with_y core (product / 2 ^ 32))
 
 -- the double word that is divided: Y, and the first operand behind it
@@ -35,11 +35,11 @@ unfoldable pub dividend : Registers → ℕ → ℕ
 dividend core a = core.y * 2 ^ 32 + a
 
 -- a division by 0 traps
-abbrev pub divided_by : ℕ → Registers → Outcome → Outcome
+abbrev pub divided_by : ℕ → Registers → RegisterOutcome → RegisterOutcome
 divided_by divisor core outcome = if divisor == 0 then trapped 0x2A core else outcome
 
 -- tagged work traps where it would overflow
-abbrev pub unless_overflow : Bool → Registers → Outcome → Outcome
+abbrev pub unless_overflow : Bool → Registers → RegisterOutcome → RegisterOutcome
 unless_overflow overflows core outcome = if overflows then trapped 0x0A core else outcome
 
 -- a sum overflows, as tagged work has it: also where a word bears a tag
@@ -68,48 +68,48 @@ multiply_step rd a b core =
     (codes_of_sum (stepped_operand core a) (step_addend core b) false) (with_y core (stepped_y core a))
 
 -- the work on the values of the two operands
-abbrev pub worked : Arith → ℕ → ℕ → ℕ → Registers → Outcome
-worked Add rd a b core = plain rd (sum a b false) core
-worked And rd a b core = plain rd (bit_and a b) core
-worked Or rd a b core = plain rd (bit_or a b) core
-worked Xor rd a b core = plain rd (bit_xor a b) core
-worked Sub rd a b core = plain rd (difference a b false) core
-worked AndN rd a b core = plain rd (bit_and a (bit_not w32 b)) core
-worked OrN rd a b core = plain rd (bit_or a (bit_not w32 b)) core
-worked XNor rd a b core = plain rd (bit_not w32 (bit_xor a b)) core
-worked AddX rd a b core = plain rd (sum a b (carry core.icc)) core
-worked UMul rd a b core = wide rd (a * b) core
-worked SMul rd a b core = wide rd (signed_product a b) core
-worked SubX rd a b core = plain rd (difference a b (carry core.icc)) core
-worked UDiv rd a b core = divided_by b core (plain rd (quotient (dividend core a) b) core)
-worked SDiv rd a b core = divided_by b core (plain rd (signed_quotient (dividend core a) b) core)
-worked AddCc rd a b core = coded rd (sum a b false) (codes_of_sum a b false) core
-worked AndCc rd a b core = logical rd (bit_and a b) core
-worked OrCc rd a b core = logical rd (bit_or a b) core
-worked XorCc rd a b core = logical rd (bit_xor a b) core
-worked SubCc rd a b core = coded rd (difference a b false) (codes_of_difference a b false) core
-worked AndNCc rd a b core = logical rd (bit_and a (bit_not w32 b)) core
-worked OrNCc rd a b core = logical rd (bit_or a (bit_not w32 b)) core
-worked XNorCc rd a b core = logical rd (bit_not w32 (bit_xor a b)) core
-worked AddXCc rd a b core = coded rd (sum a b (carry core.icc)) (codes_of_sum a b (carry core.icc)) core
-worked UMulCc rd a b core = wide_coded rd (a * b) core
-worked SMulCc rd a b core = wide_coded rd (signed_product a b) core
-worked SubXCc rd a b core = coded rd (difference a b (carry core.icc)) (codes_of_difference a b (carry core.icc)) core
-worked UDivCc rd a b core =
+abbrev pub arith_outcome : Arith → ℕ → ℕ → ℕ → Registers → RegisterOutcome
+arith_outcome Add rd a b core = result_alone rd (sum a b false) core
+arith_outcome And rd a b core = result_alone rd (bit_and a b) core
+arith_outcome Or rd a b core = result_alone rd (bit_or a b) core
+arith_outcome Xor rd a b core = result_alone rd (bit_xor a b) core
+arith_outcome Sub rd a b core = result_alone rd (difference a b false) core
+arith_outcome AndN rd a b core = result_alone rd (bit_and a (bit_not w32 b)) core
+arith_outcome OrN rd a b core = result_alone rd (bit_or a (bit_not w32 b)) core
+arith_outcome XNor rd a b core = result_alone rd (bit_not w32 (bit_xor a b)) core
+arith_outcome AddX rd a b core = result_alone rd (sum a b (carry core.icc)) core
+arith_outcome UMul rd a b core = wide rd (a * b) core
+arith_outcome SMul rd a b core = wide rd (signed_product a b) core
+arith_outcome SubX rd a b core = result_alone rd (difference a b (carry core.icc)) core
+arith_outcome UDiv rd a b core = divided_by b core (result_alone rd (quotient (dividend core a) b) core)
+arith_outcome SDiv rd a b core = divided_by b core (result_alone rd (signed_quotient (dividend core a) b) core)
+arith_outcome AddCc rd a b core = coded rd (sum a b false) (codes_of_sum a b false) core
+arith_outcome AndCc rd a b core = logical rd (bit_and a b) core
+arith_outcome OrCc rd a b core = logical rd (bit_or a b) core
+arith_outcome XorCc rd a b core = logical rd (bit_xor a b) core
+arith_outcome SubCc rd a b core = coded rd (difference a b false) (codes_of_difference a b false) core
+arith_outcome AndNCc rd a b core = logical rd (bit_and a (bit_not w32 b)) core
+arith_outcome OrNCc rd a b core = logical rd (bit_or a (bit_not w32 b)) core
+arith_outcome XNorCc rd a b core = logical rd (bit_not w32 (bit_xor a b)) core
+arith_outcome AddXCc rd a b core = coded rd (sum a b (carry core.icc)) (codes_of_sum a b (carry core.icc)) core
+arith_outcome UMulCc rd a b core = wide_coded rd (a * b) core
+arith_outcome SMulCc rd a b core = wide_coded rd (signed_product a b) core
+arith_outcome SubXCc rd a b core = coded rd (difference a b (carry core.icc)) (codes_of_difference a b (carry core.icc)) core
+arith_outcome UDivCc rd a b core =
     divided_by b core (coded rd (quotient (dividend core a) b) (codes_of_result (quotient (dividend core a) b) (quotient_overflows (dividend core a) b)) core)
-worked SDivCc rd a b core =
+arith_outcome SDivCc rd a b core =
     divided_by b core (coded rd (signed_quotient (dividend core a) b) (codes_of_result (signed_quotient (dividend core a) b) (signed_quotient_overflows (dividend core a) b)) core)
-worked TAddCc rd a b core = coded rd (sum a b false) (codes_of_tagged_sum a b (tagged_sum_overflows a b)) core
-worked TSubCc rd a b core = coded rd (difference a b false) (codes_of_tagged_difference a b (tagged_difference_overflows a b)) core
-worked TAddCcTv rd a b core =
+arith_outcome TAddCc rd a b core = coded rd (sum a b false) (codes_of_tagged_sum a b (tagged_sum_overflows a b)) core
+arith_outcome TSubCc rd a b core = coded rd (difference a b false) (codes_of_tagged_difference a b (tagged_difference_overflows a b)) core
+arith_outcome TAddCcTv rd a b core =
     unless_overflow (tagged_sum_overflows a b) core (coded rd (sum a b false) (codes_of_tagged_sum a b false) core)
-worked TSubCcTv rd a b core =
+arith_outcome TSubCcTv rd a b core =
     unless_overflow (tagged_difference_overflows a b) core (coded rd (difference a b false) (codes_of_tagged_difference a b false) core)
-worked MulSCc rd a b core = went (multiply_step rd a b core)
-worked Sll rd a b core = plain rd (shifted_left a b) core
-worked Srl rd a b core = plain rd (shifted_right a b) core
-worked Sra rd a b core = plain rd (shifted_arithmetically a b) core
+arith_outcome MulSCc rd a b core = went (multiply_step rd a b core)
+arith_outcome Sll rd a b core = result_alone rd (shifted_left a b) core
+arith_outcome Srl rd a b core = result_alone rd (shifted_right a b) core
+arith_outcome Sra rd a b core = result_alone rd (shifted_arithmetically a b) core
 
 -- work on registers
-abbrev pub arith_row : Arith → ℕ → ℕ → Src → Registers → Outcome
-arith_row operation rd rs1 source core = worked operation rd (register_at core rs1) (value_of source core) core
+abbrev pub arith_row : Arith → ℕ → ℕ → Src → Registers → RegisterOutcome
+arith_row operation rd rs1 source core = arith_outcome operation rd (register_at core rs1) (value_of source core) core

@@ -4,9 +4,9 @@ use Rattle.std.specs.Prelude.{◌≡◌, ◌≢◌, ◌<◌, length, ℕ, zero, 
 use Rattle.sparc_step.specs.Registers.{Registers, ins_place}
 
 -- a function of the numbers below a bound, as a list
-abbrev pub table : (ℕ → ℕ) → ℕ → List ℕ
-table f zero = []
-table f (suc n) = f 0 ∷ table (λ k. f (suc k)) n
+abbrev pub listed_below : (ℕ → ℕ) → ℕ → List ℕ
+listed_below f zero = []
+listed_below f (suc n) = f 0 ∷ listed_below (λ k. f (suc k)) n
 
 -- place k of the windows is one of so many from a place on
 abbrev pub lies_in : ℕ → ℕ → ℕ → Bool
@@ -25,7 +25,7 @@ word_at cwp hand windows k =
 
 -- the windows with what is at hand
 unfoldable pub windows_with : ℕ → List ℕ → List ℕ → List ℕ
-windows_with cwp hand windows = table (word_at cwp hand windows) 128
+windows_with cwp hand windows = listed_below (word_at cwp hand windows) 128
 
 -- the registers with what is at hand
 unfoldable pub gathered : ℕ → ℕ → ℕ → ℕ → ℕ → ℕ → List ℕ → List ℕ → Registers

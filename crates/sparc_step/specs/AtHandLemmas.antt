@@ -6,37 +6,37 @@ use Rattle.std.proofs.lemmas.Bool.Decides.{nat_tests}
 use Rattle.std.proofs.lemmas.Slice.{take-put_mid_below}
 use Rattle.std.proofs.lemmas.List.{same_lists, places, get_or-set_same, get_or-set_other, get_or-take, get_or-drop, length-set}
 use Rattle.std.specs.Prelude.{ℕ, zero, suc, ◌+◌, ◌-◌, ◌*◌, ◌%◌, ◌<◌, ◌≤◌, Bool, true, false, nat_lt, ◌==◌, if◌then◌else◌, List, ◌++◌, length, take, drop, slice_index, slice_set, get_or}
-use Rattle.sparc_step.specs.AtHand.{IsAtHand, gathered, lies_in, own_place, table, windows_with, with_first, word_at}
+use Rattle.sparc_step.specs.AtHand.{IsAtHand, gathered, lies_in, own_place, listed_below, windows_with, with_first, word_at}
 use Rattle.sparc_step.specs.Registers.{AreRegisters, Registers, ins_place, locals_and_ins, locals_place, place_in_windows, register_at, with_locals_and_ins, with_register, with_saved}
 
 -- a table has as many numbers as were asked for
-pub length-table : (f : ℕ → ℕ) (n : ℕ) → length (table f n) ≡ n
+pub length-table : (f : ℕ → ℕ) (n : ℕ) → length (listed_below f n) ≡ n
 length-table f zero = refl
 length-table f (suc n) = ap suc (length-table (λ k. f (suc k)) n)
 
 -- each is that of its place
-pub get_or-table : (f : ℕ → ℕ) (n k d : ℕ) → k < n → get_or (table f n) k d ≡ f k
+pub get_or-table : (f : ℕ → ℕ) (n k d : ℕ) → k < n → get_or (listed_below f n) k d ≡ f k
 get_or-table f zero k d h = absurd (omega arith)
 get_or-table f (suc n) zero d h = refl
 get_or-table f (suc n) (suc k) d h = get_or-table (λ k. f (suc k)) n k d (omega arith)
 
 -- tables of functions that agree are one
-pub table-same : (f g : ℕ → ℕ) (n : ℕ) → ((k : ℕ) → k < n → f k ≡ g k) → table f n ≡ table g n
+pub table-same : (f g : ℕ → ℕ) (n : ℕ) → ((k : ℕ) → k < n → f k ≡ g k) → listed_below f n ≡ listed_below g n
 table-same f g zero same = refl
 table-same f g (suc n) same = rw (same 0 (omega arith), table-same (λ k. f (suc k)) (λ k. g (suc k)) n (λ k h. same (suc k) (omega arith))) refl
 
 -- a list is the table of its numbers
-pub table-of : (f : ℕ → ℕ) (xs : List ℕ) (n : ℕ) → length xs ≡ n → ((k : ℕ) → k < n → f k ≡ slice_index xs k) → table f n ≡ xs
+pub table-of : (f : ℕ → ℕ) (xs : List ℕ) (n : ℕ) → length xs ≡ n → ((k : ℕ) → k < n → f k ≡ slice_index xs k) → listed_below f n ≡ xs
 table-of f xs n counted same = same_lists _ _ (length-table f n ∙ sym counted) (λ k d h. inside k d (omega (arith, length-table f n)))
   where
-    inside : (k d : ℕ) → k < n → get_or (table f n) k d ≡ get_or xs k d
+    inside : (k d : ℕ) → k < n → get_or (listed_below f n) k d ≡ get_or xs k d
     inside k d h = get_or-table f n k d h ∙ same k h ∙ default k d (omega arith)
       where
         default : (k d : ℕ) → k < length xs → get_or xs k 0 ≡ get_or xs k d
         default k d h = grind (arith, places)
 
 -- a number set in a table
-pub set-table : (f g : ℕ → ℕ) (n i v : ℕ) → i < n → g i ≡ v → ((k : ℕ) → k ≢ i → f k ≡ g k) → slice_set (table f n) i v ≡ table g n
+pub set-table : (f g : ℕ → ℕ) (n i v : ℕ) → i < n → g i ≡ v → ((k : ℕ) → k ≢ i → f k ≡ g k) → slice_set (listed_below f n) i v ≡ listed_below g n
 set-table f g zero i v h here other = absurd (omega arith)
 set-table f g (suc n) zero v h here other = rw (here, table-same (λ k. f (suc k)) (λ k. g (suc k)) n (λ k h. other (suc k) (omega arith))) refl
 set-table f g (suc n) (suc i) v h here other =
@@ -81,26 +81,26 @@ pub register_at_gathered : (pc npc y icc cwp inv : ℕ) (hand windows : List ℕ
 unfolding register_at gathered windows_with
 register_at_gathered pc npc y icc cwp inv hand windows r window small = at (nat_lt r 8) refl
   where
-    at_place : (place : ℕ) → place < 128 → word_at cwp hand windows place ≡ slice_index hand r → slice_index (table (word_at cwp hand windows) 128) place ≡ slice_index hand r
+    at_place : (place : ℕ) → place < 128 → word_at cwp hand windows place ≡ slice_index hand r → slice_index (listed_below (word_at cwp hand windows) 128) place ≡ slice_index hand r
     at_place place inside is = get_or-table (word_at cwp hand windows) 128 place 0 inside ∙ is
 
-    local : 8 ≤ r → r < 24 → (place : ℕ) → place ≡ 16 * cwp + r - 8 → slice_index (table (word_at cwp hand windows) 128) place ≡ slice_index hand r
+    local : 8 ≤ r → r < 24 → (place : ℕ) → place ≡ 16 * cwp + r - 8 → slice_index (listed_below (word_at cwp hand windows) 128) place ≡ slice_index hand r
     local low high place is =
         let number : place - own_place cwp + 8 ≡ r = omega arith in
         at_place place (omega arith) (word_at-own cwp hand windows place (omega arith) (omega arith) ∙ ap (slice_index hand) number)
 
-    incoming : 24 ≤ r → (place : ℕ) → place ≡ 16 * ((cwp + 1) % 8) + r - 24 → slice_index (table (word_at cwp hand windows) 128) place ≡ slice_index hand r
+    incoming : 24 ≤ r → (place : ℕ) → place ≡ 16 * ((cwp + 1) % 8) + r - 24 → slice_index (listed_below (word_at cwp hand windows) 128) place ≡ slice_index hand r
     incoming low place is =
         let number : place - ins_place cwp + 24 ≡ r = omega arith in
         let above : ins_place cwp ≤ place = omega arith in
         let below : place < ins_place cwp + 8 = omega arith in
         at_place place (omega arith) (word_at-ins cwp hand windows place (ins_apart cwp place window above below) above below ∙ ap (slice_index hand) number)
 
-    windowed : 8 ≤ r → (b : Bool) → nat_lt r 24 ≡ b → slice_index (table (word_at cwp hand windows) 128) (if b then 16 * cwp + r - 8 else 16 * ((cwp + 1) % 8) + r - 24) ≡ slice_index hand r
+    windowed : 8 ≤ r → (b : Bool) → nat_lt r 24 ≡ b → slice_index (listed_below (word_at cwp hand windows) 128) (if b then 16 * cwp + r - 8 else 16 * ((cwp + 1) % 8) + r - 24) ≡ slice_index hand r
     windowed low true is = let high : r < 24 = grind (arith, nat_tests) in local low high (16 * cwp + r - 8) refl
     windowed low false is = let high : 24 ≤ r = grind (arith, nat_tests) in incoming high (16 * ((cwp + 1) % 8) + r - 24) refl
 
-    at : (b : Bool) → nat_lt r 8 ≡ b → (if b then slice_index (take 8 hand) r else slice_index (table (word_at cwp hand windows) 128) (place_in_windows cwp r)) ≡ slice_index hand r
+    at : (b : Bool) → nat_lt r 8 ≡ b → (if b then slice_index (take 8 hand) r else slice_index (listed_below (word_at cwp hand windows) 128) (place_in_windows cwp r)) ≡ slice_index hand r
     at true is = let low : r < 8 = grind (arith, nat_tests) in get_or-take 8 hand r 0 low
     at false is = let low : 8 ≤ r = grind (arith, nat_tests) in windowed low (nat_lt r 24) refl
 
@@ -172,20 +172,20 @@ pub with_register_gathered : (pc npc y icc cwp inv : ℕ) (hand windows : List �
 unfolding with_register gathered windows_with
 with_register_gathered pc npc y icc cwp inv hand windows r value window small counted zero_first = at (r == 0) (nat_lt r 8) refl refl
   where
-    same_words : 0 < r → r < 8 → table (word_at cwp hand windows) 128 ≡ table (word_at cwp (put_at hand r value) windows) 128
+    same_words : 0 < r → r < 8 → listed_below (word_at cwp hand windows) 128 ≡ listed_below (word_at cwp (put_at hand r value) windows) 128
     same_words some low = table-same _ _ 128 (λ k h. word_at-put_at cwp hand windows r value k zero_first (omega arith) (λ from under. omega arith) (λ from under. omega arith))
 
-    set_word : (place : ℕ) → place < 128 → word_at cwp (put_at hand r value) windows place ≡ value → ((k : ℕ) → k ≢ place → word_at cwp hand windows k ≡ word_at cwp (put_at hand r value) windows k) → slice_set (table (word_at cwp hand windows) 128) place value ≡ table (word_at cwp (put_at hand r value) windows) 128
+    set_word : (place : ℕ) → place < 128 → word_at cwp (put_at hand r value) windows place ≡ value → ((k : ℕ) → k ≢ place → word_at cwp hand windows k ≡ word_at cwp (put_at hand r value) windows k) → slice_set (listed_below (word_at cwp hand windows) 128) place value ≡ listed_below (word_at cwp (put_at hand r value) windows) 128
     set_word place inside here other = set-table _ _ 128 place value inside here other
 
-    local : 8 ≤ r → r < 24 → (place : ℕ) → place ≡ 16 * cwp + r - 8 → slice_set (table (word_at cwp hand windows) 128) place value ≡ table (word_at cwp (put_at hand r value) windows) 128
+    local : 8 ≤ r → r < 24 → (place : ℕ) → place ≡ 16 * cwp + r - 8 → slice_set (listed_below (word_at cwp hand windows) 128) place value ≡ listed_below (word_at cwp (put_at hand r value) windows) 128
     local low high place is =
         let number : place - own_place cwp + 8 ≡ r = omega arith in
         set_word place (omega arith)
         (word_at-own cwp (put_at hand r value) windows place (omega arith) (omega arith) ∙ ap (slice_index (put_at hand r value)) number ∙ put_at-same hand r value (omega arith) (omega arith))
         (λ k ne. word_at-put_at cwp hand windows r value k zero_first (omega arith) (λ from under. omega arith) (λ from under. omega arith))
 
-    incoming : 24 ≤ r → (place : ℕ) → place ≡ 16 * ((cwp + 1) % 8) + r - 24 → slice_set (table (word_at cwp hand windows) 128) place value ≡ table (word_at cwp (put_at hand r value) windows) 128
+    incoming : 24 ≤ r → (place : ℕ) → place ≡ 16 * ((cwp + 1) % 8) + r - 24 → slice_set (listed_below (word_at cwp hand windows) 128) place value ≡ listed_below (word_at cwp (put_at hand r value) windows) 128
     incoming low place is =
         let number : place - ins_place cwp + 24 ≡ r = omega arith in
         let above : ins_place cwp ≤ place = omega arith in
@@ -194,11 +194,11 @@ with_register_gathered pc npc y icc cwp inv hand windows r value window small co
         (word_at-ins cwp (put_at hand r value) windows place (ins_apart cwp place window above below) above below ∙ ap (slice_index (put_at hand r value)) number ∙ put_at-same hand r value (omega arith) (omega arith))
         (λ k ne. word_at-put_at cwp hand windows r value k zero_first (omega arith) (λ from under. omega arith) (λ from under. omega arith))
 
-    windowed : 8 ≤ r → (b : Bool) → nat_lt r 24 ≡ b → slice_set (table (word_at cwp hand windows) 128) (if b then 16 * cwp + r - 8 else 16 * ((cwp + 1) % 8) + r - 24) value ≡ table (word_at cwp (put_at hand r value) windows) 128
+    windowed : 8 ≤ r → (b : Bool) → nat_lt r 24 ≡ b → slice_set (listed_below (word_at cwp hand windows) 128) (if b then 16 * cwp + r - 8 else 16 * ((cwp + 1) % 8) + r - 24) value ≡ listed_below (word_at cwp (put_at hand r value) windows) 128
     windowed low true is = let high : r < 24 = grind (arith, nat_tests) in local low high (16 * cwp + r - 8) refl
     windowed low false is = let high : 24 ≤ r = grind (arith, nat_tests) in incoming high (16 * ((cwp + 1) % 8) + r - 24) refl
 
-    at : (none low : Bool) → (r == 0) ≡ none → nat_lt r 8 ≡ low → (if none then gathered pc npc y icc cwp inv hand windows else if low then record (gathered pc npc y icc cwp inv hand windows) { globals = slice_set (take 8 hand) r value } else record (gathered pc npc y icc cwp inv hand windows) { windows = slice_set (table (word_at cwp hand windows) 128) (place_in_windows cwp r) value }) ≡ gathered pc npc y icc cwp inv (put_at hand r value) windows
+    at : (none low : Bool) → (r == 0) ≡ none → nat_lt r 8 ≡ low → (if none then gathered pc npc y icc cwp inv hand windows else if low then record (gathered pc npc y icc cwp inv hand windows) { globals = slice_set (take 8 hand) r value } else record (gathered pc npc y icc cwp inv hand windows) { windows = slice_set (listed_below (word_at cwp hand windows) 128) (place_in_windows cwp r) value }) ≡ gathered pc npc y icc cwp inv (put_at hand r value) windows
     at true low is low_is =
         let nothing : r ≡ 0 = grind (arith, nat_tests) in
         sym (ap (λ (words : List ℕ). gathered pc npc y icc cwp inv words windows) (ap (λ j. put_at hand j value) nothing ∙ put_at-zero hand value zero_first (omega arith)))
@@ -381,7 +381,7 @@ unfolding windows_with
 part_away cwp hand windows from count whole fits away = same_lists _ _ counted each
   where
     all : List ℕ
-    all = table (word_at cwp hand windows) 128
+    all = listed_below (word_at cwp hand windows) 128
 
     sized : length all ≡ 128
     sized = length-table (word_at cwp hand windows) 128
@@ -412,7 +412,7 @@ put_away cwp hand windows words from count whole fits counted away =
     put = put_mid from count windows words
 
     all : List ℕ
-    all = table (word_at cwp hand windows) 128
+    all = listed_below (word_at cwp hand windows) 128
 
     sized : length all ≡ 128
     sized = length-table (word_at cwp hand windows) 128
@@ -505,8 +505,8 @@ with_saved_away cwp window hand windows words current small whole counted other 
 two_parts_of : (n m : ℕ) (words first second : List ℕ) → length words ≡ n + m → length first ≡ n → length second ≡ m → put_mid n m (put_mid 0 n words first) second ≡ first ++ second
 two_parts_of n m words first second counted one two = same_lists _ _ (grind (arith, places)) (λ k d h. grind (arith, places))
 
-two_parts : (words first second : List ℕ) → length words ≡ 16 → length first ≡ 8 → length second ≡ 8 → put_mid 8 8 (put_mid 0 8 words first) second ≡ first ++ second
-two_parts words first second counted one two = two_parts_of 8 8 words first second counted one two
+two_halves : (words first second : List ℕ) → length words ≡ 16 → length first ≡ 8 → length second ≡ 8 → put_mid 8 8 (put_mid 0 8 words first) second ≡ first ++ second
+two_halves words first second counted one two = two_parts_of 8 8 words first second counted one two
 
 -- the same of registers that are seen so
 module _ (pc npc y icc cwp inv : ℕ) (hand windows : List ℕ) (now : Registers) (seen : gathered pc npc y icc cwp inv hand windows ≡ now) (at_hand : IsAtHand pc npc y icc cwp inv hand windows) (window : ℕ) (small : window < 8) where
@@ -538,7 +538,7 @@ module _ (pc npc y icc cwp inv : ℕ) (hand windows : List ℕ) (now : Registers
   saved_seen locals ins zeros once twice other below locals_is ins_are sixteen once_is twice_is =
       twice_is
       ∙ ap (λ (xs : List ℕ). put_mid 8 8 xs (take 8 (drop ins windows))) once_is
-      ∙ two_parts zeros (take 8 (drop locals windows)) (take 8 (drop ins windows)) sixteen (length-part windows locals 8 (omega (arith, at_hand.eight_windows))) (length-part windows ins 8 (omega (arith, at_hand.eight_windows)))
+      ∙ two_halves zeros (take 8 (drop locals windows)) (take 8 (drop ins windows)) sixteen (length-part windows locals 8 (omega (arith, at_hand.eight_windows))) (length-part windows ins 8 (omega (arith, at_hand.eight_windows)))
       ∙ ap (λ (n : ℕ). take 8 (drop n windows) ++ take 8 (drop ins windows)) locals_is
       ∙ ap (λ (n : ℕ). take 8 (drop (locals_place window) windows) ++ take 8 (drop n windows)) ins_are
       ∙ sym (saved_away cwp window hand windows at_hand.current_window small at_hand.eight_windows (other_is other) (below_is below))

@@ -5,16 +5,16 @@ use Rattle.sparc_step.specs.declared.outcome.Turn.{Turn}
 use Rattle.sparc_step.specs.declared.outcome.Turn.TheVariants.{Went, Trap}
 
 -- what an instruction came to, and the registers that it left
-pub record Outcome : Type 0 where
+pub record RegisterOutcome : Type 0 where
   pub turn : Turn
   pub core : Registers
 
 -- an instruction that was executed
-abbrev pub went : Registers → Outcome
+abbrev pub went : Registers → RegisterOutcome
 went core = record { turn = Went; core = core }
 
 -- an instruction that trapped and changed nothing
-abbrev pub trapped : ℕ → Registers → Outcome
+abbrev pub trapped : ℕ → Registers → RegisterOutcome
 trapped type core = record { turn = Trap type; core = core }
 
 -- the registers behind an instruction with a result

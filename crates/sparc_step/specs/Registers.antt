@@ -42,8 +42,8 @@ with_register r n value =
     else record r { windows = slice_set r.windows (place_in_windows r.cwp n) value }
 
 -- the registers of a program that begins at its entry
-unfoldable pub started : ℕ → Registers
-started entry = record {
+unfoldable pub registers_started : ℕ → Registers
+registers_started entry = record {
   pc = entry;
   npc = (entry + 4) % 2 ^ 32;
   y = 0;

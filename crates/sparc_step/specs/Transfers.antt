@@ -107,5 +107,5 @@ transfer LdStUb rd address areas core memory = exchange_of 0xFF address One rd a
 transfer Swap rd address areas core memory = exchange_of (register_at core rd) address Four rd areas core memory
 
 -- work on memory
-abbrev pub memory_row : MemOp → ℕ → ℕ → Src → List Area → Registers → Memory → Turned
-memory_row operation rd rs1 source areas core memory = transfer operation rd (sum_of rs1 source core) areas core memory
+abbrev pub transfer_row : MemOp → ℕ → ℕ → Src → List Area → Registers → Memory → Turned
+transfer_row operation rd rs1 source areas core memory = transfer operation rd (sum_of rs1 source core) areas core memory

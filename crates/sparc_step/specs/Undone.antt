@@ -13,11 +13,11 @@ use Rattle.sparc_code.specs.declared.instruction.Instr.{Instr}
 use Rattle.sparc_code.specs.declared.instruction.Instr.TheVariants as instr
 use Rattle.sparc_code.specs.declared.instruction.MemOp.{MemOp}
 use Rattle.sparc_code.specs.declared.instruction.MemOp.TheVariants as memory
-use Rattle.sparc_step.specs.Arithmetic.{divided_by, tagged_difference_overflows, tagged_sum_overflows, unless_overflow, worked}
-use Rattle.sparc_step.specs.Execution.{Turned, beside, executed, turned, turned_after}
+use Rattle.sparc_step.specs.Arithmetic.{divided_by, tagged_difference_overflows, tagged_sum_overflows, unless_overflow, arith_outcome}
+use Rattle.sparc_step.specs.Execution.{Turned, keeping_memory, executed, turned, turned_after}
 use Rattle.sparc_step.specs.Flow.{jumped, left_by, moved, trap_turn, window_above, window_below}
 use Rattle.sparc_step.specs.Operands.{sum_of, value_of}
-use Rattle.sparc_step.specs.Outcome.{Outcome, trapped, went}
+use Rattle.sparc_step.specs.Outcome.{RegisterOutcome, trapped, went}
 use Rattle.sparc_step.specs.Registers.{Registers, advanced, register_at}
 use Rattle.sparc_step.specs.Transfers.{exchange_of, exchanged, exchanged_with, loaded_into, pair_at, pair_loaded, store_of, stored_from, transfer}
 use Rattle.sparc_step.specs.declared.outcome.Turn.{Turn}
@@ -43,22 +43,22 @@ trapped_orderly : (type : ℕ) (core : Registers) (memory : Memory) → IsOrderl
 trapped_orderly type core memory = record { undone = (refl, refl); called = λ is_call. cc }
 
 -- so it is after one that traps or goes, as a test says
-either_orderly : (b : Bool) (core : Registers) (memory : Memory) (one other : Outcome) → IsOrderly core memory (beside memory one) → IsOrderly core memory (beside memory other) → IsOrderly core memory (beside memory (if b then one else other))
+either_orderly : (b : Bool) (core : Registers) (memory : Memory) (one other : RegisterOutcome) → IsOrderly core memory (keeping_memory memory one) → IsOrderly core memory (keeping_memory memory other) → IsOrderly core memory (keeping_memory memory (if b then one else other))
 either_orderly true core memory one other first second = first
 either_orderly false core memory one other first second = second
 
 -- so it is after a division
-divided_orderly : (divisor : ℕ) (core after : Registers) (memory : Memory) → IsOrderly core memory (beside memory (divided_by divisor core (went after)))
+divided_orderly : (divisor : ℕ) (core after : Registers) (memory : Memory) → IsOrderly core memory (keeping_memory memory (divided_by divisor core (went after)))
 divided_orderly divisor core after memory =
     either_orderly (divisor == 0) core memory (trapped 0x2A core) (went after) (trapped_orderly 0x2A core memory) (went_orderly core after memory memory)
 
 -- so it is after tagged work
-tagged_orderly : (overflows : Bool) (core after : Registers) (memory : Memory) → IsOrderly core memory (beside memory (unless_overflow overflows core (went after)))
+tagged_orderly : (overflows : Bool) (core after : Registers) (memory : Memory) → IsOrderly core memory (keeping_memory memory (unless_overflow overflows core (went after)))
 tagged_orderly overflows core after memory =
     either_orderly overflows core memory (trapped 0x0A core) (went after) (trapped_orderly 0x0A core memory) (went_orderly core after memory memory)
 
 -- so it is after work on registers
-worked_orderly : (operation : Arith) (rd a b : ℕ) (core : Registers) (memory : Memory) → IsOrderly core memory (beside memory (worked operation rd a b core))
+worked_orderly : (operation : Arith) (rd a b : ℕ) (core : Registers) (memory : Memory) → IsOrderly core memory (keeping_memory memory (arith_outcome operation rd a b core))
 worked_orderly arith.UDiv rd a b core memory = divided_orderly b core _ memory
 worked_orderly arith.SDiv rd a b core memory = divided_orderly b core _ memory
 worked_orderly arith.UDivCc rd a b core memory = divided_orderly b core _ memory
@@ -97,13 +97,13 @@ worked_orderly arith.Srl rd a b core memory = went_orderly core _ memory memory
 worked_orderly arith.Sra rd a b core memory = went_orderly core _ memory memory
 
 -- so it is after a jump
-jumped_orderly : (rd to : ℕ) (core : Registers) (memory : Memory) → IsOrderly core memory (beside memory (jumped rd to core))
+jumped_orderly : (rd to : ℕ) (core : Registers) (memory : Memory) → IsOrderly core memory (keeping_memory memory (jumped rd to core))
 unfolding jumped
 jumped_orderly rd to core memory =
     either_orderly _ core memory (went _) (trapped 0x07 core) (went_orderly core _ memory memory) (trapped_orderly 0x07 core memory)
 
 -- so it is after a move to another window
-moved_orderly : (window type rd value : ℕ) (core : Registers) (memory : Memory) → IsOrderly core memory (beside memory (moved window type rd value core))
+moved_orderly : (window type rd value : ℕ) (core : Registers) (memory : Memory) → IsOrderly core memory (keeping_memory memory (moved window type rd value core))
 unfolding moved
 moved_orderly window type rd value core memory =
     either_orderly _ core memory (trapped type core) (went _) (trapped_orderly type core memory) (went_orderly core _ memory memory)

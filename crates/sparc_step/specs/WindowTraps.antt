@@ -16,12 +16,12 @@ use Rattle.sparc_code.specs.declared.instruction.Instr.TheVariants as instr
 use Rattle.sparc_code.specs.declared.instruction.MemOp.{MemOp}
 use Rattle.sparc_code.specs.declared.instruction.MemOp.TheVariants as memory
 use Rattle.sparc_code.specs.declared.instruction.Src.{Src}
-use Rattle.sparc_step.specs.Arithmetic.{divided_by, tagged_difference_overflows, tagged_sum_overflows, unless_overflow, worked}
+use Rattle.sparc_step.specs.Arithmetic.{divided_by, tagged_difference_overflows, tagged_sum_overflows, unless_overflow, arith_outcome}
 use Rattle.sparc_step.specs.Conditions.{holds}
 use Rattle.sparc_step.specs.Execution.{executed, turned, turned_after}
 use Rattle.sparc_step.specs.Flow.{jumped, moved, trap_turn, trap_type, turn_of_type, window_above, window_below}
 use Rattle.sparc_step.specs.Operands.{sum_of, value_of}
-use Rattle.sparc_step.specs.Outcome.{Outcome, trapped, went}
+use Rattle.sparc_step.specs.Outcome.{RegisterOutcome, trapped, went}
 use Rattle.sparc_step.specs.Registers.{Registers, register_at}
 use Rattle.sparc_step.specs.Transfers.{exchange_of, exchanged, exchanged_with, fault_type, loaded_into, pair_at, pair_loaded, store_of, stored_from, transfer}
 use Rattle.sparc_step.specs.declared.outcome.Turn.{Turn}
@@ -46,7 +46,7 @@ NoWindowTrap (Trap type) = (type ≢ 5) × (type ≢ 6)
 NoWindowTrap Call = Unit {0}
 
 -- none of either of two outcomes
-either_none : (b : Bool) (one other : Outcome) → NoWindowTrap one.turn → NoWindowTrap other.turn → NoWindowTrap (if b then one else other).turn
+either_none : (b : Bool) (one other : RegisterOutcome) → NoWindowTrap one.turn → NoWindowTrap other.turn → NoWindowTrap (if b then one else other).turn
 either_none true one other first second = first
 either_none false one other first second = second
 
@@ -63,7 +63,7 @@ tagged_none : (overflows : Bool) (core after : Registers) → NoWindowTrap (unle
 tagged_none overflows core after = either_none overflows (trapped 0x0A core) (went after) (λ is. cc, λ is. cc) tt
 
 -- none comes of work on registers
-worked_none : (operation : Arith) (rd a b : ℕ) (core : Registers) → NoWindowTrap (worked operation rd a b core).turn
+worked_none : (operation : Arith) (rd a b : ℕ) (core : Registers) → NoWindowTrap (arith_outcome operation rd a b core).turn
 worked_none arith.UDiv rd a b core = divided_none b core _
 worked_none arith.SDiv rd a b core = divided_none b core _
 worked_none arith.UDivCc rd a b core = divided_none b core _

@@ -8,8 +8,8 @@ residue width (pos n) = n % 2 ^ width
 residue width (negsuc n) = 2 ^ width - 1 - n % 2 ^ width
 
 -- a word as a signed number
-abbrev pub signed : ℕ → ℤ
-signed word = cast_signed w32 word
+abbrev pub signed_value : ℕ → ℤ
+signed_value word = cast_signed w32 word
 
 -- the number is a signed word's
 abbrev pub is_signed_word : ℤ → Bool
@@ -34,7 +34,7 @@ sum_carries a b carry = nat_le (2 ^ 32) (a + b + bit carry)
 
 -- the sum of signed words and a carry
 abbrev pub signed_sum : ℕ → ℕ → Bool → ℤ
-signed_sum a b carry = signed a +ℤ signed b +ℤ pos (bit carry)
+signed_sum a b carry = signed_value a +ℤ signed_value b +ℤ pos (bit carry)
 
 -- it does not fit a signed word
 unfoldable pub sum_overflows : ℕ → ℕ → Bool → Bool
@@ -50,7 +50,7 @@ difference_borrows a b borrow = nat_lt a (b + bit borrow)
 
 -- the difference of signed words, less a borrow
 abbrev pub signed_difference : ℕ → ℕ → Bool → ℤ
-signed_difference a b borrow = signed a -ℤ signed b -ℤ pos (bit borrow)
+signed_difference a b borrow = signed_value a -ℤ signed_value b -ℤ pos (bit borrow)
 
 -- it does not fit a signed word
 unfoldable pub difference_overflows : ℕ → ℕ → Bool → Bool
@@ -58,7 +58,7 @@ difference_overflows a b borrow = not (is_signed_word (signed_difference a b bor
 
 -- the product of signed words, as a double word
 unfoldable pub signed_product : ℕ → ℕ → ℕ
-signed_product a b = residue 64 (signed a *ℤ signed b)
+signed_product a b = residue 64 (signed_value a *ℤ signed_value b)
 
 -- the quotient of a double word, as far as a word holds it
 unfoldable pub quotient : ℕ → ℕ → ℕ
@@ -70,7 +70,7 @@ quotient_overflows dividend divisor = nat_le (2 ^ 32) (dividend / divisor)
 
 -- the quotient of a signed double word, rounded toward zero
 abbrev pub exact_quotient : ℕ → ℕ → ℤ
-exact_quotient dividend divisor = int_div (cast_signed w64 dividend) (signed divisor)
+exact_quotient dividend divisor = int_div (cast_signed w64 dividend) (signed_value divisor)
 
 -- as far as a signed word holds it
 unfoldable pub signed_quotient : ℕ → ℕ → ℕ
@@ -92,4 +92,4 @@ unfoldable pub shifted_right : ℕ → ℕ → ℕ
 shifted_right a count = a / 2 ^ (count % 32)
 
 unfoldable pub shifted_arithmetically : ℕ → ℕ → ℕ
-shifted_arithmetically a count = cast_unsigned w32 (int_shr (signed a) (count % 32))
+shifted_arithmetically a count = cast_unsigned w32 (int_shr (signed_value a) (count % 32))

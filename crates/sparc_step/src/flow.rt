@@ -6,7 +6,7 @@ ghost use Rattle.sparc_code.specs.Fields.{annul, cond, disp22, disp30, imm7, imm
 ghost use Rattle.sparc_step.specs.Flow.{
   branch_row,
   call_row,
-  entered,
+  window_entered,
   jump_row,
   jumped,
   left_by,
@@ -16,7 +16,7 @@ ghost use Rattle.sparc_step.specs.Flow.{
   save_row,
   sethi_row,
   taken,
-  target,
+  branch_target,
   trap_row,
   trap_type,
   window_above,
@@ -43,20 +43,20 @@ pub(crate) fn call(core: &mut Processor, word: u32)
 }
 
 // Where a call goes.
-#[tactic(auto, unfolding(crate::specs::Flow::target))]
+#[tactic(auto, unfolding(crate::specs::Flow::branch_target))]
 fn call_target(pc: u32, word: u32) -> u32
     requires { pc % 4 ≡ 0 }
-    ensures value { result ≡ target pc (disp30 word) }
+    ensures value { result ≡ branch_target pc (disp30 word) }
     ensures aligned { result % 4 ≡ 0 }
 {
     pc.wrapping_add(call_bytes(word))
 }
 
 // Where a branch goes.
-#[tactic(auto, unfolding(crate::specs::Flow::target))]
+#[tactic(auto, unfolding(crate::specs::Flow::branch_target))]
 fn branch_target(pc: u32, word: u32) -> u32
     requires { pc % 4 ≡ 0 }
-    ensures value { result ≡ target pc (disp22 word) }
+    ensures value { result ≡ branch_target pc (disp22 word) }
     ensures aligned { result % 4 ≡ 0 }
 {
     pc.wrapping_add(branch_bytes(word))
@@ -208,11 +208,11 @@ pub(crate) fn restore(core: &mut Processor, word: u32) -> Turn
 }
 
 // Enters a window that is valid, puts a result there, and goes on.
-#[tactic(auto, unfolding(crate::specs::Flow::entered))]
+#[tactic(auto, unfolding(crate::specs::Flow::window_entered))]
 fn enter(core: &mut Processor, window: u8, word: u32, value: u32)
     requires window { window < 8 }
     requires valid { window ≢ core.old.inv }
-    ensures { core.new ≡ entered window (rd word) value core.old }
+    ensures { core.new ≡ window_entered window (rd word) value core.old }
 {
     core.enter(window);
     put(core, word, value);

@@ -5,7 +5,7 @@ ghost use Rattle.sparc_step.specs.Registers.{
   AreRegisters,
   place_in_windows,
   register_at,
-  started,
+  registers_started,
   with_register,
 };
 
@@ -40,10 +40,10 @@ impl Model for Core {
 
 impl Core {
     /// The registers of a program that begins at the entry.
-    #[tactic(auto, unfolding(crate::specs::Registers::started))]
+    #[tactic(auto, unfolding(crate::specs::Registers::registers_started))]
     pub fn start(entry: u32) -> Core
         requires { entry % 4 ≡ 0 }
-        ensures started { result ≡ started entry }
+        ensures started { result ≡ registers_started entry }
         ensures registers { AreRegisters result }
     {
         Core {

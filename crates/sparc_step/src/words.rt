@@ -16,7 +16,7 @@ ghost use Rattle.sparc_step.specs.Words.{
   shifted_left,
   shifted_right,
   sign,
-  signed,
+  signed_value,
   signed_difference,
   signed_product,
   signed_quotient,
@@ -68,7 +68,7 @@ fn signed_sum(a: u32, b: u32, carry: bool) -> i64
 
 // A word as a signed number.
 fn signed(word: u32) -> i64
-    ensures value { result ≡ signed word }
+    ensures value { result ≡ signed_value word }
     ensures from { negsuc (2 ^ 31 - 1) ≤ℤ result }
     ensures below { result <ℤ pos (2 ^ 31) }
 {

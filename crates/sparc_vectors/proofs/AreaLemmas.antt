@@ -3,7 +3,7 @@ use Rattle.std.proofs.Common.{◌≡◌, ℕ, length, get_or, Fits, w8, ◌+◌,
 use Rattle.std.specs.Prelude.{◌&&◌, ◌||◌, Some, None, ◌%◌, ◌==◌, if◌then◌else◌}
 use Rattle.std.specs.Int.{byte_len}
 use Rattle.guest_bus.specs.Access.{access_fault, store_fault, width_of}
-use Rattle.guest_bus.specs.Memory.{all_from, covers, is_readable, is_writable, memory_of}
+use Rattle.guest_bus.specs.Memory.{all_from, holds_address, is_readable, is_writable, memory_of_bytes}
 use Rattle.guest_bus.specs.MemoryLemmas.{all_readable, readable_within, writable-readable}
 use Rattle.guest_bus.specs.Whole.{IsMemoryOf}
 use Rattle.guest_bus.specs.WholeLemmas.{memory_of-IsMemoryOf}
@@ -25,7 +25,7 @@ unfolding vector_areas
 within read_only address count some allowed = readable_within (record { start = AREA_START; size = AREA_BYTES; read_only = read_only }) address count some allowed
 
 -- the bytes are its memory
-pub whole : (read_only : Bool) (bytes : List ℕ) → length bytes ≡ AREA_BYTES → ((i : ℕ) → Fits w8 (get_or bytes i 0)) → IsMemoryOf (vector_areas read_only) (memory_of AREA_START bytes)
+pub whole : (read_only : Bool) (bytes : List ℕ) → length bytes ≡ AREA_BYTES → ((i : ℕ) → Fits w8 (get_or bytes i 0)) → IsMemoryOf (vector_areas read_only) (memory_of_bytes AREA_START bytes)
 unfolding vector_areas
 whole read_only bytes sized small = memory_of-IsMemoryOf (record { start = AREA_START; size = AREA_BYTES; read_only = read_only }) bytes sized (λ i. (small i).fits)
 
@@ -47,7 +47,7 @@ none_writable false = refl
 -- so no byte
 pub no_byte : (address : ℕ) → is_writable (vector_areas true) address ≡ false
 unfolding vector_areas
-no_byte address = none_writable (covers address (record { start = AREA_START; size = AREA_BYTES; read_only = true }))
+no_byte address = none_writable (holds_address address (record { start = AREA_START; size = AREA_BYTES; read_only = true }))
 
 -- an access that may not be made at its first byte
 no_access : (allowed : ℕ → Bool) (address count : ℕ) → allowed address ≡ false → 0 < count → all_from allowed address count ≡ false

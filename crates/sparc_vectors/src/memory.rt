@@ -4,7 +4,7 @@ ghost use Rattle.std.specs.Prelude.{◌≡◌, ◌+◌, ◌<◌, ◌≤◌, ◌�
 ghost use Rattle.std.specs.Int.{byte_len, from_be_bytes, to_be_bytes, w16, w32, w64};
 ghost use borrow.Rule.Slice.PartMut.{put_mid};
 ghost use Rattle.guest_bus.specs.Access.{Stores, after_store, fetched, loaded, store_fault, width_of};
-ghost use Rattle.guest_bus.specs.Memory.{all_from, is_readable, memory_of, no_others};
+ghost use Rattle.guest_bus.specs.Memory.{all_from, is_readable, memory_of_bytes, no_others};
 ghost use Rattle.guest_bus.specs.Whole.{IsMemoryOf};
 ghost use Rattle.sparc_vectors.specs.Area.{Places, vector_areas};
 
@@ -32,7 +32,7 @@ pub(crate) struct VectorMemory {
 impl Model for VectorMemory {
     ghost use Rattle.std.specs.Prelude.{◌≡◌, length};
     ghost use Rattle.std.specs.Coded.{codes};
-    ghost use Rattle.guest_bus.specs.Memory.{memory_code, memory_of};
+    ghost use Rattle.guest_bus.specs.Memory.{memory_code, memory_of_bytes};
     ghost use Rattle.sparc_vectors.specs.Area.{VectorArea};
     ghost use Rattle.sparc_vectors.specs.declared.memory.TheConstants.{AREA_BYTES, AREA_START};
 
@@ -40,7 +40,7 @@ impl Model for VectorMemory {
 
     ghost coded = { Prim.hlevel (codes, memory_code) };
 
-    ghost view = { λ a. record { read_only = a.read_only; memory = memory_of AREA_START a.bytes.items } };
+    ghost view = { λ a. record { read_only = a.read_only; memory = memory_of_bytes AREA_START a.bytes.items } };
 
     ghost invariant = { λ a. length a.bytes.items ≡ AREA_BYTES };
 }
@@ -164,8 +164,8 @@ fn accessed(address: u32, size: Size, read_only: bool) -> Result<usize, BusFault
 // The word that a fetch answers.
 fn fetch_word(bytes: &[u8], read_only: bool, address: u32) -> Result<u32, BusFault>
     requires { length bytes.now ≡ AREA_BYTES }
-    ensures value { result ≡ fetched (vector_areas read_only) (memory_of AREA_START bytes.now) address }
-    ensures whole { IsMemoryOf (vector_areas read_only) (memory_of AREA_START bytes.now) }
+    ensures value { result ≡ fetched (vector_areas read_only) (memory_of_bytes AREA_START bytes.now) address }
+    ensures whole { IsMemoryOf (vector_areas read_only) (memory_of_bytes AREA_START bytes.now) }
 {
     match accessed(address, Size::Four, read_only) {
         Ok(at) => Ok(word(bytes, at)),
@@ -176,8 +176,8 @@ fn fetch_word(bytes: &[u8], read_only: bool, address: u32) -> Result<u32, BusFau
 // The value that a load answers.
 fn load_value(bytes: &[u8], read_only: bool, address: u32, size: Size) -> Result<u64, BusFault>
     requires { length bytes.now ≡ AREA_BYTES }
-    ensures value { result ≡ loaded (vector_areas read_only) (memory_of AREA_START bytes.now) address size }
-    ensures whole { IsMemoryOf (vector_areas read_only) (memory_of AREA_START bytes.now) }
+    ensures value { result ≡ loaded (vector_areas read_only) (memory_of_bytes AREA_START bytes.now) address size }
+    ensures whole { IsMemoryOf (vector_areas read_only) (memory_of_bytes AREA_START bytes.now) }
 {
     match accessed(address, size, read_only) {
         Ok(at) => Ok(value_at(bytes, at, size)),
@@ -195,8 +195,8 @@ fn store_value(
 ) -> Result<(), BusFault>
     requires { length bytes.old ≡ AREA_BYTES }
     ensures fault { Stores result (store_fault (vector_areas read_only) address size) }
-    ensures memory { memory_of AREA_START bytes.new ≡ after_store (vector_areas read_only) (memory_of AREA_START bytes.old) address size value }
-    ensures whole { IsMemoryOf (vector_areas read_only) (memory_of AREA_START bytes.new) }
+    ensures memory { memory_of_bytes AREA_START bytes.new ≡ after_store (vector_areas read_only) (memory_of_bytes AREA_START bytes.old) address size value }
+    ensures whole { IsMemoryOf (vector_areas read_only) (memory_of_bytes AREA_START bytes.new) }
 {
     match accessed(address, size, read_only) {
         Ok(at) => {

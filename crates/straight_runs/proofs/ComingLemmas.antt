@@ -9,11 +9,11 @@ use Rattle.sparc_step.specs.Registers.{Registers, placed}
 use Rattle.straight_runs.specs.Coming.{IsCame}
 use Rattle.straight_runs.specs.Runs.{AreSteps, no_steps, one_more, one_settled, word_more}
 use Rattle.straight_runs.specs.Shifts.{IsShift}
-use Rattle.straight_runs.specs.Steps.{IsStep}
+use Rattle.straight_runs.specs.Steps.{IsRowStep}
 use Rattle.straight_runs.specs.Tables.{IsRowFor}
 use Rattle.straight_runs.specs.TurnLemmas.{turned-word}
 use Rattle.straight_runs.specs.Turning.{Turns, at_place, at_slot}
-use Rattle.straight_runs.specs.TurningLemmas.{next_address}
+use Rattle.straight_runs.proofs.TurningLemmas.{next_address}
 use Rattle.straight_runs.specs.declared.one.Came.{Came}
 use Rattle.straight_runs.specs.declared.one.Came.TheVariants.{Next, Jump, Turn, Slot, Stays}
 use Rattle.straight_runs.specs.declared.rows.Row.{Row}
@@ -28,7 +28,7 @@ followed count origin to areas core new memory after steps =
 
 -- its row went on to the next word
 pub came_next : (raw origin at : ℕ) (row : Row) (areas : List Area) (old new : Registers) (memory after : Memory)
-    → fetched areas memory (word_address origin at) ≡ Ok (swapped raw) → IsRowFor raw row → IsStep step.Next row areas old new memory after
+    → fetched areas memory (word_address origin at) ≡ Ok (swapped raw) → IsRowFor raw row → IsRowStep step.Next row areas old new memory after
     → IsCame Next origin at areas old new memory after
 came_next raw origin at row areas old new memory after stands is goes =
     followed 1 origin (at + 1) areas (at_place origin at old) new memory after
@@ -37,7 +37,7 @@ came_next raw origin at row areas old new memory after stands is goes =
 
 -- so did the row in its delay slot
 pub came_behind : (raw origin at to : ℕ) (row : Row) (areas : List Area) (core old new : Registers) (memory there after : Memory)
-    → fetched areas there (word_address origin (at + 1)) ≡ Ok (swapped raw) → IsRowFor raw row → IsStep step.Next row areas old new there after
+    → fetched areas there (word_address origin (at + 1)) ≡ Ok (swapped raw) → IsRowFor raw row → IsRowStep step.Next row areas old new there after
     → AreSteps 1 areas (at_place origin at core) memory (at_slot origin (at + 1) to old) there → IsCame (Turn to) origin at areas core new memory after
 came_behind raw origin at to row areas core old new memory there after stands is goes steps =
     followed 2 origin to areas (at_place origin at core) new memory after

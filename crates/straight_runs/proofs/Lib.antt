@@ -1,4 +1,6 @@
 pub mod ComingLemmas
-pub mod SourceLemmas
 pub mod RunningLemmas
+pub mod SourceLemmas
 pub mod TableLemmas
+pub mod TransferLemmas
+pub mod TurningLemmas

@@ -4,10 +4,10 @@ use Rattle.guest_bus.specs.Memory.{Area, Memory}
 use Rattle.guest_bus.specs.Words.{word_address}
 use Rattle.sparc_step.specs.Registers.{Registers, placed}
 use Rattle.straight_runs.specs.Coming.{IsCame}
-use Rattle.straight_runs.specs.Codes.{IsStart, StopsAt}
+use Rattle.straight_runs.specs.Codes.{IsStart, RunStopsAt}
 use Rattle.straight_runs.specs.Runs.{AreSteps, no_steps, steps_then}
 use Rattle.straight_runs.specs.Turning.{at_place}
-use Rattle.straight_runs.specs.TurningLemmas.{next_address}
+use Rattle.straight_runs.proofs.TurningLemmas.{next_address}
 use Rattle.straight_runs.specs.declared.one.Came.TheVariants.{Next, Jump, Turn}
 use Rattle.straight_runs.specs.declared.places.Code.{Code}
 use Rattle.straight_runs.specs.declared.places.Start.{Start}
@@ -18,10 +18,10 @@ pub record IsRunning (code : Code) (areas : List Area) (from most at limit last 
   pub left : at ≤ limit
   pub few : limit ≤ at + most
   pub near : at < 2 ^ 33
-  pub stops : StopsAt code at limit last
+  pub stops : RunStopsAt code at limit last
 
 -- it begins
-pub begun : (code : Code) (areas : List Area) (from most last : ℕ) (core : Registers) (memory : Memory) → from < 2 ^ 33 → StopsAt code from (from + most) last
+pub begun : (code : Code) (areas : List Area) (from most last : ℕ) (core : Registers) (memory : Memory) → from < 2 ^ 33 → RunStopsAt code from (from + most) last
     → IsRunning code areas from most from (from + most) last core memory core memory
 begun code areas from most last core memory near stops = record {
   steps = subst (λ (n : ℕ). AreSteps n areas (at_place code.words.origin from core) memory (at_place code.words.origin from core) memory) none (no_steps areas (at_place code.words.origin from core) memory);
@@ -58,7 +58,7 @@ went_on code areas from most at limit last core memory here new there after is u
 -- the word at a place follows
 pub jumped_on : (code : Code) (areas : List Area) (from most at limit last to next : ℕ) (core : Registers) (memory : Memory) (here new : Registers) (there after : Memory)
     → IsRunning code areas from most at limit last core memory here there → at < last → to < 2 ^ 33
-    → IsCame (Jump to) code.words.origin at areas here new there after → StopsAt code to (to + (limit - (at + 1))) next
+    → IsCame (Jump to) code.words.origin at areas here new there after → RunStopsAt code to (to + (limit - (at + 1))) next
     → IsRunning code areas from most to (to + (limit - (at + 1))) next core memory new after
 jumped_on code areas from most at limit last to next core memory here new there after is under near came stops = record {
   steps = subst (λ (n : ℕ). AreSteps n areas (at_place code.words.origin from core) memory (at_place code.words.origin to new) after) more
@@ -75,7 +75,7 @@ jumped_on code areas from most at limit last to next core memory here new there 
 -- the same behind a delay slot
 pub turned_on : (code : Code) (areas : List Area) (from most at limit last to next : ℕ) (core : Registers) (memory : Memory) (here new : Registers) (there after : Memory)
     → IsRunning code areas from most at limit last core memory here there → at < last → to < 2 ^ 33
-    → IsCame (Turn to) code.words.origin at areas here new there after → StopsAt code to (to + (limit - (at + 2))) next
+    → IsCame (Turn to) code.words.origin at areas here new there after → RunStopsAt code to (to + (limit - (at + 2))) next
     → IsRunning code areas from most to (to + (limit - (at + 2))) next core memory new after
 turned_on code areas from most at limit last to next core memory here new there after is under near came stops = record {
   steps = subst (λ (n : ℕ). AreSteps n areas (at_place code.words.origin from core) memory (at_place code.words.origin to new) after) more

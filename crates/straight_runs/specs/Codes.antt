@@ -20,7 +20,7 @@ pub record IsStart (address : ℕ) (start : Start) : Type 0 where
   pub here : word_address start.code.words.origin start.place ≡ address
 
 -- the last place of a run at a place, whose word is left: one of the code and below a limit, where the run goes on at all
-pub record StopsAt (code : Code) (at limit last : ℕ) : Type 0 where
+pub record RunStopsAt (code : Code) (at limit last : ℕ) : Type 0 where
   pub begin : at < last → code.begin ≤ at
   pub within : at < last → last < code.end
   pub short : at < last → last < limit

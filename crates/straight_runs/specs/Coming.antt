@@ -16,9 +16,9 @@ IsCame (Slot to) origin at areas old new memory after = AreSteps 1 areas (at_pla
 IsCame Stays origin at areas old new memory after = (new ≡ old) × (after ≡ memory)
 
 -- a place that is not far beyond all addresses
-abbrev pub IsNear : Came → Type 0
-IsNear Next = ⊤
-IsNear (Jump to) = to < 2 ^ 33
-IsNear (Turn to) = to < 2 ^ 33
-IsNear (Slot to) = ⊤
-IsNear Stays = ⊤
+abbrev pub IsNearPlace : Came → Type 0
+IsNearPlace Next = ⊤
+IsNearPlace (Jump to) = to < 2 ^ 33
+IsNearPlace (Turn to) = to < 2 ^ 33
+IsNearPlace (Slot to) = ⊤
+IsNearPlace Stays = ⊤

@@ -10,16 +10,16 @@ use Rattle.sparc_step.specs.Transfers.{done, transfer}
 use Rattle.sparc_step.specs.Words.{difference, quotient, shifted_arithmetically, shifted_left, shifted_right, signed_product, signed_quotient, sum}
 
 -- a result of logic with its condition codes
-abbrev pub logical : ℕ → ℕ → Registers → Registers
-logical rd value core = with_icc (with_register core rd value) (codes_of_result value false)
+abbrev pub set_logical : ℕ → ℕ → Registers → Registers
+set_logical rd value core = with_icc (with_register core rd value) (codes_of_result value false)
 
 -- a double word: its low half is the result, its high half goes to Y
-abbrev pub wide : ℕ → ℕ → Registers → Registers
-wide rd product core = with_register (with_y core (product / 2 ^ 32)) rd (product % 2 ^ 32)
+abbrev pub set_wide : ℕ → ℕ → Registers → Registers
+set_wide rd product core = with_register (with_y core (product / 2 ^ 32)) rd (product % 2 ^ 32)
 
 -- work on the values of the two operands, by its kind
-unfoldable pub left_by : ℕ → ℕ → ℕ → ℕ → Registers → Registers
-left_by kind rd a b core =
+unfoldable pub worked_by_kind : ℕ → ℕ → ℕ → ℕ → Registers → Registers
+worked_by_kind kind rd a b core =
     if kind == 0 then with_register core rd (sum a b false)
     else if kind == 1 then with_icc (with_register core rd (difference a b false)) (codes_of_difference a b false)
     else if kind == 3 then with_register core rd (bit_or a b)
@@ -33,10 +33,10 @@ left_by kind rd a b core =
     else if kind == 11 then with_register core rd (bit_not w32 (bit_xor a b))
     else if kind == 12 then with_register core rd (shifted_arithmetically a b)
     else if kind == 23 then with_icc (with_register core rd (sum a b false)) (codes_of_sum a b false)
-    else if kind == 24 then logical rd (bit_and a b) core
-    else if kind == 25 then logical rd (bit_or a b) core
-    else if kind == 26 then wide rd (signed_product a b) core
-    else if kind == 27 then wide rd (a * b) core
+    else if kind == 24 then set_logical rd (bit_and a b) core
+    else if kind == 25 then set_logical rd (bit_or a b) core
+    else if kind == 26 then set_wide rd (signed_product a b) core
+    else if kind == 27 then set_wide rd (a * b) core
     else if kind == 28 then with_register core rd (quotient (dividend core a) b)
     else if kind == 29 then with_register core rd (signed_quotient (dividend core a) b)
     else core

@@ -9,7 +9,6 @@ pub mod Turning
 pub mod Runs
 pub mod Coming
 pub mod PlacedLemmas
-pub mod TransferLemmas
 pub mod StepLemmas
 pub mod WindowLemmas
 pub mod TurnLemmas
@@ -17,4 +16,3 @@ pub mod RareLemmas
 pub mod Shifts
 pub mod ShiftLemmas
 pub mod SavedLemmas
-pub mod TurningLemmas

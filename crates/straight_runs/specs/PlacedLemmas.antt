@@ -7,14 +7,14 @@ use Rattle.sparc_code.specs.declared.instruction.Arith.{Arith}
 use Rattle.sparc_code.specs.declared.instruction.Arith.TheVariants as arith
 use Rattle.sparc_code.specs.declared.instruction.Src.{Src}
 use Rattle.sparc_code.specs.declared.instruction.Src.TheVariants.{Reg, Imm}
-use Rattle.sparc_step.specs.Arithmetic.{dividend, worked}
+use Rattle.sparc_step.specs.Arithmetic.{dividend, arith_outcome}
 use Rattle.sparc_step.specs.Conditions.{codes_of_difference, codes_of_result, codes_of_sum}
 use Rattle.sparc_step.specs.Operands.{sum_of, value_of}
-use Rattle.sparc_step.specs.Outcome.{Outcome, went, with_result, with_result_and_codes}
+use Rattle.sparc_step.specs.Outcome.{RegisterOutcome, went, with_result, with_result_and_codes}
 use Rattle.sparc_step.specs.Registers.{Registers, advanced, in_window, place_in_windows, placed, register_at, with_icc, with_register, with_y}
 use Rattle.sparc_step.specs.Words.{difference, quotient, shifted_arithmetically, shifted_left, shifted_right, signed_product, signed_quotient, sum}
-use Rattle.straight_runs.specs.Effects.{left_by}
-use Rattle.straight_runs.specs.Kinds.{kind_of, other}
+use Rattle.straight_runs.specs.Effects.{worked_by_kind}
+use Rattle.straight_runs.specs.Kinds.{row_kind_of, other}
 
 -- a register is the same
 pub register_at-placed : (core : Registers) (pc npc r : ℕ) → register_at (placed pc npc core) r ≡ register_at core r
@@ -84,15 +84,15 @@ unfolding dividend placed
 dividend-placed core pc npc a = refl
 
 -- a quotient
-divided : (b pc npc rd value : ℕ) (core : Registers) (refused : Outcome) → 0 < b → (if b == 0 then refused else went (with_result rd value (placed pc npc core))) ≡ went (placed npc ((npc + 4) % 2 ^ 32) (with_register core rd value))
+divided : (b pc npc rd value : ℕ) (core : Registers) (refused : RegisterOutcome) → 0 < b → (if b == 0 then refused else went (with_result rd value (placed pc npc core))) ≡ went (placed npc ((npc + 4) % 2 ^ 32) (with_register core rd value))
 divided b pc npc rd value core refused some =
     let test : (b == 0) ≡ false = grind (arith, nat_tests) in
     ap (λ (t : Bool). if t then refused else went (with_result rd value (placed pc npc core))) test ∙ ap went (with_result-placed core pc npc rd value)
 
 -- what work on registers leaves, by its kind
-pub worked-placed : (operation : Arith) (rd a b pc npc : ℕ) (core : Registers) → kind_of operation ≢ other → (28 ≤ kind_of operation → 0 < b)
-    → worked operation rd a b (placed pc npc core) ≡ went (placed npc ((npc + 4) % 2 ^ 32) (left_by (kind_of operation) rd a b core))
-unfolding left_by
+pub worked-placed : (operation : Arith) (rd a b pc npc : ℕ) (core : Registers) → row_kind_of operation ≢ other → (28 ≤ row_kind_of operation → 0 < b)
+    → arith_outcome operation rd a b (placed pc npc core) ≡ went (placed npc ((npc + 4) % 2 ^ 32) (worked_by_kind (row_kind_of operation) rd a b core))
+unfolding worked_by_kind
 worked-placed arith.Add rd a b pc npc core is some = ap went (with_result-placed core pc npc rd (sum a b false))
 worked-placed arith.And rd a b pc npc core is some = ap went (with_result-placed core pc npc rd (bit_and a b))
 worked-placed arith.Or rd a b pc npc core is some = ap went (with_result-placed core pc npc rd (bit_or a b))

@@ -6,13 +6,13 @@ use Rattle.sparc_code.specs.declared.instruction.Arith.TheVariants as arith
 use Rattle.sparc_code.specs.declared.instruction.Instr.{Instr}
 use Rattle.sparc_code.specs.declared.instruction.Instr.TheVariants as instr
 use Rattle.sparc_code.specs.declared.instruction.Src.{Src}
-use Rattle.sparc_step.specs.Execution.{beside, done, executed}
+use Rattle.sparc_step.specs.Execution.{keeping_memory, done, executed}
 use Rattle.sparc_step.specs.Flow.{moved, window_above, window_below, write_y_row}
 use Rattle.sparc_step.specs.Operands.{sum_of, value_of}
 use Rattle.sparc_step.specs.Outcome.{with_result}
 use Rattle.sparc_step.specs.Registers.{Registers, advanced, in_window, placed, register_at, with_register, with_y}
 use Rattle.straight_runs.specs.Effects.{y_of}
-use Rattle.straight_runs.specs.Kinds.{kind_of}
+use Rattle.straight_runs.specs.Kinds.{row_kind_of}
 use Rattle.straight_runs.specs.PlacedLemmas.{advanced-placed, register_at-placed, sum_of-placed, value_of-placed, with_result-placed, with_y-placed}
 use Rattle.straight_runs.specs.Rows.{HasSource, IsRowOf}
 use Rattle.straight_runs.specs.StepLemmas.{branch_apart, transfer_apart}
@@ -21,7 +21,7 @@ use Rattle.straight_runs.specs.WindowLemmas.{moved-placed, window_above-placed, 
 use Rattle.straight_runs.specs.declared.rows.Row.{Row}
 
 -- no work on registers has a kind between its own and those of no row
-pub arith_rare : (operation : Arith) (k : ℕ) → k ≡ kind_of operation → 30 ≤ k → k < 37 → ⊥
+pub arith_rare : (operation : Arith) (k : ℕ) → k ≡ row_kind_of operation → 30 ≤ k → k < 37 → ⊥
 arith_rare arith.Add k is from below = absurd (omega (arith, is, from))
 arith_rare arith.And k is from below = absurd (omega (arith, is, from))
 arith_rare arith.Or k is from below = absurd (omega (arith, is, from))
@@ -90,9 +90,9 @@ save_goes : (rd rs1 window : ℕ) (source : Src) (areas : List Area) (old new : 
     → Goes (instr.Save rd rs1 source) areas old new memory after
 unfolding window_below
 save_goes rd rs1 window source areas old new memory after below valid is same = λ pc npc.
-    ap (λ (w : ℕ). beside memory (moved w 0x05 rd (sum_of rs1 source (placed pc npc old)) (placed pc npc old))) (window_below-placed old pc npc ∙ sym below)
-    ∙ ap (λ (value : ℕ). beside memory (moved window 0x05 rd value (placed pc npc old))) (sum_of-placed rs1 source old pc npc)
-    ∙ ap (beside memory) (moved-placed old pc npc window 0x05 rd (sum_of rs1 source old) valid)
+    ap (λ (w : ℕ). keeping_memory memory (moved w 0x05 rd (sum_of rs1 source (placed pc npc old)) (placed pc npc old))) (window_below-placed old pc npc ∙ sym below)
+    ∙ ap (λ (value : ℕ). keeping_memory memory (moved window 0x05 rd value (placed pc npc old))) (sum_of-placed rs1 source old pc npc)
+    ∙ ap (keeping_memory memory) (moved-placed old pc npc window 0x05 rd (sum_of rs1 source old) valid)
     ∙ ap (λ (core : Registers). done (placed npc ((npc + 4) % 2 ^ 32) core) memory) (sym is)
     ∙ ap (done (placed npc ((npc + 4) % 2 ^ 32) new)) (sym same)
 
@@ -102,9 +102,9 @@ restore_goes : (rd rs1 window : ℕ) (source : Src) (areas : List Area) (old new
     → Goes (instr.Restore rd rs1 source) areas old new memory after
 unfolding window_above
 restore_goes rd rs1 window source areas old new memory after above valid is same = λ pc npc.
-    ap (λ (w : ℕ). beside memory (moved w 0x06 rd (sum_of rs1 source (placed pc npc old)) (placed pc npc old))) (window_above-placed old pc npc ∙ sym above)
-    ∙ ap (λ (value : ℕ). beside memory (moved window 0x06 rd value (placed pc npc old))) (sum_of-placed rs1 source old pc npc)
-    ∙ ap (beside memory) (moved-placed old pc npc window 0x06 rd (sum_of rs1 source old) valid)
+    ap (λ (w : ℕ). keeping_memory memory (moved w 0x06 rd (sum_of rs1 source (placed pc npc old)) (placed pc npc old))) (window_above-placed old pc npc ∙ sym above)
+    ∙ ap (λ (value : ℕ). keeping_memory memory (moved window 0x06 rd value (placed pc npc old))) (sum_of-placed rs1 source old pc npc)
+    ∙ ap (keeping_memory memory) (moved-placed old pc npc window 0x06 rd (sum_of rs1 source old) valid)
     ∙ ap (λ (core : Registers). done (placed npc ((npc + 4) % 2 ^ 32) core) memory) (sym is)
     ∙ ap (done (placed npc ((npc + 4) % 2 ^ 32) new)) (sym same)
 

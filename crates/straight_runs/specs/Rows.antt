@@ -5,7 +5,7 @@ use Rattle.sparc_code.specs.declared.instruction.Src.TheVariants.{Reg, Imm}
 use Rattle.sparc_code.specs.declared.instruction.Instr.{Instr}
 use Rattle.sparc_code.specs.declared.instruction.Instr.TheVariants as instr
 use Rattle.sparc_step.specs.Words.{residue}
-use Rattle.straight_runs.specs.Kinds.{kind_of, kind_of_branch, kind_of_transfer, other}
+use Rattle.straight_runs.specs.Kinds.{row_kind_of, kind_of_branch, kind_of_transfer, other}
 use Rattle.straight_runs.specs.declared.rows.Row.{Row}
 
 -- its registers are registers, and the condition of a branch is a condition
@@ -22,32 +22,32 @@ HasSource (Reg register) row = (row.rs2 ≡ register) × (row.number ≡ 0)
 HasSource (Imm number) row = (row.rs2 ≡ 0) × (row.number ≡ residue 32 number)
 
 -- the row does so, with these registers
-pub record Does (row : Row) (kind rd rs1 : ℕ) (source : Src) : Type 0 where
+pub record RowDoes (row : Row) (kind rd rs1 : ℕ) (source : Src) : Type 0 where
   pub work : row.kind ≡ kind
   pub result : row.rd ≡ rd
   pub first : row.rs1 ≡ rs1
   pub second : HasSource source row
 
 -- a row of other instructions than those below
-abbrev pub IsOther : Row → Type 0
-IsOther row = row.kind ≡ other
+abbrev pub IsOtherRow : Row → Type 0
+IsOtherRow row = row.kind ≡ other
 
 -- the row is that of the instruction
 abbrev pub IsRowOf : Row → Instr → Type 0
 IsRowOf row (instr.Call disp) = (row.kind ≡ 34) × (row.number ≡ residue 32 disp)
 IsRowOf row (instr.Branch condition annul disp) = (row.kind ≡ kind_of_branch annul) × (row.rs1 ≡ condition) × (row.number ≡ residue 32 disp)
 IsRowOf row (instr.Sethi rd imm) = (row.kind ≡ 3) × (row.rd ≡ rd) × (row.rs1 ≡ 0) × (row.rs2 ≡ 0) × (row.number ≡ imm * 2 ^ 10)
-IsRowOf row (instr.Arith operation rd rs1 source) = Does row (kind_of operation) rd rs1 source
+IsRowOf row (instr.Arith operation rd rs1 source) = RowDoes row (row_kind_of operation) rd rs1 source
 IsRowOf row (instr.ReadY rd) = (row.kind ≡ 31) × (row.rd ≡ rd)
-IsRowOf row instr.Barrier = IsOther row
-IsRowOf row (instr.WriteY rs1 source) = Does row 30 0 rs1 source
-IsRowOf row (instr.Jump rd rs1 source) = Does row 35 rd rs1 source
-IsRowOf row (instr.Trap condition rs1 source) = IsOther row
-IsRowOf row instr.Flush = IsOther row
-IsRowOf row (instr.Save rd rs1 source) = Does row 32 rd rs1 source
-IsRowOf row (instr.Restore rd rs1 source) = Does row 33 rd rs1 source
-IsRowOf row (instr.Mem operation rd rs1 source) = Does row (kind_of_transfer operation) rd rs1 source
-IsRowOf row instr.Privileged = IsOther row
-IsRowOf row instr.Float = IsOther row
-IsRowOf row instr.Coproc = IsOther row
-IsRowOf row instr.Illegal = IsOther row
+IsRowOf row instr.Barrier = IsOtherRow row
+IsRowOf row (instr.WriteY rs1 source) = RowDoes row 30 0 rs1 source
+IsRowOf row (instr.Jump rd rs1 source) = RowDoes row 35 rd rs1 source
+IsRowOf row (instr.Trap condition rs1 source) = IsOtherRow row
+IsRowOf row instr.Flush = IsOtherRow row
+IsRowOf row (instr.Save rd rs1 source) = RowDoes row 32 rd rs1 source
+IsRowOf row (instr.Restore rd rs1 source) = RowDoes row 33 rd rs1 source
+IsRowOf row (instr.Mem operation rd rs1 source) = RowDoes row (kind_of_transfer operation) rd rs1 source
+IsRowOf row instr.Privileged = IsOtherRow row
+IsRowOf row instr.Float = IsOtherRow row
+IsRowOf row instr.Coproc = IsOtherRow row
+IsRowOf row instr.Illegal = IsOtherRow row

@@ -13,7 +13,7 @@ use Rattle.guest_bus.specs.Memory.{Area, Memory, bytes_at, is_readable, is_writa
 use Rattle.guest_bus.specs.MemoryLemmas.{bytes_at-with_bytes_apart}
 use Rattle.guest_bus.specs.Words.{MayStand, allows, bytes_of, words_at}
 use Rattle.sparc_step.specs.Registers.{Registers, ins_place, locals_and_ins, locals_place, place_in_windows, register_at, with_inv, with_locals_and_ins, with_saved}
-use Rattle.virt_traps.specs.Moves.{fill_address, filled, made, refused, spill_address, spill_window, spilled}
+use Rattle.virt_traps.specs.Moves.{fill_address, filled, move_made, move_refused, spill_address, spill_window, spilled}
 use Rattle.virt_traps.specs.SaveArea.{is_usable, register_of, registers_from, saved, with_registers}
 use Rattle.straight_runs.specs.Shifts.{IsFilled, IsSpilled}
 
@@ -108,11 +108,11 @@ values_split windows window n later [] back is =
 values_split windows window n later (value ∷ front) back is = values_split (slice_set windows (place_in_windows window n) value) window (suc n) later front back (omega arith)
 
 -- as many words in two parts
-front_of : (words : List ℕ) → length words ≡ 16 → length (take 8 words) ≡ 8
-front_of words counted = omega (arith, length-take 8 words, counted)
+first_eight : (words : List ℕ) → length words ≡ 16 → length (take 8 words) ≡ 8
+first_eight words counted = omega (arith, length-take 8 words, counted)
 
-back_of : (words : List ℕ) → length words ≡ 16 → length (drop 8 words) ≡ 8
-back_of words counted = omega (arith, length-drop 8 words, counted)
+last_eight : (words : List ℕ) → length words ≡ 16 → length (drop 8 words) ≡ 8
+last_eight words counted = omega (arith, length-drop 8 words, counted)
 
 -- a part that is written leaves as many
 length_put : (i n : ℕ) (old new : List ℕ) → length new ≡ n → i + n ≤ length old → length (put_mid i n old new) ≡ length old
@@ -123,13 +123,13 @@ length_put i n old new counted fits =
 pub given_is : (windows : List ℕ) (window : ℕ) (words : List ℕ) → window < 8 → length windows ≡ 128 → length words ≡ 16 → with_registers windows window 16 words ≡ with_locals_and_ins windows window words
 unfolding with_locals_and_ins
 given_is windows window words small whole counted =
-    let once : length (put_mid (locals_place window) 8 windows (take 8 words)) ≡ 128 = length_put (locals_place window) 8 windows (take 8 words) (front_of words counted) (omega (arith, whole)) ∙ whole in
+    let once : length (put_mid (locals_place window) 8 windows (take 8 words)) ≡ 128 = length_put (locals_place window) 8 windows (take 8 words) (first_eight words counted) (omega (arith, whole)) ∙ whole in
     ap (with_registers windows window 16) (sym (take-append-drop 8 words))
-    ∙ values_split windows window 16 24 (take 8 words) (drop 8 words) (omega (arith, front_of words counted))
+    ∙ values_split windows window 16 24 (take 8 words) (drop 8 words) (omega (arith, first_eight words counted))
     ∙ ap (λ (xs : List ℕ). with_registers xs window 24 (drop 8 words))
-    (values_placed windows window 16 (locals_place window) (take 8 words) (λ k below. locals_there window k (omega (arith, below, front_of words counted))) ∙ sets_put windows (take 8 words) (locals_place window) 8 (front_of words counted) (omega (arith, whole)))
+    (values_placed windows window 16 (locals_place window) (take 8 words) (λ k below. locals_there window k (omega (arith, below, first_eight words counted))) ∙ sets_put windows (take 8 words) (locals_place window) 8 (first_eight words counted) (omega (arith, whole)))
     ∙ values_placed (put_mid (locals_place window) 8 windows (take 8 words)) window 24 (ins_place window) (drop 8 words) (λ k below. ins_there window k)
-    ∙ sets_put (put_mid (locals_place window) 8 windows (take 8 words)) (drop 8 words) (ins_place window) 8 (back_of words counted) (omega (arith, once))
+    ∙ sets_put (put_mid (locals_place window) 8 windows (take 8 words)) (drop 8 words) (ins_place window) 8 (last_eight words counted) (omega (arith, once))
 
 -- an address where sixteen words may stand is that of a save area
 all_three : (a b c : Bool) → a ≡ true → b ≡ true → c ≡ true → (a && (b && c)) ≡ true
@@ -187,9 +187,9 @@ pub spilled_by : (pc window address : ℕ) (areas : List Area) (old new : Regist
     → after ≡ with_bytes memory address (bytes_of words) → new ≡ with_inv old window → fetched areas after pc ≡ fetched areas memory pc → IsSpilled pc areas old new memory after
 unfolding spilled spill_address with_inv
 spilled_by pc window address areas old new memory after words window_is needed whole address_is words_are may after_is new_is word = record {
-  moved = ap (λ (t : Bool). if t then made (record old { inv = spill_window old }) (with_bytes memory (spill_address old) (bytes_of (saved old.windows (spill_window old)))) else refused old memory) usable
-      ∙ ap (λ (core : Registers). made core (with_bytes memory (spill_address old) (bytes_of (saved old.windows (spill_window old))))) (ap (λ (w : ℕ). record old { inv = w }) (sym window_is) ∙ sym new_is)
-      ∙ ap (made new) (ap (λ (a : ℕ). with_bytes memory a (bytes_of (saved old.windows (spill_window old)))) there ∙ ap (λ (bytes : List ℕ). with_bytes memory address (bytes_of bytes)) stored ∙ sym after_is);
+  moved = ap (λ (t : Bool). if t then move_made (record old { inv = spill_window old }) (with_bytes memory (spill_address old) (bytes_of (saved old.windows (spill_window old)))) else move_refused old memory) usable
+      ∙ ap (λ (core : Registers). move_made core (with_bytes memory (spill_address old) (bytes_of (saved old.windows (spill_window old))))) (ap (λ (w : ℕ). record old { inv = w }) (sym window_is) ∙ sym new_is)
+      ∙ ap (move_made new) (ap (λ (a : ℕ). with_bytes memory a (bytes_of (saved old.windows (spill_window old)))) there ∙ ap (λ (bytes : List ℕ). with_bytes memory address (bytes_of bytes)) stored ∙ sym after_is);
   current = ap (λ (r : Registers). r.cwp) new_is;
   valid = λ e. valid_window old.cwp old.inv window needed window_is (e ∙ ap (λ (r : Registers). r.inv) new_is);
   word = word;
@@ -218,8 +218,8 @@ pub filled_by : (window address : ℕ) (areas : List Area) (old given new : Regi
     → words ≡ words_at memory address 16 → MayStand (is_readable areas) address → given ≡ with_saved old window words → new ≡ with_inv given ((window + 1) % 8) → IsFilled areas old new memory
 unfolding filled fill_address with_inv with_saved register_at
 filled_by window address areas old given new memory words window_is needed whole sixteen address_is words_are may given_are new_is = record {
-  moved = ap (λ (t : Bool). if t then made (record old { windows = with_registers old.windows old.inv 16 (words_at memory (fill_address old) 16); inv = (old.inv + 1) % 8 }) memory else refused old memory) usable
-      ∙ ap (λ (core : Registers). made core memory) (ap (λ (windows : List ℕ). record old { windows = windows; inv = (old.inv + 1) % 8 }) loaded ∙ ap (λ (w : ℕ). record old { windows = with_locals_and_ins old.windows window words; inv = (w + 1) % 8 }) (sym window_is) ∙ sym both);
+  moved = ap (λ (t : Bool). if t then move_made (record old { windows = with_registers old.windows old.inv 16 (words_at memory (fill_address old) 16); inv = (old.inv + 1) % 8 }) memory else move_refused old memory) usable
+      ∙ ap (λ (core : Registers). move_made core memory) (ap (λ (windows : List ℕ). record old { windows = windows; inv = (old.inv + 1) % 8 }) loaded ∙ ap (λ (w : ℕ). record old { windows = with_locals_and_ins old.windows window words; inv = (w + 1) % 8 }) (sym window_is) ∙ sym both);
   current = ap (λ (r : Registers). r.cwp) both;
   valid = λ e. valid_window old.cwp old.inv window needed window_is (e ∙ ap (λ (r : Registers). r.inv) both);
 }

@@ -8,12 +8,12 @@ use Rattle.sparc_code.specs.Decoded.{decoded}
 use Rattle.sparc_code.specs.declared.instruction.Instr.{Instr}
 use Rattle.sparc_code.specs.declared.instruction.Instr.TheVariants as instr
 use Rattle.sparc_code.specs.declared.instruction.Src.{Src}
-use Rattle.sparc_step.specs.Execution.{Turned, beside, done, executed, refused as refused_by, turned}
-use Rattle.sparc_step.specs.Flow.{entered, moved, window_above, window_below}
+use Rattle.sparc_step.specs.Execution.{Turned, keeping_memory, done, executed, refused as refused_by, turned}
+use Rattle.sparc_step.specs.Flow.{window_entered, moved, window_above, window_below}
 use Rattle.sparc_step.specs.Operands.{sum_of}
 use Rattle.sparc_step.specs.Outcome.{trapped, went}
 use Rattle.sparc_step.specs.Registers.{Registers, in_window, placed, with_register}
-use Rattle.virt_traps.specs.Moves.{Moved, fill_address, filled, made, refused, spill_address, spill_window, spilled}
+use Rattle.virt_traps.specs.Moves.{Moved, fill_address, filled, move_made, move_refused, spill_address, spill_window, spilled}
 use Rattle.virt_traps.specs.SaveArea.{is_usable, saved, with_registers}
 use Rattle.virt_traps.specs.Settled.{after_trap, again_or_trap, answered, made_again, settled}
 use Rattle.straight_runs.specs.RareLemmas.{arith_rare, restore_kind, save_kind}
@@ -29,7 +29,7 @@ save_trapped : (rd rs1 pc npc : ℕ) (source : Src) (areas : List Area) (old : R
 unfolding window_below moved placed
 save_trapped rd rs1 pc npc source areas old memory needed =
     let test : ((old.cwp + 7) % 8 == old.inv) ≡ true = grind (arith, nat_tests) in
-    ap (λ (t : Bool). beside memory (if t then trapped 5 (placed pc npc old) else went (entered ((old.cwp + 7) % 8) rd (sum_of rs1 source (placed pc npc old)) (placed pc npc old)))) test
+    ap (λ (t : Bool). keeping_memory memory (if t then trapped 5 (placed pc npc old) else went (window_entered ((old.cwp + 7) % 8) rd (sum_of rs1 source (placed pc npc old)) (placed pc npc old)))) test
 
 -- so does a RESTORE
 restore_trapped : (rd rs1 pc npc : ℕ) (source : Src) (areas : List Area) (old : Registers) (memory : Memory) → (old.cwp + 1) % 8 ≡ old.inv
@@ -37,81 +37,81 @@ restore_trapped : (rd rs1 pc npc : ℕ) (source : Src) (areas : List Area) (old 
 unfolding window_above moved placed
 restore_trapped rd rs1 pc npc source areas old memory needed =
     let test : ((old.cwp + 1) % 8 == old.inv) ≡ true = grind (arith, nat_tests) in
-    ap (λ (t : Bool). beside memory (if t then trapped 6 (placed pc npc old) else went (entered ((old.cwp + 1) % 8) rd (sum_of rs1 source (placed pc npc old)) (placed pc npc old)))) test
+    ap (λ (t : Bool). keeping_memory memory (if t then trapped 6 (placed pc npc old) else went (window_entered ((old.cwp + 1) % 8) rd (sum_of rs1 source (placed pc npc old)) (placed pc npc old)))) test
 
 -- kind 32
-save_traps : (row : Row) (pc npc : ℕ) (areas : List Area) (old : Registers) (memory : Memory) → row.kind ≡ 32 → (old.cwp + 7) % 8 ≡ old.inv → (i : Instr) → IsRowOf row i
+save_row_traps : (row : Row) (pc npc : ℕ) (areas : List Area) (old : Registers) (memory : Memory) → row.kind ≡ 32 → (old.cwp + 7) % 8 ≡ old.inv → (i : Instr) → IsRowOf row i
     → executed i areas (placed pc npc old) memory ≡ refused_by 5 (placed pc npc old) memory
-save_traps row pc npc areas old memory is needed (instr.Call disp) (kind, number) = absurd (omega (arith, is, kind))
-save_traps row pc npc areas old memory is needed (instr.Branch condition annul disp) (kind, first, number) = absurd (branch_apart annul row.kind kind (omega (arith, is)) (omega (arith, is)))
-save_traps row pc npc areas old memory is needed (instr.Sethi rd imm) (kind, result, first, second, number) = absurd (omega (arith, is, kind))
-save_traps row pc npc areas old memory is needed (instr.Arith operation rd rs1 source) does = absurd (arith_rare operation row.kind does.work (omega (arith, is)) (omega (arith, is)))
-save_traps row pc npc areas old memory is needed (instr.ReadY rd) (kind, result) = absurd (omega (arith, is, kind))
-save_traps row pc npc areas old memory is needed instr.Barrier kind = absurd (omega (arith, is, kind))
-save_traps row pc npc areas old memory is needed (instr.WriteY rs1 source) does = absurd (omega (arith, is, does.work))
-save_traps row pc npc areas old memory is needed (instr.Jump rd rs1 source) does = absurd (omega (arith, is, does.work))
-save_traps row pc npc areas old memory is needed (instr.Trap condition rs1 source) kind = absurd (omega (arith, is, kind))
-save_traps row pc npc areas old memory is needed instr.Flush kind = absurd (omega (arith, is, kind))
-save_traps row pc npc areas old memory is needed (instr.Save rd rs1 source) does = save_trapped rd rs1 pc npc source areas old memory needed
-save_traps row pc npc areas old memory is needed (instr.Restore rd rs1 source) does = absurd (omega (arith, is, does.work))
-save_traps row pc npc areas old memory is needed (instr.Mem operation rd rs1 source) does = absurd (transfer_apart operation row.kind does.work (omega (arith, is)) (omega (arith, is)))
-save_traps row pc npc areas old memory is needed instr.Privileged kind = absurd (omega (arith, is, kind))
-save_traps row pc npc areas old memory is needed instr.Float kind = absurd (omega (arith, is, kind))
-save_traps row pc npc areas old memory is needed instr.Coproc kind = absurd (omega (arith, is, kind))
-save_traps row pc npc areas old memory is needed instr.Illegal kind = absurd (omega (arith, is, kind))
+save_row_traps row pc npc areas old memory is needed (instr.Call disp) (kind, number) = absurd (omega (arith, is, kind))
+save_row_traps row pc npc areas old memory is needed (instr.Branch condition annul disp) (kind, first, number) = absurd (branch_apart annul row.kind kind (omega (arith, is)) (omega (arith, is)))
+save_row_traps row pc npc areas old memory is needed (instr.Sethi rd imm) (kind, result, first, second, number) = absurd (omega (arith, is, kind))
+save_row_traps row pc npc areas old memory is needed (instr.Arith operation rd rs1 source) does = absurd (arith_rare operation row.kind does.work (omega (arith, is)) (omega (arith, is)))
+save_row_traps row pc npc areas old memory is needed (instr.ReadY rd) (kind, result) = absurd (omega (arith, is, kind))
+save_row_traps row pc npc areas old memory is needed instr.Barrier kind = absurd (omega (arith, is, kind))
+save_row_traps row pc npc areas old memory is needed (instr.WriteY rs1 source) does = absurd (omega (arith, is, does.work))
+save_row_traps row pc npc areas old memory is needed (instr.Jump rd rs1 source) does = absurd (omega (arith, is, does.work))
+save_row_traps row pc npc areas old memory is needed (instr.Trap condition rs1 source) kind = absurd (omega (arith, is, kind))
+save_row_traps row pc npc areas old memory is needed instr.Flush kind = absurd (omega (arith, is, kind))
+save_row_traps row pc npc areas old memory is needed (instr.Save rd rs1 source) does = save_trapped rd rs1 pc npc source areas old memory needed
+save_row_traps row pc npc areas old memory is needed (instr.Restore rd rs1 source) does = absurd (omega (arith, is, does.work))
+save_row_traps row pc npc areas old memory is needed (instr.Mem operation rd rs1 source) does = absurd (transfer_apart operation row.kind does.work (omega (arith, is)) (omega (arith, is)))
+save_row_traps row pc npc areas old memory is needed instr.Privileged kind = absurd (omega (arith, is, kind))
+save_row_traps row pc npc areas old memory is needed instr.Float kind = absurd (omega (arith, is, kind))
+save_row_traps row pc npc areas old memory is needed instr.Coproc kind = absurd (omega (arith, is, kind))
+save_row_traps row pc npc areas old memory is needed instr.Illegal kind = absurd (omega (arith, is, kind))
 
 -- kind 33
-restore_traps : (row : Row) (pc npc : ℕ) (areas : List Area) (old : Registers) (memory : Memory) → row.kind ≡ 33 → (old.cwp + 1) % 8 ≡ old.inv → (i : Instr) → IsRowOf row i
+restore_row_traps : (row : Row) (pc npc : ℕ) (areas : List Area) (old : Registers) (memory : Memory) → row.kind ≡ 33 → (old.cwp + 1) % 8 ≡ old.inv → (i : Instr) → IsRowOf row i
     → executed i areas (placed pc npc old) memory ≡ refused_by 6 (placed pc npc old) memory
-restore_traps row pc npc areas old memory is needed (instr.Call disp) (kind, number) = absurd (omega (arith, is, kind))
-restore_traps row pc npc areas old memory is needed (instr.Branch condition annul disp) (kind, first, number) = absurd (branch_apart annul row.kind kind (omega (arith, is)) (omega (arith, is)))
-restore_traps row pc npc areas old memory is needed (instr.Sethi rd imm) (kind, result, first, second, number) = absurd (omega (arith, is, kind))
-restore_traps row pc npc areas old memory is needed (instr.Arith operation rd rs1 source) does = absurd (arith_rare operation row.kind does.work (omega (arith, is)) (omega (arith, is)))
-restore_traps row pc npc areas old memory is needed (instr.ReadY rd) (kind, result) = absurd (omega (arith, is, kind))
-restore_traps row pc npc areas old memory is needed instr.Barrier kind = absurd (omega (arith, is, kind))
-restore_traps row pc npc areas old memory is needed (instr.WriteY rs1 source) does = absurd (omega (arith, is, does.work))
-restore_traps row pc npc areas old memory is needed (instr.Jump rd rs1 source) does = absurd (omega (arith, is, does.work))
-restore_traps row pc npc areas old memory is needed (instr.Trap condition rs1 source) kind = absurd (omega (arith, is, kind))
-restore_traps row pc npc areas old memory is needed instr.Flush kind = absurd (omega (arith, is, kind))
-restore_traps row pc npc areas old memory is needed (instr.Save rd rs1 source) does = absurd (omega (arith, is, does.work))
-restore_traps row pc npc areas old memory is needed (instr.Restore rd rs1 source) does = restore_trapped rd rs1 pc npc source areas old memory needed
-restore_traps row pc npc areas old memory is needed (instr.Mem operation rd rs1 source) does = absurd (transfer_apart operation row.kind does.work (omega (arith, is)) (omega (arith, is)))
-restore_traps row pc npc areas old memory is needed instr.Privileged kind = absurd (omega (arith, is, kind))
-restore_traps row pc npc areas old memory is needed instr.Float kind = absurd (omega (arith, is, kind))
-restore_traps row pc npc areas old memory is needed instr.Coproc kind = absurd (omega (arith, is, kind))
-restore_traps row pc npc areas old memory is needed instr.Illegal kind = absurd (omega (arith, is, kind))
+restore_row_traps row pc npc areas old memory is needed (instr.Call disp) (kind, number) = absurd (omega (arith, is, kind))
+restore_row_traps row pc npc areas old memory is needed (instr.Branch condition annul disp) (kind, first, number) = absurd (branch_apart annul row.kind kind (omega (arith, is)) (omega (arith, is)))
+restore_row_traps row pc npc areas old memory is needed (instr.Sethi rd imm) (kind, result, first, second, number) = absurd (omega (arith, is, kind))
+restore_row_traps row pc npc areas old memory is needed (instr.Arith operation rd rs1 source) does = absurd (arith_rare operation row.kind does.work (omega (arith, is)) (omega (arith, is)))
+restore_row_traps row pc npc areas old memory is needed (instr.ReadY rd) (kind, result) = absurd (omega (arith, is, kind))
+restore_row_traps row pc npc areas old memory is needed instr.Barrier kind = absurd (omega (arith, is, kind))
+restore_row_traps row pc npc areas old memory is needed (instr.WriteY rs1 source) does = absurd (omega (arith, is, does.work))
+restore_row_traps row pc npc areas old memory is needed (instr.Jump rd rs1 source) does = absurd (omega (arith, is, does.work))
+restore_row_traps row pc npc areas old memory is needed (instr.Trap condition rs1 source) kind = absurd (omega (arith, is, kind))
+restore_row_traps row pc npc areas old memory is needed instr.Flush kind = absurd (omega (arith, is, kind))
+restore_row_traps row pc npc areas old memory is needed (instr.Save rd rs1 source) does = absurd (omega (arith, is, does.work))
+restore_row_traps row pc npc areas old memory is needed (instr.Restore rd rs1 source) does = restore_trapped rd rs1 pc npc source areas old memory needed
+restore_row_traps row pc npc areas old memory is needed (instr.Mem operation rd rs1 source) does = absurd (transfer_apart operation row.kind does.work (omega (arith, is)) (omega (arith, is)))
+restore_row_traps row pc npc areas old memory is needed instr.Privileged kind = absurd (omega (arith, is, kind))
+restore_row_traps row pc npc areas old memory is needed instr.Float kind = absurd (omega (arith, is, kind))
+restore_row_traps row pc npc areas old memory is needed instr.Coproc kind = absurd (omega (arith, is, kind))
+restore_row_traps row pc npc areas old memory is needed instr.Illegal kind = absurd (omega (arith, is, kind))
 
 -- a spill or a fill with other program counters
-moved-placed : (pc npc : ℕ) (m : Moved) → Moved
-moved-placed pc npc m = record { answer = m.answer; core = placed pc npc m.core; memory = m.memory }
+shifted-placed : (pc npc : ℕ) (m : Moved) → Moved
+shifted-placed pc npc m = record { answer = m.answer; core = placed pc npc m.core; memory = m.memory }
 
-spilled-placed : (areas : List Area) (core : Registers) (memory : Memory) (pc npc : ℕ) → spilled areas (placed pc npc core) memory ≡ moved-placed pc npc (spilled areas core memory)
-unfolding spilled spill_address placed moved-placed
+spilled-placed : (areas : List Area) (core : Registers) (memory : Memory) (pc npc : ℕ) → spilled areas (placed pc npc core) memory ≡ shifted-placed pc npc (spilled areas core memory)
+unfolding spilled spill_address placed shifted-placed
 spilled-placed areas core memory pc npc = at (is_usable (is_writable areas) (spill_address core))
   where
     at : (usable : Bool)
-        → (if usable then made (record (placed pc npc core) { inv = spill_window core }) (with_bytes memory (spill_address core) (bytes_of (saved core.windows (spill_window core)))) else refused (placed pc npc core) memory)
-        ≡ moved-placed pc npc (if usable then made (record core { inv = spill_window core }) (with_bytes memory (spill_address core) (bytes_of (saved core.windows (spill_window core)))) else refused core memory)
+        → (if usable then move_made (record (placed pc npc core) { inv = spill_window core }) (with_bytes memory (spill_address core) (bytes_of (saved core.windows (spill_window core)))) else move_refused (placed pc npc core) memory)
+        ≡ shifted-placed pc npc (if usable then move_made (record core { inv = spill_window core }) (with_bytes memory (spill_address core) (bytes_of (saved core.windows (spill_window core)))) else move_refused core memory)
     at true = refl
     at false = refl
 
-filled-placed : (areas : List Area) (core : Registers) (memory : Memory) (pc npc : ℕ) → filled areas (placed pc npc core) memory ≡ moved-placed pc npc (filled areas core memory)
-unfolding filled fill_address placed moved-placed
+filled-placed : (areas : List Area) (core : Registers) (memory : Memory) (pc npc : ℕ) → filled areas (placed pc npc core) memory ≡ shifted-placed pc npc (filled areas core memory)
+unfolding filled fill_address placed shifted-placed
 filled-placed areas core memory pc npc = at (is_usable (is_readable areas) (fill_address core))
   where
     at : (usable : Bool)
-        → (if usable then made (record (placed pc npc core) { windows = with_registers core.windows core.inv 16 (words_at memory (fill_address core) 16); inv = (core.inv + 1) % 8 }) memory else refused (placed pc npc core) memory)
-        ≡ moved-placed pc npc (if usable then made (record core { windows = with_registers core.windows core.inv 16 (words_at memory (fill_address core) 16); inv = (core.inv + 1) % 8 }) memory else refused core memory)
+        → (if usable then move_made (record (placed pc npc core) { windows = with_registers core.windows core.inv 16 (words_at memory (fill_address core) 16); inv = (core.inv + 1) % 8 }) memory else move_refused (placed pc npc core) memory)
+        ≡ shifted-placed pc npc (if usable then move_made (record core { windows = with_registers core.windows core.inv 16 (words_at memory (fill_address core) 16); inv = (core.inv + 1) % 8 }) memory else move_refused core memory)
     at true = refl
     at false = refl
 
 -- the step behind a spill that was made, and behind a fill
-settled_spilled : (areas : List Area) (core mid : Registers) (memory there : Memory) (t : Turned) → turned areas core memory ≡ refused_by 5 core memory → spilled areas core memory ≡ made mid there → turned areas mid there ≡ t → settled areas core memory ≡ t
+settled_spilled : (areas : List Area) (core mid : Registers) (memory there : Memory) (t : Turned) → turned areas core memory ≡ refused_by 5 core memory → spilled areas core memory ≡ move_made mid there → turned areas mid there ≡ t → settled areas core memory ≡ t
 unfolding settled after_trap made_again
 settled_spilled areas core mid memory there t trap moves again =
     ap (λ (x : Turned). answered x.turn x areas core memory) trap ∙ ap (λ (m : Moved). again_or_trap m.answer 5 areas m.core m.memory) moves ∙ again
 
-settled_filled : (areas : List Area) (core mid : Registers) (memory there : Memory) (t : Turned) → turned areas core memory ≡ refused_by 6 core memory → filled areas core memory ≡ made mid there → turned areas mid there ≡ t → settled areas core memory ≡ t
+settled_filled : (areas : List Area) (core mid : Registers) (memory there : Memory) (t : Turned) → turned areas core memory ≡ refused_by 6 core memory → filled areas core memory ≡ move_made mid there → turned areas mid there ≡ t → settled areas core memory ≡ t
 unfolding settled after_trap made_again
 settled_filled areas core mid memory there t trap moves again =
     ap (λ (x : Turned). answered x.turn x areas core memory) trap ∙ ap (λ (m : Moved). again_or_trap m.answer 6 areas m.core m.memory) moves ∙ again
@@ -119,10 +119,10 @@ settled_filled areas core mid memory there t trap moves again =
 -- a SAVE with its spill
 pub shift_save : (row : Row) (pc window : ℕ) (areas : List Area) (old mid new : Registers) (memory there : Memory) → row.kind ≡ 32 → (old.cwp + 7) % 8 ≡ old.inv → window ≡ (old.cwp + 7) % 8 → IsSpilled pc areas old mid memory there
     → ((source : Src) → HasSource source row → new ≡ with_register (in_window mid window) row.rd (sum_of row.rs1 source mid)) → IsShift row pc areas old new memory there
-unfolding moved-placed
+unfolding shifted-placed
 shift_save row pc window areas old mid new memory there kind needed window_is is left = λ npc word stands is_row.
-    let trap = turned-word word pc npc areas old memory (refused_by 5 (placed pc npc old) memory) stands (save_traps row pc npc areas old memory kind needed (decoded word) is_row) in
-    let moves : spilled areas (placed pc npc old) memory ≡ made (placed pc npc mid) there = spilled-placed areas old memory pc npc ∙ ap (moved-placed pc npc) is.moved in
+    let trap = turned-word word pc npc areas old memory (refused_by 5 (placed pc npc old) memory) stands (save_row_traps row pc npc areas old memory kind needed (decoded word) is_row) in
+    let moves : spilled areas (placed pc npc old) memory ≡ move_made (placed pc npc mid) there = spilled-placed areas old memory pc npc ∙ ap (shifted-placed pc npc) is.moved in
     let below : window ≡ (mid.cwp + 7) % 8 = window_is ∙ ap (λ (n : ℕ). (n + 7) % 8) (sym is.current) in
     let goes = save_kind row window areas mid new there there kind below (λ e. is.valid (sym window_is ∙ e)) left refl (decoded word) is_row in
     settled_spilled areas (placed pc npc old) (placed pc npc mid) memory there (done (placed npc ((npc + 4) % 2 ^ 32) new) there) trap moves
@@ -131,10 +131,10 @@ shift_save row pc window areas old mid new memory there kind needed window_is is
 -- a RESTORE with its fill
 pub shift_restore : (row : Row) (pc window : ℕ) (areas : List Area) (old mid new : Registers) (memory : Memory) → row.kind ≡ 33 → (old.cwp + 1) % 8 ≡ old.inv → window ≡ (old.cwp + 1) % 8 → IsFilled areas old mid memory
     → ((source : Src) → HasSource source row → new ≡ with_register (in_window mid window) row.rd (sum_of row.rs1 source mid)) → IsShift row pc areas old new memory memory
-unfolding moved-placed
+unfolding shifted-placed
 shift_restore row pc window areas old mid new memory kind needed window_is is left = λ npc word stands is_row.
-    let trap = turned-word word pc npc areas old memory (refused_by 6 (placed pc npc old) memory) stands (restore_traps row pc npc areas old memory kind needed (decoded word) is_row) in
-    let moves : filled areas (placed pc npc old) memory ≡ made (placed pc npc mid) memory = filled-placed areas old memory pc npc ∙ ap (moved-placed pc npc) is.moved in
+    let trap = turned-word word pc npc areas old memory (refused_by 6 (placed pc npc old) memory) stands (restore_row_traps row pc npc areas old memory kind needed (decoded word) is_row) in
+    let moves : filled areas (placed pc npc old) memory ≡ move_made (placed pc npc mid) memory = filled-placed areas old memory pc npc ∙ ap (shifted-placed pc npc) is.moved in
     let above : window ≡ (mid.cwp + 1) % 8 = window_is ∙ ap (λ (n : ℕ). (n + 1) % 8) (sym is.current) in
     let goes = restore_kind row window areas mid new memory memory kind above (λ e. is.valid (sym window_is ∙ e)) left refl (decoded word) is_row in
     settled_filled areas (placed pc npc old) (placed pc npc mid) memory memory (done (placed npc ((npc + 4) % 2 ^ 32) new) memory) trap moves

@@ -5,7 +5,7 @@ use Rattle.guest_bus.specs.Memory.{Area, Memory}
 use Rattle.sparc_code.specs.Decoded.{decoded}
 use Rattle.sparc_step.specs.Execution.{done}
 use Rattle.sparc_step.specs.Registers.{Registers, placed}
-use Rattle.virt_traps.specs.Moves.{filled, made, spilled}
+use Rattle.virt_traps.specs.Moves.{filled, move_made, spilled}
 use Rattle.virt_traps.specs.Settled.{settled}
 use Rattle.straight_runs.specs.Rows.{IsRowOf}
 use Rattle.straight_runs.specs.declared.rows.Row.{Row}
@@ -18,13 +18,13 @@ IsShift row pc areas old new memory after =
 
 -- a spill that a SAVE needs, which leaves the word at an address
 pub record IsSpilled (pc : ℕ) (areas : List Area) (old new : Registers) (memory after : Memory) : Type 0 where
-  pub moved : spilled areas old memory ≡ made new after
+  pub moved : spilled areas old memory ≡ move_made new after
   pub current : new.cwp ≡ old.cwp
   pub valid : (old.cwp + 7) % 8 ≢ new.inv
   pub word : fetched areas after pc ≡ fetched areas memory pc
 
 -- a fill that a RESTORE needs
 pub record IsFilled (areas : List Area) (old new : Registers) (memory : Memory) : Type 0 where
-  pub moved : filled areas old memory ≡ made new memory
+  pub moved : filled areas old memory ≡ move_made new memory
   pub current : new.cwp ≡ old.cwp
   pub valid : (old.cwp + 1) % 8 ≢ new.inv

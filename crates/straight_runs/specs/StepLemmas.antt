@@ -11,51 +11,51 @@ use Rattle.sparc_code.specs.declared.instruction.MemOp.{MemOp}
 use Rattle.sparc_code.specs.declared.instruction.MemOp.TheVariants as memory
 use Rattle.sparc_code.specs.declared.instruction.Src.{Src}
 use Rattle.sparc_code.specs.declared.instruction.Src.TheVariants.{Reg, Imm}
-use Rattle.sparc_step.specs.Arithmetic.{worked}
+use Rattle.sparc_step.specs.Arithmetic.{arith_outcome}
 use Rattle.sparc_step.specs.Conditions.{holds}
-use Rattle.sparc_step.specs.Execution.{beside, done, executed}
-use Rattle.sparc_step.specs.Flow.{branch_row, passed, sethi_row, taken, target}
+use Rattle.sparc_step.specs.Execution.{keeping_memory, done, executed}
+use Rattle.sparc_step.specs.Flow.{branch_row, passed, sethi_row, taken, branch_target}
 use Rattle.sparc_step.specs.Operands.{sum_of, value_of}
 use Rattle.sparc_step.specs.Outcome.{with_result}
 use Rattle.sparc_step.specs.Registers.{Registers, placed, register_at, with_register}
 use Rattle.sparc_step.specs.Transfers.{transfer}
-use Rattle.straight_runs.specs.Effects.{IsTransferred, left_by}
-use Rattle.straight_runs.specs.Kinds.{kind_of, kind_of_branch, kind_of_transfer, other, transfer_of}
+use Rattle.straight_runs.specs.Effects.{IsTransferred, worked_by_kind}
+use Rattle.straight_runs.specs.Kinds.{row_kind_of, kind_of_branch, kind_of_transfer, other, transfer_of}
 use Rattle.straight_runs.specs.PlacedLemmas.{advanced-placed, register_at-placed, sum_of-placed, value_of-placed, with_result-placed, worked-placed}
-use Rattle.straight_runs.specs.Rows.{Does, HasSource, IsRowOf}
+use Rattle.straight_runs.specs.Rows.{RowDoes, HasSource, IsRowOf}
 use Rattle.straight_runs.specs.Steps.{Goes}
 use Rattle.straight_runs.specs.declared.rows.Row.{Row}
 
 -- work on registers
 arith_goes : (row : Row) (operation : Arith) (rd rs1 : ℕ) (source : Src) (areas : List Area) (old new : Registers) (memory after : Memory)
-    → Does row (kind_of operation) rd rs1 source → row.kind ≢ other → (28 ≤ row.kind → 0 < value_of source old)
-    → new ≡ left_by row.kind row.rd (register_at old row.rs1) (value_of source old) old → after ≡ memory
+    → RowDoes row (row_kind_of operation) rd rs1 source → row.kind ≢ other → (28 ≤ row.kind → 0 < value_of source old)
+    → new ≡ worked_by_kind row.kind row.rd (register_at old row.rs1) (value_of source old) old → after ≡ memory
     → Goes (instr.Arith operation rd rs1 source) areas old new memory after
 arith_goes row operation rd rs1 source areas old new memory after does some divisor left same = λ pc npc.
     let b = value_of source old in
-    let is : left_by (kind_of operation) rd (register_at old rs1) b old ≡ new =
-    ap (λ (k : ℕ). left_by k rd (register_at old rs1) b old) (sym does.work)
-    ∙ ap (λ (r : ℕ). left_by row.kind r (register_at old rs1) b old) (sym does.result)
-    ∙ ap (λ (r : ℕ). left_by row.kind row.rd (register_at old r) b old) (sym does.first)
+    let is : worked_by_kind (row_kind_of operation) rd (register_at old rs1) b old ≡ new =
+    ap (λ (k : ℕ). worked_by_kind k rd (register_at old rs1) b old) (sym does.work)
+    ∙ ap (λ (r : ℕ). worked_by_kind row.kind r (register_at old rs1) b old) (sym does.result)
+    ∙ ap (λ (r : ℕ). worked_by_kind row.kind row.rd (register_at old r) b old) (sym does.first)
     ∙ sym left
     in
-    ap (λ (a : ℕ). beside memory (worked operation rd a (value_of source (placed pc npc old)) (placed pc npc old))) (register_at-placed old pc npc rs1)
-    ∙ ap (λ (b : ℕ). beside memory (worked operation rd (register_at old rs1) b (placed pc npc old))) (value_of-placed source old pc npc)
-    ∙ ap (beside memory) (worked-placed operation rd (register_at old rs1) b pc npc old (λ is_other. some (does.work ∙ is_other)) (λ large. divisor (subst (λ (k : ℕ). 28 ≤ k) (sym does.work) large)))
+    ap (λ (a : ℕ). keeping_memory memory (arith_outcome operation rd a (value_of source (placed pc npc old)) (placed pc npc old))) (register_at-placed old pc npc rs1)
+    ∙ ap (λ (b : ℕ). keeping_memory memory (arith_outcome operation rd (register_at old rs1) b (placed pc npc old))) (value_of-placed source old pc npc)
+    ∙ ap (keeping_memory memory) (worked-placed operation rd (register_at old rs1) b pc npc old (λ is_other. some (does.work ∙ is_other)) (λ large. divisor (subst (λ (k : ℕ). 28 ≤ k) (sym does.work) large)))
     ∙ ap (λ (core : Registers). done (placed npc ((npc + 4) % 2 ^ 32) core) memory) is
     ∙ ap (done (placed npc ((npc + 4) % 2 ^ 32) new)) (sym same)
 
 -- SETHI, which is an OR of nothing and a number
 sethi_goes : (row : Row) (rd imm : ℕ) (areas : List Area) (old new : Registers) (memory after : Memory)
     → row.kind ≡ 3 → row.rd ≡ rd → row.number ≡ imm * 2 ^ 10 → row.number < 2 ^ 32 → register_at old row.rs1 ≡ 0
-    → new ≡ left_by row.kind row.rd (register_at old row.rs1) (value_of (Imm (pos row.number)) old) old → after ≡ memory
+    → new ≡ worked_by_kind row.kind row.rd (register_at old row.rs1) (value_of (Imm (pos row.number)) old) old → after ≡ memory
     → Goes (instr.Sethi rd imm) areas old new memory after
-unfolding left_by sethi_row
+unfolding worked_by_kind sethi_row
 sethi_goes row rd imm areas old new memory after kind result number small zero left same = λ pc npc.
     let value : row.number % 2 ^ 32 ≡ imm * 2 ^ 10 = omega (arith, number, small) in
     let is : new ≡ with_register old rd (imm * 2 ^ 10) =
     left
-    ∙ ap (λ (k : ℕ). left_by k row.rd (register_at old row.rs1) (row.number % 2 ^ 32) old) kind
+    ∙ ap (λ (k : ℕ). worked_by_kind k row.rd (register_at old row.rs1) (row.number % 2 ^ 32) old) kind
     ∙ ap (λ (a : ℕ). with_register old row.rd (bit_or a (row.number % 2 ^ 32))) zero
     ∙ ap (with_register old row.rd) (or_zero_l (row.number % 2 ^ 32) ∙ value)
     ∙ ap (λ (r : ℕ). with_register old r (imm * 2 ^ 10)) result
@@ -82,7 +82,7 @@ transfer_of-kind memory.Swap some = absurd (some refl)
 
 -- loads and stores
 pub memory_goes : (row : Row) (operation : MemOp) (rd rs1 address : ℕ) (source : Src) (areas : List Area) (old new : Registers) (memory after : Memory)
-    → Does row (kind_of_transfer operation) rd rs1 source → row.kind ≢ other → address ≡ sum_of row.rs1 source old
+    → RowDoes row (kind_of_transfer operation) rd rs1 source → row.kind ≢ other → address ≡ sum_of row.rs1 source old
     → IsTransferred (transfer_of row.kind) row.rd address areas old new memory after
     → Goes (instr.Mem operation rd rs1 source) areas old new memory after
 memory_goes row operation rd rs1 address source areas old new memory after does some is moved = λ pc npc.
@@ -96,7 +96,7 @@ pub branch_goes : (condition : ℕ) (disp : ℤ) (areas : List Area) (old new : 
     → holds condition old.icc ≡ false → new ≡ old → after ≡ memory → Goes (instr.Branch condition false disp) areas old new memory after
 unfolding branch_row passed placed
 branch_goes condition disp areas old new memory after told left same = λ pc npc.
-    ap (λ (t : Bool). done (if t then taken condition false (target pc disp) (placed pc npc old) else passed false (placed pc npc old)) memory) told
+    ap (λ (t : Bool). done (if t then taken condition false (branch_target pc disp) (placed pc npc old) else passed false (placed pc npc old)) memory) told
     ∙ ap (λ (core : Registers). done core memory) (advanced-placed old pc npc)
     ∙ ap (λ (core : Registers). done (placed npc ((npc + 4) % 2 ^ 32) core) memory) (sym left)
     ∙ ap (done (placed npc ((npc + 4) % 2 ^ 32) new)) (sym same)
@@ -123,7 +123,7 @@ branch_kinds false k is some = absurd (some is)
 -- the kinds 0, 1 and 3 to 12: what is done is what the row's instruction does
 pub registers_go : (row : Row) (areas : List Area) (old new : Registers) (memory after : Memory)
     → row.kind < 13 → row.kind ≢ 2 → row.number < 2 ^ 32 → (row.rs1 ≡ 0 → register_at old row.rs1 ≡ 0)
-    → ((source : Src) → HasSource source row → new ≡ left_by row.kind row.rd (register_at old row.rs1) (value_of source old) old)
+    → ((source : Src) → HasSource source row → new ≡ worked_by_kind row.kind row.rd (register_at old row.rs1) (value_of source old) old)
     → after ≡ memory → (i : Instr) → IsRowOf row i → Goes i areas old new memory after
 registers_go row areas old new memory after below some small zero left same (instr.Arith operation rd rs1 source) does =
     arith_goes row operation rd rs1 source areas old new memory after does (λ is. absurd (omega (arith, below, is))) (λ large. absurd (omega (arith, below, large))) (left source does.second) same
@@ -171,7 +171,7 @@ branch_apart false k is from below = absurd (omega (arith, is, from))
 pub more_go : (row : Row) (areas : List Area) (old new : Registers) (memory after : Memory)
     → 23 ≤ row.kind → row.kind < 30
     → ((source : Src) → HasSource source row → 28 ≤ row.kind → 0 < value_of source old)
-    → ((source : Src) → HasSource source row → new ≡ left_by row.kind row.rd (register_at old row.rs1) (value_of source old) old)
+    → ((source : Src) → HasSource source row → new ≡ worked_by_kind row.kind row.rd (register_at old row.rs1) (value_of source old) old)
     → after ≡ memory → (i : Instr) → IsRowOf row i → Goes i areas old new memory after
 more_go row areas old new memory after from below divisor left same (instr.Arith operation rd rs1 source) does =
     arith_goes row operation rd rs1 source areas old new memory after does (λ is. absurd (omega (arith, below, is))) (divisor source does.second) (left source does.second) same
@@ -193,7 +193,7 @@ more_go row areas old new memory after from below divisor left same instr.Coproc
 more_go row areas old new memory after from below divisor left same instr.Illegal kind = absurd (omega (arith, below, kind))
 
 -- each kind of work on registers is no load's
-arith_apart : (operation : Arith) (k : ℕ) → k ≡ kind_of operation → 13 ≤ k → k < 23 → ⊥
+arith_apart : (operation : Arith) (k : ℕ) → k ≡ row_kind_of operation → 13 ≤ k → k < 23 → ⊥
 arith_apart arith.Add k is from below = absurd (omega (arith, is, from))
 arith_apart arith.And k is from below = absurd (omega (arith, is, from))
 arith_apart arith.Or k is from below = absurd (omega (arith, is, from))
@@ -257,7 +257,7 @@ transfers_go row address areas old new memory after from below is moved instr.Co
 transfers_go row address areas old new memory after from below is moved instr.Illegal kind = absurd (omega (arith, below, kind))
 
 -- none is a branch's
-pub arith_not_two : (operation : Arith) → kind_of operation ≡ 2 → ⊥
+pub arith_not_two : (operation : Arith) → row_kind_of operation ≡ 2 → ⊥
 arith_not_two arith.Add is = absurd (omega (arith, is))
 arith_not_two arith.And is = absurd (omega (arith, is))
 arith_not_two arith.Or is = absurd (omega (arith, is))

@@ -16,7 +16,7 @@ Goes i areas old new memory after =
     (pc npc : ℕ) → executed i areas (placed pc npc old) memory ≡ done (placed npc ((npc + 4) % 2 ^ 32) new) after
 
 -- what came of a row: it was done, or it is a branch that is taken, or it is left to others; then nothing changed
-abbrev pub IsStep : Step → Row → List Area → Registers → Registers → Memory → Memory → Type 0
-IsStep Next row areas old new memory after = (i : Instr) → IsRowOf row i → Goes i areas old new memory after
-IsStep Taken row areas old new memory after = (row.kind ≡ 2) × (holds row.rs1 old.icc ≡ true) × (new ≡ old) × (after ≡ memory)
-IsStep Stays row areas old new memory after = (new ≡ old) × (after ≡ memory)
+abbrev pub IsRowStep : Step → Row → List Area → Registers → Registers → Memory → Memory → Type 0
+IsRowStep Next row areas old new memory after = (i : Instr) → IsRowOf row i → Goes i areas old new memory after
+IsRowStep Taken row areas old new memory after = (row.kind ≡ 2) × (holds row.rs1 old.icc ≡ true) × (new ≡ old) × (after ≡ memory)
+IsRowStep Stays row areas old new memory after = (new ≡ old) × (after ≡ memory)

@@ -20,6 +20,6 @@ abbrev pub IsRowAt : List Row → ℕ → ℕ → Type 0
 IsRowAt rows number raw = (row : Row) → slice_get rows number ≡ Some row → IsRowFor raw row
 
 -- the whole table
-pub record IsTable (words : List ℕ) (table : List Row) : Type 0 where
+pub record IsRowTable (words : List ℕ) (table : List Row) : Type 0 where
   pub rows : AreRows words table
   pub size : length words ≡ 131072

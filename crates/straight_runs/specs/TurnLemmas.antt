@@ -9,8 +9,8 @@ use Rattle.sparc_code.specs.Decoded.{decoded}
 use Rattle.sparc_code.specs.declared.instruction.Instr.TheVariants as instr
 use Rattle.sparc_code.specs.declared.instruction.Src.{Src}
 use Rattle.sparc_step.specs.Conditions.{holds}
-use Rattle.sparc_step.specs.Execution.{Turned, beside, done, executed, turned, turned_after}
-use Rattle.sparc_step.specs.Flow.{branch_row, call_row, jumped, passed, taken, target}
+use Rattle.sparc_step.specs.Execution.{Turned, keeping_memory, done, executed, turned, turned_after}
+use Rattle.sparc_step.specs.Flow.{branch_row, call_row, jumped, passed, taken, branch_target}
 use Rattle.sparc_step.specs.Operands.{sum_of}
 use Rattle.sparc_step.specs.Outcome.{trapped, went}
 use Rattle.sparc_step.specs.Registers.{Registers, branched, placed, sent, with_register}
@@ -30,19 +30,19 @@ taken-placed condition to pc npc annul core none =
 
 pub branch_taken : (condition pc npc : ℕ) (annul : Bool) (disp : ℤ) (areas : List Area) (core : Registers) (memory : Memory)
     → holds condition core.icc ≡ true → (annul && (condition == 8)) ≡ false
-    → executed (instr.Branch condition annul disp) areas (placed pc npc core) memory ≡ done (placed npc (target pc disp) core) memory
+    → executed (instr.Branch condition annul disp) areas (placed pc npc core) memory ≡ done (placed npc (branch_target pc disp) core) memory
 unfolding branch_row placed
 branch_taken condition pc npc annul disp areas core memory told none =
-    ap (λ (t : Bool). done (if t then taken condition annul (target pc disp) (placed pc npc core) else passed annul (placed pc npc core)) memory) told
-    ∙ ap (λ (r : Registers). done r memory) (taken-placed condition (target pc disp) pc npc annul core none)
+    ap (λ (t : Bool). done (if t then taken condition annul (branch_target pc disp) (placed pc npc core) else passed annul (placed pc npc core)) memory) told
+    ∙ ap (λ (r : Registers). done r memory) (taken-placed condition (branch_target pc disp) pc npc annul core none)
 
 -- a call
-pub called : (pc npc : ℕ) (disp : ℤ) (areas : List Area) (core : Registers) (memory : Memory)
-    → executed (instr.Call disp) areas (placed pc npc core) memory ≡ done (placed npc (target pc disp) (with_register core 15 pc)) memory
+pub call_taken : (pc npc : ℕ) (disp : ℤ) (areas : List Area) (core : Registers) (memory : Memory)
+    → executed (instr.Call disp) areas (placed pc npc core) memory ≡ done (placed npc (branch_target pc disp) (with_register core 15 pc)) memory
 unfolding call_row placed
-called pc npc disp areas core memory =
-    ap (λ (r : Registers). done (branched r (target pc disp)) memory) (with_register-placed core pc npc 15 pc)
-    ∙ ap (λ (r : Registers). done r memory) (branched-placed (with_register core 15 pc) pc npc (target pc disp))
+call_taken pc npc disp areas core memory =
+    ap (λ (r : Registers). done (branched r (branch_target pc disp)) memory) (with_register-placed core pc npc 15 pc)
+    ∙ ap (λ (r : Registers). done r memory) (branched-placed (with_register core 15 pc) pc npc (branch_target pc disp))
 
 -- a jump to where an instruction can stand
 pub jump_taken : (rd rs1 pc npc : ℕ) (source : Src) (areas : List Area) (core : Registers) (memory : Memory)
@@ -52,8 +52,8 @@ unfolding jumped placed
 jump_taken rd rs1 pc npc source areas core memory aligned =
     let to = sum_of rs1 source core in
     let test : (to % 4 == 0) ≡ true = grind (arith, nat_tests) in
-    ap (λ (n : ℕ). beside memory (jumped rd n (placed pc npc core))) (sum_of-placed rs1 source core pc npc)
-    ∙ ap (λ (t : Bool). beside memory (if t then went (branched (with_register (placed pc npc core) rd pc) to) else trapped 0x07 (placed pc npc core))) test
+    ap (λ (n : ℕ). keeping_memory memory (jumped rd n (placed pc npc core))) (sum_of-placed rs1 source core pc npc)
+    ∙ ap (λ (t : Bool). keeping_memory memory (if t then went (branched (with_register (placed pc npc core) rd pc) to) else trapped 0x07 (placed pc npc core))) test
     ∙ ap (λ (r : Registers). done (branched r to) memory) (with_register-placed core pc npc rd pc)
     ∙ ap (λ (r : Registers). done r memory) (branched-placed (with_register core rd pc) pc npc to)
 

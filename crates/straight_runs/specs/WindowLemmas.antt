@@ -2,7 +2,7 @@
 use Rattle.std.proofs.Common.{◌≡◌, ◌≢◌, ℕ, ◌+◌, ◌%◌, ◌^◌, Bool, false, List, refl, ap, ◌∙◌, arith}
 use Rattle.std.proofs.lemmas.Bool.Decides.{nat_tests}
 use Rattle.std.specs.Prelude.{if◌then◌else◌, ◌==◌}
-use Rattle.sparc_step.specs.Flow.{entered, moved, window_above, window_below}
+use Rattle.sparc_step.specs.Flow.{window_entered, moved, window_above, window_below}
 use Rattle.sparc_step.specs.Outcome.{trapped, went, with_result}
 use Rattle.sparc_step.specs.Registers.{Registers, in_window, placed, with_register}
 use Rattle.straight_runs.specs.PlacedLemmas.{with_result-placed}
@@ -11,8 +11,8 @@ in_window-placed : (core : Registers) (pc npc window : ℕ) → in_window (place
 unfolding in_window placed
 in_window-placed core pc npc window = refl
 
-entered-placed : (core : Registers) (pc npc window rd value : ℕ) → entered window rd value (placed pc npc core) ≡ placed npc ((npc + 4) % 2 ^ 32) (with_register (in_window core window) rd value)
-unfolding entered
+entered-placed : (core : Registers) (pc npc window rd value : ℕ) → window_entered window rd value (placed pc npc core) ≡ placed npc ((npc + 4) % 2 ^ 32) (with_register (in_window core window) rd value)
+unfolding window_entered
 entered-placed core pc npc window rd value =
     ap (with_result rd value) (in_window-placed core pc npc window) ∙ with_result-placed (in_window core window) pc npc rd value
 
@@ -22,7 +22,7 @@ pub moved-placed : (core : Registers) (pc npc window type rd value : ℕ) → wi
 unfolding moved placed
 moved-placed core pc npc window type rd value valid =
     let test : (window == core.inv) ≡ false = grind (arith, nat_tests) in
-    ap (λ (t : Bool). if t then trapped type (placed pc npc core) else went (entered window rd value (placed pc npc core))) test
+    ap (λ (t : Bool). if t then trapped type (placed pc npc core) else went (window_entered window rd value (placed pc npc core))) test
     ∙ ap went (entered-placed core pc npc window rd value)
 
 -- the windows are those of the registers

@@ -4,7 +4,7 @@ ghost use Rattle.std.specs.Prelude.{◌≡◌, ◌+◌, ◌^◌, ◌<◌, ◌≤
 ghost use Rattle.guest_bus.specs.Memory.{Memory};
 ghost use Rattle.sparc_step.specs.Registers.{Registers};
 ghost use Rattle.straight_runs.specs.Codes.{IsCode};
-ghost use Rattle.straight_runs.specs.Coming.{IsCame, IsNear};
+ghost use Rattle.straight_runs.specs.Coming.{IsCame, IsNearPlace};
 ghost use Rattle.straight_runs.specs.Runs.{AreSteps};
 ghost use Rattle.straight_runs.specs.Tables.{AreRows};
 ghost use Rattle.straight_runs.specs.Turning.{at_place, at_slot};
@@ -51,7 +51,7 @@ pub(crate) fn one<B: HasWords>(
     requires from { code.begin ≤ at }
     requires under { at + 1 < code.end }
     ensures came { IsCame result code.words.origin at (B.areas bus.old) own.old own.new (B.memory bus.old) (B.memory bus.new) }
-    ensures near { IsNear result }
+    ensures near { IsNearPlace result }
     ensures rows { AreRows words.new rows.new }
     ensures size { length words.new ≡ length words.old }
     ensures areas { B.areas bus.new ≡ B.areas bus.old }
@@ -101,7 +101,7 @@ fn behind<B: HasWords>(
     requires under { at + 1 < code.end }
     requires few { to < 2 ^ 33 }
     ensures came { (core : Registers) (memory : Memory) → AreSteps 1 (B.areas bus.old) (at_place code.words.origin at core) memory (at_slot code.words.origin (at + 1) to own.old) (B.memory bus.old) → IsCame result code.words.origin at (B.areas bus.old) core own.new memory (B.memory bus.new) }
-    ensures near { IsNear result }
+    ensures near { IsNearPlace result }
     ensures rows { AreRows words.new rows.new }
     ensures size { length words.new ≡ length words.old }
     ensures areas { B.areas bus.new ≡ B.areas bus.old }

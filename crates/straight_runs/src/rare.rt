@@ -8,7 +8,7 @@ ghost use Rattle.sparc_step.specs.Operands.{sum_of as sum_of_operands, value_of}
 ghost use Rattle.sparc_step.specs.Registers.{in_window, register_at, with_register, with_y};
 ghost use Rattle.straight_runs.specs.Effects.{y_of};
 ghost use Rattle.straight_runs.specs.Rows.{AreRegisterNumbers, HasSource};
-ghost use Rattle.straight_runs.specs.Steps.{IsStep};
+ghost use Rattle.straight_runs.specs.Steps.{IsRowStep};
 
 use crate::kinds;
 use crate::rows::Row;
@@ -21,7 +21,7 @@ use sparc_step::Processor;
 pub(crate) fn rare(own: &mut Processor, row: &Row) -> Step
     requires from { 30 ≤ row.now.kind }
     requires registers { AreRegisterNumbers row.now }
-    ensures { (areas : List Area) (memory : Memory) → IsStep result row.now areas own.old own.new memory memory }
+    ensures { (areas : List Area) (memory : Memory) → IsRowStep result row.now areas own.old own.new memory memory }
 {
     if row.kind < kinds::SAVE {
         if row.kind == kinds::WRY {
@@ -43,7 +43,7 @@ pub(crate) fn rare(own: &mut Processor, row: &Row) -> Step
 fn write_y(own: &mut Processor, row: &Row) -> Step
     requires kind { row.now.kind ≡ 30 }
     requires registers { AreRegisterNumbers row.now }
-    ensures { (areas : List Area) (memory : Memory) → IsStep result row.now areas own.old own.new memory memory }
+    ensures { (areas : List Area) (memory : Memory) → IsRowStep result row.now areas own.old own.new memory memory }
 {
     put_y(own, row);
     Step::Next
@@ -65,7 +65,7 @@ fn put_y(own: &mut Processor, row: &Row)
 fn read_y(own: &mut Processor, row: &Row) -> Step
     requires kind { row.now.kind ≡ 31 }
     requires registers { AreRegisterNumbers row.now }
-    ensures { (areas : List Area) (memory : Memory) → IsStep result row.now areas own.old own.new memory memory }
+    ensures { (areas : List Area) (memory : Memory) → IsRowStep result row.now areas own.old own.new memory memory }
 {
     take_y(own, row.rd);
     Step::Next
@@ -86,7 +86,7 @@ fn take_y(own: &mut Processor, rd: u8)
 fn save(own: &mut Processor, row: &Row) -> Step
     requires kind { row.now.kind ≡ 32 }
     requires registers { AreRegisterNumbers row.now }
-    ensures { (areas : List Area) (memory : Memory) → IsStep result row.now areas own.old own.new memory memory }
+    ensures { (areas : List Area) (memory : Memory) → IsRowStep result row.now areas own.old own.new memory memory }
 {
     let window = (own.cwp() + 7) % 8;
     if enter(own, row, window) {
@@ -101,7 +101,7 @@ fn save(own: &mut Processor, row: &Row) -> Step
 fn restore(own: &mut Processor, row: &Row) -> Step
     requires kind { row.now.kind ≡ 33 }
     requires registers { AreRegisterNumbers row.now }
-    ensures { (areas : List Area) (memory : Memory) → IsStep result row.now areas own.old own.new memory memory }
+    ensures { (areas : List Area) (memory : Memory) → IsRowStep result row.now areas own.old own.new memory memory }
 {
     let window = (own.cwp() + 1) % 8;
     if enter(own, row, window) {

@@ -3,8 +3,8 @@
 ghost use Rattle.std.specs.Prelude.{◌≡◌, ◌*◌, ◌≢◌, ◌^◌, ◌<◌};
 ghost use Rattle.sparc_code.specs.Ranges.{InRange};
 ghost use Rattle.sparc_step.specs.Words.{residue};
-ghost use Rattle.straight_runs.specs.Kinds.{kind_of, kind_of_branch, kind_of_transfer};
-ghost use Rattle.straight_runs.specs.Rows.{AreRegisterNumbers, Does, IsRowOf};
+ghost use Rattle.straight_runs.specs.Kinds.{row_kind_of, kind_of_branch, kind_of_transfer};
+ghost use Rattle.straight_runs.specs.Rows.{AreRegisterNumbers, RowDoes, IsRowOf};
 ghost use Rattle.straight_runs.specs.Sources.{IsRegisterIn};
 
 use crate::kinds;
@@ -130,7 +130,7 @@ fn with_source(kind: u8, rd: u8, rs1: u8, src: Src) -> Row
     requires rd { rd < 32 }
     requires rs1 { rs1 < 32 }
     requires source { IsRegisterIn src }
-    ensures row { Does result kind rd rs1 src }
+    ensures row { RowDoes result kind rd rs1 src }
     ensures registers { AreRegisterNumbers result }
 {
     match src {
@@ -167,7 +167,7 @@ fn displacement(disp: i32) -> u32
 
 // The kind of work on registers.
 fn arith_kind(op: Arith) -> u8
-    ensures value { result ≡ kind_of op }
+    ensures value { result ≡ row_kind_of op }
     ensures work { result ≢ 2 }
     ensures annulling { result ≢ 36 }
 {

@@ -2,7 +2,7 @@
 
 ghost use Rattle.std.specs.Prelude.{◌≡◌, ◌+◌, ◌%◌, ◌^◌, ◌<◌, ◌≤◌, length};
 ghost use Rattle.guest_bus.specs.Words.{AreWords};
-ghost use Rattle.straight_runs.specs.Codes.{IsCode, IsStart, StopsAt};
+ghost use Rattle.straight_runs.specs.Codes.{IsCode, IsStart, RunStopsAt};
 ghost use Rattle.straight_runs.specs.Runs.{AreSteps};
 ghost use Rattle.straight_runs.specs.Tables.{AreRows};
 ghost use Rattle.straight_runs.specs.Turning.{at_place, at_slot};
@@ -144,7 +144,7 @@ fn stand_in_slot(own: &mut Processor, words: Words, at: usize, to: usize)
 #[inline(always)]
 fn last_at(code: Code, at: usize, limit: usize) -> usize
     requires { IsCode code }
-    ensures { StopsAt code at limit result }
+    ensures { RunStopsAt code at limit result }
 {
     if has(code, at) {
         limit.min(code.end).saturating_sub(1)

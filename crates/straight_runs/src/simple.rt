@@ -5,9 +5,9 @@ ghost use Rattle.guest_bus.specs.Memory.{Area, Memory};
 ghost use Rattle.sparc_code.specs.declared.instruction.Src.{Src};
 ghost use Rattle.sparc_step.specs.Operands.{value_of};
 ghost use Rattle.sparc_step.specs.Registers.{register_at};
-ghost use Rattle.straight_runs.specs.Effects.{left_by};
+ghost use Rattle.straight_runs.specs.Effects.{worked_by_kind};
 ghost use Rattle.straight_runs.specs.Rows.{AreRegisterNumbers, HasSource};
-ghost use Rattle.straight_runs.specs.Steps.{IsStep};
+ghost use Rattle.straight_runs.specs.Steps.{IsRowStep};
 ghost use Rattle.straight_runs.specs.declared.simple.Step.TheVariants.{Next};
 
 use crate::kinds;
@@ -34,7 +34,7 @@ pub(crate) enum Step {
 #[inline(always)]
 pub(crate) fn execute<B: Bus>(own: &mut Processor, bus: &mut B, row: &Row) -> Step
     requires { AreRegisterNumbers row.now }
-    ensures step { IsStep result row.now (B.areas bus.old) own.old own.new (B.memory bus.old) (B.memory bus.new) }
+    ensures step { IsRowStep result row.now (B.areas bus.old) own.old own.new (B.memory bus.old) (B.memory bus.new) }
     ensures areas { B.areas bus.new ≡ B.areas bus.old }
     ensures others { B.others bus.new ≡ B.others bus.old }
 {
@@ -58,7 +58,7 @@ pub(crate) fn execute<B: Bus>(own: &mut Processor, bus: &mut B, row: &Row) -> St
 fn branch(own: &Processor, row: &Row) -> Step
     requires kind { row.now.kind ≡ 2 }
     requires condition { row.now.rs1 < 16 }
-    ensures { (areas : List Area) (memory : Memory) → IsStep result row.now areas own.now own.now memory memory }
+    ensures { (areas : List Area) (memory : Memory) → IsRowStep result row.now areas own.now own.now memory memory }
 {
     if holds(row.rs1, own.icc()) {
         Step::Taken
@@ -73,7 +73,7 @@ fn on_registers(own: &mut Processor, row: &Row) -> Step
     requires below { row.now.kind < 13 }
     requires work { row.now.kind ≢ 2 }
     requires registers { AreRegisterNumbers row.now }
-    ensures { (areas : List Area) (memory : Memory) → IsStep result row.now areas own.old own.new memory memory }
+    ensures { (areas : List Area) (memory : Memory) → IsRowStep result row.now areas own.old own.new memory memory }
 {
     work(own, row);
     Step::Next
@@ -85,7 +85,7 @@ fn work(own: &mut Processor, row: &Row)
     requires below { row.now.kind < 13 }
     requires work { row.now.kind ≢ 2 }
     requires registers { AreRegisterNumbers row.now }
-    ensures left { (source : Src) → HasSource source row.now → own.new ≡ left_by row.now.kind row.now.rd (register_at own.old row.now.rs1) (value_of source own.old) own.old }
+    ensures left { (source : Src) → HasSource source row.now → own.new ≡ worked_by_kind row.now.kind row.now.rd (register_at own.old row.now.rs1) (value_of source own.old) own.old }
     ensures zero { row.now.rs1 ≡ 0 → register_at own.old row.now.rs1 ≡ 0 }
     ensures small { row.now.number < 2 ^ 32 }
 {
@@ -104,7 +104,7 @@ fn on_memory<B: Bus>(own: &mut Processor, bus: &mut B, row: &Row) -> Step
     requires from { 13 ≤ row.now.kind }
     requires below { row.now.kind < 23 }
     requires registers { AreRegisterNumbers row.now }
-    ensures step { IsStep result row.now (B.areas bus.old) own.old own.new (B.memory bus.old) (B.memory bus.new) }
+    ensures step { IsRowStep result row.now (B.areas bus.old) own.old own.new (B.memory bus.old) (B.memory bus.new) }
     ensures areas { B.areas bus.new ≡ B.areas bus.old }
     ensures others { B.others bus.new ≡ B.others bus.old }
 {
@@ -122,7 +122,7 @@ fn more(own: &mut Processor, row: &Row) -> Step
     requires from { 23 ≤ row.now.kind }
     requires below { row.now.kind < 30 }
     requires registers { AreRegisterNumbers row.now }
-    ensures { (areas : List Area) (memory : Memory) → IsStep result row.now areas own.old own.new memory memory }
+    ensures { (areas : List Area) (memory : Memory) → IsRowStep result row.now areas own.old own.new memory memory }
 {
     let a = first(own, row);
     let b = second(own, row);

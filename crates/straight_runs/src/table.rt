@@ -19,13 +19,13 @@ pub struct Rows {
 }
 
 impl Model for Rows {
-    ghost use Rattle.straight_runs.specs.Tables.{IsTable};
+    ghost use Rattle.straight_runs.specs.Tables.{IsRowTable};
 
     ghost Value = { Unit {0} };
 
     ghost view = { λ table. tt };
 
-    ghost invariant = { λ table. IsTable table.words.items table.rows.items };
+    ghost invariant = { λ table. IsRowTable table.words.items table.rows.items };
 }
 
 // How many rows there are.

@@ -5,7 +5,7 @@ ghost use Rattle.std.specs.Bool.{OnTrue};
 ghost use Rattle.sparc_code.specs.declared.instruction.Src.{Src};
 ghost use Rattle.sparc_step.specs.Operands.{sum_of, value_of};
 ghost use Rattle.sparc_step.specs.Registers.{register_at};
-ghost use Rattle.straight_runs.specs.Effects.{left_by, wide};
+ghost use Rattle.straight_runs.specs.Effects.{worked_by_kind, set_wide};
 ghost use Rattle.straight_runs.specs.Rows.{AreRegisterNumbers, HasSource};
 
 use crate::kinds;
@@ -49,12 +49,12 @@ pub(crate) fn sum_of(own: &Processor, row: &Row) -> u32
 
 /// The kinds 0, 1 and 3.
 #[inline(always)]
-#[tactic(auto, unfolding(crate::specs::Effects::left_by))]
+#[tactic(auto, unfolding(crate::specs::Effects::worked_by_kind))]
 pub(crate) fn frequent(own: &mut Processor, kind: u8, rd: u8, a: u32, b: u32)
     requires kind { kind < 4 }
     requires work { kind ≢ 2 }
     requires rd { rd < 32 }
-    ensures { own.new ≡ left_by kind rd a b own.old }
+    ensures { own.new ≡ worked_by_kind kind rd a b own.old }
 {
     if kind == kinds::SUBCC {
         own.set(rd, difference(a, b, false));
@@ -68,12 +68,12 @@ pub(crate) fn frequent(own: &mut Processor, kind: u8, rd: u8, a: u32, b: u32)
 
 /// The kinds 4 to 12.
 #[inline(always)]
-#[tactic(auto, unfolding(crate::specs::Effects::left_by))]
+#[tactic(auto, unfolding(crate::specs::Effects::worked_by_kind))]
 pub(crate) fn plain(own: &mut Processor, kind: u8, rd: u8, a: u32, b: u32)
     requires from { 4 ≤ kind }
     requires below { kind < 13 }
     requires rd { rd < 32 }
-    ensures { own.new ≡ left_by kind rd a b own.old }
+    ensures { own.new ≡ worked_by_kind kind rd a b own.old }
 {
     if kind < kinds::AND {
         if kind == kinds::XOR {
@@ -104,12 +104,12 @@ pub(crate) fn plain(own: &mut Processor, kind: u8, rd: u8, a: u32, b: u32)
 
 /// The kinds 23 to 25.
 #[inline(always)]
-#[tactic(auto, unfolding(crate::specs::Effects::left_by))]
+#[tactic(auto, unfolding(crate::specs::Effects::worked_by_kind))]
 pub(crate) fn coded(own: &mut Processor, kind: u8, rd: u8, a: u32, b: u32)
     requires from { 23 ≤ kind }
     requires below { kind < 26 }
     requires rd { rd < 32 }
-    ensures { own.new ≡ left_by kind rd a b own.old }
+    ensures { own.new ≡ worked_by_kind kind rd a b own.old }
 {
     if kind == kinds::ADDCC {
         own.set(rd, sum(a, b, false));
@@ -129,7 +129,7 @@ pub(crate) fn multiply_or_divide(own: &mut Processor, kind: u8, rd: u8, a: u32, 
     requires from { 26 ≤ kind }
     requires below { kind < 30 }
     requires rd { rd < 32 }
-    ensures done { OnTrue result (own.new ≡ left_by kind rd a b own.old) }
+    ensures done { OnTrue result (own.new ≡ worked_by_kind kind rd a b own.old) }
     ensures divisor { OnTrue result (28 ≤ kind → 0 < b) }
     ensures not_done { result ≡ false → own.new ≡ own.old }
 {
@@ -145,12 +145,12 @@ pub(crate) fn multiply_or_divide(own: &mut Processor, kind: u8, rd: u8, a: u32, 
 }
 
 #[inline(always)]
-#[tactic(auto, unfolding(crate::specs::Effects::left_by))]
+#[tactic(auto, unfolding(crate::specs::Effects::worked_by_kind))]
 fn multiply(own: &mut Processor, kind: u8, rd: u8, a: u32, b: u32)
     requires from { 26 ≤ kind }
     requires below { kind < 28 }
     requires rd { rd < 32 }
-    ensures { own.new ≡ left_by kind rd a b own.old }
+    ensures { own.new ≡ worked_by_kind kind rd a b own.old }
 {
     if kind == kinds::SMUL {
         put_product(own, rd, signed_product(a, b));
@@ -163,20 +163,20 @@ fn multiply(own: &mut Processor, kind: u8, rd: u8, a: u32, b: u32)
 #[inline(always)]
 fn put_product(own: &mut Processor, rd: u8, product: u64)
     requires { rd < 32 }
-    ensures { own.new ≡ wide rd product own.old }
+    ensures { own.new ≡ set_wide rd product own.old }
 {
     own.set_y((product >> 32) as u32);
     own.set(rd, (product % 0x1_0000_0000) as u32);
 }
 
 #[inline(always)]
-#[tactic(auto, unfolding(crate::specs::Effects::left_by, sparc_step::specs::Arithmetic::dividend))]
+#[tactic(auto, unfolding(crate::specs::Effects::worked_by_kind, sparc_step::specs::Arithmetic::dividend))]
 fn divide(own: &mut Processor, kind: u8, rd: u8, a: u32, b: u32)
     requires from { 28 ≤ kind }
     requires below { kind < 30 }
     requires rd { rd < 32 }
     requires divisor { 0 < b }
-    ensures { own.new ≡ left_by kind rd a b own.old }
+    ensures { own.new ≡ worked_by_kind kind rd a b own.old }
 {
     let dividend = (u64::from(own.y()) << 32) + u64::from(a);
     if kind == kinds::UDIV {

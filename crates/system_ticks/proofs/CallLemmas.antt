@@ -23,7 +23,7 @@ use Rattle.machine_model.specs.View.{PartitionView, name_of, named, view_of}
 use Rattle.slot_runs.specs.Passes.{part_at, traded, with_part}
 use Rattle.virt_traps.specs.Virtual.{raised}
 use Rattle.xm_report.specs.Report.{ReportLine}
-use Rattle.system_ticks.specs.Work.{AsksAtMost, IsDone, IsToldBy, IsUponOne, IsWorked, TellsAlone, act_of, console_told, trace_told}
+use Rattle.system_ticks.specs.Work.{AsksAtMost, IsPartDone, IsToldBy, ReachIsUponOne, IsTickWorked, TellsAlone, act_beyond, console_told, trace_told}
 use Rattle.system_ticks.specs.declared.beyond.Beyond.{Beyond}
 use Rattle.system_ticks.specs.declared.beyond.Beyond.TheVariants as beyond
 use Rattle.whole_system.specs.declared.served.Act.TheVariants as act
@@ -176,14 +176,14 @@ record IsCalled (p : ℕ) (sight : Sight) (s : Served) (answer : code.Served) (r
   serves : IsServed p sight s answer old one
   counts : two ≡ with_machine (with_part p (clocked (part_at p one.machine)) one.machine) one
   traces : between ≡ map (line_of two.machine.ticks p) (trace_told answer.note)
-  follows : IsDone p (following (upshot_of answer.act) p two).after (following (upshot_of answer.act) p two).told two new between got
-  act : (following (upshot_of answer.act) p two).act ≡ act_of reach
-  one_is : IsUponOne reach two.machine
+  follows : IsPartDone p (following (upshot_of answer.act) p two).after (following (upshot_of answer.act) p two).told two new between got
+  act : (following (upshot_of answer.act) p two).act ≡ act_beyond reach
+  one_is : ReachIsUponOne reach two.machine
 
 module _ (p : ℕ) (sight : Sight) (s : Served) (answer : code.Served) (reach : Beyond) (old one two new : SysState) (between got : List ReportLine) where
   -- one without traffic
   plain_call : IsCalled p sight s answer reach old one two new between got → untraded s.upshot ≡ s.upshot → own_traffic s.upshot ≡ OwnStill
-      → IsWorked p (worked_by s (view_of old.machine.system p) old.machine.time) answer.note reach old new got
+      → IsTickWorked p (worked_by s (view_of old.machine.system p) old.machine.time) answer.note reach old new got
   plain_call c plain own_still =
       let view = view_of old.machine.system p in
       let w = by_upshot s.upshot view old.machine.time (clocked s.after) in
@@ -193,14 +193,14 @@ module _ (p : ℕ) (sight : Sight) (s : Served) (answer : code.Served) (reach : 
       counted p s (traffic_by answer.note s.after.memory) old one two c.below c.serves.state c.counts
       ∙ ap (λ (t : Traffic). with_machine (traded t (with_part p (clocked s.after) old.machine)) old) still in
       let upshot_is : upshot_of answer.act ≡ s.upshot = sym c.serves.upshot ∙ plain in
-      let follows = subst (λ (u : Upshot). IsDone p (following u p two).after (following u p two).told two new between got) upshot_is c.follows in
+      let follows = subst (λ (u : Upshot). IsPartDone p (following u p two).after (following u p two).told two new between got) upshot_is c.follows in
       let same : following s.upshot p two ≡ w =
       ap (λ (x : PartitionState). by_upshot s.upshot (view_of two.machine.system p) two.machine.time x) (put_there p (clocked s.after) old.machine two old c.below two_is)
       ∙ ap (λ (sys : SysState). by_upshot s.upshot (view_of sys.machine.system p) sys.machine.time (clocked s.after)) two_is in
-      let done : IsDone p w.after w.told old new between got =
+      let done : IsPartDone p w.after w.told old new between got =
       done_then (λ v t x. (by_upshot s.upshot v t x).after) (λ v t x. (by_upshot s.upshot v t x).told) p (clocked s.after) [] old two new between between got c.below
       (silent p (clocked s.after) old two between two_is) follows in
-      let act_is : w.act ≡ act_of reach = ap (λ (x : Worked). x.act) (sym same) ∙ ap (λ (u : Upshot). (following u p two).act) (sym upshot_is) ∙ c.act in
+      let act_is : w.act ≡ act_beyond reach = ap (λ (x : Worked). x.act) (sym same) ∙ ap (λ (u : Upshot). (following u p two).act) (sym upshot_is) ∙ c.act in
       let ticks : two.machine.ticks ≡ old.machine.ticks = ap (λ (sys : SysState). sys.machine.ticks) two_is in
       let traces = c.traces ∙ ap (λ (n : ℕ). map (line_of n p) (trace_told answer.note)) ticks in
       let lengths : length two.machine.parts ≡ length old.machine.parts =
@@ -216,16 +216,16 @@ module _ (p : ℕ) (sight : Sight) (s : Served) (answer : code.Served) (reach : 
 
   -- one that puts or takes a message
   trading_call : (own : OwnTraffic) → IsCalled p sight s answer reach old one two new between got → s.upshot ≡ Acts (Trades own)
-      → IsWorked p (worked_by s (view_of old.machine.system p) old.machine.time) answer.note reach old new got
+      → IsTickWorked p (worked_by s (view_of old.machine.system p) old.machine.time) answer.note reach old new got
   unfolding clocked
   trading_call own c trades =
       let view = view_of old.machine.system p in
       let traffic = traffic_by answer.note s.after.memory in
       let two_is : two ≡ with_machine (traded traffic (with_part p (clocked s.after) old.machine)) old = counted p s traffic old one two c.below c.serves.state c.counts in
       let upshot_is : upshot_of answer.act ≡ Acts told.Nothing = sym c.serves.upshot ∙ ap untraded trades in
-      let follows : IsDone p (part_at p two.machine) [] two new between got =
-      subst (λ (u : Upshot). IsDone p (following u p two).after (following u p two).told two new between got) upshot_is c.follows in
-      let act_is : told.Nothing ≡ act_of reach = sym (ap (λ (u : Upshot). (following u p two).act) upshot_is) ∙ c.act in
+      let follows : IsPartDone p (part_at p two.machine) [] two new between got =
+      subst (λ (u : Upshot). IsPartDone p (following u p two).after (following u p two).told two new between got) upshot_is c.follows in
+      let act_is : told.Nothing ≡ act_beyond reach = sym (ap (λ (u : Upshot). (following u p two).act) upshot_is) ∙ c.act in
       let traffic_is : told_as (named old.machine.system.conf p) own ≡ traffic =
       sym (ap (λ (u : Upshot). told_as (named old.machine.system.conf p) (own_traffic u)) trades) ∙ c.serves.traffic in
       let ticks : two.machine.ticks ≡ old.machine.ticks =
@@ -233,7 +233,7 @@ module _ (p : ℕ) (sight : Sight) (s : Served) (answer : code.Served) (reach : 
       let traces = c.traces ∙ ap (λ (n : ℕ). map (line_of n p) (trace_told answer.note)) ticks in
       let lengths : length two.machine.parts ≡ length old.machine.parts =
       ap (λ (sys : SysState). length sys.machine.parts) two_is ∙ traded_length traffic (with_part p (clocked s.after) old.machine) ∙ length-set old.machine.parts p (clocked s.after) in
-      let worked : IsWorked p (record (quiet (clocked s.after)) { told = s.told ++ []; act = Trades own }) answer.note reach old new got = record {
+      let worked : IsTickWorked p (record (quiet (clocked s.after)) { told = s.told ++ []; act = Trades own }) answer.note reach old new got = record {
         state = follows.state ∙ put_back p two ∙ two_is
             ∙ ap (λ (t : Traffic). with_machine (traded t (with_part p (clocked s.after) old.machine)) old) (sym traffic_is);
         lines = call_lines (line_of old.machine.ticks p) answer.note s.after.memory s.after.memory s.told [] between got c.serves.told refl traces follows.lines;
@@ -241,13 +241,13 @@ module _ (p : ℕ) (sight : Sight) (s : Served) (answer : code.Served) (reach : 
         readable = c.serves.readable;
         one = one_before reach two.machine old.machine lengths c.one_is;
       } in
-      subst (λ (u : Upshot). IsWorked p (record (by_upshot u view old.machine.time (clocked s.after)) { told = s.told ++ (by_upshot u view old.machine.time (clocked s.after)).told }) answer.note reach old new got) (sym trades) worked
+      subst (λ (u : Upshot). IsTickWorked p (record (by_upshot u view old.machine.time (clocked s.after)) { told = s.told ++ (by_upshot u view old.machine.time (clocked s.after)).told }) answer.note reach old new got) (sym trades) worked
 
   -- each call
-  any_call : IsCalled p sight s answer reach old one two new between got → IsWorked p (worked_by s (view_of old.machine.system p) old.machine.time) answer.note reach old new got
+  any_call : IsCalled p sight s answer reach old one two new between got → IsTickWorked p (worked_by s (view_of old.machine.system p) old.machine.time) answer.note reach old new got
   any_call c = by s.upshot refl
     where
-      by : (u : Upshot) → s.upshot ≡ u → IsWorked p (worked_by s (view_of old.machine.system p) old.machine.time) answer.note reach old new got
+      by : (u : Upshot) → s.upshot ≡ u → IsTickWorked p (worked_by s (view_of old.machine.system p) old.machine.time) answer.note reach old new got
       by (Acts told.Nothing) is = plain_call c (ap untraded is ∙ sym is) (ap own_traffic is)
       by (Acts (Trades own)) is = trading_call own c is
       by (Acts (told.Upon id order)) is = plain_call c (ap untraded is ∙ sym is) (ap own_traffic is)
@@ -261,11 +261,11 @@ pub call_worked : (p pc npc n : ℕ) (answer : code.Served) (reach : Beyond) (ol
     → two ≡ with_machine (with_part p (clocked (part_at p one.machine)) one.machine) one
     → n ≡ two.machine.ticks
     → between ≡ had ++ map (line_of n p) (trace_told answer.note)
-    → IsDone p (by_upshot (upshot_of answer.act) (view_of two.machine.system p) two.machine.time (part_at p two.machine)).after
+    → IsPartDone p (by_upshot (upshot_of answer.act) (view_of two.machine.system p) two.machine.time (part_at p two.machine)).after
     (by_upshot (upshot_of answer.act) (view_of two.machine.system p) two.machine.time (part_at p two.machine)).told two new between got
-    → (by_upshot (upshot_of answer.act) (view_of two.machine.system p) two.machine.time (part_at p two.machine)).act ≡ act_of reach
-    → IsUponOne reach two.machine
-    → IsWorked p (called (caller_at p pc npc old)) answer.note reach old new got
+    → (by_upshot (upshot_of answer.act) (view_of two.machine.system p) two.machine.time (part_at p two.machine)).act ≡ act_beyond reach
+    → ReachIsUponOne reach two.machine
+    → IsTickWorked p (called (caller_at p pc npc old)) answer.note reach old new got
 unfolding called caller_at
 call_worked p pc npc n answer reach old one two new had between got below empty serves counts n_is traces follows act one_is =
     let caller = caller_at p pc npc old in
@@ -284,7 +284,7 @@ call_worked p pc npc n answer reach old one two new had between got below empty 
 pub call_quiet : (p pc npc : ℕ) (answer : code.Served) (old one two : SysState) (had : List ReportLine) → p < length old.machine.parts → had ≡ []
     → IsServed p (caller_at p pc npc old).sight (served (caller_at p pc npc old)) answer old one
     → two ≡ with_machine (with_part p (clocked (part_at p one.machine)) one.machine) one → answer.note ≡ note.Nothing → answer.act ≡ act.Nothing
-    → IsWorked p (called (caller_at p pc npc old)) note.Nothing beyond.Nothing old two had
+    → IsTickWorked p (called (caller_at p pc npc old)) note.Nothing beyond.Nothing old two had
 call_quiet p pc npc answer old one two had below empty serves counts note_is act_is =
     let none : code.Served = record { note = note.Nothing; act = act.Nothing } in
     let is : answer ≡ none = λ i. record { note = note_is i; act = act_is i } in
@@ -294,7 +294,7 @@ call_quiet p pc npc answer old one two had below empty serves counts note_is act
 
 -- a call that put a message does nothing else
 put_alone : (names : ℕ → Option ℕ) (upshot u : Upshot) (chan : ℕ) (bytes : List ℕ) (reach : Beyond) (view : PartitionView) (time : ℕ) (ps : PartitionState)
-    → told_as names (own_traffic upshot) ≡ Puts chan bytes → untraded upshot ≡ u → (by_upshot u view time ps).act ≡ act_of reach → act_of reach ≡ told.Nothing
+    → told_as names (own_traffic upshot) ≡ Puts chan bytes → untraded upshot ≡ u → (by_upshot u view time ps).act ≡ act_beyond reach → act_beyond reach ≡ told.Nothing
 put_alone names (Acts told.Nothing) u chan bytes reach view time ps puts is act = absurd cc
 put_alone names (Acts (Trades own)) u chan bytes reach view time ps puts is act = sym act ∙ ap (λ (upshot : Upshot). (by_upshot upshot view time ps).act) (sym is)
 put_alone names (Acts (told.Upon id order)) u chan bytes reach view time ps puts is act = absurd cc
@@ -315,7 +315,7 @@ put_memory names (Meets event word) chan bytes view time ps puts = absurd cc
 
 -- one that was shown bytes does nothing, or asks for a plan
 mild_alone : (upshot u : Upshot) (reach : Beyond) (view : PartitionView) (time : ℕ) (ps : PartitionState) → Mild upshot → untraded upshot ≡ u
-    → (by_upshot u view time ps).act ≡ act_of reach → AsksAtMost reach
+    → (by_upshot u view time ps).act ≡ act_beyond reach → AsksAtMost reach
 mild_alone upshot u reach view time ps (inl nothing) is act = inl (sym act ∙ ap (λ (x : Upshot). (by_upshot x view time ps).act) (sym is ∙ ap untraded nothing))
 mild_alone upshot u reach view time ps (inr (plan, asks)) is act =
     inr (plan, sym act ∙ ap (λ (x : Upshot). (by_upshot x view time ps).act) (sym is ∙ ap untraded asks))
@@ -380,7 +380,7 @@ call_noted p pc npc answer old one serves =
 -- where what follows a call of this upshot reaches, by its note
 reach_told : (names : ℕ → Option ℕ) (seen : Sight) (a_note : Note) (s : Served) (u : Upshot) (reach : Beyond) (view : PartitionView) (time : ℕ) (ps : PartitionState) → s.told ≡ told_by a_note s.after.memory → (s.told ≡ []) ⊎ (s.upshot ≡ Acts told.Nothing)
     → told_as names (own_traffic s.upshot) ≡ traffic_by a_note s.after.memory → seen ≡ sight_by a_note s.after.memory → ((bytes : List ℕ) → seen ≡ Words bytes → Mild s.upshot)
-    → untraded s.upshot ≡ u → (by_upshot u view time ps).act ≡ act_of reach → TellsAlone a_note reach
+    → untraded s.upshot ≡ u → (by_upshot u view time ps).act ≡ act_beyond reach → TellsAlone a_note reach
 reach_told names seen note.Nothing s u reach view time ps told_is acts trades shows mild is act = tt
 reach_told names seen (note.Console at size) s u reach view time ps told_is (inl none) trades shows mild is act = absurd cc
 reach_told names seen (note.Console at size) s u reach view time ps told_is (inr nothing) trades shows mild is act =
@@ -394,7 +394,7 @@ reach_told names seen note.NotKept s u reach view time ps told_is acts trades sh
 -- a call that tells bytes for the console reaches nothing
 pub call_alone : (p pc npc : ℕ) (answer : code.Served) (reach : Beyond) (old one two : SysState)
     → IsServed p (caller_at p pc npc old).sight (served (caller_at p pc npc old)) answer old one
-    → (by_upshot (upshot_of answer.act) (view_of two.machine.system p) two.machine.time (part_at p two.machine)).act ≡ act_of reach → TellsAlone answer.note reach
+    → (by_upshot (upshot_of answer.act) (view_of two.machine.system p) two.machine.time (part_at p two.machine)).act ≡ act_beyond reach → TellsAlone answer.note reach
 call_alone p pc npc answer reach old one two serves act =
     let caller = caller_at p pc npc old in
     reach_told (named old.machine.system.conf p) caller.sight answer.note (served caller) (upshot_of answer.act) reach (view_of two.machine.system p) two.machine.time (part_at p two.machine) serves.told

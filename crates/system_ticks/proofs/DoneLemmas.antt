@@ -18,12 +18,12 @@ use Rattle.machine_model.specs.Lines.{lines, step_lines}
 use Rattle.machine_model.specs.Lists.{is_number}
 use Rattle.machine_model.specs.LocalTick.{bounded, local_tick, with_interrupts, worked, worked_if}
 use Rattle.machine_model.specs.Machine as machine
-use Rattle.machine_model.specs.Machine.{Machine, Turn, booted_part, copies, run, sight, turn_of}
+use Rattle.machine_model.specs.Machine.{Machine, SlotTurn, booted_part, copies, run, sight, turn_of}
 use Rattle.machine_model.specs.Partition.{PartitionState, is_halted, rested}
 use Rattle.machine_model.specs.Told as told
 use Rattle.machine_model.specs.Told.{Act, Directed, OwnPuts, OwnStill, OwnTakes, OwnTraffic, Told, line_of, reach_of}
 use Rattle.machine_model.specs.Traffic.{Puts, Still, Takes, Traffic, after_message, heard_as, heard_from, hearing, interrupted}
-use Rattle.guest_memory.specs.Loading.{areas_of}
+use Rattle.guest_memory.specs.Loading.{memory_areas}
 use Rattle.machine_model.specs.View.{PartitionView, System, name_of, part_of, view_of}
 use Rattle.slot_runs.specs.Calm.{GoneCalm, turn_after}
 use Rattle.slot_runs.specs.Meeting.{HasGone, first_after, gone_on}
@@ -32,10 +32,10 @@ use Rattle.slot_runs.specs.PassLaws.{IsInPasses, IsPassedNext, PassedNext, TickI
 use Rattle.slot_runs.specs.Passes.{rest_but, traded, traffic_in, with_part, worked_lines, worked_through}
 use Rattle.slot_runs.specs.SpanLaws.{IsAwake, its_areas, met}
 use Rattle.slot_runs.specs.Undisturbed.{IsUndisturbed, UndisturbedNext, gone_parts, next_instruction}
-use Rattle.system_ticks.specs.Kept.{kept_by, kept_of}
+use Rattle.system_ticks.specs.Kept.{kept_by, kept_tick}
 use Rattle.system_ticks.specs.Quiet.{AreQuiet, ends_in, ends_stretch}
 use Rattle.system_ticks.specs.Span.{AreDoneFrom}
-use Rattle.system_ticks.specs.Work.{IsUponOne, IsWorked, TellsAlone, act_of, console_told, ended_by, ending_lines}
+use Rattle.system_ticks.specs.Work.{ReachIsUponOne, IsTickWorked, TellsAlone, act_beyond, console_told, ended_by, ending_lines}
 use Rattle.system_ticks.specs.declared.beyond.Beyond.{Beyond}
 use Rattle.system_ticks.specs.declared.beyond.Beyond.TheVariants as beyond
 use Rattle.system_ticks.proofs.KeepingLemmas.{IsNoted, same_order, worked_kept}
@@ -84,7 +84,7 @@ plain_memory p traffic after m below =
 
 -- so the bytes for the console are still there
 told_after : (a_note : Note) (reach : Beyond) (p : ℕ) (traffic : Traffic) (after : PartitionState) (m : Machine) → p < length m.parts → TellsAlone a_note reach
-    → console_told a_note (memory_of p (ended_by (act_of reach) p (traded traffic (with_part p after m)))) ≡ console_told a_note after.memory
+    → console_told a_note (memory_of p (ended_by (act_beyond reach) p (traded traffic (with_part p after m)))) ≡ console_told a_note after.memory
 told_after note.Nothing reach p traffic after m below alone = refl
 told_after (note.Console at size) reach p traffic after m below alone =
     ap (λ (act : Act). told.Console (bytes_at (memory_of p (ended_by act p (traded traffic (with_part p after m)))) at size) ∷ []) alone
@@ -104,8 +104,8 @@ asking_memory plan p traffic after m below =
     ∙ ap (λ (ps : PartitionState). ps.memory) (get_or-set_same m.parts p after (booted_part m.system p) below)
 
 -- so the bytes of a message and those that were shown are still there, too
-kept_after : (a_note : Note) (reach : Beyond) (turn : Option Turn) (p : ℕ) (traffic : Traffic) (after : PartitionState) (m : Machine) → p < length m.parts → TellsAlone a_note reach
-    → kept_by turn true a_note reach (memory_of p (ended_by (act_of reach) p (traded traffic (with_part p after m)))) ≡ kept_by turn true a_note reach after.memory
+kept_after : (a_note : Note) (reach : Beyond) (turn : Option SlotTurn) (p : ℕ) (traffic : Traffic) (after : PartitionState) (m : Machine) → p < length m.parts → TellsAlone a_note reach
+    → kept_by turn true a_note reach (memory_of p (ended_by (act_beyond reach) p (traded traffic (with_part p after m)))) ≡ kept_by turn true a_note reach after.memory
 kept_after note.Nothing reach turn p traffic after m below alone = refl
 kept_after (note.Console at size) reach turn p traffic after m below alone = refl
 kept_after (note.Trace entry) reach turn p traffic after m below alone = refl
@@ -122,7 +122,7 @@ kept_after (note.Saw at size) reach turn p traffic after m below (inr (plan, ask
 kept_after note.NotKept reach turn p traffic after m below alone = refl
 
 -- an order is upon a partition that there is
-beyond_one : (reach : Beyond) (m : Machine) → IsUponOne reach m → IfSome (reach_of (act_of reach)).directed (λ directed. directed.id < length m.parts)
+beyond_one : (reach : Beyond) (m : Machine) → ReachIsUponOne reach m → IfSome (reach_of (act_beyond reach)).directed (λ directed. directed.id < length m.parts)
 beyond_one beyond.Nothing m one = tt
 beyond_one (beyond.Order id order) m one = one
 beyond_one (beyond.Plan plan) m one = tt
@@ -131,7 +131,7 @@ beyond_one (beyond.Whole (whole.Reset mode)) m one = tt
 beyond_one (beyond.Whole whole.Halt) m one = tt
 beyond_one (beyond.Whole whole.Maintenance) m one = tt
 
-directed_one : (act : Act) (reach : Beyond) (m : Machine) → without_traffic act ≡ act_of reach → IsUponOne reach m → IfSome (reach_of act).directed (λ directed. directed.id < length m.parts)
+directed_one : (act : Act) (reach : Beyond) (m : Machine) → without_traffic act ≡ act_beyond reach → ReachIsUponOne reach m → IfSome (reach_of act).directed (λ directed. directed.id < length m.parts)
 directed_one act reach m is one =
     subst (λ (directed : Option Directed). IfSome directed (λ d. d.id < length m.parts)) (sym (same_order act ∙ ap (λ (a : Act). (reach_of a).directed) is)) (beyond_one reach m one)
 
@@ -140,8 +140,8 @@ passed_done : RunsKeepNumbers → (g m : Machine) (p done most : ℕ) (first : B
     → m ≡ run g done → m.halted ≡ false → m.ticks ≡ g.ticks + done → lines g done ≡ [] → AreQuiet (done + 1) g → p < length m.parts → done < most
     → run g (suc done) ≡ worked_through p work m → lines g (suc done) ≡ worked_lines p work m
     → turn_after done (turn_of g) ≡ Some (record { part = p; first = first }) → IsTickOf m p first work → bounded (view_of m.system p) work.act ≡ work.act
-    → IsNoted m p work a_note → IsWorked p work a_note reach (with_machine m old) mid got → TellsAlone a_note reach
-    → new ≡ with_machine (ended_by (act_of reach) p mid.machine) mid → all ≡ got ++ ending_lines (act_of reach) mid.machine → length all ≤ 24
+    → IsNoted m p work a_note → IsTickWorked p work a_note reach (with_machine m old) mid got → TellsAlone a_note reach
+    → new ≡ with_machine (ended_by (act_beyond reach) p mid.machine) mid → all ≡ got ++ ending_lines (act_beyond reach) mid.machine → length all ≤ 24
     → AreDoneFrom (record { ticks = done + 1; part = p; worked = true; note = a_note; reach = reach }) most g old new all
 passed_done keeps g m p done most first work a_note reach old mid new got all m_is runs ticks silent quiet below fewer state its_lines turns tick bounds noted worked alone ended told_lines few =
     let one : done + 1 ≡ suc done = omega arith in
@@ -151,15 +151,15 @@ passed_done keeps g m p done most first work a_note reach old mid new got all m_
     let before : IsAsMany g (run g done) = keeps g done in
     let memory : console_told a_note (memory_of p new.machine) ≡ console_told a_note work.after.memory =
     ap (λ (x : SysState). console_told a_note (memory_of p x.machine)) ended
-    ∙ ap (λ (x : SysState). console_told a_note (memory_of p (ended_by (act_of reach) p x.machine))) worked.state
+    ∙ ap (λ (x : SysState). console_told a_note (memory_of p (ended_by (act_beyond reach) p x.machine))) worked.state
     ∙ told_after a_note reach p (traffic_in m p work.act) work.after m below alone in
-    let its_end : ends_in (run g done) ≡ ends_stretch (act_of reach) =
+    let its_end : ends_in (run g done) ≡ ends_stretch (act_beyond reach) =
     ap ends_in (sym m_is) ∙ acts_so m work.act (ap machine.act_of tick.local ∙ bounds) ∙ same_end work.act ∙ ap ends_stretch worked.act in
-    let its_kept : kept_of (run g done) ≡ kept_by (turn_after done (turn_of g)) true a_note reach (memory_of p new.machine) =
-    ap kept_of (sym m_is) ∙ worked_kept m p first work a_note reach tick bounds worked.act noted
+    let its_kept : kept_tick (run g done) ≡ kept_by (turn_after done (turn_of g)) true a_note reach (memory_of p new.machine) =
+    ap kept_tick (sym m_is) ∙ worked_kept m p first work a_note reach tick bounds worked.act noted
     ∙ ap (λ t. kept_by t true a_note reach work.after.memory) (sym turns)
     ∙ sym (kept_after a_note reach (turn_after done (turn_of g)) p (traffic_in m p work.act) work.after m below alone)
-    ∙ ap (λ (x : SysState). kept_by (turn_after done (turn_of g)) true a_note reach (memory_of p (ended_by (act_of reach) p x.machine))) (sym worked.state)
+    ∙ ap (λ (x : SysState). kept_by (turn_after done (turn_of g)) true a_note reach (memory_of p (ended_by (act_beyond reach) p x.machine))) (sym worked.state)
     ∙ ap (λ (x : SysState). kept_by (turn_after done (turn_of g)) true a_note reach (memory_of p x.machine)) (sym ended) in
     record {
       some = omega arith;
@@ -175,24 +175,24 @@ passed_done keeps g m p done most first work a_note reach old mid new got all m_
       part = omega (arith, ap (λ (x : SysState). length x.machine.parts) its_state, many.parts, before.parts, ap (λ (x : Machine). length x.parts) m_is, below);
       readable = subst (λ (x : Machine). CanBeTold a_note (areas_in p x)) (sym (ap (λ (x : SysState). x.machine) its_state))
           (same_areas (run g (done + 1)) m (many.system ∙ sym before.system ∙ sym (ap (λ (x : Machine). x.system) m_is)) worked.readable);
-      kept = subst (λ (n : ℕ). kept_of (run g n) ≡ kept_by (turn_after n (turn_of g)) true a_note reach (memory_of p new.machine)) (less done) its_kept;
+      kept = subst (λ (n : ℕ). kept_tick (run g n) ≡ kept_by (turn_after n (turn_of g)) true a_note reach (memory_of p new.machine)) (less done) its_kept;
       quiet = quiet;
-      ends = subst (λ (n : ℕ). ends_in (run g n) ≡ ends_stretch (act_of reach)) (less done) its_end;
+      ends = subst (λ (n : ℕ). ends_in (run g n) ≡ ends_stretch (act_beyond reach)) (less done) its_end;
     }
   where
     less : (n : ℕ) → n ≡ n + 1 - 1
     less n = omega arith
 
     same_areas : (x y : Machine) → x.system ≡ y.system → CanBeTold a_note (areas_in p y) → CanBeTold a_note (areas_in p x)
-    same_areas x y same readable = subst (λ (s : System). CanBeTold a_note (areas_of (part_of s.conf p))) (sym same) readable
+    same_areas x y same readable = subst (λ (s : System). CanBeTold a_note (memory_areas (part_of s.conf p))) (sym same) readable
 
 -- ticks in which the partition of the slot went, and one in which its instruction trapped or called
 pub next_done : RunsKeepNumbers → ActsWithinBounds → GoneCalm → UndisturbedNext → PassedNext
     → (g : Machine) (p : ℕ) (first : Bool) (ps : PartitionState) (done most : ℕ) (a_note : Note) (reach : Beyond) (old mid new : SysState) (got all : List ReportLine)
     → IsUndisturbed g p first ps done → HasGone done (view_of g.system p) (met g first ps) → p < length g.parts → done < most
     → IsNoted (run g done) p (next_instruction (run g done) p (gone_on done (its_areas g p) (met g first ps))) a_note
-    → IsWorked p (next_instruction (run g done) p (gone_on done (its_areas g p) (met g first ps))) a_note reach (with_machine (run g done) old) mid got → TellsAlone a_note reach
-    → new ≡ with_machine (ended_by (act_of reach) p mid.machine) mid → all ≡ got ++ ending_lines (act_of reach) mid.machine → length all ≤ 24
+    → IsTickWorked p (next_instruction (run g done) p (gone_on done (its_areas g p) (met g first ps))) a_note reach (with_machine (run g done) old) mid got → TellsAlone a_note reach
+    → new ≡ with_machine (ended_by (act_beyond reach) p mid.machine) mid → all ≡ got ++ ending_lines (act_beyond reach) mid.machine → length all ≤ 24
     → AreDoneFrom (record { ticks = done + 1; part = p; worked = true; note = a_note; reach = reach }) most g old new all
 next_done keeps bounds calms undisturbed passes g p first ps done most a_note reach old mid new got all is gone below fewer noted worked alone ended told_lines few =
     let next : IsNextTick g done (gone_parts done g p first ps) p (first_after done first) (next_instruction (run g done) p (gone_on done (its_areas g p) (met g first ps))) =
@@ -228,8 +228,8 @@ awake_bounds law g p first ps is =
 pub met_done : RunsKeepNumbers → ActsWithinBounds → MetTick → TickInPasses
     → (g : Machine) (p : ℕ) (first : Bool) (ps : PartitionState) (most : ℕ) (a_note : Note) (reach : Beyond) (old mid new : SysState) (got all : List ReportLine)
     → g.halted ≡ false → IsAwake g p first ps → p < length g.parts → 0 < most
-    → IsNoted g p (next_work g p (met g first ps)) a_note → IsWorked p (next_work g p (met g first ps)) a_note reach (with_machine g old) mid got → TellsAlone a_note reach
-    → new ≡ with_machine (ended_by (act_of reach) p mid.machine) mid → all ≡ got ++ ending_lines (act_of reach) mid.machine → length all ≤ 24
+    → IsNoted g p (next_work g p (met g first ps)) a_note → IsTickWorked p (next_work g p (met g first ps)) a_note reach (with_machine g old) mid got → TellsAlone a_note reach
+    → new ≡ with_machine (ended_by (act_beyond reach) p mid.machine) mid → all ≡ got ++ ending_lines (act_beyond reach) mid.machine → length all ≤ 24
     → AreDoneFrom (record { ticks = 0 + 1; part = p; worked = true; note = a_note; reach = reach }) most g old new all
 met_done keeps bounds meets passes g p first ps most a_note reach old mid new got all runs is below some noted worked alone ended told_lines few =
     let passed : IsInPasses g p (next_work g p (met g first ps)) =

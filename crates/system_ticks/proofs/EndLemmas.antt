@@ -19,7 +19,7 @@ use Rattle.machine_model.specs.Told.{AllHalted, AllReset, Maintenance, Nothing, 
 use Rattle.machine_model.specs.Whole.{event_lines}
 use Rattle.slot_runs.specs.Passes.{part_at}
 use Rattle.slot_runs.specs.Spans.{plan_line}
-use Rattle.system_ticks.specs.Work.{IsDone, added_below, ending_lines, reset_lines}
+use Rattle.system_ticks.specs.Work.{IsPartDone, added_below, ending_lines, reset_lines}
 use Rattle.system_ticks.specs.ListLemmas.{none_told}
 
 -- the line of a plan that starts after tick n, where one does
@@ -119,7 +119,7 @@ reset_told g mode had got told =
 
 -- the lines of a tick whose order was obeyed before its plain end
 pub order_then : (id : ℕ) (order : Order) (after : PartitionState) (old mid : SysState) (had between got : List ReportLine)
-    → IsDone id after (ordered_told order (part_at id old.machine)) old mid had between → got ≡ between ++ ending_lines Nothing mid.machine
+    → IsPartDone id after (ordered_told order (part_at id old.machine)) old mid had between → got ≡ between ++ ending_lines Nothing mid.machine
     → got ≡ had ++ ending_lines (Upon id order) old.machine
 order_then id order after old mid had between got obeyed ending =
     let told : List ReportLine = map (line_of old.machine.ticks id) (ordered_told order (part_at id old.machine)) in

@@ -14,7 +14,7 @@ use Rattle.sparc_step.specs.Registers.{Registers, advanced}
 use Rattle.sparc_step.specs.Undone.{turned-IsOrderly}
 use Rattle.sparc_step.specs.declared.outcome.Turn.{Turn}
 use Rattle.sparc_step.specs.declared.outcome.Turn.TheVariants.{Went, Trap, Call}
-use Rattle.virt_traps.specs.Moves.{Moved, fill_address, filled, made, refused, spill_address, spill_window, spilled}
+use Rattle.virt_traps.specs.Moves.{Moved, fill_address, filled, move_made, move_refused, spill_address, spill_window, spilled}
 use Rattle.virt_traps.specs.SaveArea.{is_usable}
 use Rattle.virt_traps.specs.Settled.{GoesOn, after_trap, again_or_trap, answered, made_again, settled}
 use Rattle.virt_traps.specs.declared.windows.StackFault.{StackFault}
@@ -22,7 +22,7 @@ use Rattle.xm_conf.specs.declared.health.Event.{Event}
 use Rattle.xm_report.specs.Report.{ReportLine}
 use Rattle.machine_model.specs.Caller.{Caller}
 use Rattle.machine_model.specs.Health.{Worked, answered_by, done_to_all, event_handled}
-use Rattle.machine_model.specs.LocalTick.{by_turn, called, clocked, executed, turned_state}
+use Rattle.machine_model.specs.LocalTick.{by_turn, called, clocked, executed_in_tick, turned_state}
 use Rattle.machine_model.specs.Machine.{Machine, booted_part, copies, sight, sight_for}
 use Rattle.machine_model.specs.Observed.{observed_by}
 use Rattle.machine_model.specs.Partition.{PartitionState, areas_of}
@@ -31,7 +31,7 @@ use Rattle.machine_model.specs.Traffic.{traffic_of}
 use Rattle.machine_model.specs.View.{PartitionView, view_of}
 use Rattle.slot_runs.specs.Passes.{traded, traffic_in, with_part}
 use Rattle.slot_runs.specs.Undisturbed.{next_instruction}
-use Rattle.system_ticks.specs.Work.{IsUponOne, IsWorked, console_told}
+use Rattle.system_ticks.specs.Work.{ReachIsUponOne, IsTickWorked, console_told}
 use Rattle.system_ticks.specs.declared.beyond.Beyond.{Beyond}
 use Rattle.system_ticks.proofs.SightLemmas.{sight_is, trap_unseen}
 use Rattle.system_ticks.proofs.SlotLemmas.{IsAt}
@@ -50,7 +50,7 @@ spilled_stands : (areas : List Area) (core : Registers) (memory : Memory) → St
 unfolding spilled
 spilled_stands areas core memory = at (is_usable (is_writable areas) (spill_address core)) _
   where
-    at : (usable : Bool) (new : Memory) → Stands core (if usable then made (record core { inv = spill_window core }) new else refused core memory)
+    at : (usable : Bool) (new : Memory) → Stands core (if usable then move_made (record core { inv = spill_window core }) new else move_refused core memory)
     at true new = (refl, refl)
     at false new = (refl, refl)
 
@@ -58,7 +58,7 @@ filled_stands : (areas : List Area) (core : Registers) (memory : Memory) → Sta
 unfolding filled
 filled_stands areas core memory = at (is_usable (is_readable areas) (fill_address core)) _
   where
-    at : (usable : Bool) (windows : List ℕ) → Stands core (if usable then made (record core { windows = windows; inv = (core.inv + 1) % 8 }) memory else refused core memory)
+    at : (usable : Bool) (windows : List ℕ) → Stands core (if usable then move_made (record core { windows = windows; inv = (core.inv + 1) % 8 }) memory else move_refused core memory)
     at true windows = (refl, refl)
     at false windows = (refl, refl)
 
@@ -103,7 +103,7 @@ call_goes_on areas core memory calls = at (turned areas core memory).turn refl c
 pub trap_work : (m : Machine) (p type pc : ℕ) (s new : PartitionState) (old mid : SysState) → p < length m.parts → mid ≡ with_machine (with_part p new m) old
     → (settled (areas_of (view_of m.system p)) s.core s.memory).turn ≡ Trap type → new ≡ turned_state (settled (areas_of (view_of m.system p)) s.core s.memory) s → pc ≡ s.core.pc
     → event_handled (view_of mid.machine.system p) mid.machine.time (event_of_type type) pc (Some type) (clocked (part_at p mid.machine)) ≡ next_instruction m p s
-unfolding executed
+unfolding executed_in_tick
 trap_work m p type pc s new old mid below is traps new_is pc_is =
     ap (λ (x : SysState). event_handled (view_of x.machine.system p) x.machine.time (event_of_type type) pc (Some type) (clocked (part_at p x.machine))) is
     ∙ ap (λ (x : PartitionState). event_handled (view_of m.system p) m.time (event_of_type type) pc (Some type) (clocked x)) (get_or-set_same m.parts p new (booted_part m.system p) below ∙ new_is)
@@ -158,7 +158,7 @@ handled_still view time event word type ps = still_whole (effect_of (action_in v
 pub call_work : (m : Machine) (p pc : ℕ) (first : Bool) (ps s new : PartitionState) (old mid : SysState) → p < length m.parts → mid ≡ with_machine (with_part p new m) old → IsAt m p first ps s
     → (settled (areas_of (view_of m.system p)) s.core s.memory).turn ≡ Call → new ≡ turned_state (settled (areas_of (view_of m.system p)) s.core s.memory) s → pc ≡ s.core.pc
     → called (caller_at p pc (part_at p mid.machine).core.pc mid) ≡ next_instruction m p s
-unfolding executed
+unfolding executed_in_tick
 call_work m p pc first ps s new old mid below is at calls new_is pc_is =
     ap (λ (x : SysState). called (caller_at p pc (part_at p x.machine).core.pc x)) is
     ∙ ap called (caller_is m p pc (part_at p (with_part p new m)).core.pc new old below)
@@ -175,14 +175,14 @@ call_work m p pc first ps s new old mid below is at calls new_is pc_is =
 
 -- work on a system in which the partition's own state was changed before is work on the system as it was
 pub worked_on : (p : ℕ) (new : PartitionState) (work same : Worked) (a_note : Note) (reach : Beyond) (m : Machine) (old mid after : SysState) (got : List ReportLine)
-    → mid ≡ with_machine (with_part p new m) old → work ≡ same → IsWorked p work a_note reach mid after got → IsWorked p same a_note reach (with_machine m old) after got
+    → mid ≡ with_machine (with_part p new m) old → work ≡ same → IsTickWorked p work a_note reach mid after got → IsTickWorked p same a_note reach (with_machine m old) after got
 worked_on p new work same a_note reach m old mid after got is work_is worked =
-    subst (λ (w : Worked). IsWorked p w a_note reach (with_machine m old) after got) work_is (record {
+    subst (λ (w : Worked). IsTickWorked p w a_note reach (with_machine m old) after got) work_is (record {
       state = worked.state
           ∙ ap (λ (x : SysState). with_machine (traded (traffic_in x.machine p work.act) (with_part p work.after x.machine)) x) is
           ∙ ap (λ (parts : List PartitionState). with_machine (traded (traffic_in m p work.act) (record m { parts = parts })) old) (set-set m.parts p new work.after);
       lines = subst (λ (x : SysState). map (line_of x.machine.ticks p) work.told ≡ map (line_of x.machine.ticks p) (console_told a_note work.after.memory) ++ got) is worked.lines;
       act = worked.act;
       readable = subst (λ (x : SysState). CanBeTold a_note (areas_in p x.machine)) is worked.readable;
-      one = one_before reach (with_part p new m) m (length-set m.parts p new) (subst (λ (x : SysState). IsUponOne reach x.machine) is worked.one);
+      one = one_before reach (with_part p new m) m (length-set m.parts p new) (subst (λ (x : SysState). ReachIsUponOne reach x.machine) is worked.one);
     })

@@ -6,7 +6,7 @@ use Rattle.xm_conf.specs.Configuration.{Conf}
 use Rattle.machine_model.specs.Health.{Worked}
 use Rattle.machine_model.specs.LocalTick.{bounded}
 use Rattle.machine_model.specs.Machine as machine
-use Rattle.machine_model.specs.Machine.{Machine, Turn, happened, happened_by, local, run, sight, system_traffic, turn_of}
+use Rattle.machine_model.specs.Machine.{Machine, SlotTurn, happened, happened_by, local, run, sight, system_traffic, turn_of}
 use Rattle.machine_model.specs.Told as told
 use Rattle.machine_model.specs.Told.{Act, Directed, Sight, Unseen, WholeEvent, reach_of}
 use Rattle.machine_model.specs.Traffic.{Still, Traffic, traffic_of}
@@ -18,39 +18,39 @@ use Rattle.slot_runs.specs.Passes.{traffic_in}
 use Rattle.whole_system.specs.Serving.{sight_by, traffic_by, without_traffic}
 use Rattle.whole_system.specs.declared.served.Note.{Note}
 use Rattle.whole_system.specs.declared.served.Note.TheVariants as note
-use Rattle.system_ticks.specs.Kept.{Kept, kept_by, kept_in, kept_of, shown_to}
-use Rattle.system_ticks.specs.Work.{act_of}
+use Rattle.system_ticks.specs.Kept.{KeptTick, kept_by, kept_in, kept_tick, shown_to}
+use Rattle.system_ticks.specs.Work.{act_beyond}
 use Rattle.system_ticks.specs.declared.beyond.Beyond.{Beyond}
 use Rattle.system_ticks.specs.declared.beyond.Beyond.TheVariants as beyond
 
 -- what is kept of a tick with this act
-abbrev kept_from : Option Turn → Bool → Act → Traffic → Sight → Kept
+abbrev kept_from : Option SlotTurn → Bool → Act → Traffic → Sight → KeptTick
 kept_from turn worked act traffic seen =
     record { turn = turn; worked = worked; traffic = traffic; order = (reach_of act).directed; event = event_of act; seen = seen }
 
-kept_as : (m : Machine) (turn : Option Turn) (worked : Bool) (act : Act) (traffic : Traffic) (seen : Sight) → turn_of m ≡ turn → is_some (local m) ≡ worked
-    → machine.act_of (local m) ≡ act → system_traffic m.system.conf turn (traffic_of act) ≡ traffic → shown_to m turn ≡ seen → kept_of m ≡ kept_from turn worked act traffic seen
-unfolding kept_of kept_in happened happened_by
+kept_as : (m : Machine) (turn : Option SlotTurn) (worked : Bool) (act : Act) (traffic : Traffic) (seen : Sight) → turn_of m ≡ turn → is_some (local m) ≡ worked
+    → machine.act_of (local m) ≡ act → system_traffic m.system.conf turn (traffic_of act) ≡ traffic → shown_to m turn ≡ seen → kept_tick m ≡ kept_from turn worked act traffic seen
+unfolding kept_tick kept_in happened happened_by
 kept_as m turn worked act traffic seen its_turn works acts trades shows =
-    ap (λ (t : Option Turn). kept_from t (is_some (local m)) (machine.act_of (local m)) (system_traffic m.system.conf t (traffic_of (machine.act_of (local m)))) (shown_to m t)) its_turn
+    ap (λ (t : Option SlotTurn). kept_from t (is_some (local m)) (machine.act_of (local m)) (system_traffic m.system.conf t (traffic_of (machine.act_of (local m)))) (shown_to m t)) its_turn
     ∙ ap (λ (w : Bool). kept_from turn w (machine.act_of (local m)) (system_traffic m.system.conf turn (traffic_of (machine.act_of (local m)))) (shown_to m turn)) works
     ∙ ap (λ (a : Act). kept_from turn worked a (system_traffic m.system.conf turn (traffic_of a)) (shown_to m turn)) acts
     ∙ ap (λ (t : Traffic). kept_from turn worked act t (shown_to m turn)) trades
     ∙ ap (λ (s : Sight). kept_from turn worked act traffic s) shows
 
 -- no traffic is none in the system
-still_for : (conf : Conf) (turn : Option Turn) → system_traffic conf turn told.OwnStill ≡ Still
+still_for : (conf : Conf) (turn : Option SlotTurn) → system_traffic conf turn told.OwnStill ≡ Still
 still_for conf None = refl
 still_for conf (Some turn) = refl
 
 -- a tick that reaches nobody, and in which nobody is shown anything
 pub calm_kept : (g : Machine) (done : ℕ) (works : Bool) (memory : Memory) → IsCalm g done works
-    → kept_of (run g done) ≡ kept_by (turn_after done (turn_of g)) works note.Nothing beyond.Nothing memory
+    → kept_tick (run g done) ≡ kept_by (turn_after done (turn_of g)) works note.Nothing beyond.Nothing memory
 calm_kept g done works memory calm =
     kept_as (run g done) (turn_after done (turn_of g)) works told.Nothing Still Unseen calm.turn calm.worked calm.act
     (still_for (run g done).system.conf (turn_after done (turn_of g))) (shows (turn_after done (turn_of g)))
   where
-    shows : (t : Option Turn) → shown_to (run g done) t ≡ Unseen
+    shows : (t : Option SlotTurn) → shown_to (run g done) t ≡ Unseen
     shows None = refl
     shows (Some t) = calm.unseen t.part
 
@@ -76,16 +76,16 @@ same_event (told.UponAll event) = refl
 
 -- a tick in which the partition of the slot did this work
 pub worked_kept : (m : Machine) (p : ℕ) (first : Bool) (work : Worked) (a_note : Note) (reach : Beyond) → IsTickOf m p first work
-    → bounded (view_of m.system p) work.act ≡ work.act → without_traffic work.act ≡ act_of reach → IsNoted m p work a_note
-    → kept_of m ≡ kept_by (Some (record { part = p; first = first })) true a_note reach work.after.memory
+    → bounded (view_of m.system p) work.act ≡ work.act → without_traffic work.act ≡ act_beyond reach → IsNoted m p work a_note
+    → kept_tick m ≡ kept_by (Some (record { part = p; first = first })) true a_note reach work.after.memory
 worked_kept m p first work a_note reach tick bounds acts noted =
     kept_as m turn true work.act (traffic_by a_note work.after.memory) (sight_by a_note work.after.memory) tick.turn (ap is_some tick.local)
     (ap machine.act_of tick.local ∙ bounds) noted.traffic noted.seen
     ∙ ap (λ (o : Option Directed). with_both o (event_of work.act)) (same_order work.act ∙ ap (λ (a : Act). (reach_of a).directed) acts)
-    ∙ ap (λ (e : WholeEvent). with_both (reach_of (act_of reach)).directed e) (same_event work.act ∙ ap event_of acts)
+    ∙ ap (λ (e : WholeEvent). with_both (reach_of (act_beyond reach)).directed e) (same_event work.act ∙ ap event_of acts)
   where
-    turn : Option Turn
+    turn : Option SlotTurn
     turn = Some (record { part = p; first = first })
 
-    with_both : Option Directed → WholeEvent → Kept
+    with_both : Option Directed → WholeEvent → KeptTick
     with_both o e = record { turn = turn; worked = true; traffic = traffic_by a_note work.after.memory; order = o; event = e; seen = sight_by a_note work.after.memory }

@@ -7,12 +7,12 @@ use Rattle.xm_base.specs.declared.limits.TheConstants.{TICKS}
 use Rattle.xm_report.specs.Report.{ReportLine}
 use Rattle.machine_model.specs.Facts.{KeepsClocked, KeepsFacts, KeepsNumbers, KeepsTimed}
 use Rattle.machine_model.specs.Lengths.{PutsAtMost, PutsFewBytes, ShowsAtMost, ShowsFewBytes}
-use Rattle.machine_model.specs.Machine.{Machine, Turn, happened, run, sight, turn_of}
+use Rattle.machine_model.specs.Machine.{Machine, SlotTurn, happened, run, sight, turn_of}
 use Rattle.whole_system.specs.Serving.{sight_by, traffic_by}
 use Rattle.whole_system.specs.State.{SysState, memory_of, with_machine}
 use Rattle.whole_system.specs.declared.served.Note.{Note}
 use Rattle.whole_system.specs.declared.served.Note.TheVariants as note
-use Rattle.system_ticks.specs.Kept.{Kept, bytes_noted, kept_by, kept_in, kept_of, kept_with, shown_to}
+use Rattle.system_ticks.specs.Kept.{KeptTick, bytes_noted, kept_by, kept_in, kept_tick, kept_with, shown_to}
 use Rattle.system_ticks.specs.Machine.{IsMachine}
 use Rattle.system_ticks.specs.Span.{IsSpanDone}
 use Rattle.system_ticks.specs.declared.beyond.Beyond.{Beyond}
@@ -20,7 +20,7 @@ use Rattle.system_ticks.specs.declared.slot.Span.{Span}
 use Rattle.system_ticks.specs.KeptLemmas.{kept_ticks}
 
 -- what is kept of a tick names the bytes of its note
-with_bytes : (turn : Option Turn) (worked : Bool) (a_note : Note) (reach : Beyond) (memory : Memory)
+with_bytes : (turn : Option SlotTurn) (worked : Bool) (a_note : Note) (reach : Beyond) (memory : Memory)
     → kept_with turn worked a_note reach (bytes_noted a_note memory) ≡ kept_by turn worked a_note reach memory
 with_bytes turn worked note.Nothing reach memory = refl
 with_bytes turn worked (note.Console at size) reach memory = refl
@@ -31,10 +31,10 @@ with_bytes turn worked (note.Saw at size) reach memory = refl
 with_bytes turn worked note.NotKept reach memory = refl
 
 -- what is kept in another form
-pub kept_so : (one other : Option Turn) (worked : Bool) (a_note : Note) (reach : Beyond) (bytes : List ℕ) (memory : Memory) → one ≡ other → bytes ≡ bytes_noted a_note memory
+pub kept_so : (one other : Option SlotTurn) (worked : Bool) (a_note : Note) (reach : Beyond) (bytes : List ℕ) (memory : Memory) → one ≡ other → bytes ≡ bytes_noted a_note memory
     → kept_with one worked a_note reach bytes ≡ kept_by other worked a_note reach memory
 kept_so one other worked a_note reach bytes memory turn_is bytes_are =
-    ap (λ (t : Option Turn). kept_with t worked a_note reach bytes) turn_is
+    ap (λ (t : Option SlotTurn). kept_with t worked a_note reach bytes) turn_is
     ∙ ap (λ (b : List ℕ). kept_with other worked a_note reach b) bytes_are
     ∙ with_bytes other worked a_note reach memory
 
@@ -53,15 +53,15 @@ pub as_many : (memory : Memory) (at size most : ℕ) → length (bytes_at memory
 as_many memory at size most few = omega (arith, few, length-bytes_at memory at size)
 
 -- the traffic that is kept, and what was shown
-traffic_kept : (m : Machine) → (kept_of m).traffic ≡ (happened m).traffic
-unfolding kept_of kept_in
+traffic_kept : (m : Machine) → (kept_tick m).traffic ≡ (happened m).traffic
+unfolding kept_tick kept_in
 traffic_kept m = refl
 
-seen_kept : (m : Machine) → ((p : ℕ) → ShowsAtMost 24 (sight m p)) → ShowsAtMost 24 (kept_of m).seen
-unfolding kept_of kept_in
+seen_kept : (m : Machine) → ((p : ℕ) → ShowsAtMost 24 (sight m p)) → ShowsAtMost 24 (kept_tick m).seen
+unfolding kept_tick kept_in
 seen_kept m few = at (turn_of m)
   where
-    at : (turn : Option Turn) → ShowsAtMost 24 (shown_to m turn)
+    at : (turn : Option SlotTurn) → ShowsAtMost 24 (shown_to m turn)
     at None = tt
     at (Some turn) = few turn.part
 
@@ -72,5 +72,5 @@ few_noted puts shows facts timed numbers clocked span most old new got is done r
     let m : Machine = run old.machine (span.ticks - 1) in
     let before : IsMachine (with_machine m old) = kept_ticks facts timed numbers clocked old (with_machine m old) (span.ticks - 1) most is refl (omega (arith, done.within)) room in
     few_bytes span.note (memory_of span.part new.machine)
-    (subst (PutsAtMost 4096) (sym (traffic_kept m) ∙ ap (λ (k : Kept). k.traffic) done.kept) (puts m before.fits))
-    (subst (ShowsAtMost 24) (ap (λ (k : Kept). k.seen) done.kept) (seen_kept m (λ p. shows m p before.counted.facts)))
+    (subst (PutsAtMost 4096) (sym (traffic_kept m) ∙ ap (λ (k : KeptTick). k.traffic) done.kept) (puts m before.fits))
+    (subst (ShowsAtMost 24) (ap (λ (k : KeptTick). k.seen) done.kept) (seen_kept m (λ p. shows m p before.counted.facts)))

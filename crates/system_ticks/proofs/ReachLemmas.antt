@@ -20,14 +20,14 @@ use Rattle.virt_traps.specs.Delivery.{Delivered, delivered}
 use Rattle.virt_traps.specs.declared.windows.StackFault.{StackFault}
 use Rattle.xm_base.specs.declared.partition.Order.{Order}
 use Rattle.xm_report.specs.Report.{ReportLine}
-use Rattle.system_ticks.specs.Work.{IsDone, IsUponOne, IsWorked, act_of}
+use Rattle.system_ticks.specs.Work.{IsPartDone, ReachIsUponOne, IsTickWorked, act_beyond}
 use Rattle.system_ticks.specs.declared.beyond.Beyond.{Beyond}
 use Rattle.system_ticks.specs.declared.beyond.Beyond.TheVariants as beyond
 use Rattle.system_ticks.proofs.HealthLemmas.{is_work, silent}
 use Rattle.system_ticks.proofs.WorkLemmas.{done_then, put_back, put_there}
 
 -- what reaches beyond a partition is no traffic
-pub still_act : (reach : Beyond) → traffic_of (act_of reach) ≡ OwnStill
+pub still_act : (reach : Beyond) → traffic_of (act_beyond reach) ≡ OwnStill
 still_act beyond.Nothing = refl
 still_act (beyond.Order id order) = refl
 still_act (beyond.Plan plan) = refl
@@ -37,7 +37,7 @@ still_act (beyond.Whole whole.Halt) = refl
 still_act (beyond.Whole whole.Maintenance) = refl
 
 -- nor has it any that could be left out
-pub plain_act : (reach : Beyond) → without_traffic (act_of reach) ≡ act_of reach
+pub plain_act : (reach : Beyond) → without_traffic (act_beyond reach) ≡ act_beyond reach
 plain_act beyond.Nothing = refl
 plain_act (beyond.Order id order) = refl
 plain_act (beyond.Plan plan) = refl
@@ -47,11 +47,11 @@ plain_act (beyond.Whole whole.Halt) = refl
 plain_act (beyond.Whole whole.Maintenance) = refl
 
 -- an act that reaches so has no traffic in the system
-pub no_traffic : (p : ℕ) (work : Worked) (reach : Beyond) (old : SysState) → work.act ≡ act_of reach → traffic_in old.machine p work.act ≡ Still
+pub no_traffic : (p : ℕ) (work : Worked) (reach : Beyond) (old : SysState) → work.act ≡ act_beyond reach → traffic_in old.machine p work.act ≡ Still
 no_traffic p work reach old is = ap (λ (traffic : OwnTraffic). told_as (named old.machine.system.conf p) traffic) (ap traffic_of is ∙ still_act reach)
 
 -- an order is upon a partition that there was
-pub one_before : (reach : Beyond) (g h : Machine) → length g.parts ≡ length h.parts → IsUponOne reach g → IsUponOne reach h
+pub one_before : (reach : Beyond) (g h : Machine) → length g.parts ≡ length h.parts → ReachIsUponOne reach g → ReachIsUponOne reach h
 one_before beyond.Nothing g h same one = one
 one_before (beyond.Order id order) g h same one = subst (λ (count : ℕ). id < count) same one
 one_before (beyond.Plan plan) g h same one = one
@@ -59,7 +59,7 @@ one_before (beyond.Whole event) g h same one = one
 
 -- work that is done, with no traffic and no bytes for the console
 pub worked_done : (p : ℕ) (work : Worked) (reach : Beyond) (old new : SysState) (had got : List ReportLine) → had ≡ []
-    → IsDone p work.after work.told old new had got → work.act ≡ act_of reach → IsUponOne reach old.machine → IsWorked p work note.Nothing reach old new got
+    → IsPartDone p work.after work.told old new had got → work.act ≡ act_beyond reach → ReachIsUponOne reach old.machine → IsTickWorked p work note.Nothing reach old new got
 worked_done p work reach old new had got empty done act_is one = record {
   state = done.state ∙ ap (λ (t : Traffic). with_machine (traded t (with_part p work.after old.machine)) old) (sym (no_traffic p work reach old act_is));
   lines = sym (done.lines ∙ ap (λ (lines : List ReportLine). lines ++ map (line_of old.machine.ticks p) work.told) empty);
@@ -71,10 +71,10 @@ worked_done p work reach old new had got empty done act_is one = record {
 -- work that is done once the partition has changed
 pub worked_after : (f : PartitionView → ℕ → PartitionState → Worked) (p : ℕ) (ps : PartitionState) (reach : Beyond) (old mid new : SysState) (had got : List ReportLine) → p < length old.machine.parts → had ≡ []
     → mid ≡ with_machine (with_part p ps old.machine) old
-    → IsDone p (f (view_of mid.machine.system p) mid.machine.time (part_at p mid.machine)).after (f (view_of mid.machine.system p) mid.machine.time (part_at p mid.machine)).told mid new had got
-    → (f (view_of mid.machine.system p) mid.machine.time (part_at p mid.machine)).act ≡ act_of reach
-    → IsUponOne reach old.machine
-    → IsWorked p (f (view_of old.machine.system p) old.machine.time ps) note.Nothing reach old new got
+    → IsPartDone p (f (view_of mid.machine.system p) mid.machine.time (part_at p mid.machine)).after (f (view_of mid.machine.system p) mid.machine.time (part_at p mid.machine)).told mid new had got
+    → (f (view_of mid.machine.system p) mid.machine.time (part_at p mid.machine)).act ≡ act_beyond reach
+    → ReachIsUponOne reach old.machine
+    → IsTickWorked p (f (view_of old.machine.system p) old.machine.time ps) note.Nothing reach old new got
 worked_after f p ps reach old mid new had got below empty mid_is done act_is one =
     let work = f (view_of old.machine.system p) old.machine.time ps in
     let same : f (view_of mid.machine.system p) mid.machine.time (part_at p mid.machine) ≡ work =
@@ -97,7 +97,7 @@ interrupt_act view time n ps =
     by_interrupt_act d.answer view time n d ps
 
 -- nothing is done
-pub stays : (p : ℕ) (old : SysState) (had : List ReportLine) → IsDone p (part_at p old.machine) [] old old had had
+pub stays : (p : ℕ) (old : SysState) (had : List ReportLine) → IsPartDone p (part_at p old.machine) [] old old had had
 stays p old had = silent p (part_at p old.machine) old old had (sym (put_back p old))
 
 -- an order on the partition itself, and one on another
@@ -115,8 +115,8 @@ other_order system p id order ps differs =
 
 -- an order on the partition itself is obeyed
 pub own_obeyed : (p id : ℕ) (order : Order) (old new : SysState) (had got : List ReportLine) → id ≡ p
-    → IsDone p (ordered (view_of old.machine.system p) order (part_at p old.machine)) (ordered_told order (part_at p old.machine)) old new had got
-    → IsDone p (by_act (told.Upon id order) (view_of old.machine.system p) (part_at p old.machine)).after (by_act (told.Upon id order) (view_of old.machine.system p) (part_at p old.machine)).told old new had got
+    → IsPartDone p (ordered (view_of old.machine.system p) order (part_at p old.machine)) (ordered_told order (part_at p old.machine)) old new had got
+    → IsPartDone p (by_act (told.Upon id order) (view_of old.machine.system p) (part_at p old.machine)).after (by_act (told.Upon id order) (view_of old.machine.system p) (part_at p old.machine)).told old new had got
 unfolding self_ordered
 own_obeyed p id order old new had got is done = is_work p _ _ old new had got (own_order old.machine.system p id order (part_at p old.machine) is) done
 
@@ -127,7 +127,7 @@ own_reach system p id order ps is = ap (λ (w : Worked). w.act) (own_order syste
 
 -- an order on another partition is left to the whole
 pub other_left : (p id : ℕ) (order : Order) (old : SysState) (had : List ReportLine) → id ≢ p
-    → IsDone p (by_act (told.Upon id order) (view_of old.machine.system p) (part_at p old.machine)).after (by_act (told.Upon id order) (view_of old.machine.system p) (part_at p old.machine)).told old old had had
+    → IsPartDone p (by_act (told.Upon id order) (view_of old.machine.system p) (part_at p old.machine)).after (by_act (told.Upon id order) (view_of old.machine.system p) (part_at p old.machine)).told old old had had
 other_left p id order old had differs = is_work p _ _ old old had had (other_order old.machine.system p id order (part_at p old.machine) differs) (stays p old had)
 
 pub other_reach : (system : System) (p id : ℕ) (order : Order) (ps : PartitionState) → id ≢ p → (by_act (told.Upon id order) (view_of system p) ps).act ≡ told.Upon id order
@@ -142,7 +142,7 @@ whole_acts whole.Maintenance view ps = refl
 
 -- and it is left to the whole
 pub whole_left : (p : ℕ) (event : Whole) (old : SysState) (had : List ReportLine)
-    → IsDone p (by_act (done_to_all event) (view_of old.machine.system p) (part_at p old.machine)).after (by_act (done_to_all event) (view_of old.machine.system p) (part_at p old.machine)).told old old had had
+    → IsPartDone p (by_act (done_to_all event) (view_of old.machine.system p) (part_at p old.machine)).after (by_act (done_to_all event) (view_of old.machine.system p) (part_at p old.machine)).told old old had had
 whole_left p event old had = is_work p _ _ old old had had (whole_acts event (view_of old.machine.system p) (part_at p old.machine)) (stays p old had)
 
 pub whole_reach : (event : Whole) (view : PartitionView) (ps : PartitionState) → (by_act (done_to_all event) view ps).act ≡ done_to_all event

@@ -7,7 +7,7 @@ use Rattle.virt_clocks.specs.declared.timer.Clock.{Clock}
 use Rattle.virt_clocks.specs.declared.timer.Clock.TheVariants.{Exec, Hw}
 use Rattle.virt_clocks.specs.declared.timer.Timer.{Timer}
 use Rattle.virt_traps.specs.Delivery.{Returned, returned}
-use Rattle.virt_traps.specs.Moves.{made}
+use Rattle.virt_traps.specs.Moves.{move_made}
 use Rattle.virt_traps.specs.declared.delivery.IretFault.{IretFault}
 use Rattle.virt_traps.specs.declared.delivery.IretFault.TheVariants.{Stack, Unaligned}
 use Rattle.virt_traps.specs.declared.windows.StackFault.{StackFault}
@@ -18,7 +18,7 @@ use Rattle.xm_ports.specs.Channels.{HeldSample, first_message, sample_of}
 use Rattle.xm_ports.specs.Ports.{created_over}
 use Rattle.xm_ports.specs.declared.ports.CreateFault.{CreateFault}
 use Rattle.xm_traces.specs.Ring.{Kept}
-use Rattle.machine_model.specs.Caller.{Acts, Caller, Served, Test, a_of, answering, b_of, bytes_of, c_of, d_of, e_of, invalid_parameter, is_neither, no_action, not_available, number_of, refused_if, room, tested, text, with_answer, with_written}
+use Rattle.machine_model.specs.Caller.{Acts, Caller, Served, Test, a_of, answering, b_of, caller_bytes, c_of, d_of, e_of, invalid_parameter, is_neither, no_action, not_available, number_of, refused_if, room, tested, text, with_answer, with_written}
 use Rattle.machine_model.specs.Hypercalls.{served}
 use Rattle.machine_model.specs.LogCalls.{hm_read, hm_status, raise_event, trace_event, trace_read, trace_status, tracing}
 use Rattle.machine_model.specs.Partition.{PartitionState, areas_of}
@@ -256,7 +256,7 @@ clear_irqmask_keeps caller = tells_nothing caller (clear_irqmask caller) refl re
 write_console_keeps : (caller : Caller) → Keeps caller (write_console caller)
 unfolding write_console with_answer with_written
 write_console_keeps caller =
-    let comes : Served = record (answering (b_of caller) caller.state) { told = printed (bytes_of caller (a_of caller) (b_of caller)) } in
+    let comes : Served = record (answering (b_of caller) caller.state) { told = printed (caller_bytes caller (a_of caller) (b_of caller)) } in
     tested_keeps (refused_if (nat_lt CONSOLE_BYTES (b_of caller)) invalid_parameter ∷ text caller (a_of caller) (b_of caller) ∷ []) caller comes (record { same = refl; acts = inr refl })
 
 read_input_keeps : (caller : Caller) → Keeps caller (read_input caller)
@@ -281,7 +281,7 @@ set_tbr_keeps caller = tells_nothing caller (set_tbr caller) refl refl
 flush_regwin_keeps : (caller : Caller) → Keeps caller (flush_regwin caller)
 unfolding flush_regwin with_answer with_written
 flush_regwin_keeps caller =
-    let moved = flushed 8 (areas_of caller.view) (made caller.state.core caller.state.memory) in
+    let moved = flushed 8 (areas_of caller.view) (move_made caller.state.core caller.state.memory) in
     flush_keeps moved.answer (record caller.state { core = moved.core; memory = moved.memory }) caller refl
 
 -- the call with a number, or a later one

@@ -8,7 +8,7 @@ use Rattle.virt_traps.specs.Virtual.{VirtualTraps, due}
 use Rattle.xm_ports.specs.Channels.{Content}
 use Rattle.machine_model.specs.Health.{Worked}
 use Rattle.machine_model.specs.Laws.{ActsWithinBounds}
-use Rattle.machine_model.specs.LocalTick.{bounded, delivered_or_executed, executed, goes_on, local_tick, with_interrupts, worked, worked_if}
+use Rattle.machine_model.specs.LocalTick.{bounded, delivered_or_executed, executed_in_tick, goes_on, local_tick, with_interrupts, worked, worked_if}
 use Rattle.machine_model.specs.Machine.{Machine, copies, run, sight, turn_of}
 use Rattle.machine_model.specs.Partition.{PartitionState, execution_looked_at, execution_timer, hardware_looked_at, hardware_timer, raised_if, rested}
 use Rattle.machine_model.specs.Told.{Sight}
@@ -128,7 +128,7 @@ at_next g p first ps (suc k) work is next =
 
 -- where nothing is delivered an instruction is executed
 undelivered_executes : (interrupt : Option ℕ) (enabled : Bool) (view : PartitionView) (contents : List (Option Content)) (time : ℕ) (seen : Sight) (ps : PartitionState)
-    → (interrupt ≡ None) ⊎ (enabled ≡ false) → delivered_or_executed interrupt enabled view contents time seen ps ≡ executed view contents time seen ps
+    → (interrupt ≡ None) ⊎ (enabled ≡ false) → delivered_or_executed interrupt enabled view contents time seen ps ≡ executed_in_tick view contents time seen ps
 undelivered_executes None enabled view contents time seen ps none = refl
 undelivered_executes (Some n) true view contents time seen ps (inl none) = absurd cc
 undelivered_executes (Some n) true view contents time seen ps (inr none) = absurd cc

@@ -26,8 +26,8 @@ use Rattle.slot_runs.specs.Passes.{part_at, rest_but, traded, traffic_in, with_p
 use Rattle.slot_runs.specs.SpanLaws.{IsNobodys, RestingTicks, all_rested, its_areas, met, others_rested}
 use Rattle.slot_runs.specs.Spans.{IsQuietSpan, IsSpan, IsStretch, after_span, plan_line}
 use Rattle.slot_runs.specs.Undisturbed.{IsUndisturbed, NoneFallsDue, UndisturbedIdle, UndisturbedNext, gone_parts, next_instruction}
-use Rattle.system_ticks.specs.Span.{AreDoneFrom, CanTakeAfter, IsIdle, behind}
-use Rattle.system_ticks.specs.Work.{IsWorked}
+use Rattle.system_ticks.specs.Span.{AreDoneFrom, CanTakeAfter, IsIdle, machine_underway}
+use Rattle.system_ticks.specs.Work.{IsTickWorked}
 use Rattle.system_ticks.specs.declared.beyond.Beyond.{Beyond}
 use Rattle.system_ticks.specs.declared.beyond.Beyond.TheVariants as beyond
 use Rattle.system_ticks.specs.declared.slot.Span.{Span}
@@ -123,13 +123,13 @@ idle_done idles calms left others keeps g p ticks most ps old new had all span i
         (subst (λ (t : ℕ). NoneFallsDue t (ticks - 1) false (part_at p old.machine).clocks) (ap (λ (x : SysState). x.machine.time) is.met) calm)
 
 -- partition p is not reached by the rest of the others
-behind_part : (p k : ℕ) (g : Machine) → part_at p (behind p k g) ≡ part_at p g
+behind_part : (p k : ℕ) (g : Machine) → part_at p (machine_underway p k g) ≡ part_at p g
 behind_part p zero g = refl
 behind_part p (suc k) g =
     each_at (λ (ps : PartitionState). ps) (λ q ps. if is_number (Some p) q then ps else rested (g.time + k) ps) g.parts p (booted_part g.system p)
     (λ ps. ap (λ (own : Bool). if own then ps else rested (g.time + k) ps) (eq-eqb p p refl))
 
-behind_count : (p k : ℕ) (g : Machine) → length (behind p k g).parts ≡ length g.parts
+behind_count : (p k : ℕ) (g : Machine) → length (machine_underway p k g).parts ≡ length g.parts
 behind_count p zero g = refl
 behind_count p (suc k) g = each_length (λ q ps. if is_number (Some p) q then ps else rested (g.time + k) ps) g.parts
 
@@ -144,7 +144,7 @@ pub record Stands (p k : ℕ) (old mid : SysState) : Type 0 where
   pub halted : mid.machine.halted ≡ old.machine.halted
   pub shapes : mid.shapes ≡ old.shapes
 
-stands_behind : (p k : ℕ) (old : SysState) → Stands p k old (with_machine (behind p k old.machine) old)
+stands_behind : (p k : ℕ) (old : SysState) → Stands p k old (with_machine (machine_underway p k old.machine) old)
 stands_behind p zero old = record { part = refl; counted = refl; system = refl; clock = refl; time = omega arith; ticks = omega arith; halted = refl; shapes = refl }
 stands_behind p (suc k) old = record {
   part = behind_part p (suc k) old.machine;
@@ -157,7 +157,7 @@ stands_behind p (suc k) old = record {
   shapes = refl;
 }
 
-pub stands : (p k : ℕ) (old mid : SysState) → mid ≡ with_machine (behind p k old.machine) old → Stands p k old mid
+pub stands : (p k : ℕ) (old mid : SysState) → mid ≡ with_machine (machine_underway p k old.machine) old → Stands p k old mid
 stands p k old mid is = subst (λ (x : SysState). Stands p k old x) (sym is) (stands_behind p k old)
 
 -- what the next tick needs
@@ -176,7 +176,7 @@ same_ends : (p : ℕ) (s1 s2 : System) (x y : PartitionState) → s1 ≡ s2 → 
 same_ends p s1 s2 x y same_system same_part ends =
     subst (λ (s : System). AreEnds (view_of s p) x.made) (sym same_system) (subst (λ (ps : PartitionState). AreEnds (view_of s2 p) ps.made) (sym same_part) ends)
 
-pub can_work : (p went : ℕ) (old mid : SysState) → CanTakeAfter p went old → mid ≡ with_machine (behind p went old.machine) old → CanWork p mid
+pub can_work : (p went : ℕ) (old mid : SysState) → CanTakeAfter p went old → mid ≡ with_machine (machine_underway p went old.machine) old → CanWork p mid
 can_work p went old mid can is =
     let same : Stands p went old mid = stands p went old mid is in
     let few = can.few in
@@ -199,7 +199,7 @@ traded_frame Still g frame = frame
 traded_frame (Puts channel bytes) g frame = frame
 traded_frame (Takes channel) g frame = frame
 
-pub worked_frame : (p : ℕ) (work : Worked) (a_note : Note) (reach : Beyond) (mid after : SysState) (got : List ReportLine) → IsWorked p work a_note reach mid after got
+pub worked_frame : (p : ℕ) (work : Worked) (a_note : Note) (reach : Beyond) (mid after : SysState) (got : List ReportLine) → IsTickWorked p work a_note reach mid after got
     → IsInFrame mid.machine.system.conf mid.machine.clock mid.machine.time → IsInFrame after.machine.system.conf after.machine.clock after.machine.time
 worked_frame p work a_note reach mid after got worked frame =
     subst (λ (x : SysState). IsInFrame x.machine.system.conf x.machine.clock x.machine.time) (sym worked.state)
@@ -208,11 +208,11 @@ worked_frame p work a_note reach mid after got worked frame =
 -- the system behind ticks in which its partition went, and an instruction of it
 pub turned_behind : OthersRest → UndisturbedNext → (g : Machine) (p : ℕ) (first : Bool) (ps new : PartitionState) (went : ℕ) (old mid : SysState)
     → IsUndisturbed g p first ps went → HasGone went (view_of g.system p) (met g first ps) → old ≡ with_machine (with_part p new g) old
-    → mid ≡ with_machine (behind p went old.machine) old → mid ≡ with_machine (with_part p new (run g went)) old
+    → mid ≡ with_machine (machine_underway p went old.machine) old → mid ≡ with_machine (with_part p new (run g went)) old
 turned_behind others nexts g p first ps new went old mid is gone old_is mid_is =
-    mid_is ∙ ap (λ (x : SysState). with_machine (behind p went x.machine) old) old_is ∙ ap (λ (x : Machine). with_machine x old) (same went (nexts g p first ps went is gone))
+    mid_is ∙ ap (λ (x : SysState). with_machine (machine_underway p went x.machine) old) old_is ∙ ap (λ (x : Machine). with_machine x old) (same went (nexts g p first ps went is gone))
   where
-    same : (k : ℕ) → IsNextTick g k (gone_parts k g p first ps) p (first_after k first) (next_instruction (run g k) p (gone_on k (its_areas g p) (met g first ps))) → behind p k (with_part p new g) ≡ with_part p new (run g k)
+    same : (k : ℕ) → IsNextTick g k (gone_parts k g p first ps) p (first_after k first) (next_instruction (run g k) p (gone_on k (its_areas g p) (met g first ps))) → machine_underway p k (with_part p new g) ≡ with_part p new (run g k)
     same zero next = refl
     same (suc k) next =
         ap (λ (parts : List PartitionState). record g { parts = parts; time = g.time + suc k; ticks = g.ticks + suc k })

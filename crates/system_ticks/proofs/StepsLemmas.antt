@@ -25,7 +25,7 @@ use Rattle.slot_runs.specs.SpanLaws.{its_areas, met, others_rested}
 use Rattle.slot_runs.specs.Spans.{IsQuietSpan, after_span, plan_line}
 use Rattle.virt_traps.specs.Stepping.{stepped}
 use Rattle.slot_runs.specs.Undisturbed.{IsUndisturbed, NoneFallsDue, UndisturbedTicks}
-use Rattle.system_ticks.specs.Span.{AreDoneFrom, HasTurned, IsMet, counted_on}
+use Rattle.system_ticks.specs.Span.{AreDoneFrom, HasTurned, HasMetInterrupts, counted_on}
 use Rattle.system_ticks.specs.declared.beyond.Beyond.TheVariants as beyond
 use Rattle.system_ticks.specs.declared.slot.Span.{Span}
 use Rattle.system_ticks.proofs.InstructionLemmas.{call_goes_on}
@@ -46,7 +46,7 @@ pub record AreSteps (p went : ℕ) (core : Registers) (memory : Memory) (old mid
   pub others : mid ≡ with_machine (with_part p (with_turned (part_at p mid.machine).core (part_at p mid.machine).memory (part_at p old.machine)) old.machine) old
   pub counted : new ≡ with_machine (with_part p (counted_on went (part_at p mid.machine)) mid.machine) mid
 
-module _ (g : Machine) (p : ℕ) (first : Bool) (ps : PartitionState) (most : ℕ) (old : SysState) (is : IsMet g p first ps most old) where
+module _ (g : Machine) (p : ℕ) (first : Bool) (ps : PartitionState) (most : ℕ) (old : SysState) (is : HasMetInterrupts g p first ps most old) where
   -- the partition that takes the steps
   part_is : part_at p old.machine ≡ met g first ps
   part_is = put_there p (met g first ps) g old old is.there is.met

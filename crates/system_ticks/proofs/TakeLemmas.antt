@@ -23,7 +23,7 @@ use Rattle.slot_runs.specs.Meeting.{awake}
 use Rattle.slot_runs.specs.Passes.{part_at, with_part}
 use Rattle.slot_runs.specs.SpanLaws.{met}
 use Rattle.slot_runs.specs.Spans.{IsSlotOf, IsStretch}
-use Rattle.system_ticks.specs.Span.{AreDoneFrom, CanTake, IsIdle, IsMet, NoneDue}
+use Rattle.system_ticks.specs.Span.{AreDoneFrom, CanTake, IsIdle, HasMetInterrupts, NoneDue}
 use Rattle.system_ticks.specs.declared.slot.Span.{Span}
 use Rattle.system_ticks.proofs.SightLemmas.{met_state}
 use Rattle.system_ticks.proofs.WorkLemmas.{put_there}
@@ -162,7 +162,7 @@ pub is_met : (p most : ℕ) (first : Bool) (old mid sys : SysState) → CanTake 
     → mid ≡ with_machine (with_part p (with_interrupts old.machine.time first (part_at p old.machine)) old.machine) old
     → goes_on (part_at p mid.machine).state first (due (part_at p mid.machine).traps) ≡ true
     → sys ≡ with_machine (with_part p (met old.machine first (part_at p old.machine)) old.machine) old
-    → IsMet old.machine p first (part_at p old.machine) most sys
+    → HasMetInterrupts old.machine p first (part_at p old.machine) most sys
 is_met p most first old mid sys can slot stretch mid_is goes is = record {
   goes = record {
     slot = slot;

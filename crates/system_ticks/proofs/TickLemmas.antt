@@ -15,7 +15,7 @@ use Rattle.machine_model.specs.Traffic.{Puts, Still, Takes, Traffic, told_as}
 use Rattle.machine_model.specs.View.{named}
 use Rattle.machine_model.specs.Whole.{event_lines, event_of, whole_lines}
 use Rattle.slot_runs.specs.Passes.{evented, obeyed_in, obeyed_lines, rest_but, tick_ended, traded, traffic_in, with_part, worked_lines, worked_through}
-use Rattle.system_ticks.specs.Work.{IsWorked, act_of, console_told, ended_by, ending_lines}
+use Rattle.system_ticks.specs.Work.{IsTickWorked, act_beyond, console_told, ended_by, ending_lines}
 use Rattle.system_ticks.specs.declared.beyond.Beyond.{Beyond}
 use Rattle.system_ticks.specs.ListLemmas.{none_told, same_set}
 
@@ -98,17 +98,17 @@ lines_are p work g =
 
 -- a tick whose work was done and that was ended: the machine
 pub tick_state : (p : ℕ) (work : Worked) (note : Note) (reach : Beyond) (old mid new : SysState) (got : List ReportLine)
-    → IsWorked p work note reach old mid got → new ≡ with_machine (ended_by (act_of reach) p mid.machine) mid
+    → IsTickWorked p work note reach old mid got → new ≡ with_machine (ended_by (act_beyond reach) p mid.machine) mid
     → new ≡ with_machine (worked_through p work old.machine) old
 tick_state p work note reach old mid new got worked ended =
     ended
-    ∙ ap (λ (s : SysState). with_machine (ended_by (act_of reach) p s.machine) s) worked.state
+    ∙ ap (λ (s : SysState). with_machine (ended_by (act_beyond reach) p s.machine) s) worked.state
     ∙ ap (λ (act : Act). with_machine (ended_by act p (after_work p work old.machine)) old) (sym worked.act)
     ∙ ap (λ (g : Machine). with_machine g old) (sym (ended_alike work.act p (after_work p work old.machine)) ∙ sym (through_is p work old.machine))
 
 -- and its lines, but for that of bytes for the console
 pub tick_lines : (p : ℕ) (work : Worked) (note : Note) (reach : Beyond) (old mid : SysState) (got all : List ReportLine)
-    → IsWorked p work note reach old mid got → all ≡ got ++ ending_lines (act_of reach) mid.machine
+    → IsTickWorked p work note reach old mid got → all ≡ got ++ ending_lines (act_beyond reach) mid.machine
     → worked_lines p work old.machine ≡ map (line_of old.machine.ticks p) (console_told note work.after.memory) ++ all
 tick_lines p work note reach old mid got all worked ended =
     lines_are p work old.machine
@@ -116,8 +116,8 @@ tick_lines p work note reach old mid got all worked ended =
     ∙ append_assoc (map (line_of old.machine.ticks p) (console_told note work.after.memory)) got (ending_lines work.act (after_work p work old.machine))
     ∙ ap (λ (lines : List ReportLine). map (line_of old.machine.ticks p) (console_told note work.after.memory) ++ lines) (end_is ∙ sym ended)
   where
-    end_is : got ++ ending_lines work.act (after_work p work old.machine) ≡ got ++ ending_lines (act_of reach) mid.machine
+    end_is : got ++ ending_lines work.act (after_work p work old.machine) ≡ got ++ ending_lines (act_beyond reach) mid.machine
     end_is =
         ap (λ (lines : List ReportLine). got ++ lines) (ending_alike work.act (after_work p work old.machine))
         ∙ ap (λ (act : Act). got ++ ending_lines act (after_work p work old.machine)) worked.act
-        ∙ ap (λ (s : SysState). got ++ ending_lines (act_of reach) s.machine) (sym worked.state)
+        ∙ ap (λ (s : SysState). got ++ ending_lines (act_beyond reach) s.machine) (sym worked.state)

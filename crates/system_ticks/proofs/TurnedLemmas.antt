@@ -27,8 +27,8 @@ use Rattle.slot_runs.specs.PassLaws.{OthersRest, PassedNext, TickInPasses}
 use Rattle.slot_runs.specs.Passes.{part_at, traffic_in, with_part}
 use Rattle.slot_runs.specs.SpanLaws.{its_areas, met}
 use Rattle.slot_runs.specs.Undisturbed.{UndisturbedNext, gone_parts, next_instruction}
-use Rattle.system_ticks.specs.Span.{AreDoneFrom, HasTurned, IsMet, behind}
-use Rattle.system_ticks.specs.Work.{IsToldBy, IsWorked, TellsAlone, act_of, ended_by, ending_lines}
+use Rattle.system_ticks.specs.Span.{AreDoneFrom, HasTurned, HasMetInterrupts, machine_underway}
+use Rattle.system_ticks.specs.Work.{IsToldBy, IsTickWorked, TellsAlone, act_beyond, ended_by, ending_lines}
 use Rattle.system_ticks.specs.declared.beyond.Beyond.{Beyond}
 use Rattle.system_ticks.specs.declared.beyond.Beyond.TheVariants as beyond
 use Rattle.system_ticks.specs.declared.slot.Span.{Span}
@@ -50,9 +50,9 @@ turned_to system p s = turned_state (settled (areas_of (view_of system p)) s.cor
 -- ticks of which the last was that of an instruction that trapped
 pub trap_done : OthersRest → GoneCalm → UndisturbedNext → PassedNext → ActsWithinBounds → RunsKeepNumbers
     → (g : Machine) (p : ℕ) (first : Bool) (ps : PartitionState) (went most pc type : ℕ) (reach : Beyond) (old mid after new : SysState) (got all : List ReportLine) (span : Span)
-    → HasTurned (Trap type) g p first ps went most pc old → mid ≡ with_machine (behind p went old.machine) old
-    → IsWorked p (event_handled (view_of mid.machine.system p) mid.machine.time (event_of_type type) pc (Some type) (clocked (part_at p mid.machine))) note.Nothing reach mid after got
-    → new ≡ with_machine (ended_by (act_of reach) p after.machine) after → all ≡ got ++ ending_lines (act_of reach) after.machine → length all ≤ 24
+    → HasTurned (Trap type) g p first ps went most pc old → mid ≡ with_machine (machine_underway p went old.machine) old
+    → IsTickWorked p (event_handled (view_of mid.machine.system p) mid.machine.time (event_of_type type) pc (Some type) (clocked (part_at p mid.machine))) note.Nothing reach mid after got
+    → new ≡ with_machine (ended_by (act_beyond reach) p after.machine) after → all ≡ got ++ ending_lines (act_beyond reach) after.machine → length all ≤ 24
     → span ≡ quiet_span (went + 1) p true reach → AreDoneFrom span most g old new all
 trap_done others calms nexts passes bounds keeps g p first ps went most pc type reach old mid after new got all span has mid_is worked ended told_lines few span_is =
     let s : PartitionState = gone_to went g p first ps in
@@ -78,10 +78,10 @@ trap_done others calms nexts passes bounds keeps g p first ps went most pc type 
 -- ticks of which the last was that of an instruction that called
 pub call_done : OthersRest → GoneCalm → UndisturbedNext → PassedNext → ActsWithinBounds → RunsKeepNumbers
     → (g : Machine) (p : ℕ) (first : Bool) (ps : PartitionState) (went most pc : ℕ) (a_note : Note) (reach : Beyond) (old mid after new : SysState) (got all : List ReportLine)
-    → HasTurned Call g p first ps went most pc old → mid ≡ with_machine (behind p went old.machine) old
-    → IsWorked p (called (caller_at p pc (part_at p mid.machine).core.pc mid)) a_note reach mid after got → TellsAlone a_note reach
+    → HasTurned Call g p first ps went most pc old → mid ≡ with_machine (machine_underway p went old.machine) old
+    → IsTickWorked p (called (caller_at p pc (part_at p mid.machine).core.pc mid)) a_note reach mid after got → TellsAlone a_note reach
     → IsToldBy p (caller_at p pc (part_at p mid.machine).core.pc mid).sight (called (caller_at p pc (part_at p mid.machine).core.pc mid)) a_note mid
-    → new ≡ with_machine (ended_by (act_of reach) p after.machine) after → all ≡ got ++ ending_lines (act_of reach) after.machine → length all ≤ 24
+    → new ≡ with_machine (ended_by (act_beyond reach) p after.machine) after → all ≡ got ++ ending_lines (act_beyond reach) after.machine → length all ≤ 24
     → AreDoneFrom (record { ticks = went + 1; part = p; worked = true; note = a_note; reach = reach }) most g old new all
 call_done others calms nexts passes bounds keeps g p first ps went most pc a_note reach old mid after new got all has mid_is worked alone tells ended told_lines few =
     let s : PartitionState = gone_to went g p first ps in
@@ -109,9 +109,9 @@ call_done others calms nexts passes bounds keeps g p first ps went most pc a_not
 -- a tick in which an interrupt is delivered
 pub deliver_done : MetTick → TickInPasses → ActsWithinBounds → RunsKeepNumbers
     → (g : Machine) (p : ℕ) (first : Bool) (ps : PartitionState) (most n : ℕ) (old after new : SysState) (got all : List ReportLine) (span : Span)
-    → IsMet g p first ps most old → 0 < most → (part_at p old.machine).traps.enabled ≡ true → due (part_at p old.machine).traps ≡ Some n
-    → IsWorked p (interrupt_delivered (view_of old.machine.system p) old.machine.time n (clocked (part_at p old.machine))) note.Nothing beyond.Nothing old after got
-    → new ≡ with_machine (ended_by (act_of beyond.Nothing) p after.machine) after → all ≡ got ++ ending_lines (act_of beyond.Nothing) after.machine → length all ≤ 24
+    → HasMetInterrupts g p first ps most old → 0 < most → (part_at p old.machine).traps.enabled ≡ true → due (part_at p old.machine).traps ≡ Some n
+    → IsTickWorked p (interrupt_delivered (view_of old.machine.system p) old.machine.time n (clocked (part_at p old.machine))) note.Nothing beyond.Nothing old after got
+    → new ≡ with_machine (ended_by (act_beyond beyond.Nothing) p after.machine) after → all ≡ got ++ ending_lines (act_beyond beyond.Nothing) after.machine → length all ≤ 24
     → span ≡ quiet_span 1 p true beyond.Nothing → AreDoneFrom span most g old new all
 deliver_done meets passes bounds keeps g p first ps most n old after new got all span is some enabled waits worked ended told_lines few span_is =
     let part : part_at p old.machine ≡ met g first ps = ap (λ (x : SysState). part_at p x.machine) is.met ∙ get_or-set_same g.parts p (met g first ps) (booted_part g.system p) is.there in

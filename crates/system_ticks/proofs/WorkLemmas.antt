@@ -8,7 +8,7 @@ use Rattle.machine_model.specs.Partition.{PartitionState}
 use Rattle.machine_model.specs.Told.{Told, line_of}
 use Rattle.machine_model.specs.View.{PartitionView, view_of}
 use Rattle.slot_runs.specs.Passes.{part_at, with_part}
-use Rattle.system_ticks.specs.Work.{IsDone}
+use Rattle.system_ticks.specs.Work.{IsPartDone}
 
 -- a partition that stays as it is
 pub put_back : (p : ℕ) (sys : SysState) → with_machine (with_part p (part_at p sys.machine) sys.machine) sys ≡ sys
@@ -46,9 +46,9 @@ lines_then p ps first second old mid had between got mid_is between_is got_is =
 -- two parts of the work of a partition
 pub done_then : (f : PartitionView → ℕ → PartitionState → PartitionState) (tale : PartitionView → ℕ → PartitionState → List Told)
     (p : ℕ) (ps : PartitionState) (first : List Told) (old mid new : SysState) (had between got : List ReportLine) → p < length old.machine.parts
-    → IsDone p ps first old mid had between
-    → IsDone p (f (view_of mid.machine.system p) mid.machine.time (part_at p mid.machine)) (tale (view_of mid.machine.system p) mid.machine.time (part_at p mid.machine)) mid new between got
-    → IsDone p (f (view_of old.machine.system p) old.machine.time ps) (first ++ tale (view_of old.machine.system p) old.machine.time ps) old new had got
+    → IsPartDone p ps first old mid had between
+    → IsPartDone p (f (view_of mid.machine.system p) mid.machine.time (part_at p mid.machine)) (tale (view_of mid.machine.system p) mid.machine.time (part_at p mid.machine)) mid new between got
+    → IsPartDone p (f (view_of old.machine.system p) old.machine.time ps) (first ++ tale (view_of old.machine.system p) old.machine.time ps) old new had got
 done_then f tale p ps first old mid new had between got below one two =
     let told : tale (view_of mid.machine.system p) mid.machine.time (part_at p mid.machine) ≡ tale (view_of old.machine.system p) old.machine.time ps =
     ap (λ (x : PartitionState). tale (view_of mid.machine.system p) mid.machine.time x) (put_there p ps old.machine mid old below one.state)

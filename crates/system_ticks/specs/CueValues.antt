@@ -1,6 +1,6 @@
 -- What a cue is as a value: the bytes that it lends stand in a list.
 use Rattle.xm_base.specs.declared.partition.Mode.TheVariants as mode
-use Rattle.machine_model.specs.Cue.{Away, Cue, Mine as mine_of, Slot}
+use Rattle.machine_model.specs.Cue.{Away, Cue, Mine as mine_of, CueSlot}
 use Rattle.machine_model.specs.Told.{AllHalted, AllReset, NoEvent, NotKept, OwnPuts, OwnStill, OwnTakes, OwnTraffic, Sight, Unseen, WholeEvent, Words}
 use Rattle.system_ticks.specs.declared.cue.Cue as code
 use Rattle.system_ticks.specs.declared.cue.Mine.{Mine}
@@ -13,7 +13,7 @@ use Rattle.system_ticks.specs.declared.cue.WholeCue.{WholeCue}
 use Rattle.system_ticks.specs.declared.cue.WholeCue.TheVariants as whole
 
 -- whose slot it is
-abbrev pub slot_value : Mine → Slot
+abbrev pub slot_value : Mine → CueSlot
 slot_value mine.Away = Away
 slot_value (mine.Mine first) = mine_of first
 

@@ -3,7 +3,7 @@ use Rattle.std.specs.Prelude.{◌≡◌, ℕ, zero, suc, ◌&&◌, Bool, true, f
 use Rattle.guest_bus.specs.Memory.{Memory, bytes_at}
 use Rattle.xm_conf.specs.Configuration.{Conf}
 use Rattle.machine_model.specs.Cue.{Cue, cue, slot_of, unless_own}
-use Rattle.machine_model.specs.Machine.{Happened, Machine, Turn, happened, is_turn_of, order_for, sight, step, turn_of}
+use Rattle.machine_model.specs.Machine.{Happened, Machine, SlotTurn, happened, is_turn_of, order_for, sight, step, turn_of}
 use Rattle.machine_model.specs.Told.{Directed, NoEvent, NotKept, Sight, Unseen, WholeEvent, Words, reach_of}
 use Rattle.machine_model.specs.Traffic.{Puts, Still, Takes, Traffic, heard_as}
 use Rattle.machine_model.specs.View.{name_of}
@@ -11,13 +11,13 @@ use Rattle.machine_model.specs.Whole.{event_of}
 use Rattle.whole_system.specs.Serving.{sight_by, traffic_by}
 use Rattle.whole_system.specs.declared.served.Note.{Note}
 use Rattle.whole_system.specs.declared.served.Note.TheVariants as note
-use Rattle.system_ticks.specs.Work.{act_of}
+use Rattle.system_ticks.specs.Work.{act_beyond}
 use Rattle.system_ticks.specs.declared.beyond.Beyond.{Beyond}
 
 -- what happened in a tick as far as partitions are told of it: whose slot it was and whether that partition worked, the traffic under the
 -- channels' numbers in the system, an order, the hypervisor event, and what the slot's partition was shown
-pub record Kept : Type 0 where
-  pub turn : Option Turn
+pub record KeptTick : Type 0 where
+  pub turn : Option SlotTurn
   pub worked : Bool
   pub traffic : Traffic
   pub order : Option Directed
@@ -25,16 +25,16 @@ pub record Kept : Type 0 where
   pub seen : Sight
 
 -- nothing, as before the first tick
-abbrev pub no_kept : Kept
+abbrev pub no_kept : KeptTick
 no_kept = record { turn = None; worked = false; traffic = Still; order = None; event = NoEvent; seen = Unseen }
 
 -- what the partition of a slot is shown
-abbrev pub shown_to : Machine → Option Turn → Sight
+abbrev pub shown_to : Machine → Option SlotTurn → Sight
 shown_to g None = Unseen
 shown_to g (Some turn) = sight g turn.part
 
 -- what is kept of a tick
-unfoldable pub kept_in : Happened → Sight → Kept
+unfoldable pub kept_in : Happened → Sight → KeptTick
 kept_in h seen = record {
   turn = h.turn;
   worked = is_some h.local;
@@ -44,17 +44,17 @@ kept_in h seen = record {
   seen = seen;
 }
 
-unfoldable pub kept_of : Machine → Kept
-kept_of g = kept_in (happened g) (shown_to g (turn_of g))
+unfoldable pub kept_tick : Machine → KeptTick
+kept_tick g = kept_in (happened g) (shown_to g (turn_of g))
 
 -- what is kept of a tick by its slot, whether a partition worked, what its call noted and how it reached beyond, over the memory that the tick leaves
-abbrev pub kept_by : Option Turn → Bool → Note → Beyond → Memory → Kept
+abbrev pub kept_by : Option SlotTurn → Bool → Note → Beyond → Memory → KeptTick
 kept_by turn worked a_note reach memory = record {
   turn = turn;
   worked = worked;
   traffic = traffic_by a_note memory;
-  order = (reach_of (act_of reach)).directed;
-  event = event_of (act_of reach);
+  order = (reach_of (act_beyond reach)).directed;
+  event = event_of (act_beyond reach);
   seen = sight_by a_note memory;
 }
 
@@ -89,19 +89,19 @@ sight_with (note.Saw at size) bytes = Words bytes
 sight_with note.NotKept bytes = NotKept
 
 -- what is kept of a tick, with the bytes that its note named
-abbrev pub kept_with : Option Turn → Bool → Note → Beyond → List ℕ → Kept
+abbrev pub kept_with : Option SlotTurn → Bool → Note → Beyond → List ℕ → KeptTick
 kept_with turn worked a_note reach bytes = record {
   turn = turn;
   worked = worked;
   traffic = traffic_with a_note bytes;
-  order = (reach_of (act_of reach)).directed;
-  event = event_of (act_of reach);
+  order = (reach_of (act_beyond reach)).directed;
+  event = event_of (act_beyond reach);
   seen = sight_with a_note bytes;
 }
 
 -- what partition p was told in a tick of which this is kept: the traffic of others under its own names, an order upon it, the hypervisor
 -- event, and what it was shown in its slot
-unfoldable pub kept_cue : Conf → Kept → ℕ → Cue
+unfoldable pub kept_cue : Conf → KeptTick → ℕ → Cue
 kept_cue conf kept p = record {
   mine = slot_of kept.turn p;
   traffic = unless_own (is_turn_of kept.turn p && kept.worked) (heard_as (name_of conf p) kept.traffic);
@@ -112,13 +112,13 @@ kept_cue conf kept p = record {
 
 -- what is kept of a tick tells each partition its cue
 abbrev pub KeepsCues : Type 0
-KeepsCues = (g : Machine) (p : ℕ) → kept_cue g.system.conf (kept_of g) p ≡ cue g p
+KeepsCues = (g : Machine) (p : ℕ) → kept_cue g.system.conf (kept_tick g) p ≡ cue g p
 
 -- what is kept after so many ticks: that of the last, and what was kept before where the hypervisor had halted
-abbrev pub kept_unless : Bool → Kept → Kept → Kept
+abbrev pub kept_unless : Bool → KeptTick → KeptTick → KeptTick
 kept_unless true before later = before
 kept_unless false before later = later
 
-abbrev pub kept_after : Machine → ℕ → Kept → Kept
+abbrev pub kept_after : Machine → ℕ → KeptTick → KeptTick
 kept_after g zero before = before
-kept_after g (suc count) before = kept_unless g.halted before (kept_after (step g) count (kept_of g))
+kept_after g (suc count) before = kept_unless g.halted before (kept_after (step g) count (kept_tick g))

@@ -263,8 +263,8 @@ module _ (sys : SysState) (is : IsMachine sys) where
   pub frame : IsInFrame sys.machine.system.conf sys.machine.clock sys.machine.time
   frame = is.clocked.in_frame
 
-  pub asked : AsksPlan sys.machine.system.conf sys.machine.clock
-  asked = is.clocked.asked
+  pub plan_asked : AsksPlan sys.machine.system.conf sys.machine.clock
+  plan_asked = is.clocked.asked
 
 -- of a machine that has not halted only the ticks have begun that are done
 pub begun_running : (g : Machine) → g.halted ≡ false → begun g ≡ g.ticks

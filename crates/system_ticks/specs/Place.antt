@@ -23,12 +23,12 @@ pub record IsPlace (place : Place) (g : Machine) : Type 0 where
   pub left : place.left ≡ ticks_left g.system.conf g.clock g.time
 
 -- what is told of a slot past its first tick
-abbrev pub past : Here → Here
-past slot = record { slot = slot.slot; part = slot.part; first = false }
+abbrev pub past_first_tick : Here → Here
+past_first_tick slot = record { slot = slot.slot; part = slot.part; first = false }
 
 -- the place so many ticks later, in the same slot or gap
 abbrev pub place_after : ℕ → Place → Place
-place_after ticks place = record { slot = on past place.slot; left = place.left - ticks }
+place_after ticks place = record { slot = on past_first_tick place.slot; left = place.left - ticks }
 
 -- the place in the slot of a number, where it runs at a moment of the frame
 abbrev pub place_in : ℕ → ℕ → Slot → Option Place

@@ -5,7 +5,7 @@ use Rattle.std.proofs.lemmas.Option.{get_or_from_slice_get, slice_get_within}
 use Rattle.std.specs.Prelude.{All, IfSome, slice_get}
 use Rattle.cyclic_plans.specs.PlanClock.{CyclicClock, IsInFrame, here, moment, slot_at, ticks_left}
 use Rattle.cyclic_plans.specs.PlanLemmas.{IsPlan, plan_fits}
-use Rattle.cyclic_plans.specs.Slots.{IsHere, covers, end_of, frame_of, here_in, slot_from, slots_of}
+use Rattle.cyclic_plans.specs.Slots.{IsHere, covers, slot_or_gap_end, frame_of, here_in, slot_from, slots_of}
 use Rattle.xm_base.specs.Options.{on}
 use Rattle.xm_conf.specs.Configuration.{Conf}
 use Rattle.xm_conf.specs.Description.{described}
@@ -69,7 +69,7 @@ left_found : (conf : Conf) (clock : CyclicClock) (now number : ℕ) (s : Slot) �
     → s.start + s.duration - moment clock now ≡ ticks_left conf clock now
 unfolding ticks_left
 left_found conf clock now number s is =
-    sym (ap (λ (found : Option (ℕ × Slot)). end_of (frame_of conf clock.plan) (moment clock now) (slots_of conf clock.plan) found - moment clock now) is)
+    sym (ap (λ (found : Option (ℕ × Slot)). slot_or_gap_end (frame_of conf clock.plan) (moment clock now) (slots_of conf clock.plan) found - moment clock now) is)
 
 -- it runs up to its end
 runs_on : (m k : ℕ) (s : Slot) → covers m s ≡ true → k < s.start + s.duration - m → covers (m + k) s ≡ true

@@ -24,9 +24,9 @@ use Rattle.slot_runs.specs.Passes.{part_at, rest_but, with_part}
 use Rattle.slot_runs.specs.SpanLaws.{IsAwake, its_areas, met}
 use Rattle.slot_runs.specs.Spans.{IsSlotOf, IsStretch}
 use Rattle.slot_runs.specs.Undisturbed.{IsUndisturbed}
-use Rattle.system_ticks.specs.Kept.{kept_by, kept_of}
+use Rattle.system_ticks.specs.Kept.{kept_by, kept_tick}
 use Rattle.system_ticks.specs.Quiet.{AreQuiet, ends_in, ends_stretch}
-use Rattle.system_ticks.specs.Work.{act_of, console_told}
+use Rattle.system_ticks.specs.Work.{act_beyond, console_told}
 use Rattle.system_ticks.specs.declared.slot.Span.{Span}
 
 -- the line of bytes for the console of the last of the ticks of a span
@@ -34,9 +34,9 @@ abbrev pub console_lines : Span → Machine → Machine → List ReportLine
 console_lines span old new = map (line_of (old.ticks + span.ticks - 1) span.part) (console_told span.note (memory_of span.part new))
 
 -- what is to be kept of the last of the ticks of a span is told by the span
-abbrev pub IsKept : Span → Machine → Machine → Type 0
-IsKept span old new =
-    kept_of (run old (span.ticks - 1))
+abbrev pub IsLastKept : Span → Machine → Machine → Type 0
+IsLastKept span old new =
+    kept_tick (run old (span.ticks - 1))
     ≡ kept_by (turn_after (span.ticks - 1) (turn_of old)) span.worked span.note span.reach (memory_of span.part new)
 
 -- ticks of the machine were done, in the last of which the hypervisor may have halted; only the last has lines, which are these, but for
@@ -51,9 +51,9 @@ pub record IsSpanDone (span : Span) (most : ℕ) (old new : SysState) (got : Lis
   pub few : length got ≤ 24
   pub part : span.part < length new.machine.parts
   pub readable : CanBeTold span.note (areas_in span.part new.machine)
-  pub kept : IsKept span old.machine new.machine
+  pub kept : IsLastKept span old.machine new.machine
   pub quiet : AreQuiet span.ticks old.machine
-  pub ends : ends_in (run old.machine (span.ticks - 1)) ≡ ends_stretch (act_of span.reach)
+  pub ends : ends_in (run old.machine (span.ticks - 1)) ≡ ends_stretch (act_beyond span.reach)
 
 -- the same, of a machine that stands before the system's
 pub record AreDoneFrom (span : Span) (most : ℕ) (g : Machine) (old new : SysState) (got : List ReportLine) : Type 0 where
@@ -66,9 +66,9 @@ pub record AreDoneFrom (span : Span) (most : ℕ) (g : Machine) (old new : SysSt
   pub few : length got ≤ 24
   pub part : span.part < length new.machine.parts
   pub readable : CanBeTold span.note (areas_in span.part new.machine)
-  pub kept : IsKept span g new.machine
+  pub kept : IsLastKept span g new.machine
   pub quiet : AreQuiet span.ticks g
-  pub ends : ends_in (run g (span.ticks - 1)) ≡ ends_stretch (act_of span.reach)
+  pub ends : ends_in (run g (span.ticks - 1)) ≡ ends_stretch (act_beyond span.reach)
 
 -- what ticks of a slot of partition p need, so many at most
 pub record CanTake (p most : ℕ) (sys : SysState) : Type 0 where
@@ -92,7 +92,7 @@ pub record NoneDue (time : ℕ) (clocks : PartitionClocks) : Type 0 where
   pub execution : is_due clocks.execution clocks.execution_timer ≡ false
 
 -- the partition of a slot that goes on, of the machine before the slot's ticks: the interrupts of the first have come, and it is awake
-pub record IsMet (g : Machine) (p : ℕ) (first : Bool) (ps : PartitionState) (most : ℕ) (sys : SysState) : Type 0 where
+pub record HasMetInterrupts (g : Machine) (p : ℕ) (first : Bool) (ps : PartitionState) (most : ℕ) (sys : SysState) : Type 0 where
   pub goes : IsAwake g p first ps
   pub running : g.halted ≡ false
   pub frame : IsInFrame g.system.conf g.clock g.time
@@ -113,9 +113,9 @@ pub record HasTurned (turn : Turn) (g : Machine) (p : ℕ) (first : Bool) (ps : 
   pub at : pc ≡ (gone_on went (its_areas g p) (met g first ps)).core.pc
 
 -- the machine when so many ticks of a slot have passed in which its partition p only went: all others have rested
-abbrev pub behind : ℕ → ℕ → Machine → Machine
-behind p zero g = g
-behind p (suc k) g = record g { parts = (rest_but (Some p) (g.time + k) g).parts; time = g.time + suc k; ticks = g.ticks + suc k }
+abbrev pub machine_underway : ℕ → ℕ → Machine → Machine
+machine_underway p zero g = g
+machine_underway p (suc k) g = record g { parts = (rest_but (Some p) (g.time + k) g).parts; time = g.time + suc k; ticks = g.ticks + suc k }
 
 -- a partition with so many ticks more on its execution clock
 abbrev pub counted_on : ℕ → PartitionState → PartitionState

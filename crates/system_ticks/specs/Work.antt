@@ -20,18 +20,18 @@ use Rattle.system_ticks.specs.declared.beyond.Beyond.{Beyond}
 use Rattle.system_ticks.specs.declared.beyond.Beyond.TheVariants as beyond
 
 -- the act of a work, but for its traffic
-abbrev pub act_of : Beyond → Act
-act_of beyond.Nothing = told.Nothing
-act_of (beyond.Order id order) = told.Upon id order
-act_of (beyond.Plan plan) = told.Plans (told.Asked plan)
-act_of (beyond.Whole event) = done_to_all event
+abbrev pub act_beyond : Beyond → Act
+act_beyond beyond.Nothing = told.Nothing
+act_beyond (beyond.Order id order) = told.Upon id order
+act_beyond (beyond.Plan plan) = told.Plans (told.Asked plan)
+act_beyond (beyond.Whole event) = done_to_all event
 
 -- an order is upon a partition that there is
-abbrev pub IsUponOne : Beyond → Machine → Type 0
-IsUponOne beyond.Nothing g = Unit {0}
-IsUponOne (beyond.Order id order) g = id < length g.parts
-IsUponOne (beyond.Plan plan) g = Unit {0}
-IsUponOne (beyond.Whole event) g = Unit {0}
+abbrev pub ReachIsUponOne : Beyond → Machine → Type 0
+ReachIsUponOne beyond.Nothing g = Unit {0}
+ReachIsUponOne (beyond.Order id order) g = id < length g.parts
+ReachIsUponOne (beyond.Plan plan) g = Unit {0}
+ReachIsUponOne (beyond.Whole event) g = Unit {0}
 
 -- what a note tells of the console, over the memory that the tick leaves
 abbrev pub console_told : Note → Memory → List Told
@@ -44,17 +44,17 @@ console_told (note.Saw at size) memory = []
 console_told note.NotKept memory = []
 
 -- a part of the work of partition p: it leaves this of the partition, and adds the lines of what it tells
-pub record IsDone (p : ℕ) (after : PartitionState) (tale : List Told) (old new : SysState) (had got : List ReportLine) : Type 0 where
+pub record IsPartDone (p : ℕ) (after : PartitionState) (tale : List Told) (old new : SysState) (had got : List ReportLine) : Type 0 where
   pub state : new ≡ with_machine (with_part p after old.machine) old
   pub lines : got ≡ had ++ map (line_of old.machine.ticks p) tale
 
 -- the whole work of partition p: its traffic is done, the line of bytes for its console is told by the note, and the rest of its lines stand
-pub record IsWorked (p : ℕ) (work : Worked) (a_note : Note) (reach : Beyond) (old new : SysState) (got : List ReportLine) : Type 0 where
+pub record IsTickWorked (p : ℕ) (work : Worked) (a_note : Note) (reach : Beyond) (old new : SysState) (got : List ReportLine) : Type 0 where
   pub state : new ≡ with_machine (traded (traffic_in old.machine p work.act) (with_part p work.after old.machine)) old
   pub lines : map (line_of old.machine.ticks p) work.told ≡ map (line_of old.machine.ticks p) (console_told a_note work.after.memory) ++ got
-  pub act : without_traffic work.act ≡ act_of reach
+  pub act : without_traffic work.act ≡ act_beyond reach
   pub readable : CanBeTold a_note (areas_in p old.machine)
-  pub one : IsUponOne reach old.machine
+  pub one : ReachIsUponOne reach old.machine
 
 -- the traffic of a call of partition p, and what it was shown, are what its note tells
 pub record IsToldBy (p : ℕ) (shown : Sight) (work : Worked) (a_note : Note) (old : SysState) : Type 0 where
@@ -101,14 +101,14 @@ reach_in (Some told) = told.1
 
 -- nothing reaches beyond the partition, or only that a plan is asked for
 abbrev pub AsksAtMost : Beyond → Type 0
-AsksAtMost reach = (act_of reach ≡ told.Nothing) ⊎ ((plan : ℕ) × (act_of reach ≡ told.Plans (told.Asked plan)))
+AsksAtMost reach = (act_beyond reach ≡ told.Nothing) ⊎ ((plan : ℕ) × (act_beyond reach ≡ told.Plans (told.Asked plan)))
 
 -- where bytes for the console or of a message are told, nothing reaches beyond the partition; where it was shown bytes, it may ask for a plan
 abbrev pub TellsAlone : Note → Beyond → Type 0
 TellsAlone note.Nothing reach = Unit {0}
-TellsAlone (note.Console at size) reach = act_of reach ≡ told.Nothing
+TellsAlone (note.Console at size) reach = act_beyond reach ≡ told.Nothing
 TellsAlone (note.Trace entry) reach = Unit {0}
-TellsAlone (note.Put chan at size) reach = act_of reach ≡ told.Nothing
+TellsAlone (note.Put chan at size) reach = act_beyond reach ≡ told.Nothing
 TellsAlone (note.Take chan) reach = Unit {0}
 TellsAlone (note.Saw at size) reach = AsksAtMost reach
 TellsAlone note.NotKept reach = Unit {0}

@@ -11,7 +11,7 @@ ghost use Rattle.machine_model.specs.Whole.{event_of};
 ghost use Rattle.xm_conf.specs.View.{channel_of};
 ghost use Rattle.system_ticks.specs.CueValues.{sight_value, slot_value, traffic_value, whole_value};
 ghost use Rattle.system_ticks.specs.Kept.{sight_with, traffic_with};
-ghost use Rattle.system_ticks.specs.Work.{act_of};
+ghost use Rattle.system_ticks.specs.Work.{act_beyond};
 
 use crate::beyond::Beyond;
 use cyclic_plans::Here;
@@ -136,7 +136,7 @@ fn take_heard(name: Option<u8>) -> Traffic<'static>
 
 /// The order upon partition `p`.
 pub(crate) fn order_for(reach: Beyond, p: PartId) -> Option<Order>
-    ensures { result ≡ order_for (reach_of (act_of reach)).directed p }
+    ensures { result ≡ order_for (reach_of (act_beyond reach)).directed p }
 {
     match reach {
         Beyond::Order { id, order } => { if id == p { Some(order) } else { None } }
@@ -147,7 +147,7 @@ pub(crate) fn order_for(reach: Beyond, p: PartId) -> Option<Order>
 
 /// What was done to the whole system. The maintenance plan is told nobody.
 pub fn whole_of(reach: Beyond) -> WholeCue
-    ensures { whole_value result ≡ event_of (act_of reach) }
+    ensures { whole_value result ≡ event_of (act_beyond reach) }
 {
     match reach {
         Beyond::Whole(Whole::Reset(Mode::Cold)) => WholeCue::Cold,

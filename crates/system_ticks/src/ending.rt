@@ -11,7 +11,7 @@ ghost use Rattle.machine_model.specs.Told.{AllHalted, AllReset, Maintenance, Not
 ghost use Rattle.machine_model.specs.View.{view_of};
 ghost use Rattle.slot_runs.specs.Passes.{evented};
 ghost use Rattle.slot_runs.specs.Spans.{after_span, plan_line};
-ghost use Rattle.system_ticks.specs.Work.{IsUponOne, act_of, ended_by, ending_lines, reset_lines};
+ghost use Rattle.system_ticks.specs.Work.{ReachIsUponOne, act_beyond, ended_by, ending_lines, reset_lines};
 
 use crate::beyond::Beyond;
 use crate::lines::Lines;
@@ -29,10 +29,10 @@ pub(crate) fn end_tick(sys: &mut Sys, lines: &mut Lines, p: PartId, reach: Beyon
     requires time { sys.old.machine.time + 1 < 2 ^ 64 }
     requires ticks { sys.old.machine.ticks + 1 < 2 ^ 64 }
     requires frame { IsInFrame sys.old.machine.system.conf sys.old.machine.clock sys.old.machine.time }
-    requires one { IsUponOne reach sys.old.machine }
+    requires one { ReachIsUponOne reach sys.old.machine }
     requires room { length lines.old ≤ 4 }
-    ensures state { sys.new ≡ with_machine (ended_by (act_of reach) p sys.old.machine) sys.old }
-    ensures lines { lines.new ≡ lines.old ++ ending_lines (act_of reach) sys.old.machine }
+    ensures state { sys.new ≡ with_machine (ended_by (act_beyond reach) p sys.old.machine) sys.old }
+    ensures lines { lines.new ≡ lines.old ++ ending_lines (act_beyond reach) sys.old.machine }
     ensures few { length lines.new ≤ 24 }
 {
     match reach {
@@ -49,10 +49,10 @@ fn end_beyond(sys: &mut Sys, lines: &mut Lines, p: PartId, reach: Beyond)
     requires time { sys.old.machine.time + 1 < 2 ^ 64 }
     requires ticks { sys.old.machine.ticks + 1 < 2 ^ 64 }
     requires frame { IsInFrame sys.old.machine.system.conf sys.old.machine.clock sys.old.machine.time }
-    requires one { IsUponOne reach sys.old.machine }
+    requires one { ReachIsUponOne reach sys.old.machine }
     requires room { length lines.old ≤ 4 }
-    ensures state { sys.new ≡ with_machine (ended_by (act_of reach) p sys.old.machine) sys.old }
-    ensures lines { lines.new ≡ lines.old ++ ending_lines (act_of reach) sys.old.machine }
+    ensures state { sys.new ≡ with_machine (ended_by (act_beyond reach) p sys.old.machine) sys.old }
+    ensures lines { lines.new ≡ lines.old ++ ending_lines (act_beyond reach) sys.old.machine }
     ensures few { length lines.new ≤ 24 }
 {
     match reach {

@@ -8,8 +8,8 @@ ghost use Rattle.machine_model.specs.Told.{Health};
 ghost use Rattle.machine_model.specs.View.{view_of};
 ghost use Rattle.sparc_step.specs.Registers.{advanced};
 ghost use Rattle.slot_runs.specs.Passes.{part_at, with_part};
-ghost use Rattle.virt_traps.specs.Virtual.{cleared};
-ghost use Rattle.system_ticks.specs.Work.{IsDone};
+ghost use Rattle.virt_traps.specs.Virtual.{interrupt_cleared};
+ghost use Rattle.system_ticks.specs.Work.{IsPartDone};
 
 use crate::lines::Lines;
 use crate::order::obey;
@@ -41,7 +41,7 @@ pub(crate) fn handle_event(
     requires partition { p < length sys.old.machine.parts }
     requires log { (part_at p sys.old.machine).health.next < 4294967294 }
     requires room { length lines.old ≤ 20 }
-    ensures done { IsDone p (event_handled (view_of sys.old.machine.system p) sys.old.machine.time event word trap (part_at p sys.old.machine)).after (event_handled (view_of sys.old.machine.system p) sys.old.machine.time event word trap (part_at p sys.old.machine)).told sys.old sys.new lines.old lines.new }
+    ensures done { IsPartDone p (event_handled (view_of sys.old.machine.system p) sys.old.machine.time event word trap (part_at p sys.old.machine)).after (event_handled (view_of sys.old.machine.system p) sys.old.machine.time event word trap (part_at p sys.old.machine)).told sys.old sys.new lines.old lines.new }
     ensures act { (event_handled (view_of sys.old.machine.system p) sys.old.machine.time event word trap (part_at p sys.old.machine)).act ≡ done_to_all result }
     ensures few { length lines.new ≤ length lines.old + 3 }
 {
@@ -74,7 +74,7 @@ fn enter(sys: &mut Sys, lines: &mut Lines, p: PartId, event: Event, word: u32, a
     requires partition { p < length sys.old.machine.parts }
     requires log { (part_at p sys.old.machine).health.next < 4294967294 }
     requires room { length lines.old < 24 }
-    ensures done { IsDone p (entered_if (is_logged (view_of sys.old.machine.system p).part.hm event) sys.old.machine.time event word action (part_at p sys.old.machine)) (entered_told (is_logged (view_of sys.old.machine.system p).part.hm event) event word action) sys.old sys.new lines.old lines.new }
+    ensures done { IsPartDone p (entered_if (is_logged (view_of sys.old.machine.system p).part.hm event) sys.old.machine.time event word action (part_at p sys.old.machine)) (entered_told (is_logged (view_of sys.old.machine.system p).part.hm event) event word action) sys.old sys.new lines.old lines.new }
     ensures few { length lines.new ≤ length lines.old + 1 }
     ensures log { (part_at p sys.new.machine).health.next < 4294967295 }
 {
@@ -89,7 +89,7 @@ fn log(sys: &mut Sys, lines: &mut Lines, p: PartId, event: Event, word: u32, act
     requires partition { p < length sys.old.machine.parts }
     requires log { (part_at p sys.old.machine).health.next < 4294967295 }
     requires room { length lines.old < 24 }
-    ensures done { IsDone p (entered sys.old.machine.time event word action (part_at p sys.old.machine)) (Health event word action ∷ []) sys.old sys.new lines.old lines.new }
+    ensures done { IsPartDone p (entered sys.old.machine.time event word action (part_at p sys.old.machine)) (Health event word action ∷ []) sys.old sys.new lines.old lines.new }
     ensures few { length lines.new ≤ length lines.old + 1 }
     ensures log { (part_at p sys.new.machine).health.next ≡ (part_at p sys.old.machine).health.next + 1 }
 {
@@ -155,7 +155,7 @@ fn answer(sys: &mut Sys, lines: &mut Lines, p: PartId, trap: Option<u8>, own: Ow
     requires partition { p < length sys.old.machine.parts }
     requires log { (part_at p sys.old.machine).health.next < 4294967295 }
     requires room { length lines.old ≤ 22 }
-    ensures done { IsDone p (done_to_itself (view_of sys.old.machine.system p) sys.old.machine.time trap own (part_at p sys.old.machine)).after (done_to_itself (view_of sys.old.machine.system p) sys.old.machine.time trap own (part_at p sys.old.machine)).told sys.old sys.new lines.old lines.new }
+    ensures done { IsPartDone p (done_to_itself (view_of sys.old.machine.system p) sys.old.machine.time trap own (part_at p sys.old.machine)).after (done_to_itself (view_of sys.old.machine.system p) sys.old.machine.time trap own (part_at p sys.old.machine)).told sys.old sys.new lines.old lines.new }
     ensures few { length lines.new ≤ length lines.old + 2 }
 {
     match own {
@@ -173,7 +173,7 @@ fn propagate(sys: &mut Sys, lines: &mut Lines, p: PartId, trap: Option<u8>)
     requires partition { p < length sys.old.machine.parts }
     requires log { (part_at p sys.old.machine).health.next < 4294967295 }
     requires room { length lines.old ≤ 22 }
-    ensures done { IsDone p (propagated (view_of sys.old.machine.system p) sys.old.machine.time trap (part_at p sys.old.machine)).after (propagated (view_of sys.old.machine.system p) sys.old.machine.time trap (part_at p sys.old.machine)).told sys.old sys.new lines.old lines.new }
+    ensures done { IsPartDone p (propagated (view_of sys.old.machine.system p) sys.old.machine.time trap (part_at p sys.old.machine)).after (propagated (view_of sys.old.machine.system p) sys.old.machine.time trap (part_at p sys.old.machine)).told sys.old sys.new lines.old lines.new }
     ensures few { length lines.new ≤ length lines.old + 2 }
 {
     match trap {
@@ -187,7 +187,7 @@ fn deliver_trap(sys: &mut Sys, lines: &mut Lines, p: PartId, tt: u8)
     requires partition { p < length sys.old.machine.parts }
     requires log { (part_at p sys.old.machine).health.next < 4294967295 }
     requires room { length lines.old ≤ 22 }
-    ensures done { IsDone p (trap_delivered (view_of sys.old.machine.system p) sys.old.machine.time tt (part_at p sys.old.machine)).after (trap_delivered (view_of sys.old.machine.system p) sys.old.machine.time tt (part_at p sys.old.machine)).told sys.old sys.new lines.old lines.new }
+    ensures done { IsPartDone p (trap_delivered (view_of sys.old.machine.system p) sys.old.machine.time tt (part_at p sys.old.machine)).after (trap_delivered (view_of sys.old.machine.system p) sys.old.machine.time tt (part_at p sys.old.machine)).told sys.old sys.new lines.old lines.new }
     ensures few { length lines.new ≤ length lines.old + 2 }
 {
     match sys.deliver_to(p, tt) {
@@ -202,7 +202,7 @@ pub(crate) fn deliver_interrupt(sys: &mut Sys, lines: &mut Lines, p: PartId, n: 
     requires interrupt { n < 32 }
     requires log { (part_at p sys.old.machine).health.next < 4294967295 }
     requires room { length lines.old ≤ 22 }
-    ensures done { IsDone p (interrupt_delivered (view_of sys.old.machine.system p) sys.old.machine.time n (part_at p sys.old.machine)).after (interrupt_delivered (view_of sys.old.machine.system p) sys.old.machine.time n (part_at p sys.old.machine)).told sys.old sys.new lines.old lines.new }
+    ensures done { IsPartDone p (interrupt_delivered (view_of sys.old.machine.system p) sys.old.machine.time n (part_at p sys.old.machine)).after (interrupt_delivered (view_of sys.old.machine.system p) sys.old.machine.time n (part_at p sys.old.machine)).told sys.old sys.new lines.old lines.new }
     ensures few { length lines.new ≤ length lines.old + 2 }
 {
     match sys.deliver_to(p, INTERRUPT_0 + n) {
@@ -215,7 +215,7 @@ pub(crate) fn deliver_interrupt(sys: &mut Sys, lines: &mut Lines, p: PartId, n: 
 fn clear(sys: &mut Sys, p: PartId, n: u8)
     requires partition { p < length sys.old.machine.parts }
     requires interrupt { n < 32 }
-    ensures { sys.new ≡ with_machine (with_part p (record (part_at p sys.old.machine) { traps = cleared n (part_at p sys.old.machine).traps }) sys.old.machine) sys.old }
+    ensures { sys.new ≡ with_machine (with_part p (record (part_at p sys.old.machine) { traps = interrupt_cleared n (part_at p sys.old.machine).traps }) sys.old.machine) sys.old }
 {
     sys.part_mut(p).virt.clear(n);
 }
@@ -225,7 +225,7 @@ fn give_up(sys: &mut Sys, lines: &mut Lines, p: PartId)
     requires partition { p < length sys.old.machine.parts }
     requires log { (part_at p sys.old.machine).health.next < 4294967295 }
     requires room { length lines.old ≤ 22 }
-    ensures done { IsDone p (undelivered (view_of sys.old.machine.system p) sys.old.machine.time (part_at p sys.old.machine)).after (undelivered (view_of sys.old.machine.system p) sys.old.machine.time (part_at p sys.old.machine)).told sys.old sys.new lines.old lines.new }
+    ensures done { IsPartDone p (undelivered (view_of sys.old.machine.system p) sys.old.machine.time (part_at p sys.old.machine)).after (undelivered (view_of sys.old.machine.system p) sys.old.machine.time (part_at p sys.old.machine)).told sys.old sys.new lines.old lines.new }
     ensures few { length lines.new ≤ length lines.old + 2 }
 {
     let pc = program_counter(sys, p);

@@ -53,7 +53,7 @@ impl Model for Kept {
     ghost use Rattle.system_ticks.specs.Kept as plain;
     ghost use Rattle.system_ticks.specs.Kept.{kept_with};
 
-    ghost Value = { plain.Kept };
+    ghost Value = { plain.KeptTick };
 
     ghost view = { λ k. kept_with (turn_here k.slot) k.span.worked k.span.note k.span.reach (take k.size k.bytes.items) };
 

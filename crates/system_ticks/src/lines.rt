@@ -1,8 +1,8 @@
 //! The lines of one tick.
 
 ghost use Rattle.std.specs.Prelude.{◌≡◌, ◌+◌, ◌<◌, ◌++◌, ◌∷◌, [], All, IfOk, length, map};
-ghost use Rattle.system_ticks.specs.TickLines.{IsOther};
-ghost use Rattle.xm_report.specs.Report.{IsShort, line_of};
+ghost use Rattle.system_ticks.specs.TickLines.{IsOtherLine};
+ghost use Rattle.xm_report.specs.Report.{IsShort, line_value};
 
 use std::alloc::Global;
 use std::marker::Model;
@@ -21,14 +21,14 @@ pub struct Lines {
 
 impl Model for Lines {
     ghost use Rattle.std.specs.Prelude.{All, List, ◌≤◌, map, vec_capacity};
-    ghost use Rattle.system_ticks.specs.TickLines.{IsOther};
-    ghost use Rattle.xm_report.specs.Report.{IsShort, ReportLine, line_of};
+    ghost use Rattle.system_ticks.specs.TickLines.{IsOtherLine};
+    ghost use Rattle.xm_report.specs.Report.{IsShort, ReportLine, line_value};
 
     ghost Value = { List ReportLine };
 
-    ghost view = { λ lines. map line_of lines.lines.items };
+    ghost view = { λ lines. map line_value lines.lines.items };
 
-    ghost invariant = { λ lines. All IsShort (map line_of lines.lines.items) × All IsOther (map line_of lines.lines.items) × (24 ≤ vec_capacity lines.lines) };
+    ghost invariant = { λ lines. All IsShort (map line_value lines.lines.items) × All IsOtherLine (map line_value lines.lines.items) × (24 ≤ vec_capacity lines.lines) };
 }
 
 impl Lines {
@@ -51,9 +51,9 @@ impl Lines {
     /// One line more.
     pub fn push(&mut self, line: Line<'static>)
         requires room { length self.old < 24 }
-        requires short { IsShort (line_of line) }
-        requires other { IsOther (line_of line) }
-        ensures value { self.new ≡ self.old ++ line_of line.entry ∷ [] }
+        requires short { IsShort (line_value line) }
+        requires other { IsOtherLine (line_value line) }
+        ensures value { self.new ≡ self.old ++ line_value line.entry ∷ [] }
         ensures count { length self.new ≡ length self.old + 1 }
     {
         self.lines.push_reserved(line);
@@ -61,9 +61,9 @@ impl Lines {
 
     /// The lines.
     pub fn as_slice(&self) -> &[Line<'static>]
-        ensures value { map line_of result.now ≡ self.now }
-        ensures short { All IsShort (map line_of result.now) }
-        ensures other { All IsOther self.now }
+        ensures value { map line_value result.now ≡ self.now }
+        ensures short { All IsShort (map line_value result.now) }
+        ensures other { All IsOtherLine self.now }
     {
         self.lines.as_slice()
     }

@@ -6,7 +6,7 @@ ghost use Rattle.machine_model.specs.Partition.{applies, carried_out, memory_aft
 ghost use Rattle.machine_model.specs.Told.{line_of};
 ghost use Rattle.machine_model.specs.View.{view_of};
 ghost use Rattle.slot_runs.specs.Passes.{part_at, with_part};
-ghost use Rattle.system_ticks.specs.Work.{IsDone};
+ghost use Rattle.system_ticks.specs.Work.{IsPartDone};
 
 use crate::lines::Lines;
 use hypercalls::Sys;
@@ -25,7 +25,7 @@ const SHUTDOWN: u8 = 2;
 pub fn obey(sys: &mut Sys, lines: &mut Lines, p: PartId, order: Order)
     requires partition { p < length sys.old.machine.parts }
     requires room { length lines.old < 24 }
-    ensures done { IsDone p (ordered (view_of sys.old.machine.system p) order (part_at p sys.old.machine)) (ordered_told order (part_at p sys.old.machine)) sys.old sys.new lines.old lines.new }
+    ensures done { IsPartDone p (ordered (view_of sys.old.machine.system p) order (part_at p sys.old.machine)) (ordered_told order (part_at p sys.old.machine)) sys.old sys.new lines.old lines.new }
     ensures few { length lines.new ≤ length lines.old + 1 }
 {
     if applies(order, sys.part(p).state) {

@@ -4,7 +4,7 @@ ghost use Rattle.std.specs.Prelude.{◌≡◌, ℕ, ◌+◌, ◌<◌, ◌≤◌,
 ghost use Rattle.cyclic_plans.specs.PlanClock.{IsInFrame, here, moment, slot_at, ticks_left};
 ghost use Rattle.cyclic_plans.specs.Slots.{IsHere, frame_of, slots_of};
 ghost use Rattle.system_ticks.specs.Machine.{IsMachine};
-ghost use Rattle.system_ticks.specs.Place.{IsPlace, past, place_after, place_in, place_numbered};
+ghost use Rattle.system_ticks.specs.Place.{IsPlace, past_first_tick, place_after, place_in, place_numbered};
 
 use cyclic_plans::Here;
 use hypercalls::Sys;
@@ -48,7 +48,7 @@ pub fn later(place: Place, ticks: u64) -> Place
 
 // What is told of a slot past its first tick.
 fn past(slot: Here) -> Here
-    ensures { result ≡ past slot }
+    ensures { result ≡ past_first_tick slot }
 {
     Here {
         slot: slot.slot,

@@ -14,8 +14,8 @@ ghost use Rattle.slot_runs.specs.Undisturbed.{NoneFallsDue};
 ghost use Rattle.virt_traps.specs.Virtual.{due};
 ghost use Rattle.system_ticks.specs.Machine.{IsMachine};
 ghost use Rattle.system_ticks.specs.Place.{IsAt};
-ghost use Rattle.system_ticks.specs.Work.{IsUponOne, act_of, ended_by, ending_lines};
-ghost use Rattle.system_ticks.specs.Span.{AreDoneFrom, CanTake, CanTakeAfter, HasTurned, IsIdle, IsMet, IsSpanDone, NoneDue, behind, counted_on};
+ghost use Rattle.system_ticks.specs.Work.{ReachIsUponOne, act_beyond, ended_by, ending_lines};
+ghost use Rattle.system_ticks.specs.Span.{AreDoneFrom, CanTake, CanTakeAfter, HasTurned, IsIdle, HasMetInterrupts, IsSpanDone, NoneDue, machine_underway, counted_on};
 
 use crate::beyond::Beyond;
 use crate::ending::{end_tick, end_ticks};
@@ -254,7 +254,7 @@ fn go_on(sys: &mut Sys, lines: &mut Lines, span: &mut Span, p: PartId, most: u64
     requires take { CanTake p most sys.old }
     requires timers { NoneDue sys.old.machine.time (part_at p sys.old.machine).clocks }
     requires empty { lines.old ≡ [] }
-    ensures done { (g : Machine) (first : Bool) (ps : PartitionState) → IsMet g p first ps most sys.old → AreDoneFrom span.new most g sys.old sys.new lines.new }
+    ensures done { (g : Machine) (first : Bool) (ps : PartitionState) → HasMetInterrupts g p first ps most sys.old → AreDoneFrom span.new most g sys.old sys.new lines.new }
 {
     match interrupt(sys, p) {
         Some(n) => deliver(sys, lines, span, p, n),
@@ -278,7 +278,7 @@ fn deliver(sys: &mut Sys, lines: &mut Lines, span: &mut Span, p: PartId, n: u8)
     requires take { CanTake p 1 sys.old }
     requires interrupt { n < 32 }
     requires empty { lines.old ≡ [] }
-    ensures done { (g : Machine) (first : Bool) (ps : PartitionState) (most : ℕ) → IsMet g p first ps most sys.old → 0 < most → (part_at p sys.old.machine).traps.enabled ≡ true → due (part_at p sys.old.machine).traps ≡ Some n → AreDoneFrom span.new most g sys.old sys.new lines.new }
+    ensures done { (g : Machine) (first : Bool) (ps : PartitionState) (most : ℕ) → HasMetInterrupts g p first ps most sys.old → 0 < most → (part_at p sys.old.machine).traps.enabled ≡ true → due (part_at p sys.old.machine).traps ≡ Some n → AreDoneFrom span.new most g sys.old sys.new lines.new }
 {
     next_tick();
     tick_in_passes();
@@ -295,7 +295,7 @@ fn execute(sys: &mut Sys, lines: &mut Lines, span: &mut Span, p: PartId, most: u
     requires take { CanTake p most sys.old }
     requires timers { NoneDue sys.old.machine.time (part_at p sys.old.machine).clocks }
     requires empty { lines.old ≡ [] }
-    ensures done { (g : Machine) (first : Bool) (ps : PartitionState) → IsMet g p first ps most sys.old → NoDelivery (part_at p sys.old.machine).traps → AreDoneFrom span.new most g sys.old sys.new lines.new }
+    ensures done { (g : Machine) (first : Bool) (ps : PartitionState) → HasMetInterrupts g p first ps most sys.old → NoDelivery (part_at p sys.old.machine).traps → AreDoneFrom span.new most g sys.old sys.new lines.new }
 {
     undisturbed_ticks();
     calm_ticks();
@@ -375,8 +375,8 @@ fn pass_call(sys: &mut Sys, lines: &mut Lines, span: &mut Span, p: PartId, ticks
     requires ticks { sys.old.machine.ticks + 1 < 2 ^ 64 }
     requires frame { IsInFrame sys.old.machine.system.conf sys.old.machine.clock sys.old.machine.time }
     requires room { length lines.old ≤ 4 }
-    ensures state { sys.new ≡ with_machine (ended_by (act_of Beyond.Nothing) p sys.old.machine) sys.old }
-    ensures lines { lines.new ≡ lines.old ++ ending_lines (act_of Beyond.Nothing) sys.old.machine }
+    ensures state { sys.new ≡ with_machine (ended_by (act_beyond Beyond.Nothing) p sys.old.machine) sys.old }
+    ensures lines { lines.new ≡ lines.old ++ ending_lines (act_beyond Beyond.Nothing) sys.old.machine }
     ensures few { length lines.new ≤ 24 }
     ensures span { span.new ≡ record { ticks = ticks; part = p; worked = true; note = Note.Nothing; reach = Beyond.Nothing } }
 {
@@ -398,10 +398,10 @@ fn end_call(
     requires time { sys.old.machine.time + 1 < 2 ^ 64 }
     requires ticks { sys.old.machine.ticks + 1 < 2 ^ 64 }
     requires frame { IsInFrame sys.old.machine.system.conf sys.old.machine.clock sys.old.machine.time }
-    requires one { IsUponOne reach sys.old.machine }
+    requires one { ReachIsUponOne reach sys.old.machine }
     requires room { length lines.old ≤ 4 }
-    ensures state { sys.new ≡ with_machine (ended_by (act_of reach) p sys.old.machine) sys.old }
-    ensures lines { lines.new ≡ lines.old ++ ending_lines (act_of reach) sys.old.machine }
+    ensures state { sys.new ≡ with_machine (ended_by (act_beyond reach) p sys.old.machine) sys.old }
+    ensures lines { lines.new ≡ lines.old ++ ending_lines (act_beyond reach) sys.old.machine }
     ensures few { length lines.new ≤ 24 }
     ensures span { span.new ≡ record { ticks = ticks; part = p; worked = true; note = note; reach = reach } }
 {
@@ -420,7 +420,7 @@ fn end_call(
 fn stand_behind(sys: &mut Sys, p: PartId, ticks: u64)
     requires time { sys.old.machine.time + ticks < 2 ^ 64 }
     requires ticks { sys.old.machine.ticks + ticks < 2 ^ 64 }
-    ensures { sys.new ≡ with_machine (behind p ticks sys.old.machine) sys.old }
+    ensures { sys.new ≡ with_machine (machine_underway p ticks sys.old.machine) sys.old }
 {
     if ticks > 0 {
         let last = sys.now() + ticks - 1;

@@ -15,7 +15,7 @@ ghost use Rattle.machine_model.specs.Told.{Upon, line_of};
 ghost use Rattle.machine_model.specs.View.{view_of};
 ghost use Rattle.slot_runs.specs.Passes.{part_at, with_part};
 ghost use Rattle.xm_ports.specs.Channels.{shapes_of};
-ghost use Rattle.system_ticks.specs.Work.{IsDone, IsToldBy, IsUponOne, IsWorked, TellsAlone, act_of, note_in, reach_in, trace_told};
+ghost use Rattle.system_ticks.specs.Work.{IsPartDone, IsToldBy, ReachIsUponOne, IsTickWorked, TellsAlone, act_beyond, note_in, reach_in, trace_told};
 
 use crate::beyond::Beyond;
 use crate::health::{deliver_interrupt, handle_event, program_counter};
@@ -33,7 +33,7 @@ pub fn take_interrupt(sys: &mut Sys, lines: &mut Lines, p: PartId, n: u8)
     requires clock { (part_at p sys.old.machine).clocks.execution < 2 ^ 63 }
     requires log { (part_at p sys.old.machine).health.next < 4294967294 }
     requires empty { lines.old ≡ [] }
-    ensures worked { IsWorked p (interrupt_delivered (view_of sys.old.machine.system p) sys.old.machine.time n (clocked (part_at p sys.old.machine))) Note.Nothing Beyond.Nothing sys.old sys.new lines.new }
+    ensures worked { IsTickWorked p (interrupt_delivered (view_of sys.old.machine.system p) sys.old.machine.time n (clocked (part_at p sys.old.machine))) Note.Nothing Beyond.Nothing sys.old sys.new lines.new }
     ensures few { length lines.new ≤ 3 }
 {
     count_tick(sys, p);
@@ -46,7 +46,7 @@ pub fn meet_trap(sys: &mut Sys, lines: &mut Lines, p: PartId, tt: u8, pc: u32) -
     requires clock { (part_at p sys.old.machine).clocks.execution < 2 ^ 63 }
     requires log { (part_at p sys.old.machine).health.next < 4294967294 }
     requires empty { lines.old ≡ [] }
-    ensures worked { IsWorked p (event_handled (view_of sys.old.machine.system p) sys.old.machine.time (event_of_type tt) pc (Some tt) (clocked (part_at p sys.old.machine))) Note.Nothing result sys.old sys.new lines.new }
+    ensures worked { IsTickWorked p (event_handled (view_of sys.old.machine.system p) sys.old.machine.time (event_of_type tt) pc (Some tt) (clocked (part_at p sys.old.machine))) Note.Nothing result sys.old sys.new lines.new }
     ensures few { length lines.new ≤ 3 }
 {
     count_tick(sys, p);
@@ -77,7 +77,7 @@ pub fn call(sys: &mut Sys, lines: &mut Lines, p: PartId, pc: u32) -> (Note, Beyo
     requires clock { (part_at p sys.old.machine).clocks.execution < 2 ^ 63 }
     requires log { (part_at p sys.old.machine).health.next < 4294967294 }
     requires empty { lines.old ≡ [] }
-    ensures worked { IsWorked p (called (caller_at p pc (part_at p sys.old.machine).core.pc sys.old)) result.0 result.1 sys.old sys.new lines.new }
+    ensures worked { IsTickWorked p (called (caller_at p pc (part_at p sys.old.machine).core.pc sys.old)) result.0 result.1 sys.old sys.new lines.new }
     ensures alone { TellsAlone result.0 result.1 }
     ensures noted { IsToldBy p (caller_at p pc (part_at p sys.old.machine).core.pc sys.old).sight (called (caller_at p pc (part_at p sys.old.machine).core.pc sys.old)) result.0 sys.old }
     ensures few { length lines.new ≤ 4 }
@@ -107,7 +107,7 @@ pub(crate) fn call_told(
     requires clock { (part_at p sys.old.machine).clocks.execution < 2 ^ 63 }
     requires log { (part_at p sys.old.machine).health.next < 4294967294 }
     requires empty { lines.old ≡ [] }
-    ensures worked { IsWorked p (called (caller_at p pc (part_at p sys.old.machine).core.pc sys.old)) (note_in result) (reach_in result) sys.old sys.new lines.new }
+    ensures worked { IsTickWorked p (called (caller_at p pc (part_at p sys.old.machine).core.pc sys.old)) (note_in result) (reach_in result) sys.old sys.new lines.new }
     ensures alone { TellsAlone (note_in result) (reach_in result) }
     ensures noted { IsToldBy p (caller_at p pc (part_at p sys.old.machine).core.pc sys.old).sight (called (caller_at p pc (part_at p sys.old.machine).core.pc sys.old)) (note_in result) sys.old }
     ensures few { length lines.new ≤ 4 }
@@ -170,9 +170,9 @@ fn follow(sys: &mut Sys, lines: &mut Lines, p: PartId, act: Act) -> Beyond
     requires log { (part_at p sys.old.machine).health.next < 4294967294 }
     requires room { length lines.old ≤ 20 }
     requires one { serving.IsUponOne act sys.old }
-    ensures done { IsDone p (by_upshot (upshot_of act) (view_of sys.old.machine.system p) sys.old.machine.time (part_at p sys.old.machine)).after (by_upshot (upshot_of act) (view_of sys.old.machine.system p) sys.old.machine.time (part_at p sys.old.machine)).told sys.old sys.new lines.old lines.new }
-    ensures act { (by_upshot (upshot_of act) (view_of sys.old.machine.system p) sys.old.machine.time (part_at p sys.old.machine)).act ≡ act_of result }
-    ensures one { IsUponOne result sys.old.machine }
+    ensures done { IsPartDone p (by_upshot (upshot_of act) (view_of sys.old.machine.system p) sys.old.machine.time (part_at p sys.old.machine)).after (by_upshot (upshot_of act) (view_of sys.old.machine.system p) sys.old.machine.time (part_at p sys.old.machine)).told sys.old sys.new lines.old lines.new }
+    ensures act { (by_upshot (upshot_of act) (view_of sys.old.machine.system p) sys.old.machine.time (part_at p sys.old.machine)).act ≡ act_beyond result }
+    ensures one { ReachIsUponOne result sys.old.machine }
     ensures few { length lines.new ≤ length lines.old + 3 }
 {
     match act {
@@ -192,9 +192,9 @@ fn give_order(sys: &mut Sys, lines: &mut Lines, p: PartId, id: PartId, order: Or
     requires partition { p < length sys.old.machine.parts }
     requires room { length lines.old ≤ 20 }
     requires one { id < length sys.old.machine.parts }
-    ensures done { IsDone p (by_act (Upon id order) (view_of sys.old.machine.system p) (part_at p sys.old.machine)).after (by_act (Upon id order) (view_of sys.old.machine.system p) (part_at p sys.old.machine)).told sys.old sys.new lines.old lines.new }
-    ensures act { (by_act (Upon id order) (view_of sys.old.machine.system p) (part_at p sys.old.machine)).act ≡ act_of result }
-    ensures one { IsUponOne result sys.old.machine }
+    ensures done { IsPartDone p (by_act (Upon id order) (view_of sys.old.machine.system p) (part_at p sys.old.machine)).after (by_act (Upon id order) (view_of sys.old.machine.system p) (part_at p sys.old.machine)).told sys.old sys.new lines.old lines.new }
+    ensures act { (by_act (Upon id order) (view_of sys.old.machine.system p) (part_at p sys.old.machine)).act ≡ act_beyond result }
+    ensures one { ReachIsUponOne result sys.old.machine }
     ensures few { length lines.new ≤ length lines.old + 3 }
 {
     if id == p {

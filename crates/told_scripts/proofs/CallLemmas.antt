@@ -4,7 +4,7 @@ use Rattle.std.specs.Prelude.{slice_get, slice_index_or, if◌then◌else◌, �
 use Rattle.std.proofs.lemmas.Bool.Decides.{nat_tests}
 use Rattle.guest_bus.specs.MemoryLemmas.{length-bytes_at}
 use Rattle.virt_traps.specs.Delivery.{Returned, returned}
-use Rattle.virt_traps.specs.Moves.{made}
+use Rattle.virt_traps.specs.Moves.{move_made}
 use Rattle.virt_traps.specs.declared.delivery.IretFault.{IretFault}
 use Rattle.virt_traps.specs.declared.delivery.IretFault.TheVariants.{Stack, Unaligned}
 use Rattle.virt_traps.specs.declared.windows.StackFault.{StackFault}
@@ -14,15 +14,15 @@ use Rattle.xm_conf.specs.declared.port.Port.{Port}
 use Rattle.xm_conf.specs.declared.port.Way.{Way}
 use Rattle.xm_conf.specs.declared.port.Way.TheVariants as way
 use Rattle.xm_ports.specs.Channels.{Content, HeldSample, IsMessage, Shape, first_message, sample_of}
-use Rattle.xm_ports.specs.Ports.{created_over, is_kind, is_made}
+use Rattle.xm_ports.specs.Ports.{created_over, are_same_kind, is_made}
 use Rattle.xm_ports.specs.declared.ports.CreateFault.{CreateFault}
-use Rattle.machine_model.specs.Caller.{Acts, Caller, Meets, Served, Test, Upshot, a_of, acting, answering, b_of, bytes_of, c_of, d_of, invalid_parameter, not_allowed, not_available, number_of, refused_if, room, tested, text, with_written}
+use Rattle.machine_model.specs.Caller.{Acts, Caller, Meets, Served, Test, Upshot, a_of, acting, answering, b_of, caller_bytes, c_of, d_of, invalid_parameter, not_allowed, not_available, number_of, refused_if, room, tested, text, with_written}
 use Rattle.machine_model.specs.Hypercalls.{served}
 use Rattle.machine_model.specs.Lists.{and_then}
 use Rattle.machine_model.specs.LogCalls.{hm_read, hm_status, raise_event, trace_event, trace_read, trace_status}
 use Rattle.machine_model.specs.Partition.{PartitionState, areas_of}
 use Rattle.machine_model.specs.PartitionCalls.{get_partition_status, get_self, get_system_status, halt_partition, halt_system, idle_self, reset_partition, reset_system, resume_partition, shutdown_partition, suspend_partition}
-use Rattle.machine_model.specs.PortCalls.{MadePort, by_created, create_queuing_port, create_sampling_port, creating, destination_only, first_read, get_queuing_port_status, get_sampling_port_status, held_read, is_full, is_source, made_port, name_given, on_port, putting, read_sampling_message, receive_queuing_message, send_queuing_message, shape_at, size_fits, source_only, with_channel, with_content, write_sampling_message}
+use Rattle.machine_model.specs.PortCalls.{MadePort, by_created, create_queuing_port, create_sampling_port, creating, destination_only, first_read, get_queuing_port_status, get_sampling_port_status, held_read, is_full, is_source, made_port, name_given, on_port, putting, read_sampling_message, receive_queuing_message, send_queuing_message, shape_at, size_fits, source_only, with_channel, port_with_content, write_sampling_message}
 use Rattle.machine_model.specs.ProcessorCalls.{by_flush, by_return, clear_irqmask, flush_regwin, flushed, input_read, iret, read_input, set_irqmask, set_psr, set_tbr, write_console}
 use Rattle.machine_model.specs.Structures.{queuing_status, sampling_status}
 use Rattle.machine_model.specs.TimeCalls.{get_plan_status, get_time, set_timer, switch_sched_plan}
@@ -75,7 +75,7 @@ record IsMadePort (caller : Caller) (the_kind : Kind) (made : MadePort) : Type 0
   port : Port
   port_there : slice_get caller.view.part.ports (a_of caller) ≡ Some port
   way_is : port.way ≡ made.way
-  kind_is : is_kind port.kind the_kind ≡ true
+  kind_is : are_same_kind port.kind the_kind ≡ true
   channel : PortChannel
   channel_there : slice_index_or caller.view.channels (a_of caller) None ≡ Some channel
   shape_is : made.shape ≡ channel.shape
@@ -86,7 +86,7 @@ IsMade caller the_kind None = Unit {0}
 IsMade caller the_kind (Some made) = IsMadePort caller the_kind made
 
 content_made : (caller : Caller) (the_kind : Kind) (port : Port) (channel : PortChannel) (o : Option Content) → slice_get caller.view.part.ports (a_of caller) ≡ Some port
-    → is_kind port.kind the_kind ≡ true → slice_index_or caller.view.channels (a_of caller) None ≡ Some channel → IsMade caller the_kind (with_content port channel o)
+    → are_same_kind port.kind the_kind ≡ true → slice_index_or caller.view.channels (a_of caller) None ≡ Some channel → IsMade caller the_kind (port_with_content port channel o)
 content_made caller the_kind port channel None port_there kind_is channel_there = tt
 content_made caller the_kind port channel (Some content) port_there kind_is channel_there = record {
   port = port;
@@ -102,9 +102,9 @@ content_made caller the_kind port channel (Some content) port_there kind_is chan
 channel_made : (caller : Caller) (the_kind : Kind) (port : Port) (o : Option PortChannel) → slice_get caller.view.part.ports (a_of caller) ≡ Some port
     → slice_index_or caller.view.channels (a_of caller) None ≡ o → IsMade caller the_kind (with_channel caller the_kind port o)
 channel_made caller the_kind port None port_there channel_there = tt
-channel_made caller the_kind port (Some channel) port_there channel_there = at (is_kind port.kind the_kind) refl
+channel_made caller the_kind port (Some channel) port_there channel_there = at (are_same_kind port.kind the_kind) refl
   where
-    at : (b : Bool) → is_kind port.kind the_kind ≡ b → IsMade caller the_kind (if b then with_content port channel (slice_index_or caller.contents channel.name None) else None)
+    at : (b : Bool) → are_same_kind port.kind the_kind ≡ b → IsMade caller the_kind (if b then port_with_content port channel (slice_index_or caller.contents channel.name None) else None)
     at true kind_is = content_made caller the_kind port channel (slice_index_or caller.contents channel.name None) port_there kind_is channel_there
     at false kind_is = tt
 
@@ -135,7 +135,7 @@ destination_is : (a : Way) → refused_if (is_source a) not_allowed ≡ None →
 destination_is way.Source passed = absurd cc
 destination_is way.Destination passed = refl
 
-kind_same : (one other : Kind) → is_kind one other ≡ true → one ≡ other
+kind_same : (one other : Kind) → are_same_kind one other ≡ true → one ≡ other
 kind_same kind.Sampling kind.Sampling is = refl
 kind_same kind.Sampling kind.Queuing is = absurd cc
 kind_same kind.Queuing kind.Sampling is = absurd cc
@@ -162,13 +162,13 @@ through_port the_kind caller port a is way_is = record {
 
 -- a message that fits its source port is put so
 putting_within : (the_kind : Kind) (caller : Caller) (port : MadePort) → IsMadePort caller the_kind port → source_only port ≡ None → size_fits port (c_of caller) ≡ None
-    → IsPut caller.view port.name (bytes_of caller (b_of caller) (c_of caller))
+    → IsPut caller.view port.name (caller_bytes caller (b_of caller) (c_of caller))
 putting_within the_kind caller port is passed fits =
     let size = size_is port (c_of caller) fits in
-    let long : length (bytes_of caller (b_of caller) (c_of caller)) ≡ c_of caller = length-bytes_at caller.state.memory (b_of caller) (c_of caller) in
+    let long : length (caller_bytes caller (b_of caller) (c_of caller)) ≡ c_of caller = length-bytes_at caller.state.memory (b_of caller) (c_of caller) in
     record {
       through = through_port the_kind caller port way.Source is (source_is port.way passed);
-      message = subst (λ (shape : Shape). IsMessage shape.length (bytes_of caller (b_of caller) (c_of caller))) is.shape_is
+      message = subst (λ (shape : Shape). IsMessage shape.length (caller_bytes caller (b_of caller) (c_of caller))) is.shape_is
           (record { some = subst (λ (n : ℕ). 1 ≤ n) (sym long) size.0; fit = subst (λ (n : ℕ). n ≤ port.shape.length) (sym long) size.1 });
     }
 
@@ -368,7 +368,7 @@ set_tbr_stays caller = record { within = tt }
 
 flush_regwin_stays : (caller : Caller) → Stays caller.view (flush_regwin caller)
 unfolding flush_regwin
-flush_regwin_stays caller = record { within = let moved = flushed 8 (areas_of caller.view) (made caller.state.core caller.state.memory) in flush_within caller.view moved.answer (record caller.state { core = moved.core; memory = moved.memory }) caller }
+flush_regwin_stays caller = record { within = let moved = flushed 8 (areas_of caller.view) (move_made caller.state.core caller.state.memory) in flush_within caller.view moved.answer (record caller.state { core = moved.core; memory = moved.memory }) caller }
 
 -- the call with a number, or a later one
 choice_stays : (view : PartitionView) (b : Bool) (one other : Served) → Stays view one → Stays view other → Stays view (if b then one else other)

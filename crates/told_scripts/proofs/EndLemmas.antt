@@ -23,7 +23,7 @@ use Rattle.xm_conf.specs.declared.port.Way.TheVariants as way
 use Rattle.xm_ports.specs.Channels.{IsMessage as IsMessageOf, Shape, shape_of}
 use Rattle.machine_model.specs.Lists.{is_number, table, then_some}
 use Rattle.machine_model.specs.View.{PortChannel, System, if_named, name_from, name_of, named, no_part, part_of, port_channel, view_of, with_its_name, with_name}
-use Rattle.cue_scripts.specs.Script.{IsMessage, chan_at, chan_called, gives_in, gives_queue, heard_in, is_length, is_queue, most_heard}
+use Rattle.cue_scripts.specs.Script.{IsHeardMessage, numbered_chan, chan_called, gives_in, gives_queue, heard_in, is_length, is_queue, most_heard}
 use Rattle.told_scripts.proofs.CallLemmas.{IsPort, IsPut, IsTake}
 
 -- a number that an option has
@@ -328,14 +328,14 @@ traded system other c name the_way fits port is =
 -- the channel that a partition calls so
 called_is : (conf : Conf) (p c q : ℕ) (chan : Chan) → name_of conf p c ≡ Some q → slice_get conf.chans c ≡ Some chan → chan_called conf p q ≡ Some chan
 unfolding chan_called
-called_is conf p c q chan is there = ap (chan_at conf) (named_so conf p c q is) ∙ there
+called_is conf p c q chan is there = ap (numbered_chan conf) (named_so conf p c q is) ∙ there
 
 length_fits : (most count : ℕ) → 1 ≤ count → count ≤ most → is_length (Some most) count ≡ true
 length_fits most count some fit = grind (arith, nat_tests)
 
 -- a message that another partition puts is one that p may hear
 pub put_heard : (system : System) (p other c q name : ℕ) (bytes : List ℕ) → Fits (described system.conf) → IsPut (view_of system other) name bytes → named system.conf other name ≡ Some c
-    → (other == p) ≡ false → name_of system.conf p c ≡ Some q → AreBytes bytes → IsMessage (most_heard system.conf p q) q bytes
+    → (other == p) ≡ false → name_of system.conf p c ≡ Some q → AreBytes bytes → IsHeardMessage (most_heard system.conf p q) q bytes
 unfolding most_heard
 put_heard system p other c q name bytes fits put named_other differ is each =
     let its = traded system other c name way.Source fits put.through named_other in

@@ -12,11 +12,11 @@ use Rattle.xm_conf.specs.Description.{described}
 use Rattle.xm_conf.specs.Fits.{Fits}
 use Rattle.xm_traces.specs.Ring.{Kept, entry_at, first_kept}
 use Rattle.xm_traces.specs.declared.entry.TraceEntry.{TraceEntry}
-use Rattle.machine_model.specs.Cue.{Away, Mine, Slot, cue, cue_in, script, script_unless, slot_of, unless_own}
+use Rattle.machine_model.specs.Cue.{Away, Mine, CueSlot, cue, cue_in, script, script_unless, slot_of, unless_own}
 use Rattle.machine_model.specs.Facts.{BootsWithFacts, HasFacts, HaveEight, KeepsFacts, KeepsNumbers}
 use Rattle.machine_model.specs.Laws.{NeverUponItself, NoScript, SeesNothing}
 use Rattle.machine_model.specs.LocalTick.{LocalTick}
-use Rattle.machine_model.specs.Machine.{Machine, Turn, act_of, after, answer_to, copies, happened, happened_by, if_its_turn, is_halt, is_turn_of, local, local_in, local_of, order_upon, shown_entry, shown_of, sight, sight_for, sight_in, sight_of_state, start, step, step_unless, system_traffic, taken_by, tick_of, turn_of, with_room}
+use Rattle.machine_model.specs.Machine.{Machine, SlotTurn, act_of, after, answer_to, copies, happened, happened_by, if_its_turn, is_halt, is_turn_of, local, local_in, local_of, order_upon, shown_entry, shown_of, sight, sight_for, sight_in, sight_of_state, start, step, step_unless, system_traffic, taken_by, tick_of, turn_of, with_room}
 use Rattle.machine_model.specs.Observed.{CurrentPlan, HealthCounts, HealthEntryOf, Observation, PartitionStatus, PlanStatus, Question, SystemStatus, TraceCounts, TraceEntryOf, asks}
 use Rattle.machine_model.specs.Partition.{PartitionState, areas_of, takes_turns}
 use Rattle.machine_model.specs.Structures.{counts_bytes, health_bytes, partition_status, plan_status, system_status, trace_bytes}
@@ -25,14 +25,14 @@ use Rattle.machine_model.specs.Told.{Act, AllHalted, NotKept, OwnPuts, OwnStill,
 use Rattle.machine_model.specs.Traffic.{heard_as, own_puts_at, own_takes_at, puts_at, takes_at, told_as, traffic_of}
 use Rattle.machine_model.specs.View.{PartitionView, System, name_of, named, part_of, view_of}
 use Rattle.cue_scripts.specs.Entries.{is_away}
-use Rattle.cue_scripts.specs.Script.{CanHear, CanSee, HaltsLast, IsAlone, IsCue, IsScript, is_shown, is_system}
+use Rattle.cue_scripts.specs.Script.{CanHear, CanSee, HaltsLast, HearsNothing, IsCue, IsScript, is_shown, is_system_partition}
 use Rattle.told_scripts.specs.Telling.{HasMessageBytes, HasNumbers, HasShownBytes, TellsBootedScripts, TellsCues, TellsScripts}
 use Rattle.told_scripts.proofs.CallLemmas.{IsAt, IsPut, IsTake}
 use Rattle.told_scripts.proofs.EndLemmas.{put_heard, take_heard}
 use Rattle.told_scripts.proofs.WorkLemmas.{local_at}
 
 -- what others do on channels, as a partition hears it, by whose turn it is
-abbrev heard_in_turn : Machine → ℕ → Option Turn → OwnTraffic
+abbrev heard_in_turn : Machine → ℕ → Option SlotTurn → OwnTraffic
 heard_in_turn g p o =
     unless_own (is_some (if_its_turn (is_turn_of o p) (local_in g o))) (heard_as (name_of g.system.conf p) (system_traffic g.system.conf o (traffic_of (act_of (local_in g o)))))
 
@@ -92,10 +92,10 @@ taken_at g p first (Some ps) = at (takes_turns ps.state)
     at false = tt
 
 -- the local tick of the partition whose turn it is
-abbrev tick_in : Machine → Turn → Option LocalTick
+abbrev tick_in : Machine → SlotTurn → Option LocalTick
 tick_in g turn = taken_by g turn.part turn.first (slice_get g.parts turn.part)
 
-turn_told : (g : Machine) (p : ℕ) (o : Option Turn) → Fits (described g.system.conf) → HasMessageBytes (heard_in_turn g p o) → CanHear g.system.conf p (heard_in_turn g p o)
+turn_told : (g : Machine) (p : ℕ) (o : Option SlotTurn) → Fits (described g.system.conf) → HasMessageBytes (heard_in_turn g p o) → CanHear g.system.conf p (heard_in_turn g p o)
 turn_told g p None fits each = tt
 turn_told g p (Some turn) fits each = at (turn.part == p) refl each
   where
@@ -135,12 +135,12 @@ taken_no_order never g p first (Some ps) = at (takes_turns ps.state)
         (λ order is. never (view_of g.system p) ps (copies g p) g.ticks g.time first (sight_of_state g p first ps) order (is ∙ ap (λ (n : ℕ). Upon n order) (sym (own_id g.system p))))
     at false = refl
 
-alone_in_turn : NeverUponItself → (g : Machine) (p : ℕ) (o : Option Turn) → IsAlone (slot_of o p) (heard_in_turn g p o) (order_upon (act_of (local_in g o)) p)
+alone_in_turn : NeverUponItself → (g : Machine) (p : ℕ) (o : Option SlotTurn) → HearsNothing (slot_of o p) (heard_in_turn g p o) (order_upon (act_of (local_in g o)) p)
 alone_in_turn never g p None = tt
 alone_in_turn never g p (Some turn) = at (turn.part == p) refl
   where
     at : (b : Bool) → (turn.part == p) ≡ b
-        → IsAlone (if b then Mine turn.first else Away)
+        → HearsNothing (if b then Mine turn.first else Away)
         (unless_own (is_some (if_its_turn b (tick_in g turn))) (heard_as (name_of g.system.conf p) (told_as (named g.system.conf turn.part) (traffic_of (act_of (tick_in g turn))))))
         (order_upon (act_of (tick_in g turn)) p)
     at true its = (
@@ -149,7 +149,7 @@ alone_in_turn never g p (Some turn) = at (turn.part == p) refl
     )
     at false other = tt
 
-alone_told : NeverUponItself → (g : Machine) (p : ℕ) → IsAlone (cue g p).mine (cue g p).traffic (cue g p).order
+alone_told : NeverUponItself → (g : Machine) (p : ℕ) → HearsNothing (cue g p).mine (cue g p).traffic (cue g p).order
 unfolding cue cue_in happened happened_by local tick_of
 alone_told never g p = alone_in_turn never g p (turn_of g)
 
@@ -232,11 +232,11 @@ state_sized g p first ps facts = at (takes_turns ps.state)
     at false = tt
 
 -- and something is shown in its own slot alone
-record IsSeenIn (mine : Slot) (seen : Sight) : Type 0 where
+record IsSeenIn (mine : CueSlot) (seen : Sight) : Type 0 where
   sized : IsSized seen
   nowhere_else : is_away mine ≡ true → seen ≡ Unseen
 
-seen_in_turn : (g : Machine) (p : ℕ) (o : Option Turn) (there : Option PartitionState) → HasFacts g → IsSeenIn (slot_of o p) (sight_in g p o there)
+seen_in_turn : (g : Machine) (p : ℕ) (o : Option SlotTurn) (there : Option PartitionState) → HasFacts g → IsSeenIn (slot_of o p) (sight_in g p o there)
 seen_in_turn g p None there facts = record { sized = tt; nowhere_else = λ away. refl }
 seen_in_turn g p (Some turn) None facts = record { sized = tt; nowhere_else = λ away. refl }
 seen_in_turn g p (Some turn) (Some ps) facts = at (turn.part == p)
@@ -249,7 +249,7 @@ cue_seen_in : (g : Machine) (p : ℕ) → HasFacts g → IsSeenIn (cue g p).mine
 unfolding cue cue_in happened happened_by sight
 cue_seen_in g p facts = seen_in_turn g p (turn_of g) (slice_get g.parts p) facts
 
-not_away : (mine : Slot) (seen : Sight) → (is_away mine ≡ true → seen ≡ Unseen) → ¬ (seen ≡ Unseen) → is_away mine ≡ false
+not_away : (mine : CueSlot) (seen : Sight) → (is_away mine ≡ true → seen ≡ Unseen) → ¬ (seen ≡ Unseen) → is_away mine ≡ false
 not_away Away seen nowhere some = absurd (some (nowhere refl))
 not_away (Mine first) seen nowhere some = refl
 
@@ -257,7 +257,7 @@ flagged : (system : Bool) (seen : Sight) → (system ≡ false → seen ≡ Unse
 flagged true seen flag some = refl
 flagged false seen flag some = absurd (some (flag refl))
 
-can_see : (system : Bool) (mine : Slot) (seen : Sight) → IsSeenIn mine seen → (system ≡ false → seen ≡ Unseen) → HasShownBytes seen → CanSee system mine seen
+can_see : (system : Bool) (mine : CueSlot) (seen : Sight) → IsSeenIn mine seen → (system ≡ false → seen ≡ Unseen) → HasShownBytes seen → CanSee system mine seen
 can_see system mine Unseen is flag each = tt
 can_see system mine NotKept is flag each = (not_away mine NotKept is.nowhere_else (λ no. absurd cc), flagged system NotKept flag (λ no. absurd cc))
 can_see system mine (Words bytes) is flag each =
@@ -267,8 +267,8 @@ seen_is : (g : Machine) (p : ℕ) → (cue g p).seen ≡ sight g p
 unfolding cue cue_in
 seen_is g p = refl
 
-seen_told : SeesNothing → (g : Machine) (p : ℕ) → HasFacts g → HasShownBytes (cue g p).seen → CanSee (is_system g.system.conf p) (cue g p).mine (cue g p).seen
-unfolding is_system
+seen_told : SeesNothing → (g : Machine) (p : ℕ) → HasFacts g → HasShownBytes (cue g p).seen → CanSee (is_system_partition g.system.conf p) (cue g p).mine (cue g p).seen
+unfolding is_system_partition
 seen_told nothing g p facts each =
     can_see (part_of g.system.conf p).system (cue g p).mine (cue g p).seen (cue_seen_in g p facts) (λ plain. seen_is g p ∙ nothing g p plain) each
 

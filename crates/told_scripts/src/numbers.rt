@@ -2,7 +2,7 @@
 
 ghost use Rattle.xm_base.specs.Bytes.{AreBytes};
 ghost use Rattle.cue_scripts.specs.Script.{IsOrder};
-ghost use Rattle.cue_scripts.specs.Values.{cue_value, sight_value, traffic_value};
+ghost use Rattle.cue_scripts.specs.Values.{script_cue_value, script_sight_value, script_traffic_value};
 ghost use Rattle.told_scripts.specs.Telling.{HasMessageBytes, HasNumbers, HasShownBytes};
 
 use cue_scripts::{ScriptCue, ScriptSight, ScriptTraffic};
@@ -10,7 +10,7 @@ use xm_base::Order;
 
 /// What a kept cue has of bytes are bytes, and the status of a reset is a word.
 pub fn has_numbers(cue: &ScriptCue)
-    ensures numbers { HasNumbers (cue_value cue.now) }
+    ensures numbers { HasNumbers (script_cue_value cue.now) }
 {
     has_message_bytes(&cue.traffic);
     has_status(cue.order);
@@ -19,7 +19,7 @@ pub fn has_numbers(cue: &ScriptCue)
 
 /// A message is bytes.
 fn has_message_bytes(traffic: &ScriptTraffic)
-    ensures bytes { HasMessageBytes (traffic_value traffic.now) }
+    ensures bytes { HasMessageBytes (script_traffic_value traffic.now) }
 {
     match traffic {
         ScriptTraffic::Nothing | ScriptTraffic::Take { .. } => {}
@@ -45,7 +45,7 @@ fn has_status(order: Option<Order>)
 
 /// What is shown is bytes.
 fn has_shown_bytes(seen: &ScriptSight)
-    ensures bytes { HasShownBytes (sight_value seen.now) }
+    ensures bytes { HasShownBytes (script_sight_value seen.now) }
 {
     match seen {
         ScriptSight::Nothing | ScriptSight::NotKept => {}

@@ -9,8 +9,8 @@ use Rattle.xm_base.specs.Options.{on}
 use Rattle.xm_outside.specs.Causes.{Rose}
 use Rattle.xm_outside.specs.Growth.{grown}
 use Rattle.uart_board.specs.declared.board.Board.{Board}
-use Rattle.uart_board.specs.Board.{IsLost, IsTaken, lost, uart_at, with_uart}
-use Rattle.uart_board.specs.Heard.{IsHeard, IsHeardAt, hearing, hearing_nothing, said_to}
+use Rattle.uart_board.specs.Board.{LosesUart, IsTaken, lost, uart_at, with_uart}
+use Rattle.uart_board.specs.Heard.{IsHeard, IsHeardAt, uart_hearing, hearing_nothing, said_to}
 use Rattle.uart_board.specs.Views.{BoardView, HasFailed, HasTaken, UartView, mark_at}
 
 -- an element of a list, set twice
@@ -37,7 +37,7 @@ same_view uart got faults same_got same_faults = ap (λ g. record { got = g; fau
 
 -- what the other places tell when one is set
 others_stay : {U : Type 0} (view : U → UartView) (places : List (Option U)) (place other : ℕ) (uart : Option U) → other ≢ place
-    → slice_index_or (map (option_map view) (slice_set places place uart)) other None ≡ on (hearing []) (slice_index_or (map (option_map view) places) other None)
+    → slice_index_or (map (option_map view) (slice_set places place uart)) other None ≡ on (uart_hearing []) (slice_index_or (map (option_map view) places) other None)
 others_stay view places place other uart differ =
     view_index view (slice_set places place uart) other ∙ ap (option_map view) (get_or-set_other places place other uart None differ)
     ∙ sym (view_index view places other) ∙ sym (hearing_nothing (slice_index_or (map (option_map view) places) other None))
@@ -61,8 +61,8 @@ taken_heard view places marks place bytes uart after stood got faults other = at
           stands = ap (λ p. slice_index_or (map (option_map view) (slice_set places place (Some after))) p None) same
               ∙ set_view view places place (Some after) (stands_within places place uart stood)
               ∙ ap Some (same_view (view after) (grown (view uart).got bytes) (view uart).faults got faults)
-              ∙ ap (on (hearing bytes)) (sym (view_index view places place ∙ ap (option_map view) stood))
-              ∙ ap (λ p. on (hearing bytes) (slice_index_or (map (option_map view) places) p None)) (sym same);
+              ∙ ap (on (uart_hearing bytes)) (sym (view_index view places place ∙ ap (option_map view) stood))
+              ∙ ap (λ p. on (uart_hearing bytes) (slice_index_or (map (option_map view) places) p None)) (sym same);
           same = refl;
         }
     at false away =
@@ -102,7 +102,7 @@ empty_heard view places marks place bytes empty other = at (other == place) refl
     at true here =
         let same : other ≡ place = grind (arith, nat_tests) in
         let none : slice_index_or (map (option_map view) places) other None ≡ None = ap (λ p. slice_index_or (map (option_map view) places) p None) same ∙ view_index view places place ∙ ap (option_map view) empty in
-        inl record { stands = none ∙ sym (ap (on (hearing bytes)) none); same = refl }
+        inl record { stands = none ∙ sym (ap (on (uart_hearing bytes)) none); same = refl }
     at false away = inl record { stands = sym (hearing_nothing (slice_index_or (map (option_map view) places) other None)); same = refl }
 
 -- what is taken from an empty place leaves the board
@@ -133,7 +133,7 @@ put_back view place bytes uart after old mid new out took back = record {
 -- a UART that was taken out failed
 pub given_up : {X : Type 0} {F : X → Type 0} (view : DynBox X Global F → UartView) (place : ℕ) (bytes : List ℕ) (uart after : DynBox X Global F) (count : ℕ) (old mid new : Board X F)
     → mid ≡ with_uart place None old → HasFailed (view uart) bytes (view after) → count ≡ (view after).faults → new ≡ lost place count mid → mark_at place new.marks ≡ Some count
-    → IsLost view place bytes uart old new
+    → LosesUart view place bytes uart old new
 given_up view place bytes uart after count old mid new out failed counted gone marked = record {
   after = after;
   failed = failed;
@@ -144,13 +144,13 @@ given_up view place bytes uart after count old mid new out failed counted gone m
 
 -- what came of the UART that stood at the place
 pub of_the_one : {X : Type 0} {F : X → Type 0} (view : DynBox X Global F → UartView) (place : ℕ) (bytes : List ℕ) (uart : DynBox X Global F) (old new : Board X F)
-    → Some uart ≡ uart_at place old → IsTaken view place bytes uart old new ⊎ IsLost view place bytes uart old new
-    → IfSome (uart_at place old) (λ one. IsTaken view place bytes one old new ⊎ IsLost view place bytes one old new)
-of_the_one view place bytes uart old new stood came = subst (λ found. IfSome found (λ one. IsTaken view place bytes one old new ⊎ IsLost view place bytes one old new)) stood came
+    → Some uart ≡ uart_at place old → IsTaken view place bytes uart old new ⊎ LosesUart view place bytes uart old new
+    → IfSome (uart_at place old) (λ one. IsTaken view place bytes one old new ⊎ LosesUart view place bytes one old new)
+of_the_one view place bytes uart old new stood came = subst (λ found. IfSome found (λ one. IsTaken view place bytes one old new ⊎ LosesUart view place bytes one old new)) stood came
 
 -- what the board then tells
 pub one_heard : {X : Type 0} {F : X → Type 0} (view : DynBox X Global F → UartView) (place : ℕ) (bytes : List ℕ) (uart : DynBox X Global F) (old new : Board X F)
-    → Some uart ≡ uart_at place old → IsTaken view place bytes uart old new ⊎ IsLost view place bytes uart old new
+    → Some uart ≡ uart_at place old → IsTaken view place bytes uart old new ⊎ LosesUart view place bytes uart old new
     → IsHeard (said_to place bytes) (shown view old) (shown view new)
 one_heard view place bytes uart old new stood (inl taken) =
     subst (λ board. IsHeard (said_to place bytes) (shown view old) (shown view board)) (sym taken.board)

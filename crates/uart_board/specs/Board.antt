@@ -33,7 +33,7 @@ pub record IsTaken {X : Type 0} {F : X → Type 0} (view : DynBox X Global F →
 
 -- the write failed: the UART's place is empty and has as its mark what the UART then counts,
 -- and nothing else of the board has changed
-pub record IsLost {X : Type 0} {F : X → Type 0} (view : DynBox X Global F → UartView) (place : ℕ) (bytes : List ℕ) (uart : DynBox X Global F) (old new : Board X F) : Type 0 where
+pub record LosesUart {X : Type 0} {F : X → Type 0} (view : DynBox X Global F → UartView) (place : ℕ) (bytes : List ℕ) (uart : DynBox X Global F) (old new : Board X F) : Type 0 where
   pub after : DynBox X Global F
   pub failed : HasFailed (view uart) bytes (view after)
   pub marked : mark_at place new.marks ≡ Some (view after).faults

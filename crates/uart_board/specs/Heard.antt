@@ -7,16 +7,16 @@ use Rattle.xm_outside.specs.Growth.{grown, grown-nothing, grown_grown}
 use Rattle.uart_board.specs.Views.{BoardView, UartView, mark_at, view_at}
 
 -- a UART after it got the bytes
-abbrev pub hearing : List ℕ → UartView → UartView
-hearing bytes uart = record { got = grown uart.got bytes; faults = uart.faults }
+abbrev pub uart_hearing : List ℕ → UartView → UartView
+uart_hearing bytes uart = record { got = grown uart.got bytes; faults = uart.faults }
 
 -- the UART of a place, where there is one, took all of the bytes, and no mark came or went
-pub record IsKept (bytes : List ℕ) (uart : Option UartView) (mark : Option ℕ) (now : Option UartView) (after : Option ℕ) : Type 0 where
-  pub stands : now ≡ on (hearing bytes) uart
+pub record TookAll (bytes : List ℕ) (uart : Option UartView) (mark : Option ℕ) (now : Option UartView) (after : Option ℕ) : Type 0 where
+  pub stands : now ≡ on (uart_hearing bytes) uart
   pub same : after ≡ mark
 
 -- the UART of a place failed: the place is empty, and its mark is above what the UART had counted
-pub record IsGone (uart now : Option UartView) (after : Option ℕ) : Type 0 where
+pub record HasLostUart (uart now : Option UartView) (after : Option ℕ) : Type 0 where
   pub before : UartView
   pub count : ℕ
   pub stood : uart ≡ Some before
@@ -26,7 +26,7 @@ pub record IsGone (uart now : Option UartView) (after : Option ℕ) : Type 0 whe
 
 -- what becomes of one place to which bytes are said
 abbrev pub IsHeardAt : List ℕ → Option UartView → Option ℕ → Option UartView → Option ℕ → Type 0
-IsHeardAt bytes uart mark now after = IsKept bytes uart mark now after ⊎ IsGone uart now after
+IsHeardAt bytes uart mark now after = TookAll bytes uart mark now after ⊎ HasLostUart uart now after
 
 -- to each place bytes were said: what becomes of the board
 abbrev pub IsHeard : (ℕ → List ℕ) → BoardView → BoardView → Type 0
@@ -45,17 +45,17 @@ same_faults : (a b : UartView) → Some a ≡ Some b → a.faults ≡ b.faults
 same_faults a b same = let one : a ≡ b = cc in ap (λ uart. uart.faults) one
 
 -- a UART that got nothing is as before
-pub hearing_nothing : (uart : Option UartView) → on (hearing []) uart ≡ uart
+pub hearing_nothing : (uart : Option UartView) → on (uart_hearing []) uart ≡ uart
 hearing_nothing None = refl
 hearing_nothing (Some uart) = ap (λ got. Some (record { got = got; faults = uart.faults })) (grown-nothing uart.got)
 
 -- two texts that a UART got are one
-pub hearing_twice : (first second : List ℕ) (uart : Option UartView) → on (hearing second) (on (hearing first) uart) ≡ on (hearing (first ++ second)) uart
+pub hearing_twice : (first second : List ℕ) (uart : Option UartView) → on (uart_hearing second) (on (uart_hearing first) uart) ≡ on (uart_hearing (first ++ second)) uart
 hearing_twice first second None = refl
 hearing_twice first second (Some uart) = ap (λ got. Some (record { got = got; faults = uart.faults })) (grown_grown uart.got first second)
 
 -- a UART that failed after it got bytes failed as the one that it was before
-pub gone_later : (bytes : List ℕ) (uart mid now : Option UartView) (after : Option ℕ) → mid ≡ on (hearing bytes) uart → IsGone mid now after → IsGone uart now after
+pub gone_later : (bytes : List ℕ) (uart mid now : Option UartView) (after : Option ℕ) → mid ≡ on (uart_hearing bytes) uart → HasLostUart mid now after → HasLostUart uart now after
 gone_later bytes None mid now after first gone = absurd (none_some gone.before (sym first ∙ gone.stood))
 gone_later bytes (Some uart) mid now after first gone = record {
   before = uart;
@@ -63,16 +63,16 @@ gone_later bytes (Some uart) mid now after first gone = record {
   stood = refl;
   empty = gone.empty;
   marked = gone.marked;
-  rose = subst (λ faults. Rose faults gone.count) (sym (same_faults (hearing bytes uart) gone.before (sym first ∙ gone.stood))) gone.rose;
+  rose = subst (λ faults. Rose faults gone.count) (sym (same_faults (uart_hearing bytes uart) gone.before (sym first ∙ gone.stood))) gone.rose;
 }
 
 -- nothing stands at an empty place later
-pub gone_first : (bytes : List ℕ) (uart mid now : Option UartView) (mark after : Option ℕ) → IsGone uart mid mark → IsKept bytes mid mark now after → IsGone uart now after
+pub gone_first : (bytes : List ℕ) (uart mid now : Option UartView) (mark after : Option ℕ) → HasLostUart uart mid mark → TookAll bytes mid mark now after → HasLostUart uart now after
 gone_first bytes uart mid now mark after gone kept = record {
   before = gone.before;
   count = gone.count;
   stood = gone.stood;
-  empty = kept.stands ∙ ap (on (hearing bytes)) gone.empty;
+  empty = kept.stands ∙ ap (on (uart_hearing bytes)) gone.empty;
   marked = kept.same ∙ gone.marked;
   rose = gone.rose;
 }
@@ -80,7 +80,7 @@ gone_first bytes uart mid now mark after gone kept = record {
 -- one text and then another were said to a place
 pub heard_at_then : (first second : List ℕ) (uart mid now : Option UartView) (mark between after : Option ℕ) → IsHeardAt first uart mark mid between → IsHeardAt second mid between now after → IsHeardAt (first ++ second) uart mark now after
 heard_at_then first second uart mid now mark between after (inl kept) (inl more) = inl record {
-  stands = more.stands ∙ ap (on (hearing second)) kept.stands ∙ hearing_twice first second uart;
+  stands = more.stands ∙ ap (on (uart_hearing second)) kept.stands ∙ hearing_twice first second uart;
   same = more.same ∙ kept.same;
 }
 heard_at_then first second uart mid now mark between after (inl kept) (inr gone) = inr (gone_later first uart mid now after kept.stands gone)

@@ -32,5 +32,5 @@ abbrev pub mark_at : ℕ → List (Option ℕ) → Option ℕ
 mark_at place marks = slice_index_or marks place None
 
 -- the same places, and no mark
-abbrev pub begun : BoardView → BoardView
-begun board = record { places = board.places; marks = replicate 8 None }
+abbrev pub without_marks : BoardView → BoardView
+without_marks board = record { places = board.places; marks = replicate 8 None }

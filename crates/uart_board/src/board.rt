@@ -3,9 +3,9 @@
 ghost use Rattle.std.specs.Prelude.{◌≡◌, ℕ, ◌<◌, ◌⊎◌, ◌↔◌, None, Some, IfErr, IfOk, IfSome, IsNone, IsSome};
 ghost use Rattle.xm_outside.specs.Causes.{HasCause};
 ghost use Rattle.xm_outside.specs.Growth.{Receives};
-ghost use Rattle.uart_board.specs.Board.{IsLost, IsTaken, empty_board, lost, uart_at, unmarked, with_uart};
+ghost use Rattle.uart_board.specs.Board.{LosesUart, IsTaken, empty_board, lost, uart_at, unmarked, with_uart};
 ghost use Rattle.uart_board.specs.Heard.{IsHeard, said_to};
-ghost use Rattle.uart_board.specs.Views.{HasFailed, HasTaken, begun, mark_at};
+ghost use Rattle.uart_board.specs.Views.{HasFailed, HasTaken, without_marks, mark_at};
 
 use crate::views::{ViewBoard, ViewUart};
 use xm_outside::{Failed, Uart};
@@ -52,7 +52,7 @@ impl Board {
     /// Forgets all marks.
     pub fn begin(&mut self)
         ensures board { self.new ≡ unmarked self.old }
-        ensures view { ⟦<Board as ViewBoard>⟧.board_view self.new ≡ begun (⟦<Board as ViewBoard>⟧.board_view self.old) }
+        ensures view { ⟦<Board as ViewBoard>⟧.board_view self.new ≡ without_marks (⟦<Board as ViewBoard>⟧.board_view self.old) }
     {
         self.marks = [None; PLACES];
     }
@@ -64,7 +64,7 @@ impl Board {
         ensures empty { uart_at place self.old ≡ None → self.new ≡ self.old }
         ensures said { IfSome (uart_at place self.old) (λ uart.
             IsTaken ⟦<Box<dyn Uart> as ViewUart>⟧.uart_view place bytes.now uart self.old self.new
-            ⊎ IsLost ⟦<Box<dyn Uart> as ViewUart>⟧.uart_view place bytes.now uart self.old self.new) }
+            ⊎ LosesUart ⟦<Box<dyn Uart> as ViewUart>⟧.uart_view place bytes.now uart self.old self.new) }
         ensures heard { IsHeard (said_to place bytes.now) (⟦<Board as ViewBoard>⟧.board_view self.old) (⟦<Board as ViewBoard>⟧.board_view self.new) }
     {
         let Some(uart) = self.take(place) else {

@@ -4,7 +4,7 @@ use Rattle.std.proofs.lemmas.Bool.Decides.{nat_tests}
 use Rattle.std.specs.Prelude.{◌==◌, ◌^◌, if◌then◌else◌, is_some}
 use Rattle.std.proofs.Math.Nat.{add-mul-div_right, div-mul-le_self, lt-div-mul-add}
 use Rattle.std.proofs.lemmas.Nat.{div-mul-add}
-use Rattle.virt_clocks.specs.Clocks.{NoneCounted, PartitionClocks, counted, is_due, lesser, looked_at, moved_to, next_deadline, next_due, rearmed, ticks_until}
+use Rattle.virt_clocks.specs.Clocks.{NoneCounted, PartitionClocks, if_counting, is_due, lesser, looked_at, moved_to, next_deadline, next_due, rearmed, ticks_until}
 use Rattle.virt_clocks.specs.declared.timer.Timer.{Timer}
 
 -- a timer that is not due stays as it is
@@ -26,7 +26,7 @@ absent_second hardware None absent = refl
 absent_second None (Some timer) absent = cc
 absent_second (Some one) (Some timer) absent = cc
 
-counted_none : (running : Bool) → counted running None ≡ None
+counted_none : (running : Bool) → if_counting running None ≡ None
 counted_none true = refl
 counted_none false = refl
 
@@ -34,14 +34,14 @@ counted_none false = refl
 pub none_counted : (running : Bool) (clocks : PartitionClocks) → AreAbsent clocks.hardware_timer clocks.execution_timer → NoneCounted running clocks
 none_counted running clocks absent = record {
   hardware = absent_first clocks.hardware_timer clocks.execution_timer absent;
-  execution = ap (λ (timer : Option Timer). counted running timer) (absent_second clocks.hardware_timer clocks.execution_timer absent) ∙ counted_none running;
+  execution = ap (λ (timer : Option Timer). if_counting running timer) (absent_second clocks.hardware_timer clocks.execution_timer absent) ∙ counted_none running;
 }
 
 pub none_next : (now : ℕ) (running : Bool) (clocks : PartitionClocks) → AreAbsent clocks.hardware_timer clocks.execution_timer → None ≡ next_due now running clocks
 unfolding next_due
 none_next now running clocks absent =
     let none = none_counted running clocks absent in
-    sym (ap (λ (timer : Option Timer). lesser (ticks_until now timer) (ticks_until clocks.execution (counted running clocks.execution_timer))) none.hardware
+    sym (ap (λ (timer : Option Timer). lesser (ticks_until now timer) (ticks_until clocks.execution (if_counting running clocks.execution_timer))) none.hardware
     ∙ ap (λ (timer : Option Timer). lesser None (ticks_until clocks.execution timer)) none.execution)
 
 -- so many whole intervals, and less than one more

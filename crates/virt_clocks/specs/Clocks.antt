@@ -63,9 +63,9 @@ looked_at clock None = None
 looked_at clock (Some timer) = if nat_le timer.deadline clock then rearmed clock timer else Some timer
 
 -- a timer whose clock goes on, or none
-abbrev pub counted : Bool → Option Timer → Option Timer
-counted true timer = timer
-counted false timer = None
+abbrev pub if_counting : Bool → Option Timer → Option Timer
+if_counting true timer = timer
+if_counting false timer = None
 
 -- how many ticks are left until a timer is due, 0 where it is due at once
 abbrev pub ticks_until : ℕ → Option Timer → Option ℕ
@@ -81,18 +81,18 @@ lesser (Some one) (Some other) = Some (min one other)
 -- how many ticks are left until a timer is due if nothing changes. The execution timer is counted only where the partition runs
 unfoldable pub next_due : ℕ → Bool → PartitionClocks → Option ℕ
 next_due now running clocks =
-    lesser (ticks_until now clocks.hardware_timer) (ticks_until clocks.execution (counted running clocks.execution_timer))
+    lesser (ticks_until now clocks.hardware_timer) (ticks_until clocks.execution (if_counting running clocks.execution_timer))
 
 -- no timer is armed and counted
 pub record NoneCounted (running : Bool) (clocks : PartitionClocks) : Type 0 where
   pub hardware : clocks.hardware_timer ≡ None
-  pub execution : counted running clocks.execution_timer ≡ None
+  pub execution : if_counting running clocks.execution_timer ≡ None
 
 -- a timer is due when so many ticks have passed
 abbrev pub IsDueAfter : ℕ → Bool → PartitionClocks → ℕ → Type 0
 IsDueAfter now running clocks ticks =
     IsTrue (is_due (now + ticks) clocks.hardware_timer)
-    ⊎ IsTrue (is_due (clocks.execution + ticks) (counted running clocks.execution_timer))
+    ⊎ IsTrue (is_due (clocks.execution + ticks) (if_counting running clocks.execution_timer))
 
 -- a timer is due when so many ticks have passed, and none is due earlier
 pub record IsFirstDue (now : ℕ) (running : Bool) (clocks : PartitionClocks) (ticks : ℕ) : Type 0 where

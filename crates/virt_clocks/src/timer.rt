@@ -2,7 +2,7 @@
 
 ghost use Rattle.std.specs.Prelude.{◌≡◌, ◌↔◌, ℕ, ◌+◌, ◌-◌, ◌*◌, ◌/◌, ◌^◌, ◌<◌, ◌≤◌, ◌<ℤ◌, ◌⊎◌, pos, IsTrue, min};
 ghost use Rattle.std.specs.Option.{ForSome};
-ghost use Rattle.virt_clocks.specs.Clocks.{IsTimer, armed, counted, is_due, lesser, looked_at, moved_to, next_deadline, rearmed, ticks_until};
+ghost use Rattle.virt_clocks.specs.Clocks.{IsTimer, armed, if_counting, is_due, lesser, looked_at, moved_to, next_deadline, rearmed, ticks_until};
 
 /// The last deadline that a timer can have.
 const LAST: u64 = 0x7fff_ffff_ffff_ffff;
@@ -123,7 +123,7 @@ pub(crate) fn ticks_until(clock: u64, timer: Option<Timer>) -> Option<u64>
 
 /// A timer whose clock goes on.
 pub(crate) fn counted(running: bool, timer: Option<Timer>) -> Option<Timer>
-    ensures value { result ≡ counted running timer }
+    ensures value { result ≡ if_counting running timer }
 {
     if running { timer } else { None }
 }

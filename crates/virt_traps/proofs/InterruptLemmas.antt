@@ -6,21 +6,21 @@ use Rattle.std.proofs.lemmas.Bool.{cases_lt}
 use Rattle.std.proofs.lemmas.Bool.Decides.{nat_tests}
 use Rattle.std.proofs.lemmas.Nat.{and_le_l}
 use Rattle.std.proofs.lemmas.Nat.Bits.{bit_at-lt, bit_at-trailing_zeros, bit_at-zero, bit_at_and, bit_at_not}
-use Rattle.virt_traps.specs.Virtual.{IsLowestDue, NoneIsDue, VirtualTraps, due, first_due, is_due}
+use Rattle.virt_traps.specs.Virtual.{IsLowestDue, NoneIsDue, VirtualTraps, due, first_due, is_interrupt_due}
 
 -- where nothing is due from a number on
-first_due-none : (v : VirtualTraps) (from count : ℕ) → ((n : ℕ) → from ≤ n → n < from + count → is_due n v ≡ false) → first_due from count v ≡ None
+first_due-none : (v : VirtualTraps) (from count : ℕ) → ((n : ℕ) → from ≤ n → n < from + count → is_interrupt_due n v ≡ false) → first_due from count v ≡ None
 first_due-none v from zero none = refl
 first_due-none v from (suc count) none =
     rw (none from (omega arith) (omega arith)) (first_due-none v (suc from) count (λ n over under. none n (omega arith) (omega arith)))
 
 -- where a number is the first that is due
-first_due-some : (v : VirtualTraps) (from count n : ℕ) → from ≤ n → n < from + count → is_due n v ≡ true → ((lower : ℕ) → lower < n → is_due lower v ≡ false) → first_due from count v ≡ Some n
+first_due-some : (v : VirtualTraps) (from count n : ℕ) → from ≤ n → n < from + count → is_interrupt_due n v ≡ true → ((lower : ℕ) → lower < n → is_interrupt_due lower v ≡ false) → first_due from count v ≡ Some n
 first_due-some v from zero n over under here before = absurd (omega arith)
 first_due-some v from (suc count) n over under here before =
-    at (is_due from v) refl (λ beyond. first_due-some v (suc from) count n beyond (omega arith) here before)
+    at (is_interrupt_due from v) refl (λ beyond. first_due-some v (suc from) count n beyond (omega arith) here before)
   where
-    at : (waits : Bool) → is_due from v ≡ waits → (suc from ≤ n → first_due (suc from) count v ≡ Some n) → (if waits then Some from else first_due (suc from) count v) ≡ Some n
+    at : (waits : Bool) → is_interrupt_due from v ≡ waits → (suc from ≤ n → first_due (suc from) count v ≡ Some n) → (if waits then Some from else first_due (suc from) count v) ≡ Some n
     at true is later = ⊎_elim (λ below. let no = before from below in cc) (λ above. let same : from ≡ n = omega arith in ap Some same) (cases_lt from n)
     at false is later = ⊎_elim (λ below. later (omega arith)) (λ above. let same : from ≡ n = omega arith in cc) (cases_lt from n)
 
@@ -42,7 +42,7 @@ module _ (v : VirtualTraps) (pending : v.pending < 2 ^ 32) (mask : v.mask < 2 ^ 
   waiting = bit_and v.pending (bit_not w32 v.mask)
 
   -- one that is due is one of them
-  is_due-bit : (n : ℕ) → n < 32 → is_due n v ≡ (bit_at waiting n == 1)
+  is_due-bit : (n : ℕ) → n < 32 → is_interrupt_due n v ≡ (bit_at waiting n == 1)
   is_due-bit n below =
       one_only (bit_at v.pending n) (bit_at v.mask n) (bit_at-lt v.pending n) (bit_at-lt v.mask n)
       ∙ ap (λ bit. bit == 1) (sym (bit_at_and v.pending (bit_not w32 v.mask) n ∙ ap (min (bit_at v.pending n)) (bit_at_not w32 v.mask n mask below)))

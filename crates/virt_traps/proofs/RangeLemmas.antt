@@ -3,7 +3,7 @@ use Rattle.std.specs.Prelude.{◌≡◌, ℕ, ◌+◌, ◌%◌, ◌^◌, ◌≤�
 use Rattle.std.proofs.Common.{refl, arith, ⊎_elim}
 use Rattle.std.proofs.lemmas.Bool.{and_parts, cases_lt, leb-true}
 use Rattle.std.proofs.lemmas.Bool.Decides.{nat_tests}
-use Rattle.guest_bus.specs.Memory.{Area, covers, is_readable, is_writable}
+use Rattle.guest_bus.specs.Memory.{Area, holds_address, is_readable, is_writable}
 use Rattle.guest_bus.specs.Words.{allows}
 use Rattle.virt_traps.specs.SaveArea.{is_usable}
 use Rattle.guest_bus.specs.MemoryLemmas.{all_from-each, all_from-true}
@@ -42,7 +42,7 @@ or_readable false other false others one two is = two is
 pub readable : (areas : List Area) (q : ℕ) → is_writable areas q ≡ true → is_readable areas q ≡ true
 readable [] q is = is
 readable (area ∷ areas) q is =
-    or_readable (covers q area && not area.read_only) (is_writable areas q) (covers q area) (is_readable areas q) (λ both. (and_parts (covers q area) (not area.read_only) both).0)
+    or_readable (holds_address q area && not area.read_only) (is_writable areas q) (holds_address q area) (is_readable areas q) (λ both. (and_parts (holds_address q area) (not area.read_only) both).0)
     (readable areas q) is
 
 -- bytes that may be written may be read

@@ -10,7 +10,7 @@ use Rattle.sparc_step.specs.Undone.{IsUndone, turned-IsOrderly}
 use Rattle.sparc_step.specs.WindowTraps.{HasWindowTraps, turned-HasWindowTraps}
 use Rattle.sparc_step.specs.declared.outcome.Turn.{Turn}
 use Rattle.sparc_step.specs.declared.outcome.Turn.TheVariants.{Went, Trap, Call}
-use Rattle.virt_traps.specs.Moves.{Moved, fill_address, filled, made, refused, spill_address, spill_window, spilled}
+use Rattle.virt_traps.specs.Moves.{Moved, fill_address, filled, move_made, move_refused, spill_address, spill_window, spilled}
 use Rattle.virt_traps.specs.SaveArea.{is_usable}
 use Rattle.virt_traps.specs.Settled.{FailsAlone, GoesOn, IsUndoneButSpill, Unchanged, after_trap, again_or_trap, answered, made_again, settled}
 use Rattle.virt_traps.specs.declared.windows.StackFault.{StackFault}
@@ -28,7 +28,7 @@ pub spilled_keeps : (areas : List Area) (core : Registers) (memory : Memory) →
 unfolding spilled
 spilled_keeps areas core memory = at (is_usable (is_writable areas) (spill_address core)) _
   where
-    at : (usable : Bool) (new : Memory) → Keeps core memory ((core.inv + 7) % 8) (if usable then made (record core { inv = spill_window core }) new else refused core memory)
+    at : (usable : Bool) (new : Memory) → Keeps core memory ((core.inv + 7) % 8) (if usable then move_made (record core { inv = spill_window core }) new else move_refused core memory)
     at true new = record { pc = refl; npc = refl; cwp = refl; inv = λ is. refl; refused = λ is. absurd (no_fault is) }
       where
         no_fault : false ≡ true → ⊥
@@ -47,7 +47,7 @@ pub filled_keeps : (areas : List Area) (core : Registers) (memory : Memory) → 
 unfolding filled
 filled_keeps areas core memory = at (is_usable (is_readable areas) (fill_address core)) _
   where
-    at : (usable : Bool) (windows : List ℕ) → KeepsBytes core memory ((core.inv + 1) % 8) (if usable then made (record core { windows = windows; inv = (core.inv + 1) % 8 }) memory else refused core memory)
+    at : (usable : Bool) (windows : List ℕ) → KeepsBytes core memory ((core.inv + 1) % 8) (if usable then move_made (record core { windows = windows; inv = (core.inv + 1) % 8 }) memory else move_refused core memory)
     at true windows = record { keeps = record { pc = refl; npc = refl; cwp = refl; inv = λ is. refl; refused = λ is. absurd (no_fault is) }; bytes = refl }
       where
         no_fault : false ≡ true → ⊥
@@ -163,7 +163,7 @@ module _ (areas : List Area) (core : Registers) (memory : Memory) where
           let keeps = filled_keeps areas core memory in
           let first = turned-HasWindowTraps areas core memory in
           let word = ap (fetched areas (filled areas core memory).memory) keeps.keeps.pc ∙ ap (λ m. fetched areas m core.pc) keeps.bytes in
-          first.after_underflow underflow (filled areas core memory).core (filled areas core memory).memory word (valid (first.underflow underflow) keeps.keeps.cwp (keeps.keeps.inv made))
+          first.after_underflow underflow (filled areas core memory).core (filled areas core memory).memory word (valid (first.underflow underflow) keeps.keeps.cwp (keeps.keeps.inv move_made))
 
   -- where it was refused
   fill_refused : (turned areas core memory).turn ≡ Trap 6 → IsErr (filled areas core memory).answer → IsSettled areas core memory (trapped 6 (filled areas core memory).core (filled areas core memory).memory)

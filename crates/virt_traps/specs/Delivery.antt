@@ -3,7 +3,7 @@ use Rattle.std.specs.Prelude.{◌≡◌, ℕ, ◌+◌, ◌*◌, ◌/◌, ◌%◌
 use Rattle.std.specs.Int.{bit_at}
 use Rattle.guest_bus.specs.Memory.{Area, Memory, is_readable}
 use Rattle.sparc_step.specs.Registers.{Registers, in_window, register_at, with_register}
-use Rattle.virt_traps.specs.Moves.{Moved, fill_address, filled, made, spilled}
+use Rattle.virt_traps.specs.Moves.{Moved, fill_address, filled, move_made, spilled}
 use Rattle.virt_traps.specs.SaveArea.{is_usable}
 use Rattle.virt_traps.specs.Virtual.{VirtualTraps}
 use Rattle.virt_traps.specs.declared.delivery.IretFault.{IretFault}
@@ -24,7 +24,7 @@ enabled_of psr = bit_at psr 5 == 1
 
 -- the window below made free: a spill where it is the invalid one
 unfoldable pub freed_below : List Area → Registers → Memory → Moved
-freed_below areas core memory = if (core.cwp + 7) % 8 == core.inv then spilled areas core memory else made core memory
+freed_below areas core memory = if (core.cwp + 7) % 8 == core.inv then spilled areas core memory else move_made core memory
 
 -- the registers in the window below, whose locals 0 to 2 have the virtual PSR and the two program counters
 unfoldable pub entered_below : Bool → Registers → Registers
@@ -63,7 +63,7 @@ are_aligned core = (register_at core 17 % 4 == 0) && (register_at core 18 % 4 ==
 
 -- the window above brought back: a fill where it is the invalid one
 unfoldable pub brought_above : List Area → Registers → Memory → Moved
-brought_above areas core memory = if (core.cwp + 1) % 8 == core.inv then filled areas core memory else made core memory
+brought_above areas core memory = if (core.cwp + 1) % 8 == core.inv then filled areas core memory else move_made core memory
 
 -- the registers in the window above, with the condition codes of a PSR and these program counters
 unfoldable pub restored : ℕ → ℕ → ℕ → Registers → Registers

@@ -13,12 +13,12 @@ pub record Moved : Type 0 where
   pub memory : Memory
 
 -- one that was made
-abbrev pub made : Registers → Memory → Moved
-made core memory = record { answer = Ok tt; core = core; memory = memory }
+abbrev pub move_made : Registers → Memory → Moved
+move_made core memory = record { answer = Ok tt; core = core; memory = memory }
 
 -- one whose stack could not be used; it changed nothing
-abbrev pub refused : Registers → Memory → Moved
-refused core memory = record { answer = Err (record {}); core = core; memory = memory }
+abbrev pub move_refused : Registers → Memory → Moved
+move_refused core memory = record { answer = Err (record {}); core = core; memory = memory }
 
 -- the window that a spill stores: the one below the invalid one
 abbrev pub spill_window : Registers → ℕ
@@ -32,8 +32,8 @@ spill_address core = register_of core.windows (spill_window core) 14
 unfoldable pub spilled : List Area → Registers → Memory → Moved
 spilled areas core memory =
     if is_usable (is_writable areas) (spill_address core)
-    then made (record core { inv = spill_window core }) (with_bytes memory (spill_address core) (bytes_of (saved core.windows (spill_window core))))
-    else refused core memory
+    then move_made (record core { inv = spill_window core }) (with_bytes memory (spill_address core) (bytes_of (saved core.windows (spill_window core))))
+    else move_refused core memory
 
 -- where the invalid window is loaded from: the current window's frame pointer, register 30
 unfoldable pub fill_address : Registers → ℕ
@@ -43,5 +43,5 @@ fill_address core = register_of core.windows core.cwp 30
 unfoldable pub filled : List Area → Registers → Memory → Moved
 filled areas core memory =
     if is_usable (is_readable areas) (fill_address core)
-    then made (record core { windows = with_registers core.windows core.inv 16 (words_at memory (fill_address core) 16); inv = (core.inv + 1) % 8 }) memory
-    else refused core memory
+    then move_made (record core { windows = with_registers core.windows core.inv 16 (words_at memory (fill_address core) 16); inv = (core.inv + 1) % 8 }) memory
+    else move_refused core memory

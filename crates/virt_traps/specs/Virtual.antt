@@ -22,17 +22,17 @@ unfoldable pub raised : ℕ → VirtualTraps → VirtualTraps
 raised n v = record v { pending = bit_or v.pending (2 ^ n) }
 
 -- interrupt n is no longer pending
-unfoldable pub cleared : ℕ → VirtualTraps → VirtualTraps
-cleared n v = record v { pending = bit_and v.pending (bit_not w32 (2 ^ n)) }
+unfoldable pub interrupt_cleared : ℕ → VirtualTraps → VirtualTraps
+interrupt_cleared n v = record v { pending = bit_and v.pending (bit_not w32 (2 ^ n)) }
 
 -- interrupt n is pending, and it is not masked
-abbrev pub is_due : ℕ → VirtualTraps → Bool
-is_due n v = (bit_at v.pending n == 1) && (bit_at v.mask n == 0)
+abbrev pub is_interrupt_due : ℕ → VirtualTraps → Bool
+is_interrupt_due n v = (bit_at v.pending n == 1) && (bit_at v.mask n == 0)
 
 -- the first interrupt that is due, of so many from one on
 abbrev pub first_due : ℕ → ℕ → VirtualTraps → Option ℕ
 first_due from zero v = None
-first_due from (suc count) v = if is_due from v then Some from else first_due (suc from) count v
+first_due from (suc count) v = if is_interrupt_due from v then Some from else first_due (suc from) count v
 
 -- the lowest of the 32 interrupts that is due
 unfoldable pub due : VirtualTraps → Option ℕ
@@ -40,10 +40,10 @@ due v = first_due 0 32 v
 
 -- none of the 32 interrupts is due
 abbrev pub NoneIsDue : VirtualTraps → Type 0
-NoneIsDue v = (n : ℕ) → n < 32 → IsFalse (is_due n v)
+NoneIsDue v = (n : ℕ) → n < 32 → IsFalse (is_interrupt_due n v)
 
 -- interrupt n is due, and no lower one is
 pub record IsLowestDue (v : VirtualTraps) (n : ℕ) : Type 0 where
   pub below : n < 32
-  pub waits : IsTrue (is_due n v)
-  pub lowest : (lower : ℕ) → lower < n → IsFalse (is_due lower v)
+  pub waits : IsTrue (is_interrupt_due n v)
+  pub lowest : (lower : ℕ) → lower < n → IsFalse (is_interrupt_due lower v)

@@ -4,7 +4,7 @@ ghost use Rattle.std.specs.Prelude.{◌≡◌, ◌<◌, ◌↔◌, IfSome, IsNon
 ghost use Rattle.virt_traps.specs.Virtual.{
   IsLowestDue,
   NoneIsDue,
-  cleared,
+  interrupt_cleared,
   due,
   no_traps,
   raised,
@@ -59,10 +59,10 @@ impl Virt {
     }
 
     /// Makes interrupt n no longer pending.
-    #[tactic(auto, unfolding(crate::specs::Virtual::cleared))]
+    #[tactic(auto, unfolding(crate::specs::Virtual::interrupt_cleared))]
     pub fn clear(&mut self, n: u8)
         requires { n < 32 }
-        ensures value { self.new ≡ cleared n self.old }
+        ensures value { self.new ≡ interrupt_cleared n self.old }
     {
         self.pending &= !(1 << n);
     }

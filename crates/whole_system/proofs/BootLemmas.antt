@@ -6,7 +6,7 @@ use Rattle.std.specs.Prelude.{Some, false, slice_get}
 use Rattle.std.specs.FinMap.{empty}
 use Rattle.cyclic_plans.specs.PlanClock.{CyclicClock, started as plan_start}
 use Rattle.guest_bus.specs.Memory.{Area, Memory}
-use Rattle.guest_memory.specs.Loading.{areas_of, loaded}
+use Rattle.guest_memory.specs.Loading.{memory_areas, areas_with_image}
 use Rattle.guest_memory.specs.Memories.{Memories, areas_at, with_map}
 use Rattle.loaded_system.specs.System.{IsSystem, System}
 use Rattle.machine_model.specs.Lists.{table}
@@ -32,24 +32,24 @@ loaded-length (part ∷ parts) (image ∷ images) same = ap suc (loaded-length p
 
 -- it has the image of the partition
 pub loaded-there : (parts : List Part) (images : List Image) (p : ℕ) (image : Image) → p < length parts → image ≡ get_or images p image → p < length images
-    → get_or (loaded_all parts images) p empty ≡ loaded (get_or (map areas_of parts) p []) image
+    → get_or (loaded_all parts images) p empty ≡ areas_with_image (get_or (map memory_areas parts) p []) image
 loaded-there [] images p image below is within = absurd (omega (arith, below))
 loaded-there (part ∷ parts) [] p image below is within = absurd (omega (arith, within))
-loaded-there (part ∷ parts) (first ∷ images) zero image below is within = ap (loaded (areas_of part)) (sym is)
+loaded-there (part ∷ parts) (first ∷ images) zero image below is within = ap (areas_with_image (memory_areas part)) (sym is)
 loaded-there (part ∷ parts) (first ∷ images) (suc p) image below is within = loaded-there parts images p image (omega (arith, below)) is (omega (arith, within))
 
 -- one image more is loaded
-pub load_more : (parts : List Part) (images : List Image) (memories new : Memories) (p : ℕ) (image : Image) → memories.areas ≡ map areas_of parts → length memories.maps ≡ length parts → length images ≡ length parts → p < length parts → slice_get images p ≡ Some image
-    → new ≡ with_map p (loaded (areas_at p memories) image) memories → ((q : ℕ) → q < p → get_or memories.maps q empty ≡ get_or (loaded_all parts images) q empty)
+pub load_more : (parts : List Part) (images : List Image) (memories new : Memories) (p : ℕ) (image : Image) → memories.areas ≡ map memory_areas parts → length memories.maps ≡ length parts → length images ≡ length parts → p < length parts → slice_get images p ≡ Some image
+    → new ≡ with_map p (areas_with_image (areas_at p memories) image) memories → ((q : ℕ) → q < p → get_or memories.maps q empty ≡ get_or (loaded_all parts images) q empty)
     → (q : ℕ) → q < p + 1 → get_or new.maps q empty ≡ get_or (loaded_all parts images) q empty
 load_more parts images memories new p image areas held same below there is before =
     below_more (λ q. get_or new.maps q empty ≡ get_or (loaded_all parts images) q empty) p
     (λ q h.
     let differs : q ≢ p = omega arith in
-    ap (λ (m : Memories). get_or m.maps q empty) is ∙ get_or-set_other memories.maps p q (loaded (areas_at p memories) image) empty differs ∙ before q h)
+    ap (λ (m : Memories). get_or m.maps q empty) is ∙ get_or-set_other memories.maps p q (areas_with_image (areas_at p memories) image) empty differs ∙ before q h)
     (ap (λ (m : Memories). get_or m.maps p empty) is
-    ∙ get_or-set_same memories.maps p (loaded (areas_at p memories) image) empty (omega (arith, held))
-    ∙ ap (λ (areas : List (List Area)). loaded (get_or areas p []) image) areas
+    ∙ get_or-set_same memories.maps p (areas_with_image (areas_at p memories) image) empty (omega (arith, held))
+    ∙ ap (λ (areas : List (List Area)). areas_with_image (get_or areas p []) image) areas
     ∙ sym (loaded-there parts images p image below (sym (get_or_from_slice_get images p image image there)) (omega (arith, same))))
 
 -- all are loaded
@@ -64,7 +64,7 @@ load_end parts images memories p held same end before =
 
 -- partitions with their memories and input words, by what each is
 along_table : (parts : List Part) (images : List Image) (inputs : List (List ℕ)) (f : ℕ → PartitionState) → length images ≡ length parts → length inputs ≡ length parts
-    → ((q : ℕ) → q < length parts → with_memory (booted_own (get_or images q no_image).entry) (loaded (areas_of (get_or parts q no_part)) (get_or images q no_image)) (get_or inputs q []) ≡ f q)
+    → ((q : ℕ) → q < length parts → with_memory (booted_own (get_or images q no_image).entry) (areas_with_image (memory_areas (get_or parts q no_part)) (get_or images q no_image)) (get_or inputs q []) ≡ f q)
     → with_memories (booted_owns images) (loaded_all parts images) inputs ≡ table f (length parts)
 along_table [] [] inputs f same given each = refl
 along_table [] (image ∷ images) inputs f same given each = absurd (omega (arith, same))
@@ -76,8 +76,8 @@ along_table (part ∷ parts) (image ∷ images) (words ∷ inputs) f same given 
 
 -- one partition as it boots
 part_boots : (system : System) (inputs : List (List ℕ)) (q : ℕ)
-    → with_memory (booted_own (get_or system.images q no_image).entry) (loaded (areas_of (get_or system.conf.parts q no_part)) (get_or system.images q no_image)) (get_or inputs q []) ≡ booted_part (with_inputs system inputs) q
-unfolding booted_own model.booted model.loaded model.areas_of view_of part_of
+    → with_memory (booted_own (get_or system.images q no_image).entry) (areas_with_image (memory_areas (get_or system.conf.parts q no_part)) (get_or system.images q no_image)) (get_or inputs q []) ≡ booted_part (with_inputs system inputs) q
+unfolding booted_own model.booted model.loaded_memory model.areas_of view_of part_of
 part_boots system inputs q = refl
 
 -- all of them

@@ -4,7 +4,7 @@ use Rattle.std.proofs.lemmas.Bool.Decides.{nat_tests}
 use Rattle.std.proofs.lemmas.List.{get_or-map, set-set}
 use Rattle.std.specs.Prelude.{◌==◌, ◌&&◌, ◌||◌, Bool, Ok, nat_le, nat_lt, not, slice_get}
 use Rattle.guest_bus.specs.MemoryLemmas.{all_from-each, all_from-true, bytes_at-with_bytes}
-use Rattle.guest_memory.specs.Loading.{areas_of}
+use Rattle.guest_memory.specs.Loading.{memory_areas}
 use Rattle.machine_model.specs.Partition.{PartitionState}
 use Rattle.machine_model.specs.Told.{Words}
 use Rattle.machine_model.specs.Traffic.{Still, told_as}
@@ -14,7 +14,7 @@ use Rattle.whole_system.specs.declared.served.Act.{Act}
 use Rattle.whole_system.specs.declared.served.Act.TheVariants as act
 use Rattle.whole_system.specs.declared.served.Note.TheVariants.{Saw}
 use Rattle.whole_system.specs.StateLemmas.{part_set}
-use Rattle.guest_bus.specs.Memory.{Area, all_from, covers, is_readable, is_writable}
+use Rattle.guest_bus.specs.Memory.{Area, all_from, holds_address, is_readable, is_writable}
 use Rattle.guest_memory.specs.Memories.{Memories, answer_by, areas_at, first_refused}
 use Rattle.guest_memory.specs.RefusedLemmas.{none_refused}
 use Rattle.machine_model.specs.Caller.{Caller, invalid_parameter, is_room, refused_if, room, target, text, with_answer, with_written}
@@ -23,7 +23,7 @@ use Rattle.machine_model.specs.View.{named, no_part, part_of, view_of}
 use Rattle.xm_conf.specs.Configuration.{Conf, Part}
 use Rattle.xm_conf.specs.View.{counts_seen, is_system, sees}
 use Rattle.whole_system.specs.Serving.{IsServed, IsUponOne, MayRead, caller_of, own_traffic, untraded, upshot_of}
-use Rattle.whole_system.specs.State.{OwnState, SysState, areas_in, memory_of, part_at, with_machine, with_memory, with_own, with_part, words_of}
+use Rattle.whole_system.specs.State.{OwnState, SysState, areas_in, memory_of, part_at, with_machine, with_memory, with_own, with_part, input_words_of}
 use Rattle.whole_system.specs.declared.call_site.CallSite.{CallSite}
 
 -- the flag of a partition, read either way
@@ -85,11 +85,11 @@ pub target_seen : (site : CallSite) (sys : SysState) (id count : ℕ) → site.p
 target_seen site sys id count below differs system counted = target_other (caller_of site sys) id count (λ same. differs (same ∙ id_seen site sys)) system (counted ∙ sym (sees_parts site sys below system))
 
 -- the areas of a partition among all memories
-pub areas_kept : (sys : SysState) (memories : Memories) (p : ℕ) → memories.areas ≡ map areas_of sys.machine.system.conf.parts → p < length sys.machine.system.conf.parts → areas_at p memories ≡ areas_in p sys.machine
+pub areas_kept : (sys : SysState) (memories : Memories) (p : ℕ) → memories.areas ≡ map memory_areas sys.machine.system.conf.parts → p < length sys.machine.system.conf.parts → areas_at p memories ≡ areas_in p sys.machine
 unfolding part_of
 areas_kept sys memories p is below =
     ap (λ (areas : List (List Area)). get_or areas p []) is
-    ∙ get_or-map areas_of sys.machine.system.conf.parts p no_part [] below
+    ∙ get_or-map memory_areas sys.machine.system.conf.parts p no_part [] below
 
 -- one area and the others: what may be written of them may be read
 one_readable : (here may others reads : Bool) → (others ≡ true → reads ≡ true) → ((here && may) || others) ≡ true → (here || reads) ≡ true
@@ -99,7 +99,7 @@ one_readable false may others reads further is = further is
 -- a byte that may be written may be read
 byte_readable : (areas : List Area) (q : ℕ) → is_writable areas q ≡ true → is_readable areas q ≡ true
 byte_readable [] q is = is
-byte_readable (area ∷ areas) q is = one_readable (covers q area) (not area.read_only) (is_writable areas q) (is_readable areas q) (byte_readable areas q) is
+byte_readable (area ∷ areas) q is = one_readable (holds_address q area) (not area.read_only) (is_writable areas q) (is_readable areas q) (byte_readable areas q) is
 
 -- bytes that may be written may be read
 pub room_readable : (site : CallSite) (sys : SysState) (address size : ℕ) → is_room (caller_of site sys) address size ≡ true → all_from (is_readable (areas_in site.part sys.machine)) address size ≡ true
@@ -110,7 +110,7 @@ room_readable site sys address size is =
 
 -- a partition's state that is set, and then answered
 pub answered_set : (sys mid new : SysState) (p value : ℕ) (ps : PartitionState) (own : OwnState) → p < length sys.machine.parts → mid ≡ with_machine (with_part p ps sys.machine) sys
-    → part_at p mid.machine ≡ with_memory own (memory_of p mid.machine) (words_of p mid.machine)
+    → part_at p mid.machine ≡ with_memory own (memory_of p mid.machine) (input_words_of p mid.machine)
     → new ≡ with_machine (with_own p (record own { core = with_register own.core 8 value }) mid.machine) mid → new ≡ with_machine (with_part p (with_answer value ps) sys.machine) sys
 unfolding with_answer
 answered_set sys mid new p value ps own below mid_is own_is new_is =

@@ -6,7 +6,7 @@ use Rattle.std.specs.FinMap.{empty}
 use Rattle.std.specs.List.{list_any}
 use Rattle.std.specs.Prelude.{IfOk, OnOk, Result, Ok, Err, Some, slice_get}
 use Rattle.guest_bus.specs.Memory.{Area, Memory, with_bytes}
-use Rattle.guest_memory.specs.Loading.{areas_of, loaded}
+use Rattle.guest_memory.specs.Loading.{memory_areas, areas_with_image}
 use Rattle.guest_memory.specs.Memories.{Memories, areas_at, map_at, with_map, with_selected}
 use Rattle.machine_model.specs.Caller.{with_written}
 use Rattle.machine_model.specs.Partition.{PartitionState}
@@ -14,7 +14,7 @@ use Rattle.machine_model.specs.Partition as model
 use Rattle.machine_model.specs.View.{no_image, no_part, part_of, view_of}
 use Rattle.xef_images.specs.Image.{Image}
 use Rattle.xm_ports.specs.Ports.{with_port}
-use Rattle.whole_system.specs.State.{IsKeptSo, OwnState, SysState, any_timed, areas_in, booted_own, is_timed, kept_so, memory_of, part_at, with_machine, with_memory, with_own, with_part, words_of}
+use Rattle.whole_system.specs.State.{IsKeptSo, OwnState, SysState, any_timed, areas_in, booted_own, is_timed, kept_so, memory_of, part_at, with_machine, with_memory, with_own, with_part, input_words_of}
 use Rattle.whole_system.specs.declared.sys.Sys.TheInside.{Inside}
 use Rattle.whole_system.proofs.PartsLemmas as parts
 
@@ -57,7 +57,7 @@ is_in_inputs a sys p kept is below = omega (arith, is_kept a sys p kept is below
 -- and has areas
 pub is_in_memories : (a : Inside) (sys : SysState) (p : ℕ) → IsKept a → seen a ≡ sys → p < length sys.machine.parts → p < length a.ram.areas
 is_in_memories a sys p kept is below =
-    omega (arith, is_kept a sys p kept is below, kept.counted, ap length kept.areas, length-map a.system.conf.parts areas_of)
+    omega (arith, is_kept a sys p kept is below, kept.counted, ap length kept.areas, length-map a.system.conf.parts memory_areas)
 
 -- its state
 pub is_part : (a : Inside) (sys : SysState) (p : ℕ) (own : OwnState) → IsKept a → seen a ≡ sys → p < length sys.machine.parts → own ≡ get_or a.parts.items p own
@@ -72,12 +72,12 @@ pub is_memory : (a : Inside) (sys : SysState) (p : ℕ) (own : OwnState) → IsK
 is_memory a sys p own kept is below here = ap (λ (ps : PartitionState). ps.memory) (is_part a sys p own kept is below here)
 
 -- its input words
-pub is_words : (a : Inside) (sys : SysState) (p : ℕ) → seen a ≡ sys → words_of p sys.machine ≡ get_or a.inputs p []
-is_words a sys p is = ap (λ (s : SysState). words_of p s.machine) (sym is)
+pub is_words : (a : Inside) (sys : SysState) (p : ℕ) → seen a ≡ sys → input_words_of p sys.machine ≡ get_or a.inputs p []
+is_words a sys p is = ap (λ (s : SysState). input_words_of p s.machine) (sym is)
 
 -- its state, with its memory and its input words as they are seen
 pub is_lent_value : (a : Inside) (sys : SysState) (p : ℕ) (own : OwnState) → IsKept a → seen a ≡ sys → p < length sys.machine.parts → own ≡ get_or a.parts.items p own
-    → part_at p sys.machine ≡ with_memory own (memory_of p sys.machine) (words_of p sys.machine)
+    → part_at p sys.machine ≡ with_memory own (memory_of p sys.machine) (input_words_of p sys.machine)
 is_lent_value a sys p own kept is below here =
     is_part a sys p own kept is below here
     ∙ ap (λ (m : Memory). with_memory own m (get_or a.inputs p [])) (sym (is_memory a sys p own kept is below here))
@@ -88,7 +88,7 @@ pub is_areas : (a : Inside) (sys : SysState) (p : ℕ) → IsKept a → seen a �
 unfolding part_of
 is_areas a sys p kept is below =
     ap (λ (areas : List (List Area)). get_or areas p []) kept.areas
-    ∙ get_or-map areas_of a.system.conf.parts p no_part [] (omega (arith, is_kept a sys p kept is below, kept.counted))
+    ∙ get_or-map memory_areas a.system.conf.parts p no_part [] (omega (arith, is_kept a sys p kept is below, kept.counted))
     ∙ ap (λ (s : SysState). areas_in p s.machine) is
 
 -- what is known of a partition whose state is borrowed
@@ -184,18 +184,18 @@ is_copied a sys p address bytes ram kept is below ram_is =
 
 -- an image as it is loaded anew
 loads : (a : Inside) (sys : SysState) (p : ℕ) (image : Image) → IsKept a → seen a ≡ sys → p < length sys.machine.parts → slice_get a.system.images p ≡ Some image
-    → loaded (areas_at p a.ram) image ≡ model.loaded (view_of sys.machine.system p)
-unfolding model.loaded model.areas_of view_of
+    → areas_with_image (areas_at p a.ram) image ≡ model.loaded_memory (view_of sys.machine.system p)
+unfolding model.loaded_memory model.areas_of view_of
 loads a sys p image kept is below there =
-    ap (λ (areas : List Area). loaded areas image) (is_areas a sys p kept is below)
-    ∙ ap (λ (i : Image). loaded (areas_in p sys.machine) i) (sym (get_or_from_slice_get a.system.images p image no_image there))
-    ∙ ap (λ (s : SysState). loaded (areas_in p sys.machine) (get_or s.machine.system.images p no_image)) is
+    ap (λ (areas : List Area). areas_with_image areas image) (is_areas a sys p kept is below)
+    ∙ ap (λ (i : Image). areas_with_image (areas_in p sys.machine) i) (sym (get_or_from_slice_get a.system.images p image no_image there))
+    ∙ ap (λ (s : SysState). areas_with_image (areas_in p sys.machine) (get_or s.machine.system.images p no_image)) is
 
 -- with the image of one partition loaded
-pub is_reloaded : (a : Inside) (sys : SysState) (p : ℕ) (image : Image) (ram : Memories) → IsKept a → seen a ≡ sys → p < length sys.machine.parts → slice_get a.system.images p ≡ Some image → ram ≡ with_map p (loaded (areas_at p a.ram) image) a.ram
-    → seen_with a a.parts.items ram ≡ with_machine (with_part p (record (part_at p sys.machine) { memory = model.loaded (view_of sys.machine.system p) }) sys.machine) sys
+pub is_reloaded : (a : Inside) (sys : SysState) (p : ℕ) (image : Image) (ram : Memories) → IsKept a → seen a ≡ sys → p < length sys.machine.parts → slice_get a.system.images p ≡ Some image → ram ≡ with_map p (areas_with_image (areas_at p a.ram) image) a.ram
+    → seen_with a a.parts.items ram ≡ with_machine (with_part p (record (part_at p sys.machine) { memory = model.loaded_memory (view_of sys.machine.system p) }) sys.machine) sys
 is_reloaded a sys p image ram kept is below there ram_is =
-    is_rewritten a sys p (loaded (areas_at p a.ram) image) ram kept is below ram_is
+    is_rewritten a sys p (areas_with_image (areas_at p a.ram) image) ram kept is below ram_is
     ∙ ap (λ (m : Memory). with_machine (with_part p (record (part_at p sys.machine) { memory = m }) sys.machine) sys) (loads a sys p image kept is below there)
 
 -- a partition is one of the configuration

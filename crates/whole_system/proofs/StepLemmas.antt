@@ -13,7 +13,7 @@ use Rattle.sparc_step.specs.declared.outcome.Turn.TheVariants.{Call, Trap, Went}
 use Rattle.straight_runs.specs.Runs.{AreSteps, steps_then}
 use Rattle.virt_traps.specs.Stepping.{stepped, then_settled}
 use Rattle.machine_model.specs.ProcessorCalls.{flushed, flushed_after}
-use Rattle.virt_traps.specs.Moves.{Moved, made, spilled}
+use Rattle.virt_traps.specs.Moves.{Moved, move_made, spilled}
 use Rattle.virt_traps.specs.Settled.{GoesOn, IsUndoneButSpill, settled}
 use Rattle.virt_traps.specs.declared.windows.StackFault.{StackFault}
 use Rattle.whole_system.specs.Stepping.{IsGone, IsMoved, with_turned}
@@ -111,11 +111,11 @@ called_seen turn before after seen_before seen_after before_is after_is goes cal
     (subst (λ (x : PartitionState). GoesOn before.core x.core) (sym after_is) (goes call))
 
 -- what a spill or a fill came to, by its parts
-moved_is : (moved : Moved) (core : Registers) (memory : Memory) → moved.answer ≡ Ok tt → core ≡ moved.core → memory ≡ moved.memory → moved ≡ made core memory
+moved_is : (moved : Moved) (core : Registers) (memory : Memory) → moved.answer ≡ Ok tt → core ≡ moved.core → memory ≡ moved.memory → moved ≡ move_made core memory
 moved_is moved core memory answer core_is memory_is = λ i. record { answer = answer i; core = sym core_is i; memory = sym memory_is i }
 
 -- a flush ends where all windows but the current one are spilled
-pub flush_ended : (count : ℕ) (areas : List Area) (core : Registers) (memory : Memory) → (core.cwp + 1) % 8 ≡ core.inv → flushed count areas (made core memory) ≡ made core memory
+pub flush_ended : (count : ℕ) (areas : List Area) (core : Registers) (memory : Memory) → (core.cwp + 1) % 8 ≡ core.inv → flushed count areas (move_made core memory) ≡ move_made core memory
 flush_ended zero areas core memory all = refl
 flush_ended (suc count) areas core memory all =
     let test : ((core.cwp + 1) % 8 == core.inv) ≡ true = grind (arith, nat_tests) in
@@ -123,7 +123,7 @@ flush_ended (suc count) areas core memory all =
 
 -- otherwise it spills one
 flush_spills : (left count : ℕ) (areas : List Area) (core : Registers) (memory : Memory) → left ≡ suc count → (core.cwp + 1) % 8 ≢ core.inv
-    → flushed left areas (made core memory) ≡ flushed_after (flushed count areas) (spilled areas core memory) (spilled areas core memory).answer
+    → flushed left areas (move_made core memory) ≡ flushed_after (flushed count areas) (spilled areas core memory) (spilled areas core memory).answer
 flush_spills left count areas core memory left_is some =
     let test : ((core.cwp + 1) % 8 == core.inv) ≡ false = grind (arith, nat_tests) in
     rw (left_is, test)
@@ -131,7 +131,7 @@ flush_spills left count areas core memory left_is some =
 -- and goes on behind it
 pub flush_more : (left count : ℕ) (areas : List Area) (core new : Registers) (memory newest : Memory) → left ≡ suc count → (core.cwp + 1) % 8 ≢ core.inv
     → (spilled areas core memory).answer ≡ Ok tt → new ≡ (spilled areas core memory).core → newest ≡ (spilled areas core memory).memory
-    → flushed left areas (made core memory) ≡ flushed count areas (made new newest)
+    → flushed left areas (move_made core memory) ≡ flushed count areas (move_made new newest)
 flush_more left count areas core new memory newest left_is some answer core_is memory_is =
     flush_spills left count areas core memory left_is some
     ∙ ap (flushed_after (flushed count areas) (spilled areas core memory)) answer
@@ -139,7 +139,7 @@ flush_more left count areas core new memory newest left_is some answer core_is m
 
 -- unless its stack cannot be used
 pub flush_refused : (left count : ℕ) (areas : List Area) (core : Registers) (memory : Memory) (fault : StackFault) → left ≡ suc count → (core.cwp + 1) % 8 ≢ core.inv
-    → (spilled areas core memory).answer ≡ Err fault → flushed left areas (made core memory) ≡ spilled areas core memory
+    → (spilled areas core memory).answer ≡ Err fault → flushed left areas (move_made core memory) ≡ spilled areas core memory
 flush_refused left count areas core memory fault left_is some answer =
     flush_spills left count areas core memory left_is some
     ∙ ap (flushed_after (flushed count areas) (spilled areas core memory)) answer

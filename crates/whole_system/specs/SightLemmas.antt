@@ -19,14 +19,14 @@ abbrev pub shown_for : Machine → Caller → Option Observation → Sight
 shown_for g caller observed = sight_for g caller.view observed
 
 -- the call by its number
-abbrev pub numbered : Caller → ℕ → Option Observation
-numbered caller n = if caller.view.part.system then observing caller.view n (a_of caller) (b_of caller) (c_of caller) else None
+abbrev pub observation_numbered : Caller → ℕ → Option Observation
+observation_numbered caller n = if caller.view.part.system then observing caller.view n (a_of caller) (b_of caller) (c_of caller) else None
 
 -- a caller is shown what the call of its number observes
 pub sight_of_number : (site : CallSite) (sys : SysState) (n : ℕ) → register_at (caller_of site sys).state.core 8 ≡ n
-    → (caller_of site sys).sight ≡ shown_for sys.machine (caller_of site sys) (numbered (caller_of site sys) n)
+    → (caller_of site sys).sight ≡ shown_for sys.machine (caller_of site sys) (observation_numbered (caller_of site sys) n)
 unfolding caller_of
-sight_of_number site sys n is = ap (λ number. shown_for sys.machine (caller_of site sys) (numbered (caller_of site sys) number)) is
+sight_of_number site sys n is = ap (λ number. shown_for sys.machine (caller_of site sys) (observation_numbered (caller_of site sys) number)) is
 
 -- what is shown of a partition that there is
 pub shown_there : (g : Machine) (id : ℕ) (show : PartitionState → Sight) → id < length g.parts → shown_of (slice_get g.parts id) show ≡ show (part_at id g)

@@ -3,11 +3,11 @@ use Rattle.std.specs.Prelude.{◌≡◌, ℕ, Bool, List, [], ◌∷◌, length,
 use Rattle.std.specs.List.{list_any}
 use Rattle.cyclic_plans.specs.PlanClock.{CyclicClock}
 use Rattle.guest_bus.specs.Memory.{Area, Memory}
-use Rattle.guest_memory.specs.Loading.{areas_of, loaded}
+use Rattle.guest_memory.specs.Loading.{memory_areas, areas_with_image}
 use Rattle.guest_memory.specs.Memories.{Memories}
 use Rattle.health_monitor.specs.declared.entry.HealthEntry.{HealthEntry}
 use Rattle.loaded_system.specs.System as loaded_system
-use Rattle.sparc_step.specs.Registers.{Registers, started}
+use Rattle.sparc_step.specs.Registers.{Registers, registers_started}
 use Rattle.virt_clocks.specs.Clocks.{PartitionClocks, no_clocks}
 use Rattle.virt_traps.specs.Virtual.{VirtualTraps, no_traps}
 use Rattle.xef_images.specs.Image.{Image}
@@ -39,7 +39,7 @@ pub record OwnState : Type 0 where
 -- a partition as it boots
 unfoldable pub booted_own : ℕ → OwnState
 booted_own entry = record {
-  core = started entry;
+  core = registers_started entry;
   virt = no_traps;
   clocks = no_clocks;
   state = Ready;
@@ -111,7 +111,7 @@ kept_so system inputs owns memories channels clock time ticks resets halted = re
 pub record IsKeptSo (system : loaded_system.System) (inputs : List (List ℕ)) (owns : List OwnState) (memories : Memories) : Type 0 where
   pub counted : length owns ≡ length system.conf.parts
   pub given : length inputs ≡ length system.conf.parts
-  pub areas : memories.areas ≡ map areas_of system.conf.parts
+  pub areas : memories.areas ≡ map memory_areas system.conf.parts
   pub held : length memories.maps ≡ length system.conf.parts
 
 -- the memory of a partition, its areas, and all of its input words
@@ -119,10 +119,10 @@ abbrev pub memory_of : ℕ → Machine → Memory
 memory_of p g = (part_at p g).memory
 
 abbrev pub areas_in : ℕ → Machine → List Area
-areas_in p g = areas_of (part_of g.system.conf p)
+areas_in p g = memory_areas (part_of g.system.conf p)
 
-abbrev pub words_of : ℕ → Machine → List ℕ
-words_of p g = slice_index_or g.system.inputs p []
+abbrev pub input_words_of : ℕ → Machine → List ℕ
+input_words_of p g = slice_index_or g.system.inputs p []
 
 -- the system with this machine
 abbrev pub with_machine : Machine → SysState → SysState
@@ -130,10 +130,10 @@ with_machine g sys = record sys { machine = g }
 
 -- the machine with another state of one partition, whose memory stays
 abbrev pub with_own : ℕ → OwnState → Machine → Machine
-with_own p own g = with_part p (with_memory own (memory_of p g) (words_of p g)) g
+with_own p own g = with_part p (with_memory own (memory_of p g) (input_words_of p g)) g
 
 -- the memories with the images of partitions loaded
 abbrev pub loaded_all : List Part → List Image → List Memory
 loaded_all [] images = []
 loaded_all (part ∷ parts) [] = []
-loaded_all (part ∷ parts) (image ∷ images) = loaded (areas_of part) image ∷ loaded_all parts images
+loaded_all (part ∷ parts) (image ∷ images) = areas_with_image (memory_areas part) image ∷ loaded_all parts images

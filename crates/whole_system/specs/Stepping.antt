@@ -6,7 +6,7 @@ use Rattle.sparc_step.specs.Registers.{Registers}
 use Rattle.sparc_step.specs.declared.outcome.Turn.{Turn}
 use Rattle.sparc_step.specs.declared.outcome.Turn.TheVariants.{Went, Trap, Call}
 use Rattle.virt_traps.specs.Delivery.{Delivered, Returned, delivered, returned}
-use Rattle.virt_traps.specs.Moves.{Moved, made}
+use Rattle.virt_traps.specs.Moves.{Moved, move_made}
 use Rattle.virt_traps.specs.Settled.{IsUndoneButSpill, settled}
 use Rattle.virt_traps.specs.declared.windows.StackFault.{StackFault}
 use Rattle.machine_model.specs.Partition.{PartitionState}
@@ -44,7 +44,7 @@ behind_return r ps = record ps { core = r.core; traps = r.traps }
 
 -- the flush of a partition's windows
 abbrev pub flushed_in : List Area → PartitionState → Moved
-flushed_in areas ps = flushed 8 areas (made ps.core ps.memory)
+flushed_in areas ps = flushed 8 areas (move_made ps.core ps.memory)
 
 -- answer, registers and memory are those of windows that were moved
 pub record IsMoved (answer : Result (Unit {0}) StackFault) (core : Registers) (memory : Memory) (moved : Moved) : Type 0 where

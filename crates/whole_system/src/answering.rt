@@ -2,7 +2,7 @@
 
 ghost use Rattle.std.specs.Prelude.{◌≡◌, ◌+◌, ◌<◌, ◌==◌, if◌then◌else◌, true, [], ◌∷◌, IfNone, length};
 ghost use Rattle.sparc_step.specs.Registers.{register_at};
-ghost use Rattle.machine_model.specs.Caller.{answering, bytes_of, is_room, refused_if, room, system_only, target, tested, text, with_answer, with_written};
+ghost use Rattle.machine_model.specs.Caller.{answering, caller_bytes, is_room, refused_if, room, system_only, target, tested, text, with_answer, with_written};
 ghost use Rattle.machine_model.specs.Told.{Unseen, Words};
 ghost use Rattle.whole_system.specs.Serving.{IsCaller, IsServed, IsUponOne, MayRead, caller_of, upshot_of};
 ghost use Rattle.whole_system.specs.Shown.{seen_when};
@@ -130,7 +130,7 @@ pub fn text(sys: &Sys, site: CallSite, address: u32, size: u32) -> Option<u32>
 pub fn read(sys: &Sys, site: CallSite, address: u32, into: &mut [u8])
     requires caller { IsCaller site sys.now }
     requires readable { MayRead (caller_of site sys.now) address (length into.old) }
-    ensures { into.new ≡ bytes_of (caller_of site sys.now) address (length into.old) }
+    ensures { into.new ≡ caller_bytes (caller_of site sys.now) address (length into.old) }
 {
     // It tells that there is a memory for each partition.
     let _count = sys.count();

@@ -1,7 +1,7 @@
 //! The partitions of a system as they boot.
 
 ghost use Rattle.std.specs.Prelude.{◌≡◌, ◌≤◌, IfOk, map, length};
-ghost use Rattle.guest_memory.specs.Loading.{areas_of, zeros_in};
+ghost use Rattle.guest_memory.specs.Loading.{memory_areas, zeros_in};
 ghost use Rattle.loaded_system.specs.System.{IsSystem};
 ghost use Rattle.whole_system.specs.State.{booted_own, loaded_all};
 
@@ -13,7 +13,7 @@ use xm_base::Memory;
 
 /// The memories of a system's partitions, with their images loaded.
 pub(crate) fn load(alloc: Global, system: &System) -> Result<Ram, Memory>
-    ensures areas { IfOk result (λ ram. ram.areas ≡ map areas_of system.now.conf.parts) }
+    ensures areas { IfOk result (λ ram. ram.areas ≡ map memory_areas system.now.conf.parts) }
     ensures maps { IfOk result (λ ram. ram.maps ≡ loaded_all system.now.conf.parts system.now.images) }
 {
     let mut ram = Ram::new(alloc, system.conf())?;
@@ -23,7 +23,7 @@ pub(crate) fn load(alloc: Global, system: &System) -> Result<Ram, Memory>
 
 // Loads the image of each partition.
 fn load_images(ram: &mut Ram, system: &System)
-    requires areas { ram.old.areas ≡ map areas_of system.now.conf.parts }
+    requires areas { ram.old.areas ≡ map memory_areas system.now.conf.parts }
     ensures areas { ram.new.areas ≡ ram.old.areas }
     ensures maps { ram.new.maps ≡ loaded_all system.now.conf.parts system.now.images }
 {

@@ -4,7 +4,7 @@ ghost use Rattle.std.specs.Prelude.{◌≡◌, ◌%◌, ◌<◌, OnErr, length};
 ghost use Rattle.guest_memory.specs.Memories.{areas_at, map_at, with_map, with_selected};
 ghost use Rattle.virt_traps.specs.Stepping.{stepped};
 ghost use Rattle.virt_traps.specs.Delivery.{delivered, returned};
-ghost use Rattle.virt_traps.specs.Moves.{made};
+ghost use Rattle.virt_traps.specs.Moves.{move_made};
 ghost use Rattle.virt_traps.specs.Settled.{GoesOn, settled};
 ghost use Rattle.machine_model.specs.ProcessorCalls.{flushed};
 ghost use Rattle.whole_system.specs.Stepping.{IsGone, IsMoved};
@@ -132,9 +132,9 @@ fn return_at_hand<B: Bus>(
 /// Spills the windows of partition `p`, all but the current one.
 pub(crate) fn flush_part(core: &mut Processor, ram: &mut Ram, p: PartId) -> Result<(), StackFault>
     requires { p < length ram.old.areas }
-    ensures answer { result ≡ (flushed 8 (areas_at p ram.old) (made core.old (map_at p ram.old))).answer }
-    ensures core { core.new ≡ (flushed 8 (areas_at p ram.old) (made core.old (map_at p ram.old))).core }
-    ensures memory { ram.new ≡ with_selected p (with_map p (flushed 8 (areas_at p ram.old) (made core.old (map_at p ram.old))).memory ram.old) }
+    ensures answer { result ≡ (flushed 8 (areas_at p ram.old) (move_made core.old (map_at p ram.old))).answer }
+    ensures core { core.new ≡ (flushed 8 (areas_at p ram.old) (move_made core.old (map_at p ram.old))).core }
+    ensures memory { ram.new ≡ with_selected p (with_map p (flushed 8 (areas_at p ram.old) (move_made core.old (map_at p ram.old))).memory ram.old) }
 {
     select(ram, p);
     // It is selected before and behind the spills.
@@ -146,7 +146,7 @@ pub(crate) fn flush_part(core: &mut Processor, ram: &mut Ram, p: PartId) -> Resu
 
 // Spills windows until all but the current one are, of registers at hand.
 fn flush_at_hand<B: Bus>(processor: &mut Processor, bus: &mut B) -> Result<(), StackFault>
-    ensures moved { IsMoved result processor.new (B.memory bus.new) (flushed 8 (B.areas bus.old) (made processor.old (B.memory bus.old))) }
+    ensures moved { IsMoved result processor.new (B.memory bus.new) (flushed 8 (B.areas bus.old) (move_made processor.old (B.memory bus.old))) }
     ensures areas { B.areas bus.new ≡ B.areas bus.old }
     ensures others { B.others bus.new ≡ B.others bus.old }
 {
@@ -158,7 +158,7 @@ fn flush_at_hand<B: Bus>(processor: &mut Processor, bus: &mut B) -> Result<(), S
 
 // Spills windows until all but the current one are.
 fn flush<B: Bus>(core: &mut Core, bus: &mut B) -> Result<(), StackFault>
-    ensures moved { IsMoved result core.new (B.memory bus.new) (flushed 8 (B.areas bus.old) (made core.old (B.memory bus.old))) }
+    ensures moved { IsMoved result core.new (B.memory bus.new) (flushed 8 (B.areas bus.old) (move_made core.old (B.memory bus.old))) }
     ensures areas { B.areas bus.new ≡ B.areas bus.old }
     ensures others { B.others bus.new ≡ B.others bus.old }
 {

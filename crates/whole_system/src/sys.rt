@@ -4,7 +4,7 @@ ghost use Rattle.std.specs.Prelude.{◌≡◌, ◌+◌, ◌-◌, ◌%◌, ◌^�
 ghost use Rattle.std.specs.Borrow.{sem};
 ghost use Rattle.cyclic_plans.specs.PlanClock.{AsksPlan, IsInFrame, ended, entered_plan};
 ghost use Rattle.guest_bus.specs.Memory.{all_from, is_readable, is_writable};
-ghost use Rattle.guest_memory.specs.Loading.{areas_of};
+ghost use Rattle.guest_memory.specs.Loading.{memory_areas};
 ghost use Rattle.guest_memory.specs.Memories.{answer_by, first_refused};
 ghost use Rattle.loaded_system.specs.System.{IsSystem};
 ghost use Rattle.virt_traps.specs.Settled.{GoesOn, settled};
@@ -12,12 +12,12 @@ ghost use Rattle.xef_images.specs.Image.{IsImage};
 ghost use Rattle.xm_ports.specs.Channels.{shapes_of};
 ghost use Rattle.xm_ports.specs.Ports.{created, with_port};
 ghost use Rattle.machine_model.specs.Caller.{with_written};
-ghost use Rattle.machine_model.specs.Health.{behind};
+ghost use Rattle.machine_model.specs.Health.{after_delivery};
 ghost use Rattle.machine_model.specs.LocalTick.{turned_state};
 ghost use Rattle.machine_model.specs.Machine.{start};
-ghost use Rattle.machine_model.specs.Partition.{loaded, resets_after};
+ghost use Rattle.machine_model.specs.Partition.{loaded_memory, resets_after};
 ghost use Rattle.machine_model.specs.View.{view_of};
-ghost use Rattle.whole_system.specs.State.{any_timed, areas_in, memory_of, part_at, with_inputs, with_machine, with_memory, with_part, words_of};
+ghost use Rattle.whole_system.specs.State.{any_timed, areas_in, memory_of, part_at, with_inputs, with_machine, with_memory, with_part, input_words_of};
 ghost use Rattle.whole_system.specs.Lending.{LendsChannels, LendsPart, LendsPlanClock};
 ghost use Rattle.virt_traps.specs.Stepping.{stepped};
 ghost use Rattle.whole_system.specs.Stepping.{IsGone, behind_flush, behind_return, delivered_to, flushed_in, returned_in, with_turned};
@@ -126,7 +126,7 @@ impl Sys {
     /// The state of a partition.
     pub fn part(&self, p: PartId) -> &PartState
         requires { p < length self.now.machine.parts }
-        ensures value { part_at p self.now.machine ≡ with_memory result.now (memory_of p self.now.machine) (words_of p self.now.machine) }
+        ensures value { part_at p self.now.machine ≡ with_memory result.now (memory_of p self.now.machine) (input_words_of p self.now.machine) }
     {
         &self.parts[usize::from(p)]
     }
@@ -135,14 +135,14 @@ impl Sys {
     pub fn part_mut(&mut self, p: PartId) -> &mut PartState
         requires { p < length self.now.machine.parts }
         ensures* lent { sem 𝓛 (LendsPart self.entry p result) }
-        ensures value { part_at p self.old.machine ≡ with_memory result.now (memory_of p self.old.machine) (words_of p self.old.machine) }
+        ensures value { part_at p self.old.machine ≡ with_memory result.now (memory_of p self.old.machine) (input_words_of p self.old.machine) }
     {
         &mut self.parts[usize::from(p)]
     }
 
     /// The memories of all partitions.
     pub fn ram(&self) -> &Ram
-        ensures areas { result.now.areas ≡ map areas_of self.now.machine.system.conf.parts }
+        ensures areas { result.now.areas ≡ map memory_areas self.now.machine.system.conf.parts }
         ensures maps { result.now.maps ≡ map (λ part. part.memory) self.now.machine.parts }
     {
         &self.ram
@@ -167,7 +167,7 @@ impl Sys {
     /// An input word of a partition, or `None` behind its last.
     pub fn input(&self, p: PartId, place: usize) -> Option<u32>
         requires { p < length self.now.machine.parts }
-        ensures value { result ≡ slice_get (words_of p self.now.machine) place }
+        ensures value { result ≡ slice_get (input_words_of p self.now.machine) place }
         ensures few { IfSome result (λ word. place + 1 < 2 ^ 64) }
     {
         self.inputs.word(p, place)
@@ -341,7 +341,7 @@ impl Sys {
     pub fn deliver_to(&mut self, p: PartId, tt: u8) -> Result<(), StackFault>
         requires { p < length self.old.machine.parts }
         ensures answer { result ≡ (delivered_to tt (areas_in p self.old.machine) (part_at p self.old.machine)).answer }
-        ensures value { self.new ≡ with_machine (with_part p (behind (delivered_to tt (areas_in p self.old.machine) (part_at p self.old.machine)) (part_at p self.old.machine)) self.old.machine) self.old }
+        ensures value { self.new ≡ with_machine (with_part p (after_delivery (delivered_to tt (areas_in p self.old.machine) (part_at p self.old.machine)) (part_at p self.old.machine)) self.old.machine) self.old }
         ensures unchanged { OnErr result (self.new ≡ self.old) }
     {
         let own = &mut self.parts[usize::from(p)];
@@ -391,7 +391,7 @@ impl Sys {
     /// Loads a partition's image, and makes all other bytes of its memory zero.
     pub fn reload(&mut self, p: PartId)
         requires { p < length self.old.machine.parts }
-        ensures value { self.new ≡ with_machine (with_part p (record (part_at p self.old.machine) { memory = loaded (view_of self.old.machine.system p) }) self.old.machine) self.old }
+        ensures value { self.new ≡ with_machine (with_part p (record (part_at p self.old.machine) { memory = loaded_memory (view_of self.old.machine.system p) }) self.old.machine) self.old }
     {
         self.ram.reload(p, self.system.image(p));
     }

@@ -1,4 +1,7 @@
 pub mod Ascii
+pub mod DigestLemmas
+pub mod ElfLemmas
 pub mod Fronts
 pub mod Loads
+pub mod SortLemmas
 pub mod Sorting

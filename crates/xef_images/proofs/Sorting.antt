@@ -13,8 +13,8 @@ use Rattle.std.proofs.lemmas.Bool.Decides.{Decides-eqb, nat_tests}
 use Rattle.std.proofs.lemmas.List.Elements.{filter_agree, recursion_from_All}
 use Rattle.xef_images.specs.Image.{Segment}
 use Rattle.xef_images.specs.ImageLemmas.{Decides-nat_le, above_lower}
-use Rattle.xef_images.specs.Elf.{among, sorted}
-use Rattle.xef_images.specs.SortLemmas.{all_among}
+use Rattle.xef_images.specs.Elf.{inserted_by_address, sorted}
+use Rattle.xef_images.proofs.SortLemmas.{all_among}
 
 -- whether a segment begins at the address
 abbrev begins : ℕ → Segment → Bool
@@ -86,7 +86,7 @@ one_order (x ∷ xs) (y ∷ ys) first second same = at (cases_lt x.address y.add
         ap (λ z. z ∷ xs) e ∙ ap (λ zs. y ∷ zs) rest
 
 -- what is put among others stands there at its address, before those that begin there
-among_begins : (address : ℕ) (segment : Segment) (others : List Segment) → filter (begins address) (among segment others) ≡ filter (begins address) (segment ∷ others)
+among_begins : (address : ℕ) (segment : Segment) (others : List Segment) → filter (begins address) (inserted_by_address segment others) ≡ filter (begins address) (segment ∷ others)
 among_begins address segment [] = refl
 among_begins address segment (other ∷ others) = at (nat_le segment.address other.address) refl (among_begins address segment others)
   where
@@ -96,8 +96,8 @@ among_begins address segment (other ∷ others) = at (nat_le segment.address oth
     swap false true rest apart = refl
     swap false false rest apart = refl
 
-    at : (test : Bool) → nat_le segment.address other.address ≡ test → filter (begins address) (among segment others) ≡ filter (begins address) (segment ∷ others)
-        → filter (begins address) (cond test (segment ∷ other ∷ others) (other ∷ among segment others)) ≡ filter (begins address) (segment ∷ other ∷ others)
+    at : (test : Bool) → nat_le segment.address other.address ≡ test → filter (begins address) (inserted_by_address segment others) ≡ filter (begins address) (segment ∷ others)
+        → filter (begins address) (cond test (segment ∷ other ∷ others) (other ∷ inserted_by_address segment others)) ≡ filter (begins address) (segment ∷ other ∷ others)
     at true is more = refl
     at false is more =
         ap (λ rest. cond (begins address other) (other ∷ rest) rest) more
@@ -113,11 +113,11 @@ sorted_begins address (segment ∷ others) =
     among_begins address segment (sorted others) ∙ ap (λ rest. cond (begins address segment) (segment ∷ rest) rest) (sorted_begins address others)
 
 -- what is put among ordered segments is in order there
-among_ordered : (segment : Segment) (others : List Segment) → IsOrdered others → IsOrdered (among segment others)
+among_ordered : (segment : Segment) (others : List Segment) → IsOrdered others → IsOrdered (inserted_by_address segment others)
 among_ordered segment [] order = (tt, tt)
 among_ordered segment (other ∷ others) order = at (nat_le segment.address other.address) refl (among_ordered segment others order.1)
   where
-    at : (test : Bool) → nat_le segment.address other.address ≡ test → IsOrdered (among segment others) → IsOrdered (cond test (segment ∷ other ∷ others) (other ∷ among segment others))
+    at : (test : Bool) → nat_le segment.address other.address ≡ test → IsOrdered (inserted_by_address segment others) → IsOrdered (cond test (segment ∷ other ∷ others) (other ∷ inserted_by_address segment others))
     at true is more =
         let before : segment.address ≤ other.address = (Decides-nat_le segment.address other.address).0 is in
         ((before, above_lower segment.address other.address others before order.0), order)

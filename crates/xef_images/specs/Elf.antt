@@ -15,8 +15,8 @@ abbrev pub half : List ℕ → ℕ → ℕ
 half bytes place = from_be_bytes w16 (take 2 (drop place bytes))
 
 -- the number of four bytes at a place
-abbrev pub word : List ℕ → ℕ → ℕ
-word bytes place = from_be_bytes w32 (take 4 (drop place bytes))
+abbrev pub elf_word : List ℕ → ℕ → ℕ
+elf_word bytes place = from_be_bytes w32 (take 4 (drop place bytes))
 
 -- the file begins as ELF
 unfoldable pub is_magic : List ℕ → Bool
@@ -28,7 +28,7 @@ is_class bytes = (slice_index bytes 4 == 1) && (slice_index bytes 5 == 2) && (sl
 
 -- an executable, for SPARC, version 1
 unfoldable pub is_machine : List ℕ → Bool
-is_machine bytes = (half bytes 16 == 2) && (half bytes 18 == 2) && (word bytes 20 == 1)
+is_machine bytes = (half bytes 16 == 2) && (half bytes 18 == 2) && (elf_word bytes 20 == 1)
 
 -- how many program headers there are, each of 32 bytes, or what is wrong with the head of the file
 unfoldable pub header_count : List ℕ → Result ℕ ElfFault
@@ -44,11 +44,11 @@ header_count bytes =
 unfoldable pub header_at : List ℕ → ℕ → Header
 header_at bytes place = record {
   place = place;
-  kind = word bytes place;
-  offset = word bytes (place + 4);
-  address = word bytes (place + 8);
-  count = word bytes (place + 16);
-  memory = word bytes (place + 20);
+  kind = elf_word bytes place;
+  offset = elf_word bytes (place + 4);
+  address = elf_word bytes (place + 8);
+  count = elf_word bytes (place + 16);
+  memory = elf_word bytes (place + 20);
 }
 
 -- a header of type 1 with some memory is loaded
@@ -87,14 +87,14 @@ loads bytes before place (suc count) = do
   Ok (first ++ others)
 
 -- a segment among others that are sorted by address, before those with its address
-abbrev pub among : Segment → List Segment → List Segment
-among segment [] = segment ∷ []
-among segment (other ∷ others) = if nat_le segment.address other.address then segment ∷ other ∷ others else other ∷ among segment others
+abbrev pub inserted_by_address : Segment → List Segment → List Segment
+inserted_by_address segment [] = segment ∷ []
+inserted_by_address segment (other ∷ others) = if nat_le segment.address other.address then segment ∷ other ∷ others else other ∷ inserted_by_address segment others
 
 -- segments sorted by address
 abbrev pub sorted : List Segment → List Segment
 sorted [] = []
-sorted (segment ∷ others) = among segment (sorted others)
+sorted (segment ∷ others) = inserted_by_address segment (sorted others)
 
 -- the address of the first segment that begins before the one before it ends, the first of all behind the floor
 abbrev pub overlap : ℕ → List Segment → Option ℕ
@@ -119,5 +119,5 @@ verdict entry segments =
 unfoldable pub elf : List ℕ → Result Image ElfFault
 elf bytes = do
   count ← header_count bytes
-  segments ← loads bytes 0 (word bytes 28) count
-  verdict (word bytes 24) (sorted segments) >>= λ _. Ok (record { entry = word bytes 24; segments = sorted segments })
+  segments ← loads bytes 0 (elf_word bytes 28) count
+  verdict (elf_word bytes 24) (sorted segments) >>= λ _. Ok (record { entry = elf_word bytes 24; segments = sorted segments })

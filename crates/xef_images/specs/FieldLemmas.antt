@@ -29,9 +29,9 @@ pub record Passed {A : Type 0} (test : Bool) (value end : A) : Type 0 where
   pub is : value ≡ end
 
 -- what did not fail has passed its test
-pub passed : {A : Type 0} (test : Bool) (fault : XefFault) (value end : A) → unless test fault value ≡ Ok end → Passed test value end
-passed true fault value end e = record { true = refl; is = cc }
-passed false fault value end e = absurd cc
+pub test_passed : {A : Type 0} (test : Bool) (fault : XefFault) (value end : A) → unless test fault value ≡ Ok end → Passed test value end
+test_passed true fault value end e = record { true = refl; is = cc }
+test_passed false fault value end e = absurd cc
 
 -- a text stands at a place, and behind it a place with the bytes that are left
 pub record Takes (place : Place) (text : List ℕ) (after : Place) : Type 0 where
@@ -110,7 +110,7 @@ pub listed_takes : (w : Width) (limit : ℕ) (wide : IsWide w limit) (test : ℕ
     → Takes place (to_be_bytes w n) after × (n < limit) × (test n ≡ true)
 listed_takes w limit wide test place n after each e =
     let s = stepped (number_at w place) (λ field. unless (test field.0) (Field place.at) field) (n, after) e in
-    let p = passed (test s.value.0) (Field place.at) s.value (n, after) s.led in
+    let p = test_passed (test s.value.0) (Field place.at) s.value (n, after) s.led in
     let t = number_takes w limit wide place s.value.0 s.value.1 each s.is in
     let P : ℕ × Place → Type 0 = λ x. Takes place (to_be_bytes w x.0) x.1 × (x.0 < limit) × (test x.0 ≡ true) in
     subst P p.is (t.0, t.1, p.true)

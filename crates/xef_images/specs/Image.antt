@@ -25,18 +25,18 @@ pub record IsSegment (segment : Segment) : Type 0 where
   pub fits : length segment.bytes ≤ segment.memory
 
 -- each segment ends before all those behind it begin
-abbrev pub AreApart : List Segment → Type 0
-AreApart [] = Unit {0}
-AreApart (segment ∷ later) = AllByRecursion (λ other. end_of segment ≤ other.address) later × AreApart later
+abbrev pub SegmentsApart : List Segment → Type 0
+SegmentsApart [] = Unit {0}
+SegmentsApart (segment ∷ later) = AllByRecursion (λ other. end_of segment ≤ other.address) later × SegmentsApart later
 
 -- the address is in the memory of a segment
-abbrev pub Covers : ℕ → Segment → Type 0
-Covers address segment = (segment.address ≤ address) × (address < end_of segment)
+abbrev pub HasAddress : ℕ → Segment → Type 0
+HasAddress address segment = (segment.address ≤ address) × (address < end_of segment)
 
 -- the address is in the memory of one of the segments
 abbrev pub IsInside : ℕ → List Segment → Type 0
 IsInside address [] = ⊥
-IsInside address (segment ∷ others) = Covers address segment ⊎ IsInside address others
+IsInside address (segment ∷ others) = HasAddress address segment ⊎ IsInside address others
 
 -- the bytes of all segments, one after the other
 abbrev pub contents : List Segment → List ℕ
@@ -55,7 +55,7 @@ pub record IsImage (image : Image) : Type 0 where
   pub some : 1 ≤ length image.segments
   pub most : length image.segments ≤ 8
   pub each : AllByRecursion IsSegment image.segments
-  pub apart : AreApart image.segments
+  pub apart : SegmentsApart image.segments
   pub aligned : image.entry % 4 ≡ 0
   pub inside : IsInside image.entry image.segments
   pub short : xef_length image.segments < 2 ^ 32

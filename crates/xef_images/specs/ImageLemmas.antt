@@ -4,8 +4,8 @@ use Rattle.std.specs.Bool.{Decides}
 use Rattle.std.specs.List.{AllByRecursion}
 use Rattle.std.proofs.Common.{refl, arith}
 use Rattle.std.proofs.lemmas.Bool.Decides.{Decides-and, Decides-or, Decides-eqb, Decides-like, nat_tests}
-use Rattle.xef_images.specs.Image.{Image, Segment, end_of, IsSegment, AreApart, Covers, IsInside, IsImage, xef_length}
-use Rattle.xef_images.specs.Tests.{is_covered, is_placed, are_placed, is_inside, is_entry, is_image}
+use Rattle.xef_images.specs.Image.{Image, Segment, end_of, IsSegment, SegmentsApart, HasAddress, IsInside, IsImage, xef_length}
+use Rattle.xef_images.specs.Tests.{is_covered, is_placed, are_placed, is_in_memory, is_entry, is_image}
 
 -- the order of numbers is decided
 pub Decides-nat_le : (a b : ℕ) → Decides (nat_le a b) (a ≤ b)
@@ -16,9 +16,9 @@ pub Decides-nat_lt : (a b : ℕ) → Decides (nat_lt a b) (a < b)
 Decides-nat_lt a b = grind (arith, nat_tests)
 
 -- segments stand one behind the other, the first of them behind the floor
-abbrev pub RiseFrom : ℕ → List Segment → Type 0
-RiseFrom floor [] = Unit {0}
-RiseFrom floor (segment ∷ later) = ((floor ≤ segment.address) × IsSegment segment) × RiseFrom (end_of segment) later
+abbrev pub SegmentsRiseFrom : ℕ → List Segment → Type 0
+SegmentsRiseFrom floor [] = Unit {0}
+SegmentsRiseFrom floor (segment ∷ later) = ((floor ≤ segment.address) × IsSegment segment) × SegmentsRiseFrom (end_of segment) later
 
 -- none of them begins before the floor
 abbrev pub AreAbove : ℕ → List Segment → Type 0
@@ -30,7 +30,7 @@ above_lower low floor [] lower above = tt
 above_lower low floor (segment ∷ later) lower above = (omega (arith, above.0), above_lower low floor later lower above.1)
 
 -- segments that are apart stand one behind the other
-pub rise_from_apart : (floor : ℕ) (segments : List Segment) → AllByRecursion IsSegment segments → AreApart segments → AreAbove floor segments → RiseFrom floor segments
+pub rise_from_apart : (floor : ℕ) (segments : List Segment) → AllByRecursion IsSegment segments → SegmentsApart segments → AreAbove floor segments → SegmentsRiseFrom floor segments
 rise_from_apart floor [] each apart above = tt
 rise_from_apart floor (segment ∷ later) each apart above =
     ((above.0, each.0), rise_from_apart (end_of segment) later each.1 apart.1 apart.0)
@@ -38,11 +38,11 @@ rise_from_apart floor (segment ∷ later) each apart above =
 -- what rises
 pub record Risen (floor : ℕ) (segments : List Segment) : Type 0 where
   pub each : AllByRecursion IsSegment segments
-  pub apart : AreApart segments
+  pub apart : SegmentsApart segments
   pub above : AreAbove floor segments
 
 -- segments that stand one behind the other are apart
-pub apart_from_rise : (floor : ℕ) (segments : List Segment) → RiseFrom floor segments → Risen floor segments
+pub apart_from_rise : (floor : ℕ) (segments : List Segment) → SegmentsRiseFrom floor segments → Risen floor segments
 apart_from_rise floor [] rise = record { each = tt; apart = tt; above = tt }
 apart_from_rise floor (segment ∷ later) rise =
     let rest = apart_from_rise (end_of segment) later rise.1 in
@@ -67,17 +67,17 @@ is_placed-Decides floor segment =
     (Decides-nat_lt segment.memory (2 ^ 32))) (Decides-nat_le (end_of segment) (2 ^ 32))) (Decides-nat_le (length segment.bytes) segment.memory))
 
 -- whether segments stand one behind the other is decided
-pub are_placed-Decides : (floor : ℕ) (segments : List Segment) → Decides (are_placed floor segments) (RiseFrom floor segments)
+pub are_placed-Decides : (floor : ℕ) (segments : List Segment) → Decides (are_placed floor segments) (SegmentsRiseFrom floor segments)
 are_placed-Decides floor [] = (λ _. tt, λ _. refl)
 are_placed-Decides floor (segment ∷ later) =
     Decides-and _ _ (is_placed-Decides floor segment) (are_placed-Decides (end_of segment) later)
 
 -- whether an address is in the memory of a segment is decided
-pub is_covered-Decides : (address : ℕ) (segment : Segment) → Decides (is_covered address segment) (Covers address segment)
+pub is_covered-Decides : (address : ℕ) (segment : Segment) → Decides (is_covered address segment) (HasAddress address segment)
 is_covered-Decides address segment = Decides-and _ _ (Decides-nat_le segment.address address) (Decides-nat_lt address (end_of segment))
 
 -- whether an address is in the memory of one of the segments is decided
-pub is_inside-Decides : (address : ℕ) (segments : List Segment) → Decides (is_inside address segments) (IsInside address segments)
+pub is_inside-Decides : (address : ℕ) (segments : List Segment) → Decides (is_in_memory address segments) (IsInside address segments)
 is_inside-Decides address [] = (λ e. absurd cc, λ e. absurd e)
 is_inside-Decides address (segment ∷ others) =
     Decides-or _ _ (is_covered-Decides address segment) (is_inside-Decides address others)
@@ -87,7 +87,7 @@ pub is_entry-Decides : (address : ℕ) (segments : List Segment) → Decides (is
 is_entry-Decides address segments = Decides-and _ _ (Decides-eqb (address % 4) 0) (is_inside-Decides address segments)
 
 -- an image by the parts that are tested
-pub image_from_parts : (image : Image) → 1 ≤ length image.segments → length image.segments ≤ 8 → RiseFrom 0 image.segments → (image.entry % 4 ≡ 0) × IsInside image.entry image.segments → xef_length image.segments < 2 ^ 32 → IsImage image
+pub image_from_parts : (image : Image) → 1 ≤ length image.segments → length image.segments ≤ 8 → SegmentsRiseFrom 0 image.segments → (image.entry % 4 ≡ 0) × IsInside image.entry image.segments → xef_length image.segments < 2 ^ 32 → IsImage image
 image_from_parts image some most rise entry short =
     let risen = apart_from_rise 0 image.segments rise in
     record { some = some; most = most; each = risen.each; apart = risen.apart; aligned = entry.0; inside = entry.1; short = short }

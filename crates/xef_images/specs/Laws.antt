@@ -5,12 +5,12 @@ use Rattle.xef_images.specs.Spelling.{xef_text}
 use Rattle.xef_images.specs.Reading.{xef}
 
 -- each image is read of its file
-abbrev pub WrittenIsRead : Type 0
-WrittenIsRead = (image : Image) → IsImage image → xef (xef_text image) ≡ Ok image
+abbrev pub WrittenImageIsRead : Type 0
+WrittenImageIsRead = (image : Image) → IsImage image → xef (xef_text image) ≡ Ok image
 
 -- no file of an image is a proper front of another: what stands behind one that is a front is nothing
-abbrev pub NoneGoesOn : Type 0
-NoneGoesOn = (image other : Image) (rest : List ℕ) → IsImage image → IsImage other → xef_text other ≡ xef_text image ++ rest → rest ≡ []
+abbrev pub ImagesArePrefixFree : Type 0
+ImagesArePrefixFree = (image other : Image) (rest : List ℕ) → IsImage image → IsImage other → xef_text other ≡ xef_text image ++ rest → rest ≡ []
 
 -- a file is as long as its head tells
 abbrev pub LengthIsTold : Type 0

@@ -1,14 +1,11 @@
-pub mod DigestLemmas
 pub mod Elf
 pub mod ElfGives
-pub mod ElfLemmas
 pub mod FieldLemmas
 pub mod Gives
 pub mod Image
 pub mod ImageLemmas
 pub mod Laws
 pub mod Reading
-pub mod SortLemmas
 pub mod Spelling
 pub mod StepLemmas
 pub mod Steps

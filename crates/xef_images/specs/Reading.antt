@@ -3,7 +3,7 @@ use Rattle.std.specs.Prelude.{◌≡◌, ◌≢◌, ◌↔◌, ℕ, zero, suc, �
 use Rattle.std.specs.Int.{Width, w8, w16, w32, byte_len, from_be_bytes}
 use Rattle.std.specs.Str.{bytes_eq}
 use Rattle.md5.specs.Md5.{md5}
-use Rattle.xm_base.specs.Cursor.{Place, left, next, past, start}
+use Rattle.xm_base.specs.Cursor.{Place, left, next, past, cursor_start}
 use Rattle.xef_images.specs.Image.{Image, Segment}
 use Rattle.xef_images.specs.Steps.{◌>>=◌}
 use Rattle.xef_images.specs.Tests.{is_entry}
@@ -38,7 +38,7 @@ version_at place = number_at w16 place >>= λ field. unless (field.0 == 1) (Vers
 -- the length that the head tells
 unfoldable pub told : List ℕ → Result ℕ XefFault
 told bytes = do
-  name ← magic_at (start bytes)
+  name ← magic_at (cursor_start bytes)
   version ← version_at name
   length ← number_at w32 version
   Ok length.0
@@ -116,27 +116,27 @@ unfoldable pub size_at : Place → Result (ℕ × Place) XefFault
 size_at place = listed_at w8 (λ count. nat_le 1 count && nat_le count 8) place
 
 -- the segments: their number, their rows and their bytes
-unfoldable pub table_at : Place → Result (List Segment × Place) XefFault
-table_at place = do
+unfoldable pub segment_table_at : Place → Result (List Segment × Place) XefFault
+segment_table_at place = do
   count ← size_at place
   rows ← rows_at count.0 0 count.1
   segments_at rows.0 rows.1
 
 -- the entry, behind the 10 bytes of name, version and length. A file so short that its head and its digest overlap never has the digest of its other bytes, so what is said here of fewer than 10 bytes is reported for no file
-unfoldable pub entry_at : Place → Result (ℕ × Place) XefFault
-entry_at place = number_at w32 (past 10 place)
+unfoldable pub entry_point_at : Place → Result (ℕ × Place) XefFault
+entry_point_at place = number_at w32 (past 10 place)
 
 -- the image of the bytes before the digest; whether it may start at its entry is tested when all its segments are read
-unfoldable pub image_of : List ℕ → Result Image XefFault
-image_of bytes = do
-  entry ← entry_at (start bytes)
-  segments ← table_at entry.1
+unfoldable pub image_fields : List ℕ → Result Image XefFault
+image_fields bytes = do
+  entry ← entry_point_at (cursor_start bytes)
+  segments ← segment_table_at entry.1
   tested ← unless (is_entry entry.0 segments.0) (Field 10) segments.1
   unless (left tested == 0) (Trailing tested.at) (record { entry = entry.0; segments = segments.0 })
 
 -- the image of a file, or its first fault
 unfoldable pub xef : List ℕ → Result Image XefFault
-xef bytes = signed bytes >>= image_of
+xef bytes = signed bytes >>= image_fields
 
 -- the digest that is stored at the end of a file is not the one that is found; the head and the length are right
 pub record IsForged (bytes stored_digest found_digest : List ℕ) : Type 0 where

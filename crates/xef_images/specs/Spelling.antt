@@ -6,8 +6,8 @@ use Rattle.md5.specs.Md5.{md5}
 use Rattle.xef_images.specs.Image.{Image, IsImage, Segment, contents, xef_length}
 
 -- the head of a file of so many bytes: its name, version 1, its length, the entry and the number of segments
-unfoldable pub head_text : ℕ → ℕ → ℕ → List ℕ
-head_text length entry count = codes "XMEF" ++ to_be_bytes w16 1 ++ to_be_bytes w32 length ++ to_be_bytes w32 entry ++ count ∷ []
+unfoldable pub image_head_text : ℕ → ℕ → ℕ → List ℕ
+image_head_text length entry count = codes "XMEF" ++ to_be_bytes w16 1 ++ to_be_bytes w32 length ++ to_be_bytes w32 entry ++ count ∷ []
 
 -- the row of a segment: its address, the size of its memory and the number of its bytes
 unfoldable pub row_text : Segment → List ℕ
@@ -16,13 +16,13 @@ row_text segment = to_be_bytes w32 segment.address ++ to_be_bytes w32 segment.me
 -- what stands before the digest: the head, the rows, and the segments' bytes
 unfoldable pub before_text : Image → List ℕ
 before_text image =
-    head_text (xef_length image.segments) image.entry (length image.segments) ++ flat_map row_text image.segments ++ contents image.segments
+    image_head_text (xef_length image.segments) image.entry (length image.segments) ++ flat_map row_text image.segments ++ contents image.segments
 
 -- the file of an image: the digest of all that stands before it is at its end
 unfoldable pub xef_text : Image → List ℕ
 xef_text image = before_text image ++ md5 (before_text image)
 
 -- the bytes are the file of an image, which may be loaded
-pub record IsSpelled (bytes : List ℕ) (image : Image) : Type 0 where
+pub record IsSpelledImage (bytes : List ℕ) (image : Image) : Type 0 where
   pub loads : IsImage image
   pub text : bytes ≡ xef_text image

@@ -8,7 +8,7 @@ use Rattle.std.proofs.lemmas.List.Concat.{flat_map-cons}
 use Rattle.xm_base.specs.Bytes.{AreBytes}
 use Rattle.xm_base.specs.Cursor.{Place, ahead}
 use Rattle.xef_images.specs.Image.{Segment, contents, end_of}
-use Rattle.xef_images.specs.ImageLemmas.{RiseFrom, Decides-nat_le}
+use Rattle.xef_images.specs.ImageLemmas.{SegmentsRiseFrom, Decides-nat_le}
 use Rattle.xef_images.specs.Spelling.{row_text}
 use Rattle.xef_images.specs.StepLemmas.{stepped, ok_is}
 use Rattle.xef_images.specs.Steps.{◌>>=◌}
@@ -101,23 +101,23 @@ segments_take (row ∷ rows) place segments after each e =
     (rw flat_map-cons both, ap (λ r. r ∷ rows) first.1 ∙ ap (λ rs. row_of a.value.0 ∷ rs) others.1)
 
 -- the rows of segments are their lines
-pub lines_of : (segments : List Segment) → flat_map row_line (map row_of segments) ≡ flat_map row_text segments
+pub lines_are_rows : (segments : List Segment) → flat_map row_line (map row_of segments) ≡ flat_map row_text segments
 unfolding row_text
-lines_of [] = refl
-lines_of (segment ∷ others) =
+lines_are_rows [] = refl
+lines_are_rows (segment ∷ others) =
     flat_map-cons row_line (row_of segment) (map row_of others)
-    ∙ ap (λ rest. row_line (row_of segment) ++ rest) (lines_of others)
+    ∙ ap (λ rest. row_line (row_of segment) ++ rest) (lines_are_rows others)
     ∙ sym (flat_map-cons row_text segment others)
 
 -- segments stand one behind the other as their rows say
-pub rise_of_rows : (floor : ℕ) (segments : List Segment) → RowsRise floor (map row_of segments) → RiseFrom floor segments
+pub rise_of_rows : (floor : ℕ) (segments : List Segment) → RowsRise floor (map row_of segments) → SegmentsRiseFrom floor segments
 rise_of_rows floor [] rise = tt
 rise_of_rows floor (segment ∷ later) rise =
     let row = rise.0 in
     ((row.above, record { some = row.some; said = row.said; ends = row.ends; fits = row.fits }), rise_of_rows (end_of segment) later rise.1)
 
 -- the rows of segments that stand one behind the other
-pub rows_of_rise : (floor : ℕ) (segments : List Segment) → RiseFrom floor segments → RowsRise floor (map row_of segments)
+pub rows_of_rise : (floor : ℕ) (segments : List Segment) → SegmentsRiseFrom floor segments → RowsRise floor (map row_of segments)
 rows_of_rise floor [] rise = tt
 rows_of_rise floor (segment ∷ later) rise =
     let is = rise.0.1 in

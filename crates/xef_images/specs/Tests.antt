@@ -20,12 +20,12 @@ are_placed floor [] = true
 are_placed floor (segment ∷ later) = is_placed floor segment && are_placed (end_of segment) later
 
 -- whether the address is in the memory of one of the segments
-abbrev pub is_inside : ℕ → List Segment → Bool
-is_inside address segments = list_any (is_covered address) segments
+abbrev pub is_in_memory : ℕ → List Segment → Bool
+is_in_memory address segments = list_any (is_covered address) segments
 
 -- whether an image may start at the address
 abbrev pub is_entry : ℕ → List Segment → Bool
-is_entry address segments = (address % 4 == 0) && is_inside address segments
+is_entry address segments = (address % 4 == 0) && is_in_memory address segments
 
 -- whether this is an image
 abbrev pub is_image : Image → Bool

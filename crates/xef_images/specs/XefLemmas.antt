@@ -13,16 +13,16 @@ use Rattle.std.proofs.lemmas.Slice.Eq.{bytes_eq-Decides}
 use Rattle.md5.specs.Md5.{md5}
 use Rattle.md5.proofs.StandardFacts.{length-md5}
 use Rattle.xm_base.specs.Bytes.{AreBytes}
-use Rattle.xm_base.specs.Cursor.{Place, ahead, left, past, start}
+use Rattle.xm_base.specs.Cursor.{Place, ahead, left, past, cursor_start}
 use Rattle.xef_images.specs.Image.{Image, Segment, contents, share, xef_length, IsSegment, IsInside, IsImage}
-use Rattle.xef_images.specs.ImageLemmas.{RiseFrom, rise_from_apart, above_nothing, image_from_parts, is_entry-Decides, Decides-nat_le}
+use Rattle.xef_images.specs.ImageLemmas.{SegmentsRiseFrom, rise_from_apart, above_nothing, image_from_parts, is_entry-Decides, Decides-nat_le}
 use Rattle.xef_images.specs.Tests.{is_entry}
-use Rattle.xef_images.specs.Spelling.{head_text, row_text, before_text, xef_text, IsSpelled}
+use Rattle.xef_images.specs.Spelling.{image_head_text, row_text, before_text, xef_text, IsSpelledImage}
 use Rattle.xef_images.specs.StepLemmas.{stepped, ok_is, led_on}
 use Rattle.xef_images.specs.Steps.{◌>>=◌}
-use Rattle.xef_images.specs.Reading.{unless, bytes_at, number_at, magic_at, version_at, told, before_of, before, stored, found, signed, rows_at, segments_at, size_at, table_at, entry_at, image_of, xef}
-use Rattle.xef_images.specs.FieldLemmas.{passed, Takes, takes_both, bytes_take, wide8, wide16, wide32, number_takes, listed_takes, Reads, bytes_again, number_again, listed_again, AreBytes-drop, AreBytes-take}
-use Rattle.xef_images.specs.TableLemmas.{row_of, row_line, RowsRise, rows_take, segments_take, lines_of, rise_of_rows, rows_of_rise, rows_again, segments_again}
+use Rattle.xef_images.specs.Reading.{unless, bytes_at, number_at, magic_at, version_at, told, before_of, before, stored, found, signed, rows_at, segments_at, size_at, segment_table_at, entry_point_at, image_fields, xef}
+use Rattle.xef_images.specs.FieldLemmas.{test_passed, Takes, takes_both, bytes_take, wide8, wide16, wide32, number_takes, listed_takes, Reads, bytes_again, number_again, listed_again, AreBytes-drop, AreBytes-take}
+use Rattle.xef_images.specs.TableLemmas.{row_of, row_line, RowsRise, rows_take, segments_take, lines_are_rows, rise_of_rows, rows_of_rise, rows_again, segments_again}
 use Rattle.xef_images.specs.declared.fault.XefFault.TheVariants.{Magic, Version, Short, Trailing, Digest, Field}
 
 -- the table of segments: their number, their rows and their bytes
@@ -30,14 +30,14 @@ abbrev pub table_text : List Segment → List ℕ
 table_text segments = to_be_bytes w8 (length segments) ++ (flat_map row_text segments ++ contents segments)
 
 -- segments that are read stand there, 1 to 8 of them, one behind the other
-pub record IsTable (segments : List Segment) : Type 0 where
+pub record IsSegmentTable (segments : List Segment) : Type 0 where
   pub some : 1 ≤ length segments
   pub most : length segments ≤ 8
-  pub rise : RiseFrom 0 segments
+  pub rise : SegmentsRiseFrom 0 segments
 
 -- a table that is read stands there
-pub table_takes : (place : Place) (segments : List Segment) (after : Place) → AreBytes (ahead place) → table_at place ≡ Ok (segments, after) → Takes place (table_text segments) after × IsTable segments
-unfolding table_at size_at
+pub table_takes : (place : Place) (segments : List Segment) (after : Place) → AreBytes (ahead place) → segment_table_at place ≡ Ok (segments, after) → Takes place (table_text segments) after × IsSegmentTable segments
+unfolding segment_table_at size_at
 table_takes place segments after each e =
     let a = stepped (size_at place) (λ count. rows_at count.0 0 count.1 >>= λ rows. segments_at rows.0 rows.1) (segments, after) e in
     let b = stepped (rows_at a.value.0 0 a.value.1) (λ rows. segments_at rows.0 rows.1) (segments, after) a.led in
@@ -46,7 +46,7 @@ table_takes place segments after each e =
     let bytes = segments_take b.value.0 b.value.1 segments after rows.0.rest b.led in
     let size = (Decides-and _ _ (Decides-nat_le 1 a.value.0) (Decides-nat_le a.value.0 8)).0 first.2 in
     let counted : length segments ≡ a.value.0 = sym (length-map segments row_of) ∙ ap length (sym bytes.1) ∙ rows.1 in
-    let lines : flat_map row_line b.value.0 ≡ flat_map row_text segments = ap (flat_map row_line) bytes.1 ∙ lines_of segments in
+    let lines : flat_map row_line b.value.0 ≡ flat_map row_text segments = ap (flat_map row_line) bytes.1 ∙ lines_are_rows segments in
     let behind = takes_both a.value.1 (flat_map row_line b.value.0) b.value.1 (contents segments) after rows.0 bytes.0 in
     let whole = takes_both place (to_be_bytes w8 a.value.0) a.value.1 (flat_map row_line b.value.0 ++ contents segments) after first.0 behind in
     let same : to_be_bytes w8 a.value.0 ++ (flat_map row_line b.value.0 ++ contents segments) ≡ table_text segments
@@ -61,13 +61,13 @@ table_takes place segments after each e =
     )
 
 -- a table that stands there is read
-pub table_again : (place : Place) (segments : List Segment) (rest : List ℕ) → IsTable segments → ahead place ≡ table_text segments ++ rest → Reads (table_at place) segments rest
-unfolding table_at size_at
+pub table_again : (place : Place) (segments : List Segment) (rest : List ℕ) → IsSegmentTable segments → ahead place ≡ table_text segments ++ rest → Reads (segment_table_at place) segments rest
+unfolding segment_table_at size_at
 table_again place segments rest is stands =
     let regrouped : table_text segments ++ rest ≡ to_be_bytes w8 (length segments) ++ (flat_map row_line (map row_of segments) ++ (contents segments ++ rest))
     = append_assoc (to_be_bytes w8 (length segments)) (flat_map row_text segments ++ contents segments) rest
     ∙ ap (λ x. to_be_bytes w8 (length segments) ++ x) (append_assoc (flat_map row_text segments) (contents segments) rest)
-    ∙ ap (λ rs. to_be_bytes w8 (length segments) ++ (rs ++ (contents segments ++ rest))) (sym (lines_of segments)) in
+    ∙ ap (λ rs. to_be_bytes w8 (length segments) ++ (rs ++ (contents segments ++ rest))) (sym (lines_are_rows segments)) in
     let a = listed_again w8 256 wide8 (λ count. nat_le 1 count && nat_le count 8) place (length segments) (flat_map row_line (map row_of segments) ++ (contents segments ++ rest))
     (omega (arith, is.most)) ((Decides-and _ _ (Decides-nat_le 1 (length segments)) (Decides-nat_le (length segments) 8)).1 (is.some, is.most)) (stands ∙ regrouped) in
     let b = rows_again 0 a.after (map row_of segments) (contents segments ++ rest) (rows_of_rise 0 segments is.rise) a.ahead in
@@ -84,7 +84,7 @@ magic_takes : (place after : Place) → AreBytes (ahead place) → magic_at plac
 unfolding magic_at
 magic_takes place after each e =
     let s = stepped (bytes_at 4 place) (λ field. unless (bytes_eq field.0 (codes "XMEF")) Magic field.1) after e in
-    let p = passed (bytes_eq s.value.0 (codes "XMEF")) Magic s.value.1 after s.led in
+    let p = test_passed (bytes_eq s.value.0 (codes "XMEF")) Magic s.value.1 after s.led in
     let t = bytes_take 4 place s.value.0 s.value.1 each s.is in
     let same : s.value.0 ≡ codes "XMEF" = (bytes_eq-Decides s.value.0 (codes "XMEF")).0 p.true in
     subst (λ (place' : Place). Takes place (codes "XMEF") place') p.is (subst (λ (text : List ℕ). Takes place text s.value.1) same t.0)
@@ -94,7 +94,7 @@ version_takes : (place after : Place) → AreBytes (ahead place) → version_at 
 unfolding version_at
 version_takes place after each e =
     let s = stepped (number_at w16 place) (λ field. unless (field.0 == 1) (Version field.0) field.1) after e in
-    let p = passed (s.value.0 == 1) (Version s.value.0) s.value.1 after s.led in
+    let p = test_passed (s.value.0 == 1) (Version s.value.0) s.value.1 after s.led in
     let t = number_takes w16 (2 ^ 16) wide16 place s.value.0 s.value.1 each s.is in
     let same : s.value.0 ≡ 1 = (Decides-eqb s.value.0 1).0 p.true in
     subst (λ (place' : Place). Takes place (to_be_bytes w16 1) place') p.is (subst (λ (n : ℕ). Takes place (to_be_bytes w16 n) s.value.1) same t.0)
@@ -103,15 +103,15 @@ version_takes place after each e =
 told_takes : (bytes : List ℕ) (size : ℕ) → AreBytes bytes → told bytes ≡ Ok size → (bytes ≡ lead_text size ++ drop 10 bytes) × (size < 2 ^ 32)
 unfolding told
 told_takes bytes size each e =
-    let m = stepped (magic_at (start bytes)) (λ name. version_at name >>= λ version. number_at w32 version >>= λ length. Ok length.0) size e in
+    let m = stepped (magic_at (cursor_start bytes)) (λ name. version_at name >>= λ version. number_at w32 version >>= λ length. Ok length.0) size e in
     let v = stepped (version_at m.value) (λ version. number_at w32 version >>= λ length. Ok length.0) size m.led in
     let n = stepped (number_at w32 v.value) (λ length. Ok length.0) size v.led in
-    let first = magic_takes (start bytes) m.value each m.is in
+    let first = magic_takes (cursor_start bytes) m.value each m.is in
     let second = version_takes m.value v.value first.rest v.is in
     let third = number_takes w32 (2 ^ 32) wide32 v.value n.value.0 n.value.1 second.rest n.is in
     let is : n.value.0 ≡ size = ok_is n.value.0 size n.led in
-    let front = takes_both (start bytes) (codes "XMEF") m.value (to_be_bytes w16 1) v.value first second in
-    let whole = takes_both (start bytes) (codes "XMEF" ++ to_be_bytes w16 1) v.value (to_be_bytes w32 n.value.0) n.value.1 front third.0 in
+    let front = takes_both (cursor_start bytes) (codes "XMEF") m.value (to_be_bytes w16 1) v.value first second in
+    let whole = takes_both (cursor_start bytes) (codes "XMEF" ++ to_be_bytes w16 1) v.value (to_be_bytes w32 n.value.0) n.value.1 front third.0 in
     let parts : bytes ≡ lead_text size ++ ahead n.value.1 = subst (λ (k : ℕ). bytes ≡ lead_text k ++ ahead n.value.1) is whole.parts in
     let behind : drop 10 bytes ≡ ahead n.value.1 = ap (drop 10) parts ∙ drop_at (lead_text size) (ahead n.value.1) 10 refl in
     (parts ∙ ap (λ rest. lead_text size ++ rest) (sym behind), omega (arith, third.1, is))
@@ -120,7 +120,7 @@ told_takes bytes size each e =
 told_again : (size : ℕ) (rest : List ℕ) → size < 2 ^ 32 → told (lead_text size ++ rest) ≡ Ok size
 unfolding told magic_at version_at
 told_again size rest below =
-    let a = bytes_again 4 (start (lead_text size ++ rest)) (codes "XMEF") (to_be_bytes w16 1 ++ (to_be_bytes w32 size ++ rest)) refl refl in
+    let a = bytes_again 4 (cursor_start (lead_text size ++ rest)) (codes "XMEF") (to_be_bytes w16 1 ++ (to_be_bytes w32 size ++ rest)) refl refl in
     let b = number_again w16 (2 ^ 16) wide16 a.after 1 (to_be_bytes w32 size ++ rest) (omega arith) a.ahead in
     let c = number_again w32 (2 ^ 32) wide32 b.after size rest below b.ahead in
     rw (a.is, b.is, c.is) refl
@@ -144,19 +144,19 @@ before_of_again size long =
     rw (same, enough) refl
 
 -- what stands before the digest of a file, and the digest
-pub record IsSigned (bytes front : List ℕ) : Type 0 where
+pub record HasDigest (bytes front : List ℕ) : Type 0 where
   pub told : told bytes ≡ Ok (length bytes)
   pub parts : bytes ≡ front ++ md5 front
   pub count : length front + 16 ≡ length bytes
 
 -- bytes before a digest that is theirs
-signed_takes : (bytes front : List ℕ) → signed bytes ≡ Ok front → IsSigned bytes front
+signed_takes : (bytes front : List ℕ) → signed bytes ≡ Ok front → HasDigest bytes front
 unfolding signed before
 signed_takes bytes front e =
     let b = stepped (before bytes) (λ count. unless (bytes_eq (stored count bytes) (found count bytes)) (Digest (stored count bytes) (found count bytes)) (take count bytes)) front e in
     let t = stepped (told bytes) (λ length_told. before_of (length bytes) length_told) b.value b.is in
     let count = before_of_takes (length bytes) t.value b.value t.led in
-    let p = passed (bytes_eq (stored b.value bytes) (found b.value bytes)) (Digest (stored b.value bytes) (found b.value bytes)) (take b.value bytes) front b.led in
+    let p = test_passed (bytes_eq (stored b.value bytes) (found b.value bytes)) (Digest (stored b.value bytes) (found b.value bytes)) (take b.value bytes) front b.led in
     let same : stored b.value bytes ≡ md5 front = (bytes_eq-Decides (stored b.value bytes) (found b.value bytes)).0 p.true ∙ ap md5 p.is in
     record {
       told = t.is ∙ ap (λ n. Ok n) count.0;
@@ -165,7 +165,7 @@ signed_takes bytes front e =
     }
 
 -- bytes before a digest that is theirs are found
-signed_again : (bytes front : List ℕ) → IsSigned bytes front → signed bytes ≡ Ok front
+signed_again : (bytes front : List ℕ) → HasDigest bytes front → signed bytes ≡ Ok front
 unfolding signed before
 signed_again bytes front is =
     let count : length bytes - 16 ≡ length front = omega (arith, is.count) in
@@ -182,22 +182,22 @@ body_text image = to_be_bytes w32 image.entry ++ table_text image.segments
 pub record IsBody (front : List ℕ) (image : Image) : Type 0 where
   pub parts : drop 10 front ≡ body_text image
   pub long : 10 ≤ length front
-  pub table : IsTable image.segments
+  pub table : IsSegmentTable image.segments
   pub entry : (image.entry % 4 ≡ 0) × IsInside image.entry image.segments
 
 -- an entry and segments that are read stand there
-image_of_takes : (front : List ℕ) (image : Image) → AreBytes front → image_of front ≡ Ok image → IsBody front image
-unfolding image_of entry_at
+image_of_takes : (front : List ℕ) (image : Image) → AreBytes front → image_fields front ≡ Ok image → IsBody front image
+unfolding image_fields entry_point_at
 image_of_takes front image each e =
-    let a = stepped (entry_at (start front)) (λ entry. table_at entry.1 >>= λ segments. unless (is_entry entry.0 segments.0) (Field 10) segments.1 >>= λ tested. unless (left tested == 0) (Trailing tested.at) (record { entry = entry.0; segments = segments.0 })) image e in
-    let b = stepped (table_at a.value.1) (λ segments. unless (is_entry a.value.0 segments.0) (Field 10) segments.1 >>= λ tested. unless (left tested == 0) (Trailing tested.at) (record { entry = a.value.0; segments = segments.0 })) image a.led in
+    let a = stepped (entry_point_at (cursor_start front)) (λ entry. segment_table_at entry.1 >>= λ segments. unless (is_entry entry.0 segments.0) (Field 10) segments.1 >>= λ tested. unless (left tested == 0) (Trailing tested.at) (record { entry = entry.0; segments = segments.0 })) image e in
+    let b = stepped (segment_table_at a.value.1) (λ segments. unless (is_entry a.value.0 segments.0) (Field 10) segments.1 >>= λ tested. unless (left tested == 0) (Trailing tested.at) (record { entry = a.value.0; segments = segments.0 })) image a.led in
     let c = stepped (unless (is_entry a.value.0 b.value.0) (Field 10) b.value.1) (λ tested. unless (left tested == 0) (Trailing tested.at) (record { entry = a.value.0; segments = b.value.0 })) image b.led in
-    let p = passed (is_entry a.value.0 b.value.0) (Field 10) b.value.1 c.value c.is in
+    let p = test_passed (is_entry a.value.0 b.value.0) (Field 10) b.value.1 c.value c.is in
     let made : Image = record { entry = a.value.0; segments = b.value.0 } in
-    let q = passed (left c.value == 0) (Trailing c.value.at) made image c.led in
-    let first = number_takes w32 (2 ^ 32) wide32 (past 10 (start front)) a.value.0 a.value.1 (AreBytes-drop 10 front each) a.is in
+    let q = test_passed (left c.value == 0) (Trailing c.value.at) made image c.led in
+    let first = number_takes w32 (2 ^ 32) wide32 (past 10 (cursor_start front)) a.value.0 a.value.1 (AreBytes-drop 10 front each) a.is in
     let second = table_takes a.value.1 b.value.0 b.value.1 first.0.rest b.is in
-    let both = takes_both (past 10 (start front)) (to_be_bytes w32 a.value.0) a.value.1 (table_text b.value.0) b.value.1 first.0 second.0 in
+    let both = takes_both (past 10 (cursor_start front)) (to_be_bytes w32 a.value.0) a.value.1 (table_text b.value.0) b.value.1 first.0 second.0 in
     let ended : ahead b.value.1 ≡ [] = nil_from_length (ahead b.value.1) (ap left p.is ∙ (Decides-eqb (left c.value) 0).0 q.true) in
     let parts : drop 10 front ≡ body_text made = both.parts ∙ ap (λ rest. body_text made ++ rest) ended ∙ append-nil (body_text made) in
     let four : length (to_be_bytes w32 a.value.0) ≡ 4 = refl in
@@ -210,10 +210,10 @@ image_of_takes front image each e =
     })
 
 -- an entry and segments that stand there are read
-image_of_again : (front : List ℕ) (image : Image) → image.entry < 2 ^ 32 → IsBody front image → image_of front ≡ Ok image
-unfolding image_of entry_at
+image_of_again : (front : List ℕ) (image : Image) → image.entry < 2 ^ 32 → IsBody front image → image_fields front ≡ Ok image
+unfolding image_fields entry_point_at
 image_of_again front image below is =
-    let a = number_again w32 (2 ^ 32) wide32 (past 10 (start front)) image.entry (table_text image.segments) below is.parts in
+    let a = number_again w32 (2 ^ 32) wide32 (past 10 (cursor_start front)) image.entry (table_text image.segments) below is.parts in
     let b = table_again a.after image.segments [] is.table (a.ahead ∙ sym (append-nil (table_text image.segments))) in
     let tested : is_entry image.entry image.segments ≡ true = (is_entry-Decides image.entry image.segments).1 is.entry in
     let none : left b.after ≡ 0 = ap length b.ahead in
@@ -221,14 +221,14 @@ image_of_again front image below is =
     rw (a.is, b.is, tested, ended) refl
 
 -- the rows and bytes of segments take what each segment takes
-length-table : (segments : List Segment) → length (flat_map row_text segments) + length (contents segments) ≡ sum_by share segments
+length-table_text : (segments : List Segment) → length (flat_map row_text segments) + length (contents segments) ≡ sum_by share segments
 unfolding row_text
-length-table [] = refl
-length-table (segment ∷ others) =
+length-table_text [] = refl
+length-table_text (segment ∷ others) =
     let rows = ap length (flat_map-cons row_text segment others) ∙ length-append (row_text segment) (flat_map row_text others) in
     let bytes = ap length (flat_map-cons (λ s. s.bytes) segment others) ∙ length-append segment.bytes (contents others) in
     let row : length (row_text segment) ≡ 12 = refl in
-    omega (arith, rows, bytes, row, length-table others, sum_by-cons share segment others)
+    omega (arith, rows, bytes, row, length-table_text others, sum_by-cons share segment others)
 
 -- a number of one byte is that byte
 byte_of : (n : ℕ) → n < 256 → to_be_bytes w8 n ≡ n ∷ []
@@ -238,7 +238,7 @@ byte_of n below =
 
 -- what stands before the digest: name, version and length, and what stands behind them
 before_regrouped : (image : Image) → length image.segments ≤ 8 → before_text image ≡ lead_text (xef_length image.segments) ++ body_text image
-unfolding before_text head_text
+unfolding before_text image_head_text
 before_regrouped image few =
     let segments = image.segments in
     let lead = lead_text (xef_length segments) in
@@ -268,7 +268,7 @@ length-before image few =
       length-append (to_be_bytes w32 image.entry) (table_text segments),
       length-append (to_be_bytes w8 size) (flat_map row_text segments ++ contents segments),
       length-append (flat_map row_text segments) (contents segments),
-      length-table segments,
+      length-table_text segments,
     )
 
 -- the length of an image's file
@@ -278,10 +278,10 @@ length-xef_text image few =
     omega (arith, length-append (before_text image) (md5 (before_text image)), length-md5 (before_text image), length-before image few)
 
 -- what is read is the image that the bytes spell
-pub xef_takes : (bytes : List ℕ) (image : Image) → AreBytes bytes → xef bytes ≡ Ok image → IsSpelled bytes image
+pub xef_takes : (bytes : List ℕ) (image : Image) → AreBytes bytes → xef bytes ≡ Ok image → IsSpelledImage bytes image
 unfolding xef xef_text
 xef_takes bytes image each e =
-    let s = stepped (signed bytes) image_of image e in
+    let s = stepped (signed bytes) image_fields image e in
     let front = s.value in
     let is = signed_takes bytes front s.is in
     let front_each : AreBytes front = subst (λ (x : List ℕ). AreBytes x) (ap (take (length front)) is.parts ∙ take_at front (md5 front) (length front) refl) (AreBytes-take (length front) bytes each) in
@@ -320,7 +320,7 @@ entry_below entry (segment ∷ others) each (inl covers) = omega (arith, covers,
 entry_below entry (segment ∷ others) each (inr later) = entry_below entry others each.1 later
 
 -- what stands before the digest of an image's file
-is_signed : (image : Image) → IsImage image → IsSigned (xef_text image) (before_text image)
+is_signed : (image : Image) → IsImage image → HasDigest (xef_text image) (before_text image)
 unfolding xef_text
 is_signed image is =
     let size = xef_length image.segments in

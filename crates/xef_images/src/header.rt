@@ -1,7 +1,7 @@
 //! A program header of an ELF file.
 
 ghost use Rattle.std.specs.Prelude.{◌≡◌, ◌+◌, ◌≤◌, length};
-ghost use Rattle.xef_images.specs.Elf.{half, header_at, is_cut, is_loaded, word};
+ghost use Rattle.xef_images.specs.Elf.{half, header_at, is_cut, is_loaded, elf_word};
 
 use byteorder::{BigEndian, ByteOrder};
 
@@ -71,7 +71,7 @@ pub(crate) fn half(bytes: &[u8], place: usize) -> u16
 /// The number of four bytes at a place.
 pub(crate) fn word(bytes: &[u8], place: usize) -> u32
     requires { place + 4 ≤ length bytes.now }
-    ensures { result ≡ word bytes.now place }
+    ensures { result ≡ elf_word bytes.now place }
 {
     BigEndian::read_u32(&bytes[place..place + 4])
 }

@@ -1,15 +1,15 @@
 //! Laws on the files of images.
 
-ghost use Rattle.xef_images.specs.Laws.{LengthIsTold, NoneGoesOn, WrittenIsRead};
+ghost use Rattle.xef_images.specs.Laws.{LengthIsTold, ImagesArePrefixFree, WrittenImageIsRead};
 
 /// An image that was written is read back.
 pub fn written_is_read()
-    ensures { WrittenIsRead }
+    ensures { WrittenImageIsRead }
 {}
 
 /// No file of an image is a proper front of the file of another.
 pub fn none_goes_on()
-    ensures { NoneGoesOn }
+    ensures { ImagesArePrefixFree }
 {}
 
 /// The length in the head of a file is the file's.

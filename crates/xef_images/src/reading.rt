@@ -3,9 +3,9 @@
 ghost use Rattle.std.specs.Prelude.{◌≡◌, ◌+◌, IfOk, length};
 ghost use Rattle.std.specs.Int.{w8, w16, w32};
 ghost use Rattle.xef_images.specs.Image.{Image};
-ghost use Rattle.xef_images.specs.Spelling.{IsSpelled};
+ghost use Rattle.xef_images.specs.Spelling.{IsSpelledImage};
 ghost use Rattle.xef_images.specs.Gives.{Gives, GivesAt, IsRead, IsReadAt};
-ghost use Rattle.xef_images.specs.Reading.{address_at, before, before_of, bytes_at, count_at, entry_at, image_of, magic_at, memory_at, number_at, row_at, rows_at, segment_at, segments_at, size_at, signed, table_at, told, version_at, xef, TellsDigests};
+ghost use Rattle.xef_images.specs.Reading.{address_at, before, before_of, bytes_at, count_at, entry_point_at, image_fields, magic_at, memory_at, number_at, row_at, rows_at, segment_at, segments_at, size_at, signed, segment_table_at, told, version_at, xef, TellsDigests};
 ghost use Rattle.xm_base.specs.Cursor.{left};
 
 use crate::fault::XefFault;
@@ -208,9 +208,9 @@ fn size(cursor: &mut Cursor<'_>) -> Result<u8, XefFault>
 }
 
 /// The segments: their number, their rows and their bytes.
-#[tactic(auto, unfolding(crate::specs::Reading::table_at))]
+#[tactic(auto, unfolding(crate::specs::Reading::segment_table_at))]
 fn table(alloc: Global, cursor: &mut Cursor<'_>) -> Result<Vec<Segment>, XefFault>
-    ensures { GivesAt (λ segments. segments.items) result cursor.new (table_at cursor.old) }
+    ensures { GivesAt (λ segments. segments.items) result cursor.new (segment_table_at cursor.old) }
 {
     let count = size(cursor)?;
     let rows = rows(alloc, cursor, count)?;
@@ -218,10 +218,10 @@ fn table(alloc: Global, cursor: &mut Cursor<'_>) -> Result<Vec<Segment>, XefFaul
 }
 
 /// The entry, behind the bytes of name, version and length.
-#[tactic(auto, unfolding(crate::specs::Reading::entry_at))]
+#[tactic(auto, unfolding(crate::specs::Reading::entry_point_at))]
 fn entry(cursor: &mut Cursor<'_>) -> Result<u32, XefFault>
     requires { cursor.old.at ≡ 0 }
-    ensures { IsReadAt (λ entry. entry) result cursor.new (entry_at cursor.old) }
+    ensures { IsReadAt (λ entry. entry) result cursor.new (entry_point_at cursor.old) }
 {
     match cursor.take(LEAD) {
         Ok(_) => Ok(cursor.u32()?),
@@ -230,9 +230,9 @@ fn entry(cursor: &mut Cursor<'_>) -> Result<u32, XefFault>
 }
 
 /// The entry and the segments of the bytes before the digest.
-#[tactic(auto, unfolding(crate::specs::Reading::image_of))]
+#[tactic(auto, unfolding(crate::specs::Reading::image_fields))]
 fn image(alloc: Global, bytes: &[u8]) -> Result<(u32, Vec<Segment>), XefFault>
-    ensures { Gives (λ image. record { entry = image.0; segments = image.1.items }) result (image_of bytes.now) }
+    ensures { Gives (λ image. record { entry = image.0; segments = image.1.items }) result (image_fields bytes.now) }
 {
     let mut cursor = Cursor::new(bytes);
     let entry = entry(&mut cursor)?;
@@ -259,9 +259,9 @@ fn whole(alloc: Global, bytes: &[u8]) -> Result<(u32, Vec<Segment>), XefFault>
 /// Reads the file of an image: the image that it spells, or its first fault.
 pub fn read_xef(alloc: Global, bytes: &[u8]) -> Result<Xef, XefFault>
     // What is read is the image that the bytes spell.
-    ensures found { IfOk result (IsSpelled bytes.now) }
+    ensures found { IfOk result (IsSpelledImage bytes.now) }
     // What is spelled is read, unless there is no memory.
-    ensures only { (image : Image) → IsSpelled bytes.now image → Gives (λ found. found) result (Ok image) }
+    ensures only { (image : Image) → IsSpelledImage bytes.now image → Gives (λ found. found) result (Ok image) }
     // A fault is the first one.
     ensures exact { Gives (λ found. found) result (xef bytes.now) }
     // Two digests are told exactly where they differ.

@@ -4,7 +4,7 @@ ghost use Rattle.std.specs.Prelude.{◌≡◌, ◌^◌, ◌<◌, ◌++◌, All, 
 ghost use Rattle.std.specs.Int.{to_be_bytes, w16, w32};
 ghost use Rattle.std.specs.List.{flat_map};
 ghost use Rattle.xef_images.specs.Image.{contents};
-ghost use Rattle.xef_images.specs.Spelling.{before_text, head_text, row_text, xef_text};
+ghost use Rattle.xef_images.specs.Spelling.{before_text, image_head_text, row_text, xef_text};
 
 use crate::segment::Segment;
 use crate::xef::{Xef, file_length};
@@ -49,9 +49,9 @@ fn before_digest(alloc: Global, image: &Xef) -> Result<Vec<u8>, Memory>
 }
 
 /// Writes the head of a file.
-#[tactic(auto, unfolding(crate::specs::Spelling::head_text))]
+#[tactic(auto, unfolding(crate::specs::Spelling::image_head_text))]
 fn put_head(out: &mut Vec<u8>, length: u32, entry: u32, count: u8) -> Result<(), Memory>
-    ensures { OnOk result (out.new.items ≡ out.old.items ++ head_text length entry count) }
+    ensures { OnOk result (out.new.items ≡ out.old.items ++ image_head_text length entry count) }
 {
     out.extend_from_slice(&MAGIC)?;
     put_half(out, VERSION)?;

@@ -2,7 +2,7 @@
 
 ghost use Rattle.std.specs.Prelude.{◌≡◌, ◌+◌, ◌*◌, ◌^◌, ◌<◌, ◌≤◌, ◌↔◌, IsNone, IfSome, IsTrue, length, nat_le};
 ghost use Rattle.xef_images.specs.Image.{IsImage, xef_length};
-ghost use Rattle.xef_images.specs.Tests.{are_placed, is_entry, is_image, is_inside};
+ghost use Rattle.xef_images.specs.Tests.{are_placed, is_entry, is_image, is_in_memory};
 
 use crate::segment::Segment;
 use std::marker::Model;
@@ -95,7 +95,7 @@ pub(crate) fn is_entry(address: u32, segments: &[Segment]) -> bool
 
 /// Whether the address is in the memory of one of the segments.
 fn is_inside(address: u32, segments: &[Segment]) -> bool
-    ensures { result ≡ is_inside address segments.now }
+    ensures { result ≡ is_in_memory address segments.now }
 {
     segments.iter().any(|segment| segment.covers(address))
 }

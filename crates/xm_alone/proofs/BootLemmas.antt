@@ -5,7 +5,7 @@ use Rattle.xm_base.specs.Options.{on}
 use Rattle.machine_model.specs.Alone.{Alone, alone_start}
 use Rattle.machine_model.specs.CoreFile.{core_file}
 use Rattle.machine_model.specs.Facts.{BootsComplete}
-use Rattle.machine_model.specs.Laws.{BootsAlone, part, part_at}
+use Rattle.machine_model.specs.Laws.{BootsAlone, part, alone_part_at}
 use Rattle.machine_model.specs.Machine.{Machine, booted_part, start}
 use Rattle.machine_model.specs.View.{System, view_of}
 use Rattle.slot_runs.specs.Passes as passes
@@ -17,8 +17,8 @@ some_is : (a b : Alone) → Some a ≡ Some b → a ≡ b
 some_is a b same = cc
 
 -- a partition's part, where there is the partition
-part_there : (g : Machine) (p : ℕ) (a : Alone) → p < length g.parts → part_at g p ≡ Some a → part_in g p ≡ a
-unfolding part_at
+part_there : (g : Machine) (p : ℕ) (a : Alone) → p < length g.parts → alone_part_at g p ≡ Some a → part_in g p ≡ a
+unfolding alone_part_at
 part_there g p a there is = some_is (part_in g p) a (sym (ap (on (part g p)) (slice_get-get_or g.parts p (booted_part g.system p) there)) ∙ is)
 
 -- a partition by itself, field by field

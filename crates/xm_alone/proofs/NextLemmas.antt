@@ -6,7 +6,7 @@ use Rattle.xm_outside.specs.Growth.{GrewByPrefix, grown}
 use Rattle.xm_report.specs.Report.{texts}
 use Rattle.uart_board.specs.Heard.{IsHeard}
 use Rattle.uart_board.specs.Views.{BoardView}
-use Rattle.cue_scripts.specs.Entries.{plain}
+use Rattle.cue_scripts.specs.Entries.{bare_cue}
 use Rattle.cue_scripts.specs.Script.{HaltsLast, IsScript}
 use Rattle.machine_model.specs.Alone.{Alone, alone_from, alone_lines, alone_said, alone_start, alone_step}
 use Rattle.machine_model.specs.Cue.{Cue}
@@ -23,7 +23,7 @@ use Rattle.xm_machine.specs.AloneSpan.{SpansAlone}
 use Rattle.xm_machine.specs.AloneStep.{HasStepCause, IsSaidAlone, StepsAlone}
 use Rattle.xm_machine.specs.declared.alone_fault.AloneFault.{AloneFault}
 use Rattle.xm_machine.specs.declared.alone_fault.AloneFault.TheVariants as fault
-use Rattle.xm_alone.specs.Cues.{ComesNext, Follows, IsNext, cues_left, next_cues, next_left}
+use Rattle.xm_alone.specs.Cues.{ComesNext, Follows, IsNextCue, cues_left, next_cues, next_left}
 use Rattle.xm_alone.specs.Replay.{IsCutReplay, TakesAll, cue_lines, lone_in, replay_said, replayed}
 use Rattle.xm_alone.specs.declared.cues.Cues as code
 use Rattle.xm_alone.specs.declared.cues.Next as code_next
@@ -56,10 +56,10 @@ pub alike_follows : {T : Type 0} (ended : Result T AloneFault) (ticks p count : 
     → 0 < ticks → ticks ≤ count → SpansAlone ended ticks p own old new had got begun board → Follows ended ticks p (next.Alike own count) old new had got begun board
 alike_follows ended ticks p count own old new had got begun board some within span = record {
   before = span.before;
-  quiet = replicate (ticks - 1) (plain own);
-  cue = plain own;
-  split = alike_split (plain own) count ticks some within;
-  count = alike_count (plain own) ticks some;
+  quiet = replicate (ticks - 1) (bare_cue own);
+  cue = bare_cue own;
+  split = alike_split (bare_cue own) count ticks some within;
+  count = alike_count (bare_cue own) ticks some;
   silent = span.silent;
   step = span.step;
   heard = span.heard;
@@ -234,12 +234,12 @@ module _ (p ticks : ℕ) (cues all : List Cue) (first : code_next.Next) (others 
 -- the first of the cues that come next
 first_cue : (all : List Cue) (first : code_next.Next) (others : code.Cues) → ComesNext all first others → (cue : Cue) × (later : List Cue) × (all ≡ cue ∷ later)
 first_cue all (next.Alike own count) others comes =
-    (plain own, replicate (count - 1) (plain own) ++ cues_left others, comes.split ∙ ap (λ cues. cues ++ cues_left others) (alike_split (plain own) count 1 (omega arith) comes.some))
+    (bare_cue own, replicate (count - 1) (bare_cue own) ++ cues_left others, comes.split ∙ ap (λ cues. cues ++ cues_left others) (alike_split (bare_cue own) count 1 (omega arith) comes.some))
 first_cue all (next.Other cue) others comes = (cue_value cue, cues_left others, comes.split)
 
 -- the cues that come next may be told, and there are ticks left for them
 module _ (p : ℕ) (cues before all : List Cue) (others : code.Cues) (old now : Machine) (script : IsScript old.system.conf p cues) (is : IsFollowing p cues before all old now) where
-  pub next_is : (first : code_next.Next) → ComesNext all first others → IsNext now.system.conf p first
+  pub next_is : (first : code_next.Next) → ComesNext all first others → IsNextCue now.system.conf p first
   next_is (next.Alike own count) comes = comes.some
   next_is (next.Other cue) comes = left_cue p cues before all (cue_value cue) (cues_left others) old now comes.split is script
 
@@ -256,14 +256,14 @@ module _ (p : ℕ) (cues before all : List Cue) (others : code.Cues) (old now : 
 -- what is still to come grows shorter
 pub next_shorter : (all : List Cue) (first : code_next.Next) (others : code.Cues) (ticks : ℕ) → ComesNext all first others → 0 < ticks → length (next_left first ticks ++ cues_left others) < length all
 next_shorter all (next.Alike own count) others ticks comes some =
-    let count_all : length all ≡ length (replicate count (plain own) ++ cues_left others) = ap (λ (xs : List Cue). length xs) comes.split in
+    let count_all : length all ≡ length (replicate count (bare_cue own) ++ cues_left others) = ap (λ (xs : List Cue). length xs) comes.split in
     omega (
       arith,
       count_all,
-      length-append (replicate count (plain own)) (cues_left others),
-      length-append (replicate (count - ticks) (plain own)) (cues_left others),
-      length-replicate count (plain own),
-      length-replicate (count - ticks) (plain own),
+      length-append (replicate count (bare_cue own)) (cues_left others),
+      length-append (replicate (count - ticks) (bare_cue own)) (cues_left others),
+      length-replicate count (bare_cue own),
+      length-replicate (count - ticks) (bare_cue own),
       some,
       comes.some,
     )

@@ -10,7 +10,7 @@ use Rattle.whole_system.specs.State.{with_inputs}
 use Rattle.machine_model.specs.Told.{NotKept, OwnTraffic, Sight, Unseen, Words}
 use Rattle.machine_model.specs.Traffic.{Puts, Still, Takes, Traffic, heard_as, own_puts_at, own_takes_at}
 use Rattle.cue_scripts.specs.Kept.{HasCueRanges, HasSightRange, HasTrafficRange}
-use Rattle.cue_scripts.specs.Values.{cue_value}
+use Rattle.cue_scripts.specs.Values.{script_cue_value}
 use Rattle.cue_scripts.specs.declared.cue.ScriptCue.{ScriptCue}
 use Rattle.xm_machine.specs.Cues.{last_or}
 
@@ -51,11 +51,11 @@ pub cue_told : (g : Machine) (p : ℕ) (before : Cue) → g.halted ≡ false →
 cue_told g p before runs = ap (last_or before) (script_one g p runs)
 
 -- the cue that was kept is the one that is told
-pub cue_kept : {E : Type 0} (result : Result ScriptCue E) (told given : Cue) → IfOk result (λ own. cue_value own ≡ told) → told ≡ given → IfOk result (λ own. cue_value own ≡ given)
-cue_kept result told given kept same = subst (λ cue. IfOk result (λ own. cue_value own ≡ cue)) same kept
+pub cue_kept : {E : Type 0} (result : Result ScriptCue E) (told given : Cue) → IfOk result (λ own. script_cue_value own ≡ told) → told ≡ given → IfOk result (λ own. script_cue_value own ≡ given)
+cue_kept result told given kept same = subst (λ cue. IfOk result (λ own. script_cue_value own ≡ cue)) same kept
 
 -- so it is in the ranges of its fields
-pub ranges_kept : {E : Type 0} (result : Result ScriptCue E) (given : Cue) → IfOk result (λ own. cue_value own ≡ given) → HasCueRanges given → IfOk result (λ own. HasCueRanges (cue_value own))
+pub ranges_kept : {E : Type 0} (result : Result ScriptCue E) (given : Cue) → IfOk result (λ own. script_cue_value own ≡ given) → HasCueRanges given → IfOk result (λ own. HasCueRanges (script_cue_value own))
 ranges_kept (Ok own) given same has = subst HasCueRanges (sym same) has
 ranges_kept (Err fault) given same has = tt
 

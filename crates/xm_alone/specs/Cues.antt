@@ -3,7 +3,7 @@ use Rattle.std.specs.Prelude.{◌≡◌, ℕ, ◌+◌, ◌-◌, ◌<◌, ◌≤�
 use Rattle.machine_model.specs.Cue.{Cue}
 use Rattle.machine_model.specs.Machine.{Machine}
 use Rattle.xm_conf.specs.Configuration.{Conf}
-use Rattle.cue_scripts.specs.Entries.{expanded, plain}
+use Rattle.cue_scripts.specs.Entries.{expanded, bare_cue}
 use Rattle.cue_scripts.specs.Script.{IsCue}
 use Rattle.cue_scripts.specs.Values.{entry_values}
 use Rattle.lone_ticks.specs.LoneSpan.{AreSilent}
@@ -17,16 +17,16 @@ use Rattle.xm_alone.specs.declared.cues.Next.TheVariants as next
 
 -- a plain cue so many times, and then those of the entries
 abbrev pub cues_left : code.Cues → List Cue
-cues_left rest = replicate rest.left (plain rest.own) ++ expanded (entry_values rest.entries.now)
+cues_left rest = replicate rest.left (bare_cue rest.own) ++ expanded (entry_values rest.entries.now)
 
 -- the cues that come next
 abbrev pub next_cues : code_next.Next → List Cue
-next_cues (next.Alike own count) = replicate count (plain own)
+next_cues (next.Alike own count) = replicate count (bare_cue own)
 next_cues (next.Other cue) = cue_value cue ∷ []
 
 -- what is left of them when so many are done
 abbrev pub next_left : code_next.Next → ℕ → List Cue
-next_left (next.Alike own count) done = replicate (count - done) (plain own)
+next_left (next.Alike own count) done = replicate (count - done) (bare_cue own)
 next_left (next.Other cue) done = []
 
 -- they are so many at least
@@ -35,9 +35,9 @@ HasNext (next.Alike own count) done = done ≤ count
 HasNext (next.Other cue) done = done ≤ 1
 
 -- partition p may be told them
-abbrev pub IsNext : Conf → ℕ → code_next.Next → Type 0
-IsNext conf p (next.Alike own count) = 0 < count
-IsNext conf p (next.Other cue) = IsCue conf p (cue_value cue)
+abbrev pub IsNextCue : Conf → ℕ → code_next.Next → Type 0
+IsNextCue conf p (next.Alike own count) = 0 < count
+IsNextCue conf p (next.Other cue) = IsCue conf p (cue_value cue)
 
 -- these cues come next, and then those of the entries
 pub record ComesNext (all : List Cue) (first : code_next.Next) (others : code.Cues) : Type 0 where

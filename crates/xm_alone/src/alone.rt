@@ -10,7 +10,7 @@ ghost use Rattle.slot_runs.specs.Passes.{part_at};
 ghost use Rattle.whole_system.specs.State.{with_inputs};
 ghost use Rattle.xm_alone.specs.Replay.{IsReplay, TakesAll, booted_alone, cue_lines, lone_in, own_view, replay_lines};
 ghost use Rattle.xm_machine.specs.Outcome.{HasWriteCause};
-ghost use Rattle.xm_report.specs.Report.{line_of};
+ghost use Rattle.xm_report.specs.Report.{line_value};
 
 use crate::cues::Cues;
 use crate::following::follow;
@@ -138,7 +138,7 @@ fn unwritten(fault: AloneFault) -> WriteFault
 /// The line that tells how partition `p` stands at the end.
 fn end_line(machine: &Machine, p: PartId) -> Line<'static>
     requires { p < length machine.now.state.parts }
-    ensures { line_of result ≡ end_line p (part_at p machine.now.state) }
+    ensures { line_value result ≡ end_line p (part_at p machine.now.state) }
 {
     let part = machine.sys().part(p);
     Line::EndPart {

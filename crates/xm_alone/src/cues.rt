@@ -90,7 +90,7 @@ impl<'a> Cues<'a> {
 
 /// A cue that is kept, lent.
 fn lent(cue: &ScriptCue) -> Cue<'_>
-    ensures { cue_value result ≡ kept.cue_value cue.now }
+    ensures { cue_value result ≡ kept.script_cue_value cue.now }
 {
     Cue {
         mine: slot_of(cue.mine),
@@ -103,7 +103,7 @@ fn lent(cue: &ScriptCue) -> Cue<'_>
 
 /// Whose slot it is.
 fn slot_of(mine: ScriptSlot) -> Mine
-    ensures { slot_value result ≡ kept.slot_value mine }
+    ensures { slot_value result ≡ kept.script_slot_value mine }
 {
     match mine {
         ScriptSlot::Away => Mine::Away,
@@ -113,7 +113,7 @@ fn slot_of(mine: ScriptSlot) -> Mine
 
 /// The traffic of others.
 fn traffic_of(traffic: &ScriptTraffic) -> Traffic<'_>
-    ensures { traffic_value result ≡ kept.traffic_value traffic.now }
+    ensures { traffic_value result ≡ kept.script_traffic_value traffic.now }
 {
     match traffic {
         ScriptTraffic::Nothing => Traffic::Nothing,
@@ -136,7 +136,7 @@ fn event_of(event: ScriptEvent) -> WholeCue
 
 /// What was shown.
 fn sight_of(seen: &ScriptSight) -> Sight<'_>
-    ensures { sight_value result ≡ kept.sight_value seen.now }
+    ensures { sight_value result ≡ kept.script_sight_value seen.now }
 {
     match seen {
         ScriptSight::Nothing => Sight::Nothing,

@@ -2,7 +2,7 @@
 
 ghost use Rattle.std.specs.Prelude.{◌≡◌, ◌+◌, ◌<◌, ◌≤◌, false, length};
 ghost use Rattle.alone_passes.specs.Step.{IsOfSystem};
-ghost use Rattle.xm_alone.specs.Cues.{Follows, HasNext, IsNext, next_cues};
+ghost use Rattle.xm_alone.specs.Cues.{Follows, HasNext, IsNextCue, next_cues};
 ghost use Rattle.xm_machine.specs.AloneStep.{HasStepCause};
 
 use crate::cues::Next;
@@ -22,7 +22,7 @@ pub(crate) fn follow<O: Sink>(
     requires partition { p < length machine.old.state.parts }
     requires running { machine.old.state.halted ≡ false }
     requires more { machine.old.state.ticks + length (next_cues next) ≤ TICKS }
-    requires next { IsNext machine.old.state.system.conf p next }
+    requires next { IsNextCue machine.old.state.system.conf p next }
     ensures follows { Follows result.ended result.ticks p next.entry machine.old.state machine.new.state (O.got out.old) (O.got out.new) (⟦<Board as ViewBoard>⟧.board_view board.old) (⟦<Board as ViewBoard>⟧.board_view board.new) }
     ensures within { HasNext next.entry result.ticks }
     ensures cause { HasStepCause result.ended (O.faults out.old) (O.faults out.new) }

@@ -5,7 +5,7 @@ ghost use Rattle.std.specs.Prelude.{◌≡◌, ◌<◌, ◌≤◌, IfOk, false, 
 ghost use Rattle.cue_scripts.specs.Kept.{HasCueRanges};
 ghost use Rattle.cue_scripts.specs.Spelling.{script_text};
 ghost use Rattle.cue_scripts.specs.Values as kept;
-ghost use Rattle.cue_scripts.specs.Written.{IsFile, IsWritten};
+ghost use Rattle.cue_scripts.specs.Written.{IsScriptFile, IsWritten};
 ghost use Rattle.machine_model.specs.Cue.{cue, script};
 ghost use Rattle.machine_model.specs.Machine.{run, start};
 ghost use Rattle.told_scripts.specs.Telling.{HasNumbers};
@@ -34,7 +34,7 @@ pub fn script_of(
     requires partition { p < length system.conf.parts }
     requires inputs { length inputs ≡ length system.conf.parts }
     requires most { ticks ≤ TICKS }
-    ensures file { IsFile (λ file. file.items) (script_text p (script (start (with_inputs system inputs)) p ticks)) result }
+    ensures file { IsScriptFile (λ file. file.items) (script_text p (script (start (with_inputs system inputs)) p ticks)) result }
     ensures numbers { IfOk result (λ _. AllByRecursion HasNumbers (script (start (with_inputs system inputs)) p ticks)) }
 {
     keeps_numbers();
@@ -83,8 +83,8 @@ fn told_in(
     requires running { machine.old.state.halted ≡ false }
     requires more { machine.old.state.ticks < TICKS }
     ensures state { machine.new.state ≡ run machine.old.state 1 }
-    ensures cue { IfOk result (λ told. kept.cue_value told ≡ cue machine.old.state p) }
-    ensures ranges { IfOk result (λ told. HasCueRanges (kept.cue_value told)) }
+    ensures cue { IfOk result (λ told. kept.script_cue_value told ≡ cue machine.old.state p) }
+    ensures ranges { IfOk result (λ told. HasCueRanges (kept.script_cue_value told)) }
 {
     keeps_numbers();
     has_ranges(machine, p);

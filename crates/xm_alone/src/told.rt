@@ -11,7 +11,7 @@ use xm_machine::{Cue, Mine, Sight, Traffic, WholeCue};
 
 /// A cue with bytes of its own.
 pub(crate) fn kept_cue(alloc: Global, cue: Cue<'_>) -> Result<ScriptCue, Memory>
-    ensures { IfOk result (λ own. kept.cue_value own ≡ cue_value cue.entry) }
+    ensures { IfOk result (λ own. kept.script_cue_value own ≡ cue_value cue.entry) }
 {
     Ok(ScriptCue {
         mine: kept_slot(cue.mine),
@@ -24,7 +24,7 @@ pub(crate) fn kept_cue(alloc: Global, cue: Cue<'_>) -> Result<ScriptCue, Memory>
 
 /// Whose slot it is.
 fn kept_slot(mine: Mine) -> ScriptSlot
-    ensures { kept.slot_value result ≡ slot_value mine }
+    ensures { kept.script_slot_value result ≡ slot_value mine }
 {
     match mine {
         Mine::Away => ScriptSlot::Away,
@@ -34,7 +34,7 @@ fn kept_slot(mine: Mine) -> ScriptSlot
 
 /// The traffic of others.
 fn kept_traffic(alloc: Global, traffic: Traffic<'_>) -> Result<ScriptTraffic, Memory>
-    ensures { IfOk result (λ own. kept.traffic_value own ≡ traffic_value traffic.entry) }
+    ensures { IfOk result (λ own. kept.script_traffic_value own ≡ traffic_value traffic.entry) }
 {
     match traffic {
         Traffic::Nothing => Ok(ScriptTraffic::Nothing),
@@ -60,7 +60,7 @@ fn kept_event(whole: WholeCue) -> ScriptEvent
 
 /// What was shown.
 fn kept_sight(alloc: Global, seen: Sight<'_>) -> Result<ScriptSight, Memory>
-    ensures { IfOk result (λ own. kept.sight_value own ≡ sight_value seen.entry) }
+    ensures { IfOk result (λ own. kept.script_sight_value own ≡ sight_value seen.entry) }
 {
     match seen {
         Sight::Nothing => Ok(ScriptSight::Nothing),

@@ -8,8 +8,8 @@ pub record Place : Type 0 where
   pub at : ℕ
 
 -- the cursor at the first of the bytes
-abbrev pub start : List ℕ → Place
-start bytes = record { bytes = bytes; at = 0 }
+abbrev pub cursor_start : List ℕ → Place
+cursor_start bytes = record { bytes = bytes; at = 0 }
 
 -- the bytes from the place on
 abbrev pub ahead : Place → List ℕ

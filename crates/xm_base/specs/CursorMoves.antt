@@ -9,7 +9,7 @@ pub record IsPast (count : ℕ) (old new : Place) : Type 0 where
   pub moved : new ≡ past count old
 
 -- fewer bytes are left than asked: the answer has the cursor's place, and the cursor stays
-pub record IsShort (count : ℕ) (old new : Place) (short : Short) : Type 0 where
+pub record FallsShort (count : ℕ) (old new : Place) (short : Short) : Type 0 where
   pub few : left old < count
   pub place : short.at ≡ old.at
   pub stays : new ≡ old
@@ -17,4 +17,4 @@ pub record IsShort (count : ℕ) (old new : Place) (short : Short) : Type 0 wher
 -- what a read of so many bytes does to the cursor
 abbrev pub Moves : {T : Type 0} → ℕ → Place → Place → Result T Short → Type 0
 Moves count old new (Ok _) = IsPast count old new
-Moves count old new (Err short) = IsShort count old new short
+Moves count old new (Err short) = FallsShort count old new short

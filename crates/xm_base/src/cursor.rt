@@ -2,7 +2,7 @@
 
 ghost use Rattle.std.specs.Prelude.{◌≡◌, IfOk, length};
 ghost use Rattle.std.specs.Int.{w8, w16, w32, w64};
-ghost use Rattle.xm_base.specs.Cursor.{IsNumberOf, left, next, start};
+ghost use Rattle.xm_base.specs.Cursor.{IsNumberOf, left, next, cursor_start};
 ghost use Rattle.xm_base.specs.CursorMoves.{Moves};
 
 use byteorder::{BigEndian, ByteOrder};
@@ -36,7 +36,7 @@ impl<'a> Model for Cursor<'a> {
 impl<'a> Cursor<'a> {
     /// A cursor at the first of the bytes.
     pub fn new(bytes: &'a [u8]) -> Cursor<'a>
-        ensures { result ≡ start bytes.now }
+        ensures { result ≡ cursor_start bytes.now }
     {
         Cursor { bytes, at: 0 }
     }

@@ -6,7 +6,7 @@ use Rattle.file_commands.specs.Ending.{Ending, Finished, Misused, Unread, Denied
 use Rattle.file_commands.specs.Outcome.{Outcome, Output, Running}
 use Rattle.file_commands.specs.Work.{Outside, AreNotSaved, Comes, SavesAll, told_all}
 use Rattle.xm_commands.specs.Behind.{EndsBehind}
-use Rattle.xm_commands.specs.Boards.{EndsRun, IsRunTo, Leaves, ticks_of}
+use Rattle.xm_commands.specs.Boards.{EndsRun, IsRunTo, LeavesBoard, ticks_of_run}
 
 -- an outcome whose files after the report were all written comes to what the board says
 ended_outcome : (e : Ending) (board : BoardView) (outcome : Outcome) (before mid after : Outside) → outcome.denial ≡ None → IsSome outcome.run → mid ≡ told_all outcome before → EndsRun e board
@@ -41,7 +41,7 @@ behind_outcome e board outcome before mid after granted runs told (inl ends) = e
 behind_outcome e board outcome before mid after granted runs told (inr lost) = unsaved_outcome e outcome before mid after told lost
 
 -- a run that ends as the board says
-ended_leaves : (e : Ending) (run : Running) (had got : Option (List ℕ)) (before after : BoardView) → IsRunTo (ticks_of run) run before after → EndsRun e after → Leaves e (Some run) had got before after
+ended_leaves : (e : Ending) (run : Running) (had got : Option (List ℕ)) (before after : BoardView) → IsRunTo (ticks_of_run run) run before after → EndsRun e after → LeavesBoard e (Some run) had got before after
 ended_leaves Finished run had got before after to ends = record { heard = to; well = ends }
 ended_leaves Misused run had got before after to ends = absurd ends
 ended_leaves (Unread file) run had got before after to ends = absurd ends
@@ -52,7 +52,7 @@ ended_leaves (Unheard place) run had got before after to ends = record { heard =
 ended_leaves Starved run had got before after to ends = absurd ends
 
 -- one that ends because a file was not written
-unsaved_leaves : (e : Ending) (outputs : List Output) (run : Running) (had got : Option (List ℕ)) (from to : Outside) (before after : BoardView) → IsRunTo (ticks_of run) run before after → AreNotSaved e outputs from to → Leaves e (Some run) had got before after
+unsaved_leaves : (e : Ending) (outputs : List Output) (run : Running) (had got : Option (List ℕ)) (from to : Outside) (before after : BoardView) → IsRunTo (ticks_of_run run) run before after → AreNotSaved e outputs from to → LeavesBoard e (Some run) had got before after
 unsaved_leaves Finished outputs run had got from to before after all lost = absurd lost
 unsaved_leaves Misused outputs run had got from to before after all lost = absurd lost
 unsaved_leaves (Unread file) outputs run had got from to before after all lost = absurd lost
@@ -63,7 +63,7 @@ unsaved_leaves (Unheard place) outputs run had got from to before after all lost
 unsaved_leaves Starved outputs run had got from to before after all lost = absurd lost
 
 -- what it leaves of the board, once all of its ticks are done
-pub behind_leaves : (e : Ending) (outputs : List Output) (run : Running) (had got : Option (List ℕ)) (from to : Outside) (before after : BoardView) → IsRunTo (ticks_of run) run before after
-    → EndsBehind e outputs after from to → Leaves e (Some run) had got before after
+pub behind_leaves : (e : Ending) (outputs : List Output) (run : Running) (had got : Option (List ℕ)) (from to : Outside) (before after : BoardView) → IsRunTo (ticks_of_run run) run before after
+    → EndsBehind e outputs after from to → LeavesBoard e (Some run) had got before after
 behind_leaves e outputs run had got from to before after all (inl ends) = ended_leaves e run had got before after all ends.0
 behind_leaves e outputs run had got from to before after all (inr lost) = unsaved_leaves e outputs run had got from to before after all lost

@@ -5,7 +5,7 @@ use Rattle.machine_model.specs.Lines.{console}
 use Rattle.machine_model.specs.Machine.{Machine, start}
 use Rattle.loaded_system.specs.System.{System}
 use Rattle.uart_board.specs.Heard.{IsHeard}
-use Rattle.uart_board.specs.Views.{BoardView, begun}
+use Rattle.uart_board.specs.Views.{BoardView, without_marks}
 use Rattle.whole_system.specs.State.{with_inputs}
 use Rattle.xm_machine.specs.Heard.{IsRunHeard}
 use Rattle.xm_machine.specs.Outcome.{IsRun}
@@ -17,11 +17,11 @@ use Rattle.xm_outside.specs.Growth.{grown}
 use Rattle.xm_words.specs.Words.{Command, PartFile, Parse, BuildImage, ReadImage, Pack, ListContainer, CheckContainer, MakePlan, CheckPlan, TellGroups, Generate}
 use Rattle.xm_commands.specs.Behind.{EndsBehind}
 use Rattle.xm_commands.proofs.BehindLemmas.{behind_leaves}
-use Rattle.xm_commands.specs.Boards.{IsLeft, IsMarked, IsRunTo, Leaves}
+use Rattle.xm_commands.specs.Boards.{IsLeft, IsMarked, IsRunTo, LeavesBoard}
 use Rattle.file_commands.specs.Denial.{Denial}
 use Rattle.file_commands.specs.Ending.{Ending, Finished, Misused, Unread, Denied, Unwritten, Unsaved, Unheard, Starved, status_of}
 use Rattle.file_commands.specs.Makes.{IsUnmadeOf}
-use Rattle.file_commands.specs.Outcome.{Output, Running, Together, first_long, inputs_of, made, outcome_of, packed_to, ran, told, unless_long, worked}
+use Rattle.file_commands.specs.Outcome.{Output, Running, Together, first_long, inputs_of, file_made, outcome_of, packed_to, outcome_of_run, text_reported, unless_long, outcome_of_contents}
 use Rattle.xm_commands.specs.Top.{IsQuiet}
 use Rattle.file_commands.specs.Work.{AreNotRead, IsDone, IsNotRead, Outside, ReadsFiles}
 use Rattle.file_commands.specs.declared.status.Status.TheVariants as status
@@ -37,24 +37,24 @@ running ticks system inputs = Together (with_inputs system inputs) ticks
 
 -- a run that reached its end
 whole : (r : Ran) (system : System) (inputs : List (List ℕ)) (ticks : ℕ) (new : Machine) (had got : Option (List ℕ)) (before mid after : BoardView)
-    → IsRun (Ok r) ticks (start (with_inputs system inputs)) new had got → mid ≡ begun before → IsRunHeard (start (with_inputs system inputs)) new mid after
+    → IsRun (Ok r) ticks (start (with_inputs system inputs)) new had got → mid ≡ without_marks before → IsRunHeard (start (with_inputs system inputs)) new mid after
     → IsRunTo ticks (running ticks system inputs) before after
 whole r system inputs ticks new had got before mid after is begins heard =
     subst (λ (board : BoardView). IsHeard (console (start (with_inputs system inputs)) ticks) board after) begins (heard ticks is.state)
 
 -- where its whole report went out
 pub left_behind : (e : Ending) (outputs : List Output) (from to : Outside) (r : Ran) (cores : List PartFile) (scripts : List Output) (system : System) (inputs : List (List ℕ)) (ticks : ℕ) (new : Machine) (had got : Option (List ℕ)) (before mid after : BoardView)
-    → EndsBehind e outputs after from to → IsRun (Ok r) ticks (start (with_inputs system inputs)) new had got → mid ≡ begun before → IsRunHeard (start (with_inputs system inputs)) new mid after
-    → Leaves e (ran ticks cores scripts system inputs).run had got before after
-unfolding ran
+    → EndsBehind e outputs after from to → IsRun (Ok r) ticks (start (with_inputs system inputs)) new had got → mid ≡ without_marks before → IsRunHeard (start (with_inputs system inputs)) new mid after
+    → LeavesBoard e (outcome_of_run ticks cores scripts system inputs).run had got before after
+unfolding outcome_of_run
 left_behind e outputs from to r cores scripts system inputs ticks new had got before mid after ends is begins heard =
     behind_leaves e outputs (running ticks system inputs) had got from to before after (whole r system inputs ticks new had got before mid after is begins heard) ends
 
 -- a run whose report was cut
 pub left_cut : (fault : WriteFault) (cores : List PartFile) (scripts : List Output) (system : System) (inputs : List (List ℕ)) (ticks : ℕ) (new : Machine) (had got : Option (List ℕ)) (before mid after : BoardView)
-    → IsRun (Err fault) ticks (start (with_inputs system inputs)) new had got → mid ≡ begun before → IsRunHeard (start (with_inputs system inputs)) new mid after
-    → Leaves Unwritten (ran ticks cores scripts system inputs).run had got before after
-unfolding ran
+    → IsRun (Err fault) ticks (start (with_inputs system inputs)) new had got → mid ≡ without_marks before → IsRunHeard (start (with_inputs system inputs)) new mid after
+    → LeavesBoard Unwritten (outcome_of_run ticks cores scripts system inputs).run had got before after
+unfolding outcome_of_run
 left_cut fault cores scripts system inputs ticks new had got before mid after is begins heard = record {
   front = record {
     count = is.report.count;
@@ -68,13 +68,13 @@ left_cut fault cores scripts system inputs ticks new had got before mid after is
 }
 
 -- where nothing was made, the board is left as it was
-pub unmade_leaves : (e : Ending) (file : List ℕ) (why : Unmade) (run : Option Running) (had got : Option (List ℕ)) (board : BoardView) → IsUnmadeOf e file why → Leaves e run had got board board
+pub unmade_leaves : (e : Ending) (file : List ℕ) (why : Unmade) (run : Option Running) (had got : Option (List ℕ)) (board : BoardView) → IsUnmadeOf e file why → LeavesBoard e run had got board board
 unmade_leaves e file (unmade.Refused text) run had got board ends = rw ends refl
 unmade_leaves e file unmade.Memory run had got board ends = rw ends refl
 
 -- a command whose files were read
 pub left_by : (e : Ending) (command : Command) (files : Option Files) (contents : List (List ℕ)) (had got : Option (List ℕ)) (before after : BoardView) → ReadsFiles files (inputs_of command) contents
-    → Leaves e (outcome_of command contents).run had got before after → IsLeft e (Some command) files had got before after
+    → LeavesBoard e (outcome_of command contents).run had got before after → IsLeft e (Some command) files had got before after
 left_by Finished command files contents had got before after read leaves = record { contents = contents; read = read; leaves = leaves }
 left_by Misused command files contents had got before after read leaves = leaves
 left_by (Unread file) command files contents had got before after read leaves = leaves
@@ -108,25 +108,25 @@ left_not_all_read Starved command names files before after had got board not_rea
 -- a command that runs nothing
 pub left_still : (e : Ending) (command : Command) (before after : Outside) (had got : Option (List ℕ)) (board : BoardView) → ((contents : List (List ℕ)) → (outcome_of command contents).run ≡ None)
     → IsDone e command before after → IsLeft e (Some command) before.files had got board board
-left_still Finished command before after had got board none w = record { contents = w.contents; read = w.read; leaves = subst (λ (run : Option Running). Leaves Finished run had got board board) (sym (none w.contents)) refl }
+left_still Finished command before after had got board none w = record { contents = w.contents; read = w.read; leaves = subst (λ (run : Option Running). LeavesBoard Finished run had got board board) (sym (none w.contents)) refl }
 left_still Misused command before after had got board none w = absurd w
 left_still (Unread file) command before after had got board none w = refl
 left_still (Denied file text) command before after had got board none w = refl
-left_still Unwritten command before after had got board none w = record { contents = w.contents; read = w.read; leaves = subst (λ (run : Option Running). Leaves Unwritten run had got board board) (sym (none w.contents)) refl }
-left_still (Unsaved file) command before after had got board none w = record { contents = w.contents; read = w.read; leaves = subst (λ (run : Option Running). Leaves (Unsaved file) run had got board board) (sym (none w.contents)) refl }
+left_still Unwritten command before after had got board none w = record { contents = w.contents; read = w.read; leaves = subst (λ (run : Option Running). LeavesBoard Unwritten run had got board board) (sym (none w.contents)) refl }
+left_still (Unsaved file) command before after had got board none w = record { contents = w.contents; read = w.read; leaves = subst (λ (run : Option Running). LeavesBoard (Unsaved file) run had got board board) (sym (none w.contents)) refl }
 left_still (Unheard place) command before after had got board none w = absurd (let some : IsSome {T = Running} None = subst (λ (run : Option Running). IsSome run) (none w.carried.contents) w.run in cc)
 left_still Starved command before after had got board none w = refl
 
 -- these do
-no_run : (command : Command) (contents : List (List ℕ)) → (worked command contents).run ≡ None → (outcome_of command contents).run ≡ None
+no_run : (command : Command) (contents : List (List ℕ)) → (outcome_of_contents command contents).run ≡ None → (outcome_of command contents).run ≡ None
 unfolding outcome_of
 no_run command contents none = at (first_long (inputs_of command) contents)
   where
-    at : (long : Option (List ℕ)) → (unless_long long (worked command contents)).run ≡ None
+    at : (long : Option (List ℕ)) → (unless_long long (outcome_of_contents command contents)).run ≡ None
     at None = none
     at (Some file) = refl
 
-made_runs : (input output : List ℕ) (r : Result (List ℕ) (List ℕ)) → (made input output r).run ≡ None
+made_runs : (input output : List ℕ) (r : Result (List ℕ) (List ℕ)) → (file_made input output r).run ≡ None
 made_runs input output (Ok bytes) = refl
 made_runs input output (Err text) = refl
 
@@ -134,7 +134,7 @@ packed_runs : (output : List ℕ) (r : Result (List ℕ) Denial) → (packed_to 
 packed_runs output (Ok bytes) = refl
 packed_runs output (Err denial) = refl
 
-told_runs : (file : List ℕ) (r : Result (List ℕ) (List ℕ)) → (told file r).run ≡ None
+told_runs : (file : List ℕ) (r : Result (List ℕ) (List ℕ)) → (text_reported file r).run ≡ None
 told_runs file (Ok text) = refl
 told_runs file (Err text) = refl
 
@@ -181,7 +181,7 @@ marked (Unsaved file) command files had got before after left h usage = absurd (
 marked (Unheard place) None files had got before after left h usage = absurd (let wrong : UartFault ≡ Usage = usage refl in cc)
 marked (Unheard place) (Some command) files had got before after left h usage = by (outcome_of command left.contents).run left.leaves
   where
-    by : (run : Option Running) → Leaves (Unheard place) run had got before after → IsMarked after
+    by : (run : Option Running) → LeavesBoard (Unheard place) run had got before after → IsMarked after
     by None leaves = absurd leaves
     by (Some run) leaves = record { place = place; marked = leaves.marked.marked }
 marked Starved command files had got before after left h usage = absurd (cc)

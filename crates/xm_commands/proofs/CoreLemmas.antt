@@ -10,38 +10,38 @@ use Rattle.machine_model.specs.Facts.{BootsComplete, RunsKeepNumbers}
 use Rattle.machine_model.specs.Machine.{Machine, run, start}
 use Rattle.machine_model.specs.View.{System as Booted, view_of}
 use Rattle.whole_system.specs.State.{with_inputs}
-use Rattle.xm_words.specs.Words.{PartFile, RunOption, Length, ForPart, asked, cores_in, files_in, inputs_in, place_of, scripts_in}
+use Rattle.xm_words.specs.Words.{PartFile, RunOption, Length, ForPart, asked, cores_in, files_in, inputs_in, kind_place, scripts_in}
 use Rattle.xm_words.specs.declared.run_options.FileKind.{FileKind}
 use Rattle.xm_words.specs.declared.run_options.FileKind.TheVariants.{Core, Input, Script}
-use Rattle.xm_commands.specs.Cores.{AreInside, FitInto}
+use Rattle.xm_commands.specs.Cores.{AreForPartitions, FitInto}
 use Rattle.file_commands.specs.Inputs.{first_beyond, or_later}
 use Rattle.file_commands.specs.Outcome.{Output, core_output, core_outputs}
-use Rattle.file_commands.specs.Work.{Outside, SavesAll, called, with_files, wrote}
+use Rattle.file_commands.specs.Work.{Outside, SavesAll, after_store_call, with_files, wrote}
 
 -- Partitions that there are.
 
 -- where no option's partition is beyond them, those of the files of one kind are among them
-options_inside : (parts : ℕ) (kind : FileKind) (options : List RunOption) → first_beyond parts options ≡ None → AreInside parts (files_in kind options)
+options_inside : (parts : ℕ) (kind : FileKind) (options : List RunOption) → first_beyond parts options ≡ None → AreForPartitions parts (files_in kind options)
 options_inside parts kind [] none = tt
 options_inside parts kind (Length span ∷ options) none = options_inside parts kind options none
 options_inside parts kind (ForPart other named ∷ options) none = at (nat_le parts named.part) refl none (λ e. options_inside parts kind options e)
   where
-    one : named.part < parts → AreInside parts (files_in kind options) → (t : Bool) → AreInside parts (cons_option (asked t named) (files_in kind options))
+    one : named.part < parts → AreForPartitions parts (files_in kind options) → (t : Bool) → AreForPartitions parts (cons_option (asked t named) (files_in kind options))
     one below rest true = (below, rest)
     one below rest false = rest
 
-    at : (t : Bool) → nat_le parts named.part ≡ t → or_later (if t then Some named else None) (first_beyond parts options) ≡ None → (first_beyond parts options ≡ None → AreInside parts (files_in kind options)) → AreInside parts (files_in kind (ForPart other named ∷ options))
+    at : (t : Bool) → nat_le parts named.part ≡ t → or_later (if t then Some named else None) (first_beyond parts options) ≡ None → (first_beyond parts options ≡ None → AreForPartitions parts (files_in kind options)) → AreForPartitions parts (files_in kind (ForPart other named ∷ options))
     at true is e rest = absurd (cc)
-    at false is e rest = one (grind (arith, nat_tests)) (rest e) (place_of other == place_of kind)
+    at false is e rest = one (grind (arith, nat_tests)) (rest e) (kind_place other == kind_place kind)
 
 -- the inputs, the core files and the scripts of options are for such partitions
-pub inputs_inside : (parts : ℕ) (options : List RunOption) → first_beyond parts options ≡ None → AreInside parts (inputs_in options)
+pub inputs_inside : (parts : ℕ) (options : List RunOption) → first_beyond parts options ≡ None → AreForPartitions parts (inputs_in options)
 inputs_inside parts options none = options_inside parts Input options none
 
-pub cores_inside : (parts : ℕ) (options : List RunOption) → first_beyond parts options ≡ None → AreInside parts (cores_in options)
+pub cores_inside : (parts : ℕ) (options : List RunOption) → first_beyond parts options ≡ None → AreForPartitions parts (cores_in options)
 cores_inside parts options none = options_inside parts Core options none
 
-pub scripts_inside : (parts : ℕ) (options : List RunOption) → first_beyond parts options ≡ None → AreInside parts (scripts_in options)
+pub scripts_inside : (parts : ℕ) (options : List RunOption) → first_beyond parts options ≡ None → AreForPartitions parts (scripts_in options)
 scripts_inside parts options none = options_inside parts Script options none
 
 -- what holds anyhow holds where a result is good
@@ -54,14 +54,14 @@ booted_parts : BootsComplete → (system : System) (inputs : List (List ℕ)) �
 unfolding start
 booted_parts law system inputs = (law (with_inputs system inputs)).parts
 
-pub booted_inside : (system : System) (inputs : List (List ℕ)) (cores : List PartFile) (g : Machine) → BootsComplete → g ≡ start (with_inputs system inputs) → AreInside (length system.conf.parts) cores → AreInside (length g.parts) cores
+pub booted_inside : (system : System) (inputs : List (List ℕ)) (cores : List PartFile) (g : Machine) → BootsComplete → g ≡ start (with_inputs system inputs) → AreForPartitions (length system.conf.parts) cores → AreForPartitions (length g.parts) cores
 booted_inside system inputs cores g law is inside =
-    subst (λ (n : ℕ). AreInside n cores) (sym (ap (λ (m : Machine). length m.parts) is ∙ booted_parts law system inputs)) inside
+    subst (λ (n : ℕ). AreForPartitions n cores) (sym (ap (λ (m : Machine). length m.parts) is ∙ booted_parts law system inputs)) inside
 
 -- which a run leaves
-pub run_inside : RunsKeepNumbers → (old new : Machine) (count : ℕ) (cores : List PartFile) → new ≡ run old count → AreInside (length old.parts) cores → AreInside (length new.parts) cores
+pub run_inside : RunsKeepNumbers → (old new : Machine) (count : ℕ) (cores : List PartFile) → new ≡ run old count → AreForPartitions (length old.parts) cores → AreForPartitions (length new.parts) cores
 run_inside law old new count cores is inside =
-    subst (λ (n : ℕ). AreInside n cores) (sym (ap (λ (m : Machine). length m.parts) is ∙ (law old count).parts)) inside
+    subst (λ (n : ℕ). AreForPartitions n cores) (sym (ap (λ (m : Machine). length m.parts) is ∙ (law old count).parts)) inside
 
 -- and so it does the lengths of their core files
 pub run_fits : RunsKeepNumbers → (old new : Machine) (count most : ℕ) (cores : List PartFile) → new ≡ run old count → FitInto old.system most cores → FitInto new.system most cores
@@ -71,8 +71,8 @@ run_fits law old new count most cores is fits =
 -- The next file.
 
 -- it is for a partition that there is, and so are the others
-pub inside_next : (parts : ℕ) (rest others : List PartFile) (named : PartFile) → rest ≡ named ∷ others → AreInside parts rest → (named.part < parts) × AreInside parts others
-inside_next parts rest others named is inside = subst (AreInside parts) is inside
+pub inside_next : (parts : ℕ) (rest others : List PartFile) (named : PartFile) → rest ≡ named ∷ others → AreForPartitions parts rest → (named.part < parts) × AreForPartitions parts others
+inside_next parts rest others named is inside = subst (AreForPartitions parts) is inside
 
 -- its core file fits, and so do the others
 pub fits_next : (system : Booted) (most : ℕ) (rest others : List PartFile) (named : PartFile) → rest ≡ named ∷ others → FitInto system most rest → (core_length_of (view_of system named.part) ≤ most) × FitInto system most others
@@ -115,7 +115,7 @@ saves_none g rest before none = subst (λ (files : List PartFile). SavesAll None
 
 -- the next core file was not written
 pub lost_next : (g : Machine) (rest others : List PartFile) (named : PartFile) (before after : Outside) → rest ≡ named ∷ others → Rose before.write_faults after.write_faults → OthersStay before.files named.file after.files
-    → after ≡ with_files after.files after.write_faults (called before) → SavesAll (Some named.file) (core_outputs g rest) before after
+    → after ≡ with_files after.files after.write_faults (after_store_call before) → SavesAll (Some named.file) (core_outputs g rest) before after
 unfolding core_outputs
 lost_next g rest others named before after is rose stay outside =
     subst (λ (files : List PartFile). SavesAll (Some named.file) (core_outputs g files) before after) (sym is)

@@ -12,10 +12,10 @@ use Rattle.file_commands.specs.Denial.{Denial}
 use Rattle.file_commands.specs.Ending.{Ending, Finished, Misused, Unread, Denied, Unwritten, Unsaved, Unheard, Starved, status_of}
 use Rattle.file_commands.specs.Inputs.{inputs_for}
 use Rattle.file_commands.specs.Makes.{IsUnmadeOf}
-use Rattle.xm_commands.specs.Numbers.{HasTold, HaveTold, IsMade, TellsIn, TellsOf, TellsShort}
+use Rattle.xm_commands.specs.Numbers.{HasTold, HaveTold, HasScripts, TellsIn, TellsOf, TellsShort}
 use Rattle.file_commands.specs.Outcome.{content, ticks_asked}
-use Rattle.file_commands.specs.Packing.{names_of}
-use Rattle.xm_commands.specs.Top.{IsComplete}
+use Rattle.file_commands.specs.Packing.{file_names}
+use Rattle.xm_commands.specs.Top.{IsCompleteStatus}
 use Rattle.file_commands.specs.Work.{AreNotRead, Outside, ReadsFiles}
 use Rattle.file_commands.specs.declared.status.Status.TheVariants.{WriteFault}
 use Rattle.xm_commands.proofs.OutsideLemmas.{are_whole}
@@ -23,7 +23,7 @@ use Rattle.xm_commands.proofs.OutsideLemmas.{are_whole}
 -- Endings.
 
 -- a call that is carried out made its scripts before, and so did one that ended at a write
-pub complete_made : (e : Ending) → IsComplete (status_of e) → IsMade e
+pub complete_made : (e : Ending) → IsCompleteStatus (status_of e) → HasScripts e
 complete_made Finished complete = tt
 complete_made Misused complete = ⊎_elim (λ done. absurd (cc)) (λ fault. absurd (cc)) complete
 complete_made (Unread file) complete = ⊎_elim (λ done. absurd (cc)) (λ fault. absurd (cc)) complete
@@ -33,7 +33,7 @@ complete_made (Unsaved file) complete = tt
 complete_made (Unheard place) complete = tt
 complete_made Starved complete = ⊎_elim (λ done. absurd (cc)) (λ fault. absurd (cc)) complete
 
-pub lost_made : (e : Ending) → status_of e ≡ WriteFault → IsMade e
+pub lost_made : (e : Ending) → status_of e ≡ WriteFault → HasScripts e
 lost_made Finished fault = absurd (cc)
 lost_made Misused fault = absurd (cc)
 lost_made (Unread file) fault = absurd (cc)
@@ -44,12 +44,12 @@ lost_made (Unheard place) fault = absurd (cc)
 lost_made Starved fault = absurd (cc)
 
 -- one that is refused, or that had no memory, did not
-pub never_unpacked : (e : Ending) (file : List ℕ) (why : Unmade) → IsUnmadeOf e file why → IsMade e → ⊥
-never_unpacked e file (unmade.Refused text) ends is = subst IsMade ends is
-never_unpacked e file unmade.Memory ends is = subst IsMade ends is
+pub never_unpacked : (e : Ending) (file : List ℕ) (why : Unmade) → IsUnmadeOf e file why → HasScripts e → ⊥
+never_unpacked e file (unmade.Refused text) ends is = subst HasScripts ends is
+never_unpacked e file unmade.Memory ends is = subst HasScripts ends is
 
 -- and one whose files were not all read
-pub unread_unmade : (e : Ending) (files : List (List ℕ)) (before after : Outside) → AreNotRead e files before after → IsMade e → ⊥
+pub unread_unmade : (e : Ending) (files : List (List ℕ)) (before after : Outside) → AreNotRead e files before after → HasScripts e → ⊥
 unread_unmade Finished files before after not_read is = not_read
 unread_unmade Misused files before after not_read is = is
 unread_unmade (Unread file) files before after not_read is = is
@@ -101,11 +101,11 @@ told_system options contents system is have other inputs unpacks given =
         → HaveTold (with_inputs s inputs) (ticks_asked (span_in options) s.conf) (scripts_in options)) same have
 
 -- what a run is told of the contents of its files
-pub told_whole : (container : List ℕ) (options : List RunOption) (told : Option Files) (fronts : List (List ℕ)) → ReadsFiles told (container ∷ names_of (inputs_in options)) fronts
+pub told_whole : (container : List ℕ) (options : List RunOption) (told : Option Files) (fronts : List (List ℕ)) → ReadsFiles told (container ∷ file_names (inputs_in options)) fronts
     → TellsShort container options fronts → TellsOf container options told
 told_whole container options told fronts read tells files known contents all =
-    let reads : ReadsFiles (Some files) (container ∷ names_of (inputs_in options)) fronts = subst (λ (o : Option Files). ReadsFiles o (container ∷ names_of (inputs_in options)) fronts) known read in
-    let is = are_whole files (container ∷ names_of (inputs_in options)) fronts reads in
+    let reads : ReadsFiles (Some files) (container ∷ file_names (inputs_in options)) fronts = subst (λ (o : Option Files). ReadsFiles o (container ∷ file_names (inputs_in options)) fronts) known read in
+    let is = are_whole files (container ∷ file_names (inputs_in options)) fronts reads in
     let same : is.contents ≡ contents = (let both : Ok is.contents ≡ Ok contents = sym is.read ∙ all in cc) in
     let whole : fronts ≡ contents = is.whole (sym is.long ∙ tells.short) ∙ same in
     subst (TellsIn options) whole tells.told

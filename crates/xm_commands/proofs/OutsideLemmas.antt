@@ -15,7 +15,7 @@ use Rattle.xm_outside.specs.Files.{Files, OthersStay, stored}
 use Rattle.xm_words.specs.Words.{Command, PartFile, RunOption, Bare, Parse, BuildImage, ReadImage, Pack, ListContainer, CheckContainer, MakePlan, CheckPlan, TellGroups, Generate, Run, Replay, ReplayFiles, cores_in, replay_core, replay_input, scripts_in, span_in}
 use Rattle.xm_container.specs.Reading.{unpacked}
 use Rattle.xm_container.specs.declared.fault.BoxFault.{BoxFault}
-use Rattle.xm_commands.specs.Answer.{read_all, read_before, saved}
+use Rattle.xm_commands.specs.Answer.{read_all, read_before, files_saved}
 use Rattle.loaded_system.specs.Bare.{bare_system}
 use Rattle.loaded_system.specs.System.{System}
 use Rattle.whole_system.specs.State.{with_inputs}
@@ -28,7 +28,7 @@ use Rattle.file_maker.specs.Parsing.{xmc_of}
 use Rattle.file_maker.specs.Planning.{plan_lines_of, verdicts_of}
 use Rattle.alone_replay.specs.Ready.{Replay as Readied, Unready, replay_of}
 use Rattle.file_commands.specs.Denial.{Denial}
-use Rattle.file_commands.specs.Outcome.{Output, bare_outcome, content, first_long, input_bytes, made, packed_to, played, ran, ran_for, ran_scripted, ran_with, ran_within, refused, refused_by, replay_by, replay_outcome, run_by, run_outcome, told, inputs_of, outcome_of, scripts_for, ticks_asked, unless_long, worked}
+use Rattle.file_commands.specs.Outcome.{Output, bare_outcome, content, first_long, input_bytes, file_made, packed_to, played, outcome_of_run, ran_for, ran_scripted, ran_with, ran_within, command_refused, refused_by, replay_outcome_by, replay_outcome, run_by, run_outcome, text_reported, inputs_of, outcome_of, scripts_for, ticks_asked, unless_long, outcome_of_contents}
 use Rattle.xm_commands.specs.Top.{AreContents}
 use Rattle.file_commands.specs.Work.{counted_by, Outside, ReadsFiles, wrote}
 use Rattle.file_commands.specs.CommandLemmas.{outcome-long}
@@ -61,7 +61,7 @@ wrote-write_faults None x = refl
 wrote-write_faults (Some output) x = refl
 
 -- the files that are told, once a file is written
-pub wrote-files : (o : Option Output) (x : Outside) (files : Files) → x.files ≡ Some files → (wrote o x).files ≡ Some (saved o files)
+pub wrote-files : (o : Option Output) (x : Outside) (files : Files) → x.files ≡ Some files → (wrote o x).files ≡ Some (files_saved o files)
 wrote-files None x files told = told
 wrote-files (Some output) x files told = rw told refl
 
@@ -84,7 +84,7 @@ same_refusal : (one other : Denial) → Some one ≡ Some other → refused_by o
 same_refusal one other e = (let same : one ≡ other = cc in ap refused_by same)
 
 -- what is made is refused so, or not at all
-made-denied : (input file : List ℕ) (made_of : Result (List ℕ) (List ℕ)) (denial : Denial) → (made input file made_of).denial ≡ Some denial → made input file made_of ≡ refused_by denial
+made-denied : (input file : List ℕ) (made_of : Result (List ℕ) (List ℕ)) (denial : Denial) → (file_made input file made_of).denial ≡ Some denial → file_made input file made_of ≡ refused_by denial
 made-denied input file (Ok bytes) denial e = absurd (cc)
 made-denied input file (Err text) denial e = same_refusal _ denial e
 
@@ -94,13 +94,13 @@ packed-denied file (Ok bytes) denial e = absurd (cc)
 packed-denied file (Err refusal) denial e = same_refusal refusal denial e
 
 -- and what is told
-told-denied : (file : List ℕ) (text : Result (List ℕ) (List ℕ)) (denial : Denial) → (told file text).denial ≡ Some denial → told file text ≡ refused_by denial
+told-denied : (file : List ℕ) (text : Result (List ℕ) (List ℕ)) (denial : Denial) → (text_reported file text).denial ≡ Some denial → text_reported file text ≡ refused_by denial
 told-denied file (Ok text) denial e = absurd (cc)
 told-denied file (Err text) denial e = same_refusal _ denial e
 
 -- a run of a system is not refused
-ran-denied : (ticks : ℕ) (cores : List PartFile) (scripts : List Output) (system : System) (inputs : List (List ℕ)) (denial : Denial) → (ran ticks cores scripts system inputs).denial ≡ Some denial → ⊥
-unfolding ran
+ran-denied : (ticks : ℕ) (cores : List PartFile) (scripts : List Output) (system : System) (inputs : List (List ℕ)) (denial : Denial) → (outcome_of_run ticks cores scripts system inputs).denial ≡ Some denial → ⊥
+unfolding outcome_of_run
 ran-denied ticks cores scripts system inputs denial e = cc
 
 -- a run of an image is refused so, or not at all
@@ -108,7 +108,7 @@ bare-denied : (file : List ℕ) (ticks : ℕ) (image : List ℕ) (denial : Denia
 unfolding bare_outcome
 bare-denied file ticks image denial e = at ((length image == 0) || nat_lt IMAGE_BYTES (length image)) e
   where
-    at : (t : Bool) → (if t then refused file (length_text (length image)) else ran ticks [] [] (bare_system image) (no_inputs 1)).denial ≡ Some denial → (if t then refused file (length_text (length image)) else ran ticks [] [] (bare_system image) (no_inputs 1)) ≡ refused_by denial
+    at : (t : Bool) → (if t then command_refused file (length_text (length image)) else outcome_of_run ticks [] [] (bare_system image) (no_inputs 1)).denial ≡ Some denial → (if t then command_refused file (length_text (length image)) else outcome_of_run ticks [] [] (bare_system image) (no_inputs 1)) ≡ refused_by denial
     at true e = same_refusal _ denial e
     at false e = absurd (ran-denied ticks [] [] (bare_system image) (no_inputs 1) denial e)
 
@@ -122,7 +122,7 @@ within-denied : (file : List ℕ) (options : List RunOption) (system : System) (
 unfolding ran_within
 within-denied file options system inputs denial e = at (ticks_asked (span_in options) system.conf) e
   where
-    by : (asked : ℕ) (t : Bool) (scripts : Result (List Output) Denial) → (if t then refused file (ticks_text asked) else ran_scripted asked (cores_in options) system inputs scripts).denial ≡ Some denial → (if t then refused file (ticks_text asked) else ran_scripted asked (cores_in options) system inputs scripts) ≡ refused_by denial
+    by : (asked : ℕ) (t : Bool) (scripts : Result (List Output) Denial) → (if t then command_refused file (ticks_text asked) else ran_scripted asked (cores_in options) system inputs scripts).denial ≡ Some denial → (if t then command_refused file (ticks_text asked) else ran_scripted asked (cores_in options) system inputs scripts) ≡ refused_by denial
     by asked true scripts e = same_refusal _ denial e
     by asked false scripts e = scripted-denied asked (cores_in options) system inputs scripts denial e
 
@@ -153,7 +153,7 @@ replay-denied : (container : List ℕ) (part : ℕ) (script : List ℕ) (further
 unfolding replay_outcome
 replay-denied container part script further bytes told input denial e = at (replay_of bytes part told input) e
   where
-    at : (made_of : Result Readied Unready) → (replay_by container part script further made_of).denial ≡ Some denial → replay_by container part script further made_of ≡ refused_by denial
+    at : (made_of : Result Readied Unready) → (replay_outcome_by container part script further made_of).denial ≡ Some denial → replay_outcome_by container part script further made_of ≡ refused_by denial
     at (Ok replay) e = absurd (played-denied (replay_core further) replay denial e)
     at (Err why) e = same_refusal _ denial e
 
@@ -162,7 +162,7 @@ pub outcome-denied : (command : Command) (contents : List (List ℕ)) (denial : 
 unfolding outcome_of
 outcome-denied command contents denial is = at command (first_long (inputs_of command) contents) is
   where
-    at : (command : Command) (long : Option (List ℕ)) → (unless_long long (worked command contents)).denial ≡ Some denial → unless_long long (worked command contents) ≡ refused_by denial
+    at : (command : Command) (long : Option (List ℕ)) → (unless_long long (outcome_of_contents command contents)).denial ≡ Some denial → unless_long long (outcome_of_contents command contents) ≡ refused_by denial
     at command (Some file) e = same_refusal _ denial e
     at (Bare image ticks) None e = bare-denied image ticks (content 0 contents) denial e
     at (Parse description out) None e = made-denied description out (xmc_of (content 0 contents)) denial e

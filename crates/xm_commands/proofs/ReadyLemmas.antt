@@ -9,8 +9,8 @@ use Rattle.file_commands.specs.Ending.{Ending, Finished, Misused, Unread, Denied
 use Rattle.file_commands.specs.Outcome.{Outcome, Output, ran_scripted, ran_with}
 use Rattle.file_commands.specs.Told.{IsDenied}
 use Rattle.file_commands.specs.Work.{Comes, Outside}
-use Rattle.xm_commands.specs.Boards.{Leaves}
-use Rattle.xm_commands.specs.Numbers.{IsMade}
+use Rattle.xm_commands.specs.Boards.{LeavesBoard}
+use Rattle.xm_commands.specs.Numbers.{HasScripts}
 use Rattle.xm_commands.specs.ReadyRuns.{IsRefusing}
 
 -- because of its input words
@@ -47,7 +47,7 @@ refusing_comes (Unheard place) outcome before refuses = absurd refuses
 refusing_comes Starved outcome before refuses = refl
 
 -- and the board is left as it was
-pub refusing_leaves : (e : Ending) (outcome : Outcome) (had got : Option (List ℕ)) (board : BoardView) → IsRefusing e outcome → Leaves e outcome.run had got board board
+pub refusing_leaves : (e : Ending) (outcome : Outcome) (had got : Option (List ℕ)) (board : BoardView) → IsRefusing e outcome → LeavesBoard e outcome.run had got board board
 refusing_leaves Finished outcome had got board refuses = absurd refuses
 refusing_leaves Misused outcome had got board refuses = absurd refuses
 refusing_leaves (Unread file) outcome had got board refuses = absurd refuses
@@ -58,7 +58,7 @@ refusing_leaves (Unheard place) outcome had got board refuses = absurd refuses
 refusing_leaves Starved outcome had got board refuses = refl
 
 -- no script was made
-pub refusing_unmade : (e : Ending) (outcome : Outcome) → IsRefusing e outcome → IsMade e → ⊥
+pub refusing_unmade : (e : Ending) (outcome : Outcome) → IsRefusing e outcome → HasScripts e → ⊥
 refusing_unmade Finished outcome refuses made = refuses
 refusing_unmade Misused outcome refuses made = made
 refusing_unmade (Unread file) outcome refuses made = made

@@ -5,7 +5,7 @@ use Rattle.std.proofs.lemmas.List.{take_all}
 use Rattle.xm_outside.specs.Causes.{Rose}
 use Rattle.xm_outside.specs.Files.{Files}
 use Rattle.uart_board.specs.Heard.{IsHeard}
-use Rattle.uart_board.specs.Views.{BoardView, begun}
+use Rattle.uart_board.specs.Views.{BoardView, without_marks}
 use Rattle.alone_replay.specs.Readied.{IsUnready}
 use Rattle.alone_replay.specs.Ready.{Replay as Readied, Unready}
 use Rattle.machine_model.specs.Cue.{Cue}
@@ -13,11 +13,11 @@ use Rattle.machine_model.specs.View.{view_of}
 use Rattle.xm_alone.specs.Replay.{IsCutReplay, IsReplayed, IsWholeReplay, Lone, booted_alone, own_view, replay_lines, replay_said}
 use Rattle.xm_words.specs.Words.{ReplayFiles}
 use Rattle.xm_commands.specs.Behind.{EndsBehind}
-use Rattle.xm_commands.specs.Boards.{IsRunTo, Leaves}
+use Rattle.xm_commands.specs.Boards.{IsRunTo, LeavesBoard}
 use Rattle.xm_commands.proofs.BehindLemmas.{behind_leaves, behind_outcome}
 use Rattle.file_commands.specs.Ending.{Ending, Unwritten}
 use Rattle.xm_base.specs.declared.limits.TheConstants.{FILE_BYTES}
-use Rattle.file_commands.specs.Outcome.{Output, Running, Apart, content, first_long, input_bytes, name_in, played, replay_by, replay_output, unready_denial}
+use Rattle.file_commands.specs.Outcome.{Output, Running, Apart, content, first_long, input_bytes, name_if_any, played, replay_outcome_by, replay_output, unready_denial}
 use Rattle.xm_commands.specs.Replaying.{lone_output, ready_of, unready_ending}
 use Rattle.file_commands.specs.Work.{Outside, Comes, outside, told_all}
 use Rattle.std.proofs.lemmas.Bool.Decides.{nat_tests}
@@ -39,7 +39,7 @@ core_is lone new cues file is =
     let view : own_view new ≡ own_view lone = ap (λ s. view_of s new.p) is.system ∙ ap (λ q. view_of lone.system q) is.p in
     rw (view, is.part) refl
 
-pub cores_are : (lone new : Lone) (cues : List Cue) (core : Option (List ℕ)) → IsReplayed cues lone new → map (lone_output new) (name_in core) ≡ (played core (ready_of lone cues)).later
+pub cores_are : (lone new : Lone) (cues : List Cue) (core : Option (List ℕ)) → IsReplayed cues lone new → map (lone_output new) (name_if_any core) ≡ (played core (ready_of lone cues)).later
 unfolding played
 cores_are lone new cues None is = refl
 cores_are lone new cues (Some file) is = ap (λ (o : Output). o ∷ []) (core_is lone new cues file is)
@@ -55,7 +55,7 @@ played-runs core replay = refl
 
 -- so it comes to what is done behind its report
 pub behind_replay : (e : Ending) (board : BoardView) (lone new : Lone) (cues : List Cue) (core : Option (List ℕ)) (had got : Option (List ℕ)) (before now : ℕ) (files : Option Files) (reads writes calls : ℕ) (mid last : BoardView) (after : Outside)
-    → IsWholeReplay cues (replay_lines (own_view lone) cues) lone new had got mid last → now ≡ before → EndsBehind e (map (lone_output new) (name_in core)) board (outside files reads writes calls got now) after
+    → IsWholeReplay cues (replay_lines (own_view lone) cues) lone new had got mid last → now ≡ before → EndsBehind e (map (lone_output new) (name_if_any core)) board (outside files reads writes calls got now) after
     → Comes e (played core (ready_of lone cues)) (outside files reads writes calls had before) after
 behind_replay e board lone new cues core had got before now files reads writes calls mid last after is same ends =
     behind_outcome e board (played core (ready_of lone cues)) (outside files reads writes calls had before) (outside files reads writes calls got now) after (played-granted core (ready_of lone cues)) (played-runs core (ready_of lone cues))
@@ -76,7 +76,7 @@ said_same : (lone : Lone) (cues : List Cue) → lone ≡ booted_alone lone.syste
 said_same lone cues booted = ap (λ l. replay_said l cues) booted
 
 -- all of it
-whole_heard : (lone new : Lone) (cues : List Cue) (had got : Option (List ℕ)) (before mid after : BoardView) → IsWholeReplay cues (replay_lines (own_view lone) cues) lone new had got mid after → mid ≡ begun before
+whole_heard : (lone new : Lone) (cues : List Cue) (had got : Option (List ℕ)) (before mid after : BoardView) → IsWholeReplay cues (replay_lines (own_view lone) cues) lone new had got mid after → mid ≡ without_marks before
     → IsRunTo (length cues) (Apart lone.system lone.p cues) before after
 whole_heard lone new cues had got before mid after is begins = rw take_all_same (subst (λ (board : BoardView). IsHeard (replay_said lone cues) board after) begins is.heard)
   where
@@ -85,13 +85,13 @@ whole_heard lone new cues had got before mid after is begins = rw take_all_same 
 
 -- where its whole report went out
 pub lone_behind : (e : Ending) (outputs : List Output) (from to : Outside) (lone new : Lone) (cues : List Cue) (core : Option (List ℕ)) (had got : Option (List ℕ)) (before mid after : BoardView)
-    → EndsBehind e outputs after from to → IsWholeReplay cues (replay_lines (own_view lone) cues) lone new had got mid after → mid ≡ begun before → Leaves e (played core (ready_of lone cues)).run had got before after
+    → EndsBehind e outputs after from to → IsWholeReplay cues (replay_lines (own_view lone) cues) lone new had got mid after → mid ≡ without_marks before → LeavesBoard e (played core (ready_of lone cues)).run had got before after
 unfolding played
 lone_behind e outputs from to lone new cues core had got before mid after ends is begins =
     behind_leaves e outputs (Apart lone.system lone.p cues) had got from to before after (whole_heard lone new cues had got before mid after is begins) ends
 
-pub lone_cut : (lone new : Lone) (cues : List Cue) (core : Option (List ℕ)) (had got : Option (List ℕ)) (before mid after : BoardView) → IsCutReplay cues (replay_lines (own_view lone) cues) lone new had got mid after → mid ≡ begun before
-    → Leaves Unwritten (played core (ready_of lone cues)).run had got before after
+pub lone_cut : (lone new : Lone) (cues : List Cue) (core : Option (List ℕ)) (had got : Option (List ℕ)) (before mid after : BoardView) → IsCutReplay cues (replay_lines (own_view lone) cues) lone new had got mid after → mid ≡ without_marks before
+    → LeavesBoard Unwritten (played core (ready_of lone cues)).run had got before after
 unfolding played
 lone_cut lone new cues core had got before mid after is begins = record {
   front = is.report;
@@ -104,14 +104,14 @@ lone_cut lone new cues core had got before mid after is begins = record {
 -- A replay that cannot begin.
 
 pub unready_comes : (container : List ℕ) (part : ℕ) (script : List ℕ) (further : ReplayFiles) (why : Option Unready) (made : Result Readied Unready) (before : Outside) → IsUnready why made
-    → Comes (unready_ending container part script further why) (replay_by container part script further made) before before
+    → Comes (unready_ending container part script further why) (replay_outcome_by container part script further made) before before
 unready_comes container part script further None made before is = refl
 unready_comes container part script further (Some why) made before is =
-    subst (λ (m : Result Readied Unready). Comes (unready_ending container part script further (Some why)) (replay_by container part script further m) before before) (sym is)
+    subst (λ (m : Result Readied Unready). Comes (unready_ending container part script further (Some why)) (replay_outcome_by container part script further m) before before) (sym is)
     (refused_comes (unready_denial container part script further why).file (unready_denial container part script further why).text before)
 
 pub unready_leaves : (container : List ℕ) (part : ℕ) (script : List ℕ) (further : ReplayFiles) (why : Option Unready) (run : Option Running) (had got : Option (List ℕ)) (board : BoardView)
-    → Leaves (unready_ending container part script further why) run had got board board
+    → LeavesBoard (unready_ending container part script further why) run had got board board
 unready_leaves container part script further None run had got board = refl
 unready_leaves container part script further (Some why) run had got board = refl
 
@@ -140,7 +140,7 @@ head_short file files (bytes ∷ contents) none = at (nat_lt FILE_BYTES (length 
     at false is e = grind (arith, nat_tests)
 
 -- the input words of a replay none of whose files is too long
-pub input_short : (container script : List ℕ) (input : Option (List ℕ)) (contents : List (List ℕ)) → first_long (container ∷ script ∷ name_in input) contents ≡ None → length (input_bytes input (content 2 contents)) ≤ FILE_BYTES
+pub input_short : (container script : List ℕ) (input : Option (List ℕ)) (contents : List (List ℕ)) → first_long (container ∷ script ∷ name_if_any input) contents ≡ None → length (input_bytes input (content 2 contents)) ≤ FILE_BYTES
 input_short container script None contents none = omega arith
 input_short container script (Some file) contents none =
     let third : content 2 contents ≡ content 0 (drop 1 (drop 1 contents)) = content_next 1 contents ∙ content_next 0 (drop 1 contents) in

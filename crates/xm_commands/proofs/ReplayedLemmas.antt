@@ -17,7 +17,7 @@ use Rattle.xm_words.specs.Words.{Command, ReplayFiles, Bare, Parse, BuildImage, 
 use Rattle.xm_commands.specs.Answer.{read_all}
 use Rattle.file_commands.specs.Denial.{Denial}
 use Rattle.file_commands.specs.Ending.{Ending, status_of}
-use Rattle.file_commands.specs.Outcome.{Output, Outcome, content, core_output, first_long, input_bytes, inputs_of, name_in, outcome_of, played, replay_by, replay_outcome, replay_output, unless_long, worked}
+use Rattle.file_commands.specs.Outcome.{Output, Outcome, content, core_output, first_long, input_bytes, inputs_of, name_if_any, outcome_of, played, replay_outcome_by, replay_outcome, replay_output, unless_long, outcome_of_contents}
 use Rattle.xm_commands.specs.Separation.{ReplaysAlone, ShowsOwn}
 use Rattle.xm_commands.specs.Top.{AreContents, IsRefusedIn}
 use Rattle.file_commands.specs.Work.{Outside, IsCarriedOut, IsWorked, called_for, did, told_all, wrote_all}
@@ -29,13 +29,13 @@ use Rattle.xm_commands.proofs.WrittenLemmas.{did-got, wrote_all-from}
 
 -- what a replay that may begin comes to
 begun_outcome : (container : List ℕ) (part : ℕ) (script : List ℕ) (further : ReplayFiles) (contents : List (List ℕ)) (replay : Readied)
-    → first_long (container ∷ script ∷ name_in (replay_input further)) contents ≡ None
+    → first_long (container ∷ script ∷ name_if_any (replay_input further)) contents ≡ None
     → replay_of (content 0 contents) part (content 1 contents) (input_bytes (replay_input further) (content 2 contents)) ≡ Ok replay
     → outcome_of (Replay container part script further) contents ≡ played (replay_core further) replay
 unfolding outcome_of replay_outcome
 begun_outcome container part script further contents replay short begins =
-    ap (λ (long : Option (List ℕ)). unless_long long (worked (Replay container part script further) contents)) short
-    ∙ ap (replay_by container part script further) begins
+    ap (λ (long : Option (List ℕ)). unless_long long (outcome_of_contents (Replay container part script further) contents)) short
+    ∙ ap (replay_outcome_by container part script further) begins
 
 -- it is not refused
 never_refused : (core : Option (List ℕ)) (replay : Readied) → IsSome (played core replay).denial → ⊥
@@ -49,7 +49,7 @@ one_output file bytes = record { file = file; bytes = bytes } ∷ []
 -- the core file that it writes is that after the run
 own_cores : (system : System) (ticks part : ℕ) (replay : Readied) (core : Option (List ℕ))
     → core_file_of (run (start system) ticks) part ≡ Some (core_file (view_of replay.system replay.p) (replayed (view_of replay.system replay.p) replay.cues).state)
-    → map (replay_output replay) (name_in core) ≡ map (λ (file : List ℕ). core_output (run (start system) ticks) (record { part = part; file = file })) (name_in core)
+    → map (replay_output replay) (name_if_any core) ≡ map (λ (file : List ℕ). core_output (run (start system) ticks) (record { part = part; file = file })) (name_if_any core)
 own_cores system ticks part replay None is = refl
 own_cores system ticks part replay (Some file) is =
     ap (one_output file) (sym (core_there (run (start system) ticks) part _ is))
@@ -66,7 +66,7 @@ shows_own system ticks part replay core before read_from after lines file files 
       ∙ ap (λ (ls : List ReportLine). grown before.got (texts ls)) lines;
   written = ap (λ (x : Outside). x.files) is
       ∙ ap (λ (os : List Output). (wrote_all os (told_all (played core replay) read_from)).files) (own_cores system ticks part replay core file)
-      ∙ wrote_all-from (map (λ (f : List ℕ). core_output (run (start system) ticks) (record { part = part; file = f })) (name_in core)) (told_all (played core replay) read_from) before files;
+      ∙ wrote_all-from (map (λ (f : List ℕ). core_output (run (start system) ticks) (record { part = part; file = f })) (name_if_any core)) (told_all (played core replay) read_from) before files;
 }
 
 -- contents that were read of known files are these

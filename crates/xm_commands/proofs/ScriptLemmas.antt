@@ -10,21 +10,21 @@ use Rattle.machine_model.specs.View.{System as Booted}
 use Rattle.whole_system.specs.State.{with_inputs}
 use Rattle.xm_words.specs.Words.{PartFile, RunOption, cores_in, scripts_in, span_in}
 use Rattle.std.specs.String.{string_bytes}
-use Rattle.cue_scripts.specs.Texts.{text}
-use Rattle.cue_scripts.specs.Written.{IsFile}
+use Rattle.cue_scripts.specs.Texts.{script_fault_text}
+use Rattle.cue_scripts.specs.Written.{IsScriptFile}
 use Rattle.cue_scripts.specs.declared.fault.ScriptFault.{ScriptFault}
 use Rattle.cue_scripts.specs.declared.fault.ScriptFault.TheVariants as fault
-use Rattle.file_maker.specs.Makes.{IsTold}
+use Rattle.file_maker.specs.Makes.{IsRefusalText}
 use Rattle.file_maker.specs.declared.unmade.Unmade.{Unmade}
 use Rattle.file_maker.specs.declared.unmade.Unmade.TheVariants as unmade
 use Rattle.file_commands.specs.Makes.{IsUnmadeOf}
 use Rattle.file_commands.specs.Denial.{Denial}
 use Rattle.file_commands.specs.Ending.{Ending, Finished, Misused, Unread, Denied, Unwritten, Unsaved, Unheard, Starved, ticks_text}
-use Rattle.file_commands.specs.Outcome.{Output, ran_for, ran_scripted, ran_within, refused, script_before, script_bytes, script_denial, script_output, scripts_for, ticks_asked, unless_denied}
+use Rattle.file_commands.specs.Outcome.{Output, ran_for, ran_scripted, ran_within, command_refused, script_before, script_bytes, script_denial, script_output, scripts_for, ticks_asked, unless_denied}
 use Rattle.xm_commands.specs.Scripts.{script_or}
 use Rattle.file_commands.specs.Told.{AreSaved, IsDenied, ending_of}
 use Rattle.file_commands.specs.declared.ending.Ending as code
-use Rattle.file_commands.specs.Work.{Outside, AreNotSaved, IsLostOf, SavesAll, called, with_files, wrote}
+use Rattle.file_commands.specs.Work.{Outside, AreNotSaved, IsLostOf, SavesAll, after_store_call, with_files, wrote}
 use Rattle.xm_commands.proofs.CoreLemmas.{saves_after}
 
 -- One script.
@@ -38,17 +38,17 @@ script_made system ticks part file bytes is few =
 
 -- one that is
 pub script_long : (system : Booted) (ticks part : ℕ) (file : List ℕ) (found : ℕ) → found ≡ length (script_bytes system ticks part) → FILE_BYTES < length (script_bytes system ticks part)
-    → script_or (script_denial system ticks (record { part = part; file = file })) (script_output system ticks (record { part = part; file = file })) ≡ Err (record { file = file; text = text (fault.Length found) })
+    → script_or (script_denial system ticks (record { part = part; file = file })) (script_output system ticks (record { part = part; file = file })) ≡ Err (record { file = file; text = script_fault_text (fault.Length found) })
 script_long system ticks part file found is long =
     let test : nat_lt FILE_BYTES (length (script_bytes system ticks part)) ≡ true = grind (arith, nat_tests, long) in
-    rw test (ap (λ (n : ℕ). Err (record { file = file; text = text (fault.Length n) })) (sym is))
+    rw test (ap (λ (n : ℕ). Err (record { file = file; text = script_fault_text (fault.Length n) })) (sym is))
 
 -- one that was not made
 pub script_unmade : {X : Type 0} (view : X → List ℕ) (system : Booted) (ticks part : ℕ) (file : List ℕ) (why : ScriptFault) (said : Unmade) (e : Ending)
-    → IsFile view (script_bytes system ticks part) (Err why) → IsTold said (text why) → (why ≡ fault.Memory → said ≡ unmade.Memory) → IsUnmadeOf e file said
+    → IsScriptFile view (script_bytes system ticks part) (Err why) → IsRefusalText said (script_fault_text why) → (why ≡ fault.Memory → said ≡ unmade.Memory) → IsUnmadeOf e file said
     → IsDenied e (script_or (script_denial system ticks (record { part = part; file = file })) (script_output system ticks (record { part = part; file = file })))
 script_unmade view system ticks part file (fault.Length found) (unmade.Refused words) e is told memory ends =
-    let text_is : string_bytes words ≡ text (fault.Length found) = told in
+    let text_is : string_bytes words ≡ script_fault_text (fault.Length found) = told in
     rw (ends, text_is) (script_long system ticks part file found is.0 is.1)
 script_unmade view system ticks part file (fault.Length found) unmade.Memory e is told memory ends = rw ends tt
 script_unmade view system ticks part file fault.Memory said e is told memory ends =
@@ -140,7 +140,7 @@ unfolding ran_within
 within_is file options system inputs asked made is few are =
     let test : nat_lt TICKS asked ≡ false = grind (arith, nat_tests, few) in
     let by_test : ran_for file asked options system inputs ≡ ran_scripted asked (cores_in options) system inputs made =
-    ap (λ (t : Bool). if t then refused file (ticks_text asked) else ran_scripted asked (cores_in options) system inputs (scripts_for (with_inputs system inputs) asked (scripts_in options))) test
+    ap (λ (t : Bool). if t then command_refused file (ticks_text asked) else ran_scripted asked (cores_in options) system inputs (scripts_for (with_inputs system inputs) asked (scripts_in options))) test
     ∙ ap (ran_scripted asked (cores_in options) system inputs) are in
     ap (λ (n : ℕ). ran_for file n options system inputs) (sym is) ∙ by_test
 
@@ -159,7 +159,7 @@ script_saved lost rest others output before mid after is one saves =
 
 -- it was not
 pub script_lost : (rest others : List Output) (output : Output) (before after : Outside) → rest ≡ output ∷ others → Rose before.write_faults after.write_faults → OthersStay before.files output.file after.files
-    → after ≡ with_files after.files after.write_faults (called before) → SavesAll (Some output.file) rest before after
+    → after ≡ with_files after.files after.write_faults (after_store_call before) → SavesAll (Some output.file) rest before after
 script_lost rest others output before after is rose stay outside =
     subst (λ (outputs : List Output). SavesAll (Some output.file) outputs before after) (sym is)
     (record { first = []; output = output; rest = others; split = refl; named = refl; cause = rose; others = stay; outside = outside })

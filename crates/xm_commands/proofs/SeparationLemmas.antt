@@ -24,15 +24,15 @@ use Rattle.machine_model.specs.Partition.{PartitionState}
 use Rattle.machine_model.specs.View.{System, view_of}
 use Rattle.whole_system.specs.State.{part_at, with_inputs}
 use Rattle.xm_words.specs.Words.{Command, PartFile, RunOption, Bare, Parse, BuildImage, ReadImage, Pack, ListContainer, CheckContainer, MakePlan, CheckPlan, TellGroups, Generate, Run, Replay, cores_in, inputs_in, span_in, scripts_in}
-use Rattle.xm_commands.specs.Cores.{AreInside}
+use Rattle.xm_commands.specs.Cores.{AreForPartitions}
 use Rattle.file_commands.specs.Denial.{Denial}
 use Rattle.file_commands.specs.Ending.{Ending, length_text, status_of, ticks_text}
 use Rattle.file_commands.specs.Inputs.{first_beyond, inputs_for, inputs_with, no_inputs, unless_beyond}
-use Rattle.file_commands.specs.Outcome.{Output, Outcome, bare_outcome, content, core_output, core_outputs, first_long, inputs_of, outcome_of, ran, ran_scripted, ran_with, ran_within, refused, refused_by, run_by, run_outcome, script_before, script_denial, script_output, scripts_for, ticks_asked, unless_denied, unless_long, worked}
-use Rattle.xm_commands.specs.Separation.{AreAlone, CommandAlone, ContainerAlone, PrintsAlone, ShowsAlone, ShowsFront, ShowsPart, ShowsSome, alone_output, alone_outputs}
-use Rattle.xm_commands.specs.Top.{AreContents, IsComplete, IsCut, IsLost, IsLostAfter, IsWriteCause}
+use Rattle.file_commands.specs.Outcome.{Output, Outcome, bare_outcome, content, core_output, core_outputs, first_long, inputs_of, outcome_of, outcome_of_run, ran_scripted, ran_with, ran_within, command_refused, refused_by, run_by, run_outcome, script_before, script_denial, script_output, scripts_for, ticks_asked, unless_denied, unless_long, outcome_of_contents}
+use Rattle.xm_commands.specs.Separation.{AreShownAlone, CommandAlone, ContainerAlone, PrintsAlone, ShowsAlone, ShowsFront, ShowsPart, ShowsSome, alone_output, alone_outputs}
+use Rattle.xm_commands.specs.Top.{AreContents, IsCompleteStatus, IsCutShort, IsNotWritten, IsLostAfter, IsWriteCause}
 use Rattle.file_commands.specs.Work.{Outside, IsCarriedOut, IsWorked, called_for, did, told_all, wrote, wrote_all}
-use Rattle.xm_commands.specs.Numbers.{CommandTells, IsMade, Tells, TellsOf}
+use Rattle.xm_commands.specs.Numbers.{CommandTells, HasScripts, WordsTell, TellsOf}
 use Rattle.xm_commands.proofs.CoreLemmas.{cores_inside}
 use Rattle.file_commands.specs.OutputLemmas.{called_for-is}
 use Rattle.xm_commands.proofs.OutsideLemmas.{told_outcome}
@@ -55,7 +55,7 @@ unfolding core_file_of
 core_there g p bytes found = found_core g p bytes (slice_get g.parts p) refl found
 
 -- the core files after a run are those of the partitions alone
-same_cores : SameCoreFile → (system : System) (ticks : ℕ) (cores : List PartFile) → AreInside (length system.conf.parts) cores → core_outputs (run (start system) ticks) cores ≡ map (alone_output system ticks) cores
+same_cores : SameCoreFile → (system : System) (ticks : ℕ) (cores : List PartFile) → AreForPartitions (length system.conf.parts) cores → core_outputs (run (start system) ticks) cores ≡ map (alone_output system ticks) cores
 unfolding core_outputs
 same_cores law system ticks [] inside = refl
 same_cores law system ticks (named ∷ cores) inside =
@@ -65,13 +65,13 @@ same_cores law system ticks (named ∷ cores) inside =
     ∙ ap (λ (os : List Output). alone_output system ticks named ∷ os) (same_cores law system ticks cores inside.1)
 
 -- and scripts stand behind them
-same_later : SameCoreFile → (system : System) (ticks : ℕ) (cores scripts : List PartFile) → AreInside (length system.conf.parts) cores
+same_later : SameCoreFile → (system : System) (ticks : ℕ) (cores scripts : List PartFile) → AreForPartitions (length system.conf.parts) cores
     → core_outputs (run (start system) ticks) cores ++ map (script_output system ticks) scripts ≡ alone_outputs system ticks cores scripts
 same_later law system ticks cores scripts inside = ap (λ (os : List Output). os ++ map (script_output system ticks) scripts) (same_cores law system ticks cores inside)
 
 -- what a run comes to whose scripts are not too long
 abbrev ran_to : ℕ → List PartFile → List PartFile → Loaded → List (List ℕ) → Outcome
-ran_to ticks cores scripts system inputs = ran ticks cores (map (script_output (with_inputs system inputs) ticks) scripts) system inputs
+ran_to ticks cores scripts system inputs = outcome_of_run ticks cores (map (script_output (with_inputs system inputs) ticks) scripts) system inputs
 
 -- where none is refused they are what the partitions were told
 scripts_are : (system : System) (ticks : ℕ) (names : List PartFile) (outputs : List Output) → scripts_for system ticks names ≡ Ok outputs → outputs ≡ map (script_output system ticks) names
@@ -179,9 +179,9 @@ prints_run : OwnLines → (system : System) (ticks : ℕ) (before after : Outsid
 prints_run law system ticks before after got = record { lines = report system ticks; report = got; own = λ p there. law system p ticks there }
 
 -- what a run comes to
-shows_run : OwnLines → SameCoreFile → (system : Loaded) (inputs : List (List ℕ)) (ticks : ℕ) (cores scripts : List PartFile) (before read_from after : Outside) → AreInside (length system.conf.parts) cores
+shows_run : OwnLines → SameCoreFile → (system : Loaded) (inputs : List (List ℕ)) (ticks : ℕ) (cores scripts : List PartFile) (before read_from after : Outside) → AreForPartitions (length system.conf.parts) cores
     → read_from.files ≡ before.files → read_from.got ≡ before.got → IsAllOf read_from after (ran_to ticks cores scripts system inputs) → ShowsAlone (with_inputs system inputs) ticks cores scripts before after
-unfolding ran
+unfolding outcome_of_run
 shows_run lines_law core_law system inputs ticks cores scripts before read_from after inside files got is = record {
   printed = prints_run lines_law (with_inputs system inputs) ticks before after
       (ap (λ (x : Outside). x.got) is.1 ∙ did-got (ran_to ticks cores scripts system inputs) read_from ∙ ap (λ (g : Option (List ℕ)). grown g (texts (report (with_inputs system inputs) ticks))) got);
@@ -193,7 +193,7 @@ shows_run lines_law core_law system inputs ticks cores scripts before read_from 
 -- where its report was cut
 shows_front : OwnLines → (system : Loaded) (inputs : List (List ℕ)) (ticks : ℕ) (cores scripts : List PartFile) (before after : Outside)
     → IsFrontOf before after (ran_to ticks cores scripts system inputs) → ShowsFront (with_inputs system inputs) ticks cores scripts before after
-unfolding ran
+unfolding outcome_of_run
 shows_front law system inputs ticks cores scripts before after is =
     let cut = are_cut (report (with_inputs system inputs) ticks) before.got after.got is.0 in
     record {
@@ -207,9 +207,9 @@ shows_front law system inputs ticks cores scripts before after is =
     }
 
 -- where a core file or a script was not written
-shows_some : OwnLines → SameCoreFile → (system : Loaded) (inputs : List (List ℕ)) (ticks : ℕ) (cores scripts : List PartFile) (before after : Outside) → AreInside (length system.conf.parts) cores
+shows_some : OwnLines → SameCoreFile → (system : Loaded) (inputs : List (List ℕ)) (ticks : ℕ) (cores scripts : List PartFile) (before after : Outside) → AreForPartitions (length system.conf.parts) cores
     → IsSomeOf before after (ran_to ticks cores scripts system inputs) → ShowsSome (with_inputs system inputs) ticks cores scripts before after
-unfolding ran
+unfolding outcome_of_run
 shows_some lines_law core_law system inputs ticks cores scripts before after inside is =
     let booted = with_inputs system inputs in
     let told = told_all (ran_to ticks cores scripts system inputs) before in
@@ -225,20 +225,20 @@ shows_some lines_law core_law system inputs ticks cores scripts before after ins
 -- Commands that are not refused, by what was done.
 
 -- none of the files is too long
-worked_by : {R : Type 0} (Did : Outcome → Type 0) (command : Command) (contents : List (List ℕ)) → ((denial : Denial) → Did (refused_by denial) → ⊥) → (Did (worked command contents) → R) → Did (outcome_of command contents) → R
+worked_by : {R : Type 0} (Did : Outcome → Type 0) (command : Command) (contents : List (List ℕ)) → ((denial : Denial) → Did (refused_by denial) → ⊥) → (Did (outcome_of_contents command contents) → R) → Did (outcome_of command contents) → R
 unfolding outcome_of
 worked_by {R} Did command contents never ran_so is = at (first_long (inputs_of command) contents) is
   where
-    at : (long : Option (List ℕ)) → Did (unless_long long (worked command contents)) → R
+    at : (long : Option (List ℕ)) → Did (unless_long long (outcome_of_contents command contents)) → R
     at None done = ran_so done
     at (Some file) done = absurd (never _ done)
 
 -- an image that was run
-bare_by : {R : Type 0} (Did : Outcome → Type 0) (file : List ℕ) (ticks : ℕ) (image : List ℕ) → ((denial : Denial) → Did (refused_by denial) → ⊥) → (Did (ran ticks [] [] (bare_system image) (no_inputs 1)) → R) → Did (bare_outcome file ticks image) → R
+bare_by : {R : Type 0} (Did : Outcome → Type 0) (file : List ℕ) (ticks : ℕ) (image : List ℕ) → ((denial : Denial) → Did (refused_by denial) → ⊥) → (Did (outcome_of_run ticks [] [] (bare_system image) (no_inputs 1)) → R) → Did (bare_outcome file ticks image) → R
 unfolding bare_outcome
 bare_by {R} Did file ticks image never ran_so is = at ((length image == 0) || nat_lt IMAGE_BYTES (length image)) is
   where
-    at : (t : Bool) → Did (if t then refused file (length_text (length image)) else ran ticks [] [] (bare_system image) (no_inputs 1)) → R
+    at : (t : Bool) → Did (if t then command_refused file (length_text (length image)) else outcome_of_run ticks [] [] (bare_system image) (no_inputs 1)) → R
     at true done = absurd (never _ done)
     at false done = ran_so done
 
@@ -248,7 +248,7 @@ scripted_by : {R : Type 0} (Did : Outcome → Type 0) (ticks : ℕ) (cores scrip
 scripted_by {R} Did ticks cores scripts system inputs never ran_so is = at (scripts_for (with_inputs system inputs) ticks scripts) refl is
   where
     at : (made : Result (List Output) Denial) → scripts_for (with_inputs system inputs) ticks scripts ≡ made → Did (ran_scripted ticks cores system inputs made) → R
-    at (Ok outputs) are done = ran_so (subst (λ (os : List Output). Did (ran ticks cores os system inputs)) (scripts_are (with_inputs system inputs) ticks scripts outputs are) done)
+    at (Ok outputs) are done = ran_so (subst (λ (os : List Output). Did (outcome_of_run ticks cores os system inputs)) (scripts_are (with_inputs system inputs) ticks scripts outputs are) done)
     at (Err refusal) are done = absurd (never _ done)
 
 -- a run that is not too long
@@ -260,23 +260,23 @@ within_by {R} Did file options system inputs never ran_so is = at (nat_lt TICKS 
     asked : ℕ
     asked = ticks_asked (span_in options) system.conf
 
-    at : (t : Bool) → Did (if t then refused file (ticks_text asked) else ran_scripted asked (cores_in options) system inputs (scripts_for (with_inputs system inputs) asked (scripts_in options))) → R
+    at : (t : Bool) → Did (if t then command_refused file (ticks_text asked) else ran_scripted asked (cores_in options) system inputs (scripts_for (with_inputs system inputs) asked (scripts_in options))) → R
     at true done = absurd (never _ done)
     at false done = scripted_by Did asked (cores_in options) (scripts_in options) system inputs never ran_so done
 
 -- where input words are given, no option's partition is beyond those that there are
-given_inside : (parts : ℕ) (options : List RunOption) (contents inputs : List (List ℕ)) → inputs_for parts options contents ≡ Ok inputs → AreInside parts (cores_in options)
+given_inside : (parts : ℕ) (options : List RunOption) (contents inputs : List (List ℕ)) → inputs_for parts options contents ≡ Ok inputs → AreForPartitions parts (cores_in options)
 unfolding inputs_for
 given_inside parts options contents inputs given = at (first_beyond parts options) refl given
   where
-    at : (o : Option PartFile) → first_beyond parts options ≡ o → unless_beyond o (inputs_with (no_inputs parts) (inputs_in options) contents) ≡ Ok inputs → AreInside parts (cores_in options)
+    at : (o : Option PartFile) → first_beyond parts options ≡ o → unless_beyond o (inputs_with (no_inputs parts) (inputs_in options) contents) ≡ Ok inputs → AreForPartitions parts (cores_in options)
     at None is e = cores_inside parts options is
     at (Some named) is e = absurd (cc)
 
 -- what was done with a run shows this
 abbrev RunShows : (Outcome → Type 0) → (System → ℕ → List PartFile → List PartFile → Outside → Outside → Type 0) → Outside → Outside → Type 0
 RunShows Did Shows before after =
-    (system : Loaded) (inputs : List (List ℕ)) (ticks : ℕ) (cores scripts : List PartFile) → AreInside (length system.conf.parts) cores → Did (ran_to ticks cores scripts system inputs)
+    (system : Loaded) (inputs : List (List ℕ)) (ticks : ℕ) (cores scripts : List PartFile) → AreForPartitions (length system.conf.parts) cores → Did (ran_to ticks cores scripts system inputs)
     → Shows (with_inputs system inputs) ticks cores scripts before after
 
 -- a container that was run
@@ -307,7 +307,7 @@ container_by Did Shows container options contents before after are tells never s
 
 -- what a command shows
 command_by : (Did : Outcome → Type 0) (Shows : System → ℕ → List PartFile → List PartFile → Outside → Outside → Type 0) (command : Command) (contents : List (List ℕ)) (before after : Outside)
-    → AreContents before.files command contents → CommandTells command before.files → ((denial : Denial) → Did (refused_by denial) → ⊥) → RunShows Did Shows before after → Did (worked command contents) → CommandAlone Shows command before after
+    → AreContents before.files command contents → CommandTells command before.files → ((denial : Denial) → Did (refused_by denial) → ⊥) → RunShows Did Shows before after → Did (outcome_of_contents command contents) → CommandAlone Shows command before after
 command_by Did Shows (Bare image ticks) contents before after are tells never shows is = record {
   contents = contents;
   are = are;
@@ -342,7 +342,7 @@ carried_alone lines_law core_law command before after tells w =
     (λ system inputs ticks cores scripts inside done. shows_run lines_law core_law system inputs ticks cores scripts before read_from after inside files got done)
     (subst (IsAllOf read_from after) told.outcome (w.denied, w.outside))
 
-pub are_alone : OwnLines → SameCoreFile → (e : Ending) (command : Option Command) (before after : Outside) → (IsMade e → Tells command before.files) → IsWorked e command before after → IsComplete (status_of e) → AreAlone ShowsAlone command before after
+pub are_alone : OwnLines → SameCoreFile → (e : Ending) (command : Option Command) (before after : Outside) → (HasScripts e → WordsTell command before.files) → IsWorked e command before after → IsCompleteStatus (status_of e) → AreShownAlone ShowsAlone command before after
 are_alone lines_law core_law e None before after tells w complete = tt
 are_alone lines_law core_law e (Some command) before after tells w complete =
     let carried : IsCarriedOut None command before after =
@@ -351,7 +351,7 @@ are_alone lines_law core_law e (Some command) before after tells w complete =
 
 -- Where its report or one of its files was not written.
 
-front_alone : OwnLines → (command : Command) (before after : Outside) → CommandTells command before.files → IsCut command before after → CommandAlone ShowsPart command before after
+front_alone : OwnLines → (command : Command) (before after : Outside) → CommandTells command before.files → IsCutShort command before after → CommandAlone ShowsPart command before after
 front_alone law command before after tells w =
     outcome_by (IsFrontOf before after) ShowsPart command w.contents before after w.are tells (never_front before after)
     (λ system inputs ticks cores scripts inside done. inl (shows_front law system inputs ticks cores scripts before after done)) (w.front, w.files)
@@ -363,7 +363,7 @@ some_alone lines_law core_law command before after tells w =
     (record { first = w.first; output = w.output; rest = w.rest; split = w.split; report = w.report; others = w.others })
 
 -- a command that writes a file before its report runs nothing
-lost_alone : (command : Command) (before after : Outside) → IsLost command before after → CommandAlone ShowsPart command before after
+lost_alone : (command : Command) (before after : Outside) → IsNotWritten command before after → CommandAlone ShowsPart command before after
 lost_alone (Bare image ticks) before after w = absurd (let some : IsSome {T = List ℕ} None = w.output in cc)
 lost_alone (Parse description output) before after w = tt
 lost_alone (BuildImage program output) before after w = tt
@@ -378,7 +378,7 @@ lost_alone (Generate number) before after w = tt
 lost_alone (Replay container part script further) before after w = tt
 lost_alone (Run container options) before after w = absurd (let some : IsSome {T = List ℕ} None = w.output in cc)
 
-pub are_part : OwnLines → SameCoreFile → (command : Option Command) (before after : Outside) → Tells command before.files → IsWriteCause command before after → AreAlone ShowsPart command before after
+pub are_part : OwnLines → SameCoreFile → (command : Option Command) (before after : Outside) → WordsTell command before.files → IsWriteCause command before after → AreShownAlone ShowsPart command before after
 are_part lines_law core_law None before after tells w = tt
 are_part lines_law core_law (Some command) before after tells w =
     ⊎_elim (front_alone lines_law command before after tells) (λ lost. ⊎_elim (lost_alone command before after) (some_alone lines_law core_law command before after tells) lost) w

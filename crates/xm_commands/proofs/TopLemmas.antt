@@ -4,12 +4,12 @@ use Rattle.xm_outside.specs.Causes.{HasCause, Rose}
 use Rattle.xm_outside.specs.Files.{Files, IsAbsent, OthersStay}
 use Rattle.xm_outside.specs.Growth.{grown, grown-nothing, GrewByPrefix, Writes}
 use Rattle.xm_words.specs.Words.{Command, command_of}
-use Rattle.xm_commands.specs.Answer.{Answer, answer, answer_of, answer_to, answer_to_read, ending_by, read_all, saved, saved_all}
+use Rattle.xm_commands.specs.Answer.{Answer, answer, ending_answer, command_answer, answer_to_read, ending_by, read_all, files_saved, saved_all}
 use Rattle.file_commands.specs.Ending.{Ending, Finished, Misused, Unread, Denied, Unwritten, Unsaved, Unheard, Starved, complaint, status_of}
 use Rattle.file_commands.specs.Denial.{Denial}
 use Rattle.file_commands.specs.Outcome.{Output, Outcome, inputs_of, outcome_of, output_of}
-use Rattle.xm_commands.specs.Top.{Answers, AreContents, FilesStay, HasCalls, HasCauses, HasNoFault, IsFaultless, IsLost, IsLostAfter, IsQuiet, IsReadCause, IsRefusal, IsSaid, IsWriteCause, OtherFilesStay, writes_of}
-use Rattle.file_commands.specs.Work.{counted_by, Outside, IsCarriedOut, IsDone, IsLostOf, IsMisuse, IsUnread, IsWorked, ReadsFiles, called, called_for, did, file_in, told_all, wrote, wrote_all}
+use Rattle.xm_commands.specs.Top.{Answers, AreContents, FilesStay, HasCalls, HasCauses, HasNoFault, IsFaultless, IsNotWritten, IsLostAfter, IsQuiet, IsReadCause, IsRefusal, IsSaid, IsWriteCause, OtherFilesStay, writes_of}
+use Rattle.file_commands.specs.Work.{counted_by, Outside, IsCarriedOut, IsDone, IsLostOf, IsMisuse, IsUnread, IsWorked, ReadsFiles, after_store_call, called_for, did, file_in, told_all, wrote, wrote_all}
 use Rattle.file_commands.specs.OutputLemmas.{called_for-is, output-named}
 use Rattle.xm_commands.proofs.OutsideLemmas.{counted-counted_by, outcome-denied, read_all-absent, told_outcome, wrote-got}
 use Rattle.xm_commands.proofs.WrittenLemmas.{did-faults, did-files, did-got, did-read_faults, did-write_faults, did_calls, did_stays, files_same, lost_count, lost_rose, lost_stays, never_lost, told_calls, told_stays, wrote-from, wrote_all-from, wrote_all-got}
@@ -142,7 +142,7 @@ calls_as_named Misused command before after w = absurd w
 calls_as_named (Unread file) command before after w = record {
   count = suc (length w.first);
   few = (let parts : length (inputs_of command) ≡ length w.first + suc (length w.rest) = ap length w.named ∙ length-append w.first _ in omega arith);
-  calls = ap (λ (x : Outside). x.calls) w.outside ∙ ap (λ (x : Outside). (called x).calls) (called_for-is w.first before) ∙ counted-counted_by (length w.first) before.calls;
+  calls = ap (λ (x : Outside). x.calls) w.outside ∙ ap (λ (x : Outside). (after_store_call x).calls) (called_for-is w.first before) ∙ counted-counted_by (length w.first) before.calls;
 }
 calls_as_named (Denied file text) command before after w =
     subst (HasCalls command before.calls) (sym (ap (λ (x : Outside). x.calls) w.outside)) (did_calls command w.contents before.calls (called_for (inputs_of command) before) (all_calls command before))
@@ -190,7 +190,7 @@ refusal_cause (Unheard place) command before after w h = absurd (cc)
 refusal_cause Starved command before after w h = absurd (cc)
 
 -- the file before the report was not written
-lost_first : (command : Command) (contents : List (List ℕ)) (file : List ℕ) (before after : Outside) → IsLostOf file (file_in (outcome_of command contents).output) (called_for (inputs_of command) before) after → IsLost command before after
+lost_first : (command : Command) (contents : List (List ℕ)) (file : List ℕ) (before after : Outside) → IsLostOf file (file_in (outcome_of command contents).output) (called_for (inputs_of command) before) after → IsNotWritten command before after
 lost_first command contents file before after lost = record {
   cause = subst (λ (n : ℕ). Rose n after.write_faults) (ap (λ (x : Outside). x.write_faults) (called_for-is (inputs_of command) before)) lost.cause;
   output = at (outcome_of command contents).output (output-named command contents) lost;
@@ -328,7 +328,7 @@ said (Err _) line had got before now writes cause = inr (writes, cause)
 pub record IsAnswer (e : Ending) (command : Option Command) (before after : Outside) (files : Files) : Type 0 where
   pub out : List ℕ
   pub kept : Files
-  pub answer : answer_to command files ≡ answer_of e out kept
+  pub answer : command_answer command files ≡ ending_answer e out kept
   pub report : after.got ≡ grown before.got out
   pub files_are : after.files ≡ Some kept
 
@@ -342,17 +342,17 @@ carried_answer e denial command before after files w told ends =
     let here : (called_for (inputs_of command) before).files ≡ Some files = called_for-files (inputs_of command) before ∙ told in
     record {
       out = outcome.report;
-      kept = saved_all outcome.later (saved outcome.output files);
+      kept = saved_all outcome.later (files_saved outcome.output files);
       answer = ap (λ (r : Result (List (List ℕ)) (List ℕ)). answer_to_read command r files) are
-          ∙ ap (λ (d : Option Denial). answer_of (ending_by d) outcome.report (saved_all outcome.later (saved outcome.output files))) denied
-          ∙ ap (λ (e : Ending). answer_of e outcome.report (saved_all outcome.later (saved outcome.output files))) ends;
+          ∙ ap (λ (d : Option Denial). ending_answer (ending_by d) outcome.report (saved_all outcome.later (files_saved outcome.output files))) denied
+          ∙ ap (λ (e : Ending). ending_answer e outcome.report (saved_all outcome.later (files_saved outcome.output files))) ends;
       report = ap (λ (x : Outside). x.got) w.outside
           ∙ did-got (outcome_of command w.contents) (called_for (inputs_of command) before)
           ∙ ap (λ (g : Option (List ℕ)). grown g (outcome_of command w.contents).report) (ap (λ (x : Outside). x.got) (called_for-is (inputs_of command) before))
           ∙ ap (λ (o : Outcome). grown before.got o.report) is.outcome;
       files_are = ap (λ (x : Outside). x.files) w.outside
           ∙ did-files (outcome_of command w.contents) (called_for (inputs_of command) before) files here
-          ∙ ap (λ (o : Outcome). Some (saved_all o.later (saved o.output files))) is.outcome;
+          ∙ ap (λ (o : Outcome). Some (saved_all o.later (files_saved o.output files))) is.outcome;
     }
 
 -- a file that was not read is the first that is not there
@@ -419,7 +419,7 @@ answer_is (Unheard place) (Some command) before after files w told none memory =
 answer_is Starved (Some command) before after files w told none memory = absurd (memory refl)
 
 -- the answer of words is that of their command
-answer-command : (words : List (List ℕ)) (files : Files) → answer words files ≡ answer_to (command_of words) files
+answer-command : (words : List (List ℕ)) (files : Files) → answer words files ≡ command_answer (command_of words) files
 unfolding answer
 answer-command words files = refl
 

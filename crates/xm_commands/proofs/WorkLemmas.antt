@@ -27,13 +27,13 @@ use Rattle.xm_container.specs.declared.fault.BoxFault.{BoxFault}
 use Rattle.xm_words.specs.Words.{PartFile, RunOption, Bare, Run, command_of}
 use Rattle.xm_words.specs.RunLemmas.{span_within}
 use Rattle.xm_words.specs.Grammar.{CommandsAreSpelled}
-use Rattle.xm_words.specs.Seen.{seen, seen_options}
+use Rattle.xm_words.specs.Seen.{command_seen, seen_options}
 use Rattle.xm_words.specs.declared.commands.Command as code
 use Rattle.xm_words.specs.declared.commands.Command.TheVariants as variant
 use Rattle.xm_commands.specs.Behind.{EndsBehind}
 use Rattle.xm_commands.proofs.BehindLemmas.{behind_outcome}
 use Rattle.file_commands.specs.Ending.{Ending, Unwritten, length_text}
-use Rattle.file_commands.specs.Outcome.{Output, bare_outcome, core_outputs, outcome_of, ran, ran_with, refused, run_by, run_outcome}
+use Rattle.file_commands.specs.Outcome.{Output, bare_outcome, core_outputs, outcome_of, outcome_of_run, ran_with, command_refused, run_by, run_outcome}
 use Rattle.file_commands.specs.Inputs.{inputs_for, no_inputs}
 use Rattle.file_maker.specs.Makes.{IsUnmade}
 use Rattle.file_commands.specs.Makes.{IsUnmadeOf}
@@ -61,37 +61,37 @@ unfolding report_of report start
 reports_same system ticks = refl
 
 -- a run that reached its end told its report
-pub finished : (r : Ran) (cores : List PartFile) (scripts : List Output) (system : System) (inputs : List (List ℕ)) (ticks : ℕ) (new : Machine) (had got : Option (List ℕ)) → IsRun (Ok r) ticks (start (with_inputs system inputs)) new had got → got ≡ grown had (ran ticks cores scripts system inputs).report
-unfolding ran
+pub finished : (r : Ran) (cores : List PartFile) (scripts : List Output) (system : System) (inputs : List (List ℕ)) (ticks : ℕ) (new : Machine) (had got : Option (List ℕ)) → IsRun (Ok r) ticks (start (with_inputs system inputs)) new had got → got ≡ grown had (outcome_of_run ticks cores scripts system inputs).report
+unfolding outcome_of_run
 finished r cores scripts system inputs ticks new had got is = is.report ∙ ap (λ (lines : List ReportLine). grown had (texts lines)) (reports_same (with_inputs system inputs) ticks)
 
 -- a run whose report was not taken whole
 pub unwritten : (fault : WriteFault) (cores : List PartFile) (scripts : List Output) (system : System) (inputs : List (List ℕ)) (ticks : ℕ) (new : Machine) (had got : Option (List ℕ)) (before now : ℕ) (files : Option Files) (reads writes calls : ℕ)
     → IsRun (Err fault) ticks (start (with_inputs system inputs)) new had got → Rose before now
-    → Comes Unwritten (ran ticks cores scripts system inputs) (outside files reads writes calls had before) (outside files reads writes calls got now)
-unfolding ran
+    → Comes Unwritten (outcome_of_run ticks cores scripts system inputs) (outside files reads writes calls had before) (outside files reads writes calls got now)
+unfolding outcome_of_run
 unwritten fault cores scripts system inputs ticks new had got before now files reads writes calls is rose =
     (rose, subst (λ (lines : List ReportLine). GrewByPrefix had (texts lines) got) (reports_same (with_inputs system inputs) ticks) is.report, refl)
 
 -- what is run is granted, and is a run
-granted : (ticks : ℕ) (cores : List PartFile) (scripts : List Output) (system : System) (inputs : List (List ℕ)) → (ran ticks cores scripts system inputs).denial ≡ None
-unfolding ran
+granted : (ticks : ℕ) (cores : List PartFile) (scripts : List Output) (system : System) (inputs : List (List ℕ)) → (outcome_of_run ticks cores scripts system inputs).denial ≡ None
+unfolding outcome_of_run
 granted ticks cores scripts system inputs = refl
 
-runs : (ticks : ℕ) (cores : List PartFile) (scripts : List Output) (system : System) (inputs : List (List ℕ)) → IsSome (ran ticks cores scripts system inputs).run
-unfolding ran
+runs : (ticks : ℕ) (cores : List PartFile) (scripts : List Output) (system : System) (inputs : List (List ℕ)) → IsSome (outcome_of_run ticks cores scripts system inputs).run
+unfolding outcome_of_run
 runs ticks cores scripts system inputs = refl
 
 -- the files behind its report
 behind_files : (cores : List PartFile) (scripts : List Output) (system : System) (inputs : List (List ℕ)) (ticks : ℕ) (new : Machine) → new ≡ run (start (with_inputs system inputs)) ticks
-    → core_outputs new cores ++ scripts ≡ (ran ticks cores scripts system inputs).later
-unfolding ran
+    → core_outputs new cores ++ scripts ≡ (outcome_of_run ticks cores scripts system inputs).later
+unfolding outcome_of_run
 behind_files cores scripts system inputs ticks new is = ap (λ (g : Machine). core_outputs g cores ++ scripts) is
 
 -- the outside as its report leaves it
 behind_report : (r : Ran) (cores : List PartFile) (scripts : List Output) (system : System) (inputs : List (List ℕ)) (ticks : ℕ) (new : Machine) (had got : Option (List ℕ)) (before now : ℕ) (files : Option Files) (reads writes calls : ℕ)
-    → IsRun (Ok r) ticks (start (with_inputs system inputs)) new had got → now ≡ before → outside files reads writes calls got now ≡ told_all (ran ticks cores scripts system inputs) (outside files reads writes calls had before)
-unfolding ran
+    → IsRun (Ok r) ticks (start (with_inputs system inputs)) new had got → now ≡ before → outside files reads writes calls got now ≡ told_all (outcome_of_run ticks cores scripts system inputs) (outside files reads writes calls had before)
+unfolding outcome_of_run
 behind_report r cores scripts system inputs ticks new had got before now files reads writes calls is same =
     let told = finished r cores scripts system inputs ticks new had got is in
     rw (told, same) refl
@@ -99,9 +99,9 @@ behind_report r cores scripts system inputs ticks new had got before now files r
 -- a run whose whole report went out comes to what is done behind it
 pub behind_run : (e : Ending) (board : BoardView) (r : Ran) (cores : List PartFile) (scripts : List Output) (system : System) (inputs : List (List ℕ)) (ticks : ℕ) (new : Machine) (had got : Option (List ℕ)) (before now : ℕ) (files : Option Files) (reads writes calls : ℕ) (after : Outside)
     → EndsBehind e (core_outputs new cores ++ scripts) board (outside files reads writes calls got now) after → IsRun (Ok r) ticks (start (with_inputs system inputs)) new had got → now ≡ before
-    → Comes e (ran ticks cores scripts system inputs) (outside files reads writes calls had before) after
+    → Comes e (outcome_of_run ticks cores scripts system inputs) (outside files reads writes calls had before) after
 behind_run e board r cores scripts system inputs ticks new had got before now files reads writes calls after ends is same =
-    behind_outcome e board (ran ticks cores scripts system inputs) (outside files reads writes calls had before) (outside files reads writes calls got now) after
+    behind_outcome e board (outcome_of_run ticks cores scripts system inputs) (outside files reads writes calls had before) (outside files reads writes calls got now) after
     (granted ticks cores scripts system inputs) (runs ticks cores scripts system inputs)
     (behind_report r cores scripts system inputs ticks new had got before now files reads writes calls is same)
     (subst (λ (os : List Output). EndsBehind e os board (outside files reads writes calls got now) after) (behind_files cores scripts system inputs ticks new is.state) ends)
@@ -116,12 +116,12 @@ length_test : (n : ℕ) → ((n ≡ 0) ⊎ (IMAGE_BYTES < n)) → (nat_eq n 0 ||
 length_test n wrong = ⊎_elim (λ h. grind (arith, nat_tests)) (λ h. grind (arith, nat_tests)) wrong
 
 -- a file that is no image
-pub outcome-length : (file : List ℕ) (ticks : ℕ) (bytes : List ℕ) → length bytes ≤ FILE_BYTES → ((length bytes ≡ 0) ⊎ (IMAGE_BYTES < length bytes)) → outcome_of (Bare file ticks) (bytes ∷ []) ≡ refused file (length_text (length bytes))
+pub outcome-length : (file : List ℕ) (ticks : ℕ) (bytes : List ℕ) → length bytes ≤ FILE_BYTES → ((length bytes ≡ 0) ⊎ (IMAGE_BYTES < length bytes)) → outcome_of (Bare file ticks) (bytes ∷ []) ≡ command_refused file (length_text (length bytes))
 unfolding bare_outcome
 outcome-length file ticks bytes short wrong = one-short (Bare file ticks) file bytes refl short ∙ (let test = length_test (length bytes) wrong in rw test refl)
 
 -- a file that is an image
-pub outcome-image : (file : List ℕ) (ticks : ℕ) (bytes : List ℕ) → IsImageLength (length bytes) → outcome_of (Bare file ticks) (bytes ∷ []) ≡ ran ticks [] [] (bare_system bytes) (no_inputs 1)
+pub outcome-image : (file : List ℕ) (ticks : ℕ) (bytes : List ℕ) → IsImageLength (length bytes) → outcome_of (Bare file ticks) (bytes ∷ []) ≡ outcome_of_run ticks [] [] (bare_system bytes) (no_inputs 1)
 unfolding bare_outcome
 outcome-image file ticks bytes is =
     let short : length bytes ≤ FILE_BYTES = omega (arith, is.most) in
@@ -151,7 +151,7 @@ unmade_runs e file options contents unmade.Memory read before ends is = rw ends 
 -- Ticks.
 
 -- the ticks of the program's command are at most the limit
-pub has_ticks : (command : code.Command) (words : List (List ℕ)) → CommandsAreSpelled → seen (Some command) ≡ command_of words → HasTicks command
+pub has_ticks : (command : code.Command) (words : List (List ℕ)) → CommandsAreSpelled → command_seen (Some command) ≡ command_of words → HasTicks command
 has_ticks (variant.Bare image ticks) words law e = ((law words (Bare image.now ticks)).0 (sym e)).1.1
 has_ticks (variant.Parse description output) words law e = tt
 has_ticks (variant.BuildImage program output) words law e = tt

@@ -6,12 +6,12 @@ use Rattle.xm_outside.specs.Causes.{Rose, counted}
 use Rattle.xm_outside.specs.Files.{Files, OthersStay, stored}
 use Rattle.xm_outside.specs.Growth.{grown}
 use Rattle.xm_words.specs.Words.{Command}
-use Rattle.xm_commands.specs.Answer.{saved, saved_all}
-use Rattle.file_commands.specs.Outcome.{Output, Outcome, inputs_of, later_of, name_in, outcome_of, output_of}
+use Rattle.xm_commands.specs.Answer.{files_saved, saved_all}
+use Rattle.file_commands.specs.Outcome.{Output, Outcome, inputs_of, later_of, name_if_any, outcome_of, output_of}
 use Rattle.xm_commands.specs.Top.{FilesStay, HasCalls, IsNoneOf, StayWhere, writes_of}
 use Rattle.file_commands.specs.Work.{counted_by, Outside, IsLostOf, IsNotSaved, did, file_in, told_all, wrote, wrote_all}
 use Rattle.xm_commands.proofs.OutsideLemmas.{counted-counted_by, others_stored, wrote-faults, wrote-files, wrote-got, wrote-read_faults, wrote-write_faults}
-use Rattle.file_commands.specs.LaterLemmas.{files_of, AreNamed, named_few, later-named, first-named}
+use Rattle.file_commands.specs.LaterLemmas.{output_names, AreNamed, named_few, later-named, first-named}
 
 -- Files that are written one after another.
 
@@ -77,8 +77,8 @@ did-read_faults outcome x = wrote_all-read_faults outcome.later (told_all outcom
 pub did-write_faults : (outcome : Outcome) (x : Outside) → (did outcome x).write_faults ≡ x.write_faults
 did-write_faults outcome x = wrote_all-write_faults outcome.later (told_all outcome x) ∙ wrote-write_faults outcome.output x
 
-pub did-files : (outcome : Outcome) (x : Outside) (files : Files) → x.files ≡ Some files → (did outcome x).files ≡ Some (saved_all outcome.later (saved outcome.output files))
-did-files outcome x files told = wrote_all-files outcome.later (told_all outcome x) (saved outcome.output files) (wrote-files outcome.output x files told)
+pub did-files : (outcome : Outcome) (x : Outside) (files : Files) → x.files ≡ Some files → (did outcome x).files ≡ Some (saved_all outcome.later (files_saved outcome.output files))
+did-files outcome x files told = wrote_all-files outcome.later (told_all outcome x) (files_saved outcome.output files) (wrote-files outcome.output x files told)
 
 -- calls after calls
 counted_by-more : (more few n : ℕ) → counted_by more (counted_by few n) ≡ counted_by (few + more) n
@@ -116,10 +116,10 @@ lost_rose file outcome x after lost =
     ⊎_elim (λ before. before.cause) (λ later. subst (λ (n : ℕ). Rose n after.write_faults) (wrote-write_faults outcome.output x) later.cause) lost
 
 -- what is none of the names is none of the files
-none_named : (names : List (List ℕ)) (outputs : List Output) (other : List ℕ) → AreNamed names outputs → IsNoneOf names other → IsNoneOf (files_of outputs) other
+none_named : (names : List (List ℕ)) (outputs : List Output) (other : List ℕ) → AreNamed names outputs → IsNoneOf names other → IsNoneOf (output_names outputs) other
 none_named names outputs other are none = ⊎_elim
     (λ same. subst (λ (files : List (List ℕ)). IsNoneOf files other) (sym same) none)
-    (λ empty. subst (λ (outs : List Output). IsNoneOf (files_of outs) other) (sym empty) tt)
+    (λ empty. subst (λ (outs : List Output). IsNoneOf (output_names outs) other) (sym empty) tt)
     are
 
 -- what is none of two lists' names is none of either's
@@ -148,18 +148,18 @@ module _ (Stays : List ℕ → Type 0) where
   stay_others file (Some a) None differs others = absurd others
   stay_others file (Some a) (Some b) differs others = λ other stays. others other (differs other stays)
 
-  stay_wrote_all : (outputs : List Output) (x : Outside) → ((other : List ℕ) → Stays other → IsNoneOf (files_of outputs) other) → StayWhere Stays x.files (wrote_all outputs x).files
+  stay_wrote_all : (outputs : List Output) (x : Outside) → ((other : List ℕ) → Stays other → IsNoneOf (output_names outputs) other) → StayWhere Stays x.files (wrote_all outputs x).files
   stay_wrote_all [] x none = stay_same x.files
   stay_wrote_all (output ∷ outputs) x none =
       stay_then x.files (stored x.files output.file output.bytes) (wrote_all outputs (wrote (Some output) x)).files
       (stay_others output.file x.files (stored x.files output.file output.bytes) (λ other stays. (none other stays).0) (others_stored x.files output.file output.bytes))
       (stay_wrote_all outputs (wrote (Some output) x) (λ other stays. (none other stays).1))
 
-  stay_lost : (file : List ℕ) (outputs : List Output) (x after : Outside) → IsLostOf file outputs x after → ((other : List ℕ) → Stays other → IsNoneOf (files_of outputs) other) → StayWhere Stays x.files after.files
+  stay_lost : (file : List ℕ) (outputs : List Output) (x after : Outside) → IsLostOf file outputs x after → ((other : List ℕ) → Stays other → IsNoneOf (output_names outputs) other) → StayWhere Stays x.files after.files
   stay_lost file outputs x after lost none =
-      let split : files_of outputs ≡ files_of lost.first ++ files_of (lost.output ∷ lost.rest) = ap files_of lost.split ∙ map-append (λ (output : Output). output.file) lost.first (lost.output ∷ lost.rest) in
-      let parts : (other : List ℕ) → Stays other → IsNoneOf (files_of lost.first) other × IsNoneOf (files_of (lost.output ∷ lost.rest)) other =
-      λ other stays. none_parts (files_of lost.first) (files_of (lost.output ∷ lost.rest)) other (subst (λ (files : List (List ℕ)). IsNoneOf files other) split (none other stays)) in
+      let split : output_names outputs ≡ output_names lost.first ++ output_names (lost.output ∷ lost.rest) = ap output_names lost.split ∙ map-append (λ (output : Output). output.file) lost.first (lost.output ∷ lost.rest) in
+      let parts : (other : List ℕ) → Stays other → IsNoneOf (output_names lost.first) other × IsNoneOf (output_names (lost.output ∷ lost.rest)) other =
+      λ other stays. none_parts (output_names lost.first) (output_names (lost.output ∷ lost.rest)) other (subst (λ (files : List (List ℕ)). IsNoneOf files other) split (none other stays)) in
       stay_then x.files (wrote_all lost.first x).files after.files
       (stay_wrote_all lost.first x (λ other stays. (parts other stays).0))
       (stay_others file (wrote_all lost.first x).files after.files (λ other stays. subst (λ (f : List ℕ). other ≢ f) (sym lost.named) (parts other stays).1.0) lost.others)
@@ -180,30 +180,30 @@ no_file (output ∷ outputs) count few none = absurd (omega (arith, few, none))
 
 module _ (command : Command) (contents : List (List ℕ)) where
   -- the files before and after the report are as many as the words name, at most
-  first_few : length (file_in (outcome_of command contents).output) ≤ length (name_in (output_of command))
-  first_few = named_few (name_in (output_of command)) (file_in (outcome_of command contents).output) (first-named command contents)
+  first_few : length (file_in (outcome_of command contents).output) ≤ length (name_if_any (output_of command))
+  first_few = named_few (name_if_any (output_of command)) (file_in (outcome_of command contents).output) (first-named command contents)
 
   later_few : length (outcome_of command contents).later ≤ length (later_of command)
   later_few = named_few (later_of command) (outcome_of command contents).later (later-named command contents)
 
-  written : length (writes_of command) ≡ length (name_in (output_of command)) + length (later_of command)
-  written = length-append (name_in (output_of command)) (later_of command)
+  written : length (writes_of command) ≡ length (name_if_any (output_of command)) + length (later_of command)
+  written = length-append (name_if_any (output_of command)) (later_of command)
 
   -- where the words name none there is none
   no_first : writes_of command ≡ [] → file_in (outcome_of command contents).output ≡ []
-  no_first none = (let zero : length (writes_of command) ≡ 0 = ap length none in no_file (file_in (outcome_of command contents).output) (length (name_in (output_of command))) first_few (omega (arith, written, zero)))
+  no_first none = (let zero : length (writes_of command) ≡ 0 = ap length none in no_file (file_in (outcome_of command contents).output) (length (name_if_any (output_of command))) first_few (omega (arith, written, zero)))
 
   no_later : writes_of command ≡ [] → (outcome_of command contents).later ≡ []
   no_later none = (let zero : length (writes_of command) ≡ 0 = ap length none in no_file (outcome_of command contents).later (length (later_of command)) later_few (omega (arith, written, zero)))
 
   -- what is none of the names in the words is none of the files
-  none_first : (other : List ℕ) → IsNoneOf (writes_of command) other → IsNoneOf (files_of (file_in (outcome_of command contents).output)) other
+  none_first : (other : List ℕ) → IsNoneOf (writes_of command) other → IsNoneOf (output_names (file_in (outcome_of command contents).output)) other
   none_first other none =
-      none_named (name_in (output_of command)) (file_in (outcome_of command contents).output) other (first-named command contents) (none_parts (name_in (output_of command)) (later_of command) other none).0
+      none_named (name_if_any (output_of command)) (file_in (outcome_of command contents).output) other (first-named command contents) (none_parts (name_if_any (output_of command)) (later_of command) other none).0
 
-  none_later : (other : List ℕ) → IsNoneOf (writes_of command) other → IsNoneOf (files_of (outcome_of command contents).later) other
+  none_later : (other : List ℕ) → IsNoneOf (writes_of command) other → IsNoneOf (output_names (outcome_of command contents).later) other
   none_later other none =
-      none_named (later_of command) (outcome_of command contents).later other (later-named command contents) (none_parts (name_in (output_of command)) (later_of command) other none).1
+      none_named (later_of command) (outcome_of command contents).later other (later-named command contents) (none_parts (name_if_any (output_of command)) (later_of command) other none).1
 
   -- the files as the report leaves them
   told_same : (x : Outside) → writes_of command ≡ [] → (told_all (outcome_of command contents) x).files ≡ x.files

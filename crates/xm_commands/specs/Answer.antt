@@ -14,9 +14,9 @@ ending_by None = Finished
 ending_by (Some denial) = Denied denial.file denial.text
 
 -- the files after a command has written the one before its report
-abbrev pub saved : Option Output → Files → Files
-saved None files = files
-saved (Some output) files = insert files output.file output.bytes
+abbrev pub files_saved : Option Output → Files → Files
+files_saved None files = files
+files_saved (Some output) files = insert files output.file output.bytes
 
 -- the files after some more were written, one after another
 abbrev pub saved_all : List Output → Files → Files
@@ -31,8 +31,8 @@ pub record Answer : Type 0 where
   pub files : Files
 
 -- the answer of an ending, with what went to the report, and the files
-abbrev pub answer_of : Ending → List ℕ → Files → Answer
-answer_of ending out files = record { status = status_of ending; out = out; err = complaint ending; files = files }
+abbrev pub ending_answer : Ending → List ℕ → Files → Answer
+ending_answer ending out files = record { status = status_of ending; out = out; err = complaint ending; files = files }
 
 -- a file's content before those of others, or the first file that is not there
 abbrev pub read_before : List ℕ → Option (List ℕ) → Result (List (List ℕ)) (List ℕ) → Result (List (List ℕ)) (List ℕ)
@@ -46,19 +46,19 @@ read_all files [] = Ok []
 read_all files (file ∷ others) = read_before file (get files file) (read_all files others)
 
 -- the answer of a command that comes to this
-abbrev pub answer_by : Outcome → Files → Answer
-answer_by outcome files = answer_of (ending_by outcome.denial) outcome.report (saved_all outcome.later (saved outcome.output files))
+abbrev pub outcome_answer : Outcome → Files → Answer
+outcome_answer outcome files = ending_answer (ending_by outcome.denial) outcome.report (saved_all outcome.later (files_saved outcome.output files))
 
 -- the answer to a command, by what is read
 abbrev pub answer_to_read : Command → Result (List (List ℕ)) (List ℕ) → Files → Answer
-answer_to_read command (Ok contents) files = answer_by (outcome_of command contents) files
-answer_to_read command (Err absent) files = answer_of (Unread absent) [] files
+answer_to_read command (Ok contents) files = outcome_answer (outcome_of command contents) files
+answer_to_read command (Err absent) files = ending_answer (Unread absent) [] files
 
 -- the answer to a command
-abbrev pub answer_to : Option Command → Files → Answer
-answer_to None files = answer_of Misused [] files
-answer_to (Some command) files = answer_to_read command (read_all files (inputs_of command)) files
+abbrev pub command_answer : Option Command → Files → Answer
+command_answer None files = ending_answer Misused [] files
+command_answer (Some command) files = answer_to_read command (read_all files (inputs_of command)) files
 
 -- the answer to words, in a world of these files and without faults
 unfoldable pub answer : List (List ℕ) → Files → Answer
-answer words files = answer_to (command_of words) files
+answer words files = command_answer (command_of words) files

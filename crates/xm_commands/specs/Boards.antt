@@ -4,7 +4,7 @@ use Rattle.machine_model.specs.Lines.{console, report}
 use Rattle.machine_model.specs.Machine.{start}
 use Rattle.machine_model.specs.View.{view_of}
 use Rattle.uart_board.specs.Heard.{IsHeard}
-use Rattle.uart_board.specs.Views.{BoardView, begun, mark_at}
+use Rattle.uart_board.specs.Views.{BoardView, without_marks, mark_at}
 use Rattle.xm_machine.specs.Outcome.{report_to}
 use Rattle.xm_outside.specs.Files.{Files}
 use Rattle.xm_outside.specs.Growth.{GrewByPrefix}
@@ -27,14 +27,14 @@ pub record IsLowestMark (place : ℕ) (board : BoardView) : Type 0 where
   pub lowest : (lower : ℕ) → lower < place → IsNone (mark_at lower board.marks)
 
 -- how many ticks a run has
-abbrev pub ticks_of : Running → ℕ
-ticks_of (Together system ticks) = ticks
-ticks_of (Apart system p cues) = length cues
+abbrev pub ticks_of_run : Running → ℕ
+ticks_of_run (Together system ticks) = ticks
+ticks_of_run (Apart system p cues) = length cues
 
 -- the console bytes of so many ticks of a run that each UART gets
-abbrev pub said_in : Running → ℕ → ℕ → List ℕ
-said_in (Together system ticks) done = console (start system) done
-said_in (Apart system p cues) done = replay_said (booted_alone system p) (take done cues)
+abbrev pub said_in_run : Running → ℕ → ℕ → List ℕ
+said_in_run (Together system ticks) done = console (start system) done
+said_in_run (Apart system p cues) done = replay_said (booted_alone system p) (take done cues)
 
 -- the whole report of a run
 abbrev pub lines_in : Running → List ReportLine
@@ -43,16 +43,16 @@ lines_in (Apart system p cues) = replay_lines (view_of system p) cues
 
 -- from a board without marks on, each UART got the console bytes of so many ticks of the run
 abbrev pub IsRunTo : ℕ → Running → BoardView → BoardView → Type 0
-IsRunTo done run before after = IsHeard (said_in run done) (begun before) after
+IsRunTo done run before after = IsHeard (said_in_run run done) (without_marks before) after
 
 -- those of all its ticks, and none failed
 pub record IsRunWell (run : Running) (before after : BoardView) : Type 0 where
-  pub heard : IsRunTo (ticks_of run) run before after
+  pub heard : IsRunTo (ticks_of_run run) run before after
   pub well : HasNoMark after
 
 -- those of all its ticks, and the one at this place failed, and none at a lower one
 pub record IsRunMarked (place : ℕ) (run : Running) (before after : BoardView) : Type 0 where
-  pub heard : IsRunTo (ticks_of run) run before after
+  pub heard : IsRunTo (ticks_of_run run) run before after
   pub marked : IsLowestMark place after
 
 -- the sink of the report, which took so many bytes of it, took all lines of the ticks before this one, and not all that it has with those of this
@@ -69,7 +69,7 @@ IsCutAt (Apart system p cues) done count =
 pub record IsRunCut (run : Running) (had got : Option (List ℕ)) (before after : BoardView) : Type 0 where
   pub front : GrewByPrefix had (texts (lines_in run)) got
   pub ticks : ℕ
-  pub within : ticks ≤ ticks_of run
+  pub within : ticks ≤ ticks_of_run run
   pub cut : IsCutAt run ticks front.count
   pub heard : IsRunTo ticks run before after
 
@@ -86,25 +86,25 @@ EndsRun Starved board = ⊥
 
 -- a call that ended so leaves this of the board: a command that runs nothing, and a call that ended before its first tick, leave it
 -- as it was; where a file was not written after a run, the run had reached its end
-abbrev pub Leaves : Ending → Option Running → Option (List ℕ) → Option (List ℕ) → BoardView → BoardView → Type 0
-Leaves Finished None had got before after = after ≡ before
-Leaves Finished (Some run) had got before after = IsRunWell run before after
-Leaves Misused run had got before after = after ≡ before
-Leaves (Unread file) run had got before after = after ≡ before
-Leaves (Denied file text) run had got before after = after ≡ before
-Leaves Unwritten None had got before after = after ≡ before
-Leaves Unwritten (Some run) had got before after = IsRunCut run had got before after
-Leaves (Unsaved file) None had got before after = after ≡ before
-Leaves (Unsaved file) (Some run) had got before after = IsRunTo (ticks_of run) run before after
-Leaves (Unheard place) None had got before after = ⊥
-Leaves (Unheard place) (Some run) had got before after = IsRunMarked place run before after
-Leaves Starved run had got before after = after ≡ before
+abbrev pub LeavesBoard : Ending → Option Running → Option (List ℕ) → Option (List ℕ) → BoardView → BoardView → Type 0
+LeavesBoard Finished None had got before after = after ≡ before
+LeavesBoard Finished (Some run) had got before after = IsRunWell run before after
+LeavesBoard Misused run had got before after = after ≡ before
+LeavesBoard (Unread file) run had got before after = after ≡ before
+LeavesBoard (Denied file text) run had got before after = after ≡ before
+LeavesBoard Unwritten None had got before after = after ≡ before
+LeavesBoard Unwritten (Some run) had got before after = IsRunCut run had got before after
+LeavesBoard (Unsaved file) None had got before after = after ≡ before
+LeavesBoard (Unsaved file) (Some run) had got before after = IsRunTo (ticks_of_run run) run before after
+LeavesBoard (Unheard place) None had got before after = ⊥
+LeavesBoard (Unheard place) (Some run) had got before after = IsRunMarked place run before after
+LeavesBoard Starved run had got before after = after ≡ before
 
 -- the files of a command were read, and what they come to left this of the board
 pub record HasLeft (ending : Ending) (command : Command) (files : Option Files) (had got : Option (List ℕ)) (before after : BoardView) : Type 0 where
   pub contents : List (List ℕ)
   pub read : ReadsFiles files (inputs_of command) contents
-  pub leaves : Leaves ending (outcome_of command contents).run had got before after
+  pub leaves : LeavesBoard ending (outcome_of command contents).run had got before after
 
 -- what a call leaves of the board, by its command and its ending, and by what the sink of the report had and has got
 abbrev pub IsLeft : Ending → Option Command → Option Files → Option (List ℕ) → Option (List ℕ) → BoardView → BoardView → Type 0

@@ -5,9 +5,9 @@ use Rattle.machine_model.specs.View.{System, view_of}
 use Rattle.xm_words.specs.Words.{PartFile}
 
 -- each of the files is for one of so many partitions
-abbrev pub AreInside : ℕ → List PartFile → Type 0
-AreInside parts [] = Unit {0}
-AreInside parts (named ∷ files) = (named.part < parts) × AreInside parts files
+abbrev pub AreForPartitions : ℕ → List PartFile → Type 0
+AreForPartitions parts [] = Unit {0}
+AreForPartitions parts (named ∷ files) = (named.part < parts) × AreForPartitions parts files
 
 -- the core file of each of these partitions has at most so many bytes
 abbrev pub FitInto : System → ℕ → List PartFile → Type 0

@@ -14,7 +14,7 @@ use Rattle.xm_commands.specs.Answer.{read_all}
 use Rattle.file_commands.specs.Ending.{Ending, Finished, Misused, Unread, Denied, Unwritten, Unsaved, Unheard, Starved}
 use Rattle.file_commands.specs.Inputs.{inputs_for}
 use Rattle.file_commands.specs.Outcome.{content, first_long, ticks_asked}
-use Rattle.file_commands.specs.Packing.{names_of}
+use Rattle.file_commands.specs.Packing.{file_names}
 
 -- the numbers in what a partition is told in so many ticks are those of a memory and of a register: what is a byte is one, and the status of a reset
 -- is a word
@@ -27,15 +27,15 @@ HaveTold system ticks [] = Unit {0}
 HaveTold system ticks (named ∷ scripts) = HasTold system ticks named.part × HaveTold system ticks scripts
 
 -- a call ended so after all scripts were made, if it ran a container
-abbrev pub IsMade : Ending → Type 0
-IsMade Finished = Unit {0}
-IsMade Misused = ⊥
-IsMade (Unread file) = ⊥
-IsMade (Denied file text) = ⊥
-IsMade Unwritten = Unit {0}
-IsMade (Unsaved file) = Unit {0}
-IsMade (Unheard place) = Unit {0}
-IsMade Starved = ⊥
+abbrev pub HasScripts : Ending → Type 0
+HasScripts Finished = Unit {0}
+HasScripts Misused = ⊥
+HasScripts (Unread file) = ⊥
+HasScripts (Denied file text) = ⊥
+HasScripts Unwritten = Unit {0}
+HasScripts (Unsaved file) = Unit {0}
+HasScripts (Unheard place) = Unit {0}
+HasScripts Starved = ⊥
 
 -- the partitions whose scripts a run makes are told such numbers, by the contents of the run's files
 abbrev pub TellsIn : List RunOption → List (List ℕ) → Type 0
@@ -45,13 +45,13 @@ TellsIn options contents =
 
 -- they are, and none of the files is too long
 pub record TellsShort (container : List ℕ) (options : List RunOption) (contents : List (List ℕ)) : Type 0 where
-  pub short : first_long (container ∷ names_of (inputs_in options)) contents ≡ None
+  pub short : first_long (container ∷ file_names (inputs_in options)) contents ≡ None
   pub told : TellsIn options contents
 
 -- they are, where the store tells its files
 abbrev pub TellsOf : List ℕ → List RunOption → Option Files → Type 0
 TellsOf container options told =
-    (files : Files) → told ≡ Some files → (contents : List (List ℕ)) → read_all files (container ∷ names_of (inputs_in options)) ≡ Ok contents → TellsIn options contents
+    (files : Files) → told ≡ Some files → (contents : List (List ℕ)) → read_all files (container ∷ file_names (inputs_in options)) ≡ Ok contents → TellsIn options contents
 
 -- the same of a command; only a run of a container makes scripts
 abbrev pub CommandTells : Command → Option Files → Type 0
@@ -70,6 +70,6 @@ CommandTells (Run container options) told = TellsOf container options told
 CommandTells (Replay container part script further) told = Unit {0}
 
 -- and of words
-abbrev pub Tells : Option Command → Option Files → Type 0
-Tells None told = Unit {0}
-Tells (Some command) told = CommandTells command told
+abbrev pub WordsTell : Option Command → Option Files → Type 0
+WordsTell None told = Unit {0}
+WordsTell (Some command) told = CommandTells command told

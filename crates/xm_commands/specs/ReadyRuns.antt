@@ -3,7 +3,7 @@ use Rattle.std.specs.Prelude.{◌≡◌, ⊤, List, map, Result, Ok, Err}
 use Rattle.loaded_system.specs.System.{System}
 use Rattle.xm_words.specs.Words.{RunOption, cores_in}
 use Rattle.file_commands.specs.Ending.{Ending, Finished, Misused, Unread, Denied, Unwritten, Unsaved, Unheard, Starved}
-use Rattle.file_commands.specs.Outcome.{Outcome, ran, refused}
+use Rattle.file_commands.specs.Outcome.{Outcome, outcome_of_run, command_refused}
 use Rattle.file_commands.specs.Told.{ending_of}
 use Rattle.file_commands.specs.declared.ending.Ending as code
 use Rattle.xm_commands.specs.Scripts.{made_output}
@@ -14,7 +14,7 @@ abbrev pub IsRefusing : Ending → Outcome → Type 0
 IsRefusing Finished outcome = ⊥
 IsRefusing Misused outcome = ⊥
 IsRefusing (Unread file) outcome = ⊥
-IsRefusing (Denied file text) outcome = outcome ≡ refused file text
+IsRefusing (Denied file text) outcome = outcome ≡ command_refused file text
 IsRefusing Unwritten outcome = ⊥
 IsRefusing (Unsaved file) outcome = ⊥
 IsRefusing (Unheard place) outcome = ⊥
@@ -22,5 +22,5 @@ IsRefusing Starved outcome = ⊤
 
 -- a run is ready that comes to this, or it is refused
 abbrev pub IsReadyFor : Result ReadyRun code.Ending → List RunOption → System → Outcome → Type 0
-IsReadyFor (Ok ready) options system outcome = outcome ≡ ran ready.ticks (cores_in options) (map made_output ready.scripts.items) system ready.inputs
+IsReadyFor (Ok ready) options system outcome = outcome ≡ outcome_of_run ready.ticks (cores_in options) (map made_output ready.scripts.items) system ready.inputs
 IsReadyFor (Err ending) options system outcome = IsRefusing (ending_of ending) outcome

@@ -17,9 +17,9 @@ abbrev pub lone_output : Lone → List ℕ → Output
 lone_output lone file = record { file = file; bytes = core_file (own_view lone) lone.part.state }
 
 -- there is room for the core file, where it is to be written
-abbrev pub HasRoom : Option (List ℕ) → ℕ → ℕ → Type 0
-HasRoom None size room = Unit {0}
-HasRoom (Some file) size room = room ≡ size
+abbrev pub HasCoreRoom : Option (List ℕ) → ℕ → ℕ → Type 0
+HasCoreRoom None size room = Unit {0}
+HasCoreRoom (Some file) size room = room ≡ size
 
 -- how a replay ends that cannot begin: it is refused for this reason, or there was no memory
 abbrev pub unready_ending : List ℕ → ℕ → List ℕ → ReplayFiles → Option Unready → Ending

@@ -16,26 +16,26 @@ use Rattle.machine_model.specs.View.{System, view_of}
 use Rattle.whole_system.specs.State.{with_inputs}
 use Rattle.xm_words.specs.Words.{Command, PartFile, RunOption, Bare, Parse, BuildImage, ReadImage, Pack, ListContainer, CheckContainer, MakePlan, CheckPlan, TellGroups, Generate, Run, Replay, cores_in, replay_core, replay_input, span_in, scripts_in}
 use Rattle.file_commands.specs.Inputs.{inputs_for, no_inputs}
-use Rattle.file_commands.specs.Outcome.{Output, content, core_output, first_long, input_bytes, name_in, script_output, ticks_asked}
+use Rattle.file_commands.specs.Outcome.{Output, content, core_output, first_long, input_bytes, name_if_any, script_output, ticks_asked}
 use Rattle.xm_commands.specs.Answer.{read_all}
 use Rattle.xm_commands.specs.Numbers.{HaveTold}
-use Rattle.xm_commands.specs.Top.{AreContents, IsComplete}
+use Rattle.xm_commands.specs.Top.{AreContents, IsCompleteStatus}
 use Rattle.file_commands.specs.Work.{Outside, wrote_all}
 use Rattle.file_commands.specs.declared.status.Status.{Status}
 use Rattle.file_commands.specs.declared.status.Status.TheVariants.{Refused}
 
 -- partition p of a system alone, after so many ticks: from its boot on, it is told its script of them
-abbrev pub alone_after : System → ℕ → ℕ → Alone
-alone_after system p ticks = alone_from (view_of system p) (alone_start (view_of system p)) (script (start system) p ticks)
+abbrev pub alone_after_ticks : System → ℕ → ℕ → Alone
+alone_after_ticks system p ticks = alone_from (view_of system p) (alone_start (view_of system p)) (script (start system) p ticks)
 
 -- the lines of the partition alone, and the line of its end
 abbrev pub alone_report : System → ℕ → ℕ → List ReportLine
 alone_report system p ticks =
-    alone_lines (view_of system p) (alone_start (view_of system p)) (script (start system) p ticks) ++ end_line p (alone_after system p ticks).state ∷ []
+    alone_lines (view_of system p) (alone_start (view_of system p)) (script (start system) p ticks) ++ end_line p (alone_after_ticks system p ticks).state ∷ []
 
 -- the core file of a partition alone, under the name that is given for it
 abbrev pub alone_output : System → ℕ → PartFile → Output
-alone_output system ticks named = record { file = named.file; bytes = core_file (view_of system named.part) (alone_after system named.part ticks).state }
+alone_output system ticks named = record { file = named.file; bytes = core_file (view_of system named.part) (alone_after_ticks system named.part ticks).state }
 
 -- what a run of so many ticks prints, where all of it went out: lines, of which each partition's own are those of that partition alone
 pub record PrintsAlone (system : System) (ticks : ℕ) (before after : Outside) : Type 0 where
@@ -113,16 +113,16 @@ CommandAlone Shows (Run container options) before after = ContainerAlone Shows c
 CommandAlone Shows (Replay container part script further) before after = Unit {0}
 
 -- what words show that are a command
-abbrev pub AreAlone : (System → ℕ → List PartFile → List PartFile → Outside → Outside → Type 0) → Option Command → Outside → Outside → Type 0
-AreAlone Shows None before after = Unit {0}
-AreAlone Shows (Some command) before after = CommandAlone Shows command before after
+abbrev pub AreShownAlone : (System → ℕ → List PartFile → List PartFile → Outside → Outside → Type 0) → Option Command → Outside → Outside → Type 0
+AreShownAlone Shows None before after = Unit {0}
+AreShownAlone Shows (Some command) before after = CommandAlone Shows command before after
 
 -- What a replay shows of a run.
 
 -- the partition's own lines of the report of that run and the line of its end went out, and its core file is that after the run
 pub record ShowsOwn (system : System) (ticks part : ℕ) (core : Option (List ℕ)) (before after : Outside) : Type 0 where
   pub printed : after.got ≡ grown before.got (texts (own part (report system ticks)))
-  pub written : after.files ≡ (wrote_all (map (λ file. core_output (run (start system) ticks) (record { part = part; file = file })) (name_in core)) before).files
+  pub written : after.files ≡ (wrote_all (map (λ file. core_output (run (start system) ticks) (record { part = part; file = file })) (name_if_any core)) before).files
 
 -- a replay by the script of a run is not refused, and shows the partition's part of that run
 abbrev pub ReplaysRun : Status → Command → Outside → Outside → Type 0
@@ -139,10 +139,10 @@ ReplaysRun status (TellGroups description) before after = Unit {0}
 ReplaysRun status (Generate number) before after = Unit {0}
 ReplaysRun status (Run container options) before after = Unit {0}
 ReplaysRun status (Replay container part script further) before after =
-    (files : Files) → before.files ≡ Some files → (contents : List (List ℕ)) → read_all files (container ∷ script ∷ name_in (replay_input further)) ≡ Ok contents
-    → first_long (container ∷ script ∷ name_in (replay_input further)) contents ≡ None
+    (files : Files) → before.files ≡ Some files → (contents : List (List ℕ)) → read_all files (container ∷ script ∷ name_if_any (replay_input further)) ≡ Ok contents
+    → first_long (container ∷ script ∷ name_if_any (replay_input further)) contents ≡ None
     → (system : loaded.System) (inputs : List (List ℕ)) (ticks : ℕ) → IsOfRun (content 0 contents) part (content 1 contents) (input_bytes (replay_input further) (content 2 contents)) system inputs ticks
-    → (status ≢ Refused) × (IsComplete status → ShowsOwn (with_inputs system inputs) ticks part (replay_core further) before after)
+    → (status ≢ Refused) × (IsCompleteStatus status → ShowsOwn (with_inputs system inputs) ticks part (replay_core further) before after)
 
 -- words that are no command replay nothing
 abbrev pub ReplaysAlone : Status → Option Command → Outside → Outside → Type 0

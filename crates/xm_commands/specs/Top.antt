@@ -7,7 +7,7 @@ use Rattle.xm_outside.specs.Growth.{grown, GrewByPrefix}
 use Rattle.xm_words.specs.Words.{Command}
 use Rattle.xm_commands.specs.Answer.{answer, read_all}
 use Rattle.file_commands.specs.Ending.{Ending, complaint, status_of}
-use Rattle.file_commands.specs.Outcome.{Output, inputs_of, later_of, name_in, outcome_of, output_of}
+use Rattle.file_commands.specs.Outcome.{Output, inputs_of, later_of, name_if_any, outcome_of, output_of}
 use Rattle.file_commands.specs.Work.{Outside, IsWorked, told_all, wrote, wrote_all, counted_by}
 use Rattle.file_commands.specs.declared.status.Status.{Status}
 use Rattle.file_commands.specs.declared.status.Status.TheVariants.{Done, Refused, Usage, ReadFault, WriteFault, UartFault, NoMemory}
@@ -78,7 +78,7 @@ IsRefusal None before after = ⊥
 IsRefusal (Some command) before after = IsRefusedIn command before after
 
 -- the report's sink failed, and has got a front of the report; the file that comes before it is written, and none after it
-pub record IsCut (command : Command) (before after : Outside) : Type 0 where
+pub record IsCutShort (command : Command) (before after : Outside) : Type 0 where
   pub cause : Rose before.faults after.faults
   pub contents : List (List ℕ)
   pub are : AreContents before.files command contents
@@ -86,7 +86,7 @@ pub record IsCut (command : Command) (before after : Outside) : Type 0 where
   pub files : after.files ≡ (wrote (outcome_of command contents).output before).files
 
 -- the store failed to write the file that comes before the report, and the report has got nothing
-pub record IsLost (command : Command) (before after : Outside) : Type 0 where
+pub record IsNotWritten (command : Command) (before after : Outside) : Type 0 where
   pub cause : Rose before.write_faults after.write_faults
   pub output : IsSome (output_of command)
   pub report : after.got ≡ before.got
@@ -106,7 +106,7 @@ pub record IsLostAfter (command : Command) (before after : Outside) : Type 0 whe
 -- the report or one of the command's files was not written
 abbrev pub IsWriteCause : Option Command → Outside → Outside → Type 0
 IsWriteCause None before after = ⊥
-IsWriteCause (Some command) before after = IsCut command before after ⊎ (IsLost command before after ⊎ IsLostAfter command before after)
+IsWriteCause (Some command) before after = IsCutShort command before after ⊎ (IsNotWritten command before after ⊎ IsLostAfter command before after)
 
 -- no count of faults moved
 pub record IsFaultless (before after : Outside) : Type 0 where
@@ -116,7 +116,7 @@ pub record IsFaultless (before after : Outside) : Type 0 where
 
 -- the files that a command writes, in their order
 abbrev pub writes_of : Command → List (List ℕ)
-writes_of command = name_in (output_of command) ++ later_of command
+writes_of command = name_if_any (output_of command) ++ later_of command
 
 -- how many times the words of a command name a file
 abbrev pub named_count : Command → ℕ
@@ -147,8 +147,8 @@ abbrev pub IsQuiet : Status → Type 0
 IsQuiet status = (status ≡ Refused) ⊎ (status ≡ Usage) ⊎ (status ≡ ReadFault) ⊎ (status ≡ NoMemory)
 
 -- one of the statuses after which the command was carried out: its report and all of its files are written
-abbrev pub IsComplete : Status → Type 0
-IsComplete status = (status ≡ Done) ⊎ (status ≡ UartFault)
+abbrev pub IsCompleteStatus : Status → Type 0
+IsCompleteStatus status = (status ≡ Done) ⊎ (status ≡ UartFault)
 
 -- a file is none of these
 abbrev pub IsNoneOf : List (List ℕ) → List ℕ → Type 0

@@ -3,7 +3,7 @@
 ghost use Rattle.std.specs.Prelude.{◌≡◌, ◌<◌, ◌≤◌, ℕ, List, IfOk, Option, length};
 ghost use Rattle.core_files.specs.Length.{core_length_of};
 ghost use Rattle.machine_model.specs.View.{view_of};
-ghost use Rattle.xm_commands.specs.Cores.{AreInside, FitInto};
+ghost use Rattle.xm_commands.specs.Cores.{AreForPartitions, FitInto};
 ghost use Rattle.file_commands.specs.Outcome.{core_output, core_outputs};
 ghost use Rattle.file_commands.specs.Told.{AreSaved};
 ghost use Rattle.file_commands.specs.Work.{Saves, outside};
@@ -22,7 +22,7 @@ pub(crate) fn core_room(
     machine: &Machine,
     cores: PartFiles<'_>,
 ) -> Result<Vec<u8>, Memory>
-    requires { AreInside (length machine.now.state.parts) (seen_files cores) }
+    requires { AreForPartitions (length machine.now.state.parts) (seen_files cores) }
     ensures room { IfOk result (λ room. FitInto machine.now.state.system (length room.items) (seen_files cores.entry)) }
 {
     let bytes = vec![in alloc; 0; longest(machine, cores)]?;
@@ -31,7 +31,7 @@ pub(crate) fn core_room(
 
 // How many bytes the longest of these core files of a machine has.
 fn longest(machine: &Machine, cores: PartFiles<'_>) -> usize
-    requires { AreInside (length machine.now.state.parts) (seen_files cores) }
+    requires { AreForPartitions (length machine.now.state.parts) (seen_files cores) }
     ensures { FitInto machine.now.state.system result (seen_files cores.entry) }
 {
     let mut longest = 0;
@@ -58,7 +58,7 @@ pub(crate) fn write_cores<'a, S: Store>(
     room: &mut [u8],
     files: &mut S,
 ) -> Result<(), Ending<'a>>
-    requires inside { AreInside (length machine.now.state.parts) (seen_files cores) }
+    requires inside { AreForPartitions (length machine.now.state.parts) (seen_files cores) }
     requires room { FitInto machine.now.state.system (length room.old) (seen_files cores) }
     ensures { (got : Option (List ℕ)) (faults : ℕ) → AreSaved result (core_outputs machine.now.state (seen_files cores.entry))
         (outside (S.files files.old) (S.read_faults files.old) (S.write_faults files.old) (S.calls files.old) got faults)

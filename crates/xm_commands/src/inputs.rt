@@ -1,11 +1,11 @@
 //! The input words of partitions, by the files that a run is given for them.
 
 ghost use Rattle.std.specs.Prelude.{◌≡◌, ◌∷◌, ◌<◌, ◌^◌, [], IfErr, IfOk, None, Ok, OnOk, length, map};
-ghost use Rattle.xm_commands.specs.Cores.{AreInside};
+ghost use Rattle.xm_commands.specs.Cores.{AreForPartitions};
 ghost use Rattle.file_commands.specs.Inputs.{first_beyond, inputs_for, inputs_with, no_inputs, named_beyond};
 ghost use Rattle.file_commands.specs.Outcome.{first_long};
-ghost use Rattle.file_commands.specs.Packing.{names_of};
-ghost use Rattle.file_commands.specs.Told.{IsDenied, MakesOr, bytes_of, ending_of};
+ghost use Rattle.file_commands.specs.Packing.{file_names};
+ghost use Rattle.file_commands.specs.Told.{IsDenied, MakesOr, vector_bytes, ending_of};
 ghost use Rattle.xm_words.specs.Seen.{seen_file, seen_files, seen_option, seen_options, seen_part_file};
 ghost use Rattle.xm_words.specs.Words.{cores_in, inputs_in, scripts_in};
 
@@ -22,11 +22,11 @@ pub(crate) fn inputs_for<'a>(
     options: RunOptions<'a>,
     contents: &[Vec<u8>],
 ) -> Result<Inputs, Ending<'a>>
-    requires { first_long (names_of (inputs_in (seen_options options))) (map bytes_of contents.now) ≡ None }
-    ensures value { MakesOr (λ inputs. inputs) result (inputs_for parts (seen_options options.entry) (map bytes_of contents.now)) }
+    requires { first_long (file_names (inputs_in (seen_options options))) (map vector_bytes contents.now) ≡ None }
+    ensures value { MakesOr (λ inputs. inputs) result (inputs_for parts (seen_options options.entry) (map vector_bytes contents.now)) }
     ensures count { IfOk result (λ inputs. length inputs ≡ parts) }
-    ensures cores { OnOk result (AreInside parts (cores_in (seen_options options.entry))) }
-    ensures scripts { OnOk result (AreInside parts (scripts_in (seen_options options.entry))) }
+    ensures cores { OnOk result (AreForPartitions parts (cores_in (seen_options options.entry))) }
+    ensures scripts { OnOk result (AreForPartitions parts (scripts_in (seen_options options.entry))) }
 {
     match first_beyond(parts, options) {
         Some(named) => Err(Ending::Denied {
@@ -74,9 +74,9 @@ fn read_inputs<'a>(
     files: PartFiles<'a>,
     contents: &[Vec<u8>],
 ) -> Result<Inputs, Ending<'a>>
-    requires short { first_long (names_of (seen_files files)) (map bytes_of contents.now) ≡ None }
-    requires inside { AreInside parts (seen_files files) }
-    ensures value { MakesOr (λ inputs. inputs) result (inputs_with (no_inputs parts) (seen_files files.entry) (map bytes_of contents.now)) }
+    requires short { first_long (file_names (seen_files files)) (map vector_bytes contents.now) ≡ None }
+    requires inside { AreForPartitions parts (seen_files files) }
+    ensures value { MakesOr (λ inputs. inputs) result (inputs_with (no_inputs parts) (seen_files files.entry) (map vector_bytes contents.now)) }
     ensures count { IfOk result (λ inputs. length inputs ≡ parts) }
 {
     let mut inputs = match Inputs::new(alloc, parts) {

@@ -3,7 +3,7 @@
 ghost use Rattle.std.specs.Prelude.{ℕ, List, ◌++◌, Option, length, map};
 ghost use Rattle.xm_commands.specs.Behind.{EndsBehind};
 ghost use Rattle.xm_commands.specs.Boards.{EndsRun};
-ghost use Rattle.xm_commands.specs.Cores.{AreInside, FitInto};
+ghost use Rattle.xm_commands.specs.Cores.{AreForPartitions, FitInto};
 ghost use Rattle.file_commands.specs.Outcome.{Output, core_outputs};
 ghost use Rattle.xm_commands.specs.Scripts.{made_output};
 ghost use Rattle.file_commands.specs.Told.{AreSaved, ending_of};
@@ -26,7 +26,7 @@ pub(crate) fn write_later<'a, S: Store>(
     room: &mut [u8],
     files: &mut S,
 ) -> Result<(), Ending<'a>>
-    requires inside { AreInside (length machine.now.state.parts) (seen_files cores) }
+    requires inside { AreForPartitions (length machine.now.state.parts) (seen_files cores) }
     requires room { FitInto machine.now.state.system (length room.old) (seen_files cores) }
     ensures { (got : Option (List ℕ)) (faults : ℕ) → AreSaved result (core_outputs machine.now.state (seen_files cores.entry) ++ map made_output scripts.now)
         (outside (S.files files.old) (S.read_faults files.old) (S.write_faults files.old) (S.calls files.old) got faults)

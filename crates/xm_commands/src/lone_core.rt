@@ -3,8 +3,8 @@
 ghost use Rattle.std.specs.Prelude.{ℕ, ◌≡◌, List, IfOk, Option, length, map, option_copied};
 ghost use Rattle.core_files.specs.Length.{core_length_of};
 ghost use Rattle.xm_alone.specs.Replay.{own_view};
-ghost use Rattle.file_commands.specs.Outcome.{name_in};
-ghost use Rattle.xm_commands.specs.Replaying.{HasRoom, lone_output};
+ghost use Rattle.file_commands.specs.Outcome.{name_if_any};
+ghost use Rattle.xm_commands.specs.Replaying.{HasCoreRoom, lone_output};
 ghost use Rattle.file_commands.specs.Told.{AreSaved};
 ghost use Rattle.file_commands.specs.Work.{Saves, outside};
 
@@ -16,7 +16,7 @@ use xm_outside::{Failed, Store};
 
 /// Room for the core file of a partition, where it is to be written.
 pub(crate) fn lone_room(alloc: Global, alone: &Alone, core: Option<&str>) -> Result<Vec<u8>, Memory>
-    ensures { IfOk result (λ room. HasRoom (option_copied core.entry) (core_length_of (own_view alone.now)) (length room.items)) }
+    ensures { IfOk result (λ room. HasCoreRoom (option_copied core.entry) (core_length_of (own_view alone.now)) (length room.items)) }
 {
     match core {
         Some(_) => {
@@ -34,8 +34,8 @@ pub(crate) fn write_lone_core<'a, S: Store>(
     room: &mut [u8],
     files: &mut S,
 ) -> Result<(), Ending<'a>>
-    requires { HasRoom (option_copied core) (core_length_of (own_view alone.now)) (length room.old) }
-    ensures { (got : Option (List ℕ)) (faults : ℕ) → AreSaved result (map (lone_output alone.now) (name_in (option_copied core.entry)))
+    requires { HasCoreRoom (option_copied core) (core_length_of (own_view alone.now)) (length room.old) }
+    ensures { (got : Option (List ℕ)) (faults : ℕ) → AreSaved result (map (lone_output alone.now) (name_if_any (option_copied core.entry)))
         (outside (S.files files.old) (S.read_faults files.old) (S.write_faults files.old) (S.calls files.old) got faults)
         (outside (S.files files.new) (S.read_faults files.new) (S.write_faults files.new) (S.calls files.new) got faults) }
 {

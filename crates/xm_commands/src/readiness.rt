@@ -4,14 +4,14 @@ ghost use Rattle.std.specs.Prelude.{◌≡◌, ◌≤◌, ℕ, IfOk, List, None,
 ghost use Rattle.xm_base.specs.declared.limits.TheConstants.{TICKS};
 ghost use Rattle.cyclic_plans.specs.Slots.{frame_of};
 ghost use Rattle.xm_container.specs.Reading.{unpacked};
-ghost use Rattle.xm_commands.specs.Cores.{AreInside};
+ghost use Rattle.xm_commands.specs.Cores.{AreForPartitions};
 ghost use Rattle.whole_system.specs.State.{with_inputs};
 ghost use Rattle.xm_commands.specs.Numbers.{HaveTold};
 ghost use Rattle.xm_commands.specs.ReadyRuns.{IsReadyFor};
 ghost use Rattle.file_commands.specs.Inputs.{inputs_for};
 ghost use Rattle.file_commands.specs.Outcome.{content, first_long, ran_with, ran_within, ticks_asked};
-ghost use Rattle.file_commands.specs.Packing.{names_of};
-ghost use Rattle.file_commands.specs.Told.{bytes_of};
+ghost use Rattle.file_commands.specs.Packing.{file_names};
+ghost use Rattle.file_commands.specs.Told.{vector_bytes};
 ghost use Rattle.xm_words.specs.Grammar.{count_of};
 ghost use Rattle.xm_words.specs.Seen.{seen_options};
 ghost use Rattle.xm_words.specs.Words.{cores_in, inputs_in, scripts_in, span_in};
@@ -43,14 +43,14 @@ pub(crate) fn ready_run<'a>(
     system: &System,
 ) -> Result<ReadyRun<'a>, Ending<'a>>
     requires most { count_of (span_in (seen_options options)) ≤ TICKS }
-    requires short { first_long (names_of (inputs_in (seen_options options))) (drop 1 (map bytes_of contents.now)) ≡ None }
-    requires same { unpacked (content 0 (map bytes_of contents.now)) ≡ Ok system.now }
+    requires short { first_long (file_names (inputs_in (seen_options options))) (drop 1 (map vector_bytes contents.now)) ≡ None }
+    requires same { unpacked (content 0 (map vector_bytes contents.now)) ≡ Ok system.now }
     ensures value { IsReadyFor result (seen_options options.entry) system.now
-        (ran_with container.now (seen_options options.entry) system.now (inputs_for (length system.now.conf.parts) (seen_options options.entry) (drop 1 (map bytes_of contents.now)))) }
+        (ran_with container.now (seen_options options.entry) system.now (inputs_for (length system.now.conf.parts) (seen_options options.entry) (drop 1 (map vector_bytes contents.now)))) }
     ensures most { IfOk result (λ ready. ready.ticks ≤ TICKS) }
     ensures given { IfOk result (λ ready. length ready.inputs ≡ length system.now.conf.parts) }
-    ensures inside { OnOk result (AreInside (length system.now.conf.parts) (cores_in (seen_options options.entry))) }
-    ensures numbers { (inputs : List (List ℕ)) → inputs_for (length system.now.conf.parts) (seen_options options.entry) (drop 1 (map bytes_of contents.now)) ≡ Ok inputs
+    ensures inside { OnOk result (AreForPartitions (length system.now.conf.parts) (cores_in (seen_options options.entry))) }
+    ensures numbers { (inputs : List (List ℕ)) → inputs_for (length system.now.conf.parts) (seen_options options.entry) (drop 1 (map vector_bytes contents.now)) ≡ Ok inputs
         → IfOk result (λ _. HaveTold (with_inputs system.now inputs) (ticks_asked (span_in (seen_options options.entry)) system.now.conf) (scripts_in (seen_options options.entry))) }
 {
     let (_, words) = split_contents(contents);
@@ -71,10 +71,10 @@ fn ready_with<'a>(
     inputs: Inputs,
 ) -> Result<ReadyRun<'a>, Ending<'a>>
     requires most { count_of (span_in (seen_options options)) ≤ TICKS }
-    requires short { first_long (names_of (inputs_in (seen_options options))) (drop 1 (map bytes_of contents.now)) ≡ None }
-    requires same { unpacked (content 0 (map bytes_of contents.now)) ≡ Ok system.now }
-    requires inputs { inputs_for (length system.now.conf.parts) (seen_options options) (drop 1 (map bytes_of contents.now)) ≡ Ok inputs }
-    requires scripts { AreInside (length system.now.conf.parts) (scripts_in (seen_options options)) }
+    requires short { first_long (file_names (inputs_in (seen_options options))) (drop 1 (map vector_bytes contents.now)) ≡ None }
+    requires same { unpacked (content 0 (map vector_bytes contents.now)) ≡ Ok system.now }
+    requires inputs { inputs_for (length system.now.conf.parts) (seen_options options) (drop 1 (map vector_bytes contents.now)) ≡ Ok inputs }
+    requires scripts { AreForPartitions (length system.now.conf.parts) (scripts_in (seen_options options)) }
     ensures value { IsReadyFor result (seen_options options.entry) system.now (ran_within container.now (seen_options options.entry) system.now inputs) }
     ensures most { IfOk result (λ ready. ready.ticks ≤ TICKS) }
     ensures same { IfOk result (λ ready. ready.inputs ≡ inputs) }

@@ -4,12 +4,12 @@ ghost use Rattle.std.specs.Prelude.{◌≡◌, ◌≤◌, ◌∷◌, None, Some,
 ghost use Rattle.xm_base.specs.declared.limits.TheConstants.{FILE_BYTES};
 ghost use Rattle.alone_replay.specs.Readied.{IsReady, Readies, unready_of};
 ghost use Rattle.alone_replay.specs.Ready.{replay_of};
-ghost use Rattle.xm_commands.specs.Boards.{IsLeft, Leaves};
-ghost use Rattle.file_commands.specs.Outcome.{content, first_long, input_bytes, input_name, name_in, outcome_of, played, replay_outcome};
+ghost use Rattle.xm_commands.specs.Boards.{IsLeft, LeavesBoard};
+ghost use Rattle.file_commands.specs.Outcome.{content, first_long, input_bytes, input_name, name_if_any, outcome_of, played, replay_outcome};
 ghost use Rattle.core_files.specs.Length.{core_length_of};
 ghost use Rattle.xm_alone.specs.Replay.{own_view};
-ghost use Rattle.xm_commands.specs.Replaying.{HasRoom, ready_of, unready_ending};
-ghost use Rattle.file_commands.specs.Told.{bytes_of, ending_of};
+ghost use Rattle.xm_commands.specs.Replaying.{HasCoreRoom, ready_of, unready_ending};
+ghost use Rattle.file_commands.specs.Told.{vector_bytes, ending_of};
 ghost use Rattle.file_commands.specs.Work.{Comes, IsDone, outside};
 ghost use Rattle.xm_words.specs.Seen.{seen_further};
 ghost use Rattle.xm_words.specs.Words.{Replay as ReplayPart, replay_input};
@@ -63,10 +63,10 @@ fn replay_files<'a, S: Store, O: Sink>(
     out: &mut O,
     board: &mut Board,
 ) -> Ending<'a>
-    ensures comes { Comes (ending_of result) (outcome_of (ReplayPart container.now part script.now (seen_further further.entry)) (map bytes_of contents.now))
+    ensures comes { Comes (ending_of result) (outcome_of (ReplayPart container.now part script.now (seen_further further.entry)) (map vector_bytes contents.now))
         (outside (S.files files.old) (S.read_faults files.old) (S.write_faults files.old) (S.calls files.old) (O.got out.old) (O.faults out.old))
         (outside (S.files files.new) (S.read_faults files.new) (S.write_faults files.new) (S.calls files.new) (O.got out.new) (O.faults out.new)) }
-    ensures board { Leaves (ending_of result) (outcome_of (ReplayPart container.now part script.now (seen_further further.entry)) (map bytes_of contents.now)).run (O.got out.old) (O.got out.new) (⟦<Board as ViewBoard>⟧.board_view board.old) (⟦<Board as ViewBoard>⟧.board_view board.new) }
+    ensures board { LeavesBoard (ending_of result) (outcome_of (ReplayPart container.now part script.now (seen_further further.entry)) (map vector_bytes contents.now)).run (O.got out.old) (O.got out.new) (⟦<Board as ViewBoard>⟧.board_view board.old) (⟦<Board as ViewBoard>⟧.board_view board.new) }
 {
     match first_long_of_three(container, script, further.input(), contents) {
         Some(file) => Ending::Denied {
@@ -92,11 +92,11 @@ fn replay_short<'a, S: Store, O: Sink>(
     out: &mut O,
     board: &mut Board,
 ) -> Ending<'a>
-    requires { first_long (container.now ∷ script.now ∷ name_in (replay_input (seen_further further))) (map bytes_of contents.now) ≡ None }
-    ensures comes { Comes (ending_of result) (replay_outcome container.now part script.now (seen_further further.entry) (content 0 (map bytes_of contents.now)) (content 1 (map bytes_of contents.now)) (input_bytes (replay_input (seen_further further.entry)) (content 2 (map bytes_of contents.now))))
+    requires { first_long (container.now ∷ script.now ∷ name_if_any (replay_input (seen_further further))) (map vector_bytes contents.now) ≡ None }
+    ensures comes { Comes (ending_of result) (replay_outcome container.now part script.now (seen_further further.entry) (content 0 (map vector_bytes contents.now)) (content 1 (map vector_bytes contents.now)) (input_bytes (replay_input (seen_further further.entry)) (content 2 (map vector_bytes contents.now))))
         (outside (S.files files.old) (S.read_faults files.old) (S.write_faults files.old) (S.calls files.old) (O.got out.old) (O.faults out.old))
         (outside (S.files files.new) (S.read_faults files.new) (S.write_faults files.new) (S.calls files.new) (O.got out.new) (O.faults out.new)) }
-    ensures board { Leaves (ending_of result) (replay_outcome container.now part script.now (seen_further further.entry) (content 0 (map bytes_of contents.now)) (content 1 (map bytes_of contents.now)) (input_bytes (replay_input (seen_further further.entry)) (content 2 (map bytes_of contents.now)))).run (O.got out.old) (O.got out.new)
+    ensures board { LeavesBoard (ending_of result) (replay_outcome container.now part script.now (seen_further further.entry) (content 0 (map vector_bytes contents.now)) (content 1 (map vector_bytes contents.now)) (input_bytes (replay_input (seen_further further.entry)) (content 2 (map vector_bytes contents.now)))).run (O.got out.old) (O.got out.new)
         (⟦<Board as ViewBoard>⟧.board_view board.old) (⟦<Board as ViewBoard>⟧.board_view board.new) }
 {
     match ready_by(alloc, part, further.input(), contents) {
@@ -112,8 +112,8 @@ fn ready_by(
     input: Option<&str>,
     contents: &[Vec<u8>],
 ) -> Result<Replay, Unready>
-    requires { length (input_bytes (option_copied input) (content 2 (map bytes_of contents.now))) ≤ FILE_BYTES }
-    ensures { Readies result (replay_of (content 0 (map bytes_of contents.now)) part (content 1 (map bytes_of contents.now)) (input_bytes (option_copied input.entry) (content 2 (map bytes_of contents.now)))) }
+    requires { length (input_bytes (option_copied input) (content 2 (map vector_bytes contents.now))) ≤ FILE_BYTES }
+    ensures { Readies result (replay_of (content 0 (map vector_bytes contents.now)) part (content 1 (map vector_bytes contents.now)) (input_bytes (option_copied input.entry) (content 2 (map vector_bytes contents.now)))) }
 {
     let (bytes, others) = split_contents(contents);
     let (told, more) = split_contents(others);
@@ -144,7 +144,7 @@ fn play_owned<'a, S: Store, O: Sink>(
     ensures comes { Comes (ending_of result) (played (option_copied core.entry) (ready_of replay.alone replay.script))
         (outside (S.files files.old) (S.read_faults files.old) (S.write_faults files.old) (S.calls files.old) (O.got out.old) (O.faults out.old))
         (outside (S.files files.new) (S.read_faults files.new) (S.write_faults files.new) (S.calls files.new) (O.got out.new) (O.faults out.new)) }
-    ensures board { Leaves (ending_of result) (played (option_copied core.entry) (ready_of replay.alone replay.script)).run (O.got out.old) (O.got out.new) (⟦<Board as ViewBoard>⟧.board_view board.old) (⟦<Board as ViewBoard>⟧.board_view board.new) }
+    ensures board { LeavesBoard (ending_of result) (played (option_copied core.entry) (ready_of replay.alone replay.script)).run (O.got out.old) (O.got out.new) (⟦<Board as ViewBoard>⟧.board_view board.old) (⟦<Board as ViewBoard>⟧.board_view board.new) }
 {
     let Replay { mut alone, script } = replay;
     play_ready(alloc, &mut alone, &script, core, files, out, board)
@@ -164,7 +164,7 @@ fn play_ready<'a, S: Store, O: Sink>(
     ensures comes { Comes (ending_of result) (played (option_copied core.entry) (ready_of alone.old script.now))
         (outside (S.files files.old) (S.read_faults files.old) (S.write_faults files.old) (S.calls files.old) (O.got out.old) (O.faults out.old))
         (outside (S.files files.new) (S.read_faults files.new) (S.write_faults files.new) (S.calls files.new) (O.got out.new) (O.faults out.new)) }
-    ensures board { Leaves (ending_of result) (played (option_copied core.entry) (ready_of alone.old script.now)).run (O.got out.old) (O.got out.new) (⟦<Board as ViewBoard>⟧.board_view board.old) (⟦<Board as ViewBoard>⟧.board_view board.new) }
+    ensures board { LeavesBoard (ending_of result) (played (option_copied core.entry) (ready_of alone.old script.now)).run (O.got out.old) (O.got out.new) (⟦<Board as ViewBoard>⟧.board_view board.old) (⟦<Board as ViewBoard>⟧.board_view board.new) }
 {
     match lone_room(alloc, alone, core) {
         Ok(mut room) => play_into(alone, script, core, &mut room, files, out, board),
@@ -183,11 +183,11 @@ fn play_into<'a, S: Store, O: Sink>(
     board: &mut Board,
 ) -> Ending<'a>
     requires ready { IsReady alone.old script.now }
-    requires room { HasRoom (option_copied core) (core_length_of (own_view alone.old)) (length room.old) }
+    requires room { HasCoreRoom (option_copied core) (core_length_of (own_view alone.old)) (length room.old) }
     ensures comes { Comes (ending_of result) (played (option_copied core.entry) (ready_of alone.old script.now))
         (outside (S.files files.old) (S.read_faults files.old) (S.write_faults files.old) (S.calls files.old) (O.got out.old) (O.faults out.old))
         (outside (S.files files.new) (S.read_faults files.new) (S.write_faults files.new) (S.calls files.new) (O.got out.new) (O.faults out.new)) }
-    ensures board { Leaves (ending_of result) (played (option_copied core.entry) (ready_of alone.old script.now)).run (O.got out.old) (O.got out.new) (⟦<Board as ViewBoard>⟧.board_view board.old) (⟦<Board as ViewBoard>⟧.board_view board.new) }
+    ensures board { LeavesBoard (ending_of result) (played (option_copied core.entry) (ready_of alone.old script.now)).run (O.got out.old) (O.got out.new) (⟦<Board as ViewBoard>⟧.board_view board.old) (⟦<Board as ViewBoard>⟧.board_view board.new) }
 {
     board.begin();
     match alone.play(script, out, board) {

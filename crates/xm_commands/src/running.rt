@@ -5,9 +5,9 @@ ghost use Rattle.xm_base.specs.declared.limits.TheConstants.{TICKS};
 ghost use Rattle.loaded_system.specs.System.{System as Loaded};
 ghost use Rattle.machine_model.specs.Machine.{start};
 ghost use Rattle.whole_system.specs.State.{with_inputs};
-ghost use Rattle.xm_commands.specs.Boards.{IsLeft, Leaves};
-ghost use Rattle.xm_commands.specs.Cores.{AreInside, FitInto};
-ghost use Rattle.file_commands.specs.Outcome.{outcome_of, ran};
+ghost use Rattle.xm_commands.specs.Boards.{IsLeft, LeavesBoard};
+ghost use Rattle.xm_commands.specs.Cores.{AreForPartitions, FitInto};
+ghost use Rattle.file_commands.specs.Outcome.{outcome_of, outcome_of_run};
 ghost use Rattle.xm_commands.specs.Scripts.{made_output};
 ghost use Rattle.file_commands.specs.Told.{ending_of};
 ghost use Rattle.file_commands.specs.Work.{Comes, IsDone, outside};
@@ -62,7 +62,7 @@ fn run_bytes<'a, S: Store, O: Sink>(
     ensures comes { Comes (ending_of result) (outcome_of (Bare image.now ticks) (bytes.now ∷ []))
         (outside (S.files files.old) (S.read_faults files.old) (S.write_faults files.old) (S.calls files.old) (O.got out.old) (O.faults out.old))
         (outside (S.files files.new) (S.read_faults files.new) (S.write_faults files.new) (S.calls files.new) (O.got out.new) (O.faults out.new)) }
-    ensures board { Leaves (ending_of result) (outcome_of (Bare image.now ticks) (bytes.now ∷ [])).run (O.got out.old) (O.got out.new) (⟦<Board as ViewBoard>⟧.board_view board.old) (⟦<Board as ViewBoard>⟧.board_view board.new) }
+    ensures board { LeavesBoard (ending_of result) (outcome_of (Bare image.now ticks) (bytes.now ∷ [])).run (O.got out.old) (O.got out.new) (⟦<Board as ViewBoard>⟧.board_view board.old) (⟦<Board as ViewBoard>⟧.board_view board.new) }
 {
     if bytes.len() > FILE_BYTES {
         return Ending::Denied {
@@ -104,11 +104,11 @@ pub(crate) fn run_system<'a, S: Store, O: Sink>(
 ) -> Ending<'a>
     requires most { ticks ≤ TICKS }
     requires given { length inputs ≡ length system.conf.parts }
-    requires inside { AreInside (length system.conf.parts) (seen_files cores) }
-    ensures comes { Comes (ending_of result) (ran ticks (seen_files cores.entry) (map made_output scripts.now) system inputs)
+    requires inside { AreForPartitions (length system.conf.parts) (seen_files cores) }
+    ensures comes { Comes (ending_of result) (outcome_of_run ticks (seen_files cores.entry) (map made_output scripts.now) system inputs)
         (outside (S.files files.old) (S.read_faults files.old) (S.write_faults files.old) (S.calls files.old) (O.got out.old) (O.faults out.old))
         (outside (S.files files.new) (S.read_faults files.new) (S.write_faults files.new) (S.calls files.new) (O.got out.new) (O.faults out.new)) }
-    ensures board { Leaves (ending_of result) (ran ticks (seen_files cores.entry) (map made_output scripts.now) system inputs).run (O.got out.old) (O.got out.new) (⟦<Board as ViewBoard>⟧.board_view board.old) (⟦<Board as ViewBoard>⟧.board_view board.new) }
+    ensures board { LeavesBoard (ending_of result) (outcome_of_run ticks (seen_files cores.entry) (map made_output scripts.now) system inputs).run (O.got out.old) (O.got out.new) (⟦<Board as ViewBoard>⟧.board_view board.old) (⟦<Board as ViewBoard>⟧.board_view board.new) }
 {
     keeps_numbers();
     match Machine::boot(alloc, system, inputs) {
@@ -134,13 +134,13 @@ fn run_booted<'a, S: Store, O: Sink>(
     requires most { ticks ≤ TICKS }
     requires fresh { machine.old.state.ticks ≡ 0 }
     requires running { machine.old.state.halted ≡ false }
-    requires inside { AreInside (length machine.old.state.parts) (seen_files cores) }
+    requires inside { AreForPartitions (length machine.old.state.parts) (seen_files cores) }
     ensures comes { (system : Loaded) (inputs : List (List ℕ)) → machine.old.state ≡ start (with_inputs system inputs)
-        → Comes (ending_of result) (ran ticks (seen_files cores.entry) (map made_output scripts.now) system inputs)
+        → Comes (ending_of result) (outcome_of_run ticks (seen_files cores.entry) (map made_output scripts.now) system inputs)
         (outside (S.files files.old) (S.read_faults files.old) (S.write_faults files.old) (S.calls files.old) (O.got out.old) (O.faults out.old))
         (outside (S.files files.new) (S.read_faults files.new) (S.write_faults files.new) (S.calls files.new) (O.got out.new) (O.faults out.new)) }
     ensures board { (system : Loaded) (inputs : List (List ℕ)) → machine.old.state ≡ start (with_inputs system inputs)
-        → Leaves (ending_of result) (ran ticks (seen_files cores.entry) (map made_output scripts.now) system inputs).run (O.got out.old) (O.got out.new) (⟦<Board as ViewBoard>⟧.board_view board.old) (⟦<Board as ViewBoard>⟧.board_view board.new) }
+        → LeavesBoard (ending_of result) (outcome_of_run ticks (seen_files cores.entry) (map made_output scripts.now) system inputs).run (O.got out.old) (O.got out.new) (⟦<Board as ViewBoard>⟧.board_view board.old) (⟦<Board as ViewBoard>⟧.board_view board.new) }
 {
     match core_room(alloc, machine, cores) {
         Ok(mut room) => run_into(ticks, cores, scripts, machine, &mut room, files, out, board),
@@ -162,14 +162,14 @@ fn run_into<'a, S: Store, O: Sink>(
     requires most { ticks ≤ TICKS }
     requires fresh { machine.old.state.ticks ≡ 0 }
     requires running { machine.old.state.halted ≡ false }
-    requires inside { AreInside (length machine.old.state.parts) (seen_files cores) }
+    requires inside { AreForPartitions (length machine.old.state.parts) (seen_files cores) }
     requires room { FitInto machine.old.state.system (length room.old) (seen_files cores) }
     ensures comes { (system : Loaded) (inputs : List (List ℕ)) → machine.old.state ≡ start (with_inputs system inputs)
-        → Comes (ending_of result) (ran ticks (seen_files cores.entry) (map made_output scripts.now) system inputs)
+        → Comes (ending_of result) (outcome_of_run ticks (seen_files cores.entry) (map made_output scripts.now) system inputs)
         (outside (S.files files.old) (S.read_faults files.old) (S.write_faults files.old) (S.calls files.old) (O.got out.old) (O.faults out.old))
         (outside (S.files files.new) (S.read_faults files.new) (S.write_faults files.new) (S.calls files.new) (O.got out.new) (O.faults out.new)) }
     ensures board { (system : Loaded) (inputs : List (List ℕ)) → machine.old.state ≡ start (with_inputs system inputs)
-        → Leaves (ending_of result) (ran ticks (seen_files cores.entry) (map made_output scripts.now) system inputs).run (O.got out.old) (O.got out.new) (⟦<Board as ViewBoard>⟧.board_view board.old) (⟦<Board as ViewBoard>⟧.board_view board.new) }
+        → LeavesBoard (ending_of result) (outcome_of_run ticks (seen_files cores.entry) (map made_output scripts.now) system inputs).run (O.got out.old) (O.got out.new) (⟦<Board as ViewBoard>⟧.board_view board.old) (⟦<Board as ViewBoard>⟧.board_view board.new) }
 {
     keeps_numbers();
     board.begin();

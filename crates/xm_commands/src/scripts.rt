@@ -3,16 +3,16 @@
 ghost use Rattle.std.specs.Prelude.{◌≡◌, ◌<◌, ◌≤◌, ◌++◌, ◌∷◌, [], ℕ, List, IfOk, None, Ok, OnOk, Option, drop, length, map};
 ghost use Rattle.xm_base.specs.declared.limits.TheConstants.{TICKS};
 ghost use Rattle.whole_system.specs.State.{with_inputs};
-ghost use Rattle.cue_scripts.specs.Written.{IsFile};
+ghost use Rattle.cue_scripts.specs.Written.{IsScriptFile};
 ghost use Rattle.machine_model.specs.View.{System as Booted};
 ghost use Rattle.xm_container.specs.Reading.{unpacked};
-ghost use Rattle.xm_commands.specs.Cores.{AreInside};
+ghost use Rattle.xm_commands.specs.Cores.{AreForPartitions};
 ghost use Rattle.file_commands.specs.Inputs.{inputs_for};
 ghost use Rattle.xm_commands.specs.Numbers.{HasTold, HaveTold};
 ghost use Rattle.file_commands.specs.Outcome.{content, first_long, script_bytes, script_denial, script_output, scripts_for};
-ghost use Rattle.file_commands.specs.Packing.{names_of};
+ghost use Rattle.file_commands.specs.Packing.{file_names};
 ghost use Rattle.xm_commands.specs.Scripts.{made_output, made_outputs, script_or};
-ghost use Rattle.file_commands.specs.Told.{AreSaved, MakesOr, bytes_of};
+ghost use Rattle.file_commands.specs.Told.{AreSaved, MakesOr, vector_bytes};
 ghost use Rattle.file_commands.specs.Work.{Saves, outside};
 ghost use Rattle.xm_words.specs.Seen.{seen_file, seen_options};
 ghost use Rattle.xm_words.specs.Words.{inputs_in, scripts_in};
@@ -46,12 +46,12 @@ pub(crate) fn make_scripts<'a>(
     system: &System,
 ) -> Result<Vec<MadeScript<'a>>, Ending<'a>>
     requires most { ticks ≤ TICKS }
-    requires short { first_long (names_of (inputs_in (seen_options options))) (drop 1 (map bytes_of contents.now)) ≡ None }
-    requires same { unpacked (content 0 (map bytes_of contents.now)) ≡ Ok system.now }
-    requires inside { AreInside (length system.now.conf.parts) (scripts_in (seen_options options)) }
-    ensures numbers { (inputs : List (List ℕ)) → inputs_for (length system.now.conf.parts) (seen_options options.entry) (drop 1 (map bytes_of contents.now)) ≡ Ok inputs
+    requires short { first_long (file_names (inputs_in (seen_options options))) (drop 1 (map vector_bytes contents.now)) ≡ None }
+    requires same { unpacked (content 0 (map vector_bytes contents.now)) ≡ Ok system.now }
+    requires inside { AreForPartitions (length system.now.conf.parts) (scripts_in (seen_options options)) }
+    ensures numbers { (inputs : List (List ℕ)) → inputs_for (length system.now.conf.parts) (seen_options options.entry) (drop 1 (map vector_bytes contents.now)) ≡ Ok inputs
         → IfOk result (λ _. HaveTold (with_inputs system.now inputs) ticks (scripts_in (seen_options options.entry))) }
-    ensures made { (inputs : List (List ℕ)) → inputs_for (length system.now.conf.parts) (seen_options options.entry) (drop 1 (map bytes_of contents.now)) ≡ Ok inputs
+    ensures made { (inputs : List (List ℕ)) → inputs_for (length system.now.conf.parts) (seen_options options.entry) (drop 1 (map vector_bytes contents.now)) ≡ Ok inputs
         → MakesOr made_outputs result (scripts_for (with_inputs system.now inputs) ticks (scripts_in (seen_options options.entry))) }
 {
     let mut made = Vec::new(alloc);
@@ -90,12 +90,12 @@ fn make_script<'a>(
     named: PartFile<'a>,
 ) -> Result<MadeScript<'a>, Ending<'a>>
     requires most { ticks ≤ TICKS }
-    requires short { first_long (names_of (inputs_in (seen_options options))) (drop 1 (map bytes_of contents.now)) ≡ None }
-    requires same { unpacked (content 0 (map bytes_of contents.now)) ≡ Ok system.now }
+    requires short { first_long (file_names (inputs_in (seen_options options))) (drop 1 (map vector_bytes contents.now)) ≡ None }
+    requires same { unpacked (content 0 (map vector_bytes contents.now)) ≡ Ok system.now }
     requires inside { (seen_file named).part < length system.now.conf.parts }
-    ensures numbers { (inputs : List (List ℕ)) → inputs_for (length system.now.conf.parts) (seen_options options.entry) (drop 1 (map bytes_of contents.now)) ≡ Ok inputs
+    ensures numbers { (inputs : List (List ℕ)) → inputs_for (length system.now.conf.parts) (seen_options options.entry) (drop 1 (map vector_bytes contents.now)) ≡ Ok inputs
         → IfOk result (λ _. HasTold (with_inputs system.now inputs) ticks (seen_file named.entry).part) }
-    ensures made { (inputs : List (List ℕ)) → inputs_for (length system.now.conf.parts) (seen_options options.entry) (drop 1 (map bytes_of contents.now)) ≡ Ok inputs
+    ensures made { (inputs : List (List ℕ)) → inputs_for (length system.now.conf.parts) (seen_options options.entry) (drop 1 (map vector_bytes contents.now)) ≡ Ok inputs
         → MakesOr made_output result (script_or (script_denial (with_inputs system.now inputs) ticks (seen_file named.entry)) (script_output (with_inputs system.now inputs) ticks (seen_file named.entry))) }
 {
     match made_again(alloc, options, contents, system) {
@@ -115,10 +115,10 @@ fn made_again(
     contents: &[Vec<u8>],
     system: &System,
 ) -> Result<(System, Inputs), Memory>
-    requires short { first_long (names_of (inputs_in (seen_options options))) (drop 1 (map bytes_of contents.now)) ≡ None }
-    requires same { unpacked (content 0 (map bytes_of contents.now)) ≡ Ok system.now }
+    requires short { first_long (file_names (inputs_in (seen_options options))) (drop 1 (map vector_bytes contents.now)) ≡ None }
+    requires same { unpacked (content 0 (map vector_bytes contents.now)) ≡ Ok system.now }
     ensures system { IfOk result (λ again. again.0 ≡ system.now) }
-    ensures inputs { IfOk result (λ again. inputs_for (length system.now.conf.parts) (seen_options options.entry) (drop 1 (map bytes_of contents.now)) ≡ Ok again.1) }
+    ensures inputs { IfOk result (λ again. inputs_for (length system.now.conf.parts) (seen_options options.entry) (drop 1 (map vector_bytes contents.now)) ≡ Ok again.1) }
     ensures count { IfOk result (λ again. length again.1 ≡ length system.now.conf.parts) }
 {
     let (bytes, words) = split_contents(contents);
@@ -138,7 +138,7 @@ fn tell_script<'a>(
     script: Result<Vec<u8>, ScriptFault>,
 ) -> Result<MadeScript<'a>, Ending<'a>>
     ensures numbers { (system : Booted) (ticks : ℕ) (part : ℕ) → IfOk script (λ _. HasTold system ticks part) → IfOk result (λ _. HasTold system ticks part) }
-    ensures made { (system : Booted) (ticks : ℕ) (part : ℕ) → IsFile bytes_of (script_bytes system ticks part) script
+    ensures made { (system : Booted) (ticks : ℕ) (part : ℕ) → IsScriptFile vector_bytes (script_bytes system ticks part) script
         → MakesOr made_output result (script_or (script_denial system ticks (record { part = part; file = file.now })) (script_output system ticks (record { part = part; file = file.now }))) }
 {
     match script {

@@ -3,8 +3,8 @@
 ghost use Rattle.std.specs.Prelude.{◌≡◌, ◌≢◌, ◌↔◌, None};
 ghost use Rattle.xm_commands.specs.Boards.{IsMarked, IsPlayed};
 ghost use Rattle.file_commands.specs.Ending.{Misused, complaint};
-ghost use Rattle.xm_commands.specs.Separation.{AreAlone, ReplaysAlone, ShowsAlone, ShowsPart};
-ghost use Rattle.xm_commands.specs.Top.{Answers, HasCauses, IsComplete, IsExplained, IsQuiet, IsSaid, OtherFilesStay};
+ghost use Rattle.xm_commands.specs.Separation.{AreShownAlone, ReplaysAlone, ShowsAlone, ShowsPart};
+ghost use Rattle.xm_commands.specs.Top.{Answers, HasCauses, IsCompleteStatus, IsExplained, IsQuiet, IsSaid, OtherFilesStay};
 ghost use Rattle.file_commands.specs.Work.{outside};
 ghost use Rattle.xm_words.specs.Words.{command_of};
 
@@ -51,10 +51,10 @@ pub fn xm_main<S: Store, O: Sink, E: Sink>(
 
     // After a run that is carried out, what went out and what was written shows of each partition what it is alone; so does what there is of
     // it where the report or a core file was not written.
-    ensures alone { IsComplete result → AreAlone ShowsAlone (command_of words.now)
+    ensures alone { IsCompleteStatus result → AreShownAlone ShowsAlone (command_of words.now)
         (outside (S.files files.old) (S.read_faults files.old) (S.write_faults files.old) (S.calls files.old) (O.got out.old) (O.faults out.old))
         (outside (S.files files.new) (S.read_faults files.new) (S.write_faults files.new) (S.calls files.new) (O.got out.new) (O.faults out.new)) }
-    ensures part { result ≡ Status.WriteFault → AreAlone ShowsPart (command_of words.now)
+    ensures part { result ≡ Status.WriteFault → AreShownAlone ShowsPart (command_of words.now)
         (outside (S.files files.old) (S.read_faults files.old) (S.write_faults files.old) (S.calls files.old) (O.got out.old) (O.faults out.old))
         (outside (S.files files.new) (S.read_faults files.new) (S.write_faults files.new) (S.calls files.new) (O.got out.new) (O.faults out.new)) }
 

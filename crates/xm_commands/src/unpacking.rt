@@ -4,14 +4,14 @@ ghost use Rattle.std.specs.Prelude.{◌≡◌, ◌≤◌, ◌∷◌, ℕ, List, 
 ghost use Rattle.xm_base.specs.declared.limits.TheConstants.{TICKS};
 ghost use Rattle.xm_container.specs.Reading.{unpacked};
 ghost use Rattle.whole_system.specs.State.{with_inputs};
-ghost use Rattle.xm_commands.specs.Boards.{IsLeft, Leaves};
-ghost use Rattle.xm_commands.specs.Cores.{AreInside};
-ghost use Rattle.xm_commands.specs.Numbers.{HaveTold, IsMade, TellsIn, TellsOf, TellsShort};
+ghost use Rattle.xm_commands.specs.Boards.{IsLeft, LeavesBoard};
+ghost use Rattle.xm_commands.specs.Cores.{AreForPartitions};
+ghost use Rattle.xm_commands.specs.Numbers.{HaveTold, HasScripts, TellsIn, TellsOf, TellsShort};
 ghost use Rattle.xm_commands.specs.Scripts.{made_output};
 ghost use Rattle.file_commands.specs.Inputs.{inputs_for};
-ghost use Rattle.file_commands.specs.Outcome.{content, first_long, outcome_of, ran, ran_with, run_outcome, ticks_asked};
-ghost use Rattle.file_commands.specs.Packing.{names_of};
-ghost use Rattle.file_commands.specs.Told.{bytes_of, ending_of};
+ghost use Rattle.file_commands.specs.Outcome.{content, first_long, outcome_of, outcome_of_run, ran_with, run_outcome, ticks_asked};
+ghost use Rattle.file_commands.specs.Packing.{file_names};
+ghost use Rattle.file_commands.specs.Told.{vector_bytes, ending_of};
 ghost use Rattle.file_commands.specs.Work.{Comes, IsDone, outside};
 ghost use Rattle.xm_words.specs.Grammar.{count_of};
 ghost use Rattle.xm_words.specs.Seen.{seen_files, seen_options};
@@ -41,7 +41,7 @@ pub(crate) fn run_container<'a, S: Store, O: Sink>(
         (outside (S.files files.old) (S.read_faults files.old) (S.write_faults files.old) (S.calls files.old) (O.got out.old) (O.faults out.old))
         (outside (S.files files.new) (S.read_faults files.new) (S.write_faults files.new) (S.calls files.new) (O.got out.new) (O.faults out.new)) }
     ensures board { IsLeft (ending_of result) (Some (Run container.now (seen_options options.entry))) (S.files files.old) (O.got out.old) (O.got out.new) (⟦<Board as ViewBoard>⟧.board_view board.old) (⟦<Board as ViewBoard>⟧.board_view board.new) }
-    ensures numbers { IsMade (ending_of result) → TellsOf container.now (seen_options options.entry) (S.files files.old) }
+    ensures numbers { HasScripts (ending_of result) → TellsOf container.now (seen_options options.entry) (S.files files.old) }
 {
     match read_files(alloc, container, options.inputs(), files) {
         Ok(contents) => run_files(alloc, container, options, &contents, files, out, board),
@@ -60,11 +60,11 @@ fn run_files<'a, S: Store, O: Sink>(
     board: &mut Board,
 ) -> Ending<'a>
     requires { count_of (span_in (seen_options options)) ≤ TICKS }
-    ensures comes { Comes (ending_of result) (outcome_of (Run container.now (seen_options options.entry)) (map bytes_of contents.now))
+    ensures comes { Comes (ending_of result) (outcome_of (Run container.now (seen_options options.entry)) (map vector_bytes contents.now))
         (outside (S.files files.old) (S.read_faults files.old) (S.write_faults files.old) (S.calls files.old) (O.got out.old) (O.faults out.old))
         (outside (S.files files.new) (S.read_faults files.new) (S.write_faults files.new) (S.calls files.new) (O.got out.new) (O.faults out.new)) }
-    ensures board { Leaves (ending_of result) (outcome_of (Run container.now (seen_options options.entry)) (map bytes_of contents.now)).run (O.got out.old) (O.got out.new) (⟦<Board as ViewBoard>⟧.board_view board.old) (⟦<Board as ViewBoard>⟧.board_view board.new) }
-    ensures numbers { IsMade (ending_of result) → TellsShort container.now (seen_options options.entry) (map bytes_of contents.now) }
+    ensures board { LeavesBoard (ending_of result) (outcome_of (Run container.now (seen_options options.entry)) (map vector_bytes contents.now)).run (O.got out.old) (O.got out.new) (⟦<Board as ViewBoard>⟧.board_view board.old) (⟦<Board as ViewBoard>⟧.board_view board.new) }
+    ensures numbers { HasScripts (ending_of result) → TellsShort container.now (seen_options options.entry) (map vector_bytes contents.now) }
 {
     match first_long(container, options.inputs(), contents) {
         Some(file) => Ending::Denied {
@@ -86,13 +86,13 @@ fn run_packed<'a, S: Store, O: Sink>(
     board: &mut Board,
 ) -> Ending<'a>
     requires most { count_of (span_in (seen_options options)) ≤ TICKS }
-    requires short { first_long (container.now ∷ names_of (inputs_in (seen_options options))) (map bytes_of contents.now) ≡ None }
-    ensures comes { Comes (ending_of result) (run_outcome container.now (seen_options options.entry) (content 0 (map bytes_of contents.now)) (drop 1 (map bytes_of contents.now)))
+    requires short { first_long (container.now ∷ file_names (inputs_in (seen_options options))) (map vector_bytes contents.now) ≡ None }
+    ensures comes { Comes (ending_of result) (run_outcome container.now (seen_options options.entry) (content 0 (map vector_bytes contents.now)) (drop 1 (map vector_bytes contents.now)))
         (outside (S.files files.old) (S.read_faults files.old) (S.write_faults files.old) (S.calls files.old) (O.got out.old) (O.faults out.old))
         (outside (S.files files.new) (S.read_faults files.new) (S.write_faults files.new) (S.calls files.new) (O.got out.new) (O.faults out.new)) }
-    ensures board { Leaves (ending_of result) (run_outcome container.now (seen_options options.entry) (content 0 (map bytes_of contents.now)) (drop 1 (map bytes_of contents.now))).run (O.got out.old) (O.got out.new)
+    ensures board { LeavesBoard (ending_of result) (run_outcome container.now (seen_options options.entry) (content 0 (map vector_bytes contents.now)) (drop 1 (map vector_bytes contents.now))).run (O.got out.old) (O.got out.new)
         (⟦<Board as ViewBoard>⟧.board_view board.old) (⟦<Board as ViewBoard>⟧.board_view board.new) }
-    ensures numbers { IsMade (ending_of result) → TellsIn (seen_options options.entry) (map bytes_of contents.now) }
+    ensures numbers { HasScripts (ending_of result) → TellsIn (seen_options options.entry) (map vector_bytes contents.now) }
 {
     let (bytes, _) = split_contents(contents);
     match unpack(alloc, bytes) {
@@ -115,15 +115,15 @@ fn run_unpacked<'a, S: Store, O: Sink>(
     board: &mut Board,
 ) -> Ending<'a>
     requires most { count_of (span_in (seen_options options)) ≤ TICKS }
-    requires short { first_long (names_of (inputs_in (seen_options options))) (drop 1 (map bytes_of contents.now)) ≡ None }
-    requires same { unpacked (content 0 (map bytes_of contents.now)) ≡ Ok system }
+    requires short { first_long (file_names (inputs_in (seen_options options))) (drop 1 (map vector_bytes contents.now)) ≡ None }
+    requires same { unpacked (content 0 (map vector_bytes contents.now)) ≡ Ok system }
     ensures comes { Comes (ending_of result)
-        (ran_with container.now (seen_options options.entry) system (inputs_for (length system.conf.parts) (seen_options options.entry) (drop 1 (map bytes_of contents.now))))
+        (ran_with container.now (seen_options options.entry) system (inputs_for (length system.conf.parts) (seen_options options.entry) (drop 1 (map vector_bytes contents.now))))
         (outside (S.files files.old) (S.read_faults files.old) (S.write_faults files.old) (S.calls files.old) (O.got out.old) (O.faults out.old))
         (outside (S.files files.new) (S.read_faults files.new) (S.write_faults files.new) (S.calls files.new) (O.got out.new) (O.faults out.new)) }
-    ensures board { Leaves (ending_of result)
-        (ran_with container.now (seen_options options.entry) system (inputs_for (length system.conf.parts) (seen_options options.entry) (drop 1 (map bytes_of contents.now)))).run (O.got out.old) (O.got out.new) (⟦<Board as ViewBoard>⟧.board_view board.old) (⟦<Board as ViewBoard>⟧.board_view board.new) }
-    ensures numbers { IsMade (ending_of result) → (inputs : List (List ℕ)) → inputs_for (length system.conf.parts) (seen_options options.entry) (drop 1 (map bytes_of contents.now)) ≡ Ok inputs
+    ensures board { LeavesBoard (ending_of result)
+        (ran_with container.now (seen_options options.entry) system (inputs_for (length system.conf.parts) (seen_options options.entry) (drop 1 (map vector_bytes contents.now)))).run (O.got out.old) (O.got out.new) (⟦<Board as ViewBoard>⟧.board_view board.old) (⟦<Board as ViewBoard>⟧.board_view board.new) }
+    ensures numbers { HasScripts (ending_of result) → (inputs : List (List ℕ)) → inputs_for (length system.conf.parts) (seen_options options.entry) (drop 1 (map vector_bytes contents.now)) ≡ Ok inputs
         → HaveTold (with_inputs system inputs) (ticks_asked (span_in (seen_options options.entry)) system.conf) (scripts_in (seen_options options.entry)) }
 {
     match ready_run(alloc, container, options, contents, &system) {
@@ -144,11 +144,11 @@ fn run_ready<'a, S: Store, O: Sink>(
 ) -> Ending<'a>
     requires most { ready.ticks ≤ TICKS }
     requires given { length ready.inputs ≡ length system.conf.parts }
-    requires inside { AreInside (length system.conf.parts) (seen_files cores) }
-    ensures comes { Comes (ending_of result) (ran ready.entry.ticks (seen_files cores.entry) (map made_output ready.entry.scripts.items) system ready.entry.inputs)
+    requires inside { AreForPartitions (length system.conf.parts) (seen_files cores) }
+    ensures comes { Comes (ending_of result) (outcome_of_run ready.entry.ticks (seen_files cores.entry) (map made_output ready.entry.scripts.items) system ready.entry.inputs)
         (outside (S.files files.old) (S.read_faults files.old) (S.write_faults files.old) (S.calls files.old) (O.got out.old) (O.faults out.old))
         (outside (S.files files.new) (S.read_faults files.new) (S.write_faults files.new) (S.calls files.new) (O.got out.new) (O.faults out.new)) }
-    ensures board { Leaves (ending_of result) (ran ready.entry.ticks (seen_files cores.entry) (map made_output ready.entry.scripts.items) system ready.entry.inputs).run (O.got out.old) (O.got out.new) (⟦<Board as ViewBoard>⟧.board_view board.old) (⟦<Board as ViewBoard>⟧.board_view board.new) }
+    ensures board { LeavesBoard (ending_of result) (outcome_of_run ready.entry.ticks (seen_files cores.entry) (map made_output ready.entry.scripts.items) system ready.entry.inputs).run (O.got out.old) (O.got out.new) (⟦<Board as ViewBoard>⟧.board_view board.old) (⟦<Board as ViewBoard>⟧.board_view board.new) }
 {
     let ReadyRun {
         ticks,

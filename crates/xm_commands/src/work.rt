@@ -5,8 +5,8 @@ ghost use Rattle.xm_commands.specs.Boards.{IsLeft};
 ghost use Rattle.file_commands.specs.Told.{ending_of};
 ghost use Rattle.xm_commands.specs.Ticks.{HasTicks};
 ghost use Rattle.file_commands.specs.Work.{IsWorked, outside};
-ghost use Rattle.xm_commands.specs.Numbers.{IsMade, Tells};
-ghost use Rattle.xm_words.specs.Seen.{seen};
+ghost use Rattle.xm_commands.specs.Numbers.{HasScripts, WordsTell};
+ghost use Rattle.xm_words.specs.Seen.{command_seen};
 ghost use Rattle.xm_words.specs.Words.{command_of};
 
 use crate::generating::generate;
@@ -36,7 +36,7 @@ pub(crate) fn work<'a, S: Store, O: Sink>(
         (outside (S.files files.old) (S.read_faults files.old) (S.write_faults files.old) (S.calls files.old) (O.got out.old) (O.faults out.old))
         (outside (S.files files.new) (S.read_faults files.new) (S.write_faults files.new) (S.calls files.new) (O.got out.new) (O.faults out.new)) }
     ensures board { IsLeft (ending_of result) (command_of words.now) (S.files files.old) (O.got out.old) (O.got out.new) (⟦<Board as ViewBoard>⟧.board_view board.old) (⟦<Board as ViewBoard>⟧.board_view board.new) }
-    ensures numbers { IsMade (ending_of result) → Tells (command_of words.now) (S.files files.old) }
+    ensures numbers { HasScripts (ending_of result) → WordsTell (command_of words.now) (S.files files.old) }
 {
     grammar();
     match command(words) {
@@ -54,11 +54,11 @@ fn carry_out<'a, S: Store, O: Sink>(
     board: &mut Board,
 ) -> Ending<'a>
     requires { HasTicks command }
-    ensures worked { IsWorked (ending_of result) (seen (Some command.entry))
+    ensures worked { IsWorked (ending_of result) (command_seen (Some command.entry))
         (outside (S.files files.old) (S.read_faults files.old) (S.write_faults files.old) (S.calls files.old) (O.got out.old) (O.faults out.old))
         (outside (S.files files.new) (S.read_faults files.new) (S.write_faults files.new) (S.calls files.new) (O.got out.new) (O.faults out.new)) }
-    ensures board { IsLeft (ending_of result) (seen (Some command.entry)) (S.files files.old) (O.got out.old) (O.got out.new) (⟦<Board as ViewBoard>⟧.board_view board.old) (⟦<Board as ViewBoard>⟧.board_view board.new) }
-    ensures numbers { IsMade (ending_of result) → Tells (seen (Some command.entry)) (S.files files.old) }
+    ensures board { IsLeft (ending_of result) (command_seen (Some command.entry)) (S.files files.old) (O.got out.old) (O.got out.new) (⟦<Board as ViewBoard>⟧.board_view board.old) (⟦<Board as ViewBoard>⟧.board_view board.new) }
+    ensures numbers { HasScripts (ending_of result) → WordsTell (command_seen (Some command.entry)) (S.files files.old) }
 {
     match command {
         Bare { image, ticks } => run_file(alloc, image, ticks, files, out, board),

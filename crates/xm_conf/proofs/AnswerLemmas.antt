@@ -4,7 +4,7 @@ use Rattle.std.specs.Prelude.{◌==◌}
 use Rattle.std.specs.List.{position_from}
 use Rattle.std.proofs.lemmas.List.{append-nil}
 use Rattle.std.proofs.lemmas.Bool.Decides.{nat_tests}
-use Rattle.xm_conf.specs.Along.{each, each_from, along_from, unless}
+use Rattle.xm_conf.specs.Along.{added_by_each, each_from, along_from, unless}
 use Rattle.xm_conf.specs.Configuration.{Part, Plan, Conf}
 use Rattle.xm_conf.specs.Description.{event_numbered, answer_of, monitor_of, plan_ids, ids_of}
 use Rattle.xm_conf.specs.Health.{event_row, is_allowed}
@@ -55,7 +55,7 @@ none-earlier from k n b (a ∷ actions) room below =
 
 -- an answer breaks the rule by its action alone
 pub answer_broken-numbered : (plans p : ℕ) (before : List Action) (a : Action) → length before < 12
-    → rules.answer_broken plans p (each answer_of before) (record { event = event_numbered (length before); action = a }) ≡ action_broken plans p (length before) a
+    → rules.answer_broken plans p (added_by_each answer_of before) (record { event = event_numbered (length before); action = a }) ≡ action_broken plans p (length before) a
 unfolding rules.answer_broken action_broken
 answer_broken-numbered plans p before a below =
     rw (none-earlier 0 0 (length before) a before (omega arith) below, length-answers 0 before)
@@ -64,15 +64,15 @@ answer_broken-numbered plans p before a below =
 
 -- the answers of a table break the rule by their actions alone
 pub along-answers : (plans p : ℕ) (before actions : List Action) → length before + length actions ≤ 12
-    → along_from (rules.answer_broken plans p) (each answer_of before) (each_from answer_of (length before) actions) ≡ each_from (action_broken plans p) (length before) actions
+    → along_from (rules.answer_broken plans p) (added_by_each answer_of before) (each_from answer_of (length before) actions) ≡ each_from (action_broken plans p) (length before) actions
 along-answers plans p before [] room = refl
 along-answers plans p before (a ∷ actions) room =
     let next : length (before ++ a ∷ []) ≡ length before + 1 = omega (arith, length-append before (a ∷ [])) in
-    ap (λ first. first ++ along_from (rules.answer_broken plans p) (each answer_of before ++ answer_of (length before) a) (each_from answer_of (length before + 1) actions))
+    ap (λ first. first ++ along_from (rules.answer_broken plans p) (added_by_each answer_of before ++ answer_of (length before) a) (each_from answer_of (length before + 1) actions))
     (answer_broken-numbered plans p before a (omega arith))
     ∙ ap (λ more. action_broken plans p (length before) a ++ more)
     (ap (λ front. along_from (rules.answer_broken plans p) front (each_from answer_of (length before + 1) actions)) (sym (each-push answer_of before a))
-    ∙ subst (λ (n : ℕ). along_from (rules.answer_broken plans p) (each answer_of (before ++ a ∷ [])) (each_from answer_of n actions) ≡ each_from (action_broken plans p) n actions) next
+    ∙ subst (λ (n : ℕ). along_from (rules.answer_broken plans p) (added_by_each answer_of (before ++ a ∷ [])) (each_from answer_of n actions) ≡ each_from (action_broken plans p) n actions) next
     (along-answers plans p (before ++ a ∷ []) actions (omega (arith, next))))
 
 -- what a list of what others say adds
@@ -82,7 +82,7 @@ each_from-map f g n (x ∷ xs) = ap (λ more. f n (g x) ++ more) (each_from-map 
 
 -- a partition's table breaks the rule by its flags and its actions
 pub monitor_broken_table : (plans p : ℕ) (part : Part) → length part.hm.actions ≤ 12
-    → rules.monitor_broken plans p (monitor_of part) ≡ unless (nat_lt part.hm.logged 4096) (rules.alone 19 (item.Part p)) ++ each (action_broken plans p) part.hm.actions
+    → rules.monitor_broken plans p (monitor_of part) ≡ unless (nat_lt part.hm.logged 4096) (rules.alone 19 (item.Part p)) ++ added_by_each (action_broken plans p) part.hm.actions
 unfolding rules.monitor_broken monitor_of
 monitor_broken_table plans p part room =
     ap (λ more. unless (nat_lt part.hm.logged 4096) (rules.alone 19 (item.Part p)) ++ more) (along-answers plans p [] part.hm.actions (omega arith))
@@ -106,6 +106,6 @@ unfolding rules.rule_2 ids_of
 rule_2-ids_of conf = rw (misplaced-numbers item.Uart 0 conf.uarts, misplaced-plans 0 conf.plans, misplaced-numbers item.Part 0 conf.parts) refl
 
 -- the rule on health events is broken along the partitions
-pub rule_19_tables : (plans : ℕ) (parts : List Part) → rules.rule_19 plans (map monitor_of parts) ≡ each (part_monitor plans) parts
+pub rule_19_tables : (plans : ℕ) (parts : List Part) → rules.rule_19 plans (map monitor_of parts) ≡ added_by_each (part_monitor plans) parts
 unfolding rules.rule_19 part_monitor
 rule_19_tables plans parts = each_from-map (rules.monitor_broken plans) monitor_of 0 parts

@@ -6,7 +6,7 @@ use Rattle.std.specs.Str.{bytes_eq}
 use Rattle.std.proofs.lemmas.Bool.Decides.{Decides-and, Decides-eqb, Decides-like, Decides-not, nat_tests}
 use Rattle.std.proofs.lemmas.Slice.Eq.{bytes_eq-Decides}
 use Rattle.xm_conf.specs.Health.{event_row}
-use Rattle.xm_conf.specs.Description.{Answer, event_numbered}
+use Rattle.xm_conf.specs.Description.{HealthAnswer, event_numbered}
 use Rattle.xm_conf.specs.Rules.{is_sized, is_region, is_paged, addresses, longest, overlaps, has_area, is_time, in_frame, is_kind, is_of_kind, is_way, may_be_end, same_end, has_plan, same_event, is_need, is_console, fits_into, follows}
 use Rattle.xm_conf.specs.Fits.{IsSized, IsRegion, Apart, LiesIn, IsTime, InFrame, IsKind, IsOfKind, IsEnd, IsNeed}
 use Rattle.xm_conf.specs.declared.health.Event.{Event}
@@ -149,7 +149,7 @@ event_numbered-number event.SparcInstrAccess = refl
 event_numbered-number event.SparcDataAccess = refl
 
 -- two answers to different events
-pub decides-same_event : (a b : Answer) → Decides (not (same_event a b)) (a.event ≢ b.event)
+pub decides-same_event : (a b : HealthAnswer) → Decides (not (same_event a b)) (a.event ≢ b.event)
 unfolding same_event
 decides-same_event a b =
     Decides-not ((event_row a.event).number == (event_row b.event).number)

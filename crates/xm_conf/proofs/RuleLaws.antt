@@ -6,9 +6,9 @@ use Rattle.std.specs.Str.{bytes_eq}
 use Rattle.std.proofs.lemmas.List.{get_or-take, length-take-le}
 use Rattle.std.proofs.lemmas.Option.{slice_get-get_or}
 use Rattle.std.proofs.lemmas.Bool.Decides.{Decides-and, Decides-eqb}
-use Rattle.xm_conf.specs.Along.{head_of, each, along, unless}
+use Rattle.xm_conf.specs.Along.{head_of, added_by_each, along, unless}
 use Rattle.xm_conf.specs.Configuration.{Plan, Part, Chan, Conf}
-use Rattle.xm_conf.specs.Description.{PlanIds, Ids, Answer, Monitor, Description}
+use Rattle.xm_conf.specs.Description.{PlanIds, Ids, HealthAnswer, Monitor, Description}
 use Rattle.xm_conf.specs.Health.{is_allowed}
 use Rattle.xm_conf.specs.Rules as rules
 use Rattle.xm_conf.specs.Fits.{HasSome, HasFewDests, HasCounts, InOrder, HasIds, HasNames, IsSized, IsRegion, Apart, HasHypervisor, LiesIn, IsTime, InFrame, InTurn, IsChan, HasPorts, IsEnd, SuitsPorts, HasAnswers, IsNeed, Fits}
@@ -24,15 +24,15 @@ use Rattle.xm_conf.proofs.DecidesLemmas.{decides-le, decides-lt, decides-sized, 
 use Rattle.xm_conf.proofs.SaysLemmas.{Says, says-like, says-unless, says-append, says-each, says-all, says-along, says-repeated, says-meets, says-pairs, says-pairs_and, within-limit}
 
 -- a count within its limit
-pub says-past : {X : Type 0} (limit : ℕ) (numbered : ℕ → Item) (xs : List X) → Says (rules.past limit numbered xs) (length xs ≤ limit)
+pub says-past : {X : Type 0} (limit : ℕ) (numbered : ℕ → Item) (xs : List X) → Says (rules.past_limit limit numbered xs) (length xs ≤ limit)
 says-past limit numbered xs = says-unless (nat_le (length xs) limit) (rules.alone 1 (numbered limit)) (decides-le (length xs) limit)
 
 -- something, and not too much
 pub says-some : {X : Type 0} (xs : List X) (limit : ℕ) (it : Item) (numbered : ℕ → Item)
-    → Says (unless (nat_lt 0 (length xs)) (rules.alone 1 it) ++ rules.past limit numbered xs) (HasSome xs limit)
+    → Says (unless (nat_lt 0 (length xs)) (rules.alone 1 it) ++ rules.past_limit limit numbered xs) (HasSome xs limit)
 says-some xs limit it numbered =
-    says-like (unless (nat_lt 0 (length xs)) (rules.alone 1 it) ++ rules.past limit numbered xs) (λ t. record { some = t.0; few = t.1 }) (λ h. (h.some, h.few))
-    (says-append (unless (nat_lt 0 (length xs)) (rules.alone 1 it)) (rules.past limit numbered xs)
+    says-like (unless (nat_lt 0 (length xs)) (rules.alone 1 it) ++ rules.past_limit limit numbered xs) (λ t. record { some = t.0; few = t.1 }) (λ h. (h.some, h.few))
+    (says-append (unless (nat_lt 0 (length xs)) (rules.alone 1 it)) (rules.past_limit limit numbered xs)
     (says-unless (nat_lt 0 (length xs)) (rules.alone 1 it) (decides-lt 0 (length xs))) (says-past limit numbered xs))
 
 -- a plan's counts
@@ -40,7 +40,7 @@ pub says-plan_counts : (n : ℕ) (plan : Plan) → Says (rules.plan_counts n pla
 unfolding rules.plan_counts
 says-plan_counts n plan =
     says-like (rules.plan_counts n plan) (λ t. (t.0.0, record { some = t.0.1; few = t.1 })) (λ h. ((h.0, h.1.some), h.1.few))
-    (says-append _ (rules.past 64 (item.Slot n) plan.slots)
+    (says-append _ (rules.past_limit 64 (item.Slot n) plan.slots)
     (says-append (unless (nat_lt n 8) (rules.alone 1 (item.Plan n))) (unless (nat_lt 0 (length plan.slots)) (rules.alone 1 (item.Plan n)))
     (says-unless (nat_lt n 8) (rules.alone 1 (item.Plan n)) (decides-lt n 8))
     (says-unless (nat_lt 0 (length plan.slots)) (rules.alone 1 (item.Plan n)) (decides-lt 0 (length plan.slots))))
@@ -51,8 +51,8 @@ pub says-part_counts : (n : ℕ) (part : Part) → Says (rules.part_counts n par
 unfolding rules.part_counts
 says-part_counts n part =
     says-like (rules.part_counts n part) (λ t. (t.0.0.0, record { some = t.0.0.1; few = t.0.1 }, t.1)) (λ h. (((h.0, h.1.some), h.1.few), h.2))
-    (says-append _ (rules.past 32 (item.Port n) part.ports)
-    (says-append _ (rules.past 8 (item.Area n) part.areas)
+    (says-append _ (rules.past_limit 32 (item.Port n) part.ports)
+    (says-append _ (rules.past_limit 8 (item.Area n) part.areas)
     (says-append (unless (nat_lt n 16) (rules.alone 1 (item.Part n))) (unless (nat_lt 0 (length part.areas)) (rules.alone 1 (item.Part n)))
     (says-unless (nat_lt n 16) (rules.alone 1 (item.Part n)) (decides-lt n 16))
     (says-unless (nat_lt 0 (length part.areas)) (rules.alone 1 (item.Part n)) (decides-lt 0 (length part.areas))))
@@ -78,8 +78,8 @@ pub says-list_counts : (conf : Conf) → Says (rules.list_counts conf)
 unfolding rules.list_counts rules.has_some
 says-list_counts conf =
     says-like (rules.list_counts conf) (λ t. (t.0.0, t.0.1, t.1)) (λ h. ((h.0, h.1), h.2))
-    (says-append _ (rules.past 8 item.Uart conf.uarts)
-    (says-append (unless (nat_lt 0 (length conf.regions) && nat_lt 0 (length conf.plans) && nat_lt 0 (length conf.parts)) (rules.alone 1 item.Whole)) (rules.past 8 item.Region conf.regions)
+    (says-append _ (rules.past_limit 8 item.Uart conf.uarts)
+    (says-append (unless (nat_lt 0 (length conf.regions) && nat_lt 0 (length conf.plans) && nat_lt 0 (length conf.parts)) (rules.alone 1 item.Whole)) (rules.past_limit 8 item.Region conf.regions)
     (says-unless (nat_lt 0 (length conf.regions) && nat_lt 0 (length conf.plans) && nat_lt 0 (length conf.parts)) (rules.alone 1 item.Whole)
     (Decides-and _ _ (Decides-and _ _ (decides-lt 0 (length conf.regions)) (decides-lt 0 (length conf.plans))) (decides-lt 0 (length conf.parts))))
     (says-past 8 item.Region conf.regions))
@@ -111,15 +111,15 @@ says-rule_1 conf =
       ),
       λ n d below. (omega arith, h.dests n d below),
     ))
-    (says-append _ (each rules.chan_counts conf.chans)
-    (says-append _ (each rules.part_counts conf.parts)
-    (says-append (rules.list_counts conf) (each rules.plan_counts conf.plans) (says-list_counts conf)
+    (says-append _ (added_by_each rules.chan_counts conf.chans)
+    (says-append _ (added_by_each rules.part_counts conf.parts)
+    (says-append (rules.list_counts conf) (added_by_each rules.plan_counts conf.plans) (says-list_counts conf)
     (says-each rules.plan_counts (λ n plan. n < 8 × HasSome plan.slots 64) says-plan_counts conf.plans))
     (says-each rules.part_counts (λ n part. n < 16 × HasSome part.areas 8 × (length part.ports ≤ 32)) says-part_counts conf.parts))
     (says-each rules.chan_counts (λ n chan. n < 64 × HasFewDests chan.kind chan.dests) says-chan_counts conf.chans))
 
 -- ids in order
-pub says-in_order : (numbered : ℕ → Item) (ids : List ℕ) → Says (each (rules.misplaced numbered) ids) (InOrder ids)
+pub says-in_order : (numbered : ℕ → Item) (ids : List ℕ) → Says (added_by_each (rules.misplaced numbered) ids) (InOrder ids)
 says-in_order numbered ids =
     says-each (rules.misplaced numbered) (λ n id. id ≡ n) (λ n id. says-unless (id == n) (rules.alone 2 (numbered n)) (Decides-eqb id n)) ids
 
@@ -127,7 +127,7 @@ says-in_order numbered ids =
 pub says-plan_misplaced : (n : ℕ) (ids : PlanIds) → Says (rules.plan_misplaced n ids) ((ids.plan ≡ n) × InOrder ids.slots)
 unfolding rules.plan_misplaced
 says-plan_misplaced n ids =
-    says-append (rules.misplaced item.Plan n ids.plan) (each (rules.misplaced (item.Slot n)) ids.slots)
+    says-append (rules.misplaced item.Plan n ids.plan) (added_by_each (rules.misplaced (item.Slot n)) ids.slots)
     (says-unless (ids.plan == n) (rules.alone 2 (item.Plan n)) (Decides-eqb ids.plan n)) (says-in_order (item.Slot n) ids.slots)
 
 -- rule 2
@@ -137,9 +137,9 @@ says-rule_2 ids =
     says-like (rules.rule_2 ids)
     (λ t. record { processor = t.0.0.0; uarts = t.0.0.1; plans = λ n d below. (t.0.1 n d below).0; slots = λ n d below. (t.0.1 n d below).1; parts = t.1 })
     (λ h. (((h.processor, h.uarts), λ n d below. (h.plans n d below, h.slots n d below)), h.parts))
-    (says-append _ (each (rules.misplaced item.Part) ids.parts)
-    (says-append _ (each rules.plan_misplaced ids.plans)
-    (says-append (unless (ids.processor == 0) (rules.alone 2 item.Whole)) (each (rules.misplaced item.Uart) ids.uarts)
+    (says-append _ (added_by_each (rules.misplaced item.Part) ids.parts)
+    (says-append _ (added_by_each rules.plan_misplaced ids.plans)
+    (says-append (unless (ids.processor == 0) (rules.alone 2 item.Whole)) (added_by_each (rules.misplaced item.Uart) ids.uarts)
     (says-unless (ids.processor == 0) (rules.alone 2 item.Whole) (Decides-eqb ids.processor 0)) (says-in_order item.Uart ids.uarts))
     (says-each rules.plan_misplaced (λ n plan. (plan.plan ≡ n) × InOrder plan.slots) says-plan_misplaced ids.plans))
     (says-in_order item.Part ids.parts))
@@ -212,7 +212,7 @@ unfolding rules.rule_11 rules.frame_broken rules.late_slot
 says-rule_11 conf =
     says-like (rules.rule_11 conf) (λ all. (λ n d below. (all n d below).0, λ n d below. (all n d below).1)) (λ both n d below. (both.0 n d below, both.1 n d below))
     (says-all rules.frame_broken (λ plan. IsTime plan.frame × All (InFrame plan.frame) plan.slots)
-    (λ p plan. says-append (unless (rules.is_time plan.frame) (rules.alone 11 (item.Plan p))) (each (rules.late_slot p plan.frame) plan.slots)
+    (λ p plan. says-append (unless (rules.is_time plan.frame) (rules.alone 11 (item.Plan p))) (added_by_each (rules.late_slot p plan.frame) plan.slots)
     (says-unless (rules.is_time plan.frame) (rules.alone 11 (item.Plan p)) (decides-time plan.frame))
     (says-all (rules.late_slot p plan.frame) (InFrame plan.frame)
     (λ n slot. says-unless (rules.in_frame plan.frame slot) (rules.broken 11 (item.Slot p n) (item.Plan p)) (decides-in_frame plan.frame slot)) plan.slots))
@@ -284,7 +284,7 @@ unfolding rules.rule_16 rules.stray_ends rules.stray_dest rules.stray_end
 says-rule_16 conf =
     says-all (rules.stray_ends conf.parts) (HasPorts conf.parts)
     (λ c chan. says-like (rules.stray_ends conf.parts c chan) (λ t. record { source = t.0; dests = t.1 }) (λ h. (h.source, h.dests))
-    (says-append (rules.stray_end conf.parts (item.End c 0) chan.source) (each (rules.stray_dest conf.parts c) chan.dests)
+    (says-append (rules.stray_end conf.parts (item.End c 0) chan.source) (added_by_each (rules.stray_dest conf.parts c) chan.dests)
     (one (item.End c 0) chan.source)
     (says-all (rules.stray_dest conf.parts c) (λ end. IsSome (rules.port_at conf.parts end)) (λ n end. one (item.End c (n + 1)) end) chan.dests)))
     conf.chans
@@ -298,7 +298,7 @@ unfolding rules.rule_17 rules.wrong_ends rules.wrong_dest rules.wrong_end
 says-rule_17 conf =
     says-all (rules.wrong_ends conf.parts) (SuitsPorts conf.parts)
     (λ c chan. says-like (rules.wrong_ends conf.parts c chan) (λ t. record { source = t.0; dests = t.1 }) (λ h. (h.source, h.dests))
-    (says-append (rules.wrong_end conf.parts chan.kind way.Source (item.End c 0) chan.source) (each (rules.wrong_dest conf.parts chan.kind c) chan.dests)
+    (says-append (rules.wrong_end conf.parts chan.kind way.Source (item.End c 0) chan.source) (added_by_each (rules.wrong_dest conf.parts chan.kind c) chan.dests)
     (says-unless (rules.may_be_end chan.kind way.Source (rules.port_at conf.parts chan.source)) (rules.alone 17 (item.End c 0))
     (decides-end chan.kind way.Source (rules.port_at conf.parts chan.source)))
     (says-all (rules.wrong_dest conf.parts chan.kind c) (λ end. IfSome (rules.port_at conf.parts end) (IsEnd chan.kind way.Destination))
@@ -307,12 +307,12 @@ says-rule_17 conf =
     conf.chans
 
 -- rule 18
-pub says-rule_18 : (conf : Conf) → Says (rules.rule_18 conf) (AllPairs (λ a b. a.1 ≢ b.1) (each rules.chan_ends conf.chans))
+pub says-rule_18 : (conf : Conf) → Says (rules.rule_18 conf) (AllPairs (λ a b. a.1 ≢ b.1) (added_by_each rules.chan_ends conf.chans))
 unfolding rules.rule_18
-says-rule_18 conf = says-pairs (λ a b. a.1 ≢ b.1) (rules.meets 18 rules.same_end) (says-meets {R = λ a b. a ≢ b} 18 rules.same_end decides-same_end) (each rules.chan_ends conf.chans)
+says-rule_18 conf = says-pairs (λ a b. a.1 ≢ b.1) (rules.meets 18 rules.same_end) (says-meets {R = λ a b. a ≢ b} 18 rules.same_end decides-same_end) (added_by_each rules.chan_ends conf.chans)
 
 -- an answer of a partition
-pub says-answer : (plans p : ℕ) (before : List Answer) (answer : Answer) → Says (rules.answer_broken plans p before answer)
+pub says-answer : (plans p : ℕ) (before : List HealthAnswer) (answer : HealthAnswer) → Says (rules.answer_broken plans p before answer)
     (All (λ earlier. earlier.event ≢ answer.event) before × (IsTrue (is_allowed answer.event answer.action) × (answer.action ≡ action.SwitchToMaintenance → 1 < plans)))
 unfolding rules.answer_broken
 says-answer plans p before answer =
@@ -372,7 +372,7 @@ says-plans conf =
 
 -- the rules on channels
 pub says-chans : (conf : Conf) → Says (rules.chan_rules conf)
-    (All IsChan conf.chans × All (HasPorts conf.parts) conf.chans × All (SuitsPorts conf.parts) conf.chans × AllPairs (λ a b. a.1 ≢ b.1) (each rules.chan_ends conf.chans))
+    (All IsChan conf.chans × All (HasPorts conf.parts) conf.chans × All (SuitsPorts conf.parts) conf.chans × AllPairs (λ a b. a.1 ≢ b.1) (added_by_each rules.chan_ends conf.chans))
 unfolding rules.chan_rules
 says-chans conf =
     says-like (rules.chan_rules conf) (λ t. (t.0.0.0, t.0.0.1, t.0.1, t.1)) (λ h. (((h.0, h.1), h.2), h.3))

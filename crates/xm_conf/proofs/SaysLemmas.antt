@@ -5,7 +5,7 @@ use Rattle.std.specs.List.{position_from}
 use Rattle.std.proofs.lemmas.List.{append-nil, get_or-take, get_or_default, length-take}
 use Rattle.std.proofs.lemmas.List.Elements.{All-cons, All-head, All-tail}
 use Rattle.xm_base.specs.Options.{on}
-use Rattle.xm_conf.specs.Along.{head_of, each, each_from, along, along_from, unless}
+use Rattle.xm_conf.specs.Along.{head_of, added_by_each, each_from, along, along_from, unless}
 use Rattle.xm_conf.specs.Rules.{repeated, meets, items_where, beside}
 use Rattle.xm_conf.specs.declared.item.Item.{Item}
 
@@ -55,15 +55,15 @@ says-each_from {X} {Y} f P s k (x ∷ xs) =
 
 -- what numbered elements add says what each says, from number 0
 pub says-each : {X Y : Type 0} (f : ℕ → X → List Y) (P : ℕ → X → Type 0) → ((n : ℕ) (x : X) → Says (f n x) (P n x)) → (xs : List X)
-    → Says (each f xs) ((n : ℕ) (d : X) → n < length xs → P n (get_or xs n d))
+    → Says (added_by_each f xs) ((n : ℕ) (d : X) → n < length xs → P n (get_or xs n d))
 says-each {X} {Y} f P s xs =
-    says-like (each f xs)
+    says-like (added_by_each f xs)
     (λ all n d below. let e : 0 + n ≡ n = omega arith in subst (λ (m : ℕ). P m (get_or xs n d)) e (all n d below))
     (λ all n d below. let e : n ≡ 0 + n = omega arith in subst (λ (m : ℕ). P m (get_or xs n d)) e (all n d below))
     (says-each_from f P s 0 xs)
 
 -- where the number does not matter, all elements say it
-pub says-all : {X Y : Type 0} (f : ℕ → X → List Y) (P : X → Type 0) → ((n : ℕ) (x : X) → Says (f n x) (P x)) → (xs : List X) → Says (each f xs) (All P xs)
+pub says-all : {X Y : Type 0} (f : ℕ → X → List Y) (P : X → Type 0) → ((n : ℕ) (x : X) → Says (f n x) (P x)) → (xs : List X) → Says (added_by_each f xs) (All P xs)
 says-all f P s xs = says-each f (λ n x. P x) s xs
 
 -- what elements add beside those before them says what each says

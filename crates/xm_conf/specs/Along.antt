@@ -12,8 +12,8 @@ each_from f n [] = []
 each_from f n (x ∷ rest) = f n x ++ each_from f (n + 1) rest
 
 -- what the elements add, each by its number and itself
-abbrev pub each : {X Y : Type 0} → (ℕ → X → List Y) → List X → List Y
-each f xs = each_from f 0 xs
+abbrev pub added_by_each : {X Y : Type 0} → (ℕ → X → List Y) → List X → List Y
+added_by_each f xs = each_from f 0 xs
 
 -- what the elements add, each by those before it and itself; before the first stand these
 abbrev pub along_from : {X Y : Type 0} → (List X → X → List Y) → List X → List X → List Y

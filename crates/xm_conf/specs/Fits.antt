@@ -1,6 +1,6 @@
 -- What it means that a description meets the rules of a configuration: a fact a rule.
 use Rattle.std.specs.Prelude.{◌≡◌, ◌≢◌, ℕ, ◌+◌, ◌%◌, ◌<◌, ◌≤◌, ◌⊎◌, ⊤, IsTrue, List, length, sum_by, slice_get, All, AllPairs, Any, IsSome, IsSomeAnd, IfSome, slice_index_or}
-use Rattle.xm_conf.specs.Along.{each}
+use Rattle.xm_conf.specs.Along.{added_by_each}
 use Rattle.xm_conf.specs.Configuration.{Part, Chan, Conf}
 use Rattle.xm_conf.specs.Description.{PlanIds, Ids, Monitor, Description}
 use Rattle.xm_conf.specs.Health.{is_allowed}
@@ -165,6 +165,6 @@ pub record Fits (d : Description) : Type 0 where
   pub messages : All IsChan d.conf.chans
   pub ends_exist : All (HasPorts d.conf.parts) d.conf.chans
   pub ends_suit : All (SuitsPorts d.conf.parts) d.conf.chans
-  pub ends_differ : AllPairs (λ a b. a.1 ≢ b.1) (each chan_ends d.conf.chans)
+  pub ends_differ : AllPairs (λ a b. a.1 ≢ b.1) (added_by_each chan_ends d.conf.chans)
   pub answers : All (HasAnswers (length d.conf.plans)) d.monitors
   pub needs : All (λ part. IfSome part.need IsNeed) d.conf.parts

@@ -4,7 +4,6 @@ pub mod Configuration
 pub mod Description
 pub mod Fits
 pub mod Health
-pub mod HealthLemmas
 pub mod Laws
 pub mod Name
 pub mod NameKept

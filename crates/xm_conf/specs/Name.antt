@@ -22,15 +22,15 @@ abbrev pub is_name : List ℕ → Bool
 is_name bytes = nat_le 1 (length bytes) && nat_le (length bytes) 31 && list_all is_name_byte bytes
 
 -- the name that bytes are, where they are one
-abbrev pub name_of : List ℕ → Option (List ℕ)
-name_of bytes = if is_name bytes then Some bytes else None
+abbrev pub name_from_bytes : List ℕ → Option (List ℕ)
+name_from_bytes bytes = if is_name bytes then Some bytes else None
 
 -- the bytes, filled up with zeros to 31
 abbrev pub padded : List ℕ → List ℕ
 padded bytes = bytes ++ replicate (31 - length bytes) 0
 
 -- the first bytes of a buffer, so many, are a name, and the others are zeros
-pub record IsKept (buffer : List ℕ) (count : ℕ) : Type 0 where
+pub record IsNameBuffer (buffer : List ℕ) (count : ℕ) : Type 0 where
   pub name : IsName (take count buffer)
   pub counted : length (take count buffer) ≡ count
   pub rest : buffer ≡ padded (take count buffer)

@@ -6,7 +6,7 @@ use Rattle.std.proofs.Common.{refl, ap, arith}
 use Rattle.std.proofs.Math.Seq.{take-append_seam}
 use Rattle.std.proofs.lemmas.List.{drop-replicate}
 use Rattle.std.proofs.lemmas.Bool.Decides.{Decides-and, Decides-by_and, Decides-eqb, Decides-like, Decides-not, nat_tests}
-use Rattle.xm_conf.specs.Name.{IsKept, IsName, IsNameByte, is_name, is_name_byte}
+use Rattle.xm_conf.specs.Name.{IsNameBuffer, IsName, IsNameByte, is_name, is_name_byte}
 
 -- the order of numbers is decided
 pub Decides-nat_le : (a b : ℕ) → Decides (nat_le a b) (a ≤ b)
@@ -34,7 +34,7 @@ is_name-Decides bytes =
     (Decides-by_and is_name_byte IsNameByte (list_all is_name_byte) is_name_byte-Decides refl (λ _ _. refl) bytes))
 
 -- a name that is written over 31 zeros is kept there
-pub kept_over_zeros : (bytes front : List ℕ) → IsName bytes → front ≡ bytes → IsKept (front ++ drop (length bytes) (replicate 31 0)) (length bytes)
+pub kept_over_zeros : (bytes front : List ℕ) → IsName bytes → front ≡ bytes → IsNameBuffer (front ++ drop (length bytes) (replicate 31 0)) (length bytes)
 kept_over_zeros bytes front named same =
     let first : take (length bytes) (front ++ drop (length bytes) (replicate 31 0)) ≡ bytes = rw same (take-append_seam bytes _) in
     record {

@@ -4,9 +4,9 @@ use Rattle.std.specs.Prelude.{ℕ, ◌+◌, ◌-◌, ◌%◌, ◌==◌, if◌the
 use Rattle.std.specs.List.{list_any, position_from}
 use Rattle.std.specs.Str.{bytes_eq}
 use Rattle.xm_base.specs.Options.{on}
-use Rattle.xm_conf.specs.Along.{head_of, each, along, unless}
+use Rattle.xm_conf.specs.Along.{head_of, added_by_each, along, unless}
 use Rattle.xm_conf.specs.Configuration.{Plan, Part, Chan, Conf}
-use Rattle.xm_conf.specs.Description.{PlanIds, Ids, Answer, Monitor, Description}
+use Rattle.xm_conf.specs.Description.{PlanIds, Ids, HealthAnswer, Monitor, Description}
 use Rattle.xm_conf.specs.Health.{event_row, is_allowed}
 use Rattle.xm_conf.specs.declared.health.Action.{Action}
 use Rattle.xm_conf.specs.declared.health.Action.TheVariants as action
@@ -76,8 +76,8 @@ meets rule clash before x = beside rule x.0 (head_of (items_where (λ earlier. c
 -- Rule 1: counts.
 
 -- the first item past a limit
-abbrev pub past : {X : Type 0} → ℕ → (ℕ → Item) → List X → List Broken
-past limit numbered xs = unless (nat_le (length xs) limit) (alone 1 (numbered limit))
+abbrev pub past_limit : {X : Type 0} → ℕ → (ℕ → Item) → List X → List Broken
+past_limit limit numbered xs = unless (nat_le (length xs) limit) (alone 1 (numbered limit))
 
 -- there are regions, plans and partitions
 unfoldable pub has_some : Conf → Bool
@@ -88,15 +88,15 @@ unfoldable pub plan_counts : ℕ → Plan → List Broken
 plan_counts n plan =
     unless (nat_lt n 8) (alone 1 (item.Plan n))
     ++ unless (nat_lt 0 (length plan.slots)) (alone 1 (item.Plan n))
-    ++ past 64 (item.Slot n) plan.slots
+    ++ past_limit 64 (item.Slot n) plan.slots
 
 -- a partition past the limit, a partition without areas, and the first area and port past their limits
 unfoldable pub part_counts : ℕ → Part → List Broken
 part_counts n part =
     unless (nat_lt n 16) (alone 1 (item.Part n))
     ++ unless (nat_lt 0 (length part.areas)) (alone 1 (item.Part n))
-    ++ past 8 (item.Area n) part.areas
-    ++ past 32 (item.Port n) part.ports
+    ++ past_limit 8 (item.Area n) part.areas
+    ++ past_limit 32 (item.Port n) part.ports
 
 -- the destination past the limit, which is 16 for a sampling channel
 unfoldable pub dest_counts : ℕ → ChanKind → List End → List Broken
@@ -110,11 +110,11 @@ chan_counts n chan = unless (nat_lt n 64) (alone 1 (item.Chan n)) ++ dest_counts
 -- a configuration without regions, plans or partitions, and the first region and UART past their limits
 unfoldable pub list_counts : Conf → List Broken
 list_counts conf =
-    unless (has_some conf) (alone 1 item.Whole) ++ past 8 item.Region conf.regions ++ past 8 item.Uart conf.uarts
+    unless (has_some conf) (alone 1 item.Whole) ++ past_limit 8 item.Region conf.regions ++ past_limit 8 item.Uart conf.uarts
 
 -- there is something of each kind that has to be, and not too much of any kind
 unfoldable pub rule_1 : Conf → List Broken
-rule_1 conf = list_counts conf ++ each plan_counts conf.plans ++ each part_counts conf.parts ++ each chan_counts conf.chans
+rule_1 conf = list_counts conf ++ added_by_each plan_counts conf.plans ++ added_by_each part_counts conf.parts ++ added_by_each chan_counts conf.chans
 
 -- Rule 2: ids.
 
@@ -124,15 +124,15 @@ misplaced numbered n id = unless (id == n) (alone 2 (numbered n))
 
 -- a plan's id and those of its slots
 unfoldable pub plan_misplaced : ℕ → PlanIds → List Broken
-plan_misplaced n ids = misplaced item.Plan n ids.plan ++ each (misplaced (item.Slot n)) ids.slots
+plan_misplaced n ids = misplaced item.Plan n ids.plan ++ added_by_each (misplaced (item.Slot n)) ids.slots
 
 -- ids are 0, 1, 2 and so on in their order
 unfoldable pub rule_2 : Ids → List Broken
 rule_2 ids =
     unless (ids.processor == 0) (alone 2 item.Whole)
-    ++ each (misplaced item.Uart) ids.uarts
-    ++ each plan_misplaced ids.plans
-    ++ each (misplaced item.Part) ids.parts
+    ++ added_by_each (misplaced item.Uart) ids.uarts
+    ++ added_by_each plan_misplaced ids.plans
+    ++ added_by_each (misplaced item.Part) ids.parts
 
 -- Rule 3: names.
 
@@ -173,7 +173,7 @@ unsized_region n region = unless (is_region region) (alone 4 (item.Region n))
 
 -- regions are whole pages
 unfoldable pub rule_4 : Conf → List Broken
-rule_4 conf = each unsized_region conf.regions
+rule_4 conf = added_by_each unsized_region conf.regions
 
 -- whether two stretches of memory have an address in common
 unfoldable pub overlaps : Region → Region → Bool
@@ -210,11 +210,11 @@ unsized_area p n area = unless (is_sized area.start area.size) (alone 7 (item.Ar
 
 -- the areas of a partition that are not whole pages
 unfoldable pub unsized_areas : ℕ → Part → List Broken
-unsized_areas p part = each (unsized_area p) part.areas
+unsized_areas p part = added_by_each (unsized_area p) part.areas
 
 -- areas are whole pages
 unfoldable pub rule_7 : Conf → List Broken
-rule_7 conf = each unsized_areas conf.parts
+rule_7 conf = added_by_each unsized_areas conf.parts
 
 -- whether a region has all addresses of an area
 unfoldable pub has_area : Area → Region → Bool
@@ -226,11 +226,11 @@ outside_area regions p n area = unless (list_any (has_area area) regions) (alone
 
 -- the areas of a partition that are not inside a region
 unfoldable pub outside_areas : List Region → ℕ → Part → List Broken
-outside_areas regions p part = each (outside_area regions p) part.areas
+outside_areas regions p part = added_by_each (outside_area regions p) part.areas
 
 -- each area lies inside one region
 unfoldable pub rule_8 : Conf → List Broken
-rule_8 conf = each (outside_areas conf.regions) conf.parts
+rule_8 conf = added_by_each (outside_areas conf.regions) conf.parts
 
 -- the hypervisor's memory is that of the whole
 abbrev pub whole_stretch : Option Region → List (Item × Region)
@@ -247,11 +247,11 @@ area_stretch p n area = (item.Area p n, stretch area) ∷ []
 
 -- the areas of a partition with their items
 unfoldable pub part_stretches : ℕ → Part → List (Item × Region)
-part_stretches p part = each (area_stretch p) part.areas
+part_stretches p part = added_by_each (area_stretch p) part.areas
 
 -- the hypervisor's memory and all areas, each with its item
 unfoldable pub stretches : Conf → List (Item × Region)
-stretches conf = whole_stretch (hypervisor conf.hv_size conf.regions) ++ each part_stretches conf.parts
+stretches conf = whole_stretch (hypervisor conf.hv_size conf.regions) ++ added_by_each part_stretches conf.parts
 
 -- areas are disjoint from each other and from the hypervisor
 unfoldable pub rule_9 : Conf → List Broken
@@ -281,11 +281,11 @@ late_slot p frame n slot = unless (in_frame frame slot) (broken 11 (item.Slot p 
 
 -- a plan whose frame is too short or too long, and its slots that do not fit into it
 unfoldable pub frame_broken : ℕ → Plan → List Broken
-frame_broken p plan = unless (is_time plan.frame) (alone 11 (item.Plan p)) ++ each (late_slot p plan.frame) plan.slots
+frame_broken p plan = unless (is_time plan.frame) (alone 11 (item.Plan p)) ++ added_by_each (late_slot p plan.frame) plan.slots
 
 -- frames have a length, and slots end inside them
 unfoldable pub rule_11 : Conf → List Broken
-rule_11 conf = each frame_broken conf.plans
+rule_11 conf = added_by_each frame_broken conf.plans
 
 -- whether a slot starts at or after the end of the one before it
 abbrev pub follows : Option Slot → Slot → Bool
@@ -304,7 +304,7 @@ early_slots p plan = along (early_slot p) plan.slots
 
 -- slots of a plan come one after another
 unfoldable pub rule_12 : Conf → List Broken
-rule_12 conf = each early_slots conf.plans
+rule_12 conf = added_by_each early_slots conf.plans
 
 -- a slot whose partition is none
 unfoldable pub stray_slot : ℕ → ℕ → ℕ → Slot → List Broken
@@ -312,11 +312,11 @@ stray_slot parts p n slot = unless (nat_lt slot.part parts) (alone 13 (item.Slot
 
 -- the slots of a plan whose partition is none
 unfoldable pub stray_slots : ℕ → ℕ → Plan → List Broken
-stray_slots parts p plan = each (stray_slot parts p) plan.slots
+stray_slots parts p plan = added_by_each (stray_slot parts p) plan.slots
 
 -- each slot's partition exists
 unfoldable pub rule_13 : Conf → List Broken
-rule_13 conf = each (stray_slots (length conf.parts)) conf.plans
+rule_13 conf = added_by_each (stray_slots (length conf.parts)) conf.plans
 
 -- whether a console is one of so many UARTs, where there is one
 abbrev pub is_console : ℕ → Option ℕ → Bool
@@ -329,7 +329,7 @@ no_console uarts n part = unless (is_console uarts part.console) (alone 14 (item
 
 -- each console names a UART
 unfoldable pub rule_14 : Conf → List Broken
-rule_14 conf = each (no_console (length conf.uarts)) conf.parts
+rule_14 conf = added_by_each (no_console (length conf.uarts)) conf.parts
 
 -- Rules 15 to 18: channels.
 
@@ -345,7 +345,7 @@ unfit_chan n chan =
 
 -- messages have a length, queues have messages, and channels have destinations
 unfoldable pub rule_15 : Conf → List Broken
-rule_15 conf = each unfit_chan conf.chans
+rule_15 conf = added_by_each unfit_chan conf.chans
 
 -- a partition's port
 abbrev pub port_of : ℕ → Option Part → Option Port
@@ -366,11 +366,11 @@ stray_dest parts c n end = stray_end parts (item.End c (n + 1)) end
 
 -- the ends of a channel that are no ports, the source first
 unfoldable pub stray_ends : List Part → ℕ → Chan → List Broken
-stray_ends parts c chan = stray_end parts (item.End c 0) chan.source ++ each (stray_dest parts c) chan.dests
+stray_ends parts c chan = stray_end parts (item.End c 0) chan.source ++ added_by_each (stray_dest parts c) chan.dests
 
 -- each end of a channel is a port of a partition
 unfoldable pub rule_16 : Conf → List Broken
-rule_16 conf = each (stray_ends conf.parts) conf.chans
+rule_16 conf = added_by_each (stray_ends conf.parts) conf.chans
 
 -- whether a port's kind is the channel's
 abbrev pub is_of_kind : ChanKind → Kind → Bool
@@ -402,11 +402,11 @@ wrong_dest parts kind c n end = wrong_end parts kind way.Destination (item.End c
 -- the ends of a channel whose ports are of another kind or way, the source first
 unfoldable pub wrong_ends : List Part → ℕ → Chan → List Broken
 wrong_ends parts c chan =
-    wrong_end parts chan.kind way.Source (item.End c 0) chan.source ++ each (wrong_dest parts chan.kind c) chan.dests
+    wrong_end parts chan.kind way.Source (item.End c 0) chan.source ++ added_by_each (wrong_dest parts chan.kind c) chan.dests
 
 -- each end's port has the channel's kind and the end's way
 unfoldable pub rule_17 : Conf → List Broken
-rule_17 conf = each (wrong_ends conf.parts) conf.chans
+rule_17 conf = added_by_each (wrong_ends conf.parts) conf.chans
 
 -- whether two ends are one port
 unfoldable pub same_end : End → End → Bool
@@ -418,11 +418,11 @@ dest_item c n end = (item.End c (n + 1), end) ∷ []
 
 -- the ends of a channel with their items, the source first
 unfoldable pub chan_ends : ℕ → Chan → List (Item × End)
-chan_ends c chan = (item.End c 0, chan.source) ∷ each (dest_item c) chan.dests
+chan_ends c chan = (item.End c 0, chan.source) ∷ added_by_each (dest_item c) chan.dests
 
 -- no port is an end twice
 unfoldable pub rule_18 : Conf → List Broken
-rule_18 conf = along (meets 18 same_end) (each chan_ends conf.chans)
+rule_18 conf = along (meets 18 same_end) (added_by_each chan_ends conf.chans)
 
 -- Rules 19 and 20: health events and requirements.
 
@@ -441,11 +441,11 @@ has_plan plans action.HypervisorHalt = true
 has_plan plans action.SwitchToMaintenance = nat_lt 1 plans
 
 -- whether two answers are to one event
-unfoldable pub same_event : Answer → Answer → Bool
+unfoldable pub same_event : HealthAnswer → HealthAnswer → Bool
 same_event a b = (event_row a.event).number == (event_row b.event).number
 
 -- an answer that is not allowed, that is to an event of an earlier one, or whose plan is none
-unfoldable pub answer_broken : ℕ → ℕ → List Answer → Answer → List Broken
+unfoldable pub answer_broken : ℕ → ℕ → List HealthAnswer → HealthAnswer → List Broken
 answer_broken plans p before answer =
     unless (is_allowed answer.event answer.action) (alone 19 (item.Event p (length before)))
     ++ repeated 19 (item.Event p) same_event before answer
@@ -458,7 +458,7 @@ monitor_broken plans p monitor =
 
 -- actions are allowed for their events, each event is named once, and the maintenance plan exists
 unfoldable pub rule_19 : ℕ → List Monitor → List Broken
-rule_19 plans monitors = each (monitor_broken plans) monitors
+rule_19 plans monitors = added_by_each (monitor_broken plans) monitors
 
 -- whether a requirement, where there is one, is a time in a period
 abbrev pub is_need : Option Need → Bool
@@ -471,7 +471,7 @@ unfit_need n part = unless (is_need part.need) (alone 20 (item.Part n))
 
 -- requirements are a time in a period
 unfoldable pub rule_20 : Conf → List Broken
-rule_20 conf = each unfit_need conf.parts
+rule_20 conf = added_by_each unfit_need conf.parts
 
 -- All rules.
 

@@ -1,6 +1,6 @@
 -- What the rules on areas, ends and answers come to along the lists that have them.
 use Rattle.std.specs.Prelude.{ℕ, ◌+◌, List, [], ◌∷◌, ◌++◌, length, map, Option}
-use Rattle.xm_conf.specs.Along.{each, along, unless}
+use Rattle.xm_conf.specs.Along.{added_by_each, along, unless}
 use Rattle.xm_conf.specs.Configuration.{Part, Chan, Conf}
 use Rattle.xm_conf.specs.Description.{event_numbered, monitor_of}
 use Rattle.xm_conf.specs.Health.{is_allowed}
@@ -23,17 +23,17 @@ part_hits at p part = items_where (λ earlier. overlaps earlier at) (part_stretc
 
 -- areas of a partition that overlap a stretch
 unfoldable pub area_hits : Region → ℕ → List Area → List Item
-area_hits at p areas = items_where (λ earlier. overlaps earlier at) (each (area_stretch p) areas)
+area_hits at p areas = items_where (λ earlier. overlaps earlier at) (added_by_each (area_stretch p) areas)
 
 -- an area that overlaps one before it: the hypervisor, those of the partitions before, or those of its own partition
 unfoldable pub area_meets : List (Item × Region) → ℕ → List Area → Area → List Broken
 area_meets front p before area =
-    meets 9 overlaps (front ++ each (area_stretch p) before) (item.Area p (length before), stretch area)
+    meets 9 overlaps (front ++ added_by_each (area_stretch p) before) (item.Area p (length before), stretch area)
 
 -- the areas of a partition that overlap one before them
 unfoldable pub part_meets : Option Region → List Part → Part → List Broken
 part_meets whole before part =
-    along (area_meets (whole_stretch whole ++ each part_stretches before) (length before)) part.areas
+    along (area_meets (whole_stretch whole ++ added_by_each part_stretches before) (length before)) part.areas
 
 -- the ends of a channel that are one port with an end
 unfoldable pub chan_hits : End → ℕ → Chan → List Item
@@ -45,21 +45,21 @@ source_hits at c source = item_if (λ earlier. same_end earlier at) (item.End c 
 
 -- destinations of a channel that are one port with an end
 unfoldable pub dest_hits : End → ℕ → List End → List Item
-dest_hits at c dests = items_where (λ earlier. same_end earlier at) (each (dest_item c) dests)
+dest_hits at c dests = items_where (λ earlier. same_end earlier at) (added_by_each (dest_item c) dests)
 
 -- a destination that is a port of an end before it
 unfoldable pub dest_meets : List (Item × End) → ℕ → List End → End → List Broken
 dest_meets front c before end =
-    meets 18 same_end (front ++ each (dest_item c) before) (item.End c (length before + 1), end)
+    meets 18 same_end (front ++ added_by_each (dest_item c) before) (item.End c (length before + 1), end)
 
 -- the ends of the channels before a channel, and its source
 unfoldable pub before_dests : List Chan → End → List (Item × End)
-before_dests before source = each chan_ends before ++ (item.End (length before) 0, source) ∷ []
+before_dests before source = added_by_each chan_ends before ++ (item.End (length before) 0, source) ∷ []
 
 -- the ends of a channel that are a port of an end before them
 unfoldable pub chan_meets : List Chan → Chan → List Broken
 chan_meets before chan =
-    meets 18 same_end (each chan_ends before) (item.End (length before) 0, chan.source)
+    meets 18 same_end (added_by_each chan_ends before) (item.End (length before) 0, chan.source)
     ++ along (dest_meets (before_dests before chan.source) (length before)) chan.dests
 
 -- an action that is not allowed for the event of its place, or whose plan is none

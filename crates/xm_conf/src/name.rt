@@ -2,7 +2,7 @@
 
 ghost use Rattle.std.specs.Prelude.{◌≡◌, ◌↔◌, IsNone};
 ghost use Rattle.std.specs.List.{list_all};
-ghost use Rattle.xm_conf.specs.Name.{IsName, is_name, is_name_byte, name_of};
+ghost use Rattle.xm_conf.specs.Name.{IsName, is_name, is_name_byte, name_from_bytes};
 
 use std::marker::Model;
 
@@ -18,14 +18,14 @@ pub struct Name {
 
 impl Model for Name {
     ghost use Rattle.std.specs.Prelude.{ℕ, List, take, length};
-    ghost use Rattle.xm_conf.specs.Name.{IsKept, padded};
+    ghost use Rattle.xm_conf.specs.Name.{IsNameBuffer, padded};
     ghost use Rattle.xm_conf.specs.NameKept.{kept_back};
 
     ghost Value = { List ℕ };
 
     ghost view = { λ name. take name.count name.bytes };
 
-    ghost invariant = { λ name. IsKept name.bytes name.count };
+    ghost invariant = { λ name. IsNameBuffer name.bytes name.count };
 
     ghost inverse = { λ bytes. record { bytes = padded bytes; count = length bytes } };
 
@@ -35,7 +35,7 @@ impl Model for Name {
 impl Name {
     /// The name that these bytes are, or `None` where they are none.
     pub fn new(bytes: &[u8]) -> Option<Name>
-        ensures value { result ≡ name_of bytes.now }
+        ensures value { result ≡ name_from_bytes bytes.now }
         ensures refused { IsNone result ↔ ¬ (IsName bytes.now) }
     {
         if !is_name(bytes) {

@@ -7,7 +7,7 @@ use Rattle.loaded_system.specs.Inside.{first_outside}
 use Rattle.loaded_system.specs.InsideLemmas.{none_if_inside}
 use Rattle.loaded_system.specs.System.{System, AreInside}
 use Rattle.xm_container.specs.Entries.{Entries, AreEntries}
-use Rattle.xm_container.specs.NumberLemmas.{all_counted}
+use Rattle.xm_container.proofs.NumberLemmas.{all_counted}
 use Rattle.xm_container.specs.Numbers.{extra, missing}
 use Rattle.xm_container.specs.Reading.{assigned}
 

@@ -5,7 +5,7 @@ use Rattle.std.specs.Int.{Width, w8, w16, w32, byte_len, from_be_bytes}
 use Rattle.std.specs.Str.{bytes_eq}
 use Rattle.std.proofs.lemmas.Bool.{false≢true}
 use Rattle.std.proofs.lemmas.Slice.Eq.{bytes_eq-Decides}
-use Rattle.xm_base.specs.Cursor.{Place, left, next, past, start}
+use Rattle.xm_base.specs.Cursor.{Place, left, next, past, cursor_start}
 use Rattle.xm_conf.specs.Configuration.{Conf}
 use Rattle.bin_config.specs.Reading.{read_of}
 use Rattle.bin_config.specs.declared.fault.XmcFault.{XmcFault}
@@ -20,7 +20,7 @@ use Rattle.loaded_system.specs.System.{System}
 use Rattle.xm_container.specs.Entries.{Entries}
 use Rattle.xm_container.specs.Gives.{Fails, Gives}
 use Rattle.xm_container.specs.Numbers.{extra, missing}
-use Rattle.xm_container.specs.Reading.{unless, bytes_at, number_at, magic_at, version_at, told, before_of, before, stored, found, signed, as_config, as_image, length_at, conf_at, id_at, image_at, entry_at, with_entry, entries_at, table_at, fields_of, unless_some, assigned, system_in, IsForged, TellsDigests}
+use Rattle.xm_container.specs.Reading.{unless, bytes_at, number_at, magic_at, version_at, told, before_of, before, stored, found, signed, as_config, as_image, length_at, conf_at, id_at, image_at, image_entry_at, with_entry, image_entries_at, image_table_at, container_fields, unless_some, assigned, system_in, IsForged, TellsDigests}
 use Rattle.xm_container.specs.declared.fault.BoxFault.{BoxFault}
 use Rattle.xm_container.specs.declared.fault.BoxFault.TheVariants as fault
 
@@ -77,7 +77,7 @@ plain_version place =
 plain_told : (bytes : List ℕ) → IsPlain (told bytes)
 unfolding told
 plain_told bytes =
-    plain_then (magic_at (start bytes)) (λ name. version_at name >>= λ version. number_at w32 version >>= λ length. Ok length.0) (plain_magic (start bytes))
+    plain_then (magic_at (cursor_start bytes)) (λ name. version_at name >>= λ version. number_at w32 version >>= λ length. Ok length.0) (plain_magic (cursor_start bytes))
     (λ name. plain_then (version_at name) (λ version. number_at w32 version >>= λ length. Ok length.0) (plain_version name)
     (λ version. plain_then (number_at w32 version) (λ length. Ok length.0) (plain_number w32 version) (λ length. plain_ok length.0)))
 
@@ -134,22 +134,22 @@ plain_image id place =
     (λ count. plain_then (bytes_at count.0 count.1) (λ bytes. as_image id (xef bytes.0) >>= λ image. Ok (image, bytes.1)) (plain_bytes count.0 count.1)
     (λ bytes. plain_then (as_image id (xef bytes.0)) (λ image. Ok (image, bytes.1)) (plain_xef id (xef bytes.0)) (λ image. plain_ok (image, bytes.1))))
 
-plain_entries : (count floor : ℕ) (place : Place) → IsPlain (entries_at count floor place)
-unfolding entries_at entry_at
+plain_entries : (count floor : ℕ) (place : Place) → IsPlain (image_entries_at count floor place)
+unfolding image_entries_at image_entry_at
 plain_entries zero floor place = λ s f e. absurd cc
 plain_entries (suc count) floor place =
-    plain_then (entry_at floor place) (λ entry. entries_at count (entry.0.id + 1) entry.1 >>= λ later. Ok (with_entry entry.0 later.0, later.1))
+    plain_then (image_entry_at floor place) (λ entry. image_entries_at count (entry.0.id + 1) entry.1 >>= λ later. Ok (with_entry entry.0 later.0, later.1))
     (plain_then (id_at floor place) (λ id. image_at id.0 id.1 >>= λ image. Ok (record { id = id.0; xef = image.0 }, image.1)) (plain_id floor place)
     (λ id. plain_then (image_at id.0 id.1) (λ image. Ok (record { id = id.0; xef = image.0 }, image.1)) (plain_image id.0 id.1) (λ image s f e. absurd cc)))
-    (λ entry. plain_then (entries_at count (entry.0.id + 1) entry.1) (λ later. Ok (with_entry entry.0 later.0, later.1)) (plain_entries count (entry.0.id + 1) entry.1)
+    (λ entry. plain_then (image_entries_at count (entry.0.id + 1) entry.1) (λ later. Ok (with_entry entry.0 later.0, later.1)) (plain_entries count (entry.0.id + 1) entry.1)
     (λ later. plain_ok (with_entry entry.0 later.0, later.1)))
 
-plain_fields : (bytes : List ℕ) → IsPlain (fields_of bytes)
-unfolding fields_of table_at
+plain_fields : (bytes : List ℕ) → IsPlain (container_fields bytes)
+unfolding container_fields image_table_at
 plain_fields bytes =
-    plain_then (conf_at (start bytes)) (λ conf. table_at conf.1 >>= λ entries. unless (left entries.1 == 0) (fault.Trailing entries.1.at) (conf.0, entries.0)) (plain_conf (start bytes))
-    (λ conf. plain_then (table_at conf.1) (λ entries. unless (left entries.1 == 0) (fault.Trailing entries.1.at) (conf.0, entries.0))
-    (plain_then (number_at w8 conf.1) (λ count. entries_at count.0 0 count.1) (plain_number w8 conf.1) (λ count. plain_entries count.0 0 count.1))
+    plain_then (conf_at (cursor_start bytes)) (λ conf. image_table_at conf.1 >>= λ entries. unless (left entries.1 == 0) (fault.Trailing entries.1.at) (conf.0, entries.0)) (plain_conf (cursor_start bytes))
+    (λ conf. plain_then (image_table_at conf.1) (λ entries. unless (left entries.1 == 0) (fault.Trailing entries.1.at) (conf.0, entries.0))
+    (plain_then (number_at w8 conf.1) (λ count. image_entries_at count.0 0 count.1) (plain_number w8 conf.1) (λ count. plain_entries count.0 0 count.1))
     (λ entries. plain_cond (left entries.1 == 0) (Ok (conf.0, entries.0)) (Err (fault.Trailing entries.1.at)) (plain_ok (conf.0, entries.0)) (λ s f e. absurd cc)))
 
 plain_assigned : (conf : Conf) (entries : Entries) → IsPlain (assigned conf entries)
@@ -163,7 +163,7 @@ plain_assigned conf entries =
 -- the fields behind the head tell no digests
 plain_system : (front : List ℕ) → IsPlain (system_in front)
 unfolding system_in
-plain_system front = plain_then (fields_of front) (λ fields. assigned fields.0 fields.1) (plain_fields front) (λ fields. plain_assigned fields.0 fields.1)
+plain_system front = plain_then (container_fields front) (λ fields. assigned fields.0 fields.1) (plain_fields front) (λ fields. plain_assigned fields.0 fields.1)
 
 -- what is not equal is told apart
 told_apart : (xs ys : List ℕ) → xs ≢ ys → bytes_eq xs ys ≡ false

@@ -1,8 +1,14 @@
 pub mod Ascii
 pub mod AssignedLemmas
+pub mod BoxLemmas
 pub mod DigestLemmas
 pub mod FaultLemmas
+pub mod FieldLemmas
 pub mod Fronts
+pub mod HeadLemmas
 pub mod LineLemmas
+pub mod NumberLemmas
+pub mod PackLemmas
 pub mod PackedLemmas
+pub mod SpelledLemmas
 pub mod UnpackLemmas

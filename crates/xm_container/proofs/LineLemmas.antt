@@ -10,7 +10,7 @@ use Rattle.xef_images.specs.Spelling.{before_text, xef_text}
 use Rattle.xef_images.specs.XefLemmas.{digest_at_end}
 use Rattle.xef_images.specs.StepLemmas.{stepped}
 use Rattle.loaded_system.specs.System.{System}
-use Rattle.xm_container.specs.HeadLemmas.{signed_takes}
+use Rattle.xm_container.proofs.HeadLemmas.{signed_takes}
 use Rattle.xm_container.specs.Reading.{signed, system_in, unpacked}
 use Rattle.xm_container.specs.Texts.{file_line, image_line, image_lines}
 

@@ -5,25 +5,25 @@ use Rattle.xm_conf.specs.Configuration.{Conf}
 use Rattle.xm_conf.specs.Description.{described}
 use Rattle.xm_conf.specs.Fits.{Fits}
 use Rattle.xm_base.specs.declared.limits.TheConstants.{FILE_BYTES}
-use Rattle.bin_config.specs.Spelled.{HasRanges}
+use Rattle.bin_config.specs.Spelled.{HasConfRanges}
 use Rattle.xef_images.specs.Image.{IsImage}
 use Rattle.xef_images.specs.ImageLemmas.{Decides-nat_le}
 use Rattle.loaded_system.specs.Inside.{first_outside}
 use Rattle.loaded_system.specs.InsideLemmas.{inside_if_none}
 use Rattle.loaded_system.specs.System.{IsSystem}
 use Rattle.xm_container.specs.Box.{box_length, box_text, fields_text, sealed_text}
-use Rattle.xm_container.specs.BoxLemmas.{length-sealed}
+use Rattle.xm_container.proofs.BoxLemmas.{length-sealed}
 use Rattle.xm_container.specs.Laws.{PackedIsUnpacked}
 use Rattle.xm_container.specs.Numbers.{missing}
-use Rattle.xm_container.specs.Pack.{Packs, ids_of, in_order, sealed, system_of}
-use Rattle.xm_container.specs.PackLemmas.{length-in_order}
+use Rattle.xm_container.specs.Pack.{Packs, partition_numbers, in_order, sealed, system_of}
+use Rattle.xm_container.proofs.PackLemmas.{length-in_order}
 use Rattle.xm_container.specs.Reading.{unpacked}
 use Rattle.xm_container.specs.declared.fault.PackFault.{PackFault}
 use Rattle.xm_container.specs.declared.fault.PackFault.TheVariants as fault
 use Rattle.xm_container.specs.declared.image.Image.{Image as Given}
 
 -- a configuration and images of which none is missing and none lies outside are a system
-pub system_loads : (conf : Conf) (images : List Given) → Fits (described conf) → All IsImage (in_order images 0 (length conf.parts)) → missing (length conf.parts) (ids_of images) ≡ None
+pub system_loads : (conf : Conf) (images : List Given) → Fits (described conf) → All IsImage (in_order images 0 (length conf.parts)) → missing (length conf.parts) (partition_numbers images) ≡ None
     → first_outside conf.parts (in_order images 0 (length conf.parts)) ≡ None → IsSystem (system_of conf images)
 system_loads conf images fits each none inside = record {
   fits = fits;
@@ -44,7 +44,7 @@ sealed_so fields bytes e =
     at false is = absurd cc
 
 -- what is packed is unpacked
-pub packed_read : {A : Type 0} → PackedIsUnpacked → (conf : Conf) (images : List Given) (fields : List ℕ) (result : Result (Vec ℕ A) PackFault) → IsSystem (system_of conf images) → HasRanges conf
+pub packed_read : {A : Type 0} → PackedIsUnpacked → (conf : Conf) (images : List Given) (fields : List ℕ) (result : Result (Vec ℕ A) PackFault) → IsSystem (system_of conf images) → HasConfRanges conf
     → fields ≡ fields_text (system_of conf images) → Packs result (sealed fields) → IfOk result (λ bytes. unpacked bytes.items ≡ Ok (system_of conf images))
 unfolding box_text
 packed_read law conf images fields (Err fault) loads ranges is given = tt

@@ -3,24 +3,24 @@ use Rattle.std.proofs.Common.{◌≡◌, ◌<◌, ◌^◌, ℕ, List, length, Re
 use Rattle.std.specs.Prelude.{IfOk}
 use Rattle.xm_base.specs.Bytes.{AreBytes}
 use Rattle.loaded_system.specs.System.{System}
-use Rattle.xm_container.specs.Box.{box_text, IsSpelled}
+use Rattle.xm_container.specs.Box.{box_text, IsSpelledContainer}
 use Rattle.xm_container.specs.Gives.{Gives}
 use Rattle.xm_container.specs.Laws.{PackedIsUnpacked, UnpackedIsPacked}
 use Rattle.xm_container.specs.Reading.{unpacked}
 use Rattle.xm_container.specs.declared.fault.BoxFault.{BoxFault}
 
 -- what is unpacked is what the bytes spell
-pub found_spelled : UnpackedIsPacked → (bytes : List ℕ) (result : Result System BoxFault) → AreBytes bytes → Gives (λ found. found) result (unpacked bytes) → IfOk result (IsSpelled bytes)
+pub found_spelled : UnpackedIsPacked → (bytes : List ℕ) (result : Result System BoxFault) → AreBytes bytes → Gives (λ found. found) result (unpacked bytes) → IfOk result (IsSpelledContainer bytes)
 found_spelled law bytes (Ok system) each given = law bytes system each given
 found_spelled law bytes (Err fault) each given = tt
 
 -- what the bytes spell is unpacked
-pub spelled_unpacked : PackedIsUnpacked → (bytes : List ℕ) (system : System) → IsSpelled bytes system → unpacked bytes ≡ Ok system
+pub spelled_unpacked : PackedIsUnpacked → (bytes : List ℕ) (system : System) → IsSpelledContainer bytes system → unpacked bytes ≡ Ok system
 spelled_unpacked law bytes system is =
     let short : length (box_text system) < 2 ^ 32 = subst (λ (b : List ℕ). length b < 2 ^ 32) is.text is.short in
     ap unpacked is.text ∙ law system is.loads is.ranges short
 
 -- where there is memory
-pub only_spelled : PackedIsUnpacked → (bytes : List ℕ) (system : System) (result : Result System BoxFault) → IsSpelled bytes system → Gives (λ found. found) result (unpacked bytes)
+pub only_spelled : PackedIsUnpacked → (bytes : List ℕ) (system : System) (result : Result System BoxFault) → IsSpelledContainer bytes system → Gives (λ found. found) result (unpacked bytes)
     → Gives (λ found. found) result (Ok system)
 only_spelled law bytes system result is given = subst (λ (read : Result System BoxFault). Gives (λ found. found) result read) (spelled_unpacked law bytes system is) given

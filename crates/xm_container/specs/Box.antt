@@ -2,7 +2,7 @@
 use Rattle.std.specs.Prelude.{◌≡◌, ℕ, ◌+◌, ◌<◌, ◌^◌, List, [], ◌∷◌, ◌++◌, length, codes}
 use Rattle.std.specs.Int.{w16, w32, to_be_bytes}
 use Rattle.md5.specs.Md5.{md5}
-use Rattle.bin_config.specs.Spelled.{HasRanges}
+use Rattle.bin_config.specs.Spelled.{HasConfRanges}
 use Rattle.bin_config.specs.Xmc.{xmc}
 use Rattle.xef_images.specs.Image.{Image}
 use Rattle.xef_images.specs.Spelling.{xef_text}
@@ -13,13 +13,13 @@ unfoldable pub sized_text : List ℕ → List ℕ
 sized_text bytes = to_be_bytes w32 (length bytes) ++ bytes
 
 -- an image: the number of its partition, its length and its bytes
-unfoldable pub entry_text : ℕ → Image → List ℕ
-entry_text id image = id ∷ sized_text (xef_text image)
+unfoldable pub image_entry_text : ℕ → Image → List ℕ
+image_entry_text id image = id ∷ sized_text (xef_text image)
 
 -- images, of which the first has this number, and each later one the next number
 abbrev pub entries_text : ℕ → List Image → List ℕ
 entries_text id [] = []
-entries_text id (image ∷ images) = entry_text id image ++ entries_text (id + 1) images
+entries_text id (image ∷ images) = image_entry_text id image ++ entries_text (id + 1) images
 
 -- what stands between the length of the whole and the digest: the configuration, the number of images, and the images
 unfoldable pub fields_text : System → List ℕ
@@ -42,8 +42,8 @@ unfoldable pub box_text : System → List ℕ
 box_text system = sealed_text (fields_text system)
 
 -- the bytes are the container of a system, which can be loaded and whose configuration has its numbers in the ranges of their fields; a word can say how many they are
-pub record IsSpelled (bytes : List ℕ) (system : System) : Type 0 where
+pub record IsSpelledContainer (bytes : List ℕ) (system : System) : Type 0 where
   pub loads : IsSystem system
-  pub ranges : HasRanges system.conf
+  pub ranges : HasConfRanges system.conf
   pub short : length bytes < 2 ^ 32
   pub text : bytes ≡ box_text system

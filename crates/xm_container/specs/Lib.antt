@@ -1,15 +1,9 @@
 pub use Rattle.loaded_system.specs.Bare
 pub mod Box
-pub mod BoxLemmas
 pub mod Entries
-pub mod FieldLemmas
 pub mod Gives
-pub mod HeadLemmas
 pub mod Laws
-pub mod NumberLemmas
 pub mod Numbers
 pub mod Pack
-pub mod PackLemmas
 pub mod Reading
-pub mod SpelledLemmas
 pub mod Texts

@@ -14,8 +14,8 @@ use Rattle.xm_container.specs.declared.fault.PackFault.{PackFault}
 use Rattle.xm_container.specs.declared.fault.PackFault.TheVariants as fault
 
 -- the numbers of images
-abbrev pub ids_of : List Given → List ℕ
-ids_of images = map (λ image. image.id) images
+abbrev pub partition_numbers : List Given → List ℕ
+partition_numbers images = map (λ image. image.id) images
 
 -- the image of a partition's number, where there is one
 abbrev pub image_of : List Given → ℕ → Option Image
@@ -42,9 +42,9 @@ unless_outside None later = later
 unless_outside (Some outside) later = Err (fault.Outside outside.id outside.address)
 
 -- refused where a partition has no image
-abbrev pub unless_missing : Option ℕ → Result (List ℕ) PackFault → Result (List ℕ) PackFault
-unless_missing None later = later
-unless_missing (Some id) later = Err (fault.Missing id)
+abbrev pub unless_image_missing : Option ℕ → Result (List ℕ) PackFault → Result (List ℕ) PackFault
+unless_image_missing None later = later
+unless_image_missing (Some id) later = Err (fault.Missing id)
 
 -- refused where an image has no partition
 abbrev pub unless_extra : Option ℕ → Result (List ℕ) PackFault → Result (List ℕ) PackFault
@@ -55,8 +55,8 @@ unless_extra (Some id) later = Err (fault.Extra id)
 -- segment that lies outside, too many bytes
 unfoldable pub packed : Conf → List Given → Result (List ℕ) PackFault
 packed conf images =
-    unless_extra (extra (length conf.parts) (ids_of images))
-    (unless_missing (missing (length conf.parts) (ids_of images))
+    unless_extra (extra (length conf.parts) (partition_numbers images))
+    (unless_image_missing (missing (length conf.parts) (partition_numbers images))
     (unless_outside (first_outside conf.parts (in_order images 0 (length conf.parts)))
     (sealed (fields_text (system_of conf images)))))
 

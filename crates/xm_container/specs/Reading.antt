@@ -3,7 +3,7 @@ use Rattle.std.specs.Prelude.{◌≡◌, ◌≢◌, ◌↔◌, ℕ, zero, suc, �
 use Rattle.std.specs.Int.{Width, w8, w16, w32, byte_len, from_be_bytes}
 use Rattle.std.specs.Str.{bytes_eq}
 use Rattle.md5.specs.Md5.{md5}
-use Rattle.xm_base.specs.Cursor.{Place, left, next, past, start}
+use Rattle.xm_base.specs.Cursor.{Place, left, next, past, cursor_start}
 use Rattle.xm_conf.specs.Configuration.{Conf}
 use Rattle.bin_config.specs.Reading.{read_of}
 use Rattle.bin_config.specs.declared.fault.XmcFault.{XmcFault}
@@ -49,7 +49,7 @@ version_at place = number_at w16 place >>= λ field. unless (field.0 == 1) (faul
 -- the length that the head tells
 unfoldable pub told : List ℕ → Result ℕ BoxFault
 told bytes = do
-  name ← magic_at (start bytes)
+  name ← magic_at (cursor_start bytes)
   version ← version_at name
   length ← number_at w32 version
   Ok length.0
@@ -135,8 +135,8 @@ image_at id place = do
   Ok (image, bytes.1)
 
 -- an image with the number of its partition
-unfoldable pub entry_at : ℕ → Place → Result (Given × Place) BoxFault
-entry_at floor place = do
+unfoldable pub image_entry_at : ℕ → Place → Result (Given × Place) BoxFault
+image_entry_at floor place = do
   id ← id_at floor place
   image ← image_at id.0 id.1
   Ok (record { id = id.0; xef = image.0 }, image.1)
@@ -146,24 +146,24 @@ abbrev pub with_entry : Given → Entries → Entries
 with_entry entry later = record { ids = entry.id ∷ later.ids; images = entry.xef ∷ later.images }
 
 -- so many images, each with a number above that of the one before it
-unfoldable pub entries_at : ℕ → ℕ → Place → Result (Entries × Place) BoxFault
-entries_at zero floor place = Ok (record { ids = []; images = [] }, place)
-entries_at (suc count) floor place = do
-  entry ← entry_at floor place
-  later ← entries_at count (entry.0.id + 1) entry.1
+unfoldable pub image_entries_at : ℕ → ℕ → Place → Result (Entries × Place) BoxFault
+image_entries_at zero floor place = Ok (record { ids = []; images = [] }, place)
+image_entries_at (suc count) floor place = do
+  entry ← image_entry_at floor place
+  later ← image_entries_at count (entry.0.id + 1) entry.1
   Ok (with_entry entry.0 later.0, later.1)
 
 -- the images behind their number
-unfoldable pub table_at : Place → Result (Entries × Place) BoxFault
-table_at place = do
+unfoldable pub image_table_at : Place → Result (Entries × Place) BoxFault
+image_table_at place = do
   count ← number_at w8 place
-  entries_at count.0 0 count.1
+  image_entries_at count.0 0 count.1
 
 -- the configuration and the images of the bytes before the digest, and nothing behind them
-unfoldable pub fields_of : List ℕ → Result (Conf × Entries) BoxFault
-fields_of bytes = do
-  conf ← conf_at (start bytes)
-  entries ← table_at conf.1
+unfoldable pub container_fields : List ℕ → Result (Conf × Entries) BoxFault
+container_fields bytes = do
+  conf ← conf_at (cursor_start bytes)
+  entries ← image_table_at conf.1
   unless (left entries.1 == 0) (fault.Trailing entries.1.at) (conf.0, entries.0)
 
 -- refused where there is something
@@ -182,7 +182,7 @@ assigned conf entries =
 -- the system of the bytes before the digest
 unfoldable pub system_in : List ℕ → Result System BoxFault
 system_in bytes = do
-  fields ← fields_of bytes
+  fields ← container_fields bytes
   assigned fields.0 fields.1
 
 -- the system of a container, or its first fault

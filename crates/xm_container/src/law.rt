@@ -1,12 +1,12 @@
 //! The laws of containers.
 
-ghost use Rattle.xm_container.specs.Laws.{NoneGoesOn, PackedIsUnpacked, UnpackedIsPacked};
+ghost use Rattle.xm_container.specs.Laws.{ContainersArePrefixFree, PackedIsUnpacked, UnpackedIsPacked};
 
 use xm_conf::broken_unless_fits;
 
 /// No container is a proper front of another.
 pub fn none_goes_on()
-    ensures law { NoneGoesOn }
+    ensures law { ContainersArePrefixFree }
 {}
 
 /// A system is unpacked from its container.

@@ -6,10 +6,10 @@ ghost use Rattle.bin_config.specs.Reading.{read_of};
 ghost use Rattle.xef_images.specs.Reading.{xef};
 ghost use Rattle.xm_base.specs.Cursor.{left};
 ghost use Rattle.loaded_system.specs.System.{System as Meaning};
-ghost use Rattle.xm_container.specs.Box.{IsSpelled};
+ghost use Rattle.xm_container.specs.Box.{IsSpelledContainer};
 ghost use Rattle.xm_container.specs.Entries.{AreEntries};
 ghost use Rattle.xm_container.specs.Gives.{Gives, GivesAt, IsRead, IsReadAt};
-ghost use Rattle.xm_container.specs.Reading.{as_config, as_image, assigned, before, before_of, conf_at, config_fault, entries_at, entry_at, fields_of, id_at, image_at, image_fault, length_at, magic_at, number_at, signed, system_in, table_at, told, unpacked, version_at, TellsDigests};
+ghost use Rattle.xm_container.specs.Reading.{as_config, as_image, assigned, before, before_of, conf_at, config_fault, image_entries_at, image_entry_at, container_fields, id_at, image_at, image_fault, length_at, magic_at, number_at, signed, system_in, image_table_at, told, unpacked, version_at, TellsDigests};
 
 use crate::entries::Entries;
 use crate::fault::BoxFault;
@@ -223,9 +223,9 @@ fn image(alloc: Global, cursor: &mut Cursor<'_>, id: u8) -> Result<Xef, BoxFault
 }
 
 /// An image with the number of its partition.
-#[tactic(auto, unfolding(crate::specs::Reading::entry_at))]
+#[tactic(auto, unfolding(crate::specs::Reading::image_entry_at))]
 fn entry(alloc: Global, cursor: &mut Cursor<'_>, floor: u16) -> Result<Image, BoxFault>
-    ensures { GivesAt (λ entry. entry) result cursor.new (entry_at floor cursor.old) }
+    ensures { GivesAt (λ entry. entry) result cursor.new (image_entry_at floor cursor.old) }
 {
     let id = id(cursor, floor)?;
     let xef = image(alloc, cursor, id)?;
@@ -234,7 +234,7 @@ fn entry(alloc: Global, cursor: &mut Cursor<'_>, floor: u16) -> Result<Image, Bo
 
 /// So many images, each with a number above that of the one before it.
 fn entries(alloc: Global, cursor: &mut Cursor<'_>, count: u8) -> Result<Entries, BoxFault>
-    ensures exact { GivesAt (λ entries. entries) result cursor.new (entries_at count 0 cursor.old) }
+    ensures exact { GivesAt (λ entries. entries) result cursor.new (image_entries_at count 0 cursor.old) }
     ensures entries { IfOk result AreEntries }
 {
     let mut ids = Vec::new(alloc);
@@ -250,9 +250,9 @@ fn entries(alloc: Global, cursor: &mut Cursor<'_>, count: u8) -> Result<Entries,
 }
 
 /// The images behind their number.
-#[tactic(auto, unfolding(crate::specs::Reading::table_at))]
+#[tactic(auto, unfolding(crate::specs::Reading::image_table_at))]
 fn table(alloc: Global, cursor: &mut Cursor<'_>) -> Result<Entries, BoxFault>
-    ensures exact { GivesAt (λ entries. entries) result cursor.new (table_at cursor.old) }
+    ensures exact { GivesAt (λ entries. entries) result cursor.new (image_table_at cursor.old) }
     ensures entries { IfOk result AreEntries }
 {
     let count = cursor.u8()?;
@@ -260,9 +260,9 @@ fn table(alloc: Global, cursor: &mut Cursor<'_>) -> Result<Entries, BoxFault>
 }
 
 /// The configuration and the images of the bytes before the digest.
-#[tactic(auto, unfolding(crate::specs::Reading::fields_of))]
+#[tactic(auto, unfolding(crate::specs::Reading::container_fields))]
 fn fields(alloc: Global, bytes: &[u8]) -> Result<(Conf, Entries), BoxFault>
-    ensures exact { Gives (λ fields. (fields.0, fields.1)) result (fields_of bytes.now) }
+    ensures exact { Gives (λ fields. (fields.0, fields.1)) result (container_fields bytes.now) }
     ensures entries { IfOk result (λ fields. AreEntries fields.1) }
 {
     let mut cursor = Cursor::new(bytes);
@@ -328,9 +328,9 @@ fn whole(alloc: Global, bytes: &[u8]) -> Result<System, BoxFault>
 /// Reads a container: the system that it spells, or its first fault.
 pub fn unpack(alloc: Global, bytes: &[u8]) -> Result<System, BoxFault>
     // What is unpacked is the system whose container the bytes are.
-    ensures found { IfOk result (IsSpelled bytes.now) }
+    ensures found { IfOk result (IsSpelledContainer bytes.now) }
     // The system whose container the bytes are is unpacked, unless out of memory.
-    ensures only { (system : Meaning) → IsSpelled bytes.now system → Gives (λ found. found) result (Ok system) }
+    ensures only { (system : Meaning) → IsSpelledContainer bytes.now system → Gives (λ found. found) result (Ok system) }
     // A fault is the first one.
     ensures exact { Gives (λ found. found) result (unpacked bytes.now) }
     // Two digests are reported exactly where they differ.

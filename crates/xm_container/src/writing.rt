@@ -1,12 +1,12 @@
 //! The writing of a container.
 
 ghost use Rattle.std.specs.Prelude.{◌≡◌, ◌≤◌, ◌+◌, ◌++◌, ◌<◌, All, IfOk, IsNone, OnOk, None, Ok, Some, length, map, option_copied};
-ghost use Rattle.bin_config.specs.Spelled.{HasRanges};
+ghost use Rattle.bin_config.specs.Spelled.{HasConfRanges};
 ghost use Rattle.xef_images.specs.Image.{IsImage};
 ghost use Rattle.loaded_system.specs.Inside.{first_outside as first_outside_of};
-ghost use Rattle.xm_container.specs.Box.{entries_text, entry_text, fields_text, front_text};
+ghost use Rattle.xm_container.specs.Box.{entries_text, image_entry_text, fields_text, front_text};
 ghost use Rattle.xm_container.specs.Numbers.{missing as missing_of};
-ghost use Rattle.xm_container.specs.Pack.{Packs, ids_of, image_of, in_order, packed, sealed, system_of};
+ghost use Rattle.xm_container.specs.Pack.{Packs, partition_numbers, image_of, in_order, packed, sealed, system_of};
 ghost use Rattle.xm_container.specs.Reading.{unpacked};
 ghost use Rattle.xm_conf.specs.Description.{described};
 ghost use Rattle.xm_conf.specs.Fits.{Fits};
@@ -29,7 +29,7 @@ const FRAME: usize = 26;
 
 /// The numbers of images.
 fn ids_of(alloc: Global, images: &[Image]) -> Result<Vec<u8>, Memory>
-    ensures { IfOk result (λ ids. ids.items ≡ ids_of images.now) }
+    ensures { IfOk result (λ ids. ids.items ≡ partition_numbers images.now) }
 {
     let mut ids = Vec::new(alloc);
     for image in images {
@@ -52,7 +52,7 @@ fn image_of(images: &[Image], id: usize) -> Option<&Xef>
 
 /// The image of a partition's number, where no image is missing.
 fn image_at(images: &[Image], id: usize, parts: usize) -> &Xef
-    requires complete { missing_of parts (ids_of images.now) ≡ None }
+    requires complete { missing_of parts (partition_numbers images.now) ≡ None }
     requires below { id < parts }
     ensures { image_of images.now id ≡ Some result.now }
 {
@@ -65,7 +65,7 @@ fn image_at(images: &[Image], id: usize, parts: usize) -> &Xef
 /// The first segment of the images that lies inside no area of its partition.
 fn first_outside(parts: &[Part], images: &[Image]) -> Option<Outside>
     requires few { length parts.now ≤ 16 }
-    requires complete { missing_of (length parts.now) (ids_of images.now) ≡ None }
+    requires complete { missing_of (length parts.now) (partition_numbers images.now) ≡ None }
     ensures value { result ≡ first_outside_of parts.now (in_order images.now 0 (length parts.now)) }
     ensures images { IsNone result → All IsImage (in_order images.now 0 (length parts.now)) }
 {
@@ -82,9 +82,9 @@ fn first_outside(parts: &[Part], images: &[Image]) -> Option<Outside>
 }
 
 /// Puts an image behind the number of its partition.
-#[tactic(auto, unfolding(crate::specs::Box::entry_text))]
+#[tactic(auto, unfolding(crate::specs::Box::image_entry_text))]
 fn put_entry(alloc: Global, out: &mut Vec<u8>, id: u8, xef: &Xef) -> Result<(), Memory>
-    ensures { OnOk result (out.new.items ≡ out.old.items ++ entry_text id xef.now) }
+    ensures { OnOk result (out.new.items ≡ out.old.items ++ image_entry_text id xef.now) }
 {
     let bytes = build_xef(alloc, xef)?;
     out.push(id)?;
@@ -99,7 +99,7 @@ fn put_entries(
     images: &[Image],
 ) -> Result<(), Memory>
     requires few { parts ≤ 16 }
-    requires complete { missing_of parts (ids_of images.now) ≡ None }
+    requires complete { missing_of parts (partition_numbers images.now) ≡ None }
     ensures { OnOk result (out.new.items ≡ out.old.items ++ entries_text 0 (in_order images.now 0 parts)) }
 {
     for id in 0..parts {
@@ -112,9 +112,9 @@ fn put_entries(
 fn fields(alloc: Global, conf: &Conf, parts: usize, images: &[Image]) -> Result<Vec<u8>, Memory>
     requires parts { parts ≡ length conf.now.parts }
     requires few { parts ≤ 16 }
-    requires complete { missing_of parts (ids_of images.now) ≡ None }
+    requires complete { missing_of parts (partition_numbers images.now) ≡ None }
     ensures value { IfOk result (λ fields. fields.items ≡ fields_text (system_of conf.now images.now)) }
-    ensures ranges { OnOk result (HasRanges conf.now) }
+    ensures ranges { OnOk result (HasConfRanges conf.now) }
 {
     let xmc = write_xmc(alloc, conf)?;
     let mut fields = Vec::new(alloc);

@@ -5,7 +5,7 @@ use Rattle.health_monitor.specs.Monitor.{action_in, effect_of, event_of_type}
 use Rattle.sparc_step.specs.declared.outcome.Turn.{Turn}
 use Rattle.sparc_step.specs.declared.outcome.Turn.TheVariants.{Went, Trap, Call}
 use Rattle.virt_traps.specs.Delivery.{Delivered, Returned, delivered, returned}
-use Rattle.virt_traps.specs.Moves.{made}
+use Rattle.virt_traps.specs.Moves.{move_made}
 use Rattle.virt_traps.specs.Settled.{settled}
 use Rattle.virt_traps.specs.Virtual.{due}
 use Rattle.virt_traps.specs.declared.delivery.IretFault.{IretFault}
@@ -22,17 +22,17 @@ use Rattle.xm_conf.specs.declared.port.Port.{Port}
 use Rattle.xm_conf.specs.declared.port.Way.{Way}
 use Rattle.xm_conf.specs.declared.port.Way.TheVariants as way
 use Rattle.xm_ports.specs.Channels.{Content, HeldSample, first_message, sample_of}
-use Rattle.xm_ports.specs.Ports.{created_over, is_kind, is_made}
+use Rattle.xm_ports.specs.Ports.{created_over, are_same_kind, is_made}
 use Rattle.xm_ports.specs.declared.ports.CreateFault.{CreateFault}
 use Rattle.machine_model.specs.Caller.{Acts, Caller, Meets, Served, Test, Upshot, a_of, acting, answering, b_of, c_of, d_of, invalid_mode, invalid_parameter, is_neither, mode_numbered, no_permission, not_allowed, not_available, number_of, refused_if, room, shown, system_only, target, tested, text, with_written}
 use Rattle.machine_model.specs.Health.{answered_by, by_interrupt, event_handled, interrupt_delivered, quiet, self_ordered, undelivered, done_to_all}
 use Rattle.machine_model.specs.Hypercalls.{served}
 use Rattle.machine_model.specs.Lists.{and_then}
-use Rattle.machine_model.specs.LocalTick.{bounded, by_act, by_turn, by_upshot, called, clocked, delivered_or_executed, executed, goes_on, is_its, name_in, turned_state, with_interrupts, worked, worked_if}
+use Rattle.machine_model.specs.LocalTick.{bounded, by_act, by_turn, by_upshot, called, clocked, delivered_or_executed, executed_in_tick, goes_on, is_its, traffic_name, turned_state, with_interrupts, worked, worked_if}
 use Rattle.machine_model.specs.LogCalls.{hm_read, hm_status, raise_event, trace_event, trace_read, trace_status}
 use Rattle.machine_model.specs.Partition.{PartitionState, areas_of}
 use Rattle.machine_model.specs.PartitionCalls.{get_partition_status, get_self, get_system_status, halt_partition, halt_system, idle_self, ordering, reset_partition, reset_system, resume_partition, shutdown_partition, suspend_partition}
-use Rattle.machine_model.specs.PortCalls.{MadePort, by_created, create_queuing_port, create_sampling_port, creating, destination_only, first_read, get_queuing_port_status, get_sampling_port_status, held_read, is_full, is_source, made_port, name_given, on_port, putting, read_sampling_message, receive_queuing_message, send_queuing_message, shape_at, size_fits, source_only, with_channel, with_content, write_sampling_message}
+use Rattle.machine_model.specs.PortCalls.{MadePort, by_created, create_queuing_port, create_sampling_port, creating, destination_only, first_read, get_queuing_port_status, get_sampling_port_status, held_read, is_full, is_source, made_port, name_given, on_port, putting, read_sampling_message, receive_queuing_message, send_queuing_message, shape_at, size_fits, source_only, with_channel, port_with_content, write_sampling_message}
 use Rattle.machine_model.specs.ProcessorCalls.{by_flush, by_return, clear_irqmask, flush_regwin, flushed, input_read, iret, read_input, set_irqmask, set_psr, set_tbr, write_console}
 use Rattle.machine_model.specs.Structures.{queuing_status, sampling_status}
 use Rattle.machine_model.specs.TimeCalls.{get_plan_status, get_time, is_no_plan, set_timer, switch_sched_plan}
@@ -97,7 +97,7 @@ destination_right port tests caller comes right = at port.way refl
 record IsMadePort (caller : Caller) (the_kind : Kind) (made : MadePort) : Type 0 where
   port : Port
   port_there : slice_get caller.view.part.ports (a_of caller) ≡ Some port
-  kind_is : is_kind port.kind the_kind ≡ true
+  kind_is : are_same_kind port.kind the_kind ≡ true
   way_is : port.way ≡ made.way
   channel : PortChannel
   channel_there : slice_index_or caller.view.channels (a_of caller) None ≡ Some channel
@@ -108,7 +108,7 @@ IsPort caller the_kind None = Unit {0}
 IsPort caller the_kind (Some made) = IsMadePort caller the_kind made
 
 content_port : (caller : Caller) (the_kind : Kind) (port : Port) (channel : PortChannel) (o : Option Content) → slice_get caller.view.part.ports (a_of caller) ≡ Some port
-    → is_kind port.kind the_kind ≡ true → slice_index_or caller.view.channels (a_of caller) None ≡ Some channel → IsPort caller the_kind (with_content port channel o)
+    → are_same_kind port.kind the_kind ≡ true → slice_index_or caller.view.channels (a_of caller) None ≡ Some channel → IsPort caller the_kind (port_with_content port channel o)
 content_port caller the_kind port channel None port_there kind_is channel_there = tt
 content_port caller the_kind port channel (Some content) port_there kind_is channel_there =
     record { port = port; port_there = port_there; kind_is = kind_is; way_is = refl; channel = channel; channel_there = channel_there; name_is = refl }
@@ -116,9 +116,9 @@ content_port caller the_kind port channel (Some content) port_there kind_is chan
 channel_port : (caller : Caller) (the_kind : Kind) (port : Port) (o : Option PortChannel) → slice_get caller.view.part.ports (a_of caller) ≡ Some port
     → slice_index_or caller.view.channels (a_of caller) None ≡ o → IsPort caller the_kind (with_channel caller the_kind port o)
 channel_port caller the_kind port None port_there channel_there = tt
-channel_port caller the_kind port (Some channel) port_there channel_there = at (is_kind port.kind the_kind) refl
+channel_port caller the_kind port (Some channel) port_there channel_there = at (are_same_kind port.kind the_kind) refl
   where
-    at : (b : Bool) → is_kind port.kind the_kind ≡ b → IsPort caller the_kind (if b then with_content port channel (slice_index_or caller.contents channel.name None) else None)
+    at : (b : Bool) → are_same_kind port.kind the_kind ≡ b → IsPort caller the_kind (if b then port_with_content port channel (slice_index_or caller.contents channel.name None) else None)
     at true kind_is = content_port caller the_kind port channel (slice_index_or caller.contents channel.name None) port_there kind_is channel_there
     at false kind_is = tt
 
@@ -152,7 +152,7 @@ port_on caller the_kind the_way made is way_is = record {
   name_is = is.name_is;
 }
 
-is_queuing : (one : Kind) → is_kind one kind.Queuing ≡ true → one ≡ kind.Queuing
+is_queuing : (one : Kind) → are_same_kind one kind.Queuing ≡ true → one ≡ kind.Queuing
 is_queuing kind.Sampling is = absurd cc
 is_queuing kind.Queuing is = refl
 
@@ -334,7 +334,7 @@ set_tbr_right caller = record { rightly = tt }
 
 flush_regwin_right : (caller : Caller) → Comes caller.view (flush_regwin caller)
 unfolding flush_regwin
-flush_regwin_right caller = record { rightly = let moved = flushed 8 (areas_of caller.view) (made caller.state.core caller.state.memory) in flush_right moved.answer (record caller.state { core = moved.core; memory = moved.memory }) caller }
+flush_regwin_right caller = record { rightly = let moved = flushed 8 (areas_of caller.view) (move_made caller.state.core caller.state.memory) in flush_right moved.answer (record caller.state { core = moved.core; memory = moved.memory }) caller }
 
 -- the call with a number, or a later one
 choice_right : (view : PartitionView) (b : Bool) (one other : Served) → Comes view one → Comes view other → Comes view (if b then one else other)
@@ -437,8 +437,8 @@ unfolding undelivered
 interrupt_right view (Ok made) time n d ps = tt
 interrupt_right view (Err fault) time n d ps = tt
 
-executed_right : (view : PartitionView) (contents : List (Option Content)) (time : ℕ) (sight : Sight) (ps : PartitionState) → IsByRight view (executed view contents time sight ps).act
-unfolding executed
+executed_right : (view : PartitionView) (contents : List (Option Content)) (time : ℕ) (sight : Sight) (ps : PartitionState) → IsByRight view (executed_in_tick view contents time sight ps).act
+unfolding executed_in_tick
 executed_right view contents time sight ps =
     let t = settled (areas_of view) ps.core ps.memory in
     turn_right t.turn view contents time sight ps (turned_state t ps)
@@ -465,7 +465,7 @@ acts_by_right view ps contents time first seen =
 -- an act as the rest of the system meets it is by right, too
 pub bounded_right : (view : PartitionView) (act : Act) → IsByRight view act → IsByRight view (bounded view act)
 bounded_right view told.Nothing right = tt
-bounded_right view (told.Trades traffic) right = at (is_its view (name_in traffic))
+bounded_right view (told.Trades traffic) right = at (is_its view (traffic_name traffic))
   where
     at : (b : Bool) → IsByRight view (if b then told.Trades traffic else told.Nothing)
     at true = right

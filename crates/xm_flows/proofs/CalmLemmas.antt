@@ -11,7 +11,7 @@ use Rattle.xm_conf.specs.declared.health.Action.TheVariants as action
 use Rattle.xm_conf.specs.declared.health.Event.{Event}
 use Rattle.machine_model.specs.Facts.{KeepsNumbers}
 use Rattle.machine_model.specs.LocalTick.{bounded, local_tick, worked}
-use Rattle.machine_model.specs.Machine.{Machine, Turn, act_of, after, clock_after, copies, happened, happened_by, local, local_in, local_of, next_clock, planned, run, sight_of_state, start, step, taken_by, turn_of}
+use Rattle.machine_model.specs.Machine.{Machine, SlotTurn, act_of, after, clock_after, copies, happened, happened_by, local, local_in, local_of, next_clock, next_plan_clock, run, sight_of_state, start, step, taken_by, turn_of}
 use Rattle.machine_model.specs.Partition.{PartitionState, takes_turns}
 use Rattle.machine_model.specs.Told as told
 use Rattle.machine_model.specs.Told.{Act, Directed, NoEvent, WholeEvent, reach_of}
@@ -81,7 +81,7 @@ taken_calm rights g plain p first (Some ps) = by (takes_turns ps.state)
         (rights (view_of g.system p) ps (copies g p) g.time first (sight_of_state g p first ps))
     by false = tt
 
-turn_calm : ActsByRight → (g : Machine) → IsUnsteered g.system.conf → (o : Option Turn) → IsCalm (act_of (local_in g o))
+turn_calm : ActsByRight → (g : Machine) → IsUnsteered g.system.conf → (o : Option SlotTurn) → IsCalm (act_of (local_in g o))
 turn_calm rights g plain None = tt
 turn_calm rights g plain (Some turn) = taken_calm rights g plain turn.part turn.first (slice_get g.parts turn.part)
 
@@ -132,7 +132,7 @@ next_on rights g plain none =
     let calm = act_calm rights g plain in
     subst (GoesOn g.clock)
     (sym (next_is g ∙ ap (λ e. clock_after e g.system.conf (act_of (local g)) g.clock g.time) (calm_event (act_of (local g)) calm)
-    ∙ ap (λ change. planned change g.system.conf g.clock g.time) (calm_reach (act_of (local g)) calm)))
+    ∙ ap (λ change. next_plan_clock change g.system.conf g.clock g.time) (calm_reach (act_of (local g)) calm)))
     (ended_on g.system.conf g.clock g.time none)
 
 -- a tick without an act on others steers nothing

@@ -5,7 +5,7 @@ use Rattle.std.proofs.lemmas.Bool.{eqb-true}
 use Rattle.std.proofs.lemmas.Option.{same_Some}
 use Rattle.cyclic_plans.specs.PlanClock.{CyclicClock, ended, ends_frame, frame_from, in_maintenance, next_plan, other_plan}
 use Rattle.xm_conf.specs.Configuration.{Conf}
-use Rattle.machine_model.specs.Machine.{clock_after, planned}
+use Rattle.machine_model.specs.Machine.{clock_after, next_plan_clock}
 use Rattle.machine_model.specs.Told.{Act, AllHalted, AllReset, Asked, Maintenance, NoEvent, PlanChange, WholeEvent, reach_of}
 use Rattle.xm_flows.specs.Steering.{plan_told}
 
@@ -70,8 +70,8 @@ abbrev asking : CyclicClock → ℕ → CyclicClock
 asking clock plan = record clock { asked = Some plan }
 
 both_planned : (change change' : Option PlanChange) (first second : Conf) (one other : CyclicClock) (now : ℕ) → RunTheSame one other → ends_frame first one now ≡ ends_frame second other now
-    → plan_told change one.plan (planned change first one now).plan ≡ plan_told change' other.plan (planned change' second other now).plan
-    → RunTheSame (planned change first one now) (planned change' second other now)
+    → plan_told change one.plan (next_plan_clock change first one now).plan ≡ plan_told change' other.plan (next_plan_clock change' second other now).plan
+    → RunTheSame (next_plan_clock change first one now) (next_plan_clock change' second other now)
 unfolding in_maintenance
 both_planned None None first second one other now same ends told = both_ended first second one other now same ends told
 both_planned None (Some (Asked plan)) first second one other now same ends told =

@@ -12,10 +12,10 @@ use Rattle.xm_conf.specs.Description.{described}
 use Rattle.xm_conf.specs.Fits.{Fits}
 use Rattle.xm_ports.specs.Channels.{Content}
 use Rattle.machine_model.specs.Alone.{Alone, alone_step}
-use Rattle.machine_model.specs.Cue.{Cue, Slot, cue, cue_in, slot_of, unless_own}
-use Rattle.machine_model.specs.Laws.{OneTick, SeesNothing, part, part_at}
+use Rattle.machine_model.specs.Cue.{Cue, CueSlot, cue, cue_in, slot_of, unless_own}
+use Rattle.machine_model.specs.Laws.{OneTick, SeesNothing, part, alone_part_at}
 use Rattle.machine_model.specs.LocalTick.{LocalTick, local_tick, worked}
-use Rattle.machine_model.specs.Machine.{Machine, Turn, act_of, after, clock_after, copies, happened, happened_by, if_its_turn, is_halt, is_turn_of, local, local_in, local_of, next_clock, order_for, order_upon, sight, sight_in, sight_of_state, step, step_unless, system_traffic, taken_by, tick_of, turn_of}
+use Rattle.machine_model.specs.Machine.{Machine, SlotTurn, act_of, after, clock_after, copies, happened, happened_by, if_its_turn, is_halt, is_turn_of, local, local_in, local_of, next_clock, order_for, order_upon, sight, sight_in, sight_of_state, step, step_unless, system_traffic, taken_by, tick_of, turn_of}
 use Rattle.machine_model.specs.Partition.{PartitionState, takes_turns}
 use Rattle.machine_model.specs.Told.{Directed, OwnStill, OwnTraffic, Sight, Unseen, WholeEvent, reach_of}
 use Rattle.machine_model.specs.Traffic.{heard_as, traffic_of}
@@ -69,16 +69,16 @@ same_channels members one other alike = record {
 -- Turns: a member's turn is the same in both, and where it is no member's it is none in both.
 
 -- a turn that is a member's
-turn_is : (members : Members) (o : Option Turn) (turn : Turn) → member_turn members o ≡ Some turn → (o ≡ Some turn) × (members turn.part ≡ true)
+turn_is : (members : Members) (o : Option SlotTurn) (turn : SlotTurn) → member_turn members o ≡ Some turn → (o ≡ Some turn) × (members turn.part ≡ true)
 turn_is members None turn is = absurd cc
 turn_is members (Some one) turn is = by (members one.part) refl is
   where
     by : (b : Bool) → members one.part ≡ b → (if b then Some one else None) ≡ Some turn → (Some one ≡ Some turn) × (members turn.part ≡ true)
-    by true member said = (said, sym (ap (λ (t : Turn). members t.part) (same_Some one turn said)) ∙ member)
+    by true member said = (said, sym (ap (λ (t : SlotTurn). members t.part) (same_Some one turn said)) ∙ member)
     by false fails said = absurd cc
 
 -- a turn that is no member's
-stranger_turn : (members : Members) (one turn : Turn) → member_turn members (Some one) ≡ None → members one.part ≡ false
+stranger_turn : (members : Members) (one turn : SlotTurn) → member_turn members (Some one) ≡ None → members one.part ≡ false
 stranger_turn members one turn is = by (members one.part) is
   where
     by : (b : Bool) → (if b then Some one else None) ≡ None → b ≡ false
@@ -86,7 +86,7 @@ stranger_turn members one turn is = by (members one.part) is
     by false said = refl
 
 -- the local tick of a member
-shown_nothing : SeesNothing → (g : Machine) (turn : Turn) (ps : PartitionState) → turn_of g ≡ Some turn → slice_get g.parts turn.part ≡ Some ps → (part_of g.system.conf turn.part).system ≡ false
+shown_nothing : SeesNothing → (g : Machine) (turn : SlotTurn) (ps : PartitionState) → turn_of g ≡ Some turn → slice_get g.parts turn.part ≡ Some ps → (part_of g.system.conf turn.part).system ≡ false
     → sight_of_state g turn.part turn.first ps ≡ Unseen
 unfolding sight
 shown_nothing sees g turn ps its there plain =
@@ -110,7 +110,7 @@ ticks_alike g h p first ps view contents ticks time unseen unseen_too =
     ∙ ap (λ t. local_tick (view_of h.system p) ps (copies h p) h.ticks t first Unseen) time
     ∙ sym (local_is h p first ps unseen_too)
 
-local_alike : SeesNothing → (members : Members) (g h : Machine) → AreClosedAlike members g.system h.system → GoTogether members g h → (turn : Turn) → members turn.part ≡ true
+local_alike : SeesNothing → (members : Members) (g h : Machine) → AreClosedAlike members g.system h.system → GoTogether members g h → (turn : SlotTurn) → members turn.part ≡ true
     → turn_of g ≡ Some turn → turn_of h ≡ Some turn → local g ≡ local h
 unfolding local
 local_alike sees members g h alike go turn member its its_too =
@@ -138,15 +138,15 @@ taken_right rights g p first (Some ps) = by (takes_turns ps.state)
 -- Cues.
 
 -- the parts of a cue
-abbrev cue_of : Slot → OwnTraffic → Option Order → WholeEvent → Sight → Cue
+abbrev cue_of : CueSlot → OwnTraffic → Option Order → WholeEvent → Sight → Cue
 cue_of mine traffic order whole seen = record { mine = mine; traffic = traffic; order = order; whole = whole; seen = seen }
 
-same_cue : (mine mine' : Slot) (traffic traffic' : OwnTraffic) (order order' : Option Order) (whole whole' : WholeEvent) (seen seen' : Sight)
+same_cue : (mine mine' : CueSlot) (traffic traffic' : OwnTraffic) (order order' : Option Order) (whole whole' : WholeEvent) (seen seen' : Sight)
     → mine ≡ mine' → traffic ≡ traffic' → order ≡ order' → whole ≡ whole' → seen ≡ seen' → cue_of mine traffic order whole seen ≡ cue_of mine' traffic' order' whole' seen'
 same_cue mine mine' traffic traffic' order order' whole whole' seen seen' a b c d e = rw (a, b, c, d, e) refl
 
 -- the traffic of others that a partition is told, by the turn and the local tick
-abbrev traffic_told : Conf → ℕ → Option Turn → Option LocalTick → OwnTraffic
+abbrev traffic_told : Conf → ℕ → Option SlotTurn → Option LocalTick → OwnTraffic
 traffic_told conf p o tick = unless_own (is_some (if_its_turn (is_turn_of o p) tick)) (heard_as (name_of conf p) (system_traffic conf o (traffic_of (act_of tick))))
 
 -- a cue, by the turn, the local tick and what is shown
@@ -188,14 +188,14 @@ steered members g h runs runs_too same =
     steered_parts members g h (sym (steering_runs members g runs) ∙ same ∙ steering_runs members h runs_too)
 
 -- in the turn of a member, whose work is the same in both
-own_traffic : (members : Members) (g h : Machine) → AreClosedAlike members g.system h.system → (p : ℕ) → members p ≡ true → (turn : Turn) → members turn.part ≡ true → (tick : Option LocalTick)
+own_traffic : (members : Members) (g h : Machine) → AreClosedAlike members g.system h.system → (p : ℕ) → members p ≡ true → (turn : SlotTurn) → members turn.part ≡ true → (tick : Option LocalTick)
     → traffic_told g.system.conf p (Some turn) tick ≡ traffic_told h.system.conf p (Some turn) tick
 own_traffic members g h alike p member turn member_too tick =
     ap (unless_own (is_some (if_its_turn (turn.part == p) tick)))
     (heard_alike members g.system.conf h.system.conf (same_channels members g.system h.system alike) p turn.part member member_too (traffic_of (act_of tick)))
 
 -- in a turn that is no member's
-away : (members : Members) (p : ℕ) → members p ≡ true → (o : Option Turn) → member_turn members o ≡ None → is_turn_of o p ≡ false
+away : (members : Members) (p : ℕ) → members p ≡ true → (o : Option SlotTurn) → member_turn members o ≡ None → is_turn_of o p ≡ false
 away members p member None fails = refl
 away members p member (Some turn) fails = by (turn.part == p) refl
   where
@@ -206,11 +206,11 @@ away members p member (Some turn) fails = by (turn.part == p) refl
         let stranger : members turn.part ≡ false = stranger_turn members turn turn fails in
         absurd cc
 
-away_slot : (p : ℕ) (o : Option Turn) → is_turn_of o p ≡ false → slot_of o p ≡ slot_of None p
+away_slot : (p : ℕ) (o : Option SlotTurn) → is_turn_of o p ≡ false → slot_of o p ≡ slot_of None p
 away_slot p None fails = refl
 away_slot p (Some turn) fails = rw fails refl
 
-strange_traffic : ActsByRight → (members : Members) (g : Machine) → Fits (described g.system.conf) → HasItsPeers g.system.conf members → (p : ℕ) → members p ≡ true → (o : Option Turn)
+strange_traffic : ActsByRight → (members : Members) (g : Machine) → Fits (described g.system.conf) → HasItsPeers g.system.conf members → (p : ℕ) → members p ≡ true → (o : Option SlotTurn)
     → member_turn members o ≡ None → heard_as (name_of g.system.conf p) (system_traffic g.system.conf o (traffic_of (act_of (local_in g o)))) ≡ OwnStill
 strange_traffic rights members g fits peers p member None fails = refl
 strange_traffic rights members g fits peers p member (Some turn) fails =
@@ -244,7 +244,7 @@ told_with members g h sees alike steered_so slots traffic = record {
 }
 
 told_by_turn : ActsByRight → SeesNothing → (members : Members) (g h : Machine) → AreClosedAlike members g.system h.system → GoTogether members g h → IsSteered members g h
-    → (o o' : Option Turn) → member_turn members (turn_of g) ≡ o → member_turn members (turn_of h) ≡ o' → o ≡ o' → ToldTheSame members g h
+    → (o o' : Option SlotTurn) → member_turn members (turn_of g) ≡ o → member_turn members (turn_of h) ≡ o' → o ≡ o' → ToldTheSame members g h
 told_by_turn rights sees members g h alike go steered_so None None fails fails_too same =
     told_with members g h sees alike steered_so
     (λ p member. away_slot p (turn_of g) (away members p member (turn_of g) fails) ∙ sym (away_slot p (turn_of h) (away members p member (turn_of h) fails_too)))
@@ -271,8 +271,8 @@ told_alike rights sees members g h alike go steered_so =
 -- The machines after the tick.
 
 -- a partition's part of a machine, where it is known
-pub parts_are : (g : Machine) (p : ℕ) (a : Alone) → part_at g p ≡ Some a → (slice_get g.parts p ≡ Some a.state) × (copies g p ≡ a.copies)
-unfolding part part_at
+pub parts_are : (g : Machine) (p : ℕ) (a : Alone) → alone_part_at g p ≡ Some a → (slice_get g.parts p ≡ Some a.state) × (copies g p ≡ a.copies)
+unfolding part alone_part_at
 parts_are g p a is = by (slice_get g.parts p) refl is
   where
     by : (o : Option PartitionState) → slice_get g.parts p ≡ o → on (part g p) o ≡ Some a → (slice_get g.parts p ≡ Some a.state) × (copies g p ≡ a.copies)
@@ -281,7 +281,7 @@ parts_are g p a is = by (slice_get g.parts p) refl is
         let same : part g p ps ≡ a = same_Some (part g p ps) a said in
         (there ∙ ap (λ (x : Alone). Some x.state) same, ap (λ (x : Alone). x.copies) same)
 
-pub same_part : (g h : Machine) (p : ℕ) (a : Alone) → part_at g p ≡ Some a → part_at h p ≡ Some a → HasSamePart g h p
+pub same_part : (g h : Machine) (p : ℕ) (a : Alone) → alone_part_at g p ≡ Some a → alone_part_at h p ≡ Some a → HasSamePart g h p
 same_part g h p a is is_too =
     let one = parts_are g p a is in
     let other = parts_are h p a is_too in

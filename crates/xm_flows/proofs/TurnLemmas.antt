@@ -11,17 +11,17 @@ use Rattle.xm_conf.specs.Configuration.{Conf, Plan}
 use Rattle.xm_conf.specs.Description.{described}
 use Rattle.xm_conf.specs.Fits.{Fits, InTurn}
 use Rattle.xm_conf.specs.declared.plan.Slot.{Slot}
-use Rattle.machine_model.specs.Machine.{Machine, Turn, turn_here, turn_of}
+use Rattle.machine_model.specs.Machine.{Machine, SlotTurn, turn_here, turn_of}
 use Rattle.xm_flows.specs.Alike.{own_slots}
 use Rattle.xm_flows.specs.Groups.{Members}
 
 -- a turn, where it is a member's
-abbrev pub member_turn : Members → Option Turn → Option Turn
+abbrev pub member_turn : Members → Option SlotTurn → Option SlotTurn
 member_turn members None = None
 member_turn members (Some turn) = if members turn.part then Some turn else None
 
 -- the turn of a slot that was found
-abbrev found_turn : ℕ → Option (ℕ × Slot) → Option Turn
+abbrev found_turn : ℕ → Option (ℕ × Slot) → Option SlotTurn
 found_turn now o = turn_here (on (here_in now) o)
 
 in_turn_tail : (slot : Slot) (slots : List Slot) → InTurn (slot ∷ slots) → InTurn slots

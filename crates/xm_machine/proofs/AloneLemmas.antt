@@ -3,12 +3,12 @@ use Rattle.std.proofs.Common.{◌≡◌, ℕ, ◌≤◌, ◌<◌, true, List, le
 use Rattle.std.specs.Prelude.{Result, Ok, Err}
 use Rattle.xm_report.specs.declared.output.WriteFault.{WriteFault}
 use Rattle.machine_model.specs.Laws as laws
-use Rattle.machine_model.specs.Laws.{AllTicks, BootsAlone, OwnLines, part_at}
+use Rattle.machine_model.specs.Laws.{AllTicks, BootsAlone, OwnLines, alone_part_at}
 use Rattle.machine_model.specs.Lines.{own, report}
 use Rattle.machine_model.specs.Machine.{Machine, run, start}
 use Rattle.machine_model.specs.View.{System}
 use Rattle.system_ticks.specs.KeptLemmas.{step_halted}
-use Rattle.xm_machine.specs.Alone.{AreAlone, AreBootedAlone, IsBootedAlone, RunsAlone}
+use Rattle.xm_machine.specs.Alone.{AreAlone, AreBootedAlone, IsBootedAlone, RunsEachAlone}
 use Rattle.xm_machine.specs.Outcome.{IsRun, report_of}
 use Rattle.xm_machine.specs.Steps.{IsStep, IsStepCut}
 use Rattle.xm_machine.specs.declared.run.Ran.{Ran}
@@ -18,7 +18,7 @@ pub ticks_alone : AllTicks → (count : ℕ) (old new : Machine) → new ≡ run
 ticks_alone law count old new is p ps there =
     let alone : laws.RunsAlone old p ps count = law count old p ps there in
     record {
-      state = ap (λ (g : Machine). part_at g p) is ∙ alone.state;
+      state = ap (λ (g : Machine). alone_part_at g p) is ∙ alone.state;
       lines = alone.lines;
       said = alone.said;
     }
@@ -39,7 +39,7 @@ pub halted_tick_alone : AllTicks → (g : Machine) → g.halted ≡ true → Are
 halted_tick_alone law g halts = ticks_alone law 1 g g (sym (step_halted g halts))
 
 -- a run, by what it answers
-pub run_alone : AllTicks → (result : Result Ran WriteFault) (asked : ℕ) (old new : Machine) (had got : Option (List ℕ)) → IsRun result asked old new had got → RunsAlone result asked old new
+pub run_alone : AllTicks → (result : Result Ran WriteFault) (asked : ℕ) (old new : Machine) (had got : Option (List ℕ)) → IsRun result asked old new had got → RunsEachAlone result asked old new
 run_alone law (Ok ran) asked old new had got done = ticks_alone law asked old new done.state
 run_alone law (Err fault) asked old new had got cut = record {
   ticks = cut.ticks;

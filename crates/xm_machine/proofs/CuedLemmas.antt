@@ -9,8 +9,8 @@ use Rattle.machine_model.specs.Facts.{KeepsNumbers, RunsKeepNumbers}
 use Rattle.machine_model.specs.Machine.{Machine, run, step}
 use Rattle.machine_model.specs.View.{System}
 use Rattle.whole_system.specs.State.{SysState}
-use Rattle.xm_machine.specs.Cues.{AreCued, AreCuedUpTo, KeepsLast, KeepsUpTo, last_or, told_to}
-use Rattle.system_ticks.specs.Kept.{Kept, kept_after, kept_cue, kept_of, kept_unless}
+use Rattle.xm_machine.specs.Cues.{AreCued, AreCuedUpTo, KeepsLastTick, KeepsUpTo, last_or, told_to}
+use Rattle.system_ticks.specs.Kept.{KeptTick, kept_after, kept_cue, kept_tick, kept_unless}
 use Rattle.xm_machine.specs.Machine.{Meaning}
 use Rattle.system_ticks.specs.Span.{IsSpanDone}
 use Rattle.xm_machine.specs.Stretch.{AreStepped, KeepsStepped, stepped_by}
@@ -21,24 +21,24 @@ use Rattle.xm_machine.proofs.GoingLemmas.{state_on}
 use Rattle.system_ticks.specs.KeptLemmas.{ran_on, run_halted, ticks_exact}
 
 -- a machine that has halted keeps what was kept before
-kept_halted : (count : ℕ) (g : Machine) (before : Kept) → g.halted ≡ true → kept_after g count before ≡ before
+kept_halted : (count : ℕ) (g : Machine) (before : KeptTick) → g.halted ≡ true → kept_after g count before ≡ before
 kept_halted zero g before halts = refl
-kept_halted (suc count) g before halts = ap (λ b. kept_unless b before (kept_after (step g) count (kept_of g))) halts
+kept_halted (suc count) g before halts = ap (λ b. kept_unless b before (kept_after (step g) count (kept_tick g))) halts
 
-kept_runs : (count : ℕ) (g : Machine) (before : Kept) → g.halted ≡ false → kept_after g (suc count) before ≡ kept_after (step g) count (kept_of g)
-kept_runs count g before runs = ap (λ b. kept_unless b before (kept_after (step g) count (kept_of g))) runs
+kept_runs : (count : ℕ) (g : Machine) (before : KeptTick) → g.halted ≡ false → kept_after g (suc count) before ≡ kept_after (step g) count (kept_tick g)
+kept_runs count g before runs = ap (λ b. kept_unless b before (kept_after (step g) count (kept_tick g))) runs
 
 -- the last of ticks, where the hypervisor has not halted before it
-kept_last : (count : ℕ) (g : Machine) (before : Kept) → (run g count).halted ≡ false → kept_after g (suc count) before ≡ kept_of (run g count)
+kept_last : (count : ℕ) (g : Machine) (before : KeptTick) → (run g count).halted ≡ false → kept_after g (suc count) before ≡ kept_tick (run g count)
 kept_last zero g before runs = kept_runs 0 g before runs
-kept_last (suc count) g before runs = kept_runs (suc count) g before (ran_on (suc count) g runs) ∙ kept_last count (step g) (kept_of g) runs
+kept_last (suc count) g before runs = kept_runs (suc count) g before (ran_on (suc count) g runs) ∙ kept_last count (step g) (kept_tick g) runs
 
 -- ticks, and more of them
-pub kept_add : (j k : ℕ) (g : Machine) (before : Kept) → kept_after g (j + k) before ≡ kept_after (run g j) k (kept_after g j before)
+pub kept_add : (j k : ℕ) (g : Machine) (before : KeptTick) → kept_after g (j + k) before ≡ kept_after (run g j) k (kept_after g j before)
 kept_add zero k g before = ap (λ n. kept_after g n before) (zero-add k)
-kept_add (suc j) k g before = ap (λ n. kept_after g n before) (suc-add j k) ∙ at g.halted refl (kept_add j k (step g) (kept_of g))
+kept_add (suc j) k g before = ap (λ n. kept_after g n before) (suc-add j k) ∙ at g.halted refl (kept_add j k (step g) (kept_tick g))
   where
-    at : (b : Bool) → g.halted ≡ b → kept_after (step g) (j + k) (kept_of g) ≡ kept_after (run (step g) j) k (kept_after (step g) j (kept_of g))
+    at : (b : Bool) → g.halted ≡ b → kept_after (step g) (j + k) (kept_tick g) ≡ kept_after (run (step g) j) k (kept_after (step g) j (kept_tick g))
         → kept_after g (suc (j + k)) before ≡ kept_after (run g (suc j)) k (kept_after g (suc j) before)
     at true halts more =
         kept_halted (suc (j + k)) g before halts
@@ -47,8 +47,8 @@ kept_add (suc j) k g before = ap (λ n. kept_after g n before) (suc-add j k) ∙
     at false runs more = kept_runs (j + k) g before runs ∙ more ∙ ap (kept_after (run (step g) j) k) (sym (kept_runs j g before runs))
 
 -- the last tick of a span is kept
-pub keeps_span : (span : Span) (most : ℕ) (old new : SysState) (got : List ReportLine) (before kept : Kept) → IsSpanDone span most old new got
-    → kept ≡ kept_of (run old.machine (span.ticks - 1)) → KeepsLast most (record { state = old.machine; kept = before }) (record { state = new.machine; kept = kept })
+pub keeps_span : (span : Span) (most : ℕ) (old new : SysState) (got : List ReportLine) (before kept : KeptTick) → IsSpanDone span most old new got
+    → kept ≡ kept_tick (run old.machine (span.ticks - 1)) → KeepsLastTick most (record { state = old.machine; kept = before }) (record { state = new.machine; kept = kept })
 keeps_span span most old new got before kept done kept_is =
     let some : suc (span.ticks - 1) ≡ span.ticks = omega (arith, done.some) in
     record {
@@ -60,21 +60,21 @@ keeps_span span most old new got before kept done kept_is =
     }
 
 -- and so are all of them
-pub keeps_ticks : (span : Span) (most : ℕ) (old new : SysState) (got : List ReportLine) (before kept : Kept) → IsSpanDone span most old new got
-    → kept ≡ kept_of (run old.machine (span.ticks - 1)) → kept ≡ kept_after old.machine span.ticks before
+pub keeps_ticks : (span : Span) (most : ℕ) (old new : SysState) (got : List ReportLine) (before kept : KeptTick) → IsSpanDone span most old new got
+    → kept ≡ kept_tick (run old.machine (span.ticks - 1)) → kept ≡ kept_after old.machine span.ticks before
 keeps_ticks span most old new got before kept done kept_is =
     let some : suc (span.ticks - 1) ≡ span.ticks = omega (arith, done.some) in
     kept_is ∙ sym (kept_last (span.ticks - 1) old.machine before done.running) ∙ ap (λ n. kept_after old.machine n before) some
 
 -- and so are those whose lines may have been cut off
-pub keeps_so : (told : Result ℕ WriteFault) (ends : Bool) (span : Span) (most : ℕ) (old new : SysState) (got : List ReportLine) (before kept : Kept) → IsSpanDone span most old new got
-    → kept ≡ kept_of (run old.machine (span.ticks - 1)) → KeepsStepped (stepped_by told span.ticks ends) most (record { state = old.machine; kept = before }) (record { state = new.machine; kept = kept })
+pub keeps_so : (told : Result ℕ WriteFault) (ends : Bool) (span : Span) (most : ℕ) (old new : SysState) (got : List ReportLine) (before kept : KeptTick) → IsSpanDone span most old new got
+    → kept ≡ kept_tick (run old.machine (span.ticks - 1)) → KeepsStepped (stepped_by told span.ticks ends) most (record { state = old.machine; kept = before }) (record { state = new.machine; kept = kept })
 keeps_so (Ok lines) ends span most old new got before kept done is = keeps_ticks span most old new got before kept done is
 keeps_so (Err fault) ends span most old new got before kept done is = keeps_span span most old new got before kept done is
 
 -- the last tick of those of a stretch is kept
 pub keeps_stepped : (stepped : Stepped) (most : ℕ) (old new : Meaning) (had got : Option (List ℕ)) → AreStepped stepped most old.state new.state had got
-    → new.kept ≡ kept_after old.state stepped.ticks old.kept → KeepsLast most old new
+    → new.kept ≡ kept_after old.state stepped.ticks old.kept → KeepsLastTick most old new
 keeps_stepped stepped most old new had got are kept = record {
   done = are.step.done;
   some = are.step.some;
@@ -84,7 +84,7 @@ keeps_stepped stepped most old new had got are kept = record {
 }
 
 -- a run goes on
-pub keeps_on : (asked most : ℕ) (g mid new : Meaning) → (goes : KeepsUpTo asked g mid) → KeepsLast most mid new → goes.done + most ≤ asked → KeepsUpTo asked g new
+pub keeps_on : (asked most : ℕ) (g mid new : Meaning) → (goes : KeepsUpTo asked g mid) → KeepsLastTick most mid new → goes.done + most ≤ asked → KeepsUpTo asked g new
 keeps_on asked most g mid new goes more room = record {
   done = goes.done + more.done;
   within = omega (arith, more.within, room);
@@ -117,26 +117,26 @@ keeps_out asked g new goes fresh ends = at new.state.halted refl
         goes.kept ∙ ap (λ n. kept_after g.state n g.kept) all
 
 -- what is kept after ticks tells a partition the last cue of its script
-told_last : KeepsNumbers → (count : ℕ) (g : Machine) (before : Kept) (conf : Conf) (p : ℕ) → g.system.conf ≡ conf
+told_last : KeepsNumbers → (count : ℕ) (g : Machine) (before : KeptTick) (conf : Conf) (p : ℕ) → g.system.conf ≡ conf
     → kept_cue conf (kept_after g count before) p ≡ last_or (kept_cue conf before p) (script g p count)
 told_last law zero g before conf p same = refl
-told_last law (suc count) g before conf p same = at g.halted (told_last law count (step g) (kept_of g) conf p (ap (λ (s : System). s.conf) (law g).system ∙ same))
+told_last law (suc count) g before conf p same = at g.halted (told_last law count (step g) (kept_tick g) conf p (ap (λ (s : System). s.conf) (law g).system ∙ same))
   where
-    at : (b : Bool) → kept_cue conf (kept_after (step g) count (kept_of g)) p ≡ last_or (kept_cue conf (kept_of g) p) (script (step g) p count)
-        → kept_cue conf (kept_unless b before (kept_after (step g) count (kept_of g))) p
+    at : (b : Bool) → kept_cue conf (kept_after (step g) count (kept_tick g)) p ≡ last_or (kept_cue conf (kept_tick g) p) (script (step g) p count)
+        → kept_cue conf (kept_unless b before (kept_after (step g) count (kept_tick g))) p
         ≡ last_or (kept_cue conf before p) (script_unless b (cue g p) (script (step g) p count))
     at true more = refl
     at false more =
-        more ∙ ap (λ (c : Cue). last_or c (script (step g) p count)) (ap (λ (x : Conf). kept_cue x (kept_of g) p) (sym same) ∙ kept_cues g p)
+        more ∙ ap (λ (c : Cue). last_or c (script (step g) p count)) (ap (λ (x : Conf). kept_cue x (kept_tick g) p) (sym same) ∙ kept_cues g p)
 
 pub cued : KeepsNumbers → RunsKeepNumbers → (count : ℕ) (old new : Meaning) → new.state ≡ run old.state count → new.kept ≡ kept_after old.state count old.kept → AreCued count old new
 cued ticks runs count old new state kept p =
-    ap (λ (k : Kept). kept_cue new.state.system.conf k p) kept
+    ap (λ (k : KeptTick). kept_cue new.state.system.conf k p) kept
     ∙ ap (λ (s : System). kept_cue s.conf (kept_after old.state count old.kept) p) (ap (λ (m : Machine). m.system) state ∙ (runs old.state count).system)
     ∙ told_last ticks count old.state old.kept old.state.system.conf p refl
 
 -- the tick of a machine, and of one that has halted
-pub tick_cued : KeepsNumbers → RunsKeepNumbers → (old new : Meaning) → KeepsLast 1 old new → AreCued 1 old new
+pub tick_cued : KeepsNumbers → RunsKeepNumbers → (old new : Meaning) → KeepsLastTick 1 old new → AreCued 1 old new
 tick_cued ticks runs old new last =
     let one : last.done ≡ 1 = omega (arith, last.some, last.within) in
     cued ticks runs 1 old new (last.state ∙ ap (run old.state) one) (last.kept ∙ ap (λ n. kept_after old.state n old.kept) one)

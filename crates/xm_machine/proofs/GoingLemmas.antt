@@ -18,7 +18,7 @@ use Rattle.system_ticks.specs.Quiet.{ends_stretch}
 use Rattle.system_ticks.specs.Span.{IsSpanDone, console_lines}
 use Rattle.xm_machine.specs.Steps.{AreCut, AreRun, IsStep, IsStepCut, Tells}
 use Rattle.xm_machine.specs.Stretch.{AreStepped, IsStretchCut, Steps, stepped_by}
-use Rattle.system_ticks.specs.Work.{act_of}
+use Rattle.system_ticks.specs.Work.{act_beyond}
 use Rattle.system_ticks.specs.declared.slot.Span.{Span}
 
 -- the lines of a run, and of more ticks
@@ -58,7 +58,7 @@ halted_tick g had halts = record {
 
 -- ticks of a span were done, and what they told was put out
 pub step_told : (told : ℕ) (ends : Bool) (span : Span) (most : ℕ) (old new : SysState) (after : List ReportLine) (had got : Option (List ℕ)) → IsSpanDone span most old new after
-    → ends ≡ ends_stretch (act_of span.reach) → Tells (Ok told) (console_lines span old.machine new.machine ++ after) had got
+    → ends ≡ ends_stretch (act_beyond span.reach) → Tells (Ok told) (console_lines span old.machine new.machine ++ after) had got
     → AreStepped (record { ticks = span.ticks; lines = told; ends = ends }) most old.machine new.machine had got
 step_told told ends span most old new after had got done ends_is tells = record {
   step = record {
@@ -99,7 +99,7 @@ step_cut span most old new after had got done cut =
 
 -- and both
 pub step_so : (told : Result ℕ WriteFault) (ends : Bool) (span : Span) (most : ℕ) (old new : SysState) (after : List ReportLine) (had got : Option (List ℕ)) → IsSpanDone span most old new after
-    → ends ≡ ends_stretch (act_of span.reach) → Tells told (console_lines span old.machine new.machine ++ after) had got
+    → ends ≡ ends_stretch (act_beyond span.reach) → Tells told (console_lines span old.machine new.machine ++ after) had got
     → Steps (stepped_by told span.ticks ends) most old.machine new.machine had got
 step_so (Ok lines) ends span most old new after had got done is tells = step_told lines ends span most old new after had got done is tells
 step_so (Err fault) ends span most old new after had got done is tells = step_cut span most old new after had got done tells

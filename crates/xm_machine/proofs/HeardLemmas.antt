@@ -18,13 +18,13 @@ use Rattle.xm_report.specs.Report.{ConsoleLine, EndPart, EndWhole, HealthLine, M
 use Rattle.whole_system.specs.State.{SysState}
 use Rattle.alone_passes.specs.Passes.{part_in}
 use Rattle.machine_model.specs.Alone.{Alone, alone_lines_of, alone_local, alone_local_in, alone_step_lines, alone_step_said}
-use Rattle.machine_model.specs.Cue.{Away, Cue, Mine, Slot}
+use Rattle.machine_model.specs.Cue.{Away, Cue, Mine, CueSlot}
 use Rattle.machine_model.specs.Facts.{RunsKeepNumbers}
 use Rattle.machine_model.specs.Laws.{part}
 use Rattle.machine_model.specs.Lines.{console, has_console, lines, lines_of, lines_unless, local_lines, local_said, order_lines, plan_lines, said_unless, step_console, step_lines, step_said}
 use Rattle.machine_model.specs.Lists.{all_of, is_number}
 use Rattle.machine_model.specs.LocalTick.{LocalTick, local_tick, said_in, worked}
-use Rattle.machine_model.specs.Machine.{Happened, Machine, Turn, copies, happened, happened_by, if_its_turn, is_turn_of, local, local_in, local_of, next_clock, obeyed_told, order_upon, run, sight_of_state, step, taken_by, tick_of, turn_of, worked_in}
+use Rattle.machine_model.specs.Machine.{Happened, Machine, SlotTurn, copies, happened, happened_by, if_its_turn, is_turn_of, local, local_in, local_of, next_clock, obeyed_told, order_upon, run, sight_of_state, step, taken_by, tick_of, turn_of, worked_in}
 use Rattle.machine_model.specs.Partition.{PartitionState, applies, order_told, ordered_told, takes_turns}
 use Rattle.machine_model.specs.Told as told
 use Rattle.machine_model.specs.Told.{Told, line_of}
@@ -34,7 +34,7 @@ use Rattle.slot_runs.specs.Passes.{part_at}
 use Rattle.slot_runs.specs.RunLemmas.{console_add, run_add}
 use Rattle.xm_machine.proofs.GoingLemmas.{lines_halted, state_on}
 use Rattle.system_ticks.specs.KeptLemmas.{step_halted, ticks_exact}
-use Rattle.system_ticks.specs.TickLines.{IsOther}
+use Rattle.system_ticks.specs.TickLines.{IsOtherLine}
 use Rattle.xm_machine.specs.AloneStep.{said_alone}
 use Rattle.xm_machine.specs.Heard.{IsRunHeard, console_to, line_to, lines_to}
 use Rattle.system_ticks.specs.Span.{IsSpanDone, console_lines}
@@ -161,7 +161,7 @@ taken_tale g q first ps = at (takes_turns ps.state)
     at false = record { tale = []; its_lines = refl; its_bytes = refl }
 
 -- what each UART gets of the local tick of a turn
-abbrev turn_to : Machine → ℕ → Option Turn → ℕ → PartitionState → List ℕ
+abbrev turn_to : Machine → ℕ → Option SlotTurn → ℕ → PartitionState → List ℕ
 turn_to g uart turn p ps = if has_console g uart p then local_said (if_its_turn (is_turn_of turn p) (local_in g turn)) else []
 
 abbrev tick_to : Machine → ℕ → ℕ → Option LocalTick → ℕ → PartitionState → List ℕ
@@ -184,7 +184,7 @@ its_tick g uart q l ps tale =
     ∙ sym (tale_to g uart g.ticks q tale.tale)
     ∙ ap (flat_map (line_to g uart)) (sym tale.its_lines)
 
-turns_to : (g : Machine) (uart : ℕ) (turn : Option Turn) → all_of (turn_to g uart turn) g.parts ≡ flat_map (line_to g uart) (local_lines (local_in g turn))
+turns_to : (g : Machine) (uart : ℕ) (turn : Option SlotTurn) → all_of (turn_to g uart turn) g.parts ≡ flat_map (line_to g uart) (local_lines (local_in g turn))
 turns_to g uart None = none_of (turn_to g uart None) g.parts (λ p ps. if_none (has_console g uart p) [] refl)
 turns_to g uart (Some turn) = at (slice_get g.parts turn.part) refl
   where
@@ -353,12 +353,12 @@ line_heard g n p bytes before after heard =
     heard_as (console_to g p bytes) (lines_to g (line_of n p (told.Console bytes) ∷ [])) before after (λ uart. sym (append-nil (console_to g p bytes uart))) heard
 
 -- lines that tell no console bytes
-others_silent : (g : Machine) (others : List ReportLine) (uart : ℕ) → All IsOther others → lines_to g others uart ≡ []
+others_silent : (g : Machine) (others : List ReportLine) (uart : ℕ) → All IsOtherLine others → lines_to g others uart ≡ []
 others_silent g [] uart all = refl
 others_silent g (line ∷ rest) uart all =
     ap (λ (first : List ℕ). first ++ lines_to g rest uart) (other_silent line (all 0 line (omega arith))) ∙ others_silent g rest uart (λ k d below. all (suc k) d (omega (arith, below)))
   where
-    other_silent : (l : ReportLine) → IsOther l → line_to g uart l ≡ []
+    other_silent : (l : ReportLine) → IsOtherLine l → line_to g uart l ≡ []
     other_silent (SystemLine parts plans ticks) is = refl
     other_silent (ConsoleLine n p bytes) is = absurd is
     other_silent (HealthLine n p event word action) is = refl
@@ -370,7 +370,7 @@ others_silent g (line ∷ rest) uart all =
     other_silent (EndWhole halted plan clock ticks) is = refl
 
 -- they come after one that was said
-pub others_heard : (g : Machine) (first others : List ReportLine) (before after : BoardView) → All IsOther others → IsHeard (lines_to g first) before after → IsHeard (lines_to g (first ++ others)) before after
+pub others_heard : (g : Machine) (first others : List ReportLine) (before after : BoardView) → All IsOtherLine others → IsHeard (lines_to g first) before after → IsHeard (lines_to g (first ++ others)) before after
 others_heard g first others before after all heard =
     heard_as (lines_to g first) (lines_to g (first ++ others)) before after (λ uart. sym (silent_after (line_to g uart) first others (others_silent g others uart all))) heard
 
@@ -410,7 +410,7 @@ alone_tale : (g : Machine) (p : ℕ) (cue : Cue) → HasTale g p (alone_local (v
 unfolding alone_local local_tick part view_of
 alone_tale g p cue = by cue.mine
   where
-    by : (mine : Slot) → HasTale g p (alone_local_in mine (view_of g.system p) (part_in g p) cue.seen)
+    by : (mine : CueSlot) → HasTale g p (alone_local_in mine (view_of g.system p) (part_in g p) cue.seen)
     by Away = record { tale = []; its_lines = refl; its_bytes = refl }
     by (Mine first) = at (takes_turns (part_at p g).state)
       where

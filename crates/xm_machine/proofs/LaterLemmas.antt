@@ -16,7 +16,7 @@ use Rattle.machine_model.specs.Told.{Act}
 use Rattle.machine_model.specs.View.{System}
 use Rattle.machine_model.specs.Whole.{event_of, time_after}
 use Rattle.slot_runs.specs.RunLemmas.{run_more}
-use Rattle.system_ticks.specs.Place.{IsAt, past, place_after}
+use Rattle.system_ticks.specs.Place.{IsAt, past_first_tick, place_after}
 use Rattle.system_ticks.specs.Quiet.{ends_in, ends_stretch}
 use Rattle.xm_machine.specs.Stretch.{AreStepped}
 use Rattle.system_ticks.specs.declared.place.Place.{Place}
@@ -120,8 +120,8 @@ not_first m n s runs less = let start = (runs_now m s runs).0 in grind (arith, n
 
 -- what is told of the same slot or gap so many ticks later
 record IsLater (conf : Conf) (clock : CyclicClock) (now ticks : ℕ) (slot : Option Here) : Type 0 where
-  pub told : on past slot ≡ here conf clock (now + ticks)
-  pub covers : IfSome (on past slot) (IsHere (moment clock (now + ticks)) (slots_of conf clock.plan))
+  pub told : on past_first_tick slot ≡ here conf clock (now + ticks)
+  pub covers : IfSome (on past_first_tick slot) (IsHere (moment clock (now + ticks)) (slots_of conf clock.plan))
 
 told_later : (conf : Conf) (clock : CyclicClock) (now ticks : ℕ) (slot : Option Here) → clock.frame_start ≤ now → 0 < ticks → slot ≡ here conf clock now
     → slot_at conf clock (now + ticks) ≡ slot_at conf clock now → IsLater conf clock now ticks slot
@@ -129,7 +129,7 @@ told_later conf clock now ticks slot begun some is same = at (slot_at conf clock
   where
     at : (o : Option (ℕ × Slot)) → slot_at conf clock now ≡ o → IsLater conf clock now ticks slot
     at None none =
-        let told : on past slot ≡ None = ap (on past) (is ∙ here_by conf clock now None none) in
+        let told : on past_first_tick slot ≡ None = ap (on past_first_tick) (is ∙ here_by conf clock now None none) in
         record {
           told = told ∙ sym (here_by conf clock (now + ticks) None (same ∙ none));
           covers = subst (λ (o : Option Here). IfSome o (IsHere (moment clock (now + ticks)) (slots_of conf clock.plan))) (sym told) tt;
@@ -140,10 +140,10 @@ told_later conf clock now ticks slot begun some is same = at (slot_at conf clock
         let number : found.0 - 0 ≡ found.0 = omega arith in
         let first : (found.1.start == moment clock (now + ticks)) ≡ false =
         not_first (moment clock now) (moment clock (now + ticks)) found.1 before.runs (omega (arith, begun, some)) in
-        let its : past (here_in (moment clock now) found) ≡ here_in (moment clock (now + ticks)) found =
+        let its : past_first_tick (here_in (moment clock now) found) ≡ here_in (moment clock (now + ticks)) found =
         ap (λ (b : Bool). record { slot = found.0; part = found.1.part; first = b }) (sym first) in
-        let told : on past slot ≡ Some (here_in (moment clock (now + ticks)) found) =
-        ap (on past) (is ∙ here_by conf clock now (Some found) this) ∙ ap (λ (h : Here). Some h) its in
+        let told : on past_first_tick slot ≡ Some (here_in (moment clock (now + ticks)) found) =
+        ap (on past_first_tick) (is ∙ here_by conf clock now (Some found) this) ∙ ap (λ (h : Here). Some h) its in
         record {
           told = told ∙ sym (here_by conf clock (now + ticks) (Some found) (same ∙ this));
           covers = subst (λ (o : Option Here). IfSome o (IsHere (moment clock (now + ticks)) (slots_of conf clock.plan))) (sym told)
@@ -154,8 +154,8 @@ told_later conf clock now ticks slot begun some is same = at (slot_at conf clock
 later_at : RunsKeepNumbers → (g mid : Machine) (place : Place) (ticks : ℕ) → IsAt place g → 0 < ticks → ticks < place.left → mid ≡ run g ticks → g.halted ≡ false → AllQuiet ticks g
     → IsAt (place_after ticks place) mid
 later_at keeps g mid place ticks at some less is runs quiet = record {
-  slot = carried (λ (s : System) (c : CyclicClock) (now : ℕ). on past place.slot ≡ here s.conf c now) later.told;
-  covers = carried (λ (s : System) (c : CyclicClock) (now : ℕ). IfSome (on past place.slot) (IsHere (moment c now) (slots_of s.conf c.plan))) later.covers;
+  slot = carried (λ (s : System) (c : CyclicClock) (now : ℕ). on past_first_tick place.slot ≡ here s.conf c now) later.told;
+  covers = carried (λ (s : System) (c : CyclicClock) (now : ℕ). IfSome (on past_first_tick place.slot) (IsHere (moment c now) (slots_of s.conf c.plan))) later.covers;
   stretch = record {
     alike = carried (λ (s : System) (c : CyclicClock) (now : ℕ). (k : ℕ) → k < place.left - ticks → slot_at s.conf c (now + k) ≡ slot_at s.conf c now) (λ k below. alike k (omega (arith, below, less)));
     within = carried (λ (s : System) (c : CyclicClock) (now : ℕ). now + (place.left - ticks) ≤ c.frame_start + frame_of s.conf c.plan) (let within = at.stretch.within in omega (arith, within, less));

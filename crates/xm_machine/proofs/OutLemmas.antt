@@ -4,7 +4,7 @@ use Rattle.std.specs.Prelude.{All}
 use Rattle.std.proofs.lemmas.List.{append-nil, get_or-map, length-map}
 use Rattle.std.proofs.Math.Seq.{drop-cons}
 use Rattle.xm_outside.specs.Growth.{grown, grown_grown, prefix_first, prefix_second, GrewByPrefix}
-use Rattle.xm_report.specs.Report.{IsShort, ReportLine, line_of, text_of, texts, texts-append}
+use Rattle.xm_report.specs.Report.{IsShort, ReportLine, line_value, text_of, texts, texts-append}
 use Rattle.xm_report.specs.declared.line.Line.{Line}
 use Rattle.machine_model.specs.Lines.{end_line}
 use Rattle.machine_model.specs.Lists.{all_of}
@@ -53,15 +53,15 @@ out_cut all rest line count had mid got are cut =
     (rest_cut are.front (line ∷ rest) had mid got are.out (first_cut (line ∷ []) rest mid got (one_cut line mid got cut)))
 
 -- the next line of a list
-pub next_line : (lines : List Line) (i : ℕ) (other : Line) → i < length lines → map line_of (drop i lines) ≡ line_of (get_or lines i other) ∷ map line_of (drop (i + 1) lines)
+pub next_line : (lines : List Line) (i : ℕ) (other : Line) → i < length lines → map line_value (drop i lines) ≡ line_value (get_or lines i other) ∷ map line_value (drop (i + 1) lines)
 next_line lines i other below =
     let one : suc i ≡ i + 1 = omega arith in
-    ap (map line_of) (drop-cons lines i other below) ∙ ap (λ (k : ℕ). line_of (get_or lines i other) ∷ map line_of (drop k lines)) one
+    ap (map line_value) (drop-cons lines i other below) ∙ ap (λ (k : ℕ). line_value (get_or lines i other) ∷ map line_value (drop k lines)) one
 
 -- a line of a list is short where all are
-pub short_line : (lines : List Line) (i : ℕ) (other : Line) → All IsShort (map line_of lines) → i < length lines → IsShort (line_of (get_or lines i other))
+pub short_line : (lines : List Line) (i : ℕ) (other : Line) → All IsShort (map line_value lines) → i < length lines → IsShort (line_value (get_or lines i other))
 short_line lines i other short below =
-    subst IsShort (get_or-map line_of lines i other (line_of other) below) (short i (line_of other) (omega (arith, below, length-map lines line_of)))
+    subst IsShort (get_or-map line_value lines i other (line_value other) below) (short i (line_value other) (omega (arith, below, length-map lines line_value)))
 
 -- the lines of partitions' ends, from a number on
 abbrev pub ends_from : ℕ → List PartitionState → List ReportLine

@@ -16,7 +16,7 @@ use Rattle.machine_model.specs.Told.{Act}
 use Rattle.machine_model.specs.Whole.{event_of}
 use Rattle.slot_runs.specs.RunLemmas.{run_add, run_more}
 use Rattle.xm_machine.specs.Alone.{AreAlone, AreAloneUpTo}
-use Rattle.xm_machine.specs.Cues.{AreCued, AreCuedUpTo, KeepsLast}
+use Rattle.xm_machine.specs.Cues.{AreCued, AreCuedUpTo, KeepsLastTick}
 use Rattle.system_ticks.specs.Kept.{kept_after}
 use Rattle.xm_machine.specs.Machine.{Meaning}
 use Rattle.system_ticks.specs.Quiet.{AreQuiet, ends_in, ends_stretch}
@@ -152,7 +152,7 @@ stretch_cut ticks told_lines ends most old mid new had before got goes more next
 }
 
 pub stretch_cut_kept : (ticks told_lines : ℕ) (ends : Bool) (most : ℕ) (old mid new : Meaning) (had before : Option (List ℕ))
-    → GoesStretch ticks told_lines ends most old mid had before → KeepsLast (most - ticks) mid new → KeepsLast most old new
+    → GoesStretch ticks told_lines ends most old mid had before → KeepsLastTick (most - ticks) mid new → KeepsLastTick most old new
 stretch_cut_kept ticks told_lines ends most old mid new had before goes last =
     let state : mid.state ≡ run old.state ticks = goes.are.state in
     record {
@@ -239,7 +239,7 @@ pub stretch_cued : KeepsNumbers → RunsKeepNumbers → (done most : ℕ) (old n
     → new.kept ≡ kept_after old.state done old.kept → AreCued done old new
 stretch_cued ticks runs done most old new had got are kept = cued ticks runs done old new are.state kept
 
-pub stretch_cut_cued : KeepsNumbers → RunsKeepNumbers → (most : ℕ) (old new : Meaning) → KeepsLast (left_of most old.state) old new → AreCuedUpTo most old new
+pub stretch_cut_cued : KeepsNumbers → RunsKeepNumbers → (most : ℕ) (old new : Meaning) → KeepsLastTick (left_of most old.state) old new → AreCuedUpTo most old new
 unfolding left_of
 stretch_cut_cued ticks runs most old new last = record {
   ticks = last.done;

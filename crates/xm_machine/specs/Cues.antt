@@ -33,7 +33,7 @@ RunsCued (Ok ran) asked old new = AreCued asked old new
 RunsCued (Err fault) asked old new = AreCuedUpTo asked old new
 
 -- at least one tick was done, and so many at most, and the last is kept
-pub record KeepsLast (most : ℕ) (old new : Meaning) : Type 0 where
+pub record KeepsLastTick (most : ℕ) (old new : Meaning) : Type 0 where
   pub done : ℕ
   pub some : 0 < done
   pub within : done ≤ most

@@ -7,7 +7,7 @@ use Rattle.xm_report.specs.declared.output.WriteFault.{WriteFault}
 use Rattle.machine_model.specs.Lines.{lines}
 use Rattle.machine_model.specs.Machine.{Machine, run}
 use Rattle.xm_machine.specs.Alone.{AreAlone, AreAloneUpTo}
-use Rattle.xm_machine.specs.Cues.{AreCued, AreCuedUpTo, KeepsLast}
+use Rattle.xm_machine.specs.Cues.{AreCued, AreCuedUpTo, KeepsLastTick}
 use Rattle.system_ticks.specs.Kept.{kept_after}
 use Rattle.xm_machine.specs.Machine.{Meaning}
 use Rattle.system_ticks.specs.Quiet.{AreQuiet, ends_in}
@@ -73,9 +73,9 @@ stepped_by (Err fault) ticks ends = Err fault
 -- the last of them is kept
 abbrev pub KeepsStepped : Result Stepped WriteFault → ℕ → Meaning → Meaning → Type 0
 KeepsStepped (Ok stepped) most old new = new.kept ≡ kept_after old.state stepped.ticks old.kept
-KeepsStepped (Err fault) most old new = KeepsLast most old new
+KeepsStepped (Err fault) most old new = KeepsLastTick most old new
 
 -- they are all that the stretch has, so many at most
-abbrev pub AreWhole : Result Stepped WriteFault → ℕ → Type 0
-AreWhole (Ok stepped) most = stepped.ends ≡ false → stepped.ticks ≡ most
-AreWhole (Err fault) most = Unit {0}
+abbrev pub AreAllOfStretch : Result Stepped WriteFault → ℕ → Type 0
+AreAllOfStretch (Ok stepped) most = stepped.ends ≡ false → stepped.ticks ≡ most
+AreAllOfStretch (Err fault) most = Unit {0}

@@ -16,7 +16,7 @@ ghost use Rattle.alone_passes.specs.Step.{IsOfSystem};
 ghost use Rattle.cue_scripts.specs.Script.{IsCue};
 ghost use Rattle.xm_machine.specs.AloneSpan.{SpansAlone};
 ghost use Rattle.xm_machine.specs.AloneStep.{HasStepCause, IsSaidAlone, StepsAlone};
-ghost use Rattle.xm_machine.specs.Alone.{AreAlone, AreBootedAlone, RunsAlone};
+ghost use Rattle.xm_machine.specs.Alone.{AreAlone, AreBootedAlone, RunsEachAlone};
 ghost use Rattle.system_ticks.specs.CueValues.{cue_value};
 ghost use Rattle.xm_machine.specs.Cues.{AreCued, KeepsTicks, RunsCued, told_to};
 ghost use Rattle.xm_machine.specs.Heard.{IsRunHeard};
@@ -25,9 +25,9 @@ ghost use Rattle.system_ticks.specs.Machine.{IsCounted};
 ghost use Rattle.xm_machine.specs.Outcome.{HasWriteCause, IsRun, IsTick, first_line, last_line};
 ghost use Rattle.system_ticks.specs.Place.{IsAt};
 ghost use Rattle.xm_machine.specs.Steps.{RunsTicks, Tells};
-ghost use Rattle.xm_machine.specs.Stretch.{AreWhole, KeepsStepped, Steps, Stretches, StretchesAlone, StretchesCued, left_of};
+ghost use Rattle.xm_machine.specs.Stretch.{AreAllOfStretch, KeepsStepped, Steps, Stretches, StretchesAlone, StretchesCued, left_of};
 ghost use Rattle.xm_ports.specs.Channels.{shapes_of};
-ghost use Rattle.xm_report.specs.Report.{line_of};
+ghost use Rattle.xm_report.specs.Report.{line_value};
 
 use crate::alone_fault::AloneFault;
 use crate::alone_span::AloneSpan;
@@ -191,7 +191,7 @@ impl Machine {
         requires running { self.old.state.halted ≡ false }
         requires most { ticks ≤ TICKS }
         ensures run { IsRun result ticks self.old.state self.new.state (O.got out.old) (O.got out.new) }
-        ensures alone { RunsAlone result ticks self.old.state self.new.state }
+        ensures alone { RunsEachAlone result ticks self.old.state self.new.state }
         ensures booted { AreBootedAlone self.old.state ticks }
         ensures cues { RunsCued result ticks self.old self.new }
         ensures heard { IsRunHeard self.old.state self.new.state (⟦<Board as ViewBoard>⟧.board_view board.old) (⟦<Board as ViewBoard>⟧.board_view board.new) }
@@ -388,7 +388,7 @@ impl Machine {
         requires some { 0 < most }
         requires most { self.old.state.ticks + most ≤ TICKS }
         ensures steps { Steps result (left_of most self.old.state) self.old.state self.new.state (O.got out.old) (O.got out.new) }
-        ensures whole { AreWhole result (left_of most self.old.state) }
+        ensures whole { AreAllOfStretch result (left_of most self.old.state) }
         ensures kept { KeepsStepped result (left_of most self.old.state) self.old self.new }
         ensures few { IfOk result (λ stepped. stepped.lines ≤ 25 * stepped.ticks) }
         ensures cause { HasWriteCause result (O.faults out.old) (O.faults out.new) }
@@ -451,7 +451,7 @@ impl Machine {
 
     // The last line of the report.
     fn last_line(&self) -> Line<'static>
-        ensures { line_of result ≡ last_line self.now.state }
+        ensures { line_value result ≡ last_line self.now.state }
     {
         Line::EndWhole {
             halted: self.halted(),
@@ -465,7 +465,7 @@ impl Machine {
 // The first line of the report.
 #[tactic(auto, unfolding(xm_conf::specs::Description::described))]
 fn first_line(sys: &Sys, ticks: u64) -> Line<'static>
-    ensures { line_of result ≡ first_line sys.now.machine ticks }
+    ensures { line_value result ≡ first_line sys.now.machine ticks }
 {
     let conf = sys.conf().raw();
     Line::System {

@@ -15,7 +15,7 @@ ghost use Rattle.xm_machine.specs.Heard.{console_to, lines_to};
 ghost use Rattle.xm_machine.specs.Outcome.{HasWriteCause};
 ghost use Rattle.xm_machine.specs.Steps.{Tells};
 ghost use Rattle.system_ticks.specs.Work.{console_told};
-ghost use Rattle.xm_report.specs.Report.{IsShort, line_of};
+ghost use Rattle.xm_report.specs.Report.{IsShort, line_value};
 
 use crate::alone_fault::{AloneFault, told_alone};
 use hypercalls::{Note, Sys};
@@ -148,8 +148,8 @@ fn console_of(sys: &Sys, p: PartId) -> Option<u8>
 
 // Puts out lines, and tells how many.
 fn put_all<O: Sink>(out: &mut O, lines: &[Line<'_>]) -> Result<u64, WriteFault>
-    requires short { All IsShort (map line_of lines.now) }
-    ensures told { Tells result (map line_of lines.now) (O.got out.old) (O.got out.new) }
+    requires short { All IsShort (map line_value lines.now) }
+    ensures told { Tells result (map line_value lines.now) (O.got out.old) (O.got out.new) }
     ensures count { IfOk result (λ count. count ≡ length lines.now) }
     ensures cause { HasWriteCause result (O.faults out.old) (O.faults out.new) }
 {
@@ -178,7 +178,7 @@ pub(crate) fn end_parts<O: Sink>(sys: &Sys, out: &mut O) -> Result<u64, WriteFau
 // The line that tells how a partition stands at the end.
 fn end_line(sys: &Sys, p: PartId) -> Line<'static>
     requires { p < length sys.now.machine.parts }
-    ensures { line_of result ≡ end_line p (part_at p sys.now.machine) }
+    ensures { line_value result ≡ end_line p (part_at p sys.now.machine) }
 {
     let part = sys.part(p);
     Line::EndPart {

@@ -4,7 +4,7 @@ ghost use Rattle.std.specs.Prelude.{◌≡◌};
 ghost use Rattle.machine_model.specs.Health.{done_to_all};
 ghost use Rattle.system_ticks.specs.Quiet.{ends_stretch};
 ghost use Rattle.xm_machine.specs.Stretch.{stepped_by};
-ghost use Rattle.system_ticks.specs.Work.{act_of};
+ghost use Rattle.system_ticks.specs.Work.{act_beyond};
 
 use health_monitor::Whole;
 use system_ticks::Beyond;
@@ -37,7 +37,7 @@ pub(crate) fn stepped_by(
 
 /// Whether an act that reaches beyond its partition so ends a stretch.
 pub(crate) fn ends_stretch(reach: Beyond) -> bool
-    ensures { result ≡ ends_stretch (act_of reach) }
+    ensures { result ≡ ends_stretch (act_beyond reach) }
 {
     match reach {
         Beyond::Nothing => false,

@@ -10,9 +10,9 @@ grown None bytes = None
 grown (Some got) bytes = Some (got ++ bytes)
 
 -- one write: so many bytes of the piece are taken, and none after a fault
-abbrev pub Takes : {E : Type 0} → Result ℕ E → Option (List ℕ) → List ℕ → Option (List ℕ) → Type 0
-Takes (Ok count) old piece new = new ≡ grown old (take count piece)
-Takes (Err _) old piece new = new ≡ old
+abbrev pub TakesPiece : {E : Type 0} → Result ℕ E → Option (List ℕ) → List ℕ → Option (List ℕ) → Type 0
+TakesPiece (Ok count) old piece new = new ≡ grown old (take count piece)
+TakesPiece (Err _) old piece new = new ≡ old
 
 -- grown by a front of the bytes, short of the whole
 pub record GrewByPrefix (old : Option (List ℕ)) (bytes : List ℕ) (new : Option (List ℕ)) : Type 0 where

@@ -3,7 +3,7 @@
 ghost use Rattle.std.specs.Prelude.{◌≡◌, ℕ, ◌<◌, ◌≤◌, ◌⊎◌, ◌↔◌, [], Option, Some, IfOk, OnOk, OnErr, IsErr, IsTrue, length, min};
 ghost use Rattle.std.specs.List.{Contains};
 ghost use Rattle.xm_outside.specs.Causes.{HasCause, Rose, counted};
-ghost use Rattle.xm_outside.specs.Growth.{Takes};
+ghost use Rattle.xm_outside.specs.Growth.{TakesPiece};
 ghost use Rattle.xm_outside.specs.MemSink.{IsRefused};
 
 use crate::sink::Sink;
@@ -90,7 +90,7 @@ impl Sink for MemSink {
     fn write(&mut self, piece: &[u8]) -> Result<usize, Failed>
         ensures bound { IfOk result (λ count. count ≤ length piece.now) }
         ensures progress { IfOk result (λ count. 0 < length piece.now → 0 < count) }
-        ensures got { Takes result (Some self.old.got) piece.now (Some self.new.got) }
+        ensures got { TakesPiece result (Some self.old.got) piece.now (Some self.new.got) }
         ensures cause { HasCause result self.old.faults self.new.faults }
         ensures taken { IfOk result (λ count. count ≡ min self.old.step (length piece.now)) }
         ensures listed { Contains self.old.fails self.old.calls → IsErr result }

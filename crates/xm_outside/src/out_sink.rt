@@ -2,7 +2,7 @@
 
 ghost use Rattle.std.specs.Prelude.{◌≡◌, ℕ, ◌<◌, ◌≤◌, None, IfOk, length};
 ghost use Rattle.xm_outside.specs.Causes.{HasCause};
-ghost use Rattle.xm_outside.specs.Growth.{Takes};
+ghost use Rattle.xm_outside.specs.Growth.{TakesPiece};
 
 use crate::sink::Sink;
 use crate::store::Failed;

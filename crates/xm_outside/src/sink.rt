@@ -2,7 +2,7 @@
 
 ghost use Rattle.std.specs.Prelude.{◌≡◌, ℕ, ◌<◌, ◌≤◌, List, Option, IfOk, length};
 ghost use Rattle.xm_outside.specs.Causes.{HasCause};
-ghost use Rattle.xm_outside.specs.Growth.{Takes, Writes};
+ghost use Rattle.xm_outside.specs.Growth.{TakesPiece, Writes};
 
 use crate::store::Failed;
 
@@ -19,7 +19,7 @@ pub trait Sink {
     fn write(&mut self, piece: &[u8]) -> Result<usize, Failed>
         ensures bound { IfOk result (λ count. count ≤ length piece.now) }
         ensures progress { IfOk result (λ count. 0 < length piece.now → 0 < count) }
-        ensures got { Takes result (got self.old) piece.now (got self.new) }
+        ensures got { TakesPiece result (got self.old) piece.now (got self.new) }
         ensures cause { HasCause result (faults self.old) (faults self.new) };
 }
 

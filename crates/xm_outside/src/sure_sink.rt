@@ -2,7 +2,7 @@
 
 ghost use Rattle.std.specs.Prelude.{◌≡◌, ℕ, ◌<◌, ◌≤◌, None, IfOk, length};
 ghost use Rattle.xm_outside.specs.Causes.{HasCause};
-ghost use Rattle.xm_outside.specs.Growth.{Takes};
+ghost use Rattle.xm_outside.specs.Growth.{TakesPiece};
 
 use crate::sink::Sink;
 use crate::store::Failed;
@@ -28,7 +28,7 @@ impl Sink for SureSink {
     fn write(&mut self, piece: &[u8]) -> Result<usize, Failed>
         ensures bound { IfOk result (λ count. count ≤ length piece.now) }
         ensures progress { IfOk result (λ count. 0 < length piece.now → 0 < count) }
-        ensures got { Takes result None piece.now None }
+        ensures got { TakesPiece result None piece.now None }
         ensures cause { HasCause result 0 0 }
         ensures all { result ≡ Ok (length piece.now) }
     {

@@ -1,8 +1,8 @@
 -- The channels as they are kept and the table that they come to.
 use Rattle.std.proofs.Common.{◌≡◌, ℕ, zero, suc, ◌+◌, List, [], ◌∷◌, ◌++◌, length, map, take, drop, get_or, set, Option, None, Some, refl, sym, ap, ◌∙◌, add-one}
 use Rattle.std.specs.Prelude.{◌↔◌, slice_get, option_map, IsSomeAnd, IsNone, IfNone, OnSome, Result, Ok, Err, OnOk, OnErr, IsErr}
-use Rattle.xm_ports.specs.Channels.{Shape, Content, ChannelTable, Sampling, Queuing, changed, with_content, cleared, put, taken, messages_of, first_message, most_of, HasQueue, FitsChannel, IsFull, IsTable}
-use Rattle.xm_ports.specs.TableLemmas.{kept_send}
+use Rattle.xm_ports.specs.Channels.{Shape, Content, ChannelTable, Sampling, Queuing, changed, with_content, cleared, put, first_taken, messages_of, first_message, most_of, HasQueue, FitsChannel, IsFull, IsTable}
+use Rattle.xm_ports.proofs.TableLemmas.{kept_send}
 use Rattle.xm_ports.specs.Stored.{channel_shape, channel_content, table_of}
 use Rattle.xm_ports.specs.declared.channel.Channel.{Channel}
 use Rattle.xm_ports.specs.declared.queuing.Full.{Full}
@@ -33,8 +33,8 @@ changed-same {X} f (y ∷ xs) zero x here same = let e : f y ≡ y = cc in ap (�
 changed-same {X} f (y ∷ xs) (suc n) x here same = ap (λ (ys : List X). y ∷ ys) (changed-same f xs n x here same)
 
 -- nothing is taken where no message waits
-taken-none : (content : Content) → option_map length (first_message content) ≡ None → taken content ≡ content
-unfolding taken
+taken-none : (content : Content) → option_map length (first_message content) ≡ None → first_taken content ≡ content
+unfolding first_taken
 taken-none (Sampling sample) e = refl
 taken-none (Queuing []) e = refl
 taken-none (Queuing (first ∷ later)) e = absurd cc
@@ -114,14 +114,14 @@ both_none P Q (Some x) p q = tt
 
 -- the table after a receive: a message less, or the same where none waited
 pub table-received : (xs : List Channel) (n : ℕ) (old new : Channel) (r : Option ℕ) → slice_get xs n ≡ Some old
-    → channel_shape new ≡ channel_shape old → channel_content new ≡ taken (channel_content old) → r ≡ option_map length (first_message (channel_content old))
-    → OnSome r (table_of (set xs n new) ≡ with_content taken n (table_of xs)) × IfNone r (table_of (set xs n new) ≡ table_of xs)
-table-received xs n old new (Some count) here same less counted = (table-set taken xs n old new here same less, tt)
+    → channel_shape new ≡ channel_shape old → channel_content new ≡ first_taken (channel_content old) → r ≡ option_map length (first_message (channel_content old))
+    → OnSome r (table_of (set xs n new) ≡ with_content first_taken n (table_of xs)) × IfNone r (table_of (set xs n new) ≡ table_of xs)
+table-received xs n old new (Some count) here same less counted = (table-set first_taken xs n old new here same less, tt)
 table-received xs n old new None here same less counted =
     let stays = taken-none (channel_content old) (sym counted) in
-    let e : changed taken n (map channel_content xs) ≡ map channel_content xs =
-    changed-same taken (map channel_content xs) n (channel_content old) (content_there xs n old here) stays in
-    (tt, table-set taken xs n old new here same less ∙ (λ i. record { shapes = map channel_shape xs; contents = e i }))
+    let e : changed first_taken n (map channel_content xs) ≡ map channel_content xs =
+    changed-same first_taken (map channel_content xs) n (channel_content old) (content_there xs n old here) stays in
+    (tt, table-set first_taken xs n old new here same less ∙ (λ i. record { shapes = map channel_shape xs; contents = e i }))
 
 -- the contents where one channel more is cleared
 pub cleared-front : (xs : List Channel) (start : List Content) (n : ℕ) (old new : Channel) → slice_get xs n ≡ Some old

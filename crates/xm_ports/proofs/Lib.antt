@@ -1,2 +1,4 @@
+pub mod ChangedLemmas
 pub mod ChannelLemmas
 pub mod PortLemmas
+pub mod TableLemmas

@@ -8,10 +8,10 @@ use Rattle.std.proofs.lemmas.Slice.Eq.{bytes_eq-Decides}
 use Rattle.xm_conf.specs.declared.port.Port.{Port}
 use Rattle.xm_conf.specs.declared.port.Kind.{Kind}
 use Rattle.xm_conf.specs.declared.port.Kind.TheVariants as kind
-use Rattle.xm_ports.specs.Ports.{is_kind, is_called, port_with, IsCalled}
+use Rattle.xm_ports.specs.Ports.{are_same_kind, is_called, port_with, IsCalled}
 
 -- two kinds are one
-decides-kind : (a b : Kind) → Decides (is_kind a b) (a ≡ b)
+decides-kind : (a b : Kind) → Decides (are_same_kind a b) (a ≡ b)
 decides-kind kind.Sampling kind.Sampling = (λ e. refl, λ e. refl)
 decides-kind kind.Sampling kind.Queuing = (λ e. absurd cc, λ e. absurd cc)
 decides-kind kind.Queuing kind.Sampling = (λ e. absurd cc, λ e. absurd cc)
@@ -21,7 +21,7 @@ decides-kind kind.Queuing kind.Queuing = (λ e. refl, λ e. refl)
 decides-called : (name : List ℕ) (of : Kind) (port : Port) → Decides (is_called name of port) (IsCalled name of port)
 unfolding is_called
 decides-called name of port =
-    Decides-like (bytes_eq port.name name && is_kind port.kind of) (λ t. record { name_is = t.0; kind_is = t.1 }) (λ h. (h.name_is, h.kind_is))
+    Decides-like (bytes_eq port.name name && are_same_kind port.kind of) (λ t. record { name_is = t.0; kind_is = t.1 }) (λ h. (h.name_is, h.kind_is))
     (Decides-and _ _ (bytes_eq-Decides port.name name) (decides-kind port.kind of))
 
 -- the first place that passes a test has an element with the fact

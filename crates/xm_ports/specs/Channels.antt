@@ -47,9 +47,9 @@ put time bytes (Sampling sample) = Sampling (Some record { time = time; bytes = 
 put time bytes (Queuing messages) = Queuing (messages ++ bytes ∷ [])
 
 -- the first message is taken from a queue, where one waits; a sampling channel keeps its message
-unfoldable pub taken : Content → Content
-taken (Sampling sample) = Sampling sample
-taken (Queuing messages) = Queuing (drop 1 messages)
+unfoldable pub first_taken : Content → Content
+first_taken (Sampling sample) = Sampling sample
+first_taken (Queuing messages) = Queuing (drop 1 messages)
 
 -- all messages are dropped
 unfoldable pub cleared : Content → Content

@@ -1,7 +1,5 @@
-pub mod ChangedLemmas
 pub mod Channels
 pub mod Kept
 pub mod Ports
 pub mod Stored
-pub mod TableLemmas
 pub mod Tried

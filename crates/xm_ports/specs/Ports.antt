@@ -35,15 +35,15 @@ ports_of None = []
 ports_of (Some part) = part.ports
 
 -- whether two kinds are one
-abbrev pub is_kind : Kind → Kind → Bool
-is_kind kind.Sampling kind.Sampling = true
-is_kind kind.Sampling kind.Queuing = false
-is_kind kind.Queuing kind.Sampling = false
-is_kind kind.Queuing kind.Queuing = true
+abbrev pub are_same_kind : Kind → Kind → Bool
+are_same_kind kind.Sampling kind.Sampling = true
+are_same_kind kind.Sampling kind.Queuing = false
+are_same_kind kind.Queuing kind.Sampling = false
+are_same_kind kind.Queuing kind.Queuing = true
 
 -- whether a port has a name and a kind
 unfoldable pub is_called : List ℕ → Kind → Port → Bool
-is_called name kind port = bytes_eq port.name name && is_kind port.kind kind
+is_called name kind port = bytes_eq port.name name && are_same_kind port.kind kind
 
 -- the number of the first port with that name and kind
 unfoldable pub port_with : List ℕ → Kind → List Port → Option ℕ

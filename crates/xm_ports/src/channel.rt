@@ -1,7 +1,7 @@
 //! A channel of either kind.
 
 ghost use Rattle.std.specs.Prelude.{◌≡◌, ◌↔◌, ℕ, ◌≤◌, ◌++◌, IfOk, IfSome, IsErr, IfNone, OnErr, OnOk, drop, length, option_map};
-ghost use Rattle.xm_ports.specs.Channels.{IsQueuing, IsSampling, cleared, empty, first_message, messages_of, most_of, put, sample_of, shape_of, taken};
+ghost use Rattle.xm_ports.specs.Channels.{IsQueuing, IsSampling, cleared, empty, first_message, messages_of, most_of, put, sample_of, shape_of, first_taken};
 ghost use Rattle.xm_ports.specs.Stored.{channel_content, channel_shape};
 
 use crate::queuing::{Full, QueuingChannel};
@@ -86,13 +86,13 @@ impl Channel {
     }
 
     /// Takes the message that waits longest in a queue, and tells how many bytes it has.
-    #[tactic(auto, unfolding(crate::specs::Channels::taken))]
+    #[tactic(auto, unfolding(crate::specs::Channels::first_taken))]
     pub(crate) fn receive(&mut self, into: &mut [u8]) -> Option<usize>
         requires { IfSome (first_message (channel_content self.old)) (λ first. length first ≤ length into.old) }
         ensures length { result ≡ option_map length (first_message (channel_content self.old)) }
         ensures bytes { IfSome (first_message (channel_content self.old)) (λ first. into.new ≡ first ++ drop (length first) into.old) }
         ensures shape { channel_shape self.new ≡ channel_shape self.old }
-        ensures taken { channel_content self.new ≡ taken (channel_content self.old) }
+        ensures taken { channel_content self.new ≡ first_taken (channel_content self.old) }
         ensures unchanged { IfNone result (into.new ≡ into.old) }
     {
         match self {

@@ -3,7 +3,7 @@
 ghost use Rattle.std.specs.Prelude.{◌≡◌, ◌↔◌, ℕ, ◌≤◌, All, ◌++◌, IfOk, IfSome, IfNone, IsErr, IsNone, OnErr, OnOk, OnSome, None, drop, length, map, option_map};
 ghost use Rattle.xm_conf.specs.Fits.{IsChan};
 ghost use Rattle.xm_ports.specs.Stored.{table_of};
-ghost use Rattle.xm_ports.specs.Channels.{FitsChannel, HasQueue, HasSampling, IsFull, IsTable, all_cleared, content_at, empty, first_message, messages_of, put, sample_of, shape_of, shapes_of, taken, with_content};
+ghost use Rattle.xm_ports.specs.Channels.{FitsChannel, HasQueue, HasSampling, IsFull, IsTable, all_cleared, content_at, empty, first_message, messages_of, put, sample_of, shape_of, shapes_of, first_taken, with_content};
 
 use crate::channel::Channel;
 use crate::queuing::Full;
@@ -89,7 +89,7 @@ impl Channels {
         ensures unchanged { IfNone result ((self.new ≡ self.old) × (into.new ≡ into.old)) }
         ensures length { result ≡ option_map length (first_message (content_at chan self.old)) }
         ensures bytes { IfSome (first_message (content_at chan self.old)) (λ first. into.new ≡ first ++ drop (length first) into.old) }
-        ensures taken { OnSome result (self.new ≡ with_content taken chan self.old) }
+        ensures taken { OnSome result (self.new ≡ with_content first_taken chan self.old) }
     {
         self.channels[usize::from(chan)].receive(into)
     }

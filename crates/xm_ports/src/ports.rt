@@ -3,7 +3,7 @@
 ghost use Rattle.std.specs.Prelude.{◌≡◌, ◌<◌, ◌≤◌, IfOk, IfSome, IsSome, IsSomeAnd, OnErr, OnOk, length as length_of, option_map, slice_get};
 ghost use Rattle.xm_conf.specs.Rules.{port_of};
 ghost use Rattle.xm_conf.specs.View.{channel_of};
-ghost use Rattle.xm_ports.specs.Ports.{IsCalled, IsPort, agrees, agrees_end, agrees_most, created, granted, is_called, is_kind, is_made, is_way_of, no_ports, port_with, ports_of, shape_of_port, unless_made, way_number, with_port};
+ghost use Rattle.xm_ports.specs.Ports.{IsCalled, IsPort, agrees, agrees_end, agrees_most, created, granted, is_called, are_same_kind, is_made, is_way_of, no_ports, port_with, ports_of, shape_of_port, unless_made, way_number, with_port};
 ghost use Rattle.xm_ports.specs.Channels.{shape_of};
 
 use std::marker::Model;
@@ -187,7 +187,7 @@ fn is_called(port: &Port, name: &[u8], kind: Kind) -> bool
 
 /// Whether two kinds are one.
 fn is_kind(a: Kind, b: Kind) -> bool
-    ensures { result ≡ is_kind a b }
+    ensures { result ≡ are_same_kind a b }
 {
     match a {
         Kind::Sampling => matches!(b, Kind::Sampling),

@@ -28,16 +28,16 @@ pub data ReportLine : Type 0 where
   EndWhole : (halted : Bool) (plan clock ticks : ℕ) → ReportLine
 
 -- what the program's line says
-abbrev pub line_of : Line → ReportLine
-line_of (code.System parts plans ticks) = SystemLine parts plans ticks
-line_of (code.Console n p bytes) = ConsoleLine n p bytes.now
-line_of (code.Health n p event word action) = HealthLine n p event word action
-line_of (code.Trace n p bits load) = TraceLine n p bits load
-line_of (code.Moved n p to) = MovedLine n p to
-line_of (code.Whole n to) = WholeLine n to
-line_of (code.PlanIs n plan) = PlanLine n plan
-line_of (code.EndPart p state resets exec pc) = EndPart p state resets exec pc
-line_of (code.EndWhole halted plan clock ticks) = EndWhole halted plan clock ticks
+abbrev pub line_value : Line → ReportLine
+line_value (code.System parts plans ticks) = SystemLine parts plans ticks
+line_value (code.Console n p bytes) = ConsoleLine n p bytes.now
+line_value (code.Health n p event word action) = HealthLine n p event word action
+line_value (code.Trace n p bits load) = TraceLine n p bits load
+line_value (code.Moved n p to) = MovedLine n p to
+line_value (code.Whole n to) = WholeLine n to
+line_value (code.PlanIs n plan) = PlanLine n plan
+line_value (code.EndPart p state resets exec pc) = EndPart p state resets exec pc
+line_value (code.EndWhole halted plan clock ticks) = EndWhole halted plan clock ticks
 
 -- the bytes of a console line are those of one call
 abbrev pub IsShort : ReportLine → Type 0

@@ -2,7 +2,7 @@
 
 ghost use Rattle.xm_outside.specs.Causes.{HasCause};
 ghost use Rattle.xm_outside.specs.Growth.{Writes};
-ghost use Rattle.xm_report.specs.Report.{IsShort, line_of, text_of};
+ghost use Rattle.xm_report.specs.Report.{IsShort, line_value, text_of};
 
 use crate::line::Line;
 use crate::pen::Pen;
@@ -15,8 +15,8 @@ pub struct WriteFault;
 
 /// Writes a line whole. After a fault the sink has got a front of it.
 pub fn put_line<O: Sink>(out: &mut O, line: &Line<'_>) -> Result<(), WriteFault>
-    requires { IsShort (line_of line.now) }
-    ensures got { Writes result (O.got out.old) (text_of (line_of line.now)) (O.got out.new) }
+    requires { IsShort (line_value line.now) }
+    ensures got { Writes result (O.got out.old) (text_of (line_value line.now)) (O.got out.new) }
     ensures cause { HasCause result (O.faults out.old) (O.faults out.new) }
 {
     let mut pen = Pen::new();

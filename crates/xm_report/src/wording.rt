@@ -1,7 +1,7 @@
 //! What each kind of line looks like.
 
 ghost use Rattle.std.specs.Prelude.{◌≡◌, ◌≤◌, [], length};
-ghost use Rattle.xm_report.specs.Report.{IsShort, console_text, end_part_text, end_whole_text, health_text, line_of, moved_text, plan_text, running_text, system_text, text_of, trace_text, whole_text};
+ghost use Rattle.xm_report.specs.Report.{IsShort, console_text, end_part_text, end_whole_text, health_text, line_value, moved_text, plan_text, running_text, system_text, text_of, trace_text, whole_text};
 
 use crate::line::{Line, Move};
 use crate::pen::Pen;
@@ -153,8 +153,8 @@ fn end_whole_line(pen: &mut Pen, halted: bool, plan: u8, clock: u64, ticks: u64)
 /// Writes the text of a line.
 pub(crate) fn write_text(pen: &mut Pen, line: &Line<'_>)
     requires start { pen.old ≡ [] }
-    requires short { IsShort (line_of line.now) }
-    ensures { pen.new ≡ text_of (line_of line.now) }
+    requires short { IsShort (line_value line.now) }
+    ensures { pen.new ≡ text_of (line_value line.now) }
 {
     match *line {
         Line::System {

@@ -10,7 +10,7 @@ use Rattle.xm_words.specs.declared.commands.Span.{Span}
 use Rattle.xm_words.specs.declared.commands.Span.TheVariants.{Frames, Ticks}
 use Rattle.xm_words.specs.declared.run_options.FileKind.{FileKind}
 use Rattle.xm_words.specs.declared.run_options.FileKind.TheVariants.{Core, Input, Script}
-use Rattle.xm_words.specs.Grammar.{AreApart, AreRunOptions, IsRunOption, count_of, file_option_of, option_of, option_words, part_word}
+use Rattle.xm_words.specs.Grammar.{HaveOneFileEach, AreRunOptions, IsRunOption, count_of, file_option_of, option_of, option_words, part_word}
 use Rattle.xm_words.specs.Texts.{texts_of}
 use Rattle.xm_words.specs.Words.{PartFile, RunOption, Length, ForPart, are_apart, are_kinds_apart, are_options, are_run_options, before_others, cores_in, files_in, inputs_in, scripts_in, kind_of, option_by, option_for, part_file_of, run_option_of, run_options, span_of, spanned, spans_in, ticks_of}
 use Rattle.xm_words.proofs.PartFileLemmas.{apart_pairs, named_word, pairs_apart, word_named}
@@ -111,19 +111,19 @@ few_options (option ∷ []) few = refl
 few_options (option ∷ word ∷ words) few = absurd (omega arith)
 
 -- options whose files are apart, kind by kind
-kinds_apart : (options : List RunOption) → are_kinds_apart options ≡ true → (kind : FileKind) → AreApart (files_in kind options)
+kinds_apart : (options : List RunOption) → are_kinds_apart options ≡ true → (kind : FileKind) → HaveOneFileEach (files_in kind options)
 kinds_apart options apart kind =
     let all = and_parts (are_apart (inputs_in options) && are_apart (cores_in options)) (are_apart (scripts_in options)) apart in
     let two = and_parts (are_apart (inputs_in options)) (are_apart (cores_in options)) all.0 in
     of two.0 two.1 all.1 kind
   where
-    of : are_apart (inputs_in options) ≡ true → are_apart (cores_in options) ≡ true → are_apart (scripts_in options) ≡ true → (kind : FileKind) → AreApart (files_in kind options)
+    of : are_apart (inputs_in options) ≡ true → are_apart (cores_in options) ≡ true → are_apart (scripts_in options) ≡ true → (kind : FileKind) → HaveOneFileEach (files_in kind options)
     of inputs cores scripts Input = apart_pairs (inputs_in options) inputs
     of inputs cores scripts Core = apart_pairs (cores_in options) cores
     of inputs cores scripts Script = apart_pairs (scripts_in options) scripts
 
 -- and the test of such options
-apart_kinds : (options : List RunOption) → ((kind : FileKind) → AreApart (files_in kind options)) → are_kinds_apart options ≡ true
+apart_kinds : (options : List RunOption) → ((kind : FileKind) → HaveOneFileEach (files_in kind options)) → are_kinds_apart options ≡ true
 apart_kinds options apart =
     and_from (are_apart (inputs_in options) && are_apart (cores_in options)) (are_apart (scripts_in options))
     (and_from (are_apart (inputs_in options)) (are_apart (cores_in options)) (pairs_apart (inputs_in options) (apart Input)) (pairs_apart (cores_in options) (apart Core)))

@@ -11,8 +11,8 @@ use Rattle.std.proofs.lemmas.List.Kept.{AllPairs-cons}
 use Rattle.std.proofs.lemmas.List.Sums.{passes_at_first, position_or_len_is, split_at_first}
 use Rattle.std.proofs.lemmas.Str.Parse.{not_in_digits}
 use Rattle.std.proofs.Math.Seq.{drop-append-add, take-append_seam, get_or-append_seam}
-use Rattle.xm_words.specs.Grammar.{AreApart, ArePartFiles, IsPartFile, part_word}
-use Rattle.xm_words.specs.Words.{PartFile, are_apart, are_named, are_part_files, before_others, has_part, is_equals, is_file, part_file_by, part_file_of, part_files, part_of}
+use Rattle.xm_words.specs.Grammar.{HaveOneFileEach, ArePartFiles, IsPartFile, part_word}
+use Rattle.xm_words.specs.Words.{PartFile, are_apart, are_named, are_part_files, before_others, has_part, is_equals, is_file, part_file_by, part_file_of, part_files, part_number}
 use Rattle.xm_words.proofs.NumberLemmas.{numerals}
 use Rattle.xm_words.proofs.WordLemmas.{file_is, is_of_file, number_text, text_number}
 
@@ -32,9 +32,9 @@ split_word word some =
 -- what a word names is typed so
 pub word_named : (word : List ℕ) (named : PartFile) → part_file_of word ≡ Some named → IsPartFile named × (word ≡ part_word named)
 unfolding part_file_of
-word_named word named e = at (part_of (before_first is_equals word)) (is_file (after_first is_equals word)) refl refl e
+word_named word named e = at (part_number (before_first is_equals word)) (is_file (after_first is_equals word)) refl refl e
   where
-    at : (part : Option ℕ) (t : Bool) → part_of (before_first is_equals word) ≡ part → is_file (after_first is_equals word) ≡ t
+    at : (part : Option ℕ) (t : Bool) → part_number (before_first is_equals word) ≡ part → is_file (after_first is_equals word) ≡ t
         → part_file_by part t (after_first is_equals word) ≡ Some named → IsPartFile named × (word ≡ part_word named)
     at None t none is e = absurd (let no : ⊥ = cc in no)
     at (Some part) true count is e =
@@ -129,14 +129,14 @@ pairs_tail R x xs pairs = λ i j d before within.
     (subst (R (get_or (x ∷ xs) (i + 1) d)) (behind_first x xs j d) (pairs (i + 1) (j + 1) d (omega arith) (omega arith)))
 
 -- files whose partitions are apart
-pub apart_pairs : (files : List PartFile) → are_apart files ≡ true → AreApart files
+pub apart_pairs : (files : List PartFile) → are_apart files ≡ true → HaveOneFileEach files
 apart_pairs [] apart = λ i j d before within. absurd (omega arith)
 apart_pairs (file ∷ files) apart =
     let tests = and_parts (not (has_part file.part files)) (are_apart files) apart in
     AllPairs-cons (λ (one other : PartFile). one.part ≢ other.part) file files (no_part file.part files (not-true _ tests.0)) (apart_pairs files tests.1)
 
 -- and the test of such files
-pub pairs_apart : (files : List PartFile) → AreApart files → are_apart files ≡ true
+pub pairs_apart : (files : List PartFile) → HaveOneFileEach files → are_apart files ≡ true
 pairs_apart [] pairs = refl
 pairs_apart (file ∷ files) pairs =
     and_from (not (has_part file.part files)) (are_apart files)
@@ -169,7 +169,7 @@ files_typed_right files right =
 -- a word without `=` names no file
 pub no_equals : (word : List ℕ) → position_or_len is_equals word ≡ length word → None ≡ part_file_of word
 unfolding part_file_of is_file
-no_equals word none = at (part_of (before_first is_equals word))
+no_equals word none = at (part_number (before_first is_equals word))
   where
     nothing : after_first is_equals word ≡ []
     nothing = (let long = length-drop (position_or_len is_equals word + 1) word in nil_from_length (after_first is_equals word) (omega arith))

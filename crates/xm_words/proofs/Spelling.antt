@@ -2,8 +2,8 @@
 use Rattle.std.proofs.Common.{◌≡◌, ℕ, Bool, true, false, ◌&&◌, if◌then◌else◌, subst, List, [], ◌∷◌, codes, decimal, Option, Some, None, arith, refl, ap, ◌∙◌, ◌⊎◌, ⊎_elim, inl, inr}
 use Rattle.std.specs.Str.{bytes_eq}
 use Rattle.std.proofs.lemmas.Bool.{and_parts}
-use Rattle.xm_words.specs.Grammar.{AreFurther, CommandsAreSpelled, IsFile, IsRight, further_words, words_of}
-use Rattle.xm_words.specs.Words.{Command, PartFile, ReplayFiles, RunOption, Bare, Parse, BuildImage, ReadImage, Pack, ListContainer, CheckContainer, MakePlan, CheckPlan, TellGroups, Generate, Run, Replay, Neither, InputAlone, CoreAlone, InputThenCore, CoreThenInput, are_part_files, are_run_options, asked, bare_of, command_by_count, command_of, command_of_more, command_of_one, command_of_three, command_of_two, format_command, generate_for, is_file, of_file, of_files, pack_command, part_files, part_of, plan_command, replay_by, replay_files, replay_of, run_of, run_options, seed_of, ticks_of}
+use Rattle.xm_words.specs.Grammar.{AreFurther, CommandsAreSpelled, IsFileName, IsRight, further_words, words_of}
+use Rattle.xm_words.specs.Words.{Command, PartFile, ReplayFiles, RunOption, Bare, Parse, BuildImage, ReadImage, Pack, ListContainer, CheckContainer, MakePlan, CheckPlan, TellGroups, Generate, Run, Replay, Neither, InputAlone, CoreAlone, InputThenCore, CoreThenInput, are_part_files, are_run_options, asked, bare_of, command_by_count, command_of, command_of_more, command_of_one, command_of_three, command_of_two, format_command, generate_for, is_file, of_file, of_files, pack_command, part_files, part_number, plan_command, replay_by, replay_files, replay_command, run_of, run_options, seed_of, ticks_of}
 use Rattle.xm_words.proofs.OptionLemmas.{reads_run_options, run_options_typed}
 use Rattle.xm_words.proofs.PartFileLemmas.{files_named, files_typed_right}
 use Rattle.xm_words.proofs.ReplayLemmas.{further_typed, reads_further}
@@ -41,14 +41,14 @@ bare_typed name first second command is e = at (is_file first) (ticks_of second)
     at false ticks file count e = absurd (let no : ⊥ = cc in no)
 
 -- a command of two files
-files_typed : (words : List (List ℕ)) (make : List ℕ → List ℕ → Command) (first second : List ℕ) (command : Command) → (IsFile first × IsFile second → Typed words (make first second)) → of_files make first second ≡ Some command → Typed words command
+files_typed : (words : List (List ℕ)) (make : List ℕ → List ℕ → Command) (first second : List ℕ) (command : Command) → (IsFileName first × IsFileName second → Typed words (make first second)) → of_files make first second ≡ Some command → Typed words command
 files_typed words make first second command typed e =
     let parts = asked_parts (is_file first && is_file second) (make first second) command e in
     let files = and_parts (is_file first) (is_file second) parts.0 in
     typed_as words (make first second) command (typed (file_is first files.0, file_is second files.1)) parts.1
 
 -- a command of one file
-file_typed : (words : List (List ℕ)) (make : List ℕ → Command) (file : List ℕ) (command : Command) → (IsFile file → Typed words (make file)) → of_file make file ≡ Some command → Typed words command
+file_typed : (words : List (List ℕ)) (make : List ℕ → Command) (file : List ℕ) (command : Command) → (IsFileName file → Typed words (make file)) → of_file make file ≡ Some command → Typed words command
 file_typed words make file command typed e =
     let parts = asked_parts (is_file file) (make file) command e in
     typed_as words (make file) command (typed (file_is file parts.0)) parts.1
@@ -175,12 +175,12 @@ run_typed name container options command is e =
     parts.1
 
 -- a replay of a container's partition
-replay_typed : (name container : List ℕ) (rest : List (List ℕ)) (command : Command) → name ≡ codes "alone" → replay_of container rest ≡ Some command → Typed (name ∷ container ∷ rest) command
+replay_typed : (name container : List ℕ) (rest : List (List ℕ)) (command : Command) → name ≡ codes "alone" → replay_command container rest ≡ Some command → Typed (name ∷ container ∷ rest) command
 replay_typed name container [] command is e = absurd (let no : ⊥ = cc in no)
 replay_typed name container (word ∷ []) command is e = absurd (let no : ⊥ = cc in no)
-replay_typed name container (word ∷ script ∷ options) command is e = at (is_file container && is_file script) (part_of word) (replay_files options) refl refl refl e
+replay_typed name container (word ∷ script ∷ options) command is e = at (is_file container && is_file script) (part_number word) (replay_files options) refl refl refl e
   where
-    at : (files : Bool) (part : Option ℕ) (further : Option ReplayFiles) → (is_file container && is_file script) ≡ files → part_of word ≡ part → replay_files options ≡ further
+    at : (files : Bool) (part : Option ℕ) (further : Option ReplayFiles) → (is_file container && is_file script) ≡ files → part_number word ≡ part → replay_files options ≡ further
         → replay_by files container part script further ≡ Some command → Typed (name ∷ container ∷ word ∷ script ∷ options) command
     at true (Some p) (Some further) are found named_files e =
         let files = and_parts (is_file container) (is_file script) are in
@@ -248,8 +248,8 @@ typed (name ∷ []) command e = absurd (let no : ⊥ = cc in no)
 typed (name ∷ first ∷ rest) command e =
     ⊎_elim (λ h. run_typed name first rest command (named name (codes "run") h.0) h.1)
     (λ h. ⊎_elim (λ h. replay_typed name first rest command (named name (codes "alone") h.0) h.1) (λ h. counted_typed name first rest command h)
-    (other (bytes_eq name (codes "alone")) (replay_of first rest) (command_by_count name first rest) command h))
-    (other (bytes_eq name (codes "run")) (run_of first rest) (if bytes_eq name (codes "alone") then replay_of first rest else command_by_count name first rest) command e)
+    (other (bytes_eq name (codes "alone")) (replay_command first rest) (command_by_count name first rest) command h))
+    (other (bytes_eq name (codes "run")) (run_of first rest) (if bytes_eq name (codes "alone") then replay_command first rest else command_by_count name first rest) command e)
 
 -- what is typed for a container asks for it
 reads_pack : (configuration output : List ℕ) (images : List PartFile) → IsRight (Pack configuration output images) → command_of (words_of (Pack configuration output images)) ≡ Some (Pack configuration output images)

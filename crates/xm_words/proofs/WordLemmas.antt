@@ -8,8 +8,8 @@ use Rattle.std.proofs.lemmas.Bool.Decides.{Decides-eqb}
 use Rattle.std.proofs.lemmas.Slice.Eq.{bytes_eq-Decides, starts_is}
 use Rattle.std.proofs.lemmas.Fmt.{digits_decimal, digits_value-decimal, decimal-digits_value, decimal_nonempty, decimal_digit, first_decimal}
 use Rattle.xm_base.specs.declared.limits.TheConstants.{TICKS}
-use Rattle.xm_words.specs.Grammar.{IsFile, TicksAreDecimal}
-use Rattle.xm_words.specs.Words.{is_file, is_number, number_of, seed_of, ticks_of}
+use Rattle.xm_words.specs.Grammar.{IsFileName, TicksAreDecimal}
+use Rattle.xm_words.specs.Words.{is_file, is_decimal, number_spelled, seed_of, ticks_of}
 use Rattle.xm_words.proofs.NumberLemmas.{numerals, number_digits, number_plain, plain_number, spelled, unspelled, above}
 
 -- the text of a number begins with a zero only where it is `0`
@@ -20,15 +20,15 @@ decimal_zero n small zero_first = elim (cases_lt 0 n) [
 ]
 
 -- the text of a number is a number
-pub decimal_number : (n : ℕ) → n < 2 ^ 64 → is_number (decimal n) ≡ true
+pub decimal_number : (n : ℕ) → n < 2 ^ 64 → is_decimal (decimal n) ≡ true
 decimal_number n small = plain_number (decimal n) (digits_decimal numerals n small) (decimal_nonempty n small) (decimal_zero n small)
 
 -- what spells a number is its text
-pub number_text : (limit : ℕ) (word : List ℕ) (n : ℕ) → limit < 2 ^ 64 → number_of limit word ≡ Some n → (n ≤ limit) × (word ≡ decimal n)
-number_text limit word n fits spells = at (is_number word) refl
+pub number_text : (limit : ℕ) (word : List ℕ) (n : ℕ) → limit < 2 ^ 64 → number_spelled limit word ≡ Some n → (n ≤ limit) × (word ≡ decimal n)
+number_text limit word n fits spells = at (is_decimal word) refl
   where
-    at : (t : Bool) → is_number word ≡ t → (n ≤ limit) × (word ≡ decimal n)
-    at false none = (let no = unspelled limit word (λ is. both_ways (is_number word) none is) in cc)
+    at : (t : Bool) → is_decimal word ≡ t → (n ≤ limit) × (word ≡ decimal n)
+    at false none = (let no = unspelled limit word (λ is. both_ways (is_decimal word) none is) in cc)
     at true is = elim (cases_lt limit (digits_value 10 word)) [
       | inl large ↦ (let none = above limit word large in cc)
       | inr small ↦ (
@@ -39,10 +39,10 @@ number_text limit word n fits spells = at (is_number word) refl
     ]
 
 -- the text of a number that is not above the limit spells it
-pub text_number : (limit : ℕ) (word : List ℕ) (n : ℕ) → limit < 2 ^ 64 → n ≤ limit → word ≡ decimal n → number_of limit word ≡ Some n
+pub text_number : (limit : ℕ) (word : List ℕ) (n : ℕ) → limit < 2 ^ 64 → n ≤ limit → word ≡ decimal n → number_spelled limit word ≡ Some n
 text_number limit word n fits small text =
     let same : digits_value 10 (decimal n) ≡ n = digits_value-decimal numerals n (omega arith) in
-    ap (number_of limit) text ∙ sym (spelled limit (decimal n) (decimal_number n (omega arith)) (omega arith)) ∙ ap Some same
+    ap (number_spelled limit) text ∙ sym (spelled limit (decimal n) (decimal_number n (omega arith)) (omega arith)) ∙ ap Some same
 
 -- what spells so many ticks is their text
 pub ticks_text : (word : List ℕ) (n : ℕ) → ticks_of word ≡ Some n → (n ≤ TICKS) × (word ≡ decimal n)
@@ -68,7 +68,7 @@ pub named : (word text : List ℕ) → bytes_eq word text ≡ true → word ≡ 
 named word text e = (bytes_eq-Decides word text).0 e
 
 -- what the test of a file's name says
-pub file_is : (word : List ℕ) → is_file word ≡ true → IsFile word
+pub file_is : (word : List ℕ) → is_file word ≡ true → IsFileName word
 unfolding is_file
 file_is word is =
     let parts = and_parts (nat_lt 0 (length word)) (not (starts_with nat_eq word (codes "--"))) is in
@@ -78,7 +78,7 @@ file_is word is =
     }
 
 -- and what passes it
-pub is_of_file : (word : List ℕ) → IsFile word → is_file word ≡ true
+pub is_of_file : (word : List ℕ) → IsFileName word → is_file word ≡ true
 unfolding is_file
 is_of_file word file = and_from (nat_lt 0 (length word)) _ (lt-ltb _ _ file.some) (front (starts_with nat_eq word (codes "--")) refl)
   where

@@ -13,7 +13,7 @@ abbrev pub TicksAreDecimal : Type 0
 TicksAreDecimal = (word : List ℕ) (n : ℕ) → (ticks_of word ≡ Some n) ↔ ((n ≤ TICKS) × (word ≡ decimal n))
 
 -- a name of a file: it has a byte, and does not begin with two dashes
-pub record IsFile (word : List ℕ) : Type 0 where
+pub record IsFileName (word : List ℕ) : Type 0 where
   pub some : 0 < length word
   pub plain : (rest : List ℕ) → word ≢ codes "--" ++ rest
 
@@ -68,17 +68,17 @@ words_of (Replay container part script further) = codes "alone" ∷ container �
 
 -- a file for a partition: the partition's number is at most 31, and the file is one
 abbrev pub IsPartFile : PartFile → Type 0
-IsPartFile named = (named.part ≤ 31) × IsFile named.file
+IsPartFile named = (named.part ≤ 31) × IsFileName named.file
 
 -- no partition has two files
-abbrev pub AreApart : List PartFile → Type 0
-AreApart files = AllPairs (λ one other. one.part ≢ other.part) files
+abbrev pub HaveOneFileEach : List PartFile → Type 0
+HaveOneFileEach files = AllPairs (λ one other. one.part ≢ other.part) files
 
 -- files for partitions: there is one, each is one, and no partition has two
 pub record ArePartFiles (files : List PartFile) : Type 0 where
   pub some : 0 < length files
   pub each : All IsPartFile files
-  pub apart : AreApart files
+  pub apart : HaveOneFileEach files
 
 -- an option of a run: a length not above the limit, or a file for a partition
 abbrev pub IsRunOption : RunOption → Type 0
@@ -89,31 +89,31 @@ IsRunOption (ForPart kind file) = IsPartFile file
 pub record AreRunOptions (options : List RunOption) : Type 0 where
   pub each : All IsRunOption options
   pub spanned : length (spans_in options) ≡ 1
-  pub apart : (kind : FileKind) → AreApart (files_in kind options)
+  pub apart : (kind : FileKind) → HaveOneFileEach (files_in kind options)
 
 -- the further files of a replay are files
 abbrev pub AreFurther : ReplayFiles → Type 0
 AreFurther Neither = ⊤
-AreFurther (InputAlone input) = IsFile input
-AreFurther (CoreAlone core) = IsFile core
-AreFurther (InputThenCore input core) = IsFile input × IsFile core
-AreFurther (CoreThenInput core input) = IsFile core × IsFile input
+AreFurther (InputAlone input) = IsFileName input
+AreFurther (CoreAlone core) = IsFileName core
+AreFurther (InputThenCore input core) = IsFileName input × IsFileName core
+AreFurther (CoreThenInput core input) = IsFileName core × IsFileName input
 
 -- what each command names is a file, its partition is at most 31, its ticks are not above the limit, and its options are right
 abbrev pub IsRight : Command → Type 0
-IsRight (Bare image ticks) = IsFile image × (ticks ≤ TICKS)
-IsRight (Parse description output) = IsFile description × IsFile output
-IsRight (BuildImage program output) = IsFile program × IsFile output
-IsRight (ReadImage image) = IsFile image
-IsRight (Pack configuration output images) = IsFile configuration × IsFile output × ArePartFiles images
-IsRight (ListContainer container) = IsFile container
-IsRight (CheckContainer container) = IsFile container
-IsRight (MakePlan description) = IsFile description
-IsRight (CheckPlan description) = IsFile description
-IsRight (TellGroups description) = IsFile description
+IsRight (Bare image ticks) = IsFileName image × (ticks ≤ TICKS)
+IsRight (Parse description output) = IsFileName description × IsFileName output
+IsRight (BuildImage program output) = IsFileName program × IsFileName output
+IsRight (ReadImage image) = IsFileName image
+IsRight (Pack configuration output images) = IsFileName configuration × IsFileName output × ArePartFiles images
+IsRight (ListContainer container) = IsFileName container
+IsRight (CheckContainer container) = IsFileName container
+IsRight (MakePlan description) = IsFileName description
+IsRight (CheckPlan description) = IsFileName description
+IsRight (TellGroups description) = IsFileName description
 IsRight (Generate number) = number ≤ 4294967295
-IsRight (Run container options) = IsFile container × AreRunOptions options
-IsRight (Replay container part script further) = IsFile container × (part ≤ 31) × IsFile script × AreFurther further
+IsRight (Run container options) = IsFileName container × AreRunOptions options
+IsRight (Replay container part script further) = IsFileName container × (part ≤ 31) × IsFileName script × AreFurther further
 
 -- words are a command exactly where they are what is typed for it, and what they name is right
 abbrev pub CommandsAreSpelled : Type 0

@@ -75,6 +75,6 @@ seen_command (variant.Run container options) = Run container.now (seen_options o
 seen_command (variant.Replay container part script further) = Replay container.now part script.now (seen_further further)
 
 -- what a command of the program says, where there is one
-abbrev pub seen : Option code.Command → Option Command
-seen None = None
-seen (Some command) = Some (seen_command command)
+abbrev pub command_seen : Option code.Command → Option Command
+command_seen None = None
+command_seen (Some command) = Some (seen_command command)

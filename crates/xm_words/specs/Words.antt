@@ -50,29 +50,29 @@ pub data Command : Type 0 where
   Replay : (container : List ℕ) (part : ℕ) (script : List ℕ) (further : ReplayFiles) → Command
 
 -- a decimal number: digits without a sign, and without a leading zero unless it is `0`
-abbrev pub is_number : List ℕ → Bool
-is_number [] = false
-is_number (digit ∷ digits) = all_ascii_digits (digit ∷ digits) && (not (digit == 48) || nat_eq (length digits) 0)
+abbrev pub is_decimal : List ℕ → Bool
+is_decimal [] = false
+is_decimal (digit ∷ digits) = all_ascii_digits (digit ∷ digits) && (not (digit == 48) || nat_eq (length digits) 0)
 
 -- neither a plus sign nor a needless zero stands in front
 abbrev pub IsPlain : List ℕ → Type 0
 IsPlain word = (slice_index word 0 ≢ 43) × (slice_index word 0 ≡ 48 → length word ≤ 1)
 
 -- the number that a word spells: a decimal number that is not above the limit
-unfoldable pub number_of : ℕ → List ℕ → Option ℕ
-number_of limit word = if is_number word && nat_le (digits_value 10 word) limit then Some (digits_value 10 word) else None
+unfoldable pub number_spelled : ℕ → List ℕ → Option ℕ
+number_spelled limit word = if is_decimal word && nat_le (digits_value 10 word) limit then Some (digits_value 10 word) else None
 
 -- the number of ticks that a word spells
 abbrev pub ticks_of : List ℕ → Option ℕ
-ticks_of word = number_of TICKS word
+ticks_of word = number_spelled TICKS word
 
 -- the number of major frames that a word spells: each has a tick at least, and so their limit is that of ticks
 abbrev pub frames_of : List ℕ → Option ℕ
-frames_of word = number_of TICKS word
+frames_of word = number_spelled TICKS word
 
 -- the partition that a word spells
-abbrev pub part_of : List ℕ → Option ℕ
-part_of word = number_of 31 word
+abbrev pub part_number : List ℕ → Option ℕ
+part_number word = number_spelled 31 word
 
 -- a word that names a file: it has a byte, and does not begin with two dashes
 unfoldable pub is_file : List ℕ → Bool
@@ -90,7 +90,7 @@ is_equals byte = byte == 61
 
 -- the file for a partition that a word names: the partition stands before its first `=`, and the file behind it
 unfoldable pub part_file_of : List ℕ → Option PartFile
-part_file_of word = part_file_by (part_of (before_first is_equals word)) (is_file (after_first is_equals word)) (after_first is_equals word)
+part_file_of word = part_file_by (part_number (before_first is_equals word)) (is_file (after_first is_equals word)) (after_first is_equals word)
 
 -- what a word names, where it names something, before what others name
 abbrev pub before_others : {X : Type 0} → Option X → List X → List X
@@ -201,15 +201,15 @@ abbrev pub span_in : List RunOption → Span
 span_in options = first_span (spans_in options)
 
 -- the place of a kind among all kinds of files
-abbrev pub place_of : FileKind → ℕ
-place_of Input = 0
-place_of Core = 1
-place_of Script = 2
+abbrev pub kind_place : FileKind → ℕ
+kind_place Input = 0
+kind_place Core = 1
+kind_place Script = 2
 
 -- the file of a kind for a partition that an option names
 abbrev pub file_by : FileKind → RunOption → Option PartFile
 file_by kind (Length span) = None
-file_by kind (ForPart other file) = asked (place_of other == place_of kind) file
+file_by kind (ForPart other file) = asked (kind_place other == kind_place kind) file
 
 -- the files of a kind for partitions that options name, in their order
 abbrev pub files_in : FileKind → List RunOption → List PartFile
@@ -290,10 +290,10 @@ replay_by true container part script further = replay_for container part script 
 replay_by false container part script further = None
 
 -- a replay of a container's partition by its script
-abbrev pub replay_of : List ℕ → List (List ℕ) → Option Command
-replay_of container [] = None
-replay_of container (part ∷ []) = None
-replay_of container (part ∷ script ∷ options) = replay_by (is_file container && is_file script) container (part_of part) script (replay_files options)
+abbrev pub replay_command : List ℕ → List (List ℕ) → Option Command
+replay_command container [] = None
+replay_command container (part ∷ []) = None
+replay_command container (part ∷ script ∷ options) = replay_by (is_file container && is_file script) container (part_number part) script (replay_files options)
 
 -- a command of one file, where its word names one
 abbrev pub of_file : (List ℕ → Command) → List ℕ → Option Command
@@ -323,7 +323,7 @@ plan_command verb file =
 
 -- the number that a system is generated out of
 abbrev pub seed_of : List ℕ → Option ℕ
-seed_of word = number_of 4294967295 word
+seed_of word = number_spelled 4294967295 word
 
 -- a system is generated, where there is a number
 abbrev pub generate_for : Option ℕ → Option Command
@@ -372,5 +372,5 @@ command_of [] = None
 command_of (name ∷ []) = None
 command_of (name ∷ first ∷ rest) =
     if bytes_eq name (codes "run") then run_of first rest
-    else if bytes_eq name (codes "alone") then replay_of first rest
+    else if bytes_eq name (codes "alone") then replay_command first rest
     else command_by_count name first rest

@@ -1,7 +1,7 @@
 //! The numbers that words spell.
 
 ghost use Rattle.std.specs.Prelude.{◌≡◌, ◌≤◌, ◌↔◌, IfSome, IsTrue};
-ghost use Rattle.xm_words.specs.Words.{IsPlain, frames_of, number_of, part_of, seed_of, ticks_of};
+ghost use Rattle.xm_words.specs.Words.{IsPlain, frames_of, number_spelled, part_number, seed_of, ticks_of};
 
 use xm_base::{PartId, TICKS};
 
@@ -27,7 +27,7 @@ pub(crate) fn frames(word: &str) -> Option<u64>
 
 /// The partition that the word spells.
 pub(crate) fn part(word: &str) -> Option<PartId>
-    ensures value { result ≡ part_of word.now }
+    ensures value { result ≡ part_number word.now }
 {
     match number(word, LAST_PART) {
         Some(part) => Some(part as u8),
@@ -47,7 +47,7 @@ pub(crate) fn seed(word: &str) -> Option<u32>
 
 /// The number that the word spells, where it is not above the limit.
 fn number(word: &str, limit: u64) -> Option<u64>
-    ensures value { result ≡ number_of limit word.now }
+    ensures value { result ≡ number_spelled limit word.now }
     ensures bound { IfSome result (λ number. number ≤ limit) }
 {
     if !is_plain(word) {

@@ -1,9 +1,9 @@
 //! What words spell.
 
 ghost use Rattle.std.specs.Prelude.{◌≡◌, ◌&&◌};
-ghost use Rattle.xm_words.specs.Seen.{seen};
+ghost use Rattle.xm_words.specs.Seen.{command_seen};
 ghost use Rattle.xm_words.specs.Texts.{texts_of};
-ghost use Rattle.xm_words.specs.Words.{BuildImage, Pack, Parse, TellGroups, are_part_files, asked, bare_of, command_by_count, command_of, command_of_more, command_of_one, command_of_three, command_of_two, format_command, generate_for, is_file, of_file, of_files, pack_command, part_files, plan_command, replay_by, replay_of, run_of, seed_of, ticks_of, part_of, replay_files};
+ghost use Rattle.xm_words.specs.Words.{BuildImage, Pack, Parse, TellGroups, are_part_files, asked, bare_of, command_by_count, command_of, command_of_more, command_of_one, command_of_three, command_of_two, format_command, generate_for, is_file, of_file, of_files, pack_command, part_files, plan_command, replay_by, replay_command, run_of, seed_of, ticks_of, part_number, replay_files};
 
 use crate::commands::Command;
 use crate::numbers::{part, seed, ticks};
@@ -15,7 +15,7 @@ use crate::words::Words;
 /// The command that the words spell, or `None` where they spell none.
 #[tactic(auto, unfolding(crate::specs::Words::command_of))]
 pub fn command(words: &Words) -> Option<Command<'_>>
-    ensures { seen result ≡ command_of words.now }
+    ensures { command_seen result ≡ command_of words.now }
 {
     match words.texts() {
         [name, first, rest @ ..] => {
@@ -34,7 +34,7 @@ pub fn command(words: &Words) -> Option<Command<'_>>
 /// The command of a name and words whose number is fixed, or those of images.
 #[tactic(auto, unfolding(crate::specs::Words::command_by_count))]
 fn command_by_count<'a>(name: &str, first: &'a str, rest: &'a [String]) -> Option<Command<'a>>
-    ensures { seen result ≡ command_by_count name.now first.now (texts_of rest.now) }
+    ensures { command_seen result ≡ command_by_count name.now first.now (texts_of rest.now) }
 {
     match rest {
         [] => command_of_one(name, first),
@@ -49,7 +49,7 @@ fn command_by_count<'a>(name: &str, first: &'a str, rest: &'a [String]) -> Optio
 /// The command of a name and one word.
 #[tactic(auto, unfolding(crate::specs::Words::command_of_one))]
 fn command_of_one<'a>(name: &str, first: &'a str) -> Option<Command<'a>>
-    ensures { seen result ≡ command_of_one name.now first.now }
+    ensures { command_seen result ≡ command_of_one name.now first.now }
 {
     if name == "flows" {
         tell_groups(first)
@@ -62,7 +62,7 @@ fn command_of_one<'a>(name: &str, first: &'a str) -> Option<Command<'a>>
 
 /// The groups of the partitions of a system description, which the word names.
 fn tell_groups(description: &str) -> Option<Command<'_>>
-    ensures { seen result ≡ of_file TellGroups description.now }
+    ensures { command_seen result ≡ of_file TellGroups description.now }
 {
     if is_file(description) {
         Some(Command::TellGroups { description })
@@ -73,7 +73,7 @@ fn tell_groups(description: &str) -> Option<Command<'_>>
 
 /// The generation of a system out of the number that a word spells.
 fn generate<'a>(word: &str) -> Option<Command<'a>>
-    ensures { seen result ≡ generate_for (seed_of word.now) }
+    ensures { command_seen result ≡ generate_for (seed_of word.now) }
 {
     match seed(word) {
         Some(number) => Some(Command::Generate { number }),
@@ -84,7 +84,7 @@ fn generate<'a>(word: &str) -> Option<Command<'a>>
 /// The command of a name and two words.
 #[tactic(auto, unfolding(crate::specs::Words::command_of_two))]
 fn command_of_two<'a>(name: &str, first: &'a str, second: &'a str) -> Option<Command<'a>>
-    ensures { seen result ≡ command_of_two name.now first.now second.now }
+    ensures { command_seen result ≡ command_of_two name.now first.now second.now }
 {
     if name == "bare" {
         bare(first, second)
@@ -109,7 +109,7 @@ fn command_of_three<'a>(
     second: &'a str,
     third: &'a str,
 ) -> Option<Command<'a>>
-    ensures { seen result ≡ command_of_three name.now first.now second.now third.now }
+    ensures { command_seen result ≡ command_of_three name.now first.now second.now third.now }
 {
     if name == "xmeformat" && first == "build" {
         build_image(second, third)
@@ -127,7 +127,7 @@ fn command_of_more<'a>(
     output: &'a str,
     images: &'a [String],
 ) -> Option<Command<'a>>
-    ensures { seen result ≡ command_of_more name.now verb.now configuration.now output.now (texts_of images.now) }
+    ensures { command_seen result ≡ command_of_more name.now verb.now configuration.now output.now (texts_of images.now) }
 {
     if name == "xmpack" && verb == "build" {
         pack(configuration, output, images)
@@ -138,7 +138,7 @@ fn command_of_more<'a>(
 
 /// The run of an image that two words ask for.
 fn bare<'a>(image: &'a str, count: &str) -> Option<Command<'a>>
-    ensures { seen result ≡ bare_of (is_file image.now) image.now (ticks_of count.now) }
+    ensures { command_seen result ≡ bare_of (is_file image.now) image.now (ticks_of count.now) }
 {
     if !is_file(image) {
         return None;
@@ -149,7 +149,7 @@ fn bare<'a>(image: &'a str, count: &str) -> Option<Command<'a>>
 
 /// The run of a container with the options that the words spell.
 fn run<'a>(container: &'a str, options: &'a [String]) -> Option<Command<'a>>
-    ensures { seen result ≡ run_of container.now (texts_of options.now) }
+    ensures { command_seen result ≡ run_of container.now (texts_of options.now) }
 {
     if !is_file(container) {
         return None;
@@ -160,7 +160,7 @@ fn run<'a>(container: &'a str, options: &'a [String]) -> Option<Command<'a>>
 
 /// The replay that a container and further words ask for: a partition, its script, and options.
 fn replay<'a>(container: &'a str, rest: &'a [String]) -> Option<Command<'a>>
-    ensures { seen result ≡ replay_of container.now (texts_of rest.now) }
+    ensures { command_seen result ≡ replay_command container.now (texts_of rest.now) }
 {
     match rest {
         [word, script, options @ ..] => {
@@ -177,7 +177,7 @@ fn replay_by<'a>(
     script: &'a str,
     options: &'a [String],
 ) -> Option<Command<'a>>
-    ensures { seen result ≡ replay_by (is_file container.now && is_file script.now) container.now (part_of word.now) script.now (replay_files (texts_of options.now)) }
+    ensures { command_seen result ≡ replay_by (is_file container.now && is_file script.now) container.now (part_number word.now) script.now (replay_files (texts_of options.now)) }
 {
     if !is_file(container) || !is_file(script) {
         return None;
@@ -194,7 +194,7 @@ fn replay_by<'a>(
 
 /// The configuration that two words ask for.
 fn parse<'a>(description: &'a str, output: &'a str) -> Option<Command<'a>>
-    ensures { seen result ≡ of_files Parse description.now output.now }
+    ensures { command_seen result ≡ of_files Parse description.now output.now }
 {
     if is_file(description) && is_file(output) {
         Some(Command::Parse {
@@ -208,7 +208,7 @@ fn parse<'a>(description: &'a str, output: &'a str) -> Option<Command<'a>>
 
 /// The image that two words ask for.
 fn build_image<'a>(program: &'a str, output: &'a str) -> Option<Command<'a>>
-    ensures { seen result ≡ of_files BuildImage program.now output.now }
+    ensures { command_seen result ≡ of_files BuildImage program.now output.now }
 {
     if is_file(program) && is_file(output) {
         Some(Command::BuildImage { program, output })
@@ -219,7 +219,7 @@ fn build_image<'a>(program: &'a str, output: &'a str) -> Option<Command<'a>>
 
 /// The container that two words and the words of the images ask for.
 fn pack<'a>(configuration: &'a str, output: &'a str, images: &'a [String]) -> Option<Command<'a>>
-    ensures { seen result ≡ asked (is_file configuration.now && is_file output.now && are_part_files (texts_of images.now)) (Pack configuration.now output.now (part_files (texts_of images.now))) }
+    ensures { command_seen result ≡ asked (is_file configuration.now && is_file output.now && are_part_files (texts_of images.now)) (Pack configuration.now output.now (part_files (texts_of images.now))) }
 {
     if !is_file(configuration) || !is_file(output) {
         return None;
@@ -235,7 +235,7 @@ fn pack<'a>(configuration: &'a str, output: &'a str, images: &'a [String]) -> Op
 /// What `xmeformat` is asked to do with a file.
 #[tactic(auto, unfolding(crate::specs::Words::format_command))]
 fn format_command<'a>(verb: &str, image: &'a str) -> Option<Command<'a>>
-    ensures { seen result ≡ format_command verb.now image.now }
+    ensures { command_seen result ≡ format_command verb.now image.now }
 {
     if verb == "read" && is_file(image) {
         Some(Command::ReadImage { image })
@@ -247,7 +247,7 @@ fn format_command<'a>(verb: &str, image: &'a str) -> Option<Command<'a>>
 /// What `xmpack` is asked to do with a file.
 #[tactic(auto, unfolding(crate::specs::Words::pack_command))]
 fn pack_command<'a>(verb: &str, container: &'a str) -> Option<Command<'a>>
-    ensures { seen result ≡ pack_command verb.now container.now }
+    ensures { command_seen result ≡ pack_command verb.now container.now }
 {
     if !is_file(container) {
         None
@@ -263,7 +263,7 @@ fn pack_command<'a>(verb: &str, container: &'a str) -> Option<Command<'a>>
 /// What `plan` is asked to do with a file.
 #[tactic(auto, unfolding(crate::specs::Words::plan_command))]
 fn plan_command<'a>(verb: &str, description: &'a str) -> Option<Command<'a>>
-    ensures { seen result ≡ plan_command verb.now description.now }
+    ensures { command_seen result ≡ plan_command verb.now description.now }
 {
     if !is_file(description) {
         None

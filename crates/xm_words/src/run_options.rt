@@ -3,7 +3,7 @@
 ghost use Rattle.std.specs.Prelude.{◌≡◌, ◌∷◌, [], MatchOption, false, length, nat_eq, true};
 ghost use Rattle.xm_words.specs.Seen.{seen_file, seen_files, seen_option, seen_options, seen_part_file, seen_run_option};
 ghost use Rattle.xm_words.specs.Texts.{texts_of};
-ghost use Rattle.xm_words.specs.Words.{are_kinds_apart, are_options, are_run_options, cores_in, file_by, files_in, inputs_in, kind_of, option_for, part_file_of, place_of, run_option_of, run_options, scripts_in, span_in, span_of, spans_in};
+ghost use Rattle.xm_words.specs.Words.{are_kinds_apart, are_options, are_run_options, cores_in, file_by, files_in, inputs_in, kind_of, option_for, part_file_of, kind_place, run_option_of, run_options, scripts_in, span_in, span_of, spans_in};
 
 use crate::commands::Span;
 use crate::numbers::{frames, ticks};
@@ -23,7 +23,7 @@ pub enum FileKind {
 impl FileKind {
     // Its place among all kinds.
     fn place(self) -> u8
-        ensures value { result ≡ place_of self }
+        ensures value { result ≡ kind_place self }
     {
         match self {
             FileKind::Input => 0,

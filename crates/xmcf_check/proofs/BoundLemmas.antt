@@ -3,7 +3,7 @@ use Rattle.std.proofs.Common.{◌≡◌, ℕ, ◌+◌, ◌<◌, ◌≤◌, nat_l
 use Rattle.std.specs.Prelude.{All}
 use Rattle.std.proofs.lemmas.List.Elements.{All-nil, All-cons, All-weaker}
 use Rattle.std.proofs.lemmas.Bool.Decides.{nat_tests}
-use Rattle.xm_conf.specs.Along.{each, each_from, unless}
+use Rattle.xm_conf.specs.Along.{added_by_each, each_from, unless}
 use Rattle.xm_conf.specs.Configuration.{Plan, Part, Conf}
 use Rattle.xm_conf.specs.Rules as rules
 use Rattle.xm_conf.specs.declared.item.Item.{Item}
@@ -36,7 +36,7 @@ all_from f P holds n [] none = All-nil P
 all_from f P holds n (x ∷ xs) none = All-cons P x xs (holds n x (front_none _ _ none)) (all_from f P holds (n + 1) xs (back_none _ _ none))
 
 -- a list within its limit
-past_none : {X : Type 0} (limit : ℕ) (numbered : ℕ → Item) (xs : List X) → rules.past limit numbered xs ≡ [] → length xs ≤ limit
+past_none : {X : Type 0} (limit : ℕ) (numbered : ℕ → Item) (xs : List X) → rules.past_limit limit numbered xs ≡ [] → length xs ≤ limit
 past_none limit numbered xs none =
     let passes : nat_le (length xs) limit ≡ true = unless_none _ (rules.alone 1 (numbered limit)) none in
     grind (arith, nat_tests)
@@ -71,10 +71,10 @@ part_ports n part none = past_none 32 (item.Port n) part.ports (back_none _ _ no
 pub bounded : (conf : Conf) → rules.rule_1 conf ≡ [] → IsBounded conf
 unfolding rules.rule_1 rules.list_counts
 bounded conf none =
-    let lists : unless (rules.has_some conf) (rules.alone 1 item.Whole) ++ rules.past 8 item.Region conf.regions ++ rules.past 8 item.Uart conf.uarts ≡ [] =
+    let lists : unless (rules.has_some conf) (rules.alone 1 item.Whole) ++ rules.past_limit 8 item.Region conf.regions ++ rules.past_limit 8 item.Uart conf.uarts ≡ [] =
     front_none _ _ (front_none _ _ (front_none _ _ none)) in
-    let plans : each rules.plan_counts conf.plans ≡ [] = back_none (rules.list_counts conf) _ (front_none _ _ (front_none _ _ none)) in
-    let parts : each rules.part_counts conf.parts ≡ [] = back_none _ (each rules.part_counts conf.parts) (front_none _ _ none) in
+    let plans : added_by_each rules.plan_counts conf.plans ≡ [] = back_none (rules.list_counts conf) _ (front_none _ _ (front_none _ _ none)) in
+    let parts : added_by_each rules.part_counts conf.parts ≡ [] = back_none _ (added_by_each rules.part_counts conf.parts) (front_none _ _ none) in
     record {
       uarts = past_none 8 item.Uart conf.uarts (back_none _ _ lists);
       plans = omega (arith, few_from rules.plan_counts 8 plan_below 0 conf.plans (omega arith) plans);

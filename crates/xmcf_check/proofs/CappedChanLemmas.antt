@@ -5,7 +5,7 @@ use Rattle.std.proofs.lemmas.List.{length-map}
 use Rattle.std.proofs.lemmas.List.Elements.{All-head, All-tail}
 use Rattle.std.proofs.lemmas.Option.{slice_get_within}
 use Rattle.xm_base.specs.Options.{on}
-use Rattle.xm_conf.specs.Along.{head_of, each, each_from, along, unless}
+use Rattle.xm_conf.specs.Along.{head_of, added_by_each, each_from, along, unless}
 use Rattle.xm_conf.specs.Configuration.{Part, Chan, Conf}
 use Rattle.xm_conf.specs.Rules as rules
 use Rattle.xm_conf.specs.declared.port.Port.{Port}
@@ -203,8 +203,8 @@ all_ends_kept parts c [] few none = refl
 all_ends_kept parts c (chan ∷ chans) few none =
     let kept = ends_kept parts c chan few (front_none _ _ none) in
     both
-    (ap (λ source. (item.End c 0, source) ∷ each (rules.dest_item c) (map capped_end chan.dests)) kept.0
-    ∙ ap (λ dests. (item.End c 0, chan.source) ∷ each (rules.dest_item c) dests) kept.1)
+    (ap (λ source. (item.End c 0, source) ∷ added_by_each (rules.dest_item c) (map capped_end chan.dests)) kept.0
+    ∙ ap (λ dests. (item.End c 0, chan.source) ∷ added_by_each (rules.dest_item c) dests) kept.1)
     (all_ends_kept parts (c + 1) chans few (back_none _ _ none))
 
 -- rule 18, where rule 16 holds

@@ -6,7 +6,7 @@ use Rattle.std.proofs.lemmas.List.{length-map}
 use Rattle.std.proofs.lemmas.Option.{slice_get_past}
 use Rattle.std.proofs.lemmas.Bool.Decides.{nat_tests}
 use Rattle.xm_base.specs.Options.{on}
-use Rattle.xm_conf.specs.Along.{each, along, unless}
+use Rattle.xm_conf.specs.Along.{added_by_each, along, unless}
 use Rattle.xm_conf.specs.Configuration.{Plan, Part, Chan, Conf}
 use Rattle.xm_conf.specs.Rules as rules
 use Rattle.xm_conf.specs.declared.plan.Slot.{Slot}
@@ -201,7 +201,7 @@ stray_slots-capped parts p plan few =
 rule_13-capped : (conf : Conf) → length conf.parts ≤ 255 → rules.rule_13 (capped_conf conf) ≡ rules.rule_13 conf
 unfolding rules.rule_13 capped_conf
 rule_13-capped conf few =
-    ap (λ parts. each (rules.stray_slots parts) (map capped_plan conf.plans)) (length-map conf.parts capped_part)
+    ap (λ parts. added_by_each (rules.stray_slots parts) (map capped_plan conf.plans)) (length-map conf.parts capped_part)
     ∙ each-made (rules.stray_slots (length conf.parts)) (rules.stray_slots (length conf.parts)) capped_plan
     (λ p plan. stray_slots-capped (length conf.parts) p plan few) conf.plans
 

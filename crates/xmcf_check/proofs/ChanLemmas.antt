@@ -8,7 +8,7 @@ use Rattle.xm_conf.specs.declared.channel.End.{End}
 use Rattle.xmcf_reader.specs.Drafts.{IsDraft}
 use Rattle.xmcf_reader.specs.declared.draft.Entry.{Entry}
 use Rattle.xmcf_check.specs.Capped.{capped, capped_chan, capped_end, capped_part}
-use Rattle.xmcf_check.specs.Described.{among, chan_at, chan_with, children, dest_of, first_among, names_of, no_end, port_names, source_of, with_parent}
+use Rattle.xmcf_check.specs.Described.{among, described_chan, chan_with, children, dest_of, first_among, names_of_ports, no_end, port_names, source_of, with_parent}
 use Rattle.xmcf_check.specs.Elements.{capped_carried, carried_of}
 use Rattle.xmcf_check.specs.Families.{within}
 use Rattle.xmcf_check.specs.declared.elements.Carried.{Carried}
@@ -38,12 +38,12 @@ chan_gathered ports number entries inside (Some x) carried source end dests draf
     λ i. record { kind = (same i).kind; length = (same i).size; source = ends i; dests = all i } ∷ []
 
 -- an entry's channel is what it carries
-pub chan_makes : (ports : List (List (List ℕ))) (entries : List Entry) → Makes (chan_at ports entries) (λ number. chan_with ports (children number entries)) carried_of
-unfolding chan_at
+pub chan_makes : (ports : List (List (List ℕ))) (entries : List Entry) → Makes (described_chan ports entries) (λ number. chan_with ports (children number entries)) carried_of
+unfolding described_chan
 chan_makes ports entries = (λ n entry. refl, λ n. refl)
 
 -- partitions with capped consoles have the same ports
 pub names-capped : (parts : List Part) → port_names (map capped_part parts) ≡ port_names parts
 unfolding capped_part
 names-capped [] = refl
-names-capped (part ∷ parts) = ap (λ names. names_of part.ports ∷ names) (names-capped parts)
+names-capped (part ∷ parts) = ap (λ names. names_of_ports part.ports ∷ names) (names-capped parts)

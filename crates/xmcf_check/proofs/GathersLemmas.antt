@@ -16,7 +16,7 @@ use Rattle.xmcf_reader.specs.declared.draft.Element.TheVariants as element
 use Rattle.xmcf_reader.specs.declared.draft.Entry.{Entry}
 use Rattle.xmcf_check.specs.Capped.{capped_conf, capped_part, capped_plan, capped_slot}
 use Rattle.xmcf_check.specs.Described as described
-use Rattle.xmcf_check.specs.Elements.{frame_of, given_of, own_of, part_id_of, plan_id_of, slot_id_of, slot_of, uart_id_of, uart_of}
+use Rattle.xmcf_check.specs.Elements.{element_frame, element_answer, element_own, part_id_of, plan_id_of, slot_id_of, element_slot, uart_id_of, uart_of}
 use Rattle.xmcf_check.specs.Gathered.{Gathered}
 use Rattle.xmcf_check.specs.Judged as judged
 use Rattle.xmcf_check.specs.declared.elements.Given.{Given}
@@ -28,9 +28,9 @@ use Rattle.xmcf_check.proofs.GivenLemmas.{action_for-given, flags-below, length-
 -- an element has one of two values exactly where it has the other
 pub record Paired (element : Element) : Type 0 where
   pub uart : is_some (uart_id_of element) ≡ is_some (uart_of element)
-  pub plan : is_some (plan_id_of element) ≡ is_some (frame_of element)
-  pub slot : is_some (slot_id_of element) ≡ is_some (slot_of element)
-  pub part : is_some (part_id_of element) ≡ is_some (own_of element)
+  pub plan : is_some (plan_id_of element) ≡ is_some (element_frame element)
+  pub slot : is_some (slot_id_of element) ≡ is_some (element_slot element)
+  pub part : is_some (part_id_of element) ≡ is_some (element_own element)
 
 -- so it is with each element
 paired : (e : Element) → Paired e
@@ -97,35 +97,35 @@ length-each f h same n (x ∷ xs) = length-append (f n x) (each_from f (n + 1) x
 -- What partitions say of health events.
 
 -- the action that is given, by its answer
-action-answer : (e : Event) (o : Option Given) → described.action_given e o ≡ judged.action_or_default e (on described.answer_to o)
+action-answer : (e : Event) (o : Option Given) → described.given_or_default e o ≡ judged.action_or_default e (on described.given_answer o)
 action-answer e None = refl
 action-answer e (Some given) = refl
 
 -- the action for an event, in the order of the text and in that of the events
-action-same : (given : List Given) (e : Event) → described.action_for given e ≡ judged.action_for (described.answers_of given) e
-unfolding described.action_for described.given_to described.answers_of described.answers_to
-action-same given e = action-answer e (find (described.is_to e) given) ∙ sym (action_for-given described.answer_to given e)
+action-same : (given : List Given) (e : Event) → described.given_action_for given e ≡ judged.action_for (described.answers_of given) e
+unfolding described.given_action_for described.given_to described.answers_of described.answers_to
+action-same given e = action-answer e (find (described.is_to e) given) ∙ sym (action_for-given described.given_answer given e)
 
 -- a table, in the order of the text and in that of the events
-table-same : (given : List Given) → described.hm_of given ≡ judged.table_of (record { logged = described.logged_of given; answers = described.answers_of given })
-unfolding described.hm_of judged.table_of
-table-same given = ap (λ (actions : List Action). record { actions = actions; logged = described.logged_of given }) (map-same (described.action_for given) (judged.action_for (described.answers_of given)) (action-same given) events)
+table-same : (given : List Given) → described.hm_of given ≡ judged.health_table_of (record { logged = described.logged_of given; answers = described.answers_of given })
+unfolding described.hm_of judged.health_table_of
+table-same given = ap (λ (actions : List Action). record { actions = actions; logged = described.logged_of given }) (map-same (described.given_action_for given) (judged.action_for (described.answers_of given)) (action-same given) events)
 
 -- the tables of the partitions
-part-table : (uarts : List (List ℕ)) (entries : List Entry) (n : ℕ) (x : Entry) → map (λ part. part.hm) (described.part_at uarts entries n x) ≡ map judged.table_of (described.monitor_at entries n x)
-unfolding described.part_at described.monitor_at
-part-table uarts entries n x = at (own_of x.what) (part_id_of x.what) (paired x.what).part
+part-table : (uarts : List (List ℕ)) (entries : List Entry) (n : ℕ) (x : Entry) → map (λ part. part.hm) (described.described_part uarts entries n x) ≡ map judged.health_table_of (described.described_monitor entries n x)
+unfolding described.described_part described.described_monitor
+part-table uarts entries n x = at (element_own x.what) (part_id_of x.what) (paired x.what).part
   where
-    at : (own : Option Own) (id : Option ℕ) → is_some id ≡ is_some own → map (λ part. part.hm) (described.part_with uarts (described.children n entries) (described.grandchildren n entries) own) ≡ map judged.table_of (described.monitor_with (described.grandchildren n entries) id)
+    at : (own : Option Own) (id : Option ℕ) → is_some id ≡ is_some own → map (λ part. part.hm) (described.part_with uarts (described.children n entries) (described.grandchildren n entries) own) ≡ map judged.health_table_of (described.monitor_with (described.grandchildren n entries) id)
     at None None is = refl
     at None (Some id) is = absurd (let no : ⊥ = cc in no)
     at (Some own) None is = absurd (let no : ⊥ = cc in no)
-    at (Some own) (Some id) is = ap (λ (table : HmTable). table ∷ []) (table-same (described.among given_of (described.grandchildren n entries)))
+    at (Some own) (Some id) is = ap (λ (table : HmTable). table ∷ []) (table-same (described.among element_answer (described.grandchildren n entries)))
 
 -- all tables
-tables-same : (entries : List Entry) → map (λ part. part.hm) (described.parts_of entries) ≡ map judged.table_of (described.monitors_of entries)
+tables-same : (entries : List Entry) → map (λ part. part.hm) (described.parts_of entries) ≡ map judged.health_table_of (described.monitors_of entries)
 unfolding described.parts_of described.parts_by described.monitors_of
-tables-same entries = map-each (λ (part : Part). part.hm) judged.table_of (described.part_at (described.uarts_of entries) entries) (described.monitor_at entries) (part-table (described.uarts_of entries) entries) 0 entries
+tables-same entries = map-each (λ (part : Part). part.hm) judged.health_table_of (described.described_part (described.uarts_of entries) entries) (described.described_monitor entries) (part-table (described.uarts_of entries) entries) 0 entries
 
 -- the flags of a partition's events are bits 0 to 11
 logged-below : (given : List Given) → described.logged_of given < 4096
@@ -133,8 +133,8 @@ unfolding described.logged_of described.flag_for
 logged-below given = flags-below (λ e. described.log_given (described.given_to given e))
 
 -- so it is with each partition
-monitor-below : (entries : List Entry) (n : ℕ) (x : Entry) → All (λ (monitor : Monitor). monitor.logged < 4096) (described.monitor_at entries n x)
-unfolding described.monitor_at
+monitor-below : (entries : List Entry) (n : ℕ) (x : Entry) → All (λ (monitor : Monitor). monitor.logged < 4096) (described.described_monitor entries n x)
+unfolding described.described_monitor
 monitor-below entries n x = at (part_id_of x.what)
   where
     at : (id : Option ℕ) → All (λ (monitor : Monitor). monitor.logged < 4096) (described.monitor_with (described.grandchildren n entries) id)
@@ -144,28 +144,28 @@ monitor-below entries n x = at (part_id_of x.what)
 -- the flags of all
 all-below : (entries : List Entry) → All (λ (monitor : Monitor). monitor.logged < 4096) (described.monitors_of entries)
 unfolding described.monitors_of
-all-below entries = all-each (λ (monitor : Monitor). monitor.logged < 4096) (described.monitor_at entries) (monitor-below entries) 0 entries
+all-below entries = all-each (λ (monitor : Monitor). monitor.logged < 4096) (described.described_monitor entries) (monitor-below entries) 0 entries
 
 -- Sizes.
 
 -- a plan has as many ids of slots as slots
-plan-slots : (entries : List Entry) (n : ℕ) (x : Entry) → map (λ (plan : PlanIds). length plan.slots) (described.plan_ids_at entries n x) ≡ map (λ (plan : Plan). length (capped_plan plan).slots) (described.plan_at entries n x)
-unfolding described.plan_ids_at described.plan_at capped_plan
-plan-slots entries n x = at (plan_id_of x.what) (frame_of x.what) (paired x.what).plan
+plan-slots : (entries : List Entry) (n : ℕ) (x : Entry) → map (λ (plan : PlanIds). length plan.slots) (described.plan_ids_at entries n x) ≡ map (λ (plan : Plan). length (capped_plan plan).slots) (described.described_plan entries n x)
+unfolding described.plan_ids_at described.described_plan capped_plan
+plan-slots entries n x = at (plan_id_of x.what) (element_frame x.what) (paired x.what).plan
   where
-    at : (id frame : Option ℕ) → is_some id ≡ is_some frame → map (λ (plan : PlanIds). length plan.slots) (described.plan_ids_with (described.children n entries) id) ≡ map (λ (plan : Plan). length (map capped_slot plan.slots)) (described.plan_with (described.children n entries) frame)
+    at : (id frame : Option ℕ) → is_some id ≡ is_some frame → map (λ (plan : PlanIds). length plan.slots) (described.plan_ids_with (described.children n entries) id) ≡ map (λ (plan : Plan). length (map capped_slot plan.slots)) (described.plan_of_children (described.children n entries) frame)
     at None None is = refl
     at None (Some frame) is = absurd (let no : ⊥ = cc in no)
     at (Some id) None is = absurd (let no : ⊥ = cc in no)
     at (Some id) (Some frame) is =
         ap (λ (count : ℕ). count ∷ [])
-        (length-filter_map (λ (entry : Entry). slot_id_of entry.what) (λ (entry : Entry). slot_of entry.what) (λ entry. (paired entry.what).slot) (described.children n entries)
-        ∙ sym (map-length capped_slot (described.among slot_of (described.children n entries))))
+        (length-filter_map (λ (entry : Entry). slot_id_of entry.what) (λ (entry : Entry). element_slot entry.what) (λ entry. (paired entry.what).slot) (described.children n entries)
+        ∙ sym (map-length capped_slot (described.among element_slot (described.children n entries))))
 
 -- the partition that an entry is, or none
-part-one : (uarts : List (List ℕ)) (entries : List Entry) (n : ℕ) (x : Entry) → length (described.part_at uarts entries n x) ≡ length (cons_option (part_id_of x.what) [])
-unfolding described.part_at
-part-one uarts entries n x = at (own_of x.what) (part_id_of x.what) (paired x.what).part
+part-one : (uarts : List (List ℕ)) (entries : List Entry) (n : ℕ) (x : Entry) → length (described.described_part uarts entries n x) ≡ length (cons_option (part_id_of x.what) [])
+unfolding described.described_part
+part-one uarts entries n x = at (element_own x.what) (part_id_of x.what) (paired x.what).part
   where
     at : (own : Option Own) (id : Option ℕ) → is_some id ≡ is_some own → length (described.part_with uarts (described.children n entries) (described.grandchildren n entries) own) ≡ length (cons_option id [])
     at None None is = refl
@@ -174,33 +174,33 @@ part-one uarts entries n x = at (own_of x.what) (part_id_of x.what) (paired x.wh
     at (Some own) (Some id) is = refl
 
 -- there are as many ids as items that have them, and answers for each partition
-sizes : (entries : List Entry) → judged.HasSizes (judged.gathered_of (capped_conf (described.conf_of entries)) (described.described_ids entries) (map (λ (monitor : Monitor). monitor.answers) (described.monitors_of entries)))
-unfolding capped_conf described.conf_of described.described_ids described.uarts_of described.plans_of described.plans_ids_of described.parts_of described.parts_by
+sizes : (entries : List Entry) → judged.HasSizes (judged.gathered_of (capped_conf (described.described_conf entries)) (described.described_ids entries) (map (λ (monitor : Monitor). monitor.answers) (described.monitors_of entries)))
+unfolding capped_conf described.described_conf described.described_ids described.uarts_of described.plans_of described.plans_ids_of described.parts_of described.parts_by
 sizes entries =
     let parts = described.parts_of entries in
     record {
       uarts = length-filter_map (λ (entry : Entry). uart_id_of entry.what) (λ (entry : Entry). uart_of entry.what) (λ entry. (paired entry.what).uart) entries;
-      slots = map-each (λ (plan : PlanIds). length plan.slots) (λ (plan : Plan). length (capped_plan plan).slots) (described.plan_ids_at entries) (described.plan_at entries) (plan-slots entries) 0 entries
+      slots = map-each (λ (plan : PlanIds). length plan.slots) (λ (plan : Plan). length (capped_plan plan).slots) (described.plan_ids_at entries) (described.described_plan entries) (plan-slots entries) 0 entries
           ∙ sym (map-made (λ (plan : Plan). length plan.slots) capped_plan (described.plans_of entries));
-      parts = sym (length-each (described.part_at (described.uarts_of entries) entries) (λ (entry : Entry). part_id_of entry.what) (part-one (described.uarts_of entries) entries) 0 entries)
+      parts = sym (length-each (described.described_part (described.uarts_of entries) entries) (λ (entry : Entry). part_id_of entry.what) (part-one (described.uarts_of entries) entries) 0 entries)
           ∙ sym (map-length capped_part parts);
       answers = map-length (λ (monitor : Monitor). monitor.answers) (described.monitors_of entries)
-          ∙ sym (map-length judged.table_of (described.monitors_of entries))
+          ∙ sym (map-length judged.health_table_of (described.monitors_of entries))
           ∙ ap length (sym (tables-same entries))
           ∙ map-length (λ (part : Part). part.hm) parts
           ∙ sym (map-length capped_part parts);
     }
 
 -- the tables of the configuration
-tables-conf : (entries : List Entry) → map (λ (part : Part). part.hm) (described.conf_of entries).parts ≡ map judged.table_of (described.monitors_of entries)
-unfolding described.conf_of
+tables-conf : (entries : List Entry) → map (λ (part : Part). part.hm) (described.described_conf entries).parts ≡ map judged.health_table_of (described.monitors_of entries)
+unfolding described.described_conf
 tables-conf entries = tables-same entries
 
 -- what is gathered of a draft is gathered of its description
 pub gathers : (g : Gathered) (entries : List Entry) → g.raw ≡ capped_conf (described.description_of entries).conf → g.ids ≡ (described.description_of entries).ids → g.answers ≡ map (λ (monitor : Monitor). monitor.answers) (described.description_of entries).monitors → judged.Gathers g (described.description_of entries)
 unfolding described.description_of
 gathers g entries conf ids answers =
-    let same : g ≡ judged.gathered_of (capped_conf (described.conf_of entries)) (described.described_ids entries) (map (λ (monitor : Monitor). monitor.answers) (described.monitors_of entries)) =
+    let same : g ≡ judged.gathered_of (capped_conf (described.described_conf entries)) (described.described_ids entries) (map (λ (monitor : Monitor). monitor.answers) (described.monitors_of entries)) =
     λ i. judged.gathered_of (conf i) (ids i) (answers i) in
     record {
       conf = conf;

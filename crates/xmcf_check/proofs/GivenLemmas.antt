@@ -7,34 +7,34 @@ use Rattle.std.proofs.lemmas.List.Sums.{sum_by-cons}
 use Rattle.std.proofs.lemmas.Bool.Decides.{nat_tests}
 use Rattle.xm_base.specs.Options.{on}
 use Rattle.xm_conf.specs.Along.{each_from}
-use Rattle.xm_conf.specs.Description.{Answer}
+use Rattle.xm_conf.specs.Description.{HealthAnswer}
 use Rattle.xm_conf.specs.Health.{event_row, events}
 use Rattle.xm_conf.specs.declared.health.Event.{Event}
 use Rattle.xm_conf.specs.declared.health.Event.TheVariants as event
 use Rattle.xmcf_check.specs.Judged.{action_for, action_or_default}
-use Rattle.xmcf_check.specs.Told.{first_of}
+use Rattle.xmcf_check.specs.Told.{first_there}
 use Rattle.xmcf_check.proofs.ListLemmas.{both}
 
 -- whether an answer is to an event
-abbrev pub is_answer : Event → Answer → Bool
+abbrev pub is_answer : Event → HealthAnswer → Bool
 is_answer e answer = (event_row answer.event).number == (event_row e).number
 
 -- the answers that elements give to an event
-abbrev pub given_for : {G : Type 0} → (G → Answer) → List G → Event → List Answer
+abbrev pub given_for : {G : Type 0} → (G → HealthAnswer) → List G → Event → List HealthAnswer
 given_for answer given e = map answer (filter (λ g. is_answer e (answer g)) given)
 
 -- what is found in one list after another
-find-append : {X : Type 0} (p : X → Bool) (xs ys : List X) → find p (xs ++ ys) ≡ first_of (find p xs) (find p ys)
+find-append : {X : Type 0} (p : X → Bool) (xs ys : List X) → find p (xs ++ ys) ≡ first_there (find p xs) (find p ys)
 find-append p [] ys = refl
 find-append p (x ∷ xs) ys = at (p x) (find-append p xs ys)
   where
-    at : (t : Bool) → find p (xs ++ ys) ≡ first_of (find p xs) (find p ys)
-        → (if t then Some x else find p (xs ++ ys)) ≡ first_of (if t then Some x else find p xs) (find p ys)
+    at : (t : Bool) → find p (xs ++ ys) ≡ first_there (find p xs) (find p ys)
+        → (if t then Some x else find p (xs ++ ys)) ≡ first_there (if t then Some x else find p xs) (find p ys)
     at true rest = refl
     at false rest = rest
 
 -- the first answer to an event among those that are given to it
-find-same : {G : Type 0} (answer : G → Answer) (e x : Event) → (event_row e).number ≡ (event_row x).number → (given : List G)
+find-same : {G : Type 0} (answer : G → HealthAnswer) (e x : Event) → (event_row e).number ≡ (event_row x).number → (given : List G)
     → find (is_answer x) (given_for answer given e) ≡ on answer (find (λ g. is_answer x (answer g)) given)
 find-same answer e x same [] = refl
 find-same answer e x same (g ∷ given) =
@@ -48,7 +48,7 @@ find-same answer e x same (g ∷ given) =
     at false is rest = rest
 
 -- no answer to an event is among those that are given to another
-find-other : {G : Type 0} (answer : G → Answer) (e x : Event) → ((event_row e).number == (event_row x).number) ≡ false → (given : List G)
+find-other : {G : Type 0} (answer : G → HealthAnswer) (e x : Event) → ((event_row e).number == (event_row x).number) ≡ false → (given : List G)
     → find (is_answer x) (given_for answer given e) ≡ None
 find-other answer e x other [] = refl
 find-other answer e x other (g ∷ given) = at (is_answer e (answer g)) refl (find-other answer e x other given)
@@ -61,7 +61,7 @@ find-other answer e x other (g ∷ given) = at (is_answer e (answer g)) refl (fi
     at false is rest = rest
 
 -- the first answer to an event, where those to it are among the answers to some events
-find-given : {G : Type 0} (answer : G → Answer) (x : Event) (given : List G) (es : List Event)
+find-given : {G : Type 0} (answer : G → HealthAnswer) (x : Event) (given : List G) (es : List Event)
     → find (is_answer x) (flat_map (given_for answer given) es)
     ≡ (if list_any (λ e. (event_row e).number == (event_row x).number) es then on answer (find (λ g. is_answer x (answer g)) given) else None)
 find-given answer x given [] = refl
@@ -69,22 +69,22 @@ find-given answer x given (e ∷ es) =
     find-append (is_answer x) (given_for answer given e) (flat_map (given_for answer given) es)
     ∙ at ((event_row e).number == (event_row x).number) refl (list_any (λ e. (event_row e).number == (event_row x).number) es) (find-given answer x given es)
   where
-    found : Option Answer
+    found : Option HealthAnswer
     found = on answer (find (λ g. is_answer x (answer g)) given)
 
-    twice : (o : Option Answer) (t : Bool) → first_of o (if t then o else None) ≡ o
+    twice : (o : Option HealthAnswer) (t : Bool) → first_there o (if t then o else None) ≡ o
     twice None true = refl
     twice None false = refl
     twice (Some a) t = refl
 
     at : (t : Bool) → ((event_row e).number == (event_row x).number) ≡ t → (later : Bool) → find (is_answer x) (flat_map (given_for answer given) es) ≡ (if later then found else None)
-        → first_of (find (is_answer x) (given_for answer given e)) (find (is_answer x) (flat_map (given_for answer given) es)) ≡ (if t || later then found else None)
+        → first_there (find (is_answer x) (given_for answer given e)) (find (is_answer x) (flat_map (given_for answer given) es)) ≡ (if t || later then found else None)
     at true is later rest =
         let same : (event_row e).number ≡ (event_row x).number = grind (arith, nat_tests) in
-        ap (λ o. first_of o (find (is_answer x) (flat_map (given_for answer given) es))) (find-same answer e x same given)
-        ∙ ap (λ o. first_of found o) rest ∙ twice found later
+        ap (λ o. first_there o (find (is_answer x) (flat_map (given_for answer given) es))) (find-same answer e x same given)
+        ∙ ap (λ o. first_there found o) rest ∙ twice found later
     at false is later rest =
-        ap (λ o. first_of o (find (is_answer x) (flat_map (given_for answer given) es))) (find-other answer e x is given) ∙ rest
+        ap (λ o. first_there o (find (is_answer x) (flat_map (given_for answer given) es))) (find-other answer e x is given) ∙ rest
 
 -- each event is one of all
 any-event : (x : Event) → list_any (λ e. (event_row e).number == (event_row x).number) events ≡ true
@@ -102,7 +102,7 @@ any-event event.SparcInstrAccess = refl
 any-event event.SparcDataAccess = refl
 
 -- the action for an event is that of the first that is given to it
-pub action_for-given : {G : Type 0} (answer : G → Answer) (given : List G) (x : Event)
+pub action_for-given : {G : Type 0} (answer : G → HealthAnswer) (given : List G) (x : Event)
     → action_for (flat_map (given_for answer given) events) x ≡ action_or_default x (on answer (find (λ g. is_answer x (answer g)) given))
 unfolding action_for
 action_for-given answer given x =

@@ -2,9 +2,9 @@
 use Rattle.std.proofs.Common.{ℕ, ◌+◌, ◌≤◌, Bool, true, false, List, [], ◌∷◌, ◌++◌, length, Option, Some, None, arith}
 use Rattle.std.specs.Prelude.{IfSome}
 use Rattle.std.specs.Str.{bytes_eq}
-use Rattle.xm_conf.specs.Along.{head_of, each, each_from, along, along_from, unless}
+use Rattle.xm_conf.specs.Along.{head_of, added_by_each, each_from, along, along_from, unless}
 use Rattle.xm_conf.specs.Configuration.{Plan, Part, Chan, Conf}
-use Rattle.xm_conf.specs.Description.{Answer, Monitor}
+use Rattle.xm_conf.specs.Description.{HealthAnswer, Monitor}
 use Rattle.xm_conf.specs.Rules as rules
 use Rattle.xm_conf.specs.declared.channel.ChanKind.{ChanKind}
 use Rattle.xm_conf.specs.declared.channel.ChanKind.TheVariants as chan_kind
@@ -53,7 +53,7 @@ begins-along f is before (x ∷ xs) =
 plan_counts-begins : (n : ℕ) (plan : Plan) → Begins 1 1 (rules.plan_counts n plan)
 unfolding rules.plan_counts
 plan_counts-begins n plan =
-    begins-append _ (rules.past 64 (item.Slot n) plan.slots)
+    begins-append _ (rules.past_limit 64 (item.Slot n) plan.slots)
     (begins-append _ _ (begins-unless 1 1 _ (rules.alone 1 (item.Plan n)) (omega arith) (omega arith))
     (begins-unless 1 1 _ (rules.alone 1 (item.Plan n)) (omega arith) (omega arith)))
     (begins-unless 1 1 _ (rules.alone 1 (item.Slot n 64)) (omega arith) (omega arith))
@@ -62,8 +62,8 @@ plan_counts-begins n plan =
 part_counts-begins : (n : ℕ) (part : Part) → Begins 1 1 (rules.part_counts n part)
 unfolding rules.part_counts
 part_counts-begins n part =
-    begins-append _ (rules.past 32 (item.Port n) part.ports)
-    (begins-append _ (rules.past 8 (item.Area n) part.areas)
+    begins-append _ (rules.past_limit 32 (item.Port n) part.ports)
+    (begins-append _ (rules.past_limit 8 (item.Area n) part.areas)
     (begins-append _ _ (begins-unless 1 1 _ (rules.alone 1 (item.Part n)) (omega arith) (omega arith))
     (begins-unless 1 1 _ (rules.alone 1 (item.Part n)) (omega arith) (omega arith)))
     (begins-unless 1 1 _ (rules.alone 1 (item.Area n 8)) (omega arith) (omega arith)))
@@ -86,11 +86,11 @@ chan_counts-begins n chan =
 pub rule_1-begins : (conf : Conf) → Begins 1 1 (rules.rule_1 conf)
 unfolding rules.rule_1 rules.list_counts
 rule_1-begins conf =
-    begins-append _ (each rules.chan_counts conf.chans)
-    (begins-append _ (each rules.part_counts conf.parts)
-    (begins-append (rules.list_counts conf) (each rules.plan_counts conf.plans)
-    (begins-append _ (rules.past 8 item.Uart conf.uarts)
-    (begins-append _ (rules.past 8 item.Region conf.regions) (begins-unless 1 1 _ (rules.alone 1 item.Whole) (omega arith) (omega arith))
+    begins-append _ (added_by_each rules.chan_counts conf.chans)
+    (begins-append _ (added_by_each rules.part_counts conf.parts)
+    (begins-append (rules.list_counts conf) (added_by_each rules.plan_counts conf.plans)
+    (begins-append _ (rules.past_limit 8 item.Uart conf.uarts)
+    (begins-append _ (rules.past_limit 8 item.Region conf.regions) (begins-unless 1 1 _ (rules.alone 1 item.Whole) (omega arith) (omega arith))
     (begins-unless 1 1 _ (rules.alone 1 (item.Region 8)) (omega arith) (omega arith)))
     (begins-unless 1 1 _ (rules.alone 1 (item.Uart 8)) (omega arith) (omega arith)))
     (begins-each rules.plan_counts plan_counts-begins 0 conf.plans))
@@ -157,7 +157,7 @@ plan_rules-begins conf =
     (begins-append _ (rules.rule_13 conf)
     (begins-append (rules.rule_11 conf) (rules.rule_12 conf)
     (begins-each rules.frame_broken
-    (λ p plan. begins-append _ (each (rules.late_slot p plan.frame) plan.slots) (begins-told _ 11 (item.Plan p) (item.Plan p) (omega arith) (omega arith))
+    (λ p plan. begins-append _ (added_by_each (rules.late_slot p plan.frame) plan.slots) (begins-told _ 11 (item.Plan p) (item.Plan p) (omega arith) (omega arith))
     (begins-each (rules.late_slot p plan.frame) (λ n slot. begins-told _ 11 (item.Slot p n) (item.Plan p) (omega arith) (omega arith)) 0 plan.slots))
     0 conf.plans)
     (begins-each rules.early_slots
@@ -175,14 +175,14 @@ chan_rules-begins conf =
     (begins-append (rules.rule_15 conf) (rules.rule_16 conf)
     (begins-each rules.unfit_chan (λ n chan. begins-told _ 15 _ _ (omega arith) (omega arith)) 0 conf.chans)
     (begins-each (rules.stray_ends conf.parts)
-    (λ c chan. begins-append _ (each (rules.stray_dest conf.parts c) chan.dests) (begins-told _ 16 _ _ (omega arith) (omega arith))
+    (λ c chan. begins-append _ (added_by_each (rules.stray_dest conf.parts c) chan.dests) (begins-told _ 16 _ _ (omega arith) (omega arith))
     (begins-each (rules.stray_dest conf.parts c) (λ n end. begins-told _ 16 _ _ (omega arith) (omega arith)) 0 chan.dests))
     0 conf.chans))
     (begins-each (rules.wrong_ends conf.parts)
-    (λ c chan. begins-append _ (each (rules.wrong_dest conf.parts chan.kind c) chan.dests) (begins-told _ 17 _ _ (omega arith) (omega arith))
+    (λ c chan. begins-append _ (added_by_each (rules.wrong_dest conf.parts chan.kind c) chan.dests) (begins-told _ 17 _ _ (omega arith) (omega arith))
     (begins-each (rules.wrong_dest conf.parts chan.kind c) (λ n end. begins-told _ 17 _ _ (omega arith) (omega arith)) 0 chan.dests))
     0 conf.chans))
-    (begins-along (rules.meets 18 rules.same_end) (λ before x. begins-beside 3 18 18 _ _ (omega arith) (omega arith)) [] (each rules.chan_ends conf.chans))
+    (begins-along (rules.meets 18 rules.same_end) (λ before x. begins-beside 3 18 18 _ _ (omega arith) (omega arith)) [] (added_by_each rules.chan_ends conf.chans))
 
 -- rules 3 to 18
 pub middle-begins : (conf : Conf) → Begins 3 18 (rules.rule_3 conf ++ rules.memory_rules conf ++ rules.plan_rules conf ++ rules.chan_rules conf)
@@ -193,7 +193,7 @@ middle-begins conf =
     (chan_rules-begins conf)
 
 -- an answer
-answer-begins : (plans p : ℕ) (before : List Answer) (answer : Answer) → Begins 19 20 (rules.answer_broken plans p before answer)
+answer-begins : (plans p : ℕ) (before : List HealthAnswer) (answer : HealthAnswer) → Begins 19 20 (rules.answer_broken plans p before answer)
 unfolding rules.answer_broken
 answer-begins plans p before answer =
     begins-append _ (unless (rules.has_plan plans answer.action) (rules.alone 19 (item.Event p (length before))))

@@ -2,7 +2,7 @@
 use Rattle.std.proofs.Common.{◌≡◌, ℕ, ◌+◌, Bool, true, false, List, [], ◌∷◌, ◌++◌, Some, None, refl, ap, ◌∙◌}
 use Rattle.std.specs.Prelude.{◌==◌}
 use Rattle.xm_base.specs.Options.{on}
-use Rattle.xm_conf.specs.Along.{head_of, each, each_from, unless}
+use Rattle.xm_conf.specs.Along.{head_of, added_by_each, each_from, unless}
 use Rattle.xm_conf.specs.Rules.{alone, misplaced}
 use Rattle.xm_conf.specs.declared.item.Item.{Item}
 use Rattle.xm_conf.specs.declared.item.Broken.{Broken}
@@ -22,15 +22,15 @@ first_from numbered n (id ∷ ids) = at (id == n) (first_from numbered (n + 1) i
 
 -- the first id that is not its place is the first that is told
 pub first_misplaced : (numbered : ℕ → Item) (ids : List ℕ)
-    → on (λ k. alone 2 (numbered k)) (head_of (each misplace ids)) ≡ head_of (each (misplaced numbered) ids)
+    → on (λ k. alone 2 (numbered k)) (head_of (added_by_each misplace ids)) ≡ head_of (added_by_each (misplaced numbered) ids)
 first_misplaced numbered ids = first_from numbered 0 ids
 
 -- what is told of an id that is not its place
-pub some_misplaced : (numbered : ℕ → Item) (ids : List ℕ) (n : ℕ) (told : Broken) → Some n ≡ head_of (each misplace ids)
-    → told ≡ alone 2 (numbered n) → Some told ≡ head_of (each (misplaced numbered) ids)
+pub some_misplaced : (numbered : ℕ → Item) (ids : List ℕ) (n : ℕ) (told : Broken) → Some n ≡ head_of (added_by_each misplace ids)
+    → told ≡ alone 2 (numbered n) → Some told ≡ head_of (added_by_each (misplaced numbered) ids)
 some_misplaced numbered ids n told found is =
     ap (λ b. Some b) is ∙ ap (λ place. on (λ k. alone 2 (numbered k)) place) found ∙ first_misplaced numbered ids
 
 -- nothing is told where each id is its place
-pub none_misplaced : (numbered : ℕ → Item) (ids : List ℕ) → None ≡ head_of (each misplace ids) → None ≡ head_of (each (misplaced numbered) ids)
+pub none_misplaced : (numbered : ℕ → Item) (ids : List ℕ) → None ≡ head_of (added_by_each misplace ids) → None ≡ head_of (added_by_each (misplaced numbered) ids)
 none_misplaced numbered ids found = ap (λ place. on (λ k. alone 2 (numbered k)) place) found ∙ first_misplaced numbered ids

@@ -4,17 +4,17 @@ use Rattle.std.specs.Prelude.{◌==◌, All}
 use Rattle.std.proofs.lemmas.List.{length-map}
 use Rattle.std.proofs.lemmas.List.Elements.{All-nil, All-cons, All-head, All-tail}
 use Rattle.std.proofs.lemmas.Bool.Decides.{nat_tests}
-use Rattle.xm_conf.specs.Along.{head_of, each, each_from}
+use Rattle.xm_conf.specs.Along.{head_of, added_by_each, each_from}
 use Rattle.xm_conf.specs.Configuration.{Plan, Conf}
-use Rattle.xm_conf.specs.Description.{PlanIds, Ids, Answer, Description, ids_of, plan_ids, monitor_of, described}
+use Rattle.xm_conf.specs.Description.{PlanIds, Ids, HealthAnswer, Description, ids_of, plan_ids, monitor_of, described}
 use Rattle.xm_conf.specs.Rules as rules
 use Rattle.xm_conf.specs.declared.item.Item.{Item}
 use Rattle.xm_conf.specs.declared.item.Item.TheVariants as item
 use Rattle.xm_conf.specs.declared.item.Broken.{Broken}
 use Rattle.xmcf_check.specs.Answered.{answers_broken}
 use Rattle.xmcf_check.specs.Capped.{capped_plan, capped_part, capped_conf}
-use Rattle.xmcf_check.specs.Judged.{HasSizes, Gathers, gathered_of, table_of}
-use Rattle.xmcf_check.specs.Told.{first_of, is_within, told_among, first_told, HasFew}
+use Rattle.xmcf_check.specs.Judged.{HasSizes, Gathers, gathered_of, health_table_of}
+use Rattle.xmcf_check.specs.Told.{first_there, is_within, told_among, first_told, HasFew}
 use Rattle.xmcf_check.proofs.ListLemmas.{both, front_none, back_none, back_first}
 use Rattle.xmcf_check.proofs.BoundLemmas.{IsBounded, bounded, few_of}
 use Rattle.xmcf_check.proofs.CappedLemmas.{rule_1-capped, rule_3-capped, memory_rules-capped, plan_rules-capped, rule_20-capped}
@@ -48,12 +48,12 @@ no_head [] none = refl
 no_head (x ∷ xs) none = absurd (let no : ⊥ = cc in no)
 
 -- what comes behind matters where nothing comes first
-first_same : {X : Type 0} (a : List X) (x y : Option X) → (a ≡ [] → x ≡ y) → first_of (head_of a) x ≡ first_of (head_of a) y
+first_same : {X : Type 0} (a : List X) (x y : Option X) → (a ≡ [] → x ≡ y) → first_there (head_of a) x ≡ first_there (head_of a) y
 first_same [] x y same = same refl
 first_same (z ∷ a) x y same = refl
 
 -- of two, one that is there is from the one to the other
-first_from : (low high : ℕ) (x y : Option Broken) → IsFrom low high x → IsFrom low high y → IsFrom low high (first_of x y)
+first_from : (low high : ℕ) (x y : Option Broken) → IsFrom low high x → IsFrom low high y → IsFrom low high (first_there x y)
 first_from low high None y one other = other
 first_from low high (Some x) y one other = one
 
@@ -70,13 +70,13 @@ abbrev tables_broken : Conf → Option Broken
 tables_broken conf = head_of (rules.rule_19 (length conf.plans) (map monitor_of (map capped_part conf.parts)))
 
 -- the first rule that a configuration with capped numbers breaks, of the rules before
-front-parts : (conf : Conf) → rules.first_broken (described conf) ≡ first_of (head_of (rules.rule_1 conf)) (first_of (head_of (middle conf))
-    (first_of (head_of (rules.rule_19 (length conf.plans) (map monitor_of conf.parts))) (head_of (rules.rule_20 conf))))
+front-parts : (conf : Conf) → rules.first_broken (described conf) ≡ first_there (head_of (rules.rule_1 conf)) (first_there (head_of (middle conf))
+    (first_there (head_of (rules.rule_19 (length conf.plans) (map monitor_of conf.parts))) (head_of (rules.rule_20 conf))))
 unfolding described
 front-parts conf =
     first_broken-parts (described conf)
-    ∙ ap (λ ids. first_of (head_of (rules.rule_1 conf)) (first_of (head_of ids) (first_of (head_of (middle conf))
-    (first_of (head_of (rules.rule_19 (length conf.plans) (map monitor_of conf.parts))) (head_of (rules.rule_20 conf))))))
+    ∙ ap (λ ids. first_there (head_of (rules.rule_1 conf)) (first_there (head_of ids) (first_there (head_of (middle conf))
+    (first_there (head_of (rules.rule_19 (length conf.plans) (map monitor_of conf.parts))) (head_of (rules.rule_20 conf))))))
     (rule_2-ids_of conf)
 
 -- rule 19 of a configuration whose numbers are capped
@@ -86,35 +86,35 @@ tables-capped conf = ap (λ n. head_of (rules.rule_19 n (map monitor_of (map cap
 
 -- the first rule that a configuration with capped numbers breaks
 capped-parts : (conf : Conf) → rules.first_broken (described (capped_conf conf))
-    ≡ first_of (head_of (rules.rule_1 conf)) (first_of (head_of (middle conf)) (first_of (tables_broken conf) (head_of (rules.rule_20 conf))))
+    ≡ first_there (head_of (rules.rule_1 conf)) (first_there (head_of (middle conf)) (first_there (tables_broken conf) (head_of (rules.rule_20 conf))))
 capped-parts conf =
     front-parts (capped_conf conf)
-    ∙ ap (λ counts. first_of (head_of counts) (first_of (head_of (middle (capped_conf conf)))
-    (first_of (head_of (rules.rule_19 (length (capped_conf conf).plans) (map monitor_of (capped_conf conf).parts))) (head_of (rules.rule_20 (capped_conf conf))))))
+    ∙ ap (λ counts. first_there (head_of counts) (first_there (head_of (middle (capped_conf conf)))
+    (first_there (head_of (rules.rule_19 (length (capped_conf conf).plans) (map monitor_of (capped_conf conf).parts))) (head_of (rules.rule_20 (capped_conf conf))))))
     (rule_1-capped conf)
-    ∙ ap (λ tables. first_of (head_of (rules.rule_1 conf)) (first_of (head_of (middle (capped_conf conf)))
-    (first_of tables (head_of (rules.rule_20 (capped_conf conf))))))
+    ∙ ap (λ tables. first_there (head_of (rules.rule_1 conf)) (first_there (head_of (middle (capped_conf conf)))
+    (first_there tables (head_of (rules.rule_20 (capped_conf conf))))))
     (tables-capped conf)
-    ∙ ap (λ needs. first_of (head_of (rules.rule_1 conf)) (first_of (head_of (middle (capped_conf conf))) (first_of (tables_broken conf) (head_of needs))))
+    ∙ ap (λ needs. first_there (head_of (rules.rule_1 conf)) (first_there (head_of (middle (capped_conf conf))) (first_there (tables_broken conf) (head_of needs))))
     (rule_20-capped conf)
     ∙ first_same (rules.rule_1 conf) _ _
-    (λ none. ap (λ others. first_of others (first_of (tables_broken conf) (head_of (rules.rule_20 conf)))) (middle-capped conf (bounded conf none)))
+    (λ none. ap (λ others. first_there others (first_there (tables_broken conf) (head_of (rules.rule_20 conf)))) (middle-capped conf (bounded conf none)))
 
 -- what is told of a description's parts
-told_parts : (d : Description) → All (λ monitor. monitor.logged < 4096) d.monitors → map (λ part. part.hm) d.conf.parts ≡ map table_of d.monitors
+told_parts : (d : Description) → All (λ monitor. monitor.logged < 4096) d.monitors → map (λ part. part.hm) d.conf.parts ≡ map health_table_of d.monitors
     → first_told (length d.conf.plans) d.ids (map (λ monitor. monitor.answers) d.monitors) (rules.first_broken (described (capped_conf d.conf))) ≡ rules.first_broken d
 unfolding first_told
 told_parts d small tables =
-    ap (λ found. told_among (head_of (rules.rule_2 d.ids)) (head_of (each (answers_broken (length d.conf.plans)) (map (λ monitor. monitor.answers) d.monitors))) found)
+    ap (λ found. told_among (head_of (rules.rule_2 d.ids)) (head_of (added_by_each (answers_broken (length d.conf.plans)) (map (λ monitor. monitor.answers) d.monitors))) found)
     (capped-parts d.conf)
     ∙ order (head_of (rules.rule_1 d.conf)) (head_of (rules.rule_2 d.ids)) (head_of (middle d.conf))
-    (head_of (each (answers_broken (length d.conf.plans)) (map (λ monitor. monitor.answers) d.monitors))) (tables_broken d.conf) (head_of (rules.rule_20 d.conf))
+    (head_of (added_by_each (answers_broken (length d.conf.plans)) (map (λ monitor. monitor.answers) d.monitors))) (tables_broken d.conf) (head_of (rules.rule_20 d.conf))
     (rule_1-begins d.conf).first (middle-begins d.conf).first
     (first_from 19 20 (tables_broken d.conf) (head_of (rules.rule_20 d.conf))
     (rule_19-begins (length d.conf.plans) (map monitor_of (map capped_part d.conf.parts))).first (rule_20-begins d.conf).first)
     (λ none. ap head_of (tables_none (length d.conf.plans) d.monitors d.conf.parts small tables (no_head _ none)))
-    ∙ ap (λ answers. first_of (head_of (rules.rule_1 d.conf)) (first_of (head_of (rules.rule_2 d.ids)) (first_of (head_of (middle d.conf))
-    (first_of (head_of answers) (head_of (rules.rule_20 d.conf))))))
+    ∙ ap (λ answers. first_there (head_of (rules.rule_1 d.conf)) (first_there (head_of (rules.rule_2 d.ids)) (first_there (head_of (middle d.conf))
+    (first_there (head_of answers) (head_of (rules.rule_20 d.conf))))))
     (answers_told (length d.conf.plans) d.monitors small)
     ∙ sym (first_broken-parts d)
 
@@ -124,7 +124,7 @@ unfolding capped_conf
 plans-capped conf = length-map conf.plans capped_plan
 
 -- what is told of what is gathered is the description's first broken rule
-pub told_first : (raw : Conf) (ids : Ids) (answers : List (List Answer)) (d : Description) → Gathers (gathered_of raw ids answers) d
+pub told_first : (raw : Conf) (ids : Ids) (answers : List (List HealthAnswer)) (d : Description) → Gathers (gathered_of raw ids answers) d
     → first_told (length raw.plans) ids answers (rules.first_broken (described raw)) ≡ rules.first_broken d
 told_first raw ids answers d gathers =
     ap (λ r. first_told (length r.plans) ids answers (rules.first_broken (described r))) gathers.conf
@@ -146,7 +146,7 @@ none_kept d none =
     conf_kept d.conf uarts (few_of d.conf bound) (back_none _ (rules.plan_rules d.conf) plans) (back_none _ (rules.chan_rules d.conf) chans)
 
 -- where rule 1 is not what is told, it holds
-counts_hold : (counts : List Broken) (rest : Option Broken) → Begins 1 1 counts → is_within 1 (first_of (head_of counts) rest) ≡ false → counts ≡ []
+counts_hold : (counts : List Broken) (rest : Option Broken) → Begins 1 1 counts → is_within 1 (first_there (head_of counts) rest) ≡ false → counts ≡ []
 counts_hold [] rest begins past = refl
 counts_hold (b ∷ counts) rest begins past =
     let small : b.rule ≤ 1 = begins.first.1 in
@@ -165,11 +165,11 @@ few_slots (i ∷ ids) (plan ∷ plans) same few =
     All-cons (λ plan. length plan.slots ≤ 64) i ids (omega arith) (few_slots ids plans rest (All-tail (λ plan. length plan.slots ≤ 64) plan plans few))
 
 -- where rule 1 is not what is found, there are few ids and answers
-pub few_told : (raw : Conf) (ids : Ids) (answers : List (List Answer)) (lists : ℕ) (found : Option Broken) → lists ≡ length answers
+pub few_told : (raw : Conf) (ids : Ids) (answers : List (List HealthAnswer)) (lists : ℕ) (found : Option Broken) → lists ≡ length answers
     → HasSizes (gathered_of raw ids answers) → found ≡ rules.first_broken (described raw) → is_within 1 found ≡ false → HasFew ids lists
 few_told raw ids answers lists found all sizes is past =
-    let parts : found ≡ first_of (head_of (rules.rule_1 raw)) (first_of (head_of (middle raw))
-    (first_of (head_of (rules.rule_19 (length raw.plans) (map monitor_of raw.parts))) (head_of (rules.rule_20 raw)))) = is ∙ front-parts raw in
+    let parts : found ≡ first_there (head_of (rules.rule_1 raw)) (first_there (head_of (middle raw))
+    (first_there (head_of (rules.rule_19 (length raw.plans) (map monitor_of raw.parts))) (head_of (rules.rule_20 raw)))) = is ∙ front-parts raw in
     let counts : rules.rule_1 raw ≡ [] = counts_hold (rules.rule_1 raw) _ (rule_1-begins raw) (ap (is_within 1) (sym parts) ∙ past) in
     let bound = bounded raw counts in
     let plans : length ids.plans ≡ length raw.plans =
@@ -183,12 +183,12 @@ few_told raw ids answers lists found all sizes is past =
     }
 
 -- what is found is told, where nothing else is
-pub told_some : (plans : ℕ) (ids : Ids) (answers : List (List Answer)) (b : Broken) → first_told plans ids answers (Some b) ≡ None → ⊥
+pub told_some : (plans : ℕ) (ids : Ids) (answers : List (List HealthAnswer)) (b : Broken) → first_told plans ids answers (Some b) ≡ None → ⊥
 unfolding first_told told_among
-told_some plans ids answers b none = at (nat_le b.rule 1) (head_of (rules.rule_2 ids)) (nat_le b.rule 18) (head_of (each (answers_broken plans) answers)) none
+told_some plans ids answers b none = at (nat_le b.rule 1) (head_of (rules.rule_2 ids)) (nat_le b.rule 18) (head_of (added_by_each (answers_broken plans) answers)) none
   where
     at : (first : Bool) (id : Option Broken) (middle : Bool) (answer : Option Broken)
-        → (if first then Some b else first_of id (if middle then Some b else first_of answer (Some b))) ≡ None → ⊥
+        → (if first then Some b else first_there id (if middle then Some b else first_there answer (Some b))) ≡ None → ⊥
     at true id middle answer none = cc
     at false (Some i) middle answer none = cc
     at false None true answer none = cc
@@ -196,7 +196,7 @@ told_some plans ids answers b none = at (nat_le b.rule 1) (head_of (rules.rule_2
     at false None false None none = cc
 
 -- what is told of what is gathered is the description's first broken rule
-pub told_is : (raw : Conf) (ids : Ids) (answers : List (List Answer)) (plans : ℕ) (found told : Option Broken) → plans ≡ length raw.plans
+pub told_is : (raw : Conf) (ids : Ids) (answers : List (List HealthAnswer)) (plans : ℕ) (found told : Option Broken) → plans ≡ length raw.plans
     → found ≡ rules.first_broken (described raw) → told ≡ first_told plans ids answers found
     → (d : Description) → Gathers (gathered_of raw ids answers) d → told ≡ rules.first_broken d
 told_is raw ids answers plans found told count is value d gathers =

@@ -6,7 +6,7 @@ use Rattle.std.proofs.lemmas.List.{length-map}
 use Rattle.std.proofs.lemmas.List.Sums.{sum_by-cons}
 use Rattle.std.proofs.lemmas.Option.{slice_get-map}
 use Rattle.xm_base.specs.Options.{on}
-use Rattle.xm_conf.specs.Along.{head_of, each, each_from, along, along_from}
+use Rattle.xm_conf.specs.Along.{head_of, added_by_each, each_from, along, along_from}
 use Rattle.xm_conf.specs.Rules.{repeated}
 use Rattle.xm_conf.specs.declared.item.Item.{Item}
 
@@ -37,7 +37,7 @@ each_from-made f h g same n (x ∷ xs) = both (same n x) (each_from-made f h g s
 
 -- elements that are made of others add what those do
 pub each-made : {X Y Z : Type 0} (f : ℕ → Y → List Z) (h : ℕ → X → List Z) (g : X → Y) → ((n : ℕ) (x : X) → f n (g x) ≡ h n x)
-    → (xs : List X) → each f (map g xs) ≡ each h xs
+    → (xs : List X) → added_by_each f (map g xs) ≡ added_by_each h xs
 each-made f h g same xs = each_from-made f h g same 0 xs
 
 -- a list with one element more, made of another

@@ -7,11 +7,11 @@ use Rattle.std.proofs.lemmas.Option.{slice_get-map}
 use Rattle.indexmap.specs.IndexMap.{IndexMap, get}
 use Rattle.xm_conf.specs.Configuration.{Part}
 use Rattle.xm_conf.specs.declared.port.Port.{Port}
-use Rattle.xmcf_check.specs.Described.{names_of, or_none, port_names}
-use Rattle.xmcf_check.specs.Numbers.{HasAllPorts, HasNone, HasPortNumbers, HasPorts, first_from, same_key}
+use Rattle.xmcf_check.specs.Described.{names_of_ports, names_or_none, port_names}
+use Rattle.xmcf_check.specs.Numbers.{HasAllPorts, HasNone, HasPortNumbers, HasNumbersForPorts, first_from, same_key}
 
 -- no port is noted yet
-pub ports_begin : {S : Type 0} (part : ℕ) (ports : List Port) (numbers : IndexMap (ℕ × Bor (List ℕ)) ℕ S) → HasNone part numbers → HasPorts part (length ports) (drop (length ports) ports) numbers numbers
+pub ports_begin : {S : Type 0} (part : ℕ) (ports : List Port) (numbers : IndexMap (ℕ × Bor (List ℕ)) ℕ S) → HasNone part numbers → HasNumbersForPorts part (length ports) (drop (length ports) ports) numbers numbers
 ports_begin part ports numbers none key = rw (drop_all (length ports) ports (omega arith)) (at (part == key.0) refl)
   where
     at : (same : Bool) → (part == key.0) ≡ same → get same_key numbers key ≡ cond same None (get same_key numbers key)
@@ -20,15 +20,15 @@ ports_begin part ports numbers none key = rw (drop_all (length ports) ports (ome
 
 -- the ports of one partition more are noted
 pub parts_more : {S : Type 0} (left : ℕ) (parts : List Part) (part : Part) (old new : IndexMap (ℕ × Bor (List ℕ)) ℕ S) → 0 < left → slice_get parts (left - 1) ≡ Some part → HasAllPorts left parts old
-    → HasPorts (left - 1) 0 part.ports old new → HasAllPorts (left - 1) parts new
+    → HasNumbersForPorts (left - 1) 0 part.ports old new → HasAllPorts (left - 1) parts new
 parts_more left parts part old new some here all more key = at ((left - 1) == key.0) refl
   where
     at : (same : Bool) → ((left - 1) == key.0) ≡ same
-        → get same_key new key ≡ cond (nat_le (left - 1) key.0) (first_from 0 (or_none (slice_get (port_names parts) key.0)) key.1.now) None
+        → get same_key new key ≡ cond (nat_le (left - 1) key.0) (first_from 0 (names_or_none (slice_get (port_names parts) key.0)) key.1.now) None
     at true same =
         let number : left - 1 ≡ key.0 = grind (arith, nat_tests, same) in
         let below : nat_le (left - 1) key.0 ≡ true = grind (arith, nat_tests, number) in
-        more key ∙ (rw (same, below, ← number, slice_get-map (λ (p : Part). names_of p.ports) parts (left - 1), here) refl)
+        more key ∙ (rw (same, below, ← number, slice_get-map (λ (p : Part). names_of_ports p.ports) parts (left - 1), here) refl)
     at false same =
         let below : nat_le (left - 1) key.0 ≡ nat_le left key.0 = grind (arith, nat_tests, same, some) in
         more key ∙ (rw (same, below) (all key))

@@ -6,7 +6,7 @@ use Rattle.std.specs.List.{position_from}
 use Rattle.std.proofs.lemmas.Bool.Decides.{nat_tests}
 use Rattle.xm_base.specs.Options.{on}
 use Rattle.xm_conf.specs.Along.{head_of, unless}
-use Rattle.xm_conf.specs.Description.{Answer}
+use Rattle.xm_conf.specs.Description.{HealthAnswer}
 use Rattle.xm_conf.specs.Health.{event_row, is_allowed}
 use Rattle.xm_conf.specs.Rules as rules
 use Rattle.xm_conf.specs.declared.health.Event.{Event}
@@ -20,25 +20,25 @@ one true = 1
 one false = 0
 
 -- the number of an answer's event
-abbrev pub number_of : Answer → ℕ
+abbrev pub number_of : HealthAnswer → ℕ
 number_of answer = (event_row answer.event).number
 
 -- how many answers are to the event of a number
-abbrev pub exactly : ℕ → List Answer → ℕ
+abbrev pub exactly : ℕ → List HealthAnswer → ℕ
 exactly k [] = 0
 exactly k (a ∷ answers) = one (number_of a == k) + exactly k answers
 
 -- no event is answered twice
-pub record IsOnce (answers : List Answer) : Type 0 where
+pub record IsOnce (answers : List HealthAnswer) : Type 0 where
   pub once : (k : ℕ) → exactly k answers ≤ 1
 
 -- one more answer
-pub exactly-push : (k : ℕ) (answers : List Answer) (a : Answer) → exactly k (answers ++ a ∷ []) ≡ exactly k answers + one (number_of a == k)
+pub exactly-push : (k : ℕ) (answers : List HealthAnswer) (a : HealthAnswer) → exactly k (answers ++ a ∷ []) ≡ exactly k answers + one (number_of a == k)
 exactly-push k [] a = omega arith
 exactly-push k (b ∷ answers) a = omega (arith, exactly-push k answers a)
 
 -- where no answer is to an event, there are none
-pub exactly-none : (n : ℕ) (a : Answer) (answers : List Answer) → position_from (λ earlier. rules.same_event earlier a) n answers ≡ None
+pub exactly-none : (n : ℕ) (a : HealthAnswer) (answers : List HealthAnswer) → position_from (λ earlier. rules.same_event earlier a) n answers ≡ None
     → exactly (number_of a) answers ≡ 0
 unfolding rules.same_event
 exactly-none n a [] none = refl
@@ -50,7 +50,7 @@ exactly-none n a (b ∷ answers) none = at (exactly-none (n + 1) a answers) (num
     at rest false later = omega (arith, rest later)
 
 -- an answer to an event that is not answered yet
-pub once_more : (answers : List Answer) (a : Answer) → IsOnce answers → position_from (λ earlier. rules.same_event earlier a) 0 answers ≡ None
+pub once_more : (answers : List HealthAnswer) (a : HealthAnswer) → IsOnce answers → position_from (λ earlier. rules.same_event earlier a) 0 answers ≡ None
     → IsOnce (answers ++ a ∷ [])
 once_more answers a once none = record { once = λ k. at k (number_of a == k) refl }
   where
@@ -65,7 +65,7 @@ once_more answers a once none = record { once = λ k. at k (number_of a == k) re
         omega (arith, exactly-push k answers a, once.once k, last)
 
 -- each answer is to one of the 12 events
-pub exactly-all : (answers : List Answer) → length answers
+pub exactly-all : (answers : List HealthAnswer) → length answers
     ≡ exactly 0 answers + exactly 1 answers + exactly 2 answers + exactly 3 answers + exactly 4 answers + exactly 5 answers
     + exactly 6 answers + exactly 7 answers + exactly 8 answers + exactly 9 answers + exactly 10 answers + exactly 11 answers
 exactly-all [] = refl
@@ -94,7 +94,7 @@ exactly-all (a ∷ answers) = at a.event (exactly-all answers)
     at event.SparcDataAccess rest = omega arith
 
 -- where no event is answered twice, there are at most 12 answers
-pub once_few : (answers : List Answer) → IsOnce answers → length answers ≤ 12
+pub once_few : (answers : List HealthAnswer) → IsOnce answers → length answers ≤ 12
 once_few answers once =
     omega (
       arith,
@@ -114,7 +114,7 @@ once_few answers once =
     )
 
 -- an answer that may stand is to an event that is not answered yet
-pub stands_once : (plans p : ℕ) (before : List Answer) (a : Answer) → is_some (head_of (rules.answer_broken plans p before a)) ≡ false
+pub stands_once : (plans p : ℕ) (before : List HealthAnswer) (a : HealthAnswer) → is_some (head_of (rules.answer_broken plans p before a)) ≡ false
     → position_from (λ earlier. rules.same_event earlier a) 0 before ≡ None
 unfolding rules.answer_broken
 stands_once plans p before a stands =
@@ -128,9 +128,9 @@ stands_once plans p before a stands =
     at false (Some n) none = cc
 
 -- one more answer that may stand
-pub once_goes_on : (plans p n : ℕ) (answers : List Answer) (d a : Answer) (found : Option Broken) → n < length answers → a ≡ get_or answers n d
+pub once_goes_on : (plans p n : ℕ) (answers : List HealthAnswer) (d a : HealthAnswer) (found : Option Broken) → n < length answers → a ≡ get_or answers n d
     → found ≡ head_of (rules.answer_broken plans p (take n answers) a) → is_some found ≡ false → IsOnce (take n answers) → IsOnce (take (n + 1) answers)
 once_goes_on plans p n answers d a found below is value none once =
     let stands : is_some (head_of (rules.answer_broken plans p (take n answers) a)) ≡ false = ap is_some (sym value) ∙ none in
-    subst (λ (front : List Answer). IsOnce front) (ap (λ y. take n answers ++ y ∷ []) is ∙ sym (take_more answers n d below))
+    subst (λ (front : List HealthAnswer). IsOnce front) (ap (λ y. take n answers ++ y ∷ []) is ∙ sym (take_more answers n d below))
     (once_more (take n answers) a once (stands_once plans p (take n answers) a stands))

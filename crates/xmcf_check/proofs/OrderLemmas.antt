@@ -7,7 +7,7 @@ use Rattle.xm_conf.specs.Configuration.{Conf}
 use Rattle.xm_conf.specs.Description.{Description}
 use Rattle.xm_conf.specs.Rules as rules
 use Rattle.xm_conf.specs.declared.item.Broken.{Broken}
-use Rattle.xmcf_check.specs.Told.{first_of, told_among}
+use Rattle.xmcf_check.specs.Told.{first_there, told_among}
 
 -- what breaks the rules from 3 to 18
 abbrev pub middle : Conf → List Broken
@@ -15,7 +15,7 @@ middle conf = rules.rule_3 conf ++ rules.memory_rules conf ++ rules.plan_rules c
 
 -- the first of lists one after another
 first-eight : {X : Type 0} (a b c1 c2 c3 c4 d e : List X) → head_of (a ++ b ++ c1 ++ c2 ++ c3 ++ c4 ++ d ++ e)
-    ≡ first_of (head_of a) (first_of (head_of b) (first_of (head_of (c1 ++ c2 ++ c3 ++ c4)) (first_of (head_of d) (head_of e))))
+    ≡ first_there (head_of a) (first_there (head_of b) (first_there (head_of (c1 ++ c2 ++ c3 ++ c4)) (first_there (head_of d) (head_of e))))
 first-eight [] [] [] [] [] [] [] e = refl
 first-eight [] [] [] [] [] [] (x ∷ d) e = refl
 first-eight [] [] [] [] [] (x ∷ c4) d e = refl
@@ -27,9 +27,9 @@ first-eight (x ∷ a) b c1 c2 c3 c4 d e = refl
 
 -- the first rule that is broken, part by part
 pub first_broken-parts : (d : Description) → rules.first_broken d
-    ≡ first_of (head_of (rules.rule_1 d.conf))
-    (first_of (head_of (rules.rule_2 d.ids)) (first_of (head_of (middle d.conf))
-    (first_of (head_of (rules.rule_19 (length d.conf.plans) d.monitors)) (head_of (rules.rule_20 d.conf)))))
+    ≡ first_there (head_of (rules.rule_1 d.conf))
+    (first_there (head_of (rules.rule_2 d.ids)) (first_there (head_of (middle d.conf))
+    (first_there (head_of (rules.rule_19 (length d.conf.plans) d.monitors)) (head_of (rules.rule_20 d.conf)))))
 unfolding rules.first_broken rules.all_broken
 first_broken-parts d =
     first-eight (rules.rule_1 d.conf) (rules.rule_2 d.ids) (rules.rule_3 d.conf) (rules.memory_rules d.conf) (rules.plan_rules d.conf)
@@ -40,8 +40,8 @@ abbrev pub IsFrom : ℕ → ℕ → Option Broken → Type 0
 IsFrom low high found = IfSome found (λ b. (low ≤ b.rule) × (b.rule ≤ high))
 
 -- what is found behind the answers, where a table's action breaks a rule only if an answer does
-order_last : (id answer table need : Option Broken) → IsFrom 19 20 (first_of table need) → (answer ≡ None → table ≡ None)
-    → told_among id answer (first_of table need) ≡ first_of id (first_of answer need)
+order_last : (id answer table need : Option Broken) → IsFrom 19 20 (first_there table need) → (answer ≡ None → table ≡ None)
+    → told_among id answer (first_there table need) ≡ first_there id (first_there answer need)
 unfolding told_among
 order_last id answer None None from none = refl
 order_last id answer None (Some b) from none =
@@ -57,9 +57,9 @@ order_last id (Some a) (Some b) need from none =
     rw (past_first, past_middle) refl
 
 -- what is found in the order of the rules
-pub order : (count id other answer table need : Option Broken) → IsFrom 1 1 count → IsFrom 3 18 other → IsFrom 19 20 (first_of table need)
+pub order : (count id other answer table need : Option Broken) → IsFrom 1 1 count → IsFrom 3 18 other → IsFrom 19 20 (first_there table need)
     → (answer ≡ None → table ≡ None)
-    → told_among id answer (first_of count (first_of other (first_of table need))) ≡ first_of count (first_of id (first_of other (first_of answer need)))
+    → told_among id answer (first_there count (first_there other (first_there table need))) ≡ first_there count (first_there id (first_there other (first_there answer need)))
 unfolding told_among
 order (Some a) id other answer table need counted from last none =
     let is : a.rule ≤ 1 = counted.1 in

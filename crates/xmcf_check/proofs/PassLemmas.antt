@@ -4,7 +4,7 @@ use Rattle.std.specs.Prelude.{slice_get}
 use Rattle.std.specs.List.{cons_option}
 use Rattle.std.proofs.lemmas.List.{take_all}
 use Rattle.xm_base.specs.Options.{on}
-use Rattle.xm_conf.specs.Along.{each, each_from, head_of}
+use Rattle.xm_conf.specs.Along.{added_by_each, each_from, head_of}
 use Rattle.xmcf_reader.specs.declared.draft.Element.{Element}
 use Rattle.xmcf_reader.specs.declared.draft.Entry.{Entry}
 use Rattle.xmcf_check.specs.Described.{among, first_among}
@@ -45,15 +45,15 @@ each_from-more f made pick n (suc i) (entry ∷ entries) makes =
 
 -- one entry more, counted from 0
 pub each-more : {X Y : Type 0} (f : ℕ → Entry → List Y) (made : ℕ → Option X → List Y) (pick : Element → Option X) (i : ℕ) (entries : List Entry) → Makes f made pick
-    → each f (take (i + 1) entries) ≡ each f (take i entries) ++ made i (picked pick (slice_get entries i))
+    → added_by_each f (take (i + 1) entries) ≡ added_by_each f (take i entries) ++ made i (picked pick (slice_get entries i))
 each-more f made pick i entries makes =
     let one : i + 1 ≡ suc i = omega arith in
     let none : 0 + i ≡ i = omega arith in
-    ap (λ k. each f (take k entries)) one ∙ each_from-more f made pick 0 i entries makes ∙ ap (λ k. each f (take i entries) ++ made k (picked pick (slice_get entries i))) none
+    ap (λ k. added_by_each f (take k entries)) one ∙ each_from-more f made pick 0 i entries makes ∙ ap (λ k. added_by_each f (take i entries) ++ made k (picked pick (slice_get entries i))) none
 
 -- all entries
-pub each-all : {Y : Type 0} (f : ℕ → Entry → List Y) (i : ℕ) (entries : List Entry) → length entries ≤ i → each f (take i entries) ≡ each f entries
-each-all f i entries all = ap (each f) (take_all i entries all)
+pub each-all : {Y : Type 0} (f : ℕ → Entry → List Y) (i : ℕ) (entries : List Entry) → length entries ≤ i → added_by_each f (take i entries) ≡ added_by_each f entries
+each-all f i entries all = ap (added_by_each f) (take_all i entries all)
 
 -- the images of a list with more behind it
 pub map-more : {X Y : Type 0} (f : X → Y) (xs ys : List X) → map f (xs ++ ys) ≡ map f xs ++ map f ys
@@ -62,14 +62,14 @@ map-more f (x ∷ xs) ys = ap (λ zs. f x ∷ zs) (map-more f xs ys)
 
 -- one entry more in a pass whose results are changed
 pub one_pass : {X Y Z : Type 0} (g : Y → Z) (f : ℕ → Entry → List Y) (made : ℕ → Option X → List Y) (pick : Element → Option X) (i : ℕ) (entries : List Entry) (old new : List Z) → Makes f made pick
-    → old ≡ map g (each f (take i entries)) → new ≡ old ++ map g (made i (picked pick (slice_get entries i))) → new ≡ map g (each f (take (i + 1) entries))
+    → old ≡ map g (added_by_each f (take i entries)) → new ≡ old ++ map g (made i (picked pick (slice_get entries i))) → new ≡ map g (added_by_each f (take (i + 1) entries))
 one_pass g f made pick i entries old new makes before now =
     now ∙ ap (λ ys. ys ++ map g (made i (picked pick (slice_get entries i)))) before
-    ∙ sym (map-more g (each f (take i entries)) (made i (picked pick (slice_get entries i)))) ∙ ap (map g) (sym (each-more f made pick i entries makes))
+    ∙ sym (map-more g (added_by_each f (take i entries)) (made i (picked pick (slice_get entries i)))) ∙ ap (map g) (sym (each-more f made pick i entries makes))
 
 -- one entry more in a pass
 pub plain_pass : {X Y : Type 0} (f : ℕ → Entry → List Y) (made : ℕ → Option X → List Y) (pick : Element → Option X) (i : ℕ) (entries : List Entry) (old new : List Y) → Makes f made pick
-    → old ≡ each f (take i entries) → new ≡ old ++ made i (picked pick (slice_get entries i)) → new ≡ each f (take (i + 1) entries)
+    → old ≡ added_by_each f (take i entries) → new ≡ old ++ made i (picked pick (slice_get entries i)) → new ≡ added_by_each f (take (i + 1) entries)
 plain_pass f made pick i entries old new makes before now = now ∙ ap (λ ys. ys ++ made i (picked pick (slice_get entries i))) before ∙ sym (each-more f made pick i entries makes)
 
 -- what is seen of a list with one more

@@ -4,9 +4,9 @@ use Rattle.std.specs.Prelude.{◌==◌, All}
 use Rattle.std.specs.List.{find}
 use Rattle.std.proofs.lemmas.List.Elements.{All-head, All-tail}
 use Rattle.std.proofs.lemmas.Bool.Decides.{nat_tests}
-use Rattle.xm_conf.specs.Along.{each, each_from, along, along_from, unless}
+use Rattle.xm_conf.specs.Along.{added_by_each, each_from, along, along_from, unless}
 use Rattle.xm_conf.specs.Configuration.{Part}
-use Rattle.xm_conf.specs.Description.{Answer, Monitor, event_numbered, answer_of, monitor_of}
+use Rattle.xm_conf.specs.Description.{HealthAnswer, Monitor, event_numbered, answer_of, monitor_of}
 use Rattle.xm_conf.specs.Health.{default_action, event_row, events, is_allowed}
 use Rattle.xm_conf.specs.Rules as rules
 use Rattle.xm_conf.specs.declared.health.Event.{Event}
@@ -16,7 +16,7 @@ use Rattle.xm_conf.specs.declared.part.HmTable.{HmTable}
 use Rattle.xm_conf.specs.declared.item.Item.TheVariants as item
 use Rattle.xmcf_check.specs.Answered.{answers_broken}
 use Rattle.xmcf_check.specs.Capped.{capped_part}
-use Rattle.xmcf_check.specs.Judged.{action_or_default, action_for, table_of}
+use Rattle.xmcf_check.specs.Judged.{action_or_default, action_for, health_table_of}
 use Rattle.xmcf_check.proofs.ListLemmas.{both, front_none, back_none}
 use Rattle.xmcf_check.proofs.CappedChanLemmas.{unless_none}
 
@@ -63,7 +63,7 @@ default_stands plans event.SparcInstrAccess = record { allowed = refl; planned =
 default_stands plans event.SparcDataAccess = record { allowed = refl; planned = refl }
 
 -- an answer that breaks nothing stands
-answer_stands : (plans p : ℕ) (before : List Answer) (a : Answer) → rules.answer_broken plans p before a ≡ [] → Stands plans a.event a.action
+answer_stands : (plans p : ℕ) (before : List HealthAnswer) (a : HealthAnswer) → rules.answer_broken plans p before a ≡ [] → Stands plans a.event a.action
 unfolding rules.answer_broken
 answer_stands plans p before a none = record {
   allowed = unless_none _ (rules.alone 19 (item.Event p (length before))) (front_none _ _ (front_none _ _ none));
@@ -71,7 +71,7 @@ answer_stands plans p before a none = record {
 }
 
 -- where no answer breaks a rule, the action for each event stands
-actions_stand : (plans p : ℕ) (before answers : List Answer) (e : Event) → along_from (rules.answer_broken plans p) before answers ≡ []
+actions_stand : (plans p : ℕ) (before answers : List HealthAnswer) (e : Event) → along_from (rules.answer_broken plans p) before answers ≡ []
     → Stands plans e (action_for answers e)
 unfolding action_for
 actions_stand plans p before [] e none = default_stands plans e
@@ -86,7 +86,7 @@ actions_stand plans p before (a ∷ answers) e none =
     at false other first rest = rest
 
 -- an action that stands, for an event that no earlier answer is to
-numbered_none : (plans p : ℕ) (before : List Answer) (a : Answer) → Stands plans a.event a.action
+numbered_none : (plans p : ℕ) (before : List HealthAnswer) (a : HealthAnswer) → Stands plans a.event a.action
     → rules.repeated 19 (item.Event p) rules.same_event before a ≡ [] → rules.answer_broken plans p before a ≡ []
 unfolding rules.answer_broken
 numbered_none plans p before a stands once =
@@ -95,7 +95,7 @@ numbered_none plans p before a stands once =
 
 -- a table's actions break no rule, where each stands
 table_none : (plans p : ℕ) (f : Event → Action) → ((e : Event) → Stands plans e (f e))
-    → along (rules.answer_broken plans p) (each answer_of (map f events)) ≡ []
+    → along (rules.answer_broken plans p) (added_by_each answer_of (map f events)) ≡ []
 unfolding event_numbered rules.same_event
 table_none plans p f stands =
     both (numbered_none plans p _ _ (stands event.PartitionError) refl)
@@ -114,7 +114,7 @@ table_none plans p f stands =
 
 -- what a table says of health events
 abbrev monitor_from : HmTable → Monitor
-monitor_from table = record { logged = table.logged; answers = each answer_of table.actions }
+monitor_from table = record { logged = table.logged; answers = added_by_each answer_of table.actions }
 
 -- a partition's table is what it says
 monitor_of-capped : (part : Part) → monitor_of (capped_part part) ≡ monitor_from part.hm
@@ -123,8 +123,8 @@ monitor_of-capped part = refl
 
 -- a table of answers that break no rule
 monitor_none : (plans p : ℕ) (monitor : Monitor) → monitor.logged < 4096 → answers_broken plans p monitor.answers ≡ []
-    → rules.monitor_broken plans p (monitor_from (table_of monitor)) ≡ []
-unfolding rules.monitor_broken answers_broken table_of
+    → rules.monitor_broken plans p (monitor_from (health_table_of monitor)) ≡ []
+unfolding rules.monitor_broken answers_broken health_table_of
 monitor_none plans p monitor small none =
     let passes : nat_lt monitor.logged 4096 ≡ true = grind (arith, nat_tests) in
     both (ap (λ t. unless t (rules.alone 19 (item.Part p))) passes)
@@ -133,7 +133,7 @@ monitor_none plans p monitor small none =
 -- tables of answers that break no rule
 tables_from : (plans n : ℕ) (monitors : List Monitor) → All (λ monitor. monitor.logged < 4096) monitors
     → each_from (answers_broken plans) n (map (λ monitor. monitor.answers) monitors) ≡ []
-    → each_from (rules.monitor_broken plans) n (map monitor_from (map table_of monitors)) ≡ []
+    → each_from (rules.monitor_broken plans) n (map monitor_from (map health_table_of monitors)) ≡ []
 tables_from plans n [] small none = refl
 tables_from plans n (monitor ∷ monitors) small none =
     both (monitor_none plans n monitor (All-head (λ monitor. monitor.logged < 4096) monitor monitors small) (front_none _ _ none))
@@ -147,11 +147,11 @@ monitors-capped (part ∷ parts) =
 
 -- partitions whose tables are those of answers that break no rule
 pub tables_none : (plans : ℕ) (monitors : List Monitor) (parts : List Part) → All (λ monitor. monitor.logged < 4096) monitors
-    → map (λ part. part.hm) parts ≡ map table_of monitors → each (answers_broken plans) (map (λ monitor. monitor.answers) monitors) ≡ []
+    → map (λ part. part.hm) parts ≡ map health_table_of monitors → added_by_each (answers_broken plans) (map (λ monitor. monitor.answers) monitors) ≡ []
     → rules.rule_19 plans (map monitor_of (map capped_part parts)) ≡ []
 unfolding rules.rule_19
 tables_none plans monitors parts small tables none =
-    ap (λ ms. each (rules.monitor_broken plans) ms) (monitors-capped parts ∙ ap (λ ts. map monitor_from ts) tables)
+    ap (λ ms. added_by_each (rules.monitor_broken plans) ms) (monitors-capped parts ∙ ap (λ ts. map monitor_from ts) tables)
     ∙ tables_from plans 0 monitors small none
 
 -- what a partition says of health events breaks a rule by its answers alone
@@ -167,6 +167,6 @@ answers_from plans n (monitor ∷ monitors) small =
 
 -- what partitions say of health events breaks a rule by their answers alone
 pub answers_told : (plans : ℕ) (monitors : List Monitor) → All (λ monitor. monitor.logged < 4096) monitors
-    → each (answers_broken plans) (map (λ monitor. monitor.answers) monitors) ≡ rules.rule_19 plans monitors
+    → added_by_each (answers_broken plans) (map (λ monitor. monitor.answers) monitors) ≡ rules.rule_19 plans monitors
 unfolding rules.rule_19
 answers_told plans monitors small = answers_from plans 0 monitors small

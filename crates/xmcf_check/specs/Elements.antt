@@ -24,9 +24,9 @@ processor_of (element.Processor id) = Some id
 processor_of _ = None
 
 -- a plan's frame
-abbrev pub frame_of : Element → Option ℕ
-frame_of (element.Plan id frame) = Some frame
-frame_of _ = None
+abbrev pub element_frame : Element → Option ℕ
+element_frame (element.Plan id frame) = Some frame
+element_frame _ = None
 
 -- a plan's id
 abbrev pub plan_id_of : Element → Option ℕ
@@ -34,9 +34,9 @@ plan_id_of (element.Plan id frame) = Some id
 plan_id_of _ = None
 
 -- a slot
-abbrev pub slot_of : Element → Option Slot
-slot_of (element.Slot id start duration part) = Some record { start = start; duration = duration; part = part }
-slot_of _ = None
+abbrev pub element_slot : Element → Option Slot
+element_slot (element.Slot id start duration part) = Some record { start = start; duration = duration; part = part }
+element_slot _ = None
 
 -- a slot's id
 abbrev pub slot_id_of : Element → Option ℕ
@@ -54,9 +54,9 @@ uart_id_of (element.Uart id name) = Some id
 uart_id_of _ = None
 
 -- the size of the hypervisor
-abbrev pub size_of : Element → Option ℕ
-size_of (element.HvArea size) = Some size
-size_of _ = None
+abbrev pub element_size : Element → Option ℕ
+element_size (element.HvArea size) = Some size
+element_size _ = None
 
 -- a partition's id
 abbrev pub part_id_of : Element → Option ℕ
@@ -64,24 +64,24 @@ part_id_of (element.Partition id name system console) = Some id
 part_id_of _ = None
 
 -- what a partition calls itself
-abbrev pub own_of : Element → Option Own
-own_of (element.Partition id name system console) = Some record { name = name; system = system; console = console }
-own_of _ = None
+abbrev pub element_own : Element → Option Own
+element_own (element.Partition id name system console) = Some record { name = name; system = system; console = console }
+element_own _ = None
 
 -- an area
-abbrev pub area_of : Element → Option Area
-area_of (element.Area start size read_only) = Some record { start = start; size = size; read_only = read_only }
-area_of _ = None
+abbrev pub element_area : Element → Option Area
+element_area (element.Area start size read_only) = Some record { start = start; size = size; read_only = read_only }
+element_area _ = None
 
 -- what time is required
-abbrev pub need_of : Element → Option Need
-need_of (element.Need duration period) = Some record { duration = duration; period = period }
-need_of _ = None
+abbrev pub element_need : Element → Option Need
+element_need (element.Need duration period) = Some record { duration = duration; period = period }
+element_need _ = None
 
 -- an answer to a health event
-abbrev pub given_of : Element → Option Given
-given_of (element.Event event action log) = Some record { event = event; action = action; log = log }
-given_of _ = None
+abbrev pub element_answer : Element → Option Given
+element_answer (element.Event event action log) = Some record { event = event; action = action; log = log }
+element_answer _ = None
 
 -- the mask of a trace
 abbrev pub mask_of : Element → Option ℕ
@@ -89,9 +89,9 @@ mask_of (element.Trace mask) = Some mask
 mask_of _ = None
 
 -- a port
-abbrev pub port_of : Element → Option Port
-port_of (element.Port name kind way) = Some record { name = name; kind = kind; way = way }
-port_of _ = None
+abbrev pub element_port : Element → Option Port
+element_port (element.Port name kind way) = Some record { name = name; kind = kind; way = way }
+element_port _ = None
 
 -- what a channel carries
 abbrev pub carried_of : Element → Option Carried

@@ -1,6 +1,6 @@
 -- The place of each item in the text: that of the `<` of its element.
 use Rattle.std.specs.Prelude.{ℕ, ◌-◌, ◌==◌, ◌&&◌, if◌then◌else◌, Bool, true, false, List, [], ◌∷◌, filter, flat_map, slice_get, Option, Some, None}
-use Rattle.xm_conf.specs.Along.{each}
+use Rattle.xm_conf.specs.Along.{added_by_each}
 use Rattle.xm_conf.specs.Health.{event_row, events}
 use Rattle.xm_conf.specs.declared.health.Event.{Event}
 use Rattle.xm_conf.specs.declared.item.Item.{Item}
@@ -75,7 +75,7 @@ number_of_sort which number entry = number_if (is_of which entry.what) number
 
 -- the number of the n-th entry of a sort
 unfoldable pub number_nth : List Entry → Sort → ℕ → Option ℕ
-number_nth entries which n = slice_get (each (number_of_sort which) entries) n
+number_nth entries which n = slice_get (added_by_each (number_of_sort which) entries) n
 
 -- the items of a sort among the children of an entry, where there is one
 abbrev pub child_items : List Entry → Sort → Option ℕ → List Entry

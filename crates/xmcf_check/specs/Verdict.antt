@@ -11,12 +11,12 @@ use Rattle.xmcf_check.specs.declared.fault.CheckFault.{CheckFault}
 use Rattle.xmcf_check.specs.declared.fault.CheckFault.TheVariants as fault
 
 -- a broken rule with the places of its two items
-abbrev pub placed : List Entry → Broken → CheckFault
-placed entries broken = fault.Rule broken.rule (place_of entries broken.first) (place_of entries broken.second)
+abbrev pub broken_with_places : List Entry → Broken → CheckFault
+broken_with_places entries broken = fault.Rule broken.rule (place_of entries broken.first) (place_of entries broken.second)
 
 -- the first rule that a draft breaks, with the places of its two items
 unfoldable pub verdict_of : List Entry → Option CheckFault
-verdict_of entries = on (placed entries) (first_broken (description_of entries))
+verdict_of entries = on (broken_with_places entries) (first_broken (description_of entries))
 
 -- a configuration is the one that the draft describes, and no rule is broken; a broken rule is the first
 abbrev pub IsVerdict : Result Conf CheckFault → List Entry → Type 0

@@ -3,7 +3,7 @@
 ghost use Rattle.std.specs.Prelude.{◌≡◌, OnOk};
 ghost use Rattle.xm_conf.specs.Fits.{Fits};
 ghost use Rattle.xmcf_check.specs.Described.{description_of};
-ghost use Rattle.xmcf_check.specs.Verdict.{IsVerdict, placed};
+ghost use Rattle.xmcf_check.specs.Verdict.{IsVerdict, broken_with_places};
 
 use crate::fault::CheckFault;
 use crate::gathering::gather;
@@ -30,7 +30,7 @@ pub fn check(alloc: Global, draft: &Draft) -> Result<Conf, CheckFault>
 
 /// A broken rule with the places of its two items.
 fn at_places(draft: &Draft, broken: Broken) -> CheckFault
-    ensures { result ≡ placed draft.now broken }
+    ensures { result ≡ broken_with_places draft.now broken }
 {
     CheckFault::Rule {
         rule: broken.rule,

@@ -3,7 +3,7 @@
 ghost use Rattle.std.specs.Prelude.{◌≡◌};
 ghost use Rattle.xm_base.specs.Options.{on};
 ghost use Rattle.xmcf_check.specs.Capped.{capped, capped_slot};
-ghost use Rattle.xmcf_check.specs.Elements.{area_of, capped_carried, carried_of, frame_of, given_of, mask_of, need_of, own_of, part_id_of, plan_id_of, port_of, processor_of, region_of, size_of, slot_id_of, slot_of, uart_id_of, uart_of};
+ghost use Rattle.xmcf_check.specs.Elements.{element_area, capped_carried, carried_of, element_frame, element_answer, mask_of, element_need, element_own, part_id_of, plan_id_of, element_port, processor_of, region_of, element_size, slot_id_of, element_slot, uart_id_of, uart_of};
 
 use xm_conf::{Action, Area, ChanKind, Event, Name, Need, Port, Region, Slot};
 use xmcf_reader::Element;
@@ -80,7 +80,7 @@ pub(crate) fn processor_of(element: &Element) -> Option<u32>
 
 /// A plan's frame.
 pub(crate) fn frame_of(element: &Element) -> Option<u32>
-    ensures { result ≡ frame_of element.now }
+    ensures { result ≡ element_frame element.now }
 {
     match element {
         Element::Plan { frame, .. } => Some(*frame),
@@ -101,7 +101,7 @@ pub(crate) fn plan_id_of(element: &Element) -> Option<u32>
 /// A slot, with its partition capped.
 #[tactic(auto, unfolding(crate::specs::Capped::capped_slot))]
 pub(crate) fn slot_of(element: &Element) -> Option<Slot>
-    ensures { result ≡ on capped_slot (slot_of element.now) }
+    ensures { result ≡ on capped_slot (element_slot element.now) }
 {
     match element {
         Element::Slot {
@@ -150,7 +150,7 @@ pub(crate) fn uart_id_of(element: &Element) -> Option<u32>
 
 /// The size of the hypervisor.
 pub(crate) fn size_of(element: &Element) -> Option<u32>
-    ensures { result ≡ size_of element.now }
+    ensures { result ≡ element_size element.now }
 {
     match element {
         Element::HvArea { size } => Some(*size),
@@ -170,7 +170,7 @@ pub(crate) fn part_id_of(element: &Element) -> Option<u32>
 
 /// What a partition calls itself.
 pub(crate) fn own_of(element: &Element) -> Option<Own>
-    ensures { result ≡ own_of element.now }
+    ensures { result ≡ element_own element.now }
 {
     match element {
         Element::Partition {
@@ -189,7 +189,7 @@ pub(crate) fn own_of(element: &Element) -> Option<Own>
 
 /// An area.
 pub(crate) fn area_of(element: &Element) -> Option<Area>
-    ensures { result ≡ area_of element.now }
+    ensures { result ≡ element_area element.now }
 {
     match element {
         Element::Area {
@@ -207,7 +207,7 @@ pub(crate) fn area_of(element: &Element) -> Option<Area>
 
 /// What time is required.
 pub(crate) fn need_of(element: &Element) -> Option<Need>
-    ensures { result ≡ need_of element.now }
+    ensures { result ≡ element_need element.now }
 {
     match element {
         Element::Need { duration, period } => Some(Need {
@@ -220,7 +220,7 @@ pub(crate) fn need_of(element: &Element) -> Option<Need>
 
 /// An answer to a health event.
 pub(crate) fn given_of(element: &Element) -> Option<Given>
-    ensures { result ≡ given_of element.now }
+    ensures { result ≡ element_answer element.now }
 {
     match element {
         Element::Event { event, action, log } => Some(Given {
@@ -244,7 +244,7 @@ pub(crate) fn mask_of(element: &Element) -> Option<u32>
 
 /// A port.
 pub(crate) fn port_of(element: &Element) -> Option<Port>
-    ensures { result ≡ port_of element.now }
+    ensures { result ≡ element_port element.now }
 {
     match element {
         Element::Port { name, kind, way } => Some(Port {

@@ -63,7 +63,7 @@ pub(crate) struct Answer {
 impl Model for Answer {
     ghost use Rattle.xm_conf.specs.Description as plain;
 
-    ghost Value = { plain.Answer };
+    ghost Value = { plain.HealthAnswer };
 
     ghost view = { λ answer. record { event = answer.event; action = answer.action } };
 }

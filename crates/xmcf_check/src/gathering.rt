@@ -11,7 +11,7 @@ mod plans;
 ghost use Rattle.std.specs.Prelude.{◌≡◌, IfOk, map};
 ghost use Rattle.xmcf_reader.specs.Drafts.{IsDraft};
 ghost use Rattle.xmcf_check.specs.Capped.{capped_conf};
-ghost use Rattle.xmcf_check.specs.Described.{conf_of, description_of};
+ghost use Rattle.xmcf_check.specs.Described.{described_conf, description_of};
 
 use crate::gathered::Gathered;
 use crate::gathering::channels::chans;
@@ -28,7 +28,7 @@ use xmcf_reader::{Draft, Entry};
 /// The configuration, with numbers that no field holds capped.
 fn raw(alloc: Global, entries: &[Entry]) -> Result<RawConf, Memory>
     requires draft { IsDraft entries.now }
-    ensures { IfOk result (λ raw. raw ≡ capped_conf (conf_of entries.now)) }
+    ensures { IfOk result (λ raw. raw ≡ capped_conf (described_conf entries.now)) }
 {
     let uarts = uarts(alloc, entries)?;
     let parts = parts(alloc, &uarts, entries)?;

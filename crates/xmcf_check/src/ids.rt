@@ -1,7 +1,7 @@
 //! Ids are 0, 1, 2 and so on in their order.
 
 ghost use Rattle.std.specs.Prelude.{◌≡◌, ◌≤◌, All, length};
-ghost use Rattle.xm_conf.specs.Along.{each, head_of};
+ghost use Rattle.xm_conf.specs.Along.{added_by_each, head_of};
 ghost use Rattle.xm_conf.specs.Rules as rules;
 ghost use Rattle.xm_conf.specs.declared.item.Item.TheVariants as item;
 ghost use Rattle.xmcf_check.specs.Misplaced.{misplace};
@@ -14,7 +14,7 @@ use xm_conf::{Broken, Item};
 #[tactic(auto, using(xm_conf::specs::AlongLemmas::each_loop))]
 fn misplaced(ids: &[u32]) -> Option<u8>
     requires { length ids.now ≤ 64 }
-    ensures { result ≡ head_of (each misplace ids.now) }
+    ensures { result ≡ head_of (added_by_each misplace ids.now) }
 {
     for (n, id) in ids.iter().enumerate() {
         let place = misplace(n as u8, *id);
@@ -38,7 +38,7 @@ fn misplace(n: u8, id: u32) -> Option<u8>
 /// The first UART whose id is not its place.
 fn uarts_misplaced(ids: &[u32]) -> Option<Broken>
     requires { length ids.now ≤ 8 }
-    ensures { result ≡ head_of (each (rules.misplaced item.Uart) ids.now) }
+    ensures { result ≡ head_of (added_by_each (rules.misplaced item.Uart) ids.now) }
 {
     match misplaced(ids) {
         Some(n) => Some(alone(2, Item::Uart(n))),
@@ -49,7 +49,7 @@ fn uarts_misplaced(ids: &[u32]) -> Option<Broken>
 /// The first slot of a plan whose id is not its place.
 fn slots_misplaced(p: u8, ids: &[u32]) -> Option<Broken>
     requires { length ids.now ≤ 64 }
-    ensures { result ≡ head_of (each (rules.misplaced (item.Slot p)) ids.now) }
+    ensures { result ≡ head_of (added_by_each (rules.misplaced (item.Slot p)) ids.now) }
 {
     match misplaced(ids) {
         Some(n) => Some(alone(2, Item::Slot(p, n))),
@@ -60,7 +60,7 @@ fn slots_misplaced(p: u8, ids: &[u32]) -> Option<Broken>
 /// The first partition whose id is not its place.
 fn parts_misplaced(ids: &[u32]) -> Option<Broken>
     requires { length ids.now ≤ 16 }
-    ensures { result ≡ head_of (each (rules.misplaced item.Part) ids.now) }
+    ensures { result ≡ head_of (added_by_each (rules.misplaced item.Part) ids.now) }
 {
     match misplaced(ids) {
         Some(n) => Some(alone(2, Item::Part(n))),
@@ -86,7 +86,7 @@ fn plan_misplaced(n: u8, ids: &PlanIds) -> Option<Broken>
 fn plans_misplaced(ids: &[PlanIds]) -> Option<Broken>
     requires few { length ids.now ≤ 8 }
     requires slots { All (λ plan. length plan.slots ≤ 64) ids.now }
-    ensures { result ≡ head_of (each rules.plan_misplaced ids.now) }
+    ensures { result ≡ head_of (added_by_each rules.plan_misplaced ids.now) }
 {
     for (n, plan) in ids.iter().enumerate() {
         let broken = plan_misplaced(n as u8, plan);

@@ -1,8 +1,8 @@
 //! Names with their numbers: of each name that of the first that has it.
 
 ghost use Rattle.std.specs.Prelude.{◌≡◌, IfOk, OnOk, length, slice_get};
-ghost use Rattle.xmcf_check.specs.Described.{number_of, or_none, port_names};
-ghost use Rattle.xmcf_check.specs.Numbers.{HasFirsts, HasNone, HasPortNumbers, HasPorts};
+ghost use Rattle.xmcf_check.specs.Described.{number_named, names_or_none, port_names};
+ghost use Rattle.xmcf_check.specs.Numbers.{HasFirsts, HasNone, HasPortNumbers, HasNumbersForPorts};
 
 use indexmap::IndexMap;
 use std::alloc::Global;
@@ -23,10 +23,10 @@ pub(crate) fn name_numbers(alloc: Global, names: &[Name]) -> Result<IndexMap<&[u
 }
 
 /// The number of the first with a name, or, where there is none, how many names there are.
-#[tactic(auto, unfolding(crate::specs::Described::number_of))]
+#[tactic(auto, unfolding(crate::specs::Described::number_named))]
 pub(crate) fn number_of(names: &[Name], numbers: &IndexMap<&[u8], usize>, name: &Name) -> usize
     requires { HasFirsts 0 names.now numbers.now }
-    ensures { result ≡ number_of names.now name.now }
+    ensures { result ≡ number_named names.now name.now }
 {
     match numbers.get(&name.bytes()) {
         Some(number) => *number,
@@ -48,7 +48,7 @@ fn add_ports<'a>(
     ports: &'a [Port],
 ) -> Result<(), Memory>
     requires { HasNone part numbers.old }
-    ensures { OnOk result (HasPorts part 0 ports.now numbers.old numbers.new) }
+    ensures { OnOk result (HasNumbersForPorts part 0 ports.now numbers.old numbers.new) }
 {
     let mut left = ports.len();
     while left > 0 {
@@ -76,7 +76,7 @@ pub(crate) fn port_numbers(
 
 /// How many ports a partition has, or none where there is no such partition.
 fn port_count(parts: &[Part], part: u32) -> usize
-    ensures { result ≡ length (or_none (slice_get (port_names parts.now) part)) }
+    ensures { result ≡ length (names_or_none (slice_get (port_names parts.now) part)) }
 {
     match parts.get(part as usize) {
         Some(part) => ports_of(part).len(),
@@ -85,7 +85,7 @@ fn port_count(parts: &[Part], part: u32) -> usize
 }
 
 /// The number of the first port with a name of a partition, or, where there is none, how many ports it has.
-#[tactic(auto, unfolding(crate::specs::Described::number_of))]
+#[tactic(auto, unfolding(crate::specs::Described::number_named))]
 pub(crate) fn port_number(
     parts: &[Part],
     numbers: &IndexMap<(usize, &[u8]), usize>,
@@ -93,7 +93,7 @@ pub(crate) fn port_number(
     name: &Name,
 ) -> usize
     requires { HasPortNumbers parts.now numbers.now }
-    ensures { result ≡ number_of (or_none (slice_get (port_names parts.now) part)) name.now }
+    ensures { result ≡ number_named (names_or_none (slice_get (port_names parts.now) part)) name.now }
 {
     match numbers.get(&(part as usize, name.bytes())) {
         Some(number) => *number,

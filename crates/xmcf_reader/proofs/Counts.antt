@@ -6,7 +6,7 @@ use Rattle.std.proofs.lemmas.List.Sums.{sum_by-append, sum_by-cons}
 use Rattle.xmcf_reader.specs.Draft.{is_among, is_needed, has_place, child_named, lacks_child}
 use Rattle.xmcf_reader.specs.Drafts.{child_words, StandsOften, HasChildren}
 use Rattle.xmcf_reader.specs.Faults.{missing_children}
-use Rattle.xmcf_reader.specs.Table.{children, attributes}
+use Rattle.xmcf_reader.specs.Table.{allowed_children, attributes}
 use Rattle.xmcf_reader.specs.Words.{is_word, word_number}
 use Rattle.xmcf_reader.specs.declared.table.Attribute.{Attribute}
 use Rattle.xmcf_reader.specs.declared.table.Child.{Child}
@@ -26,7 +26,7 @@ abbrev pub attribute_word : Attribute → Word
 attribute_word attribute = attribute.word
 
 -- no element has a child twice in the table
-pub children_distinct : (element : Word) → distinct child_word (children element) ≡ true
+pub children_distinct : (element : Word) → distinct child_word (allowed_children element) ≡ true
 children_distinct word.SystemDescription = refl
 children_distinct other = refl
 
@@ -45,7 +45,7 @@ AtMost often.Any count = Unit {0}
 -- the children so far: the table has each of them, and each of the table's stands no more often than it may
 pub record Partly (element : Word) (names : List Word) : Type 0 where
   pub allowed : AllByRecursion (λ name. is_among name (child_words element) ≡ true) names
-  pub most : AllByRecursion (λ child. AtMost child.often (count_by (is_word child.word) names)) (children element)
+  pub most : AllByRecursion (λ child. AtMost child.often (count_by (is_word child.word) names)) (allowed_children element)
 
 -- a child that does not stand may stand
 none_at_most : (often : Often) → AtMost often 0
@@ -56,7 +56,7 @@ none_at_most often.Any = tt
 
 -- an element without children has none that the table forbids
 pub partly_none : (element : Word) → Partly element []
-partly_none element = record { allowed = tt; most = all_of _ (children element) (λ child. none_at_most child.often) }
+partly_none element = record { allowed = tt; most = all_of _ (allowed_children element) (λ child. none_at_most child.often) }
 
 -- a first name is counted where it is the name
 count_first : (word other : Word) (names : List Word) → count_by (is_word word) (other ∷ names) ≡ cond (is_word word other) 1 0 + count_by (is_word word) names
@@ -117,15 +117,15 @@ once_more row word names same place = at row.often (is_among word names) refl pl
 -- a child for which there is place stands once more
 pub partly_more : (element : Word) (names : List Word) (word : Word) → Partly element names → has_place (child_named word element) (is_among word names) ≡ true → Partly element (names ++ word ∷ [])
 unfolding child_named
-partly_more element names word partly place = at (find (λ child. is_word child.word word) (children element)) refl place
+partly_more element names word partly place = at (find (λ child. is_word child.word word) (allowed_children element)) refl place
   where
-    at : (found : Option Child) → find (λ child. is_word child.word word) (children element) ≡ found → has_place found (is_among word names) ≡ true → Partly element (names ++ word ∷ [])
+    at : (found : Option Child) → find (λ child. is_word child.word word) (allowed_children element) ≡ found → has_place found (is_among word names) ≡ true → Partly element (names ++ word ∷ [])
     at None is place = cc
     at (Some row) is place =
-        let same : word_number row.word ≡ word_number word = same_number row.word word (found_passes (λ (child : Child). is_word child.word word) (children element) row is) in
+        let same : word_number row.word ≡ word_number word = same_number row.word word (found_passes (λ (child : Child). is_word child.word word) (allowed_children element) row is) in
         record {
-          allowed = all_more _ names word partly.allowed (found_among word (children element) row is);
-          most = all_both _ _ _ (children element) (one_more row same place) partly.most (same_row child_word (λ child. is_word child.word word) (children element) row (children_distinct element) is);
+          allowed = all_more _ names word partly.allowed (found_among word (allowed_children element) row is);
+          most = all_both _ _ _ (allowed_children element) (one_more row same place) partly.most (same_row child_word (λ child. is_word child.word word) (allowed_children element) row (children_distinct element) is);
         }
       where
         one_more : (row : Child) → word_number row.word ≡ word_number word → has_place (Some row) (is_among word names) ≡ true
@@ -155,5 +155,5 @@ pub complete : (element : Word) (names : List Word) (place : ℕ) → Partly ele
 unfolding missing_children
 complete element names place partly none = record {
   allowed = partly.allowed;
-  counted = all_both _ _ _ (children element) (λ child. often_enough child names) partly.most (none_of (lacks_child names) (λ child. fault.MissingChild place child.word) (children element) none);
+  counted = all_both _ _ _ (allowed_children element) (λ child. often_enough child names) partly.most (none_of (lacks_child names) (λ child. fault.MissingChild place child.word) (allowed_children element) none);
 }

@@ -4,10 +4,10 @@ use Rattle.std.specs.Prelude.{not, ◌&&◌, nat_lt}
 use Rattle.std.specs.List.{slice_get, AllByRecursion}
 use Rattle.std.specs.Str.{bytes_eq}
 use Rattle.std.specs.Str.Lossy.{utf8_valid_len}
-use Rattle.xmcf_reader.specs.Draft.{Context, Open, Tag, start, after, attribute_named, may_stand, lacks_attribute, begun, named_as, valued, entered, tag_ended, opened, outer_of, noted, parent_number, spaced, equaled}
+use Rattle.xmcf_reader.specs.Draft.{Context, Open, Tag, empty_draft, after_token, attribute_named, may_stand, lacks_attribute, tag_begun, named_as, valued, entry_added, tag_ended, opened, outer_of, child_noted, parent_number, blank_passed, equaled}
 use Rattle.xmcf_reader.specs.Drafts.{IsDraft, word_of}
-use Rattle.xmcf_reader.specs.Elements.{Pair, text_at, built}
-use Rattle.xmcf_reader.specs.Faults.{Cut, Item, Rest, End, cut, draft_from, draft_of, faults_from, faults_of, xmcf_fault, when, is_between, is_spaced, may_end, is_done, element_faults, attribute_faults, value_faults, missing_attributes, missing_children, missing_of, closes, may_begin, lesser, least, comes_before}
+use Rattle.xmcf_reader.specs.Elements.{Pair, attribute_text, built}
+use Rattle.xmcf_reader.specs.Faults.{Cut, Item, Rest, End, cut, draft_from, draft_of, faults_from, faults_of, xmcf_fault, when, is_between, is_spaced, may_end, is_done, element_faults, attribute_faults, value_faults, missing_attributes, missing_children, missing_of, closes, may_begin, lesser_fault, least, comes_before}
 use Rattle.xmcf_reader.specs.Table.{attributes}
 use Rattle.xmcf_reader.specs.Tokens.{Token, Blanks, Comment, Declaration, Opening, Name, Equals, Value, TagEnd, EmptyEnd, EndTag}
 use Rattle.xmcf_reader.specs.Values.{has_form}
@@ -62,7 +62,7 @@ stands_here holds one more e = is_so holds (not_when (not holds) one (no_first (
 
 -- the values of a tag have their forms
 abbrev pub SuitAll : List Pair → Word → Type 0
-SuitAll given word = AllByRecursion (λ attribute. Suits attribute.form (text_at attribute.word given)) (attributes word)
+SuitAll given word = AllByRecursion (λ attribute. Suits attribute.form (attribute_text attribute.word given)) (attributes word)
 
 -- a start tag whose element may stand
 pub record IsTag (tag : Tag) (open_elements : List Open) (entries : List Entry) : Type 0 where
@@ -89,7 +89,7 @@ pub record Sound (context : Context) : Type 0 where
   pub tag : TagStands context.stage context.tag context.open_elements context.entries
 
 -- behind blanks
-sound_spaced : (stage : Stage) (tag : Tag) (open_elements : List Open) (entries : List Entry) → TagStands stage tag open_elements entries → TagStands (spaced stage) tag open_elements entries
+sound_spaced : (stage : Stage) (tag : Tag) (open_elements : List Open) (entries : List Entry) → TagStands stage tag open_elements entries → TagStands (blank_passed stage) tag open_elements entries
 sound_spaced Between tag open_elements entries h = tt
 sound_spaced Bare tag open_elements entries h = h
 sound_spaced Spaced tag open_elements entries h = h
@@ -119,7 +119,7 @@ none_suit word = all_of _ (attributes word) (λ attribute. tt)
 
 -- a start tag begins
 sound_opening : (context : Context) (element : Option Word) (at : ℕ) → (element ≡ None → ⊥) → ((word : Word) → element ≡ Some word → is_element word ≡ true) → Sound context
-    → is_between context.stage ≡ true → is_done context.open_elements context.entries ≡ false → element_faults element context.open_elements at ≡ [] → Sound (begun element at context)
+    → is_between context.stage ≡ true → is_done context.open_elements context.entries ≡ false → element_faults element context.open_elements at ≡ [] → Sound (tag_begun element at context)
 sound_opening context None at some known sound between undone none = cc
 sound_opening context (Some word) at some known sound between undone none = record {
   stands = sound.stands;
@@ -162,8 +162,8 @@ sound_name context (Some attribute) at known sound spaced none = record {
 }
 
 -- one more value, which has the form of its attribute
-suit_more : (form_of : Attribute) (text : List ℕ) (given : List Pair) (other : Attribute) → has_form form_of.form text ≡ true → (is_word other.word form_of.word ≡ true → other ≡ form_of) → Suits other.form (text_at other.word given)
-    → Suits other.form (text_at other.word (given ++ (record { word = form_of.word; text = text }) ∷ []))
+suit_more : (form_of : Attribute) (text : List ℕ) (given : List Pair) (other : Attribute) → has_form form_of.form text ≡ true → (is_word other.word form_of.word ≡ true → other ≡ form_of) → Suits other.form (attribute_text other.word given)
+    → Suits other.form (attribute_text other.word (given ++ (record { word = form_of.word; text = text }) ∷ []))
 suit_more row text [] other form same suits = at (is_word row.word other.word) refl
   where
     at : (test : Bool) → is_word row.word other.word ≡ test → Suits other.form (cond test (Some text) None)
@@ -172,9 +172,9 @@ suit_more row text [] other form same suits = at (is_word row.word other.word) r
     at false passes = tt
 suit_more row text (pair ∷ given) other form same suits = at (is_word pair.word other.word) suits (suit_more row text given other form same)
   where
-    at : (test : Bool) → Suits other.form (cond test (Some pair.text) (text_at other.word given))
-        → (Suits other.form (text_at other.word given) → Suits other.form (text_at other.word (given ++ (record { word = row.word; text = text }) ∷ [])))
-        → Suits other.form (cond test (Some pair.text) (text_at other.word (given ++ (record { word = row.word; text = text }) ∷ [])))
+    at : (test : Bool) → Suits other.form (cond test (Some pair.text) (attribute_text other.word given))
+        → (Suits other.form (attribute_text other.word given) → Suits other.form (attribute_text other.word (given ++ (record { word = row.word; text = text }) ∷ [])))
+        → Suits other.form (cond test (Some pair.text) (attribute_text other.word (given ++ (record { word = row.word; text = text }) ∷ [])))
     at true suits more = suits
     at false suits more = more suits
 
@@ -226,9 +226,9 @@ ended context (Some what) is of sound tag =
       parent = refl;
       values = is;
       word = of;
-      more = ap (λ found. entered found context) (sym is);
-      enters = subst (λ (found : Option Element). Enters (entered found context) (noted context.tag.word context.open_elements) (length context.entries) entry) is
-          (subst (λ (word : Word). Enters (context.entries ++ entry ∷ []) (noted word context.open_elements) (length context.entries) entry) of
+      more = ap (λ found. entry_added found context) (sym is);
+      enters = subst (λ (found : Option Element). Enters (entry_added found context) (child_noted context.tag.word context.open_elements) (length context.entries) entry) is
+          (subst (λ (word : Word). Enters (context.entries ++ entry ∷ []) (child_noted word context.open_elements) (length context.entries) entry) of
           (stands.entered context.entries context.open_elements entry sound.stands (subst (λ (word : Word). may_stand word context.open_elements ≡ true) (sym of) tag.may) tag.undone refl));
     }
 
@@ -276,7 +276,7 @@ known_element None open_elements at none e = cc
 known_element (Some word) open_elements at none e = cc
 
 -- a token without a fault
-pub sound_after : (context : Context) (token : Token) (at : ℕ) → Sound context → faults_of context token at ≡ [] → Sound (after context token at)
+pub sound_after : (context : Context) (token : Token) (at : ℕ) → Sound context → faults_of context token at ≡ [] → Sound (after_token context token at)
 sound_after context Blanks at sound none = record { stands = sound.stands; tag = sound_spaced context.stage context.tag context.open_elements context.entries sound.tag }
 sound_after context Comment at sound none = sound
 sound_after context Declaration at sound none = sound
@@ -310,7 +310,7 @@ end_drafted entries (inner ∷ outer) stood done = cc
 -- tokens without a fault give a draft
 pub cut_drafted : (context : Context) (all : Cut) → Sound context → faults_from context all ≡ [] → IsDraft (draft_from context all)
 cut_drafted context (Item token at more) sound none =
-    cut_drafted (after context token at) more (sound_after context token at sound (no_first (faults_of context token at) _ none)) (no_second (faults_of context token at) _ none)
+    cut_drafted (after_token context token at) more (sound_after context token at sound (no_first (faults_of context token at) _ none)) (no_second (faults_of context token at) _ none)
 cut_drafted context (Rest at byte broken) sound none = absurd (never (no_second (when (not (may_begin context.stage byte)) (fault.BadItem at)) (broken ∷ []) none))
   where
     never : broken ∷ [] ≡ [] → ⊥
@@ -320,7 +320,7 @@ cut_drafted context (End at) sound none =
     end_drafted context.entries context.open_elements sound.stands (both_right (is_between context.stage) _ here)
 
 -- before the first token
-pub sound_start : Sound start
+pub sound_start : Sound empty_draft
 sound_start = record {
   stands = record {
     base = record { root = tt; before = λ number entry got past. absurd (never number entry got); within = λ number between entry other got at past until. absurd (never number entry got); settled = λ number entry got. absurd (never number entry got) };
@@ -333,11 +333,11 @@ sound_start = record {
     never number entry e = cc
 
 -- the entries of a text whose tokens break nothing are a draft
-pub entries_drafted : (text : List ℕ) (entries : List Entry) → faults_from start (cut 0 0 text) ≡ [] → entries ≡ draft_from start (cut 0 0 text) → IsDraft entries
-entries_drafted text entries none same = subst IsDraft (sym same) (cut_drafted start (cut 0 0 text) sound_start none)
+pub entries_drafted : (text : List ℕ) (entries : List Entry) → faults_from empty_draft (cut 0 0 text) ≡ [] → entries ≡ draft_from empty_draft (cut 0 0 text) → IsDraft entries
+entries_drafted text entries none same = subst IsDraft (sym same) (cut_drafted empty_draft (cut 0 0 text) sound_start none)
 
 -- the lesser of two is one
-some_least : (one : ReadFault) (other : Option ReadFault) → lesser one other ≡ None → ⊥
+some_least : (one : ReadFault) (other : Option ReadFault) → lesser_fault one other ≡ None → ⊥
 some_least one None e = cc
 some_least one (Some other) e = by (comes_before other one) e
   where
@@ -351,15 +351,15 @@ none_least [] e = refl
 none_least (one ∷ others) e = absurd (some_least one (least others) e)
 
 -- the tokens of a text without a fault break nothing
-pub none_broken : (text : List ℕ) → xmcf_fault text ≡ None → faults_from start (cut 0 0 text) ≡ []
+pub none_broken : (text : List ℕ) → xmcf_fault text ≡ None → faults_from empty_draft (cut 0 0 text) ≡ []
 unfolding xmcf_fault
-none_broken text none = none_least (faults_from start (cut 0 0 text)) (at (nat_lt (utf8_valid_len text) (length text)) none)
+none_broken text none = none_least (faults_from empty_draft (cut 0 0 text)) (at (nat_lt (utf8_valid_len text) (length text)) none)
   where
-    at : (short : Bool) → cond short (Some (fault.NotText (utf8_valid_len text))) (least (faults_from start (cut 0 0 text))) ≡ None → least (faults_from start (cut 0 0 text)) ≡ None
+    at : (short : Bool) → cond short (Some (fault.NotText (utf8_valid_len text))) (least (faults_from empty_draft (cut 0 0 text))) ≡ None → least (faults_from empty_draft (cut 0 0 text)) ≡ None
     at true e = cc
     at false e = e
 
 -- a text without a fault gives a draft
 pub text_drafted : (text : List ℕ) → xmcf_fault text ≡ None → IsDraft (draft_of text)
 unfolding draft_of
-text_drafted text none = cut_drafted start (cut 0 0 text) sound_start (none_broken text none)
+text_drafted text none = cut_drafted empty_draft (cut 0 0 text) sound_start (none_broken text none)

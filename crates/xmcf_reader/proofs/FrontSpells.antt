@@ -6,18 +6,18 @@ use Rattle.std.proofs.lemmas.List.Sums.{prefix_len-le-length}
 use Rattle.std.specs.List.{position, prefix_len, starts_with}
 use Rattle.std.proofs.lemmas.Bool.Decides.{nat_tests}
 use Rattle.xmcf_reader.specs.Bytes.{is_blank, is_letter, is_of_name, is_quote, ends_value, ends_declaration, are_dashes, pairs}
-use Rattle.xmcf_reader.specs.BytesLemmas.{position_first}
+use Rattle.xmcf_reader.proofs.BytesLemmas.{position_first}
 use Rattle.std.proofs.lemmas.List.{length-take}
 use Rattle.xmcf_reader.specs.Faults.{cut, cut_at}
-use Rattle.xmcf_reader.specs.Spelling.{IsCut, Spells, IsName, AreBlanks}
-use Rattle.xmcf_reader.specs.Tokens.{Token, Blanks, Comment, Declaration, Opening, Name, Equals, Value, TagEnd, EmptyEnd, EndTag, Front, Found, Broken, closed, comment_at, comment, remark, declaration_byte, declaration_at, declaration, declared, named, end_of_tag, end_named, end_tag, markup, value_byte, value_at, value, front}
+use Rattle.xmcf_reader.specs.Spelling.{IsCut, SpellsToken, IsTagName, AreBlanks}
+use Rattle.xmcf_reader.specs.Tokens.{Token, Blanks, Comment, Declaration, Opening, Name, Equals, Value, TagEnd, EmptyEnd, EndTag, Front, Found, Broken, byte_token, comment_at, comment, remark, declaration_byte, declaration_at, declaration, declared, named_token, end_of_tag, end_named, end_tag, markup, value_byte, value_at, value, front}
 use Rattle.xmcf_reader.specs.declared.token.Stop.{Stop}
 use Rattle.xmcf_reader.specs.declared.token.Stop.TheVariants.{Break, Reference, Ended}
 use Rattle.xmcf_reader.proofs.Splits.{IsParted, parted, each_prefix, IsDashed, dashed}
 
 -- what is found is spelled at the front of the whole
 abbrev pub SpeltIn : List ℕ → Front → Type 0
-SpeltIn whole (Found token size) = Spells token (take size whole) × (size ≤ length whole)
+SpeltIn whole (Found token size) = SpellsToken token (take size whole) × (size ≤ length whole)
 SpeltIn whole (Broken stop) = Unit {0}
 
 -- the same as a record
@@ -50,14 +50,14 @@ front_and front byte rest size e =
     ∙ ap (take (length (front ++ byte ∷ []))) (sym (append_assoc front (byte ∷ []) rest))
     ∙ take_front (front ++ byte ∷ []) rest
 
-closed_spelt : (last : ℕ) (token : Token) (before : ℕ) (front bytes : List ℕ) → before ≡ length front → Spells token (front ++ last ∷ []) → Spelt (front ++ bytes) (closed last token before bytes)
-unfolding closed
+closed_spelt : (last : ℕ) (token : Token) (before : ℕ) (front bytes : List ℕ) → before ≡ length front → SpellsToken token (front ++ last ∷ []) → Spelt (front ++ bytes) (byte_token last token before bytes)
+unfolding byte_token
 closed_spelt last token before front [] e spells = broken _ _
 closed_spelt last token before front (byte ∷ bytes) e spells =
     pick (front ++ byte ∷ bytes) (byte == last) (Found token (before + 1)) (Broken (Break before))
     (λ t. record {
       fits = (
-        subst (λ (word : List ℕ). Spells token word)
+        subst (λ (word : List ℕ). SpellsToken token word)
             (sym (front_and front byte bytes before e ∙ ap (λ other. front ++ other ∷ []) (same_byte byte last t))) spells,
         omega (arith, e, length-append front (byte ∷ bytes)),
       );
@@ -85,7 +85,7 @@ comment_spelt bytes = by (position are_dashes (pairs bytes)) refl
         ap (λ rest. 60 ∷ 33 ∷ 45 ∷ 45 ∷ rest) (part.is ∙ ap (λ rest. take at bytes ++ 45 ∷ 45 ∷ rest) behind ∙ sym (append_assoc (take at bytes) (45 ∷ 45 ∷ []) (drop (at + 2) bytes))) in
         let size : at ≡ length (take at bytes) = part.size in
         let long : at + 6 ≡ length front = omega (arith, size, length-append (take at bytes) (45 ∷ 45 ∷ [])) in
-        subst (λ (all : List ℕ). Spelt all (closed 62 Comment (at + 6) (drop (at + 2) bytes))) (sym whole)
+        subst (λ (all : List ℕ). Spelt all (byte_token 62 Comment (at + 6) (drop (at + 2) bytes))) (sym whole)
         (closed_spelt 62 Comment (at + 6) front (drop (at + 2) bytes) long
         (record { body = take at bytes; is = ap (λ rest. 60 ∷ 33 ∷ 45 ∷ 45 ∷ rest) (append_assoc (take at bytes) (45 ∷ 45 ∷ []) (62 ∷ [])); plain = part.plain }))
 
@@ -104,14 +104,14 @@ declaration_spelt blank bytes is_blank = by (position ends_declaration bytes) re
         let front : List ℕ = codes "<?xml" ++ (blank ∷ (take at bytes ++ 63 ∷ [])) in
         let size : at ≡ length (take at bytes) = part.size in
         let long : at + 7 ≡ length front = omega (arith, size, length-append (take at bytes) (63 ∷ [])) in
-        pick (codes "<?xml" ++ (blank ∷ bytes)) (get_or bytes at 0 == 63) (closed 62 Declaration (at + 7) (drop (at + 1) bytes)) _
+        pick (codes "<?xml" ++ (blank ∷ bytes)) (get_or bytes at 0 == 63) (byte_token 62 Declaration (at + 7) (drop (at + 1) bytes)) _
         (λ t.
         let whole : codes "<?xml" ++ (blank ∷ bytes) ≡ front ++ drop (at + 1) bytes =
         ap (λ rest. 60 ∷ 63 ∷ 120 ∷ 109 ∷ 108 ∷ blank ∷ rest) (part.is
         ∙ ap (λ byte. take at bytes ++ byte ∷ drop (suc at) bytes) (same_byte (get_or bytes at 0) 63 t)
         ∙ ap (λ rest. take at bytes ++ 63 ∷ rest) behind
         ∙ sym (append_assoc (take at bytes) (63 ∷ []) (drop (at + 1) bytes))) in
-        subst (λ (all : List ℕ). Spelt all (closed 62 Declaration (at + 7) (drop (at + 1) bytes))) (sym whole)
+        subst (λ (all : List ℕ). Spelt all (byte_token 62 Declaration (at + 7) (drop (at + 1) bytes))) (sym whole)
         (closed_spelt 62 Declaration (at + 7) front (drop (at + 1) bytes) long
         (record { blank = blank; body = take at bytes; is = ap (λ rest. 60 ∷ 63 ∷ 120 ∷ 109 ∷ 108 ∷ blank ∷ rest) (append_assoc (take at bytes) (63 ∷ []) (62 ∷ [])); is_blank = is_blank; plain = part.plain })))
         (λ _. pick _ (get_or bytes at 0 == 38) (Broken (Reference (at + 6))) (Broken (Break (at + 6))) (λ _. broken _ _) (λ _. broken _ _))
@@ -136,7 +136,7 @@ value_spelt quote bytes is_quote = by (position (ends_value quote) bytes) refl
         (λ _. pick _ (get_or bytes at 0 == 38) (Broken (Reference (at + 1))) (Broken (Break (at + 1))) (λ _. broken _ _) (λ _. broken _ _))
 
 -- a letter and what is behind it of a name are a name
-name_spelt : (byte : ℕ) (bytes : List ℕ) → is_letter byte ≡ true → IsName (take (prefix_len is_of_name (byte ∷ bytes)) (byte ∷ bytes))
+name_spelt : (byte : ℕ) (bytes : List ℕ) → is_letter byte ≡ true → IsTagName (take (prefix_len is_of_name (byte ∷ bytes)) (byte ∷ bytes))
 unfolding is_of_name
 name_spelt byte bytes letter = record {
   first = byte;
@@ -149,16 +149,16 @@ name_spelt byte bytes letter = record {
     counts : prefix_len is_of_name (byte ∷ bytes) ≡ suc (prefix_len is_of_name bytes)
     counts = rw letter (omega arith)
 
-opening_spelt : (byte : ℕ) (bytes : List ℕ) → is_letter byte ≡ true → Spelt (60 ∷ byte ∷ bytes) (named Opening 1 (prefix_len is_of_name (byte ∷ bytes)) (byte ∷ bytes))
-unfolding named
+opening_spelt : (byte : ℕ) (bytes : List ℕ) → is_letter byte ≡ true → Spelt (60 ∷ byte ∷ bytes) (named_token Opening 1 (prefix_len is_of_name (byte ∷ bytes)) (byte ∷ bytes))
+unfolding named_token
 opening_spelt byte bytes letter =
     let counts : 1 + prefix_len is_of_name (byte ∷ bytes) ≡ suc (prefix_len is_of_name (byte ∷ bytes)) = omega arith in
     pick (60 ∷ byte ∷ bytes) (nat_lt (prefix_len is_of_name (byte ∷ bytes)) (length (byte ∷ bytes)))
     (Found (Opening (take (prefix_len is_of_name (byte ∷ bytes)) (byte ∷ bytes))) (1 + prefix_len is_of_name (byte ∷ bytes))) (Broken Ended)
     (λ _. record { fits = (record { is = ap (λ n. take n (60 ∷ byte ∷ bytes)) counts; named = name_spelt byte bytes letter }, omega (arith, prefix_len-le-length is_of_name (byte ∷ bytes))) }) (λ _. broken _ _)
 
-attribute_spelt : (byte : ℕ) (bytes : List ℕ) → is_letter byte ≡ true → Spelt (byte ∷ bytes) (named Name 0 (prefix_len is_of_name (byte ∷ bytes)) (byte ∷ bytes))
-unfolding named
+attribute_spelt : (byte : ℕ) (bytes : List ℕ) → is_letter byte ≡ true → Spelt (byte ∷ bytes) (named_token Name 0 (prefix_len is_of_name (byte ∷ bytes)) (byte ∷ bytes))
+unfolding named_token
 attribute_spelt byte bytes letter =
     let counts : 0 + prefix_len is_of_name (byte ∷ bytes) ≡ prefix_len is_of_name (byte ∷ bytes) = omega arith in
     pick (byte ∷ bytes) (nat_lt (prefix_len is_of_name (byte ∷ bytes)) (length (byte ∷ bytes)))
@@ -171,7 +171,7 @@ halves zero bytes = refl
 halves (suc n) [] = refl
 halves (suc n) (byte ∷ bytes) = ap (λ rest. byte ∷ rest) (halves n bytes)
 
-end_of_tag_spelt : (name : List ℕ) (size : ℕ) (bytes : List ℕ) → size ≡ length name → IsName name → Spelt (60 ∷ 47 ∷ (name ++ bytes)) (end_of_tag name size bytes)
+end_of_tag_spelt : (name : List ℕ) (size : ℕ) (bytes : List ℕ) → size ≡ length name → IsTagName name → Spelt (60 ∷ 47 ∷ (name ++ bytes)) (end_of_tag name size bytes)
 unfolding end_of_tag
 end_of_tag_spelt name size bytes long is_name =
     let blanks : List ℕ = take (prefix_len is_blank bytes) bytes in
@@ -182,7 +182,7 @@ end_of_tag_spelt name size bytes long is_name =
     ∙ sym (append_assoc name (take (prefix_len is_blank bytes) bytes) (drop (prefix_len is_blank bytes) bytes))) in
     let size_is : 2 + size + prefix_len is_blank bytes ≡ length front =
     omega (arith, long, length-prefix_len is_blank bytes, length-append name (take (prefix_len is_blank bytes) bytes)) in
-    subst (λ (all : List ℕ). Spelt all (closed 62 (EndTag name) (2 + size + prefix_len is_blank bytes) (drop (prefix_len is_blank bytes) bytes))) (sym whole)
+    subst (λ (all : List ℕ). Spelt all (byte_token 62 (EndTag name) (2 + size + prefix_len is_blank bytes) (drop (prefix_len is_blank bytes) bytes))) (sym whole)
     (closed_spelt 62 (EndTag name) (2 + size + prefix_len is_blank bytes) front (drop (prefix_len is_blank bytes) bytes) size_is
     (record {
       blanks = take (prefix_len is_blank bytes) bytes;
@@ -275,7 +275,7 @@ markup_spelt first (byte ∷ bytes) =
     (pick (60 ∷ 63 ∷ bytes) first (declared bytes) (Broken (Break 0)) (λ _. declared_spelt bytes) (λ _. broken _ _)))
     (λ _. pick (60 ∷ byte ∷ bytes) (byte == 47) (end_tag bytes) _
     (λ t. subst (λ (other : ℕ). Spelt (60 ∷ other ∷ bytes) (end_tag bytes)) (sym (same_byte byte 47 t)) (end_tag_spelt bytes))
-    (λ _. pick (60 ∷ byte ∷ bytes) (is_letter byte) (named Opening 1 (prefix_len is_of_name (byte ∷ bytes)) (byte ∷ bytes)) (Broken (Break 1))
+    (λ _. pick (60 ∷ byte ∷ bytes) (is_letter byte) (named_token Opening 1 (prefix_len is_of_name (byte ∷ bytes)) (byte ∷ bytes)) (Broken (Break 1))
     (λ letter. opening_spelt byte bytes letter) (λ _. broken _ _))))
 
 front_spelt : (first : Bool) (bytes : List ℕ) → Spelt bytes (front first bytes)
@@ -288,21 +288,21 @@ front_spelt first (byte ∷ bytes) =
     (λ blank. record { fits = (blanks_spelt byte bytes blank, prefix_len-le-length is_blank (byte ∷ bytes)) })
     (λ _. pick (byte ∷ bytes) (byte == 62) (Found TagEnd 1) _
     (λ t. record { fits = (ap (λ other. other ∷ []) (same_byte byte 62 t), omega arith) })
-    (λ _. pick (byte ∷ bytes) (byte == 47) (closed 62 EmptyEnd 1 bytes) _
-    (λ t. subst (λ (other : ℕ). Spelt (other ∷ bytes) (closed 62 EmptyEnd 1 bytes)) (sym (same_byte byte 47 t)) (closed_spelt 62 EmptyEnd 1 (47 ∷ []) bytes refl refl))
+    (λ _. pick (byte ∷ bytes) (byte == 47) (byte_token 62 EmptyEnd 1 bytes) _
+    (λ t. subst (λ (other : ℕ). Spelt (other ∷ bytes) (byte_token 62 EmptyEnd 1 bytes)) (sym (same_byte byte 47 t)) (closed_spelt 62 EmptyEnd 1 (47 ∷ []) bytes refl refl))
     (λ _. pick (byte ∷ bytes) (byte == 61) (Found Equals 1) _
     (λ t. record { fits = (ap (λ other. other ∷ []) (same_byte byte 61 t), omega arith) })
     (λ _. pick (byte ∷ bytes) (is_quote byte) (value byte bytes) _
     (λ quote. value_spelt byte bytes quote)
-    (λ _. pick (byte ∷ bytes) (is_letter byte) (named Name 0 (prefix_len is_of_name (byte ∷ bytes)) (byte ∷ bytes)) (Broken (Break 0))
+    (λ _. pick (byte ∷ bytes) (is_letter byte) (named_token Name 0 (prefix_len is_of_name (byte ∷ bytes)) (byte ∷ bytes)) (Broken (Break 0))
     (λ letter. attribute_spelt byte bytes letter) (λ _. broken _ _)))))))
 
 -- what is found at the front of a text is spelled there
-pub front_spells : (first : Bool) (text : List ℕ) (token : Token) (size : ℕ) → front first text ≡ Found token size → Spells token (take size text) × (size ≤ length text)
+pub front_spells : (first : Bool) (text : List ℕ) (token : Token) (size : ℕ) → front first text ≡ Found token size → SpellsToken token (take size text) × (size ≤ length text)
 front_spells first text token size e = subst (λ (found : Front). SpeltIn text found) e (front_spelt first text).fits
 
 -- what a token is spelled by has a byte
-spells_some : (token : Token) (word : List ℕ) → Spells token word → 1 ≤ length word
+spells_some : (token : Token) (word : List ℕ) → SpellsToken token word → 1 ≤ length word
 spells_some Blanks word spells = spells.some
 spells_some Comment word spells = omega (arith, ap length spells.is)
 spells_some Declaration word spells = omega (arith, ap length spells.is)
@@ -328,11 +328,11 @@ cut_spelled at zero (byte ∷ bytes) h = by (front (nat_eq at 0) (byte ∷ bytes
         → IsCut (at + 0) (byte ∷ bytes) (cut_at found at byte (length bytes) (λ more. cut (at + 1) more bytes))
     by (Broken stop) e ih = omega arith
     by (Found token zero) e ih =
-        let spells : Spells token [] × (0 ≤ length (byte ∷ bytes)) = front_spells (nat_eq at 0) (byte ∷ bytes) token 0 e in
+        let spells : SpellsToken token [] × (0 ≤ length (byte ∷ bytes)) = front_spells (nat_eq at 0) (byte ∷ bytes) token 0 e in
         let some : 1 ≤ 0 = spells_some token [] spells.0 in
         absurd (omega arith)
     by (Found token (suc size)) e ih =
-        let spells : Spells token (byte ∷ take size bytes) × (suc size ≤ length (byte ∷ bytes)) = front_spells (nat_eq at 0) (byte ∷ bytes) token (suc size) e in
+        let spells : SpellsToken token (byte ∷ take size bytes) × (suc size ≤ length (byte ∷ bytes)) = front_spells (nat_eq at 0) (byte ∷ bytes) token (suc size) e in
         let few : suc size ≤ length (byte ∷ bytes) = spells.1 in
         let fewer : size ≤ length bytes = omega arith in
         let left : suc size - 1 ≡ size = omega arith in

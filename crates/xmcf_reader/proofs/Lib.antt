@@ -15,3 +15,5 @@ mod Stands
 mod Faultless
 mod Paths
 mod OfTags
+pub mod BytesLemmas
+pub mod DraftsLemmas

@@ -4,7 +4,7 @@ use Rattle.std.specs.Prelude.{not, ◌&&◌}
 use Rattle.std.specs.List.{zip, filter_map}
 use Rattle.std.specs.Str.{bytes_eq}
 use Rattle.std.proofs.lemmas.Slice.Eq.{bytes_eq-Decides}
-use Rattle.xmcf_reader.specs.Draft.{Context, Open, Tag, start, after, attribute_named, begun, named_as, valued, entered, tag_ended, opened, outer_of, parent_number, spaced, equaled}
+use Rattle.xmcf_reader.specs.Draft.{Context, Open, Tag, empty_draft, after_token, attribute_named, tag_begun, named_as, valued, entry_added, tag_ended, opened, outer_of, parent_number, blank_passed, equaled}
 use Rattle.xmcf_reader.specs.Drafts.{word_of, StandsAt}
 use Rattle.xmcf_reader.specs.Elements.{Pair, built}
 use Rattle.xmcf_reader.specs.Faults.{Cut, Item, Rest, End, cut, draft_from, draft_of, faults_from, faults_of, xmcf_fault, when, is_between, is_spaced, may_end, is_done, element_faults, attribute_faults, value_faults, missing_attributes, missing_children, missing_of, closes, may_begin}
@@ -26,7 +26,7 @@ use Rattle.xmcf_reader.proofs.Rows.{found_passes, unlike}
 use Rattle.xmcf_reader.proofs.Stands.{got_before, ArePath}
 
 -- one more entry does not change which stand
-entered_keeps : (what : Option Element) (context : Context) (number : ℕ) (entry : Entry) → StandsAt context.entries number entry → StandsAt (entered what context) number entry
+entered_keeps : (what : Option Element) (context : Context) (number : ℕ) (entry : Entry) → StandsAt context.entries number entry → StandsAt (entry_added what context) number entry
 entered_keeps None context number entry got = got
 entered_keeps (Some what) context number entry got = got_before context.entries _ entry number got
 
@@ -35,7 +35,7 @@ ended_keeps : (context : Context) (number : ℕ) (entry : Entry) → StandsAt co
 unfolding tag_ended
 ended_keeps context number entry got = entered_keeps (built context.tag.word context.tag.given) context number entry got
 
-begun_keeps : (element : Option Word) (at : ℕ) (context : Context) (number : ℕ) (entry : Entry) → StandsAt context.entries number entry → StandsAt (begun element at context).entries number entry
+begun_keeps : (element : Option Word) (at : ℕ) (context : Context) (number : ℕ) (entry : Entry) → StandsAt context.entries number entry → StandsAt (tag_begun element at context).entries number entry
 begun_keeps None at context number entry got = got
 begun_keeps (Some word) at context number entry got = got
 
@@ -51,7 +51,7 @@ valued_keeps (Named attribute) text context number entry got = got
 valued_keeps (Equaled attribute) text context number entry got = got
 
 -- no token changes which entries stand
-after_keeps : (context : Context) (token : Token) (at : ℕ) (number : ℕ) (entry : Entry) → StandsAt context.entries number entry → StandsAt (after context token at).entries number entry
+after_keeps : (context : Context) (token : Token) (at : ℕ) (number : ℕ) (entry : Entry) → StandsAt context.entries number entry → StandsAt (after_token context token at).entries number entry
 after_keeps context Blanks at number entry got = got
 after_keeps context Comment at number entry got = got
 after_keeps context Declaration at number entry got = got
@@ -65,7 +65,7 @@ after_keeps context (EndTag name) at number entry got = got
 
 -- no tokens do
 draft_keeps : (context : Context) (all : Cut) (number : ℕ) (entry : Entry) → StandsAt context.entries number entry → StandsAt (draft_from context all) number entry
-draft_keeps context (Item token at more) number entry got = draft_keeps (after context token at) more number entry (after_keeps context token at number entry got)
+draft_keeps context (Item token at more) number entry got = draft_keeps (after_token context token at) more number entry (after_keeps context token at number entry got)
 draft_keeps context (Rest at byte broken) number entry got = got
 draft_keeps context (End at) number entry got = got
 
@@ -88,13 +88,13 @@ pub record InStart (context : Context) (before : List Placed) (name : List ℕ) 
   pub pending : Pending context.stage context.tag.word names
   pub place : context.tag.at ≡ at
   pub named : name ≡ word_text context.tag.word
-  pub count : length context.entries ≡ tags.begun before
+  pub count : length context.entries ≡ tags.count_begun before
   pub parent : IsParent before (parent_number context.open_elements)
 
 -- a start tag has its entry
 pub record Tagged (entries : List Entry) (before : List Placed) (name : List ℕ) (at : ℕ) (word : Word) (given : List Pair) : Type 0 where
   pub entry : Entry
-  pub stands : StandsAt entries (tags.begun before) entry
+  pub stands : StandsAt entries (tags.count_begun before) entry
   pub place : entry.at ≡ at
   pub named : name ≡ word_text word
   pub word_is : word_of entry.what ≡ word
@@ -109,7 +109,7 @@ not_inside stage one inside none = unlike _ (is_so _ (not_when _ one none)) insi
 not_inside_and : (stage : Stage) (other : Bool) (one : ReadFault) (more : List ReadFault) → is_between stage ≡ false → when (not (is_between stage && other)) one ++ more ≡ [] → ⊥
 not_inside_and stage other one more inside none = unlike _ (both_left (is_between stage) other (stands_here (is_between stage && other) one more none)) inside
 
-spaced_between : (stage : Stage) → is_between (spaced stage) ≡ is_between stage
+spaced_between : (stage : Stage) → is_between (blank_passed stage) ≡ is_between stage
 spaced_between Between = refl
 spaced_between Bare = refl
 spaced_between Spaced = refl
@@ -123,7 +123,7 @@ equaled_between Spaced = refl
 equaled_between (Named attribute) = refl
 equaled_between (Equaled attribute) = refl
 
-spaced_pending : (stage : Stage) (word : Word) (names : List (List ℕ)) → Pending stage word names → Pending (spaced stage) word names
+spaced_pending : (stage : Stage) (word : Word) (names : List (List ℕ)) → Pending stage word names → Pending (blank_passed stage) word names
 spaced_pending Between word names pending = pending
 spaced_pending Bare word names pending = pending
 spaced_pending Spaced word names pending = pending
@@ -213,7 +213,7 @@ tag_end : (context next : Context) (more : Cut) (before : List Placed) (name : L
     → next.entries ≡ (tag_ended context).entries → Tagged (draft_from next more) before name at context.tag.word (context.tag.given ++ given_of context.tag.word (names ++ []) [])
 tag_end context next more before name at names ended inside may same = record {
   entry = ended.entry;
-  stands = draft_keeps next more (tags.begun before) ended.entry
+  stands = draft_keeps next more (tags.count_begun before) ended.entry
       (subst (λ (number : ℕ). StandsAt next.entries number ended.entry) inside.count
       (subst (λ (entries : List Entry). StandsAt entries (length context.entries) ended.entry) (sym same) ended.enters.stands));
   place = ended.place ∙ inside.place;
@@ -238,7 +238,7 @@ named_tag (Some attribute) context = refl
 tag_gives : (context : Context) (all : Cut) (before : List Placed) (name : List ℕ) (at : ℕ) (names : List (List ℕ)) → InStart context before name at names → faults_from context all ≡ []
     → Tagged (draft_from context all) before name at context.tag.word (context.tag.given ++ given_of context.tag.word (names ++ names_in (in_tag (tokens_of all))) (values_in (in_tag (tokens_of all))))
 tag_gives context (Item Blanks place more) before name at names inside none =
-    tag_gives (after context Blanks place) more before name at names (record {
+    tag_gives (after_token context Blanks place) more before name at names (record {
       sound = sound_after context Blanks place inside.sound refl;
       inside = spaced_between context.stage ∙ inside.inside;
       pending = spaced_pending context.stage context.tag.word names inside.pending;
@@ -266,7 +266,7 @@ tag_gives context (Item (Name other) place more) before name at [] inside none =
     (start_name context before name at other known.0 inside (subst (λ (found : Option Attribute). Sound (named_as found context)) known.1 next) known.1)
     (subst (λ (found : Option Attribute). faults_from (named_as found context) more ≡ []) known.1 rest))
 tag_gives context (Item Equals place more) before name at names inside none =
-    tag_gives (after context Equals place) more before name at names (record {
+    tag_gives (after_token context Equals place) more before name at names (record {
       sound = sound_after context Equals place inside.sound (no_first (faults_of context Equals place) _ none);
       inside = equaled_between context.stage ∙ inside.inside;
       pending = equaled_pending context.stage context.tag.word names inside.pending;
@@ -290,13 +290,13 @@ tag_gives context (Item (Value text) place more) before name at names inside non
 tag_gives context (Item TagEnd place more) before name at names inside none =
     let here : faults_of context TagEnd place ≡ [] = no_first (faults_of context TagEnd place) _ none in
     let may : may_end context.stage ≡ true = stands_here (may_end context.stage) (fault.BadItem place) (missing_attributes context.tag.word context.tag.given place) here in
-    tag_end context (after context TagEnd place) more before name at names
+    tag_end context (after_token context TagEnd place) more before name at names
     (tag_ends context place inside.sound may (no_second (when (not (may_end context.stage)) (fault.BadItem place)) _ here)) inside may (opened_entries context)
 tag_gives context (Item EmptyEnd place more) before name at names inside none =
     let here : faults_of context EmptyEnd place ≡ [] = no_first (faults_of context EmptyEnd place) _ none in
     let may : may_end context.stage ≡ true = stands_here (may_end context.stage) (fault.BadItem place) (missing_attributes context.tag.word context.tag.given place ++ missing_children context.tag.word [] place) here in
     let rest : missing_attributes context.tag.word context.tag.given place ++ missing_children context.tag.word [] place ≡ [] = no_second (when (not (may_end context.stage)) (fault.BadItem place)) _ here in
-    tag_end context (after context EmptyEnd place) more before name at names
+    tag_end context (after_token context EmptyEnd place) more before name at names
     (tag_ends context place inside.sound may (no_first (missing_attributes context.tag.word context.tag.given place) _ rest)) inside may refl
 tag_gives context (Item (EndTag other) place more) before name at names inside none =
     absurd (not_inside_and context.stage (closes other context.open_elements) (fault.BadItem place) (missing_of context.open_elements place) inside.inside (no_first (faults_of context (EndTag other) place) _ none))
@@ -308,10 +308,10 @@ tag_gives context (End place) before name at names inside none =
     absurd (unlike _ (both_left (is_between context.stage) _ (is_so _ (not_when _ (fault.Unclosed place) none))) inside.inside)
 
 -- an element's start tag begins, and has its entry
-opening_gives : (context : Context) (word : Word) (name : List ℕ) (at : ℕ) (more : Cut) (past : List Placed) → Sound (begun (Some word) at context) → name ≡ word_text word → Told past context.entries context.open_elements
-    → is_done context.open_elements context.entries ≡ false → faults_from (begun (Some word) at context) more ≡ [] → GivesEntry past name at (tokens_of more) (draft_from (begun (Some word) at context) more)
+opening_gives : (context : Context) (word : Word) (name : List ℕ) (at : ℕ) (more : Cut) (past : List Placed) → Sound (tag_begun (Some word) at context) → name ≡ word_text word → Told past context.entries context.open_elements
+    → is_done context.open_elements context.entries ≡ false → faults_from (tag_begun (Some word) at context) more ≡ [] → GivesEntry past name at (tokens_of more) (draft_from (tag_begun (Some word) at context) more)
 opening_gives context word name at more past sound named told undone none =
-    gives (tag_gives (begun (Some word) at context) more past name at [] (record {
+    gives (tag_gives (tag_begun (Some word) at context) more past name at [] (record {
       sound = sound;
       inside = refl;
       pending = refl;
@@ -326,8 +326,8 @@ opening_gives context word name at more past sound named told undone none =
     parent_of [] (entry ∷ entries) told undone = cc
     parent_of (inner ∷ outer) entries told undone = inr told.all.0
 
-    gives : Tagged (draft_from (begun (Some word) at context) more) past name at word (given_of word (names_in (in_tag (tokens_of more))) (values_in (in_tag (tokens_of more))))
-        → GivesEntry past name at (tokens_of more) (draft_from (begun (Some word) at context) more)
+    gives : Tagged (draft_from (tag_begun (Some word) at context) more) past name at word (given_of word (names_in (in_tag (tokens_of more))) (values_in (in_tag (tokens_of more))))
+        → GivesEntry past name at (tokens_of more) (draft_from (tag_begun (Some word) at context) more)
     gives tagged = record {
       entry = tagged.entry;
       stands = tagged.stands;
@@ -346,12 +346,12 @@ start_gives context name at more past sound tells none =
     let here : faults_of context (Opening name) at ≡ [] = no_first (faults_of context (Opening name) at) _ none in
     let both : (is_between context.stage && not (is_done context.open_elements context.entries)) ≡ true = stands_here _ (fault.BadItem at) (element_faults (element_named name) context.open_elements at) here in
     let known = known_element (element_named name) context.open_elements at (no_second (when (not (is_between context.stage && not (is_done context.open_elements context.entries))) (fault.BadItem at)) _ here) in
-    let next : Sound (begun (element_named name) at context) = sound_after context (Opening name) at sound here in
-    let rest : faults_from (begun (element_named name) at context) more ≡ [] = no_second (faults_of context (Opening name) at) _ none in
-    subst (λ (found : Option Word). GivesEntry past name at (tokens_of more) (draft_from (begun found at context) more)) (sym known.1)
-    (opening_gives context known.0 name at more past (subst (λ (found : Option Word). Sound (begun found at context)) known.1 next) (known_name name known.0 known.1)
+    let next : Sound (tag_begun (element_named name) at context) = sound_after context (Opening name) at sound here in
+    let rest : faults_from (tag_begun (element_named name) at context) more ≡ [] = no_second (faults_of context (Opening name) at) _ none in
+    subst (λ (found : Option Word). GivesEntry past name at (tokens_of more) (draft_from (tag_begun found at context) more)) (sym known.1)
+    (opening_gives context known.0 name at more past (subst (λ (found : Option Word). Sound (tag_begun found at context)) known.1 next) (known_name name known.0 known.1)
     (told_of (is_between context.stage) past context.entries context.open_elements (both_left _ _ both) tells) (is_not_so _ (both_right (is_between context.stage) _ both))
-    (subst (λ (found : Option Word). faults_from (begun found at context) more ≡ []) known.1 rest))
+    (subst (λ (found : Option Word). faults_from (tag_begun found at context) more ≡ []) known.1 rest))
 
 -- an end tag that breaks nothing ends its entry
 end_ends : (context : Context) (open_elements : List Open) (name : List ℕ) (past : List Placed) (entries : List Entry) → closes name open_elements ≡ true → Told past context.entries open_elements
@@ -411,7 +411,7 @@ outer_tells context (inner ∷ outer) name at past closed told = tells_end past 
 
 -- what one more token tells
 tells_after : (context : Context) (token : Token) (at : ℕ) (past : List Placed) → Sound context → Tells (is_between context.stage) past context.entries context.open_elements → faults_of context token at ≡ []
-    → Tells (is_between (after context token at).stage) (past ++ (record { token = token; at = at }) ∷ []) (after context token at).entries (after context token at).open_elements
+    → Tells (is_between (after_token context token at).stage) (past ++ (record { token = token; at = at }) ∷ []) (after_token context token at).entries (after_token context token at).open_elements
 tells_after context Blanks at past sound tells none =
     subst (λ (between : Bool). Tells between (past ++ (record { token = Blanks; at = at }) ∷ []) context.entries context.open_elements) (sym (spaced_between context.stage))
     (tells_plain (is_between context.stage) past (record { token = Blanks; at = at }) context.entries context.open_elements tells refl refl)
@@ -420,7 +420,7 @@ tells_after context Declaration at past sound tells none = tells_plain (is_betwe
 tells_after context (Opening name) at past sound tells none =
     let both : (is_between context.stage && not (is_done context.open_elements context.entries)) ≡ true = stands_here _ (fault.BadItem at) (element_faults (element_named name) context.open_elements at) none in
     let known = known_element (element_named name) context.open_elements at (no_second (when (not (is_between context.stage && not (is_done context.open_elements context.entries))) (fault.BadItem at)) _ none) in
-    subst (λ (found : Option Word). Tells (is_between (begun found at context).stage) (past ++ (record { token = Opening name; at = at }) ∷ []) (begun found at context).entries (begun found at context).open_elements) (sym known.1)
+    subst (λ (found : Option Word). Tells (is_between (tag_begun found at context).stage) (past ++ (record { token = Opening name; at = at }) ∷ []) (tag_begun found at context).entries (tag_begun found at context).open_elements) (sym known.1)
     (tells_opening past (record { token = Opening name; at = at }) context.entries context.open_elements (told_of (is_between context.stage) past context.entries context.open_elements (both_left _ _ both) tells) refl refl)
 tells_after context (Name name) at past sound tells none =
     let may : is_spaced context.stage ≡ true = stands_here (is_spaced context.stage) (fault.BadItem at) (attribute_faults (attribute_named name context.tag.word) context.tag at) none in
@@ -472,7 +472,7 @@ each_start context (Item token place more) past sound tells none (one ∷ before
     let here : faults_of context token place ≡ [] = no_first (faults_of context token place) _ none in
     subst (λ (some : List Placed). GivesEntry some name at behind (draft_from context (Item token place more)))
     (append_assoc past ((record { token = token; at = place }) ∷ []) before ∙ ap (λ (first : Placed). past ++ first ∷ before) head)
-    (each_start (after context token place) more (past ++ (record { token = token; at = place }) ∷ []) (sound_after context token place sound here) (tells_after context token place past sound tells here) (no_second (faults_of context token place) _ none)
+    (each_start (after_token context token place) more (past ++ (record { token = token; at = place }) ∷ []) (sound_after context token place sound here) (tells_after context token place past sound tells here) (no_second (faults_of context token place) _ none)
     before behind name at (same_rest (record { token = token; at = place }) one (tokens_of more) (before ++ (record { token = Opening name; at = at }) ∷ behind) e))
 each_start context (Rest place byte broken) past sound tells none [] behind name at e = cc
 each_start context (Rest place byte broken) past sound tells none (one ∷ before) behind name at e = cc
@@ -505,7 +505,7 @@ each_end context (Item token place more) past sound tells none (one ∷ before) 
     let here : faults_of context token place ≡ [] = no_first (faults_of context token place) _ none in
     subst (λ (some : List Placed). EndsEntry some name (draft_from context (Item token place more)))
     (append_assoc past ((record { token = token; at = place }) ∷ []) before ∙ ap (λ (first : Placed). past ++ first ∷ before) head)
-    (each_end (after context token place) more (past ++ (record { token = token; at = place }) ∷ []) (sound_after context token place sound here) (tells_after context token place past sound tells here) (no_second (faults_of context token place) _ none)
+    (each_end (after_token context token place) more (past ++ (record { token = token; at = place }) ∷ []) (sound_after context token place sound here) (tells_after context token place past sound tells here) (no_second (faults_of context token place) _ none)
     before behind name at (same_rest (record { token = token; at = place }) one (tokens_of more) (before ++ (record { token = EndTag name; at = at }) ∷ behind) e))
 each_end context (Rest place byte broken) past sound tells none [] behind name at e = cc
 each_end context (Rest place byte broken) past sound tells none (one ∷ before) behind name at e = cc
@@ -514,11 +514,11 @@ each_end context (End place) past sound tells none (one ∷ before) behind name 
 
 -- at the end of a text, as many entries as begin, and each ends
 abbrev pub Counted : List Placed → List Entry → Type 0
-Counted tokens entries = (length entries ≡ tags.begun tokens) × (tags.ended tokens ≡ tags.begun tokens)
+Counted tokens entries = (length entries ≡ tags.count_begun tokens) × (tags.count_ended tokens ≡ tags.count_begun tokens)
 
 -- where no element is open all is counted
 done_counted : (tokens : List Placed) (entries : List Entry) (open_elements : List Open) → is_done open_elements entries ≡ true → Told tokens entries open_elements → Counted tokens entries
-done_counted tokens entries [] done told = (told.count, (let balance : tags.begun tokens ≡ tags.ended tokens + 0 = told.balance in omega arith))
+done_counted tokens entries [] done told = (told.count, (let balance : tags.count_begun tokens ≡ tags.count_ended tokens + 0 = told.balance in omega arith))
 done_counted tokens entries (inner ∷ outer) done told = cc
 
 -- a text without a fault has as many entries as start tags, and each ends
@@ -527,7 +527,7 @@ all_counted : (context : Context) (all : Cut) (past : List Placed) → Sound con
 all_counted context (Item token place more) past sound tells none =
     let here : faults_of context token place ≡ [] = no_first (faults_of context token place) _ none in
     subst (λ (tokens : List Placed). Counted tokens (draft_from context (Item token place more))) (append_assoc past ((record { token = token; at = place }) ∷ []) (tokens_of more))
-    (all_counted (after context token place) more (past ++ (record { token = token; at = place }) ∷ []) (sound_after context token place sound here) (tells_after context token place past sound tells here) (no_second (faults_of context token place) _ none))
+    (all_counted (after_token context token place) more (past ++ (record { token = token; at = place }) ∷ []) (sound_after context token place sound here) (tells_after context token place past sound tells here) (no_second (faults_of context token place) _ none))
 all_counted context (Rest place byte broken) past sound tells none = absurd (never (no_second (when (not (may_begin context.stage byte)) (fault.BadItem place)) (broken ∷ []) none))
   where
     never : broken ∷ [] ≡ [] → ⊥
@@ -538,14 +538,14 @@ all_counted context (End place) past sound tells none =
     (done_counted past context.entries context.open_elements (both_right (is_between context.stage) _ both) (told_of (is_between context.stage) past context.entries context.open_elements (both_left _ _ both) tells))
 
 -- the entries of a text whose tokens break nothing are those of its start tags
-of_tags : (all : Cut) → faults_from start all ≡ [] → AreOfTags (tokens_of all) (draft_from start all)
+of_tags : (all : Cut) → faults_from empty_draft all ≡ [] → AreOfTags (tokens_of all) (draft_from empty_draft all)
 of_tags all none =
-    let counted = all_counted start all [] sound_start tells_start none in
+    let counted = all_counted empty_draft all [] sound_start tells_start none in
     record {
       count = counted.0;
       closed = counted.1;
-      starts = each_start start all [] sound_start tells_start none;
-      end_tags = each_end start all [] sound_start tells_start none;
+      starts = each_start empty_draft all [] sound_start tells_start none;
+      end_tags = each_end empty_draft all [] sound_start tells_start none;
     }
 
 -- the entries of a text without a fault are those of its start tags

@@ -2,8 +2,8 @@
 use Rattle.std.proofs.Common.{◌≡◌, ℕ, zero, suc, ◌+◌, ◌-◌, ◌<◌, ◌≤◌, Bool, true, false, cond, List, [], ◌∷◌, ◌++◌, map, length, Option, Some, None, ◌⊎◌, inl, inr, refl, sym, ap, arith, subst, append_assoc}
 use Rattle.std.specs.Prelude.{nat_eq}
 use Rattle.std.proofs.lemmas.Bool.Decides.{nat_tests}
-use Rattle.xmcf_reader.specs.Draft.{Context, Open, Tag, start, after, attribute_named}
-use Rattle.xmcf_reader.specs.Faults.{cut, cut_at, stopped, when, faults_of, faults_from, element_faults, attribute_faults, value_faults, missing_attributes, missing_children, missing_of, place, rank, comes_before, lesser, least, first_of}
+use Rattle.xmcf_reader.specs.Draft.{Context, Open, Tag, empty_draft, after_token, attribute_named}
+use Rattle.xmcf_reader.specs.Faults.{cut, cut_at, stopped, when, faults_of, faults_from, element_faults, attribute_faults, value_faults, missing_attributes, missing_children, missing_of, place, rank, comes_before, lesser_fault, least, first_of}
 use Rattle.xmcf_reader.specs.Words.{element_named}
 use Rattle.xmcf_reader.specs.Elements.{Pair}
 use Rattle.xmcf_reader.specs.Tokens.{Token, Blanks, Comment, Declaration, Opening, Name, Equals, Value, TagEnd, EmptyEnd, EndTag, Front, Found, Broken, front}
@@ -42,12 +42,12 @@ not_before one other (inl far) = grind (arith, nat_tests)
 not_before one other (inr near) = let same : place other ≡ place one = near.0 in let kinds : rank one ≤ rank other = near.1 in grind (arith, nat_tests)
 
 -- a fault before which none comes is the lesser
-lesser_head : (one : ReadFault) (other : Option ReadFault) → SomeAtLeast (place one) (rank one) other → lesser one other ≡ Some one
+lesser_head : (one : ReadFault) (other : Option ReadFault) → SomeAtLeast (place one) (rank one) other → lesser_fault one other ≡ Some one
 lesser_head one None h = refl
 lesser_head one (Some other) h = rw (not_before one other h) refl
 
 -- the lesser of two is one of them
-lesser_at_least : (at kind : ℕ) (one : ReadFault) (other : Option ReadFault) → AtLeast at kind one → SomeAtLeast at kind other → SomeAtLeast at kind (lesser one other)
+lesser_at_least : (at kind : ℕ) (one : ReadFault) (other : Option ReadFault) → AtLeast at kind one → SomeAtLeast at kind other → SomeAtLeast at kind (lesser_fault one other)
 lesser_at_least at kind one None h k = h
 lesser_at_least at kind one (Some other) h k = by (comes_before other one)
   where
@@ -232,10 +232,10 @@ cut_order at zero (byte ∷ bytes) context = by (front (nat_eq at 0) (byte ∷ b
     by : (found : Front) → HasQuotes found → ((more : ℕ) (next : Context) → InOrder (at + 1) (low_of_left more) (faults_from next (cut (at + 1) more bytes)))
         → InOrder at 0 (faults_from context (cut_at found at byte (length bytes) (λ more. cut (at + 1) more bytes)))
     by (Found token size) quotes order =
-        token_order context token at _ (lower (at + 1) (low_of_left (size - 1)) 0 _ (omega arith) (order (size - 1) (after context token at)))
-        (value_first token size at _ quotes (order (size - 1) (after context token at)))
+        token_order context token at _ (lower (at + 1) (low_of_left (size - 1)) 0 _ (omega arith) (order (size - 1) (after_token context token at)))
+        (value_first token size at _ quotes (order (size - 1) (after_token context token at)))
     by (Broken stop) quotes order = item_order _ at _ (stop_order at (length bytes + 1) stop)
 
 -- the first of a text's faults is the least of them
-pub first_least : (text : List ℕ) → least (faults_from start (cut 0 0 text)) ≡ first_of (faults_from start (cut 0 0 text))
-first_least text = (cut_order 0 0 text start).good
+pub first_least : (text : List ℕ) → least (faults_from empty_draft (cut 0 0 text)) ≡ first_of (faults_from empty_draft (cut 0 0 text))
+first_least text = (cut_order 0 0 text empty_draft).good

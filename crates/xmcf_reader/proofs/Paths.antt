@@ -1,19 +1,19 @@
 -- The open elements, told by counting where elements begin and end.
 use Rattle.std.proofs.Common.{◌≡◌, ℕ, ◌+◌, ◌<◌, ◌≤◌, Bool, true, false, List, [], ◌∷◌, ◌++◌, length, refl, sym, ap, ◌∙◌, arith, subst, append_assoc, length-append}
 use Rattle.std.specs.List.{AllByRecursion}
-use Rattle.xmcf_reader.specs.Draft.{Open, noted}
-use Rattle.xmcf_reader.specs.Tags.{Placed, begins, ends, begun, ended, AllClosed, IsInnermost}
+use Rattle.xmcf_reader.specs.Draft.{Open, child_noted}
+use Rattle.xmcf_reader.specs.Tags.{Placed, begins, ends, count_begun, count_ended, AllClosed, IsInnermost}
 use Rattle.xmcf_reader.specs.Tokens.{Token, Blanks, Comment, Declaration, Opening, Name, Equals, Value, TagEnd, EmptyEnd, EndTag}
 use Rattle.xmcf_reader.specs.declared.draft.Entry.{Entry}
 use Rattle.xmcf_reader.specs.declared.word.Word.{Word}
 
 -- where elements begin is counted part by part
-pub begun_more : (some more : List Placed) → begun (some ++ more) ≡ begun some + begun more
+pub begun_more : (some more : List Placed) → count_begun (some ++ more) ≡ count_begun some + count_begun more
 begun_more [] more = omega arith
 begun_more (one ∷ some) more = omega (arith, begun_more some more)
 
 -- where elements end is counted part by part
-pub ended_more : (some more : List Placed) → ended (some ++ more) ≡ ended some + ended more
+pub ended_more : (some more : List Placed) → count_ended (some ++ more) ≡ count_ended some + count_ended more
 ended_more [] more = omega arith
 ended_more (one ∷ some) more = omega (arith, ended_more some more)
 
@@ -31,7 +31,7 @@ one_at_most EmptyEnd = omega arith
 one_at_most (EndTag name) = omega arith
 
 -- at closed tokens not more begin than end
-closed_count : (tokens : List Placed) → AllClosed tokens → begun tokens ≤ ended tokens
+closed_count : (tokens : List Placed) → AllClosed tokens → count_begun tokens ≤ count_ended tokens
 closed_count [] closed = omega arith
 closed_count (one ∷ more) closed = closed.0
 
@@ -39,8 +39,8 @@ closed_count (one ∷ more) closed = closed.0
 closed_more : (some more : List Placed) → AllClosed some → AllClosed more → AllClosed (some ++ more)
 closed_more [] more closed also = also
 closed_more (one ∷ some) more closed also = (
-  let here : begins one.token + begun some ≤ ends one.token + ended some = closed.0 in
-      let there : begun more ≤ ended more = closed_count more also in
+  let here : begins one.token + count_begun some ≤ ends one.token + count_ended some = closed.0 in
+      let there : count_begun more ≤ count_ended more = closed_count more also in
       omega (arith, begun_more some more, ended_more some more),
   closed_more some more closed.1 also,
 )
@@ -55,12 +55,12 @@ plain_more [] one plain begin end = ((begin, end), tt)
 plain_more (first ∷ tokens) one plain begin end = (plain.0, plain_more tokens one plain.1 begin end)
 
 -- at plain tokens nothing begins
-plain_begun : (tokens : List Placed) → ArePlain tokens → begun tokens ≡ 0
+plain_begun : (tokens : List Placed) → ArePlain tokens → count_begun tokens ≡ 0
 plain_begun [] plain = refl
 plain_begun (one ∷ tokens) plain = let here : begins one.token ≡ 0 = plain.0.0 in omega (arith, plain_begun tokens plain.1)
 
 -- at plain tokens nothing ends
-plain_ended : (tokens : List Placed) → ArePlain tokens → ended tokens ≡ 0
+plain_ended : (tokens : List Placed) → ArePlain tokens → count_ended tokens ≡ 0
 plain_ended [] plain = refl
 plain_ended (one ∷ tokens) plain = let here : ends one.token ≡ 0 = plain.0.1 in omega (arith, plain_ended tokens plain.1)
 
@@ -75,7 +75,7 @@ AreOpen tokens [] = AllClosed tokens
 AreOpen tokens (inner ∷ outer) = (innermost : IsInnermost tokens inner.number) × AreOpen innermost.before outer
 
 -- behind tokens at which all that begins ends, the same are open
-open_more : (tokens more : List Placed) (open_elements : List Open) → AreOpen tokens open_elements → AllClosed more → begun more ≡ ended more → AreOpen (tokens ++ more) open_elements
+open_more : (tokens more : List Placed) (open_elements : List Open) → AreOpen tokens open_elements → AllClosed more → count_begun more ≡ count_ended more → AreOpen (tokens ++ more) open_elements
 open_more tokens more [] all closed same = closed_more tokens more all closed
 open_more tokens more (inner ∷ outer) all closed same = (
   record {
@@ -83,7 +83,7 @@ open_more tokens more (inner ∷ outer) all closed same = (
     start = all.0.start;
     behind = all.0.behind ++ more;
     is = ap (λ some. some ++ more) all.0.is ∙ append_assoc all.0.before (all.0.start ∷ all.0.behind) more;
-    open_here = (let here : ends all.0.start.token + ended all.0.behind < begins all.0.start.token + begun all.0.behind = all.0.open_here in
+    open_here = (let here : ends all.0.start.token + count_ended all.0.behind < begins all.0.start.token + count_begun all.0.behind = all.0.open_here in
         omega (arith, begun_more all.0.behind more, ended_more all.0.behind more));
     closed = closed_more all.0.behind more all.0.closed closed;
     number_is = all.0.number_is;
@@ -92,7 +92,7 @@ open_more tokens more (inner ∷ outer) all closed same = (
 )
 
 -- a child more does not change which are open
-noted_open : (tokens : List Placed) (word : Word) (open_elements : List Open) → AreOpen tokens open_elements → AreOpen tokens (noted word open_elements)
+noted_open : (tokens : List Placed) (word : Word) (open_elements : List Open) → AreOpen tokens open_elements → AreOpen tokens (child_noted word open_elements)
 noted_open tokens word [] all = all
 noted_open tokens word (inner ∷ outer) all = all
 
@@ -102,18 +102,18 @@ open_end tokens one inner outer all begin end =
     subst (λ (some : List Placed). AreOpen some outer) (sym (ap (λ some. some ++ one ∷ []) all.0.is ∙ append_assoc all.0.before (all.0.start ∷ all.0.behind) (one ∷ [])))
     (open_more all.0.before (all.0.start ∷ (all.0.behind ++ one ∷ [])) outer all.1 whole_closed balanced)
   where
-    balanced : begins all.0.start.token + begun (all.0.behind ++ one ∷ []) ≡ ends all.0.start.token + ended (all.0.behind ++ one ∷ [])
+    balanced : begins all.0.start.token + count_begun (all.0.behind ++ one ∷ []) ≡ ends all.0.start.token + count_ended (all.0.behind ++ one ∷ [])
     balanced =
-        let here : ends all.0.start.token + ended all.0.behind < begins all.0.start.token + begun all.0.behind = all.0.open_here in
-        let behind : begun all.0.behind ≤ ended all.0.behind = closed_count all.0.behind all.0.closed in
+        let here : ends all.0.start.token + count_ended all.0.behind < begins all.0.start.token + count_begun all.0.behind = all.0.open_here in
+        let behind : count_begun all.0.behind ≤ count_ended all.0.behind = closed_count all.0.behind all.0.closed in
         omega (arith, begun_more all.0.behind (one ∷ []), ended_more all.0.behind (one ∷ []), one_at_most all.0.start.token)
 
     whole_closed : AllClosed (all.0.start ∷ (all.0.behind ++ one ∷ []))
     whole_closed = (omega (arith, balanced), closed_more all.0.behind (one ∷ []) all.0.closed ((omega arith, tt)))
 
 -- behind a start tag its element is open, too
-open_start : (before : List Placed) (start : Placed) (inside : List Placed) (word : Word) (number : ℕ) (open_elements : List Open) → AreOpen before open_elements → begins start.token ≡ 1 → ends start.token ≡ 0 → ArePlain inside → number ≡ begun before
-    → AreOpen (before ++ start ∷ inside) ((record { word = word; number = number; children = [] }) ∷ noted word open_elements)
+open_start : (before : List Placed) (start : Placed) (inside : List Placed) (word : Word) (number : ℕ) (open_elements : List Open) → AreOpen before open_elements → begins start.token ≡ 1 → ends start.token ≡ 0 → ArePlain inside → number ≡ count_begun before
+    → AreOpen (before ++ start ∷ inside) ((record { word = word; number = number; children = [] }) ∷ child_noted word open_elements)
 open_start before start inside word number open_elements all begin end plain counted = (
   record {
     before = before;
@@ -129,11 +129,11 @@ open_start before start inside word number open_elements all begin end plain cou
 
 -- behind an empty tag the same are open
 open_empty : (before : List Placed) (start : Placed) (inside : List Placed) (one : Placed) (word : Word) (open_elements : List Open) → AreOpen before open_elements → begins start.token ≡ 1 → ends start.token ≡ 0 → ArePlain inside
-    → begins one.token ≡ 0 → ends one.token ≡ 1 → AreOpen (before ++ start ∷ (inside ++ one ∷ [])) (noted word open_elements)
+    → begins one.token ≡ 0 → ends one.token ≡ 1 → AreOpen (before ++ start ∷ (inside ++ one ∷ [])) (child_noted word open_elements)
 open_empty before start inside one word open_elements all begin end plain begin_one end_one =
     noted_open (before ++ start ∷ (inside ++ one ∷ [])) word open_elements (open_more before (start ∷ (inside ++ one ∷ [])) open_elements all whole_closed balanced)
   where
-    balanced : begins start.token + begun (inside ++ one ∷ []) ≡ ends start.token + ended (inside ++ one ∷ [])
+    balanced : begins start.token + count_begun (inside ++ one ∷ []) ≡ ends start.token + count_ended (inside ++ one ∷ [])
     balanced = omega (arith, begun_more inside (one ∷ []), ended_more inside (one ∷ []), plain_begun inside plain, plain_ended inside plain)
 
     whole_closed : AllClosed (start ∷ (inside ++ one ∷ []))
@@ -141,8 +141,8 @@ open_empty before start inside one word open_elements all begin end plain begin_
 
 -- what tokens between tags tell: as many entries as begin, and what is open
 pub record Told (tokens : List Placed) (entries : List Entry) (open_elements : List Open) : Type 0 where
-  pub count : length entries ≡ begun tokens
-  pub balance : begun tokens ≡ ended tokens + length open_elements
+  pub count : length entries ≡ count_begun tokens
+  pub balance : count_begun tokens ≡ count_ended tokens + length open_elements
   pub all : AreOpen tokens open_elements
 
 -- what tokens in a start tag tell
@@ -162,7 +162,7 @@ Tells true tokens entries open_elements = Told tokens entries open_elements
 Tells false tokens entries open_elements = InTag tokens entries open_elements
 
 -- as many are open with a child more
-noted_length : (word : Word) (open_elements : List Open) → length (noted word open_elements) ≡ length open_elements
+noted_length : (word : Word) (open_elements : List Open) → length (child_noted word open_elements) ≡ length open_elements
 noted_length word [] = refl
 noted_length word (inner ∷ outer) = refl
 
@@ -193,8 +193,8 @@ tells_inside tokens one entries open_elements tells begin end = record {
 pub tells_plain : (between : Bool) (tokens : List Placed) (one : Placed) (entries : List Entry) (open_elements : List Open) → Tells between tokens entries open_elements → begins one.token ≡ 0 → ends one.token ≡ 0
     → Tells between (tokens ++ one ∷ []) entries open_elements
 tells_plain true tokens one entries open_elements tells begin end = record {
-  count = (let here : length entries ≡ begun tokens = tells.count in omega (arith, begun_more tokens (one ∷ [])));
-  balance = (let here : begun tokens ≡ ended tokens + length open_elements = tells.balance in omega (arith, begun_more tokens (one ∷ []), ended_more tokens (one ∷ [])));
+  count = (let here : length entries ≡ count_begun tokens = tells.count in omega (arith, begun_more tokens (one ∷ [])));
+  balance = (let here : count_begun tokens ≡ count_ended tokens + length open_elements = tells.balance in omega (arith, begun_more tokens (one ∷ []), ended_more tokens (one ∷ [])));
   all = open_more tokens (one ∷ []) open_elements tells.all ((omega arith, tt)) (omega arith);
 }
 tells_plain false tokens one entries open_elements tells begin end = tells_inside tokens one entries open_elements tells begin end
@@ -205,28 +205,28 @@ tells_opening tokens one entries open_elements told begin end = record { before 
 
 -- a start tag ends, and its element is open
 pub tells_open : (tokens : List Placed) (one : Placed) (entries : List Entry) (entry : Entry) (word : Word) (open_elements : List Open) → InTag tokens entries open_elements → begins one.token ≡ 0 → ends one.token ≡ 0
-    → Told (tokens ++ one ∷ []) (entries ++ entry ∷ []) ((record { word = word; number = length entries; children = [] }) ∷ noted word open_elements)
+    → Told (tokens ++ one ∷ []) (entries ++ entry ∷ []) ((record { word = word; number = length entries; children = [] }) ∷ child_noted word open_elements)
 tells_open tokens one entries entry word open_elements tells begin end =
     let now = tells_inside tokens one entries open_elements tells begin end in
-    subst (λ (some : List Placed). Told some (entries ++ entry ∷ []) ((record { word = word; number = length entries; children = [] }) ∷ noted word open_elements)) (sym now.is)
+    subst (λ (some : List Placed). Told some (entries ++ entry ∷ []) ((record { word = word; number = length entries; children = [] }) ∷ child_noted word open_elements)) (sym now.is)
     (record {
-      count = (let here : length entries ≡ begun now.before = now.told.count in
+      count = (let here : length entries ≡ count_begun now.before = now.told.count in
           omega (arith, begun_more now.before (now.start ∷ now.inside), plain_begun now.inside now.plain, now.begin, length-append entries (entry ∷ [])));
-      balance = (let here : begun now.before ≡ ended now.before + length open_elements = now.told.balance in
+      balance = (let here : count_begun now.before ≡ count_ended now.before + length open_elements = now.told.balance in
           omega (arith, begun_more now.before (now.start ∷ now.inside), ended_more now.before (now.start ∷ now.inside), plain_begun now.inside now.plain, plain_ended now.inside now.plain, now.begin, now.end, noted_length word open_elements));
       all = open_start now.before now.start now.inside word (length entries) open_elements now.told.all now.begin now.end now.plain now.told.count;
     })
 
 -- an empty tag ends
 pub tells_empty : (tokens : List Placed) (one : Placed) (entries : List Entry) (entry : Entry) (word : Word) (open_elements : List Open) → InTag tokens entries open_elements → begins one.token ≡ 0 → ends one.token ≡ 1
-    → Told (tokens ++ one ∷ []) (entries ++ entry ∷ []) (noted word open_elements)
+    → Told (tokens ++ one ∷ []) (entries ++ entry ∷ []) (child_noted word open_elements)
 tells_empty tokens one entries entry word open_elements tells begin end =
-    subst (λ (some : List Placed). Told some (entries ++ entry ∷ []) (noted word open_elements))
+    subst (λ (some : List Placed). Told some (entries ++ entry ∷ []) (child_noted word open_elements))
     (sym (ap (λ some. some ++ one ∷ []) tells.is ∙ append_assoc tells.before (tells.start ∷ tells.inside) (one ∷ [])))
     (record {
-      count = (let here : length entries ≡ begun tells.before = tells.told.count in
+      count = (let here : length entries ≡ count_begun tells.before = tells.told.count in
           omega (arith, begun_more tells.before (tells.start ∷ (tells.inside ++ one ∷ [])), begun_more tells.inside (one ∷ []), plain_begun tells.inside tells.plain, tells.begin, length-append entries (entry ∷ [])));
-      balance = (let here : begun tells.before ≡ ended tells.before + length open_elements = tells.told.balance in
+      balance = (let here : count_begun tells.before ≡ count_ended tells.before + length open_elements = tells.told.balance in
           omega (arith, begun_more tells.before (tells.start ∷ (tells.inside ++ one ∷ [])), ended_more tells.before (tells.start ∷ (tells.inside ++ one ∷ [])), begun_more tells.inside (one ∷ []), ended_more tells.inside (one ∷ []), plain_begun tells.inside tells.plain, plain_ended tells.inside tells.plain, tells.begin, tells.end, noted_length word open_elements));
       all = open_empty tells.before tells.start tells.inside one word open_elements tells.told.all tells.begin tells.end tells.plain begin end;
     })
@@ -234,8 +234,8 @@ tells_empty tokens one entries entry word open_elements tells begin end =
 -- an end tag
 pub tells_end : (tokens : List Placed) (one : Placed) (entries : List Entry) (inner : Open) (outer : List Open) → Told tokens entries (inner ∷ outer) → begins one.token ≡ 0 → ends one.token ≡ 1 → Told (tokens ++ one ∷ []) entries outer
 tells_end tokens one entries inner outer told begin end = record {
-  count = (let here : length entries ≡ begun tokens = told.count in omega (arith, begun_more tokens (one ∷ [])));
-  balance = (let here : begun tokens ≡ ended tokens + length (inner ∷ outer) = told.balance in omega (arith, begun_more tokens (one ∷ []), ended_more tokens (one ∷ [])));
+  count = (let here : length entries ≡ count_begun tokens = told.count in omega (arith, begun_more tokens (one ∷ [])));
+  balance = (let here : count_begun tokens ≡ count_ended tokens + length (inner ∷ outer) = told.balance in omega (arith, begun_more tokens (one ∷ []), ended_more tokens (one ∷ [])));
   all = open_end tokens one inner outer told.all begin end;
 }
 

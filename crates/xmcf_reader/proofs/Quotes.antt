@@ -2,7 +2,7 @@
 use Rattle.std.proofs.Common.{ℕ, ◌+◌, ◌≤◌, ◌==◌, Bool, true, false, cond, List, [], ◌∷◌, Option, Some, None, arith}
 use Rattle.std.specs.List.{position}
 use Rattle.xmcf_reader.specs.Bytes.{ends_value, ends_declaration, are_dashes, pairs}
-use Rattle.xmcf_reader.specs.Tokens.{Token, Blanks, Comment, Declaration, Opening, Name, Equals, Value, TagEnd, EmptyEnd, EndTag, Front, Found, Broken, closed, comment_at, comment, remark, declaration_byte, declaration_at, declaration, declared, named, end_of_tag, end_named, end_tag, markup, value_byte, value_at, value, front}
+use Rattle.xmcf_reader.specs.Tokens.{Token, Blanks, Comment, Declaration, Opening, Name, Equals, Value, TagEnd, EmptyEnd, EndTag, Front, Found, Broken, byte_token, comment_at, comment, remark, declaration_byte, declaration_at, declaration, declared, named_token, end_of_tag, end_named, end_tag, markup, value_byte, value_at, value, front}
 use Rattle.xmcf_reader.specs.declared.token.Stop.{Stop}
 use Rattle.xmcf_reader.specs.declared.token.Stop.TheVariants.{Break}
 
@@ -53,22 +53,22 @@ pick : (test : Bool) (this that : Front) → Quoted this → Quoted that → Quo
 pick true this that this_fits that_fits = this_fits
 pick false this that this_fits that_fits = that_fits
 
-closed_quotes : (last : ℕ) (token : Token) (before : ℕ) (bytes : List ℕ) → Quoted (Found token (before + 1)) → Quoted (closed last token before bytes)
-unfolding closed
+closed_quotes : (last : ℕ) (token : Token) (before : ℕ) (bytes : List ℕ) → Quoted (Found token (before + 1)) → Quoted (byte_token last token before bytes)
+unfolding byte_token
 closed_quotes last token before [] fits = stopped _
 closed_quotes last token before (byte ∷ bytes) fits = pick (byte == last) (Found token (before + 1)) (Broken (Break before)) fits (stopped _)
 
 -- what a comment, a declaration, an empty tag and an end tag are
-comment_closed : (before : ℕ) (bytes : List ℕ) → Quoted (closed 62 Comment before bytes)
+comment_closed : (before : ℕ) (bytes : List ℕ) → Quoted (byte_token 62 Comment before bytes)
 comment_closed before bytes = closed_quotes 62 Comment before bytes (record { fits = tt })
 
-declaration_closed : (before : ℕ) (bytes : List ℕ) → Quoted (closed 62 Declaration before bytes)
+declaration_closed : (before : ℕ) (bytes : List ℕ) → Quoted (byte_token 62 Declaration before bytes)
 declaration_closed before bytes = closed_quotes 62 Declaration before bytes (record { fits = tt })
 
-empty_closed : (before : ℕ) (bytes : List ℕ) → Quoted (closed 62 EmptyEnd before bytes)
+empty_closed : (before : ℕ) (bytes : List ℕ) → Quoted (byte_token 62 EmptyEnd before bytes)
 empty_closed before bytes = closed_quotes 62 EmptyEnd before bytes (record { fits = tt })
 
-end_closed : (name : List ℕ) (before : ℕ) (bytes : List ℕ) → Quoted (closed 62 (EndTag name) before bytes)
+end_closed : (name : List ℕ) (before : ℕ) (bytes : List ℕ) → Quoted (byte_token 62 (EndTag name) before bytes)
 end_closed name before bytes = closed_quotes 62 (EndTag name) before bytes (record { fits = tt })
 
 comment_at_quotes : (at : Option ℕ) (bytes : List ℕ) → Quoted (comment_at at bytes)
@@ -101,12 +101,12 @@ declared_quotes : (bytes : List ℕ) → Quoted (declared bytes)
 unfolding declared
 declared_quotes bytes = search (pick, stopped, declaration_quotes)
 
-opening_quotes : (size : ℕ) (bytes : List ℕ) → Quoted (named Opening 1 size bytes)
-unfolding named
+opening_quotes : (size : ℕ) (bytes : List ℕ) → Quoted (named_token Opening 1 size bytes)
+unfolding named_token
 opening_quotes size bytes = search (pick, stopped, opening_quoted)
 
-name_quotes : (size : ℕ) (bytes : List ℕ) → Quoted (named Name 0 size bytes)
-unfolding named
+name_quotes : (size : ℕ) (bytes : List ℕ) → Quoted (named_token Name 0 size bytes)
+unfolding named_token
 name_quotes size bytes = search (pick, stopped, name_quoted)
 
 end_of_tag_quotes : (name : List ℕ) (size : ℕ) (bytes : List ℕ) → Quoted (end_of_tag name size bytes)

@@ -5,7 +5,7 @@ use Rattle.std.proofs.lemmas.Bool.Decides.{nat_tests}
 use Rattle.std.proofs.lemmas.Option.{slice_get_within}
 use Rattle.std.proofs.lemmas.List.{map-append}
 use Rattle.std.proofs.lemmas.List.Elements.{filter-append}
-use Rattle.xmcf_reader.specs.Draft.{Open, may_stand, may_be_child, noted, parent_number}
+use Rattle.xmcf_reader.specs.Draft.{Open, may_stand, may_be_child, child_noted, parent_number}
 use Rattle.xmcf_reader.specs.Drafts.{word_of, StandsAt, children_of, HasChildren, IsRoot, IsDraft}
 use Rattle.xmcf_reader.specs.Faults.{is_done, missing_children}
 use Rattle.xmcf_reader.specs.Words.{is_word}
@@ -179,7 +179,7 @@ path_kept entries entry (inner ∷ outer) some above path = (
 
 -- the innermost open element gets a child
 path_more : (entries : List Entry) (entry : Entry) (inner : Open) (outer : List Open) → entry.parent ≡ inner.number → may_be_child (word_at entry) inner ≡ true → ArePath entries (inner ∷ outer)
-    → ArePath (entries ++ entry ∷ []) (noted (word_at entry) (inner ∷ outer))
+    → ArePath (entries ++ entry ∷ []) (child_noted (word_at entry) (inner ∷ outer))
 unfolding may_be_child
 path_more entries entry inner outer parent may path =
     let some : 0 < length entries = (let inside : inner.number < length entries = slice_get_within entries inner.number path.0.entry path.0.stands in omega arith) in (
@@ -270,7 +270,7 @@ path_inside entries (inner ∷ outer) path = (slice_get_within entries inner.num
 
 -- a start tag gives an entry
 pub entered : (entries : List Entry) (open_elements : List Open) (entry : Entry) → Stands entries open_elements → may_stand (word_at entry) open_elements ≡ true → is_done open_elements entries ≡ false
-    → entry.parent ≡ parent_number open_elements → Enters (entries ++ entry ∷ []) (noted (word_at entry) open_elements) (length entries) entry
+    → entry.parent ≡ parent_number open_elements → Enters (entries ++ entry ∷ []) (child_noted (word_at entry) open_elements) (length entries) entry
 entered [] [] entry stands may undone parent = record {
   base = first_entered entry may parent;
   path = tt;

@@ -5,12 +5,12 @@ use Rattle.std.specs.Option.{option_map}
 use Rattle.std.specs.List.{position, prefix_len}
 use Rattle.std.proofs.lemmas.Bool.Decides.{nat_tests}
 use Rattle.xmcf_reader.specs.Bytes.{is_blank, is_letter, is_of_name, is_digit, is_quote, ends_value, ends_declaration, are_dashes, pairs, first_where}
-use Rattle.xmcf_reader.specs.BytesLemmas.{position_first}
-use Rattle.xmcf_reader.specs.Spelling.{Spells, Each, NoneOf, NoDashes, IsName, AreBlanks, StopsAt, Ends}
-use Rattle.xmcf_reader.specs.Tokens.{Token, Blanks, Comment, Declaration, Opening, Name, Equals, Value, TagEnd, EmptyEnd, EndTag, Found, closed, comment, remark, declaration_byte, declaration, declared, named, end_of_tag, end_named, end_tag, markup, value_byte, value, front}
+use Rattle.xmcf_reader.proofs.BytesLemmas.{position_first}
+use Rattle.xmcf_reader.specs.Spelling.{SpellsToken, Each, NoneOf, NoDashes, IsTagName, AreBlanks, TestStopsAt, Ends}
+use Rattle.xmcf_reader.specs.Tokens.{Token, Blanks, Comment, Declaration, Opening, Name, Equals, Value, TagEnd, EmptyEnd, EndTag, Found, byte_token, comment, remark, declaration_byte, declaration, declared, named_token, end_of_tag, end_named, end_tag, markup, value_byte, value, front}
 
 -- bytes that pass, up to one that does not
-each_counts : (test : ℕ → Bool) (word rest : List ℕ) → Each test word → StopsAt test rest → prefix_len test (word ++ rest) ≡ length word
+each_counts : (test : ℕ → Bool) (word rest : List ℕ) → Each test word → TestStopsAt test rest → prefix_len test (word ++ rest) ≡ length word
 each_counts test [] [] each stops = refl
 each_counts test [] (byte ∷ rest) each stops = rw stops refl
 each_counts test (byte ∷ word) rest each stops = rw each.0 (let more : prefix_len test (word ++ rest) ≡ length word = each_counts test word rest each.1 stops in omega (arith, more))
@@ -52,14 +52,14 @@ quote_apart : (byte : ℕ) → is_quote byte ≡ true → ((byte == 60) ≡ fals
 unfolding is_quote is_blank
 quote_apart byte e = (grind (arith, nat_tests, e), grind (arith, nat_tests, e), grind (arith, nat_tests, e), grind (arith, nat_tests, e), grind (arith, nat_tests, e))
 
-blanks_taken : (first : Bool) (word rest : List ℕ) → AreBlanks word → StopsAt is_blank rest → front first (word ++ rest) ≡ Found Blanks (length word)
+blanks_taken : (first : Bool) (word rest : List ℕ) → AreBlanks word → TestStopsAt is_blank rest → front first (word ++ rest) ≡ Found Blanks (length word)
 unfolding front
 blanks_taken first [] rest blanks stops = let some : 0 < 0 = blanks.some in absurd (omega arith)
 blanks_taken first (byte ∷ word) rest blanks stops =
     rw (blank_apart byte blanks.each.0) (rw blanks.each.0 (let counts : prefix_len is_blank (word ++ rest) ≡ length word = each_counts is_blank word rest blanks.each.1 stops in ap (Found Blanks) (omega (arith, counts))))
 
-attribute_taken : (first : Bool) (name rest : List ℕ) (behind : ℕ) → IsName name → is_of_name behind ≡ false → front first (name ++ behind ∷ rest) ≡ Found (Name name) (length name)
-unfolding front named
+attribute_taken : (first : Bool) (name rest : List ℕ) (behind : ℕ) → IsTagName name → is_of_name behind ≡ false → front first (name ++ behind ∷ rest) ≡ Found (Name name) (length name)
+unfolding front named_token
 attribute_taken first [] rest behind is_name stops = cc_name is_name.is
   where
     cc_name : [] ≡ is_name.first ∷ is_name.rest → front first (behind ∷ rest) ≡ Found (Name []) 0
@@ -72,8 +72,8 @@ attribute_taken first (byte ∷ name) rest behind is_name stops =
     rw apart.0 (rw apart.1 (rw apart.2 (rw apart.3 (rw apart.4 (rw apart.5 (rw letter (rw counts (rw longer
     (ap (λ word. Found (Name word) (0 + length (byte ∷ name))) (front_of (byte ∷ name) (behind ∷ rest)) ∙ ap (Found (Name (byte ∷ name))) (omega arith))))))))))
 
-opening_taken : (first : Bool) (name rest : List ℕ) (behind : ℕ) → IsName name → is_of_name behind ≡ false → front first (60 ∷ (name ++ behind ∷ rest)) ≡ Found (Opening name) (suc (length name))
-unfolding front markup named
+opening_taken : (first : Bool) (name rest : List ℕ) (behind : ℕ) → IsTagName name → is_of_name behind ≡ false → front first (60 ∷ (name ++ behind ∷ rest)) ≡ Found (Opening name) (suc (length name))
+unfolding front markup named_token
 opening_taken first [] rest behind is_name stops = cc_name is_name.is
   where
     cc_name : [] ≡ is_name.first ∷ is_name.rest → front first (60 ∷ behind ∷ rest) ≡ Found (Opening []) 1
@@ -125,7 +125,7 @@ two_behind body more n e =
     ap (λ k. drop k (body ++ 45 ∷ 45 ∷ more)) long ∙ ap (drop (length (body ++ 45 ∷ 45 ∷ []))) (sym (append_assoc body (45 ∷ 45 ∷ []) more)) ∙ rest_of (body ++ 45 ∷ 45 ∷ []) more
 
 comment_taken : (first : Bool) (body rest : List ℕ) → NoDashes (body ++ 45 ∷ []) → front first (60 ∷ 33 ∷ 45 ∷ 45 ∷ (body ++ 45 ∷ 45 ∷ 62 ∷ rest)) ≡ Found Comment (length body + 7)
-unfolding front markup remark comment closed
+unfolding front markup remark comment byte_token
 comment_taken first body rest plain =
     let found : position are_dashes (pairs (body ++ 45 ∷ 45 ∷ 62 ∷ rest)) ≡ Some (length body) = position_first are_dashes (pairs (body ++ 45 ∷ 45 ∷ 62 ∷ rest)) ∙ dashes_found body (62 ∷ rest) plain in
     rw found (rw (two_behind body (62 ∷ rest) (length body) refl) (ap (Found Comment) (omega arith)))
@@ -142,7 +142,7 @@ unfolding ends_declaration
 mark_ends = refl
 
 declaration_taken : (blank : ℕ) (body rest : List ℕ) → is_blank blank ≡ true → NoneOf ends_declaration body → front true (60 ∷ 63 ∷ 120 ∷ 109 ∷ 108 ∷ blank ∷ (body ++ 63 ∷ 62 ∷ rest)) ≡ Found Declaration (length body + 8)
-unfolding front markup declared declaration declaration_byte closed
+unfolding front markup declared declaration declaration_byte byte_token
 declaration_taken blank body rest is_blank plain =
     let found : position ends_declaration (body ++ 63 ∷ 62 ∷ rest) ≡ Some (length body) = position_first ends_declaration (body ++ 63 ∷ 62 ∷ rest) ∙ none_before ends_declaration body 63 (62 ∷ rest) plain mark_ends in
     rw is_blank (rw found (rw (byte_of body 63 (62 ∷ rest)) (rw (one_behind body 63 (62 ∷ rest)) (ap (Found Declaration) (omega arith)))))
@@ -153,18 +153,18 @@ unfolding is_blank is_of_name is_letter is_digit
 blank_of_no_name byte e = grind (arith, nat_tests, e)
 
 -- behind a tag's name stands no byte of a name
-stops_name : (blanks rest : List ℕ) → Each is_blank blanks → StopsAt is_of_name (blanks ++ 62 ∷ rest)
+stops_name : (blanks rest : List ℕ) → Each is_blank blanks → TestStopsAt is_of_name (blanks ++ 62 ∷ rest)
 unfolding is_of_name is_letter is_digit
 stops_name [] rest each = refl
 stops_name (byte ∷ blanks) rest each = blank_of_no_name byte each.0
 
 -- behind blanks stands no blank
-stops_blank : (rest : List ℕ) → StopsAt is_blank (62 ∷ rest)
+stops_blank : (rest : List ℕ) → TestStopsAt is_blank (62 ∷ rest)
 unfolding is_blank
 stops_blank rest = refl
 
-end_tag_taken : (first : Bool) (name blanks rest : List ℕ) → IsName name → Each is_blank blanks → front first (60 ∷ 47 ∷ (name ++ (blanks ++ 62 ∷ rest))) ≡ Found (EndTag name) (2 + length name + length blanks + 1)
-unfolding front markup end_tag end_named end_of_tag closed
+end_tag_taken : (first : Bool) (name blanks rest : List ℕ) → IsTagName name → Each is_blank blanks → front first (60 ∷ 47 ∷ (name ++ (blanks ++ 62 ∷ rest))) ≡ Found (EndTag name) (2 + length name + length blanks + 1)
+unfolding front markup end_tag end_named end_of_tag byte_token
 end_tag_taken first [] blanks rest is_name each = cc_name is_name.is
   where
     cc_name : [] ≡ is_name.first ∷ is_name.rest → front first (60 ∷ 47 ∷ (blanks ++ 62 ∷ rest)) ≡ Found (EndTag []) (2 + 0 + length blanks + 1)
@@ -185,7 +185,7 @@ unfolding front is_blank
 equals_taken first rest = refl
 
 empty_end_taken : (first : Bool) (rest : List ℕ) → front first (47 ∷ 62 ∷ rest) ≡ Found EmptyEnd 2
-unfolding front is_blank closed
+unfolding front is_blank byte_token
 empty_end_taken first rest = refl
 
 -- a word that is so spelled is taken, as what it is spelled by is
@@ -195,7 +195,7 @@ taken_as first token word spelled text rest size is whole found long =
     ap (λ other. front first (other ++ rest)) is ∙ ap (front first) whole ∙ found ∙ ap (Found token) (long ∙ sym (ap length is))
 
 -- what is spelled as a token, with a byte behind it that ends it, is taken
-pub token_taken : (first : Bool) (token : Token) (word rest : List ℕ) → Spells token word → Ends token first rest → front first (word ++ rest) ≡ Found token (length word)
+pub token_taken : (first : Bool) (token : Token) (word rest : List ℕ) → SpellsToken token word → Ends token first rest → front first (word ++ rest) ≡ Found token (length word)
 token_taken first Blanks word rest spells ends = blanks_taken first word rest spells ends
 token_taken first Comment word rest spells ends =
     taken_as first Comment word (60 ∷ 33 ∷ 45 ∷ 45 ∷ (spells.body ++ 45 ∷ 45 ∷ 62 ∷ [])) (60 ∷ 33 ∷ 45 ∷ 45 ∷ (spells.body ++ 45 ∷ 45 ∷ 62 ∷ rest)) rest (length spells.body + 7)

@@ -3,16 +3,16 @@ use Rattle.std.proofs.Common.{◌≡◌, ℕ, ◌<◌, true, false, List, [], �
 use Rattle.std.specs.Prelude.{nat_lt}
 use Rattle.std.proofs.lemmas.Bool.Decides.{nat_tests}
 use Rattle.std.specs.Str.Lossy.{utf8_valid_len}
-use Rattle.xmcf_reader.specs.Draft.{start}
+use Rattle.xmcf_reader.specs.Draft.{empty_draft}
 use Rattle.xmcf_reader.specs.Faults.{cut, draft_from, draft_of, faults_from, xmcf_fault, first_of, IsFirst}
-use Rattle.xmcf_reader.specs.Readings.{IsTold}
+use Rattle.xmcf_reader.specs.Readings.{IsReadingOf}
 use Rattle.xmcf_reader.specs.declared.draft.Entry.{Entry}
 use Rattle.xmcf_reader.specs.declared.fault.ReadFault.{ReadFault}
 use Rattle.xmcf_reader.specs.declared.fault.ReadFault.TheVariants as fault
 use Rattle.xmcf_reader.proofs.Order.{first_least}
 
 -- the fault of a text is the first of those of its tokens
-text_first : (text : List ℕ) → utf8_valid_len text ≡ length text → xmcf_fault text ≡ first_of (faults_from start (cut 0 0 text))
+text_first : (text : List ℕ) → utf8_valid_len text ≡ length text → xmcf_fault text ≡ first_of (faults_from empty_draft (cut 0 0 text))
 unfolding xmcf_fault
 text_first text whole =
     let test : nat_lt (utf8_valid_len text) (length text) ≡ false = grind (arith, nat_tests, whole) in
@@ -20,16 +20,16 @@ text_first text whole =
 
 -- a draft that is told is the text's
 pub told_draft : (text : List ℕ) (answer : Result (List Entry) ReadFault) → utf8_valid_len text ≡ length text
-    → IsTold answer (faults_from start (cut 0 0 text)) (draft_from start (cut 0 0 text)) → IfOk answer (λ draft. (xmcf_fault text ≡ None) × (draft ≡ draft_of text))
+    → IsReadingOf answer (faults_from empty_draft (cut 0 0 text)) (draft_from empty_draft (cut 0 0 text)) → IfOk answer (λ draft. (xmcf_fault text ≡ None) × (draft ≡ draft_of text))
 unfolding draft_of
 told_draft text (Ok draft) whole told = (text_first text whole ∙ ap first_of told.0, told.1)
 told_draft text (Err one) whole told = tt
 
 -- a fault that is told is the text's
 pub told_fault : (text : List ℕ) (answer : Result (List Entry) ReadFault) → utf8_valid_len text ≡ length text
-    → IsTold answer (faults_from start (cut 0 0 text)) (draft_from start (cut 0 0 text)) → IfErr answer (λ found. (found ≡ fault.Memory) ⊎ (xmcf_fault text ≡ Some found))
+    → IsReadingOf answer (faults_from empty_draft (cut 0 0 text)) (draft_from empty_draft (cut 0 0 text)) → IfErr answer (λ found. (found ≡ fault.Memory) ⊎ (xmcf_fault text ≡ Some found))
 told_fault text (Ok draft) whole told = tt
-told_fault text (Err one) whole told = at (faults_from start (cut 0 0 text)) (text_first text whole) told
+told_fault text (Err one) whole told = at (faults_from empty_draft (cut 0 0 text)) (text_first text whole) told
   where
     at : (all : List ReadFault) → xmcf_fault text ≡ first_of all → IsFirst one all → (one ≡ fault.Memory) ⊎ (xmcf_fault text ≡ Some one)
     at [] e first = inl first

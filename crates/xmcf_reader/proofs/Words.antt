@@ -3,8 +3,8 @@ use Rattle.std.proofs.Common.{◌≡◌, ℕ, suc, ◌+◌, Bool, true, false, c
 use Rattle.std.specs.Option.{option_map}
 use Rattle.std.specs.List.{position}
 use Rattle.xmcf_reader.specs.Bytes.{first_where}
-use Rattle.xmcf_reader.specs.BytesLemmas.{position_first}
-use Rattle.xmcf_reader.specs.Values.{FlagSet, on, onto, split, with_flag, with_flags}
+use Rattle.xmcf_reader.proofs.BytesLemmas.{position_first}
+use Rattle.xmcf_reader.specs.Values.{FlagSet, on_value, onto, split, with_flag, with_flags}
 
 -- the test for a space
 abbrev pub is_space : ℕ → Bool
@@ -47,7 +47,7 @@ one_word_at text e = one_word text (sym (position_first is_space text) ∙ e)
 pub first_word_at : (text : List ℕ) (at : ℕ) → position is_space text ≡ Some at → split text ≡ take at text ∷ split (drop (at + 1) text)
 first_word_at text at e = rw add-one (first_word text at (sym (position_first is_space text) ∙ e))
 
-on_some : {A : Type 0} (o : Option A) → o ≡ on o (λ x. Some x)
+on_some : {A : Type 0} (o : Option A) → o ≡ on_value o (λ x. Some x)
 on_some None = refl
 on_some (Some x) = refl
 
@@ -56,7 +56,7 @@ pub last_flag : (text : List ℕ) (found : FlagSet) → position is_space text �
 last_flag text found e = rw (one_word_at text e) (on_some (with_flag text found))
 
 -- the flags of a text go on behind its first word
-pub more_flags : (text : List ℕ) (at : ℕ) (found : FlagSet) → position is_space text ≡ Some at → on (with_flag (take at text) found) (λ more. with_flags (split (drop (at + 1) text)) more) ≡ with_flags (split text) found
+pub more_flags : (text : List ℕ) (at : ℕ) (found : FlagSet) → position is_space text ≡ Some at → on_value (with_flag (take at text) found) (λ more. with_flags (split (drop (at + 1) text)) more) ≡ with_flags (split text) found
 more_flags text at found e = rw (first_word_at text at e) refl
 
 -- a first word that is no flag

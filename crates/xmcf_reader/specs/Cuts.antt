@@ -22,12 +22,12 @@ FrontWithin (Found token size) most = (1 ≤ size) × (size ≤ most)
 FrontWithin (Broken stop) most = StopsWithin stop most
 
 -- the cut of what is left
-abbrev pub left : Tokens → Cut
-left tokens = cut tokens.place 0 tokens.rest.now
+abbrev pub cut_left : Tokens → Cut
+cut_left tokens = cut tokens.place 0 tokens.rest.now
 
 -- the length of the whole text
-abbrev pub room : Tokens → ℕ
-room tokens = tokens.place + length tokens.rest.now
+abbrev pub text_length : Tokens → ℕ
+text_length tokens = tokens.place + length tokens.rest.now
 
 -- what came next, of the cut before and the cut behind it
 abbrev pub IsNext : Next → Cut → Cut → Type 0
@@ -36,7 +36,7 @@ IsNext (Rest at byte broken) before behind = before ≡ faults.Rest at byte brok
 IsNext (End at) before behind = before ≡ faults.End at
 
 -- a token stands at its place, and the next one behind it
-abbrev pub Moves : Next → Tokens → Tokens → Type 0
-Moves (Item token at) before behind = (at ≡ before.place) × (before.place < behind.place)
-Moves (Rest at byte broken) before behind = at ≡ before.place
-Moves (End at) before behind = at ≡ before.place
+abbrev pub MovesOn : Next → Tokens → Tokens → Type 0
+MovesOn (Item token at) before behind = (at ≡ before.place) × (before.place < behind.place)
+MovesOn (Rest at byte broken) before behind = at ≡ before.place
+MovesOn (End at) before behind = at ≡ before.place

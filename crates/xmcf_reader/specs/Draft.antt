@@ -3,7 +3,7 @@ use Rattle.std.specs.Prelude.{ℕ, Bool, true, false, ◌&&◌, not, List, [], �
 use Rattle.std.specs.List.{find, list_any}
 use Rattle.std.specs.Str.{bytes_eq}
 use Rattle.xmcf_reader.specs.Words.{is_word, word_text, element_named}
-use Rattle.xmcf_reader.specs.Table.{attributes, children}
+use Rattle.xmcf_reader.specs.Table.{attributes, allowed_children}
 use Rattle.xmcf_reader.specs.Elements.{Pair, is_given, built}
 use Rattle.xmcf_reader.specs.Tokens.{Token, Blanks, Comment, Declaration, Opening, Name, Equals, Value, TagEnd, EmptyEnd, EndTag}
 use Rattle.xmcf_reader.specs.declared.word.Word.{Word}
@@ -38,8 +38,8 @@ pub record Context : Type 0 where
   pub tag : Tag
 
 -- before the first token
-abbrev pub start : Context
-start = record { entries = []; open_elements = []; stage = Between; tag = record { at = 0; word = word.SystemDescription; given = [] } }
+abbrev pub empty_draft : Context
+empty_draft = record { entries = []; open_elements = []; stage = Between; tag = record { at = 0; word = word.SystemDescription; given = [] } }
 
 -- the attribute of the tag's element that bytes name
 unfoldable pub attribute_named : List ℕ → Word → Option Attribute
@@ -71,7 +71,7 @@ has_place (Some child) true = is_many child.often
 
 -- the child of that name in the table
 unfoldable pub child_named : Word → Word → Option Child
-child_named word element = find (λ child. is_word child.word word) (children element)
+child_named word element = find (λ child. is_word child.word word) (allowed_children element)
 
 -- whether an element may stand as the next child
 unfoldable pub may_be_child : Word → Open → Bool
@@ -96,22 +96,22 @@ parent_number [] = 0
 parent_number (parent ∷ outer) = parent.number
 
 -- the innermost open element has one more child
-abbrev pub noted : Word → List Open → List Open
-noted word [] = []
-noted word (parent ∷ outer) = record parent { children = parent.children ++ word ∷ [] } ∷ outer
+abbrev pub child_noted : Word → List Open → List Open
+child_noted word [] = []
+child_noted word (parent ∷ outer) = record parent { children = parent.children ++ word ∷ [] } ∷ outer
 
 -- behind blanks an attribute may stand
-abbrev pub spaced : Stage → Stage
-spaced Between = Between
-spaced Bare = Spaced
-spaced Spaced = Spaced
-spaced (Named attribute) = Named attribute
-spaced (Equaled attribute) = Equaled attribute
+abbrev pub blank_passed : Stage → Stage
+blank_passed Between = Between
+blank_passed Bare = Spaced
+blank_passed Spaced = Spaced
+blank_passed (Named attribute) = Named attribute
+blank_passed (Equaled attribute) = Equaled attribute
 
 -- a start tag begins
-abbrev pub begun : Option Word → ℕ → Context → Context
-begun None at context = context
-begun (Some word) at context = record context { stage = Bare; tag = record { at = at; word = word; given = [] } }
+abbrev pub tag_begun : Option Word → ℕ → Context → Context
+tag_begun None at context = context
+tag_begun (Some word) at context = record context { stage = Bare; tag = record { at = at; word = word; given = [] } }
 
 -- an attribute's name stands
 abbrev pub named_as : Option Attribute → Context → Context
@@ -136,14 +136,14 @@ valued (Equaled attribute) text context =
     record context { stage = Bare; tag = record { at = context.tag.at; word = context.tag.word; given = context.tag.given ++ (record { word = attribute.word; text = text }) ∷ [] } }
 
 -- the element of a start tag is an entry, behind those before it
-abbrev pub entered : Option Element → Context → List Entry
-entered None context = context.entries
-entered (Some what) context = context.entries ++ (record { at = context.tag.at; parent = parent_number context.open_elements; what = what }) ∷ []
+abbrev pub entry_added : Option Element → Context → List Entry
+entry_added None context = context.entries
+entry_added (Some what) context = context.entries ++ (record { at = context.tag.at; parent = parent_number context.open_elements; what = what }) ∷ []
 
 -- a start tag ends: its element is an entry and a child, and has no children
 unfoldable pub tag_ended : Context → Context
 tag_ended context =
-    record context { entries = entered (built context.tag.word context.tag.given) context; open_elements = noted context.tag.word context.open_elements; stage = Between }
+    record context { entries = entry_added (built context.tag.word context.tag.given) context; open_elements = child_noted context.tag.word context.open_elements; stage = Between }
 
 -- the element of the tag is open
 abbrev pub opened : ℕ → Context → Context
@@ -155,14 +155,14 @@ outer_of [] = []
 outer_of (inner ∷ outer) = outer
 
 -- what one more token gives
-abbrev pub after : Context → Token → ℕ → Context
-after context Blanks at = record context { stage = spaced context.stage }
-after context Comment at = context
-after context Declaration at = context
-after context (Opening name) at = begun (element_named name) at context
-after context (Name name) at = named_as (attribute_named name context.tag.word) context
-after context Equals at = record context { stage = equaled context.stage }
-after context (Value text) at = valued context.stage text context
-after context TagEnd at = opened (length context.entries) (tag_ended context)
-after context EmptyEnd at = tag_ended context
-after context (EndTag name) at = record context { open_elements = outer_of context.open_elements }
+abbrev pub after_token : Context → Token → ℕ → Context
+after_token context Blanks at = record context { stage = blank_passed context.stage }
+after_token context Comment at = context
+after_token context Declaration at = context
+after_token context (Opening name) at = tag_begun (element_named name) at context
+after_token context (Name name) at = named_as (attribute_named name context.tag.word) context
+after_token context Equals at = record context { stage = equaled context.stage }
+after_token context (Value text) at = valued context.stage text context
+after_token context TagEnd at = opened (length context.entries) (tag_ended context)
+after_token context EmptyEnd at = tag_ended context
+after_token context (EndTag name) at = record context { open_elements = outer_of context.open_elements }

@@ -2,7 +2,7 @@
 use Rattle.std.specs.Prelude.{◌≡◌, ℕ, ◌==◌, ◌<◌, ◌≤◌, true, List, [], ◌∷◌, map, filter, Some}
 use Rattle.std.specs.List.{slice_get, count_by, AllByRecursion}
 use Rattle.xmcf_reader.specs.Draft.{is_among}
-use Rattle.xmcf_reader.specs.Table.{children}
+use Rattle.xmcf_reader.specs.Table.{allowed_children}
 use Rattle.xmcf_reader.specs.Words.{is_word}
 use Rattle.xmcf_reader.specs.declared.draft.Entry.{Entry}
 use Rattle.xmcf_reader.specs.declared.draft.Element.{Element}
@@ -58,7 +58,7 @@ children_of number entries = map (λ entry. word_of entry.what) (filter (λ entr
 
 -- the names of the children that the table has for an element
 abbrev pub child_words : Word → List Word
-child_words element = map (λ child. child.word) (children element)
+child_words element = map (λ child. child.word) (allowed_children element)
 
 -- a child that stands so many times stands as often as it may and has to
 abbrev pub StandsOften : Often → ℕ → Type 0
@@ -70,7 +70,7 @@ StandsOften often.Any count = Unit {0}
 -- the children of an element: the table has each of them, and each of the table's stands as often as it may and has to
 pub record HasChildren (element : Word) (names : List Word) : Type 0 where
   pub allowed : AllByRecursion (λ name. is_among name (child_words element) ≡ true) names
-  pub counted : AllByRecursion (λ child. StandsOften child.often (count_by (is_word child.word) names)) (children element)
+  pub counted : AllByRecursion (λ child. StandsOften child.often (count_by (is_word child.word) names)) (allowed_children element)
 
 -- the first entry is the system, and its parent is 0
 pub record IsRoot (entry : Entry) : Type 0 where

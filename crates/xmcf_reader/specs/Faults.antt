@@ -4,10 +4,10 @@ use Rattle.std.specs.Str.{bytes_eq}
 use Rattle.std.specs.Str.Lossy.{utf8_valid_len}
 use Rattle.xmcf_reader.specs.Bytes.{is_blank, is_letter, is_quote}
 use Rattle.xmcf_reader.specs.Words.{word_text, element_named}
-use Rattle.xmcf_reader.specs.Table.{attributes, children}
+use Rattle.xmcf_reader.specs.Table.{attributes, allowed_children}
 use Rattle.xmcf_reader.specs.Elements.{Pair, is_given}
 use Rattle.xmcf_reader.specs.Values.{has_form}
-use Rattle.xmcf_reader.specs.Draft.{Context, Open, Tag, start, after, attribute_named, may_stand, lacks_child, lacks_attribute}
+use Rattle.xmcf_reader.specs.Draft.{Context, Open, Tag, empty_draft, after_token, attribute_named, may_stand, lacks_child, lacks_attribute}
 use Rattle.xmcf_reader.specs.Tokens.{Token, Blanks, Comment, Declaration, Opening, Name, Equals, Value, TagEnd, EmptyEnd, EndTag, Front, Found, Broken, front}
 use Rattle.xmcf_reader.specs.declared.token.Stop.{Stop}
 use Rattle.xmcf_reader.specs.declared.token.Stop.TheVariants.{Break, Reference, Ended}
@@ -110,7 +110,7 @@ missing_attributes word given at =
 
 -- the children that an element lacks where it ends
 unfoldable pub missing_children : Word → List Word → ℕ → List ReadFault
-missing_children word noted at = map (λ child. fault.MissingChild at child.word) (filter (lacks_child noted) (children word))
+missing_children word noted at = map (λ child. fault.MissingChild at child.word) (filter (lacks_child noted) (allowed_children word))
 
 -- whether an end tag's name is that of the innermost open element
 abbrev pub closes : List ℕ → List Open → Bool
@@ -150,14 +150,14 @@ may_begin (Equaled attribute) byte = is_blank byte || is_quote byte
 
 -- all that a text breaks from here on
 abbrev pub faults_from : Context → Cut → List ReadFault
-faults_from context (Item token at more) = faults_of context token at ++ faults_from (after context token at) more
+faults_from context (Item token at more) = faults_of context token at ++ faults_from (after_token context token at) more
 faults_from context (Rest at byte broken) = when (not (may_begin context.stage byte)) (fault.BadItem at) ++ broken ∷ []
 faults_from context (End at) =
     when (not (is_between context.stage && is_done context.open_elements context.entries)) (fault.Unclosed at)
 
 -- the entries of a text
 abbrev pub draft_from : Context → Cut → List Entry
-draft_from context (Item token at more) = draft_from (after context token at) more
+draft_from context (Item token at more) = draft_from (after_token context token at) more
 draft_from context (Rest at byte broken) = context.entries
 draft_from context (End at) = context.entries
 
@@ -196,24 +196,24 @@ abbrev pub comes_before : ReadFault → ReadFault → Bool
 comes_before one other = nat_lt (place one) (place other) || (nat_eq (place one) (place other) && nat_lt (rank one) (rank other))
 
 -- the lesser of a fault and what is the least behind it; of equals the first
-abbrev pub lesser : ReadFault → Option ReadFault → Option ReadFault
-lesser one None = Some one
-lesser one (Some other) = if comes_before other one then Some other else Some one
+abbrev pub lesser_fault : ReadFault → Option ReadFault → Option ReadFault
+lesser_fault one None = Some one
+lesser_fault one (Some other) = if comes_before other one then Some other else Some one
 
 -- the least of faults
 abbrev pub least : List ReadFault → Option ReadFault
 least [] = None
-least (one ∷ others) = lesser one (least others)
+least (one ∷ others) = lesser_fault one (least others)
 
 -- the fault of a text: bytes that are no text go before all others
 unfoldable pub xmcf_fault : List ℕ → Option ReadFault
 xmcf_fault text =
     if nat_lt (utf8_valid_len text) (length text) then Some (fault.NotText (utf8_valid_len text))
-    else least (faults_from start (cut 0 0 text))
+    else least (faults_from empty_draft (cut 0 0 text))
 
 -- the draft of a text
 unfoldable pub draft_of : List ℕ → List Entry
-draft_of text = draft_from start (cut 0 0 text)
+draft_of text = draft_from empty_draft (cut 0 0 text)
 
 -- the first of faults
 abbrev pub first_of : List ReadFault → Option ReadFault
@@ -231,11 +231,11 @@ Checks (Ok _) faults = faults ≡ []
 Checks (Err one) faults = IsFirst one faults
 
 -- an answer of what only memory can refuse: what was to come has come
-abbrev pub Does : {A B : Type 0} → Result A ReadFault → B → B → Type 0
-Does (Ok _) expected found = found ≡ expected
-Does (Err one) expected found = one ≡ fault.Memory
+abbrev pub DoesUnlessMemory : {A B : Type 0} → Result A ReadFault → B → B → Type 0
+DoesUnlessMemory (Ok _) expected found = found ≡ expected
+DoesUnlessMemory (Err one) expected found = one ≡ fault.Memory
 
 -- an answer, with what was to come of it and what has come
-abbrev pub Answers : {A B : Type 0} → Result A ReadFault → List ReadFault → B → B → Type 0
-Answers (Ok _) faults expected found = (faults ≡ []) × (found ≡ expected)
-Answers (Err one) faults expected found = IsFirst one faults
+abbrev pub AnswersFirst : {A B : Type 0} → Result A ReadFault → List ReadFault → B → B → Type 0
+AnswersFirst (Ok _) faults expected found = (faults ≡ []) × (found ≡ expected)
+AnswersFirst (Err one) faults expected found = IsFirst one faults

@@ -1,9 +1,7 @@
 pub mod Bytes
-pub mod BytesLemmas
 pub mod Cuts
 pub mod Draft
 pub mod Drafts
-pub mod DraftsLemmas
 pub mod Elements
 pub mod Faults
 pub mod FaultsLemmas

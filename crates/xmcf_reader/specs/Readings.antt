@@ -5,6 +5,6 @@ use Rattle.xmcf_reader.specs.declared.draft.Entry.{Entry}
 use Rattle.xmcf_reader.specs.declared.fault.ReadFault.{ReadFault}
 
 -- a reading tells the draft where there is no fault, else the first fault; want of memory is free
-abbrev pub IsTold : Result (List Entry) ReadFault → List ReadFault → List Entry → Type 0
-IsTold (Ok draft) faults expected = (faults ≡ []) × (draft ≡ expected)
-IsTold (Err found) faults expected = IsFirst found faults
+abbrev pub IsReadingOf : Result (List Entry) ReadFault → List ReadFault → List Entry → Type 0
+IsReadingOf (Ok draft) faults expected = (faults ≡ []) × (draft ≡ expected)
+IsReadingOf (Err found) faults expected = IsFirst found faults

@@ -25,9 +25,9 @@ token_of code.EmptyEnd = spec.EmptyEnd
 token_of (code.EndTag name) = spec.EndTag name.now
 
 -- what the program finds at the front of a text
-abbrev pub seen : front.Front → spec.Front
-seen (front_code.Found token size) = spec.Found (token_of token) size
-seen (front_code.Broken stop) = spec.Broken stop
+abbrev pub prefix_seen : front.Front → spec.Front
+prefix_seen (front_code.Found token size) = spec.Found (token_of token) size
+prefix_seen (front_code.Broken stop) = spec.Broken stop
 
 -- a part of a text, where there is one
 abbrev pub text_of_option : Option (Bor (List ℕ)) → Option (List ℕ)

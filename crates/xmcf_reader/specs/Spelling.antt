@@ -19,7 +19,7 @@ abbrev pub NoDashes : List ℕ → Type 0
 NoDashes bytes = first_where are_dashes (pairs bytes) ≡ None
 
 -- a name: letters, digits and colons, a letter first
-pub record IsName (word : List ℕ) : Type 0 where
+pub record IsTagName (word : List ℕ) : Type 0 where
   pub first : ℕ
   pub rest : List ℕ
   pub is : word ≡ first ∷ rest
@@ -56,41 +56,41 @@ pub record IsValue (text word : List ℕ) : Type 0 where
 pub record IsEndTag (name word : List ℕ) : Type 0 where
   pub blanks : List ℕ
   pub is : word ≡ codes "</" ++ (name ++ (blanks ++ codes ">"))
-  pub named : IsName name
+  pub named : IsTagName name
   pub each : Each is_blank blanks
 
 -- `<` and a name
 pub record IsOpening (name word : List ℕ) : Type 0 where
   pub is : word ≡ codes "<" ++ name
-  pub named : IsName name
+  pub named : IsTagName name
 
 -- a name as it is
 pub record IsAttributeName (name word : List ℕ) : Type 0 where
   pub is : word ≡ name
-  pub named : IsName name
+  pub named : IsTagName name
 
 -- how each token is spelled
-abbrev pub Spells : Token → List ℕ → Type 0
-Spells Blanks word = AreBlanks word
-Spells Comment word = IsComment word
-Spells Declaration word = IsDeclaration word
-Spells (Opening name) word = IsOpening name word
-Spells (Name name) word = IsAttributeName name word
-Spells Equals word = word ≡ codes "="
-Spells (Value text) word = IsValue text word
-Spells TagEnd word = word ≡ codes ">"
-Spells EmptyEnd word = word ≡ codes "/>"
-Spells (EndTag name) word = IsEndTag name word
+abbrev pub SpellsToken : Token → List ℕ → Type 0
+SpellsToken Blanks word = AreBlanks word
+SpellsToken Comment word = IsComment word
+SpellsToken Declaration word = IsDeclaration word
+SpellsToken (Opening name) word = IsOpening name word
+SpellsToken (Name name) word = IsAttributeName name word
+SpellsToken Equals word = word ≡ codes "="
+SpellsToken (Value text) word = IsValue text word
+SpellsToken TagEnd word = word ≡ codes ">"
+SpellsToken EmptyEnd word = word ≡ codes "/>"
+SpellsToken (EndTag name) word = IsEndTag name word
 
 -- a token stands at a place, spelled by the front of a text
-pub record IsWord (token : Token) (at place : ℕ) (text word rest : List ℕ) : Type 0 where
+pub record IsTokenAt (token : Token) (at place : ℕ) (text word rest : List ℕ) : Type 0 where
   pub is : text ≡ word ++ rest
   pub here : place ≡ at
-  pub spells : Spells token word
+  pub spells : SpellsToken token word
 
 -- a text, from a place on, is its tokens as they are spelled, and then the rest
 abbrev pub IsCut : ℕ → List ℕ → Cut → Type 0
-IsCut at text (Item token place more) = (word : List ℕ) × (rest : List ℕ) × IsWord token at place text word rest × IsCut (at + length word) rest more
+IsCut at text (Item token place more) = (word : List ℕ) × (rest : List ℕ) × IsTokenAt token at place text word rest × IsCut (at + length word) rest more
 IsCut at text (Rest place byte broken) = place ≡ at
 IsCut at text (End place) = (text ≡ []) × (place ≡ at)
 
@@ -99,9 +99,9 @@ abbrev pub TextIsCut : Type 0
 TextIsCut = (text : List ℕ) → IsCut 0 text (cut 0 0 text)
 
 -- the bytes that pass a test end where the text ends, or at a byte that does not pass
-abbrev pub StopsAt : (ℕ → Bool) → List ℕ → Type 0
-StopsAt test [] = Unit {0}
-StopsAt test (byte ∷ bytes) = test byte ≡ false
+abbrev pub TestStopsAt : (ℕ → Bool) → List ℕ → Type 0
+TestStopsAt test [] = Unit {0}
+TestStopsAt test (byte ∷ bytes) = test byte ≡ false
 
 -- a byte stands behind that is of no name
 pub record EndsName (rest : List ℕ) : Type 0 where
@@ -112,7 +112,7 @@ pub record EndsName (rest : List ℕ) : Type 0 where
 
 -- what stands behind a token ends it; a declaration stands at the text's first place
 abbrev pub Ends : Token → Bool → List ℕ → Type 0
-Ends Blanks first rest = StopsAt is_blank rest
+Ends Blanks first rest = TestStopsAt is_blank rest
 Ends Comment first rest = Unit {0}
 Ends Declaration first rest = first ≡ true
 Ends (Opening name) first rest = EndsName rest
@@ -125,4 +125,4 @@ Ends (EndTag name) first rest = Unit {0}
 
 -- what is spelled as a token, with a byte behind it that ends it, is the token that is found
 abbrev pub SpelledIsTaken : Type 0
-SpelledIsTaken = (first : Bool) (token : Token) (word rest : List ℕ) → Spells token word → Ends token first rest → front first (word ++ rest) ≡ Found token (length word)
+SpelledIsTaken = (first : Bool) (token : Token) (word rest : List ℕ) → SpellsToken token word → Ends token first rest → front first (word ++ rest) ≡ Found token (length word)

@@ -49,19 +49,19 @@ ends EmptyEnd = 1
 ends (EndTag name) = 1
 
 -- how many elements begin in tokens
-abbrev pub begun : List Placed → ℕ
-begun [] = 0
-begun (one ∷ more) = begins one.token + begun more
+abbrev pub count_begun : List Placed → ℕ
+count_begun [] = 0
+count_begun (one ∷ more) = begins one.token + count_begun more
 
 -- how many elements end in tokens
-abbrev pub ended : List Placed → ℕ
-ended [] = 0
-ended (one ∷ more) = ends one.token + ended more
+abbrev pub count_ended : List Placed → ℕ
+count_ended [] = 0
+count_ended (one ∷ more) = ends one.token + count_ended more
 
 -- from no token on do more elements begin than end
 abbrev pub AllClosed : List Placed → Type 0
 AllClosed [] = Unit {0}
-AllClosed (one ∷ more) = (begun (one ∷ more) ≤ ended (one ∷ more)) × AllClosed more
+AllClosed (one ∷ more) = (count_begun (one ∷ more) ≤ count_ended (one ∷ more)) × AllClosed more
 
 -- the innermost element that is open behind tokens has this number: its start tag is the last token from which on more
 -- elements begin than end
@@ -70,13 +70,13 @@ pub record IsInnermost (tokens : List Placed) (number : ℕ) : Type 0 where
   pub start : Placed
   pub behind : List Placed
   pub is : tokens ≡ before ++ start ∷ behind
-  pub open_here : ended (start ∷ behind) < begun (start ∷ behind)
+  pub open_here : count_ended (start ∷ behind) < count_begun (start ∷ behind)
   pub closed : AllClosed behind
-  pub number_is : number ≡ begun before
+  pub number_is : number ≡ count_begun before
 
 -- an element that begins behind tokens has the innermost open element as its parent; the parent of the first is 0
 abbrev pub IsParent : List Placed → ℕ → Type 0
-IsParent before number = ((begun before ≡ 0) × (number ≡ 0)) ⊎ IsInnermost before number
+IsParent before number = ((count_begun before ≡ 0) × (number ≡ 0)) ⊎ IsInnermost before number
 
 -- a token of a start tag and those behind it; the end of the tag ends them
 abbrev pub tag_token : Token → List Token → List Token
@@ -151,7 +151,7 @@ pub record IsEntryOf (before : List Placed) (name : List ℕ) (at : ℕ) (behind
 -- the start tag with this name and place gives its entry, whose number is that of the start tags before it
 pub record GivesEntry (before : List Placed) (name : List ℕ) (at : ℕ) (behind : List Placed) (entries : List Entry) : Type 0 where
   pub entry : Entry
-  pub stands : StandsAt entries (begun before) entry
+  pub stands : StandsAt entries (count_begun before) entry
   pub is : IsEntryOf before name at behind entry
 
 -- the end tag with this name ends the innermost element that is open before it
@@ -164,7 +164,7 @@ pub record EndsEntry (before : List Placed) (name : List ℕ) (entries : List En
 
 -- the entries are those of the start tags, and each element ends
 pub record AreOfTags (tokens : List Placed) (entries : List Entry) : Type 0 where
-  pub count : length entries ≡ begun tokens
-  pub closed : ended tokens ≡ begun tokens
+  pub count : length entries ≡ count_begun tokens
+  pub closed : count_ended tokens ≡ count_begun tokens
   pub starts : (before behind : List Placed) (name : List ℕ) (at : ℕ) → tokens ≡ before ++ (record { token = Opening name; at = at }) ∷ behind → GivesEntry before name at behind entries
   pub end_tags : (before behind : List Placed) (name : List ℕ) (at : ℕ) → tokens ≡ before ++ (record { token = EndTag name; at = at }) ∷ behind → EndsEntry before name entries

@@ -24,14 +24,14 @@ pub data Front : Type 0 where
   Broken : (stop : Stop) → Front
 
 -- the byte has to stand next: it ends the token, of which so many bytes stand before it
-unfoldable pub closed : ℕ → Token → ℕ → List ℕ → Front
-closed last token before [] = Broken Ended
-closed last token before (byte ∷ bytes) = if byte == last then Found token (before + 1) else Broken (Break before)
+unfoldable pub byte_token : ℕ → Token → ℕ → List ℕ → Front
+byte_token last token before [] = Broken Ended
+byte_token last token before (byte ∷ bytes) = if byte == last then Found token (before + 1) else Broken (Break before)
 
 -- a comment, of which `<!--` stands before these bytes: its first two dashes end it
 abbrev pub comment_at : Option ℕ → List ℕ → Front
 comment_at None bytes = Broken Ended
-comment_at (Some at) bytes = closed 62 Comment (at + 6) (drop (at + 2) bytes)
+comment_at (Some at) bytes = byte_token 62 Comment (at + 6) (drop (at + 2) bytes)
 
 -- a comment, of which `<!--` stands before these bytes
 unfoldable pub comment : List ℕ → Front
@@ -46,7 +46,7 @@ remark (one ∷ two ∷ bytes) = if one == 45 && two == 45 then comment bytes el
 -- a declaration at its first `?`, `&` or byte past ASCII, with what stands behind that
 unfoldable pub declaration_byte : ℕ → ℕ → List ℕ → Front
 declaration_byte at byte bytes =
-    if byte == 63 then closed 62 Declaration (at + 7) bytes
+    if byte == 63 then byte_token 62 Declaration (at + 7) bytes
     else (if byte == 38 then Broken (Reference (at + 6)) else Broken (Break (at + 6)))
 
 -- a declaration up to the first byte that ends or breaks it
@@ -66,12 +66,12 @@ declared bytes =
     else Broken (Break 0))
 
 -- a name that stands behind so many bytes of its token; a byte has to follow it
-unfoldable pub named : (List ℕ → Token) → ℕ → ℕ → List ℕ → Front
-named token before size bytes = if nat_lt size (length bytes) then Found (token (take size bytes)) (before + size) else Broken Ended
+unfoldable pub named_token : (List ℕ → Token) → ℕ → ℕ → List ℕ → Front
+named_token token before size bytes = if nat_lt size (length bytes) then Found (token (take size bytes)) (before + size) else Broken Ended
 
 -- an end tag, of which `</` and its name stand before these bytes
 unfoldable pub end_of_tag : List ℕ → ℕ → List ℕ → Front
-end_of_tag name size bytes = closed 62 (EndTag name) (2 + size + prefix_len is_blank bytes) (drop (prefix_len is_blank bytes) bytes)
+end_of_tag name size bytes = byte_token 62 (EndTag name) (2 + size + prefix_len is_blank bytes) (drop (prefix_len is_blank bytes) bytes)
 
 -- an end tag whose name has so many bytes, of which `</` stands before these bytes
 unfoldable pub end_named : ℕ → List ℕ → Front
@@ -89,7 +89,7 @@ markup first (byte ∷ bytes) =
     if byte == 33 then remark bytes
     else (if byte == 63 then (if first then declared bytes else Broken (Break 0))
     else (if byte == 47 then end_tag bytes
-    else (if is_letter byte then named Opening 1 (prefix_len is_of_name (byte ∷ bytes)) (byte ∷ bytes)
+    else (if is_letter byte then named_token Opening 1 (prefix_len is_of_name (byte ∷ bytes)) (byte ∷ bytes)
     else Broken (Break 1))))
 
 -- a value at the first byte that ends or breaks it
@@ -114,8 +114,8 @@ front first (byte ∷ bytes) =
     if byte == 60 then markup first bytes
     else (if is_blank byte then Found Blanks (prefix_len is_blank (byte ∷ bytes))
     else (if byte == 62 then Found TagEnd 1
-    else (if byte == 47 then closed 62 EmptyEnd 1 bytes
+    else (if byte == 47 then byte_token 62 EmptyEnd 1 bytes
     else (if byte == 61 then Found Equals 1
     else (if is_quote byte then value byte bytes
-    else (if is_letter byte then named Name 0 (prefix_len is_of_name (byte ∷ bytes)) (byte ∷ bytes)
+    else (if is_letter byte then named_token Name 0 (prefix_len is_of_name (byte ∷ bytes)) (byte ∷ bytes)
     else Broken (Break 0)))))))

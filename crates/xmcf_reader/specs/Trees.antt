@@ -12,10 +12,10 @@ stack_of None outer = []
 stack_of (Some inner) outer = inner ∷ reverse outer
 
 -- the start tag
-abbrev pub tag_of : Tag → draft.Tag
-tag_of tag = record { at = tag.at; word = tag.word; given = pairs_of tag.given.items }
+abbrev pub start_tag : Tag → draft.Tag
+start_tag tag = record { at = tag.at; word = tag.word; given = pairs_of tag.given.items }
 
 -- what the tokens so far give
 abbrev pub context_of : Tree → draft.Context
 context_of tree =
-    record { entries = tree.entries.items; open_elements = stack_of tree.current tree.outer.items; stage = tree.stage; tag = tag_of tree.tag }
+    record { entries = tree.entries.items; open_elements = stack_of tree.current tree.outer.items; stage = tree.stage; tag = start_tag tree.tag }

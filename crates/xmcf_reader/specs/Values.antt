@@ -12,9 +12,9 @@ use Rattle.xmcf_reader.specs.declared.table.Form.{Form}
 use Rattle.xmcf_reader.specs.declared.table.Form.TheVariants as form
 
 -- go on with what there is
-abbrev pub on : {A B : Type 0} → Option A → (A → Option B) → Option B
-on None go = None
-on (Some x) go = go x
+abbrev pub on_value : {A B : Type 0} → Option A → (A → Option B) → Option B
+on_value None go = None
+on_value (Some x) go = go x
 
 -- the first of two that there is
 abbrev pub either : {A : Type 0} → Option A → Option A → Option A
@@ -36,7 +36,7 @@ digit base byte =
 -- the number that digits spell behind those of a number
 abbrev pub spelled : ℕ → ℕ → List ℕ → Option ℕ
 spelled base n [] = Some n
-spelled base n (byte ∷ bytes) = on (digit base byte) (λ d. spelled base (n * base + d) bytes)
+spelled base n (byte ∷ bytes) = on_value (digit base byte) (λ d. spelled base (n * base + d) bytes)
 
 -- the number that 1 to so many digits spell
 unfoldable pub digits : ℕ → ℕ → List ℕ → Option ℕ
@@ -44,11 +44,11 @@ digits base most bytes = if nat_le 1 (length bytes) && nat_le (length bytes) mos
 
 -- a number: 1 to 10 digits, below 2^32
 unfoldable pub number : List ℕ → Option ℕ
-number text = on (digits 10 10 text) word32
+number text = on_value (digits 10 10 text) word32
 
 -- an address: `0x` and 1 to 8 hexadecimal digits, which always are below 2^32
 unfoldable pub address : List ℕ → Option ℕ
-address text = if starts_with nat_eq text (codes "0x") then on (digits 16 8 (drop 2 text)) word32 else None
+address text = if starts_with nat_eq text (codes "0x") then on_value (digits 16 8 (drop 2 text)) word32 else None
 
 -- whole and part of a decimal number, in millionths; the part has so many digits
 unfoldable pub millionths : ℕ → ℕ → ℕ → ℕ
@@ -56,7 +56,7 @@ millionths whole part size = whole * 1000000 + part * 10 ^ (6 - size)
 
 -- a decimal number with a part behind its point, in millionths
 unfoldable pub parted : List ℕ → List ℕ → Option ℕ
-parted whole part = on (digits 10 10 whole) (λ w. on (digits 10 6 part) (λ p. Some (millionths w p (length part))))
+parted whole part = on_value (digits 10 10 whole) (λ w. on_value (digits 10 6 part) (λ p. Some (millionths w p (length part))))
 
 -- the point of a decimal number
 abbrev pub is_point : ℕ → Bool
@@ -64,7 +64,7 @@ is_point byte = byte == 46
 
 -- a decimal number, in millionths, by the place of its point
 abbrev pub decimal_at : Option ℕ → List ℕ → Option ℕ
-decimal_at None text = on (digits 10 10 text) (λ w. Some (w * 1000000))
+decimal_at None text = on_value (digits 10 10 text) (λ w. Some (w * 1000000))
 decimal_at (Some at) text = parted (take at text) (drop (at + 1) text)
 
 -- a decimal number, in millionths: 1 to 10 digits, and where there is a point 1 to 6 more
@@ -76,14 +76,14 @@ unfoldable pub whole : ℕ → ℕ → Option ℕ
 whole unit n = if n * unit % 1000000 == 0 then word32 (n * unit / 1000000) else None
 
 -- what stands before the unit, where the text ends with it
-unfoldable pub before : List ℕ → List ℕ → Option (List ℕ)
-before unit text =
+unfoldable pub before_unit : List ℕ → List ℕ → Option (List ℕ)
+before_unit unit text =
     if nat_le (length unit) (length text) && bytes_eq (drop (length text - length unit) text) unit
     then Some (take (length text - length unit) text) else None
 
 -- a decimal number of units, where it comes out whole and below 2^32
 unfoldable pub measured : List ℕ → ℕ → List ℕ → Option ℕ
-measured name unit text = on (before name text) (λ front. on (decimal_number front) (whole unit))
+measured name unit text = on_value (before_unit name text) (λ front. on_value (decimal_number front) (whole unit))
 
 -- a size in bytes
 unfoldable pub size : List ℕ → Option ℕ
@@ -95,7 +95,7 @@ time text = either (measured (codes "us") 1 text) (either (measured (codes "ms")
 
 -- a frequency
 unfoldable pub is_frequency : List ℕ → Bool
-is_frequency text = is_some (on (before (codes "Mhz") text) decimal_number)
+is_frequency text = is_some (on_value (before_unit (codes "Mhz") text) decimal_number)
 
 -- a byte of a text: printed ASCII. No value has `<`, `&` or its quote in it
 unfoldable pub is_printed : ℕ → Bool
@@ -143,11 +143,11 @@ with_flag word flags =
 -- so many more flags
 abbrev pub with_flags : List (List ℕ) → FlagSet → Option FlagSet
 with_flags [] flags = Some flags
-with_flags (word ∷ words) flags = on (with_flag word flags) (λ more. with_flags words more)
+with_flags (word ∷ words) flags = on_value (with_flag word flags) (λ more. with_flags words more)
 
 -- flags, of which only `system` has an effect
 unfoldable pub flags : List ℕ → Option Bool
-flags text = on (with_flags (split text) no_flags) (λ found. Some found.system)
+flags text = on_value (with_flags (split text) no_flags) (λ found. Some found.system)
 
 -- whether an area is only read
 unfoldable pub access : List ℕ → Option Bool

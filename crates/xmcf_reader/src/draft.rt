@@ -2,7 +2,7 @@
 
 ghost use Rattle.std.specs.Prelude.{◌≡◌, ◌++◌, ◌∷◌, []};
 ghost use Rattle.xmcf_reader.specs.Drafts.{IsDraft};
-ghost use Rattle.xmcf_reader.specs.Faults.{Does};
+ghost use Rattle.xmcf_reader.specs.Faults.{DoesUnlessMemory};
 
 use crate::fault::ReadFault;
 use std::marker::Model;
@@ -175,7 +175,7 @@ pub(crate) fn push_entry(
     parent: u32,
     what: Element,
 ) -> Result<(), ReadFault>
-    ensures { Does result (entries.old.items ++ (record { at = at; parent = parent; what = what }) ∷ []) entries.new.items }
+    ensures { DoesUnlessMemory result (entries.old.items ++ (record { at = at; parent = parent; what = what }) ∷ []) entries.new.items }
 {
     // The proof of a push has to know the types in an `Element`.
     let _console: Option<Name> = None;

@@ -20,7 +20,7 @@ pub(crate) struct Pair<'a> {
 
 /// The text of an attribute, where it stands.
 pub(crate) fn text_at<'a>(word: Word, given: &[Pair<'a>]) -> Option<&'a [u8]>
-    ensures { text_of_option result ≡ elements.text_at word (pairs_of given.now) }
+    ensures { text_of_option result ≡ elements.attribute_text word (pairs_of given.now) }
 {
     for pair in given {
         if pair.word.is(word) {
@@ -31,9 +31,9 @@ pub(crate) fn text_at<'a>(word: Word, given: &[Pair<'a>]) -> Option<&'a [u8]>
 }
 
 /// The text of an attribute, or no bytes.
-#[tactic(auto, unfolding(crate::specs::Elements::text_of))]
+#[tactic(auto, unfolding(crate::specs::Elements::attribute_text_of))]
 fn text_of<'a>(word: Word, given: &[Pair<'a>]) -> &'a [u8]
-    ensures { result.now ≡ elements.text_of word (pairs_of given.now) }
+    ensures { result.now ≡ elements.attribute_text_of word (pairs_of given.now) }
 {
     match text_at(word, given) {
         Some(text) => text,
@@ -42,9 +42,9 @@ fn text_of<'a>(word: Word, given: &[Pair<'a>]) -> &'a [u8]
 }
 
 /// Whether a partition is a system partition.
-#[tactic(auto, unfolding(crate::specs::Elements::is_system))]
+#[tactic(auto, unfolding(crate::specs::Elements::system_given))]
 fn is_system(given: &[Pair<'_>]) -> Option<bool>
-    ensures { result ≡ elements.is_system (pairs_of given.now) }
+    ensures { result ≡ elements.system_given (pairs_of given.now) }
 {
     match text_at(Word::Flags, given) {
         Some(text) => flags(text),
@@ -53,9 +53,9 @@ fn is_system(given: &[Pair<'_>]) -> Option<bool>
 }
 
 /// A partition's console.
-#[tactic(auto, unfolding(crate::specs::Elements::console))]
+#[tactic(auto, unfolding(crate::specs::Elements::console_given))]
 fn console(given: &[Pair<'_>]) -> Option<Option<Name>>
-    ensures { result ≡ elements.console (pairs_of given.now) }
+    ensures { result ≡ elements.console_given (pairs_of given.now) }
 {
     match text_at(Word::Console, given) {
         Some(text) => {
@@ -78,9 +78,9 @@ fn is_read_only(given: &[Pair<'_>]) -> Option<bool>
 }
 
 /// Whether an event is logged.
-#[tactic(auto, unfolding(crate::specs::Elements::is_logged))]
+#[tactic(auto, unfolding(crate::specs::Elements::logged_given))]
 fn is_logged(given: &[Pair<'_>]) -> Option<bool>
-    ensures { result ≡ elements.is_logged (pairs_of given.now) }
+    ensures { result ≡ elements.logged_given (pairs_of given.now) }
 {
     match text_at(Word::Log, given) {
         Some(text) => log(text),
@@ -109,9 +109,9 @@ fn system(given: &[Pair<'_>]) -> Option<Element>
 }
 
 /// A region.
-#[tactic(auto, unfolding(crate::specs::Elements::region))]
+#[tactic(auto, unfolding(crate::specs::Elements::region_element))]
 fn region(given: &[Pair<'_>]) -> Option<Element>
-    ensures { result ≡ elements.region (pairs_of given.now) }
+    ensures { result ≡ elements.region_element (pairs_of given.now) }
 {
     let start = address(text_of(Word::Start, given))?;
     let size = size(text_of(Word::Size, given))?;
@@ -128,9 +128,9 @@ fn processor(given: &[Pair<'_>]) -> Option<Element>
 }
 
 /// A plan.
-#[tactic(auto, unfolding(crate::specs::Elements::plan))]
+#[tactic(auto, unfolding(crate::specs::Elements::plan_element))]
 fn plan(given: &[Pair<'_>]) -> Option<Element>
-    ensures { result ≡ elements.plan (pairs_of given.now) }
+    ensures { result ≡ elements.plan_element (pairs_of given.now) }
 {
     let id = number(text_of(Word::Id, given))?;
     let frame = time(text_of(Word::MajorFrame, given))?;
@@ -138,9 +138,9 @@ fn plan(given: &[Pair<'_>]) -> Option<Element>
 }
 
 /// A slot.
-#[tactic(auto, unfolding(crate::specs::Elements::slot))]
+#[tactic(auto, unfolding(crate::specs::Elements::slot_element))]
 fn slot(given: &[Pair<'_>]) -> Option<Element>
-    ensures { result ≡ elements.slot (pairs_of given.now) }
+    ensures { result ≡ elements.slot_element (pairs_of given.now) }
 {
     let id = number(text_of(Word::Id, given))?;
     let start = time(text_of(Word::Start, given))?;
@@ -191,9 +191,9 @@ fn partition(given: &[Pair<'_>]) -> Option<Element>
 }
 
 /// An area.
-#[tactic(auto, unfolding(crate::specs::Elements::area))]
+#[tactic(auto, unfolding(crate::specs::Elements::area_element))]
 fn area(given: &[Pair<'_>]) -> Option<Element>
-    ensures { result ≡ elements.area (pairs_of given.now) }
+    ensures { result ≡ elements.area_element (pairs_of given.now) }
 {
     let start = address(text_of(Word::Start, given))?;
     let size = size(text_of(Word::Size, given))?;
@@ -206,9 +206,9 @@ fn area(given: &[Pair<'_>]) -> Option<Element>
 }
 
 /// A requirement.
-#[tactic(auto, unfolding(crate::specs::Elements::need))]
+#[tactic(auto, unfolding(crate::specs::Elements::need_element))]
 fn need(given: &[Pair<'_>]) -> Option<Element>
-    ensures { result ≡ elements.need (pairs_of given.now) }
+    ensures { result ≡ elements.need_element (pairs_of given.now) }
 {
     let duration = time(text_of(Word::Duration, given))?;
     let period = time(text_of(Word::Period, given))?;
@@ -252,9 +252,9 @@ fn trace(given: &[Pair<'_>]) -> Option<Element>
 }
 
 /// A port.
-#[tactic(auto, unfolding(crate::specs::Elements::port))]
+#[tactic(auto, unfolding(crate::specs::Elements::port_element))]
 fn port(given: &[Pair<'_>]) -> Option<Element>
-    ensures { result ≡ elements.port (pairs_of given.now) }
+    ensures { result ≡ elements.port_element (pairs_of given.now) }
 {
     let name = Name::new(text_of(Word::Name, given))?;
     let kind = kind(text_of(Word::Kind, given))?;

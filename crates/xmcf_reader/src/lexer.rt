@@ -4,7 +4,7 @@ ghost use Rattle.std.specs.Prelude.{◌≡◌, ℕ, ◌+◌, ◌<◌, ◌≤◌,
 ghost use Rattle.std.specs.List.{position, prefix_len};
 ghost use Rattle.xmcf_reader.specs.Bytes.{are_dashes, ends_declaration, ends_value, is_blank, is_digit, is_letter, is_of_name, is_past_ascii, is_quote, pairs};
 ghost use Rattle.xmcf_reader.specs.Cuts.{FrontWithin};
-ghost use Rattle.xmcf_reader.specs.Seen.{seen, token_of};
+ghost use Rattle.xmcf_reader.specs.Seen.{prefix_seen, token_of};
 ghost use Rattle.xmcf_reader.specs.Tokens as tokens;
 
 use crate::token::{Front, Stop, Token};
@@ -117,11 +117,11 @@ fn dashes(bytes: &[u8]) -> Option<usize>
 }
 
 /// The byte has to stand next: it ends the token, of which so many bytes stand before it.
-#[tactic(auto, unfolding(crate::specs::Tokens::closed))]
+#[tactic(auto, unfolding(crate::specs::Tokens::byte_token))]
 fn closed<'a>(last: u8, token: Token<'a>, before: usize, bytes: &[u8]) -> Front<'a>
     requires { before < 2 ^ 34 }
-    ensures token { seen result ≡ tokens.closed last (token_of token.entry) before bytes.now }
-    ensures within { FrontWithin (seen result) (before + length bytes.now) }
+    ensures token { prefix_seen result ≡ tokens.byte_token last (token_of token.entry) before bytes.now }
+    ensures within { FrontWithin (prefix_seen result) (before + length bytes.now) }
 {
     match bytes {
         [] => Front::Broken(Stop::Ended),
@@ -134,8 +134,8 @@ fn closed<'a>(last: u8, token: Token<'a>, before: usize, bytes: &[u8]) -> Front<
 #[tactic(auto, unfolding(crate::specs::Tokens::comment))]
 fn comment(bytes: &[u8]) -> Front<'_>
     requires { length bytes.now < 2 ^ 32 }
-    ensures token { seen result ≡ tokens.comment bytes.now }
-    ensures within { FrontWithin (seen result) (4 + length bytes.now) }
+    ensures token { prefix_seen result ≡ tokens.comment bytes.now }
+    ensures within { FrontWithin (prefix_seen result) (4 + length bytes.now) }
 {
     match dashes(bytes) {
         None => Front::Broken(Stop::Ended),
@@ -147,8 +147,8 @@ fn comment(bytes: &[u8]) -> Front<'_>
 #[tactic(auto, unfolding(crate::specs::Tokens::remark))]
 fn remark(bytes: &[u8]) -> Front<'_>
     requires { length bytes.now < 2 ^ 32 }
-    ensures token { seen result ≡ tokens.remark bytes.now }
-    ensures within { FrontWithin (seen result) (2 + length bytes.now) }
+    ensures token { prefix_seen result ≡ tokens.remark bytes.now }
+    ensures within { FrontWithin (prefix_seen result) (2 + length bytes.now) }
 {
     match bytes {
         [] | [b'-'] => Front::Broken(Stop::Ended),
@@ -161,8 +161,8 @@ fn remark(bytes: &[u8]) -> Front<'_>
 #[tactic(auto, unfolding(crate::specs::Tokens::declaration_byte))]
 fn declaration_byte(at: usize, byte: u8, bytes: &[u8]) -> Front<'_>
     requires { at < 2 ^ 32 }
-    ensures token { seen result ≡ tokens.declaration_byte at byte bytes.now }
-    ensures within { FrontWithin (seen result) (at + 7 + length bytes.now) }
+    ensures token { prefix_seen result ≡ tokens.declaration_byte at byte bytes.now }
+    ensures within { FrontWithin (prefix_seen result) (at + 7 + length bytes.now) }
 {
     match byte {
         b'?' => closed(b'>', Token::Declaration, at + 7, bytes),
@@ -175,8 +175,8 @@ fn declaration_byte(at: usize, byte: u8, bytes: &[u8]) -> Front<'_>
 #[tactic(auto, unfolding(crate::specs::Tokens::declaration))]
 fn declaration(bytes: &[u8]) -> Front<'_>
     requires { length bytes.now < 2 ^ 32 }
-    ensures token { seen result ≡ tokens.declaration bytes.now }
-    ensures within { FrontWithin (seen result) (6 + length bytes.now) }
+    ensures token { prefix_seen result ≡ tokens.declaration bytes.now }
+    ensures within { FrontWithin (prefix_seen result) (6 + length bytes.now) }
 {
     match declaration_end(bytes) {
         None => Front::Broken(Stop::Ended),
@@ -188,8 +188,8 @@ fn declaration(bytes: &[u8]) -> Front<'_>
 #[tactic(auto, unfolding(crate::specs::Tokens::declared))]
 fn declared(bytes: &[u8]) -> Front<'_>
     requires { length bytes.now < 2 ^ 32 }
-    ensures token { seen result ≡ tokens.declared bytes.now }
-    ensures within { FrontWithin (seen result) (2 + length bytes.now) }
+    ensures token { prefix_seen result ≡ tokens.declared bytes.now }
+    ensures within { FrontWithin (prefix_seen result) (2 + length bytes.now) }
 {
     if b"xml".starts_with(bytes) {
         return Front::Broken(Stop::Ended);
@@ -201,12 +201,12 @@ fn declared(bytes: &[u8]) -> Front<'_>
 }
 
 /// A tag's opening or the name of an attribute, whose name has so many bytes.
-#[tactic(auto, unfolding(crate::specs::Tokens::named))]
+#[tactic(auto, unfolding(crate::specs::Tokens::named_token))]
 fn opening(size: usize, bytes: &[u8]) -> Front<'_>
     requires short { length bytes.now < 2 ^ 32 }
     requires within { size ≤ length bytes.now }
-    ensures token { seen result ≡ tokens.named tokens.Opening 1 size bytes.now }
-    ensures within { FrontWithin (seen result) (1 + length bytes.now) }
+    ensures token { prefix_seen result ≡ tokens.named_token tokens.Opening 1 size bytes.now }
+    ensures within { FrontWithin (prefix_seen result) (1 + length bytes.now) }
 {
     if size < bytes.len() {
         Front::Found(Token::Opening(&bytes[..size]), 1 + size)
@@ -216,13 +216,13 @@ fn opening(size: usize, bytes: &[u8]) -> Front<'_>
 }
 
 /// The name of an attribute, which has so many bytes.
-#[tactic(auto, unfolding(crate::specs::Tokens::named))]
+#[tactic(auto, unfolding(crate::specs::Tokens::named_token))]
 fn attribute_name(size: usize, bytes: &[u8]) -> Front<'_>
     requires short { length bytes.now < 2 ^ 32 }
     requires some { 1 ≤ size }
     requires within { size ≤ length bytes.now }
-    ensures token { seen result ≡ tokens.named tokens.Name 0 size bytes.now }
-    ensures within { FrontWithin (seen result) (length bytes.now) }
+    ensures token { prefix_seen result ≡ tokens.named_token tokens.Name 0 size bytes.now }
+    ensures within { FrontWithin (prefix_seen result) (length bytes.now) }
 {
     if size < bytes.len() {
         Front::Found(Token::Name(&bytes[..size]), size)
@@ -236,8 +236,8 @@ fn attribute_name(size: usize, bytes: &[u8]) -> Front<'_>
 fn end_of_tag<'a>(name: &'a [u8], size: usize, bytes: &[u8]) -> Front<'a>
     requires short { length bytes.now < 2 ^ 32 }
     requires small { size < 2 ^ 32 }
-    ensures token { seen result ≡ tokens.end_of_tag name.now size bytes.now }
-    ensures within { FrontWithin (seen result) (2 + size + length bytes.now) }
+    ensures token { prefix_seen result ≡ tokens.end_of_tag name.now size bytes.now }
+    ensures within { FrontWithin (prefix_seen result) (2 + size + length bytes.now) }
 {
     let blanks = blanks(bytes);
     closed(
@@ -253,8 +253,8 @@ fn end_of_tag<'a>(name: &'a [u8], size: usize, bytes: &[u8]) -> Front<'a>
 fn end_named(size: usize, bytes: &[u8]) -> Front<'_>
     requires short { length bytes.now < 2 ^ 32 }
     requires within { size ≤ length bytes.now }
-    ensures token { seen result ≡ tokens.end_named size bytes.now }
-    ensures within { FrontWithin (seen result) (2 + length bytes.now) }
+    ensures token { prefix_seen result ≡ tokens.end_named size bytes.now }
+    ensures within { FrontWithin (prefix_seen result) (2 + length bytes.now) }
 {
     let (name, rest) = bytes.split_at(size);
     end_of_tag(name, size, rest)
@@ -264,8 +264,8 @@ fn end_named(size: usize, bytes: &[u8]) -> Front<'_>
 #[tactic(auto, unfolding(crate::specs::Tokens::end_tag))]
 fn end_tag(bytes: &[u8]) -> Front<'_>
     requires { length bytes.now < 2 ^ 32 }
-    ensures token { seen result ≡ tokens.end_tag bytes.now }
-    ensures within { FrontWithin (seen result) (2 + length bytes.now) }
+    ensures token { prefix_seen result ≡ tokens.end_tag bytes.now }
+    ensures within { FrontWithin (prefix_seen result) (2 + length bytes.now) }
 {
     match bytes {
         [] => Front::Broken(Stop::Ended),
@@ -278,8 +278,8 @@ fn end_tag(bytes: &[u8]) -> Front<'_>
 #[tactic(auto, unfolding(crate::specs::Tokens::markup))]
 fn markup(first: bool, bytes: &[u8]) -> Front<'_>
     requires { length bytes.now < 2 ^ 32 }
-    ensures token { seen result ≡ tokens.markup first bytes.now }
-    ensures within { FrontWithin (seen result) (1 + length bytes.now) }
+    ensures token { prefix_seen result ≡ tokens.markup first bytes.now }
+    ensures within { FrontWithin (prefix_seen result) (1 + length bytes.now) }
 {
     match bytes {
         [] => Front::Broken(Stop::Ended),
@@ -296,8 +296,8 @@ fn markup(first: bool, bytes: &[u8]) -> Front<'_>
 #[tactic(auto, unfolding(crate::specs::Tokens::value_byte))]
 fn value_byte(quote: u8, at: usize, byte: u8, text: &[u8]) -> Front<'_>
     requires { at < 2 ^ 32 }
-    ensures token { seen result ≡ tokens.value_byte quote at byte text.now }
-    ensures within { FrontWithin (seen result) (at + 2) }
+    ensures token { prefix_seen result ≡ tokens.value_byte quote at byte text.now }
+    ensures within { FrontWithin (prefix_seen result) (at + 2) }
 {
     if byte == quote {
         Front::Found(Token::Value(text), at + 2)
@@ -312,8 +312,8 @@ fn value_byte(quote: u8, at: usize, byte: u8, text: &[u8]) -> Front<'_>
 #[tactic(auto, unfolding(crate::specs::Tokens::value))]
 fn value(quote: u8, bytes: &[u8]) -> Front<'_>
     requires { length bytes.now < 2 ^ 32 }
-    ensures token { seen result ≡ tokens.value quote bytes.now }
-    ensures within { FrontWithin (seen result) (1 + length bytes.now) }
+    ensures token { prefix_seen result ≡ tokens.value quote bytes.now }
+    ensures within { FrontWithin (prefix_seen result) (1 + length bytes.now) }
 {
     match value_end(quote, bytes) {
         None => Front::Broken(Stop::Ended),
@@ -325,8 +325,8 @@ fn value(quote: u8, bytes: &[u8]) -> Front<'_>
 #[tactic(auto, unfolding(crate::specs::Tokens::front))]
 pub(crate) fn front(first: bool, bytes: &[u8]) -> Front<'_>
     requires { length bytes.now < 2 ^ 32 }
-    ensures token { seen result ≡ tokens.front first bytes.now }
-    ensures within { FrontWithin (seen result) (length bytes.now) }
+    ensures token { prefix_seen result ≡ tokens.front first bytes.now }
+    ensures within { FrontWithin (prefix_seen result) (length bytes.now) }
 {
     match bytes {
         [] => Front::Broken(Stop::Ended),

@@ -3,8 +3,8 @@
 ghost use Rattle.std.specs.Prelude.{◌≡◌, ◌∷◌, [], ◌++◌, OnOk, IfErr};
 ghost use Rattle.std.specs.List.{find, list_any};
 ghost use Rattle.xmcf_reader.specs.Draft as draft;
-ghost use Rattle.xmcf_reader.specs.Faults.{Does};
-ghost use Rattle.xmcf_reader.specs.Table.{attributes, children};
+ghost use Rattle.xmcf_reader.specs.Faults.{DoesUnlessMemory};
+ghost use Rattle.xmcf_reader.specs.Table.{attributes, allowed_children};
 ghost use Rattle.xmcf_reader.specs.Seen.{pairs_of};
 ghost use Rattle.xmcf_reader.specs.Words.{is_word, word_text};
 ghost use Rattle.std.specs.Str.{bytes_eq};
@@ -66,7 +66,7 @@ fn lacks_child(noted: &[Word], child: Child) -> bool
 
 /// The first child that the table demands and that does not stand.
 pub(crate) fn missing_child(word: Word, noted: &[Word]) -> Option<Child>
-    ensures { result ≡ find (draft.lacks_child noted.now) (children word) }
+    ensures { result ≡ find (draft.lacks_child noted.now) (allowed_children word) }
 {
     children(word)
         .iter()
@@ -169,7 +169,7 @@ impl Open {
 
     /// One more child.
     pub(crate) fn note(&mut self, word: Word) -> Result<(), ReadFault>
-        ensures { Does result (record self.old { children = self.old.children ++ word ∷ [] }) self.new }
+        ensures { DoesUnlessMemory result (record self.old { children = self.old.children ++ word ∷ [] }) self.new }
     {
         self.children.push(word)?;
         Ok(())

@@ -1,9 +1,9 @@
 //! The reading of a text.
 
 ghost use Rattle.std.specs.Prelude.{◌≡◌, ◌<◌, ◌^◌, ◌⊎◌, None, Some, IfErr, IfOk, length};
-ghost use Rattle.xmcf_reader.specs.Draft.{start};
+ghost use Rattle.xmcf_reader.specs.Draft.{empty_draft};
 ghost use Rattle.xmcf_reader.specs.Faults.{cut, draft_from, draft_of, faults_from, xmcf_fault};
-ghost use Rattle.xmcf_reader.specs.Readings.{IsTold};
+ghost use Rattle.xmcf_reader.specs.Readings.{IsReadingOf};
 ghost use Rattle.xmcf_reader.specs.declared.fault.ReadFault.TheVariants as fault;
 
 use crate::draft::Draft;
@@ -16,7 +16,7 @@ use std::str;
 /// The draft that the tokens of a text give.
 fn read_tokens(alloc: Global, text: &[u8]) -> Result<Draft, ReadFault>
     requires { length text.now < 2 ^ 32 }
-    ensures { IsTold result (faults_from start (cut 0 0 text.now)) (draft_from start (cut 0 0 text.now)) }
+    ensures { IsReadingOf result (faults_from empty_draft (cut 0 0 text.now)) (draft_from empty_draft (cut 0 0 text.now)) }
 {
     let mut tokens = Tokens::new(text);
     let mut tree = Tree::new(alloc);

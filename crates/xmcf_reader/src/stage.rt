@@ -78,7 +78,7 @@ impl Stage {
 
     /// The stage behind blanks.
     pub(crate) fn spaced(self) -> Stage
-        ensures { result ≡ draft.spaced self }
+        ensures { result ≡ draft.blank_passed self }
     {
         match self {
             Stage::Bare => Stage::Spaced,

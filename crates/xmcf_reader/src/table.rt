@@ -1,7 +1,7 @@
 //! What each element has: its attributes with their forms, and its children.
 
 ghost use Rattle.std.specs.Prelude.{◌≡◌};
-ghost use Rattle.xmcf_reader.specs.Table.{attributes, children};
+ghost use Rattle.xmcf_reader.specs.Table.{attributes, allowed_children};
 
 use crate::word::Word;
 
@@ -334,7 +334,7 @@ pub(crate) fn attributes(element: Word) -> &'static [Attribute]
 
 /// The children of an element, in the order of the table.
 pub(crate) fn children(element: Word) -> &'static [Child]
-    ensures { result.now ≡ children element }
+    ensures { result.now ≡ allowed_children element }
 {
     match element {
         Word::SystemDescription => &[

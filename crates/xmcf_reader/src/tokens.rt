@@ -1,7 +1,7 @@
 //! The tokens of a text, one after the other.
 
 ghost use Rattle.std.specs.Prelude.{◌≡◌, ◌+◌, ◌<◌, ◌≤◌, ◌^◌, length};
-ghost use Rattle.xmcf_reader.specs.Cuts.{IsNext, Moves, left, room};
+ghost use Rattle.xmcf_reader.specs.Cuts.{IsNext, MovesOn, cut_left, text_length};
 ghost use Rattle.xmcf_reader.specs.Faults.{stopped};
 
 use crate::fault::ReadFault;
@@ -53,10 +53,10 @@ impl<'a> Tokens<'a> {
 
     /// What comes next.
     pub(crate) fn next(&mut self) -> Next<'a>
-        requires { room self.old < 2 ^ 32 }
-        ensures next { IsNext result (left self.old) (left self.new) }
-        ensures room { room self.new ≡ room self.old }
-        ensures moves { Moves result self.old self.new }
+        requires { text_length self.old < 2 ^ 32 }
+        ensures next { IsNext result (cut_left self.old) (cut_left self.new) }
+        ensures room { text_length self.new ≡ text_length self.old }
+        ensures moves { MovesOn result self.old self.new }
     {
         let at = self.place;
         let Some(byte) = self.rest.first() else {

@@ -4,7 +4,7 @@ ghost use Rattle.std.specs.Prelude.{◌≡◌, ◌+◌, ◌<◌, ◌≤◌, ◌^
 ghost use Rattle.xmcf_reader.specs.Draft as draft;
 ghost use Rattle.xmcf_reader.specs.Elements as elements;
 ghost use Rattle.xmcf_reader.specs.Faults as faults;
-ghost use Rattle.xmcf_reader.specs.Faults.{Answers, Checks, Does, when};
+ghost use Rattle.xmcf_reader.specs.Faults.{AnswersFirst, Checks, DoesUnlessMemory, when};
 ghost use Rattle.xmcf_reader.specs.Seen.{pairs_of, token_of};
 ghost use Rattle.xmcf_reader.specs.Tokens as tokens;
 ghost use Rattle.xmcf_reader.specs.Trees.{context_of, stack_of};
@@ -97,7 +97,7 @@ fn children_stand(word: Word, noted: &[Word], at: usize) -> Result<(), ReadFault
 impl<'a> Tree<'a> {
     /// Before the first token.
     pub(crate) fn new(alloc: Global) -> Tree<'a>
-        ensures { context_of result ≡ draft.start }
+        ensures { context_of result ≡ draft.empty_draft }
     {
         Tree {
             alloc,
@@ -268,7 +268,7 @@ impl<'a> Tree<'a> {
 
     /// A start tag begins.
     fn begin(&mut self, element: Option<Word>, at: usize)
-        ensures { context_of self.new ≡ draft.begun element at (context_of self.old) }
+        ensures { context_of self.new ≡ draft.tag_begun element at (context_of self.old) }
     {
         if let Some(word) = element {
             self.stage = Stage::Bare;
@@ -289,7 +289,7 @@ impl<'a> Tree<'a> {
 
     /// A value stands.
     fn value(&mut self, text: &'a [u8]) -> Result<(), ReadFault>
-        ensures { Does result (draft.valued (context_of self.old).stage text.now (context_of self.old)) (context_of self.new) }
+        ensures { DoesUnlessMemory result (draft.valued (context_of self.old).stage text.now (context_of self.old)) (context_of self.new) }
     {
         if let Stage::Equaled(attribute) = self.stage {
             self.tag.given.push(Pair {
@@ -303,7 +303,7 @@ impl<'a> Tree<'a> {
 
     /// The element of the start tag is a child of the innermost open element.
     fn note(&mut self) -> Result<(), ReadFault>
-        ensures { Does result (record (context_of self.old) { open_elements = draft.noted (context_of self.old).tag.word (context_of self.old).open_elements }) (context_of self.new) }
+        ensures { DoesUnlessMemory result (record (context_of self.old) { open_elements = draft.child_noted (context_of self.old).tag.word (context_of self.old).open_elements }) (context_of self.new) }
     {
         match &mut self.current {
             None => Ok(()),
@@ -313,7 +313,7 @@ impl<'a> Tree<'a> {
 
     /// The element of the start tag is an entry.
     fn enter(&mut self) -> Result<(), ReadFault>
-        ensures { Does result (record (context_of self.old) { entries = draft.entered (elements.built (context_of self.old).tag.word (context_of self.old).tag.given) (context_of self.old) }) (context_of self.new) }
+        ensures { DoesUnlessMemory result (record (context_of self.old) { entries = draft.entry_added (elements.built (context_of self.old).tag.word (context_of self.old).tag.given) (context_of self.old) }) (context_of self.new) }
     {
         let parent = self.parent_number();
         match built(self.tag.word, self.tag.given.as_slice()) {
@@ -325,7 +325,7 @@ impl<'a> Tree<'a> {
     /// A start tag ends.
     #[tactic(auto, unfolding(crate::specs::Draft::tag_ended))]
     fn end_tag(&mut self) -> Result<(), ReadFault>
-        ensures { Does result (draft.tag_ended (context_of self.old)) (context_of self.new) }
+        ensures { DoesUnlessMemory result (draft.tag_ended (context_of self.old)) (context_of self.new) }
     {
         self.enter()?;
         self.note()?;
@@ -335,7 +335,7 @@ impl<'a> Tree<'a> {
 
     /// The element of the tag is open.
     fn descend(&mut self, number: u32) -> Result<(), ReadFault>
-        ensures { Does result (draft.opened number (context_of self.old)) (context_of self.new) }
+        ensures { DoesUnlessMemory result (draft.opened number (context_of self.old)) (context_of self.new) }
     {
         let inner = Open::new(self.alloc, self.tag.word, number);
         match self.current.take() {
@@ -349,7 +349,7 @@ impl<'a> Tree<'a> {
     /// A start tag ends, and its element is open.
     fn open(&mut self) -> Result<(), ReadFault>
         requires { length (context_of self.old).entries < 2 ^ 32 }
-        ensures { Does result (draft.opened (length (context_of self.old).entries) (draft.tag_ended (context_of self.old))) (context_of self.new) }
+        ensures { DoesUnlessMemory result (draft.opened (length (context_of self.old).entries) (draft.tag_ended (context_of self.old))) (context_of self.new) }
     {
         let number = self.entries.len() as u32;
         self.end_tag()?;
@@ -368,7 +368,7 @@ impl<'a> Tree<'a> {
     /// What one more token gives.
     fn go_on(&mut self, token: Token<'a>, at: usize) -> Result<(), ReadFault>
         requires { length (context_of self.old).entries < 2 ^ 32 }
-        ensures { Does result (draft.after (context_of self.old) (token_of token.entry) at) (context_of self.new) }
+        ensures { DoesUnlessMemory result (draft.after_token (context_of self.old) (token_of token.entry) at) (context_of self.new) }
     {
         match token {
             Token::Blanks => self.stage = self.stage.spaced(),
@@ -388,7 +388,7 @@ impl<'a> Tree<'a> {
     pub(crate) fn take(&mut self, token: Token<'a>, at: usize) -> Result<(), ReadFault>
         requires at { at + 1 < 2 ^ 64 }
         requires room { length (context_of self.old).entries < 2 ^ 32 }
-        ensures { Answers result (faults.faults_of (context_of self.old) (token_of token.entry) at) (draft.after (context_of self.old) (token_of token.entry) at) (context_of self.new) }
+        ensures { AnswersFirst result (faults.faults_of (context_of self.old) (token_of token.entry) at) (draft.after_token (context_of self.old) (token_of token.entry) at) (context_of self.new) }
     {
         self.check(token, at)?;
         self.go_on(token, at)

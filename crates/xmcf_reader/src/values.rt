@@ -159,9 +159,9 @@ fn whole(unit: u64, n: u64) -> Option<u32>
 }
 
 /// What stands before the unit, where the text ends with it.
-#[tactic(auto, unfolding(crate::specs::Values::before))]
+#[tactic(auto, unfolding(crate::specs::Values::before_unit))]
 fn before<'a>(unit: &[u8], text: &'a [u8]) -> Option<&'a [u8]>
-    ensures { text_of_option result ≡ values.before unit.now text.now }
+    ensures { text_of_option result ≡ values.before_unit unit.now text.now }
 {
     if text.len() < unit.len() {
         return None;

@@ -2,7 +2,7 @@
 
 ghost use Rattle.std.specs.Prelude.{◌≡◌, ◌≤◌, All, length, sum_by};
 ghost use Rattle.std.specs.List.{list_any};
-ghost use Rattle.xm_conf.specs.Along.{each, head_of};
+ghost use Rattle.xm_conf.specs.Along.{added_by_each, head_of};
 ghost use Rattle.xm_conf.specs.Fits.{HasCounts};
 ghost use Rattle.xm_conf.specs.Rules as rules;
 ghost use Rattle.xm_conf.specs.Room.{room_after};
@@ -34,7 +34,7 @@ fn unsized_area(p: u8, n: u8, area: &Area) -> Option<Broken>
 #[tactic(auto, using(crate::specs::AlongLemmas::each_loop))]
 fn unsized_areas(p: u8, areas: &[Area]) -> Option<Broken>
     requires { length areas.now ≤ 8 }
-    ensures { result ≡ head_of (each (rules.unsized_area p) areas.now) }
+    ensures { result ≡ head_of (added_by_each (rules.unsized_area p) areas.now) }
 {
     for (n, area) in areas.iter().enumerate() {
         let broken = unsized_area(p, n as u8, area);
@@ -50,7 +50,7 @@ fn unsized_areas(p: u8, areas: &[Area]) -> Option<Broken>
 fn parts_unsized_areas(parts: &[Part]) -> Option<Broken>
     requires few { length parts.now ≤ 16 }
     requires areas { All (λ part. length part.areas ≤ 8) parts.now }
-    ensures { result ≡ head_of (each rules.unsized_areas parts.now) }
+    ensures { result ≡ head_of (added_by_each rules.unsized_areas parts.now) }
 {
     for (n, part) in parts.iter().enumerate() {
         let broken = unsized_areas(n as u8, &part.areas);
@@ -89,7 +89,7 @@ fn outside_area(regions: &[Region], p: u8, n: u8, area: &Area) -> Option<Broken>
 #[tactic(auto, using(crate::specs::AlongLemmas::each_loop))]
 fn outside_areas(regions: &[Region], p: u8, areas: &[Area]) -> Option<Broken>
     requires { length areas.now ≤ 8 }
-    ensures { result ≡ head_of (each (rules.outside_area regions.now p) areas.now) }
+    ensures { result ≡ head_of (added_by_each (rules.outside_area regions.now p) areas.now) }
 {
     for (n, area) in areas.iter().enumerate() {
         let broken = outside_area(regions, p, n as u8, area);
@@ -105,7 +105,7 @@ fn outside_areas(regions: &[Region], p: u8, areas: &[Area]) -> Option<Broken>
 fn parts_outside_areas(regions: &[Region], parts: &[Part]) -> Option<Broken>
     requires few { length parts.now ≤ 16 }
     requires areas { All (λ part. length part.areas ≤ 8) parts.now }
-    ensures { result ≡ head_of (each (rules.outside_areas regions.now) parts.now) }
+    ensures { result ≡ head_of (added_by_each (rules.outside_areas regions.now) parts.now) }
 {
     for (n, part) in parts.iter().enumerate() {
         let broken = outside_areas(regions, n as u8, &part.areas);

@@ -1,7 +1,7 @@
 //! Channels: their messages, and the ports at their ends.
 
 ghost use Rattle.std.specs.Prelude.{◌≡◌, ◌≤◌, All, IfNone, Some, length, slice_get, option_copied};
-ghost use Rattle.xm_conf.specs.Along.{each, head_of};
+ghost use Rattle.xm_conf.specs.Along.{added_by_each, head_of};
 ghost use Rattle.xm_conf.specs.Fits.{HasCounts, IsChan};
 ghost use Rattle.xm_conf.specs.Rules as rules;
 
@@ -41,7 +41,7 @@ fn unfit_chan(n: u8, chan: &Chan) -> Option<Broken>
 #[tactic(auto, using(crate::specs::AlongLemmas::each_loop))]
 fn unfit_chans(chans: &[Chan]) -> Option<Broken>
     requires { length chans.now ≤ 64 }
-    ensures { result ≡ head_of (each rules.unfit_chan chans.now) }
+    ensures { result ≡ head_of (added_by_each rules.unfit_chan chans.now) }
 {
     for (n, chan) in chans.iter().enumerate() {
         let broken = unfit_chan(n as u8, chan);
@@ -91,7 +91,7 @@ fn stray_dest(parts: &[Part], c: u8, n: u8, end: &End) -> Option<Broken>
 #[tactic(auto, using(crate::specs::AlongLemmas::each_loop))]
 fn stray_dests(parts: &[Part], c: u8, dests: &[End]) -> Option<Broken>
     requires { length dests.now ≤ 16 }
-    ensures { result ≡ head_of (each (rules.stray_dest parts.now c) dests.now) }
+    ensures { result ≡ head_of (added_by_each (rules.stray_dest parts.now c) dests.now) }
 {
     for (n, end) in dests.iter().enumerate() {
         let broken = stray_dest(parts, c, n as u8, end);
@@ -120,7 +120,7 @@ fn stray_ends(parts: &[Part], c: u8, chan: &Chan) -> Option<Broken>
 fn chans_stray_ends(parts: &[Part], chans: &[Chan]) -> Option<Broken>
     requires few { length chans.now ≤ 64 }
     requires dests { All (λ chan. length chan.dests ≤ 16) chans.now }
-    ensures { result ≡ head_of (each (rules.stray_ends parts.now) chans.now) }
+    ensures { result ≡ head_of (added_by_each (rules.stray_ends parts.now) chans.now) }
 {
     for (n, chan) in chans.iter().enumerate() {
         let broken = stray_ends(parts, n as u8, chan);
@@ -193,7 +193,7 @@ fn wrong_dest(parts: &[Part], kind: ChanKind, c: u8, n: u8, end: &End) -> Option
 #[tactic(auto, using(crate::specs::AlongLemmas::each_loop))]
 fn wrong_dests(parts: &[Part], kind: ChanKind, c: u8, dests: &[End]) -> Option<Broken>
     requires { length dests.now ≤ 16 }
-    ensures { result ≡ head_of (each (rules.wrong_dest parts.now kind c) dests.now) }
+    ensures { result ≡ head_of (added_by_each (rules.wrong_dest parts.now kind c) dests.now) }
 {
     for (n, end) in dests.iter().enumerate() {
         let broken = wrong_dest(parts, kind, c, n as u8, end);
@@ -222,7 +222,7 @@ fn wrong_ends(parts: &[Part], c: u8, chan: &Chan) -> Option<Broken>
 fn chans_wrong_ends(parts: &[Part], chans: &[Chan]) -> Option<Broken>
     requires few { length chans.now ≤ 64 }
     requires dests { All (λ chan. length chan.dests ≤ 16) chans.now }
-    ensures { result ≡ head_of (each (rules.wrong_ends parts.now) chans.now) }
+    ensures { result ≡ head_of (added_by_each (rules.wrong_ends parts.now) chans.now) }
 {
     for (n, chan) in chans.iter().enumerate() {
         let broken = wrong_ends(parts, n as u8, chan);

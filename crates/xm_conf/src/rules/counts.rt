@@ -2,7 +2,7 @@
 
 ghost use Rattle.std.specs.Prelude.{◌≡◌, ◌<◌, ◌≤◌, IfNone};
 ghost use Rattle.xm_conf.specs.Fits.{HasCounts};
-ghost use Rattle.xm_conf.specs.Along.{each, head_of};
+ghost use Rattle.xm_conf.specs.Along.{added_by_each, head_of};
 ghost use Rattle.xm_conf.specs.Rules as rules;
 
 use super::broken::unless;
@@ -67,7 +67,7 @@ fn plan_counts(n: u8, plan: &Plan) -> Option<Broken>
 /// The first plan past the limit, or with too few or too many slots.
 #[tactic(auto, using(crate::specs::AlongLemmas::each_loop))]
 fn plans_counts(plans: &[Plan]) -> Option<Broken>
-    ensures { result ≡ head_of (each rules.plan_counts plans.now) }
+    ensures { result ≡ head_of (added_by_each rules.plan_counts plans.now) }
 {
     for (n, plan) in plans.iter().enumerate() {
         let broken = plan_counts(n as u8, plan);
@@ -96,7 +96,7 @@ fn part_counts(n: u8, part: &Part) -> Option<Broken>
 /// The first partition past the limit, or with too few or too many areas and ports.
 #[tactic(auto, using(crate::specs::AlongLemmas::each_loop))]
 fn parts_counts(parts: &[Part]) -> Option<Broken>
-    ensures { result ≡ head_of (each rules.part_counts parts.now) }
+    ensures { result ≡ head_of (added_by_each rules.part_counts parts.now) }
 {
     for (n, part) in parts.iter().enumerate() {
         let broken = part_counts(n as u8, part);
@@ -125,7 +125,7 @@ fn chan_counts(n: u8, chan: &Chan) -> Option<Broken>
 /// The first channel past the limit, or with a destination past the limit.
 #[tactic(auto, using(crate::specs::AlongLemmas::each_loop))]
 fn chans_counts(chans: &[Chan]) -> Option<Broken>
-    ensures { result ≡ head_of (each rules.chan_counts chans.now) }
+    ensures { result ≡ head_of (added_by_each rules.chan_counts chans.now) }
 {
     for (n, chan) in chans.iter().enumerate() {
         let broken = chan_counts(n as u8, chan);

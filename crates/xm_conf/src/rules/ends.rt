@@ -2,7 +2,7 @@
 
 ghost use Rattle.std.specs.Prelude.{◌≡◌, ◌++◌, ◌<◌, ◌≤◌, All, IfSome, length};
 ghost use Rattle.std.specs.List.{position_from};
-ghost use Rattle.xm_conf.specs.Along.{along, each, head_of};
+ghost use Rattle.xm_conf.specs.Along.{along, added_by_each, head_of};
 ghost use Rattle.xm_conf.specs.Fits.{HasCounts, IsChan};
 ghost use Rattle.xm_conf.specs.Rules as rules;
 ghost use Rattle.xm_conf.specs.Walks as walks;
@@ -70,7 +70,7 @@ fn chan_hit(at: &End, c: u8, chan: &Chan) -> Option<Item>
 fn chans_hit(at: &End, chans: &[Chan]) -> Option<Item>
     requires few { length chans.now ≤ 64 }
     requires dests { All (λ chan. length chan.dests ≤ 16) chans.now }
-    ensures { result ≡ head_of (each (walks.chan_hits at.now) chans.now) }
+    ensures { result ≡ head_of (added_by_each (walks.chan_hits at.now) chans.now) }
 {
     for (n, chan) in chans.iter().enumerate() {
         let broken = chan_hit(at, n as u8, chan);
@@ -87,7 +87,7 @@ fn first_before(at: &End, chans: &[Chan], source: &End, before: &[End]) -> Optio
     requires few { length chans.now ≤ 64 }
     requires dests { All (λ chan. length chan.dests ≤ 16) chans.now }
     requires before { length before.now ≤ 16 }
-    ensures { result ≡ head_of (each (walks.chan_hits at.now) chans.now ++ walks.source_hits at.now (length chans.now) source.now ++ walks.dest_hits at.now (length chans.now) before.now) }
+    ensures { result ≡ head_of (added_by_each (walks.chan_hits at.now) chans.now ++ walks.source_hits at.now (length chans.now) source.now ++ walks.dest_hits at.now (length chans.now) before.now) }
 {
     let found = chans_hit(at, chans);
     if found.is_some() {
@@ -134,7 +134,7 @@ fn dests_meet(chans: &[Chan], source: &End, dests: &[End]) -> Option<Broken>
 fn source_meets(chans: &[Chan], source: &End) -> Option<Broken>
     requires few { length chans.now ≤ 64 }
     requires dests { All (λ chan. length chan.dests ≤ 16) chans.now }
-    ensures { result ≡ head_of (rules.meets 18 rules.same_end (each rules.chan_ends chans.now) (item.End (length chans.now) 0, source.now)) }
+    ensures { result ≡ head_of (rules.meets 18 rules.same_end (added_by_each rules.chan_ends chans.now) (item.End (length chans.now) 0, source.now)) }
 {
     beside(
         18,

@@ -2,7 +2,7 @@
 
 ghost use Rattle.std.specs.Prelude.{◌≡◌, ◌≤◌, ◌<◌, length, slice_get, IfSome};
 ghost use Rattle.std.specs.List.{position_from};
-ghost use Rattle.xm_conf.specs.Along.{along, each, head_of};
+ghost use Rattle.xm_conf.specs.Along.{along, added_by_each, head_of};
 ghost use Rattle.xm_conf.specs.Fits.{HasCounts};
 ghost use Rattle.xm_conf.specs.Rules as rules;
 ghost use Rattle.xm_conf.specs.declared.item.Item.TheVariants as item;
@@ -55,7 +55,7 @@ fn unsized_region(n: u8, region: &Region) -> Option<Broken>
 #[tactic(auto, using(crate::specs::AlongLemmas::each_loop))]
 fn unsized_regions(regions: &[Region]) -> Option<Broken>
     requires { length regions.now ≤ 8 }
-    ensures { result ≡ head_of (each rules.unsized_region regions.now) }
+    ensures { result ≡ head_of (added_by_each rules.unsized_region regions.now) }
 {
     for (n, region) in regions.iter().enumerate() {
         let broken = unsized_region(n as u8, region);

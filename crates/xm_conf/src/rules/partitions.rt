@@ -1,7 +1,7 @@
 //! Partitions: their consoles, requirements and answers to health events.
 
 ghost use Rattle.std.specs.Prelude.{◌≡◌, ◌++◌, ◌<◌, ◌≤◌, length, map, nat_lt};
-ghost use Rattle.xm_conf.specs.Along.{each, head_of, unless as unless_of};
+ghost use Rattle.xm_conf.specs.Along.{added_by_each, head_of, unless as unless_of};
 ghost use Rattle.xm_conf.specs.Fits.{HasCounts};
 ghost use Rattle.xm_conf.specs.Rules as rules;
 ghost use Rattle.xm_conf.specs.Walks as walks;
@@ -40,7 +40,7 @@ fn no_console(uarts: usize, n: u8, part: &Part) -> Option<Broken>
 #[tactic(auto, using(crate::specs::AlongLemmas::each_loop))]
 fn parts_no_console(uarts: usize, parts: &[Part]) -> Option<Broken>
     requires { length parts.now ≤ 16 }
-    ensures { result ≡ head_of (each (rules.no_console uarts) parts.now) }
+    ensures { result ≡ head_of (added_by_each (rules.no_console uarts) parts.now) }
 {
     for (n, part) in parts.iter().enumerate() {
         let broken = no_console(uarts, n as u8, part);
@@ -76,7 +76,7 @@ fn unfit_need(n: u8, part: &Part) -> Option<Broken>
 #[tactic(auto, using(crate::specs::AlongLemmas::each_loop))]
 fn unfit_needs(parts: &[Part]) -> Option<Broken>
     requires { length parts.now ≤ 16 }
-    ensures { result ≡ head_of (each rules.unfit_need parts.now) }
+    ensures { result ≡ head_of (added_by_each rules.unfit_need parts.now) }
 {
     for (n, part) in parts.iter().enumerate() {
         let broken = unfit_need(n as u8, part);
@@ -131,7 +131,7 @@ fn action_broken(plans: usize, p: u8, n: u8, action: Action) -> Option<Broken>
 #[tactic(auto, using(crate::specs::AlongLemmas::each_loop))]
 fn actions_broken(plans: usize, p: u8, actions: &[Action]) -> Option<Broken>
     requires { length actions.now ≤ 12 }
-    ensures { result ≡ head_of (each (walks.action_broken plans p) actions.now) }
+    ensures { result ≡ head_of (added_by_each (walks.action_broken plans p) actions.now) }
 {
     for (n, action) in actions.iter().enumerate() {
         let broken = action_broken(plans, p, n as u8, *action);
@@ -145,7 +145,7 @@ fn actions_broken(plans: usize, p: u8, actions: &[Action]) -> Option<Broken>
 /// A table that logs an event that is none, or the first of its actions that may not stand.
 #[tactic(auto, using(crate::specs::AlongLemmas::in_turn))]
 fn table_broken(plans: usize, p: u8, hm: &HmTable) -> Option<Broken>
-    ensures first { result ≡ head_of (unless_of (nat_lt hm.now.logged 4096) (rules.alone 19 (item.Part p)) ++ each (walks.action_broken plans p) hm.now.actions) }
+    ensures first { result ≡ head_of (unless_of (nat_lt hm.now.logged 4096) (rules.alone 19 (item.Part p)) ++ added_by_each (walks.action_broken plans p) hm.now.actions) }
     ensures few { length hm.now.actions ≤ 12 }
 {
     let broken = unless(hm.logged < FLAGS, 19, Item::Part(p));
@@ -167,7 +167,7 @@ fn part_monitor(plans: usize, p: u8, part: &Part) -> Option<Broken>
 #[tactic(auto, using(crate::specs::AlongLemmas::each_loop))]
 fn parts_monitors(plans: usize, parts: &[Part]) -> Option<Broken>
     requires { length parts.now ≤ 16 }
-    ensures { result ≡ head_of (each (walks.part_monitor plans) parts.now) }
+    ensures { result ≡ head_of (added_by_each (walks.part_monitor plans) parts.now) }
 {
     for (n, part) in parts.iter().enumerate() {
         let broken = part_monitor(plans, n as u8, part);

@@ -1,7 +1,7 @@
 //! Plans with their slots.
 
 ghost use Rattle.std.specs.Prelude.{◌≡◌, ◌≤◌, ◌-◌, All, Some, length, slice_get};
-ghost use Rattle.xm_conf.specs.Along.{along, each, head_of};
+ghost use Rattle.xm_conf.specs.Along.{along, added_by_each, head_of};
 ghost use Rattle.xm_conf.specs.Fits.{HasCounts};
 ghost use Rattle.xm_conf.specs.Rules as rules;
 
@@ -41,7 +41,7 @@ fn late_slot(p: u8, frame: u32, n: u8, slot: &Slot) -> Option<Broken>
 #[tactic(auto, using(crate::specs::AlongLemmas::each_loop))]
 fn late_slots(p: u8, frame: u32, slots: &[Slot]) -> Option<Broken>
     requires { length slots.now ≤ 64 }
-    ensures { result ≡ head_of (each (rules.late_slot p frame) slots.now) }
+    ensures { result ≡ head_of (added_by_each (rules.late_slot p frame) slots.now) }
 {
     for (n, slot) in slots.iter().enumerate() {
         let broken = late_slot(p, frame, n as u8, slot);
@@ -69,7 +69,7 @@ fn frame_broken(p: u8, plan: &Plan) -> Option<Broken>
 fn frames_broken(plans: &[Plan]) -> Option<Broken>
     requires few { length plans.now ≤ 8 }
     requires slots { All (λ plan. length plan.slots ≤ 64) plans.now }
-    ensures { result ≡ head_of (each rules.frame_broken plans.now) }
+    ensures { result ≡ head_of (added_by_each rules.frame_broken plans.now) }
 {
     for (n, plan) in plans.iter().enumerate() {
         let broken = frame_broken(n as u8, plan);
@@ -129,7 +129,7 @@ fn early_slots(p: u8, slots: &[Slot]) -> Option<Broken>
 fn plans_early_slots(plans: &[Plan]) -> Option<Broken>
     requires few { length plans.now ≤ 8 }
     requires slots { All (λ plan. length plan.slots ≤ 64) plans.now }
-    ensures { result ≡ head_of (each rules.early_slots plans.now) }
+    ensures { result ≡ head_of (added_by_each rules.early_slots plans.now) }
 {
     for (n, plan) in plans.iter().enumerate() {
         let broken = early_slots(n as u8, &plan.slots);
@@ -152,7 +152,7 @@ fn stray_slot(parts: usize, p: u8, n: u8, slot: &Slot) -> Option<Broken>
 #[tactic(auto, using(crate::specs::AlongLemmas::each_loop))]
 fn stray_slots(parts: usize, p: u8, slots: &[Slot]) -> Option<Broken>
     requires { length slots.now ≤ 64 }
-    ensures { result ≡ head_of (each (rules.stray_slot parts p) slots.now) }
+    ensures { result ≡ head_of (added_by_each (rules.stray_slot parts p) slots.now) }
 {
     for (n, slot) in slots.iter().enumerate() {
         let broken = stray_slot(parts, p, n as u8, slot);
@@ -168,7 +168,7 @@ fn stray_slots(parts: usize, p: u8, slots: &[Slot]) -> Option<Broken>
 fn plans_stray_slots(parts: usize, plans: &[Plan]) -> Option<Broken>
     requires few { length plans.now ≤ 8 }
     requires slots { All (λ plan. length plan.slots ≤ 64) plans.now }
-    ensures { result ≡ head_of (each (rules.stray_slots parts) plans.now) }
+    ensures { result ≡ head_of (added_by_each (rules.stray_slots parts) plans.now) }
 {
     for (n, plan) in plans.iter().enumerate() {
         let broken = stray_slots(parts, n as u8, &plan.slots);

@@ -2,7 +2,7 @@
 
 ghost use Rattle.std.specs.Prelude.{◌≡◌, ◌++◌, ◌<◌, ◌≤◌, All, IfSome, length};
 ghost use Rattle.std.specs.List.{position_from};
-ghost use Rattle.xm_conf.specs.Along.{along, each, head_of};
+ghost use Rattle.xm_conf.specs.Along.{along, added_by_each, head_of};
 ghost use Rattle.xm_conf.specs.Fits.{HasCounts};
 ghost use Rattle.xm_conf.specs.Rules as rules;
 ghost use Rattle.xm_conf.specs.Walks as walks;
@@ -78,7 +78,7 @@ fn area_hit(at: &Region, p: u8, areas: &[Area]) -> Option<Item>
 fn parts_hit(at: &Region, parts: &[Part]) -> Option<Item>
     requires few { length parts.now ≤ 16 }
     requires areas { All (λ part. length part.areas ≤ 8) parts.now }
-    ensures { result ≡ head_of (each (walks.part_hits at.now) parts.now) }
+    ensures { result ≡ head_of (added_by_each (walks.part_hits at.now) parts.now) }
 {
     for (n, part) in parts.iter().enumerate() {
         let broken = part_hit(at, n as u8, part);
@@ -104,7 +104,7 @@ fn first_before(at: &Region, whole: Option<Region>, parts: &[Part], before: &[Ar
     requires few { length parts.now ≤ 16 }
     requires areas { All (λ part. length part.areas ≤ 8) parts.now }
     requires before { length before.now ≤ 8 }
-    ensures { result ≡ head_of (walks.whole_hits at.now whole ++ each (walks.part_hits at.now) parts.now ++ walks.area_hits at.now (length parts.now) before.now) }
+    ensures { result ≡ head_of (walks.whole_hits at.now whole ++ added_by_each (walks.part_hits at.now) parts.now ++ walks.area_hits at.now (length parts.now) before.now) }
 {
     let found = whole_hit(at, whole);
     if found.is_some() {
@@ -122,7 +122,7 @@ fn area_meets(whole: Option<Region>, parts: &[Part], before: &[Area], area: &Are
     requires few { length parts.now ≤ 16 }
     requires areas { All (λ part. length part.areas ≤ 8) parts.now }
     requires before { length before.now ≤ 8 }
-    ensures { result ≡ head_of (walks.area_meets (rules.whole_stretch whole ++ each rules.part_stretches parts.now) (length parts.now) before.now area.now) }
+    ensures { result ≡ head_of (walks.area_meets (rules.whole_stretch whole ++ added_by_each rules.part_stretches parts.now) (length parts.now) before.now area.now) }
 {
     let earlier = first_before(&stretch(area), whole, parts, before);
     let later = Item::Area(parts.len() as u8, before.len() as u8);
@@ -135,7 +135,7 @@ fn areas_meet(whole: Option<Region>, parts: &[Part], areas: &[Area]) -> Option<B
     requires few { length parts.now ≤ 16 }
     requires areas { All (λ part. length part.areas ≤ 8) parts.now }
     requires next { length areas.now ≤ 8 }
-    ensures { result ≡ head_of (along (walks.area_meets (rules.whole_stretch whole ++ each rules.part_stretches parts.now) (length parts.now)) areas.now) }
+    ensures { result ≡ head_of (along (walks.area_meets (rules.whole_stretch whole ++ added_by_each rules.part_stretches parts.now) (length parts.now)) areas.now) }
 {
     for (n, area) in areas.iter().enumerate() {
         let broken = area_meets(whole, parts, &areas[..n], area);

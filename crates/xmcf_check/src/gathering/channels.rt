@@ -4,7 +4,7 @@ ghost use Rattle.std.specs.Prelude.{◌≡◌, ◌<◌, ◌++◌, IfOk, OnOk, le
 ghost use Rattle.xm_base.specs.Options.{on};
 ghost use Rattle.xmcf_reader.specs.Drafts.{IsDraft};
 ghost use Rattle.xmcf_check.specs.Capped.{capped_chan, capped_end};
-ghost use Rattle.xmcf_check.specs.Described.{among, chan_with, chans_by, children, dest_of, end_named, first_among, port_names, source_of, with_parent};
+ghost use Rattle.xmcf_check.specs.Described.{among, chan_with, chans_by, children, dest_of, described_end, first_among, port_names, source_of, with_parent};
 ghost use Rattle.xmcf_check.specs.Elements.{capped_carried, carried_of};
 ghost use Rattle.xmcf_check.specs.Families.{picked};
 ghost use Rattle.xmcf_check.specs.Numbers.{HasPortNumbers};
@@ -19,7 +19,7 @@ use xm_conf::{Chan, End, Name, Part};
 use xmcf_reader::{Element, Entry};
 
 /// The end that a partition's number and a port's name tell, with both numbers capped.
-#[tactic(auto, unfolding(crate::specs::Described::end_named, crate::specs::Capped::capped_end))]
+#[tactic(auto, unfolding(crate::specs::Described::described_end, crate::specs::Capped::capped_end))]
 fn end_named(
     parts: &[Part],
     numbers: &IndexMap<(usize, &[u8]), usize>,
@@ -27,7 +27,7 @@ fn end_named(
     name: &Name,
 ) -> End
     requires { HasPortNumbers parts.now numbers.now }
-    ensures { result ≡ capped_end (end_named (port_names parts.now) part name.now) }
+    ensures { result ≡ capped_end (described_end (port_names parts.now) part name.now) }
 {
     End {
         part: byte(part),

@@ -2,8 +2,8 @@
 
 ghost use Rattle.std.specs.Prelude.{◌≡◌, ◌≤◌, ◌^◌, ◌++◌, IfOk, OnOk, flat_map};
 ghost use Rattle.xm_conf.specs.Health.{event_row};
-ghost use Rattle.xmcf_check.specs.Described.{action_for, among, answers_of, answers_to, flag_for, given_to, hm_of, is_to, log_given, logged_of, with_grandparent};
-ghost use Rattle.xmcf_check.specs.Elements.{given_of};
+ghost use Rattle.xmcf_check.specs.Described.{given_action_for, among, answers_of, answers_to, flag_for, given_to, hm_of, is_to, log_given, logged_of, with_grandparent};
+ghost use Rattle.xmcf_check.specs.Elements.{element_answer};
 
 use crate::elements::{Given, given_of};
 use crate::family::is_grandchild;
@@ -20,7 +20,7 @@ pub(super) fn given(
     inside: &[Entry],
     number: usize,
 ) -> Result<Vec<Given>, AllocError>
-    ensures { IfOk result (λ given. given.items ≡ among given_of (with_grandparent entries.now number inside.now)) }
+    ensures { IfOk result (λ given. given.items ≡ among element_answer (with_grandparent entries.now number inside.now)) }
 {
     inside
         .iter()
@@ -45,9 +45,9 @@ fn given_to(given: &[Given], event: Event) -> Option<Given>
 }
 
 /// The action for an event.
-#[tactic(auto, unfolding(crate::specs::Described::action_for))]
+#[tactic(auto, unfolding(crate::specs::Described::given_action_for))]
 fn action_for(given: &[Given], event: Event) -> Action
-    ensures { result ≡ action_for given.now event }
+    ensures { result ≡ given_action_for given.now event }
 {
     match given_to(given, event) {
         Some(given) => given.action,

@@ -3,7 +3,7 @@
 ghost use Rattle.std.specs.Prelude.{◌≡◌, IfOk, unwrap_or};
 ghost use Rattle.xmcf_reader.specs.Drafts.{IsDraft};
 ghost use Rattle.xmcf_check.specs.Described.{among, first_among, hv_size_of, regions_of, system_name, uarts_of};
-ghost use Rattle.xmcf_check.specs.Elements.{part_id_of, processor_of, size_of, uart_id_of};
+ghost use Rattle.xmcf_check.specs.Elements.{part_id_of, processor_of, element_size, uart_id_of};
 
 use crate::elements::{part_id_of, processor_of, region_of, size_of, uart_id_of, uart_of};
 use std::alloc::{AllocError, Global};
@@ -34,7 +34,7 @@ pub(super) fn regions(alloc: Global, entries: &[Entry]) -> Result<Vec<Region>, A
 
 /// The size of the first that has the hypervisor's.
 fn first_size(entries: &[Entry]) -> Option<u32>
-    ensures { result ≡ first_among size_of entries.now }
+    ensures { result ≡ first_among element_size entries.now }
 {
     for entry in entries {
         if let Some(size) = size_of(&entry.what) {

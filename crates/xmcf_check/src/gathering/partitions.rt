@@ -4,8 +4,8 @@ ghost use Rattle.std.specs.Prelude.{◌≡◌, ◌<◌, ◌++◌, ◌∷◌, [],
 ghost use Rattle.xm_base.specs.Options.{on};
 ghost use Rattle.xmcf_reader.specs.Drafts.{IsDraft};
 ghost use Rattle.xmcf_check.specs.Capped.{capped, capped_part};
-ghost use Rattle.xmcf_check.specs.Described.{among, children, first_among, grandchildren, number_of, part_with, parts_by, with_grandparent, with_parent};
-ghost use Rattle.xmcf_check.specs.Elements.{area_of, mask_of, need_of, own_of, port_of};
+ghost use Rattle.xmcf_check.specs.Described.{among, children, first_among, grandchildren, number_named, part_with, parts_by, with_grandparent, with_parent};
+ghost use Rattle.xmcf_check.specs.Elements.{element_area, mask_of, element_need, element_own, element_port};
 ghost use Rattle.xmcf_check.specs.Families.{picked};
 ghost use Rattle.xmcf_check.specs.Numbers.{HasFirsts};
 
@@ -21,7 +21,7 @@ use xmcf_reader::Entry;
 
 /// What time the first child of the entry of a number that does so requires.
 fn need(inside: &[Entry], number: usize) -> Option<Need>
-    ensures { result ≡ first_among need_of (with_parent number inside.now) }
+    ensures { result ≡ first_among element_need (with_parent number inside.now) }
 {
     for entry in inside {
         if is_child(entry, number) {
@@ -54,7 +54,7 @@ fn areas(
     inside: &[Entry],
     number: usize,
 ) -> Result<Vec<Area>, AllocError>
-    ensures { IfOk result (λ areas. areas.items ≡ among area_of (with_grandparent entries.now number inside.now)) }
+    ensures { IfOk result (λ areas. areas.items ≡ among element_area (with_grandparent entries.now number inside.now)) }
 {
     inside
         .iter()
@@ -70,7 +70,7 @@ fn ports(
     inside: &[Entry],
     number: usize,
 ) -> Result<Vec<Port>, AllocError>
-    ensures { IfOk result (λ ports. ports.items ≡ among port_of (with_grandparent entries.now number inside.now)) }
+    ensures { IfOk result (λ ports. ports.items ≡ among element_port (with_grandparent entries.now number inside.now)) }
 {
     inside
         .iter()
@@ -82,7 +82,7 @@ fn ports(
 /// The number of the UART that a console names, capped.
 fn console(uarts: &[Name], numbers: &IndexMap<&[u8], usize>, name: &Option<Name>) -> Option<u8>
     requires { HasFirsts 0 uarts.now numbers.now }
-    ensures { result ≡ on (capped 255) (on (number_of uarts.now) name.now) }
+    ensures { result ≡ on (capped 255) (on (number_named uarts.now) name.now) }
 {
     match name {
         Some(name) => Some(item_byte(number_of(uarts, numbers, name))),
@@ -92,7 +92,7 @@ fn console(uarts: &[Name], numbers: &IndexMap<&[u8], usize>, name: &Option<Name>
 
 /// What the partition that the entry of a number is calls itself.
 fn own_at(entries: &[Entry], number: usize) -> Option<Own>
-    ensures { result ≡ picked own_of (slice_get entries.now number) }
+    ensures { result ≡ picked element_own (slice_get entries.now number) }
 {
     match entries.get(number) {
         Some(entry) => own_of(&entry.what),
@@ -142,7 +142,7 @@ fn push_part(
     requires numbered { HasFirsts 0 uarts.now numbers.now }
     requires draft { IsDraft entries.now }
     requires inside { number < length entries.now }
-    ensures { OnOk result (parts.new.items ≡ parts.old.items ++ map capped_part (part_with uarts.now (children number entries.now) (grandchildren number entries.now) (picked own_of (slice_get entries.now number)))) }
+    ensures { OnOk result (parts.new.items ≡ parts.old.items ++ map capped_part (part_with uarts.now (children number entries.now) (grandchildren number entries.now) (picked element_own (slice_get entries.now number)))) }
 {
     match own_at(entries, number) {
         Some(own) => {

@@ -4,8 +4,8 @@ ghost use Rattle.std.specs.Prelude.{◌≡◌, ◌<◌, ◌++◌, IfOk, OnOk, le
 ghost use Rattle.xm_base.specs.Options.{on};
 ghost use Rattle.xmcf_reader.specs.Drafts.{IsDraft};
 ghost use Rattle.xmcf_check.specs.Capped.{capped_plan, capped_slot};
-ghost use Rattle.xmcf_check.specs.Described.{among, children, plan_with, plans_of, with_parent};
-ghost use Rattle.xmcf_check.specs.Elements.{frame_of, slot_of};
+ghost use Rattle.xmcf_check.specs.Described.{among, children, plan_of_children, plans_of, with_parent};
+ghost use Rattle.xmcf_check.specs.Elements.{element_frame, element_slot};
 ghost use Rattle.xmcf_check.specs.Families.{picked};
 
 use crate::elements::{frame_of, slot_of};
@@ -17,7 +17,7 @@ use xmcf_reader::Entry;
 
 /// The slots among entries of which the children of the entry of a number are theirs, with their partitions capped.
 fn slots(alloc: Global, entries: &[Entry], number: usize) -> Result<Vec<Slot>, AllocError>
-    ensures { IfOk result (λ slots. slots.items ≡ among (λ element. on capped_slot (slot_of element)) (with_parent number entries.now)) }
+    ensures { IfOk result (λ slots. slots.items ≡ among (λ element. on capped_slot (element_slot element)) (with_parent number entries.now)) }
 {
     entries
         .iter()
@@ -28,7 +28,7 @@ fn slots(alloc: Global, entries: &[Entry], number: usize) -> Result<Vec<Slot>, A
 
 /// The frame of the plan that the entry of a number is.
 fn frame_at(entries: &[Entry], number: usize) -> Option<u32>
-    ensures { result ≡ picked frame_of (slice_get entries.now number) }
+    ensures { result ≡ picked element_frame (slice_get entries.now number) }
 {
     match entries.get(number) {
         Some(entry) => frame_of(&entry.what),
@@ -45,7 +45,7 @@ fn push_plan(
 ) -> Result<(), Memory>
     requires draft { IsDraft entries.now }
     requires inside { number < length entries.now }
-    ensures { OnOk result (plans.new.items ≡ plans.old.items ++ map capped_plan (plan_with (children number entries.now) (picked frame_of (slice_get entries.now number)))) }
+    ensures { OnOk result (plans.new.items ≡ plans.old.items ++ map capped_plan (plan_of_children (children number entries.now) (picked element_frame (slice_get entries.now number)))) }
 {
     match frame_at(entries, number) {
         Some(frame) => {

@@ -4,4 +4,4 @@ use Rattle.bin_config.specs.Gives.{with_front}
 use Rattle.bin_config.proofs.reading.each_chan.Given as goal
 
 abbrev pub invariant-loop : goal.invariant-loop
-invariant-loop l = with_front l.chans.items (reading.elements_at reading.chan_at (l.count - l.counter) l.cursor) ≡ reading.elements_at reading.chan_at l.count l.fn.cursor
+invariant-loop l = with_front l.chans.items (reading.elements_at reading.chan_record_at (l.count - l.counter) l.cursor) ≡ reading.elements_at reading.chan_record_at l.count l.fn.cursor

@@ -7,6 +7,6 @@ use Rattle.bin_config.proofs.writing.put_each_part.Given as goal
 
 abbrev pub invariant-loop-part : goal.invariant-loop-part
 invariant-loop-part l = record {
-  bytes : l.bytes.items ++ flat_map xmc.part (drop l.part-index l.parts) ≡ l.fn.bytes.items ++ flat_map xmc.part l.parts;
+  bytes : l.bytes.items ++ flat_map xmc.part_record (drop l.part-index l.parts) ≡ l.fn.bytes.items ++ flat_map xmc.part_record l.parts;
   ranges : AllWithin spelled.HasPartRanges l.parts 0 l.part-index;
 }

@@ -7,6 +7,6 @@ use Rattle.bin_config.proofs.writing.put_each_plan.Given as goal
 
 abbrev pub invariant-loop-plan : goal.invariant-loop-plan
 invariant-loop-plan l = record {
-  bytes : l.bytes.items ++ flat_map xmc.plan (drop l.plan-index l.plans) ≡ l.fn.bytes.items ++ flat_map xmc.plan l.plans;
+  bytes : l.bytes.items ++ flat_map xmc.plan_record (drop l.plan-index l.plans) ≡ l.fn.bytes.items ++ flat_map xmc.plan_record l.plans;
   ranges : AllWithin spelled.HasPlanRanges l.plans 0 l.plan-index;
 }

@@ -7,6 +7,6 @@ use Rattle.bin_config.proofs.writing.put_each_port.Given as goal
 
 abbrev pub invariant-loop-port : goal.invariant-loop-port
 invariant-loop-port l = record {
-  bytes : l.bytes.items ++ flat_map xmc.port (drop l.port-index l.ports) ≡ l.fn.bytes.items ++ flat_map xmc.port l.ports;
+  bytes : l.bytes.items ++ flat_map xmc.port_record (drop l.port-index l.ports) ≡ l.fn.bytes.items ++ flat_map xmc.port_record l.ports;
   names : AllWithin (λ port. IsName port.name) l.ports 0 l.port-index;
 }

@@ -7,6 +7,6 @@ use Rattle.bin_config.proofs.writing.put_each_region.Given as goal
 
 abbrev pub invariant-loop-region : goal.invariant-loop-region
 invariant-loop-region l = record {
-  bytes : l.bytes.items ++ flat_map xmc.region (drop l.region-index l.regions) ≡ l.fn.bytes.items ++ flat_map xmc.region l.regions;
+  bytes : l.bytes.items ++ flat_map xmc.region_record (drop l.region-index l.regions) ≡ l.fn.bytes.items ++ flat_map xmc.region_record l.regions;
   ranges : AllWithin spelled.IsSpelledRegion l.regions 0 l.region-index;
 }

@@ -7,6 +7,6 @@ use Rattle.bin_config.proofs.writing.put_each_slot.Given as goal
 
 abbrev pub invariant-loop-slot : goal.invariant-loop-slot
 invariant-loop-slot l = record {
-  bytes : l.bytes.items ++ flat_map xmc.slot (drop l.slot-index l.slots) ≡ l.fn.bytes.items ++ flat_map xmc.slot l.slots;
+  bytes : l.bytes.items ++ flat_map xmc.slot_record (drop l.slot-index l.slots) ≡ l.fn.bytes.items ++ flat_map xmc.slot_record l.slots;
   ranges : AllWithin spelled.IsSpelledSlot l.slots 0 l.slot-index;
 }

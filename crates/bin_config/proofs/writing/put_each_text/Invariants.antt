@@ -7,6 +7,6 @@ use Rattle.bin_config.proofs.writing.put_each_text.Given as goal
 
 abbrev pub invariant-loop-text : goal.invariant-loop-text
 invariant-loop-text l = record {
-  bytes : l.bytes.items ++ flat_map xmc.text (drop l.text-index l.texts) ≡ l.fn.bytes.items ++ flat_map xmc.text l.texts;
+  bytes : l.bytes.items ++ flat_map xmc.text_field (drop l.text-index l.texts) ≡ l.fn.bytes.items ++ flat_map xmc.text_field l.texts;
   names : AllWithin IsName l.texts 0 l.text-index;
 }

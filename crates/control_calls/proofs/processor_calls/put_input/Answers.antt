@@ -6,7 +6,7 @@ use Rattle.machine_model.specs.Told.{Unseen}
 use Rattle.control_calls.proofs.ProcessorLemmas.{words_stay}
 use Rattle.whole_system.specs.ServedLemmas.{served_changed}
 use Rattle.whole_system.specs.Serving.{IsServed, caller_of}
-use Rattle.whole_system.specs.State.{words_of}
+use Rattle.whole_system.specs.State.{input_words_of}
 use Rattle.control_calls.proofs.processor_calls.put_input.Goals as goal
 
 pub returns : goal.returns
@@ -18,4 +18,4 @@ returns c =
     let written = rw c.to_be_bytes.ensures at c.write.ensures in
     let used = subst (λ (words : List ℕ). IsServed site.part Unseen (answering 0 (record (caller_of site mid).state { inputs = drop c.args.used words })) c.use_inputs.result mid c.use_inputs.new.sys)
     (words_stay site.part old mid ps written) c.use_inputs.ensures in
-    served_changed site old mid c.use_inputs.new.sys ps c.use_inputs.result (λ (state : PartitionState). answering 0 (record state { inputs = drop c.args.used (words_of site.part old.machine) })) c.requires.caller written used
+    served_changed site old mid c.use_inputs.new.sys ps c.use_inputs.result (λ (state : PartitionState). answering 0 (record state { inputs = drop c.args.used (input_words_of site.part old.machine) })) c.requires.caller written used

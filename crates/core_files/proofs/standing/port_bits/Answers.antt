@@ -1,13 +1,13 @@
 use Rattle.std.proofs.Common.{arith, ap, sym, ◌∙◌}
 use Rattle.std.proofs.lemmas.List.{drop_all}
-use Rattle.machine_model.specs.CoreFile.{bits_of}
+use Rattle.machine_model.specs.CoreFile.{bits_of_flags}
 use Rattle.machine_model.specs.Structures.{flag}
 use Rattle.core_files.proofs.PortLemmas.{bits_fit}
 use Rattle.core_files.proofs.standing.port_bits.Goals as goal
 
 pub loop-port-init : goal.loop-port-init
 loop-port-init c = record {
-  number = sym (ap bits_of (drop_all 32 c.args.ports.now (omega (arith, c.is_made-first.ensures.count))));
+  number = sym (ap bits_of_flags (drop_all 32 c.args.ports.now (omega (arith, c.is_made-first.ensures.count))));
   within = omega arith;
 }
 

@@ -1,10 +1,10 @@
 use Rattle.std.proofs.Common.{◌≡◌, map, drop}
 use Rattle.xm_words.specs.Seen.{seen_files}
 use Rattle.file_commands.specs.Packing.{images_of}
-use Rattle.file_commands.specs.Told.{bytes_of}
+use Rattle.file_commands.specs.Told.{vector_bytes}
 use Rattle.file_commands.proofs.PackingLemmas.{after_images}
 use Rattle.file_commands.proofs.packing.read_images.Given as goal
 
 abbrev pub invariant-loop-bytes : goal.invariant-loop-bytes
 invariant-loop-bytes l =
-    images_of (seen_files l.fn.images) (map bytes_of l.contents) ≡ after_images l.read.items (images_of (seen_files l.rest) (map bytes_of (drop l.bytes-index l.contents)))
+    images_of (seen_files l.fn.images) (map vector_bytes l.contents) ≡ after_images l.read.items (images_of (seen_files l.rest) (map vector_bytes (drop l.bytes-index l.contents)))

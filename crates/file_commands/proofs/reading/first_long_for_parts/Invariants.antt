@@ -1,10 +1,10 @@
 use Rattle.std.proofs.Common.{◌≡◌, map, drop}
 use Rattle.xm_words.specs.Seen.{seen_files}
 use Rattle.file_commands.specs.Outcome.{first_long}
-use Rattle.file_commands.specs.Packing.{names_of}
-use Rattle.file_commands.specs.Told.{bytes_of}
+use Rattle.file_commands.specs.Packing.{file_names}
+use Rattle.file_commands.specs.Told.{vector_bytes}
 use Rattle.file_commands.proofs.reading.first_long_for_parts.Given as goal
 
 abbrev pub invariant-loop-bytes : goal.invariant-loop-bytes
 invariant-loop-bytes l =
-    first_long (names_of (seen_files l.rest)) (map bytes_of (drop l.bytes-index l.contents)) ≡ first_long (names_of (seen_files l.fn.files)) (map bytes_of l.contents)
+    first_long (file_names (seen_files l.rest)) (map vector_bytes (drop l.bytes-index l.contents)) ≡ first_long (file_names (seen_files l.fn.files)) (map vector_bytes l.contents)

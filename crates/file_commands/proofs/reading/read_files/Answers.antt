@@ -1,6 +1,6 @@
 use Rattle.std.proofs.Common.{rules, sym, ap, ◌∙◌}
-use Rattle.file_commands.specs.Packing.{names_of}
-use Rattle.file_commands.specs.Told.{bytes_of, ending_of}
+use Rattle.file_commands.specs.Packing.{file_names}
+use Rattle.file_commands.specs.Told.{vector_bytes, ending_of}
 use Rattle.file_commands.proofs.PackingLemmas.{chose_ok, has_all, has_more, has_next, map_push, not_more, starved_there}
 use Rattle.file_commands.proofs.reading.read_files.Goals as goal
 
@@ -17,11 +17,11 @@ loop-bytes-preserved g c = (
   λ got faults.
       let read = c.in-Ok.ensures got faults in
       let pushed = chose_ok c.push.result _ _ _ (sym c.is_err.ensures.value ∙ c.if-is_err.false) c.push.ensures.items in
-      has_next _ _ _ _ _ _ _ _ _ _ (c.loop-bytes.invariant.1 got faults) read.0 read.1 (ap names_of c.in-Some.ensures.value) (map_push bytes_of _ _ _ pushed),
+      has_next _ _ _ _ _ _ _ _ _ _ (c.loop-bytes.invariant.1 got faults) read.0 read.1 (ap file_names c.in-Some.ensures.value) (map_push vector_bytes _ _ _ pushed),
 )
 
 pub returns-in-None : goal.returns-in-None
 returns-in-None g c = λ got faults.
     let read = c.in-Ok.ensures got faults in
     let pushed = chose_ok c.push.result _ _ _ (sym c.is_err.ensures.value ∙ c.if-is_err.false) c.push.ensures.items in
-    has_all _ _ _ _ (has_next _ _ _ _ _ _ _ _ _ _ (c.loop-bytes.invariant.1 got faults) read.0 read.1 (ap names_of c.in-None.ensures.value) (map_push bytes_of _ _ _ pushed))
+    has_all _ _ _ _ (has_next _ _ _ _ _ _ _ _ _ _ (c.loop-bytes.invariant.1 got faults) read.0 read.1 (ap file_names c.in-None.ensures.value) (map_push vector_bytes _ _ _ pushed))

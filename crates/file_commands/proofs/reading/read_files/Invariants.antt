@@ -2,8 +2,8 @@ use Rattle.std.proofs.Common.{ℕ, List, ◌∷◌, Option, map, length}
 use denote.Text.{Utf8}
 use denote.Shadow.{shadow}
 use Rattle.xm_words.specs.Seen.{seen_files}
-use Rattle.file_commands.specs.Packing.{names_of}
-use Rattle.file_commands.specs.Told.{bytes_of}
+use Rattle.file_commands.specs.Packing.{file_names}
+use Rattle.file_commands.specs.Told.{vector_bytes}
 use Rattle.file_commands.specs.Work.{outside}
 use Rattle.file_commands.specs.Read.{HasRead}
 use Rattle.file_commands.proofs.reading.read_files.Given as goal
@@ -11,7 +11,7 @@ use Rattle.file_commands.proofs.reading.read_files.Given as goal
 abbrev pub invariant-loop-bytes : goal.invariant-loop-bytes
 invariant-loop-bytes g l =
     shadow (Utf8 l.file)
-    × ((got : Option (List ℕ)) (faults : ℕ) → HasRead (l.fn.first ∷ names_of (seen_files l.fn.others)) (l.file ∷ names_of (seen_files l.rest)) (map bytes_of l.contents.items)
+    × ((got : Option (List ℕ)) (faults : ℕ) → HasRead (l.fn.first ∷ file_names (seen_files l.fn.others)) (l.file ∷ file_names (seen_files l.rest)) (map vector_bytes l.contents.items)
     (outside (g.S.Store.files l.fn.files) (g.S.Store.read_faults l.fn.files) (g.S.Store.write_faults l.fn.files) (g.S.Store.calls l.fn.files) got faults)
     (outside (g.S.Store.files l.files) (g.S.Store.read_faults l.files) (g.S.Store.write_faults l.files) (g.S.Store.calls l.files) got faults))
 

@@ -1,5 +1,5 @@
 use Rattle.std.proofs.Common.{refl, sym, ◌∙◌}
-use Rattle.file_commands.specs.Told.{bytes_of, ending_of}
+use Rattle.file_commands.specs.Told.{vector_bytes, ending_of}
 use Rattle.file_commands.proofs.PackingLemmas.{chose_ok, has_more, has_next, map_push, not_more, starved_there}
 use Rattle.file_commands.proofs.reading.read_next.Goals as goal
 
@@ -13,4 +13,4 @@ pub returns : goal.returns
 returns g c = λ got faults all rest before had.
     let read = c.in-Ok.ensures got faults in
     let pushed = chose_ok c.push.result _ _ _ (sym c.is_err.ensures.value ∙ c.if-is_err.false) c.push.ensures.items in
-    has_next _ _ _ _ _ _ _ _ _ _ had read.0 read.1 refl (map_push bytes_of _ _ _ pushed)
+    has_next _ _ _ _ _ _ _ _ _ _ had read.0 read.1 refl (map_push vector_bytes _ _ _ pushed)

@@ -1,16 +1,16 @@
 use Rattle.std.proofs.Common.{ap, map}
-use Rattle.file_commands.specs.Told.{bytes_of}
+use Rattle.file_commands.specs.Told.{vector_bytes}
 use Rattle.file_commands.proofs.PackingLemmas.{has_all, read_begun}
 use Rattle.file_commands.proofs.reading.read_three.Goals as goal
 
 pub returns-in-Err : goal.returns-in-Err
-returns-in-Err g c = λ got faults. c.in-Err.ensures got faults _ _ _ (read_begun _ _ _ (ap (map bytes_of) c.new-contents.ensures.items))
+returns-in-Err g c = λ got faults. c.in-Err.ensures got faults _ _ _ (read_begun _ _ _ (ap (map vector_bytes) c.new-contents.ensures.items))
 
 pub returns-in-Err-read_next : goal.returns-in-Err-read_next
-returns-in-Err-read_next g c = λ got faults. c.in-Err-read_next.ensures got faults _ _ _ (c.in-Ok.ensures got faults _ _ _ (read_begun _ _ _ (ap (map bytes_of) c.new-contents.ensures.items)))
+returns-in-Err-read_next g c = λ got faults. c.in-Err-read_next.ensures got faults _ _ _ (c.in-Ok.ensures got faults _ _ _ (read_begun _ _ _ (ap (map vector_bytes) c.new-contents.ensures.items)))
 
 pub returns : goal.returns
-returns g c = λ got faults. c.in-Err-read_last.ensures got faults _ _ (c.in-Ok-read_next.ensures got faults _ _ _ (c.in-Ok.ensures got faults _ _ _ (read_begun _ _ _ (ap (map bytes_of) c.new-contents.ensures.items))))
+returns g c = λ got faults. c.in-Err-read_last.ensures got faults _ _ (c.in-Ok-read_next.ensures got faults _ _ _ (c.in-Ok.ensures got faults _ _ _ (read_begun _ _ _ (ap (map vector_bytes) c.new-contents.ensures.items))))
 
 pub returns-in-Ok-read_last : goal.returns-in-Ok-read_last
-returns-in-Ok-read_last g c = λ got faults. has_all _ _ _ _ (c.in-Ok-read_last.ensures got faults _ _ (c.in-Ok-read_next.ensures got faults _ _ _ (c.in-Ok.ensures got faults _ _ _ (read_begun _ _ _ (ap (map bytes_of) c.new-contents.ensures.items)))))
+returns-in-Ok-read_last g c = λ got faults. has_all _ _ _ _ (c.in-Ok-read_last.ensures got faults _ _ (c.in-Ok-read_next.ensures got faults _ _ _ (c.in-Ok.ensures got faults _ _ _ (read_begun _ _ _ (ap (map vector_bytes) c.new-contents.ensures.items)))))

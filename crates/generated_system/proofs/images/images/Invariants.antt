@@ -1,7 +1,7 @@
 use Rattle.std.proofs.Common.{◌≡◌}
 use Rattle.generated_system.specs.Generated.{numbered}
-use Rattle.generated_system.specs.Given.{given_of}
+use Rattle.generated_system.specs.Given.{generated_given}
 use Rattle.generated_system.proofs.images.images.Given as goal
 
 abbrev pub invariant-loop-id : goal.invariant-loop-id
-invariant-loop-id l = l.images.items ≡ numbered given_of l.id
+invariant-loop-id l = l.images.items ≡ numbered generated_given l.id

@@ -1,5 +1,5 @@
 use Rattle.std.proofs.Common.{rules, ap, ◌∙◌, arith}
-use Rattle.guest_memory.specs.Memories.{size_of, whole_size}
+use Rattle.guest_memory.specs.Memories.{areas_size, whole_size}
 use Rattle.guest_memory.proofs.TableLemmas.{part_more, parts_push, tables_more, whole_push}
 use Rattle.guest_memory.proofs.ram.tables_of.Goals as goal
 
@@ -11,7 +11,7 @@ table_of-requires c =
 pub overflow_add-place : goal.overflow_add-place
 overflow_add-place c =
     let place = c.loop-part.invariant.place ∙ ap whole_size c.loop-part.invariant.areas in
-    omega (arith, place, part_more c.args.parts.now c.loop-part.part-index c.part-item.result c.loop-part-test.true c.part-item.is, c.size-place.ensures, c.in_ok-table.ensures.table.sized, ap size_of c.in_ok-table.ensures.areas, c.requires)
+    omega (arith, place, part_more c.args.parts.now c.loop-part.part-index c.part-item.result c.loop-part-test.true c.part-item.is, c.size-place.ensures, c.in_ok-table.ensures.table.sized, ap areas_size c.in_ok-table.ensures.areas, c.requires)
 
 pub loop-part-preserved : goal.loop-part-preserved
 loop-part-preserved c = record {

@@ -3,14 +3,14 @@ use Rattle.std.proofs.lemmas.List.{length-replicate}
 use Rattle.guest_bus.specs.Memory.{Memory}
 use Rattle.xef_images.specs.Image.{Segment}
 use Rattle.guest_memory.specs.Flat.{listed, memory_in}
-use Rattle.guest_memory.specs.Loading.{loaded, with_segments}
+use Rattle.guest_memory.specs.Loading.{areas_with_image, with_segments}
 use Rattle.guest_memory.proofs.RangeLemmas.{still_space}
 use Rattle.guest_memory.proofs.SegmentLemmas.{segment_allowed, segments_on}
 use Rattle.guest_memory.proofs.ZeroLemmas.{memory_in-zeros}
 use Rattle.guest_memory.proofs.range.load_image.Goals as goal
 
 pub loop-segment-init : goal.loop-segment-init
-unfolding loaded
+unfolding areas_with_image
 loop-segment-init c = record {
   rest = ap (λ (m : Memory). with_segments m c.args.image.now.segments)
       (ap (memory_in (listed c.args.entries.now)) (c.clear.ensures.value ∙ ap (λ (n : ℕ). replicate {A = ℕ} n 0) c.requires.space.whole) ∙ memory_in-zeros (listed c.args.entries.now));

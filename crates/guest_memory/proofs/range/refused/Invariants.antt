@@ -1,11 +1,11 @@
 use Rattle.std.proofs.Common.{◌≡◌, ◌+◌, ◌≤◌, ◌^◌}
 use Rattle.guest_memory.specs.Flat.{listed}
-use Rattle.guest_memory.specs.Memories.{allows, first_refused}
+use Rattle.guest_memory.specs.Memories.{allows_byte, first_refused}
 use Rattle.guest_memory.proofs.range.refused.Given as goal
 
 abbrev pub invariant-loop-left : goal.invariant-loop-left
 invariant-loop-left l = record {
-  rest : first_refused (allows l.access (listed l.entries)) l.at l.left ≡ first_refused (allows l.access (listed l.entries)) l.address l.count;
+  rest : first_refused (allows_byte l.access (listed l.entries)) l.at l.left ≡ first_refused (allows_byte l.access (listed l.entries)) l.address l.count;
   sum : l.at + l.left ≡ l.address + l.count;
   below : l.at ≤ 2 ^ 32;
 }

@@ -1,4 +1,4 @@
-use Rattle.loaded_system.specs.BareLemmas.{bare_not_broken}
+use Rattle.loaded_system.proofs.BareLemmas.{bare_not_broken}
 use Rattle.loaded_system.proofs.raw_image.conf.Goals as goal
 
 pub unreachable-requires : goal.unreachable-requires

@@ -1,5 +1,5 @@
 use Rattle.std.proofs.Common.{true, false, ◌≡◌}
-use Rattle.loaded_system.specs.BareLemmas.{bare_counted, bare_all_inside}
+use Rattle.loaded_system.proofs.BareLemmas.{bare_counted, bare_all_inside}
 use Rattle.loaded_system.proofs.raw_image.system.Goals as goal
 
 pub new-requires : goal.new-requires

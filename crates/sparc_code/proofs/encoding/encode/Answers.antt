@@ -1,5 +1,5 @@
 use Rattle.std.proofs.Common.{◌≤◌, ℕ, sym, subst}
-use Rattle.sparc_code.specs.EncodedLemmas.{spells-encoded, encoded-least}
+use Rattle.sparc_code.proofs.EncodedLemmas.{spells-encoded, encoded-least}
 use Rattle.sparc_code.specs.Spells.{Spells}
 use Rattle.sparc_code.proofs.encoding.encode.Goals as goal
 

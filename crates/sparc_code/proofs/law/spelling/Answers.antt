@@ -1,8 +1,8 @@
 use Rattle.sparc_code.specs.Decoded.{decoded}
 use Rattle.sparc_code.specs.Encoded.{encoded}
 use Rattle.sparc_code.specs.DecodedLemmas.{spells-decoded, spells-unique, illegal-spells}
-use Rattle.sparc_code.specs.EncodedLemmas.{spells-encoded}
-use Rattle.sparc_code.specs.RangeLemmas.{in_range-spells}
+use Rattle.sparc_code.proofs.EncodedLemmas.{spells-encoded}
+use Rattle.sparc_code.proofs.RangeLemmas.{in_range-spells}
 use Rattle.sparc_code.proofs.law.spelling.Goals as goal
 
 pub returns-clause-some : goal.returns-clause-some

@@ -1,6 +1,6 @@
 use Rattle.std.proofs.Common.{sym, refl, ◌∙◌, ap, arith}
 use Rattle.guest_bus.specs.AccessLemmas.{stored_at, stored_refused}
-use Rattle.guest_bus.specs.Memory.{memory_of}
+use Rattle.guest_bus.specs.Memory.{memory_of_bytes}
 use Rattle.guest_bus.specs.declared.bus.BusFault.TheVariants.{Outside}
 use Rattle.sparc_vectors.specs.declared.memory.TheConstants.{AREA_START}
 use Rattle.sparc_vectors.proofs.AreaLemmas.{free_writable, refused_either, refused_read_only, whole}
@@ -21,7 +21,7 @@ returns-else-read_only-clause-fault c = rw (free_writable c.args.read_only c.arg
 pub returns-else-read_only-clause-memory : goal.returns-else-read_only-clause-memory
 returns-else-read_only-clause-memory c =
     let at = c.in-Ok.ensures in
-    ap (memory_of AREA_START) c.put_value.ensures
+    ap (memory_of_bytes AREA_START) c.put_value.ensures
     ∙ sym (stored_at _ _ c.args.bytes.now c.args.address c.in-Ok.at at.lies c.args.size c.args.value (free_writable c.args.read_only c.args.address c.in-Ok.at c.args.size c.if-read_only.false at) (omega arith))
 
 pub returns-else-read_only-clause-whole : goal.returns-else-read_only-clause-whole

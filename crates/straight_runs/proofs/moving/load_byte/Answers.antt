@@ -2,7 +2,7 @@ use Rattle.std.proofs.Common.{refl}
 use Rattle.guest_bus.specs.declared.bus.Size.TheVariants.{One}
 use Rattle.sparc_code.specs.declared.instruction.MemOp.TheVariants.{LdUb}
 use Rattle.sparc_step.specs.Transfers.{low_word}
-use Rattle.straight_runs.specs.TransferLemmas.{load-IsTransferred}
+use Rattle.straight_runs.proofs.TransferLemmas.{load-IsTransferred}
 use Rattle.straight_runs.proofs.moving.load_byte.Goals as goal
 
 pub returns-in-Ok-clause-done : goal.returns-in-Ok-clause-done

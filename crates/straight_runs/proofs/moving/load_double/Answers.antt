@@ -1,4 +1,4 @@
-use Rattle.straight_runs.specs.TransferLemmas.{pair-IsTransferred}
+use Rattle.straight_runs.proofs.TransferLemmas.{pair-IsTransferred}
 use Rattle.straight_runs.proofs.moving.load_double.Goals as goal
 
 pub returns-in-Ok-clause-done : goal.returns-in-Ok-clause-done

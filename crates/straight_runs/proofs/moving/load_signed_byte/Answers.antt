@@ -3,7 +3,7 @@ use Rattle.guest_bus.specs.declared.bus.Size.TheVariants.{One}
 use Rattle.sparc_code.specs.declared.instruction.MemOp.TheVariants.{LdSb}
 use Rattle.sparc_step.specs.Registers.{with_register}
 use Rattle.sparc_step.specs.Transfers.{signed_byte}
-use Rattle.straight_runs.specs.TransferLemmas.{load-IsTransferred}
+use Rattle.straight_runs.proofs.TransferLemmas.{load-IsTransferred}
 use Rattle.straight_runs.proofs.moving.load_signed_byte.Goals as goal
 
 pub returns-in-Ok-clause-done : goal.returns-in-Ok-clause-done

@@ -3,7 +3,7 @@ use Rattle.guest_bus.specs.declared.bus.Size.TheVariants.{Two}
 use Rattle.sparc_code.specs.declared.instruction.MemOp.TheVariants.{LdSh}
 use Rattle.sparc_step.specs.Registers.{with_register}
 use Rattle.sparc_step.specs.Transfers.{signed_half}
-use Rattle.straight_runs.specs.TransferLemmas.{load-IsTransferred}
+use Rattle.straight_runs.proofs.TransferLemmas.{load-IsTransferred}
 use Rattle.straight_runs.proofs.moving.load_signed_half.Goals as goal
 
 pub returns-in-Ok-clause-done : goal.returns-in-Ok-clause-done

@@ -1,7 +1,7 @@
 use Rattle.std.specs.Int.{to_be_bytes}
 use Rattle.guest_bus.specs.Access.{after_store, store_fault, width_of}
 use Rattle.guest_bus.specs.Memory.{with_bytes}
-use Rattle.straight_runs.specs.TransferLemmas.{untouched}
+use Rattle.straight_runs.proofs.TransferLemmas.{untouched}
 use Rattle.straight_runs.proofs.moving.store.Goals as goal
 
 pub returns-in-Err-clause-untouched : goal.returns-in-Err-clause-untouched

@@ -4,7 +4,7 @@ use Rattle.guest_bus.specs.declared.bus.Size.TheVariants.{Eight}
 use Rattle.sparc_code.specs.declared.instruction.MemOp.TheVariants.{StD}
 use Rattle.sparc_step.specs.Registers.{Registers}
 use Rattle.sparc_step.specs.Transfers.{pair_at}
-use Rattle.straight_runs.specs.TransferLemmas.{pair_at-placed, store-IsTransferred}
+use Rattle.straight_runs.proofs.TransferLemmas.{pair_at-placed, store-IsTransferred}
 use Rattle.straight_runs.proofs.moving.store_double.Goals as goal
 
 pub returns-clause-done : goal.returns-clause-done

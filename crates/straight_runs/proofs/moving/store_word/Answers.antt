@@ -4,7 +4,7 @@ use Rattle.guest_bus.specs.declared.bus.Size.TheVariants.{Four}
 use Rattle.sparc_code.specs.declared.instruction.MemOp.TheVariants.{St}
 use Rattle.sparc_step.specs.Registers.{Registers, register_at}
 use Rattle.straight_runs.specs.PlacedLemmas.{register_at-placed}
-use Rattle.straight_runs.specs.TransferLemmas.{store-IsTransferred}
+use Rattle.straight_runs.proofs.TransferLemmas.{store-IsTransferred}
 use Rattle.straight_runs.proofs.moving.store_word.Goals as goal
 
 pub returns-clause-done : goal.returns-clause-done

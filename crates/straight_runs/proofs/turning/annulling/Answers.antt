@@ -1,6 +1,6 @@
 use Rattle.std.proofs.Common.{◌≡◌, ℕ, true, false, sym, ap, ◌∙◌}
 use Rattle.sparc_step.specs.Conditions.{holds}
-use Rattle.straight_runs.specs.TurningLemmas.{always_turns, annulling_turns, skipping_turns}
+use Rattle.straight_runs.proofs.TurningLemmas.{always_turns, annulling_turns, skipping_turns}
 use Rattle.straight_runs.proofs.turning.annulling.Goals as goal
 
 pub returns-then-not-holds-clause-turns : goal.returns-then-not-holds-clause-turns

@@ -1,6 +1,6 @@
 use Rattle.std.proofs.Common.{◌∙◌, ap}
 use Rattle.sparc_step.specs.Registers.{with_register}
-use Rattle.straight_runs.specs.TurningLemmas.{call_turns}
+use Rattle.straight_runs.proofs.TurningLemmas.{call_turns}
 use Rattle.straight_runs.proofs.turning.call.Goals as goal
 
 pub returns-clause-turns : goal.returns-clause-turns

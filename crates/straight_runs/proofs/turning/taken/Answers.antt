@@ -1,4 +1,4 @@
-use Rattle.straight_runs.specs.TurningLemmas.{taken_turns}
+use Rattle.straight_runs.proofs.TurningLemmas.{taken_turns}
 use Rattle.straight_runs.proofs.turning.taken.Goals as goal
 
 pub returns-clause-turns : goal.returns-clause-turns

@@ -1,13 +1,13 @@
 use Rattle.std.proofs.Common.{arith, length, ap, sym, ◌<◌, ◌∙◌}
 use Rattle.std.proofs.lemmas.List.{length-map}
 use Rattle.guest_bus.specs.Memory.{is_readable}
-use Rattle.guest_memory.specs.Loading.{areas_of}
+use Rattle.guest_memory.specs.Loading.{memory_areas}
 use Rattle.guest_memory.specs.Memories.{answer_by, first_refused}
 use Rattle.whole_system.proofs.CallerLemmas.{areas_kept, text_answers}
 use Rattle.whole_system.proofs.answering.read.Goals as goal
 
 pub copy_in-requires : goal.copy_in-requires
-copy_in-requires c = omega (arith, c.requires.caller, c.count-count.ensures.parts, ap length c.ram.ensures.areas, length-map c.args.sys.now.machine.system.conf.parts areas_of)
+copy_in-requires c = omega (arith, c.requires.caller, c.count-count.ensures.parts, ap length c.ram.ensures.areas, length-map c.args.sys.now.machine.system.conf.parts memory_areas)
 
 pub unreachable-requires : goal.unreachable-requires
 unreachable-requires c =

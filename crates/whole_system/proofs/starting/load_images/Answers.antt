@@ -1,6 +1,6 @@
 use Rattle.std.proofs.Common.{length, arith, ap, ◌∙◌}
 use Rattle.std.proofs.lemmas.List.{length-set}
-use Rattle.guest_memory.specs.Loading.{loaded}
+use Rattle.guest_memory.specs.Loading.{areas_with_image}
 use Rattle.guest_memory.specs.LoadingLemmas.{image_lies}
 use Rattle.guest_memory.specs.Memories.{Memories, areas_at}
 use Rattle.whole_system.proofs.BootLemmas.{load_end, load_more}
@@ -13,7 +13,7 @@ reload-requires-clause-inside c =
 pub loop-p-preserved : goal.loop-p-preserved
 loop-p-preserved c = record {
   areas = ap (λ (m : Memories). m.areas) c.reload.ensures.value ∙ c.loop-p.invariant.areas;
-  held = ap (λ (m : Memories). length m.maps) c.reload.ensures.value ∙ length-set c.loop-p.ram.maps c.loop-p.p (loaded (areas_at c.loop-p.p c.loop-p.ram) c.image.result.now) ∙ c.loop-p.invariant.held;
+  held = ap (λ (m : Memories). length m.maps) c.reload.ensures.value ∙ length-set c.loop-p.ram.maps c.loop-p.p (areas_with_image (areas_at c.loop-p.p c.loop-p.ram) c.image.result.now) ∙ c.loop-p.invariant.held;
   loaded = load_more c.args.system.now.conf.parts c.args.system.now.images c.loop-p.ram c.reload.new.self c.loop-p.p c.image.result.now (c.loop-p.invariant.areas ∙ c.requires.areas) c.loop-p.invariant.held c.image.ensures.system.counted
       (omega (arith, c.count-p-end.ensures.value)) c.image.ensures.value c.reload.ensures.value c.loop-p.invariant.loaded;
 }

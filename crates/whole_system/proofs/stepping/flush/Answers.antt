@@ -1,6 +1,6 @@
 use Rattle.std.proofs.Common.{arith, ap, refl, sym, suc, ◌≡◌, ◌≢◌, ◌+◌, ◌-◌, ◌%◌, ◌∙◌}
 use Rattle.machine_model.specs.ProcessorCalls.{flushed}
-use Rattle.virt_traps.specs.Moves.{made}
+use Rattle.virt_traps.specs.Moves.{move_made}
 use Rattle.whole_system.proofs.StepLemmas.{fault_is, flush_ended, flush_more, flush_refused, moved_as}
 use Rattle.whole_system.proofs.stepping.flush.Goals as goal
 
@@ -31,7 +31,7 @@ loop-preserved g c =
     let next : 8 - (c.loop.counter + 1) ≡ 7 - c.loop.counter = omega arith in
     record {
       rest =
-          ap (λ count. flushed count (g.B.Bus.areas c.args.bus.now) (made c.spill.new.core (g.B.Bus.memory c.spill.new.bus))) next
+          ap (λ count. flushed count (g.B.Bus.areas c.args.bus.now) (move_made c.spill.new.core (g.B.Bus.memory c.spill.new.bus))) next
           ∙ sym (flush_more (8 - c.loop.counter) (7 - c.loop.counter) (g.B.Bus.areas c.args.bus.now) c.loop.core c.spill.new.core (g.B.Bus.memory c.loop.bus) (g.B.Bus.memory c.spill.new.bus) left some (sym answer ∙ c.in_ok-spill.was) core memory)
           ∙ c.loop.invariant.rest;
       areas = c.spill.ensures.areas ∙ c.loop.invariant.areas;
@@ -41,5 +41,5 @@ loop-preserved g c =
 pub returns-clause-moved : goal.returns-clause-moved
 returns-clause-moved g c =
     let none : 8 - c.loop.counter ≡ 0 = omega (arith, c.loop-test.false) in
-    let ended = sym (ap (λ count. flushed count (g.B.Bus.areas c.args.bus.now) (made c.loop.core (g.B.Bus.memory c.loop.bus))) none) ∙ c.loop.invariant.rest in
+    let ended = sym (ap (λ count. flushed count (g.B.Bus.areas c.args.bus.now) (move_made c.loop.core (g.B.Bus.memory c.loop.bus))) none) ∙ c.loop.invariant.rest in
     moved_as _ _ _ _ _ ended (record { answered = refl; registers = refl; bytes = refl })

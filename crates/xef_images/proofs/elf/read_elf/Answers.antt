@@ -1,6 +1,6 @@
 use Rattle.std.proofs.Common.{arith}
 use Rattle.xef_images.specs.Image.{Image}
-use Rattle.xef_images.specs.ElfLemmas.{elf_takes}
+use Rattle.xef_images.proofs.ElfLemmas.{elf_takes}
 use Rattle.xef_images.proofs.elf.read_elf.Goals as goal
 
 pub invariant_of-result : goal.invariant_of-result

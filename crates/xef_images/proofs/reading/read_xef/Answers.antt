@@ -4,7 +4,7 @@ use Rattle.xef_images.specs.Gives.{Fails}
 use Rattle.xef_images.specs.Image.{Image}
 use Rattle.xef_images.specs.Reading.{xef}
 use Rattle.xef_images.specs.XefLemmas.{xef_takes, xef_again}
-use Rattle.xef_images.specs.DigestLemmas.{tells_moved, tells_other}
+use Rattle.xef_images.proofs.DigestLemmas.{tells_moved, tells_other}
 use Rattle.xef_images.proofs.reading.read_xef.Goals as goal
 
 pub returns-in_err-entry-clause-only : goal.returns-in_err-entry-clause-only

@@ -1,5 +1,5 @@
 use Rattle.std.proofs.lemmas.Result.{err_from_is_err_and}
-use Rattle.xef_images.specs.DigestLemmas.{tells_signed, tells_given}
+use Rattle.xef_images.proofs.DigestLemmas.{tells_signed, tells_given}
 use Rattle.xef_images.proofs.reading.whole.Goals as goal
 
 pub returns-in_err-front-clause-digest : goal.returns-in_err-front-clause-digest

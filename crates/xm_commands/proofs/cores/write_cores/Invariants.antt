@@ -1,13 +1,13 @@
 use Rattle.std.proofs.Common.{ℕ, List, Option, length}
 use Rattle.xm_words.specs.Seen.{seen_files}
-use Rattle.xm_commands.specs.Cores.{AreInside, FitInto}
+use Rattle.xm_commands.specs.Cores.{AreForPartitions, FitInto}
 use Rattle.file_commands.specs.Outcome.{core_outputs}
 use Rattle.file_commands.specs.Work.{Outside, SavesAll, outside}
 use Rattle.xm_commands.proofs.cores.write_cores.Given as goal
 
 abbrev pub invariant-loop-first : goal.invariant-loop-first
 invariant-loop-first g l = record {
-  inside : AreInside (length l.machine.state.parts) (seen_files l.rest);
+  inside : AreForPartitions (length l.machine.state.parts) (seen_files l.rest);
   fits : FitInto l.machine.state.system (length l.room) (seen_files l.rest);
   saves : (got : Option (List ℕ)) (faults : ℕ) (lost : Option (List ℕ)) (after : Outside)
       → SavesAll lost (core_outputs l.machine.state (seen_files l.rest))

@@ -1,7 +1,7 @@
 use Rattle.std.proofs.Common.{map}
 use Rattle.xm_words.specs.Seen.{seen_further}
 use Rattle.xm_words.specs.Words.{Replay}
-use Rattle.file_commands.specs.Told.{bytes_of, ending_of}
+use Rattle.file_commands.specs.Told.{vector_bytes, ending_of}
 use Rattle.xm_commands.proofs.BoardLemmas.{left_by, left_not_all_read}
 use Rattle.file_commands.specs.CommandLemmas.{comes_from, done_by, not_all_read_done}
 use Rattle.xm_commands.proofs.replaying.replay_container.Goals as goal
@@ -10,7 +10,7 @@ pub returns-in-Ok-clause-done : goal.returns-in-Ok-clause-done
 returns-in-Ok-clause-done g c =
     let command = Replay c.args.container.now c.args.part c.args.script.now (seen_further c.args.further) in
     let ending = ending_of c.replay_files.result in
-    let contents = map bytes_of c.in-Ok.contents.items in
+    let contents = map vector_bytes c.in-Ok.contents.items in
     let read = rw c.input.ensures.value at c.in-Ok.ensures (g.O.Sink.got c.args.out.now) (g.O.Sink.faults c.args.out.now) in
     let comes = rw c.deref.ensures.value at c.replay_files.ensures.comes in
     done_by ending command contents _ _ read.0 (comes_from ending _ _ _ _ read.1 comes)
@@ -24,7 +24,7 @@ pub returns-in-Ok-clause-board : goal.returns-in-Ok-clause-board
 returns-in-Ok-clause-board g c =
     let read = rw c.input.ensures.value at c.in-Ok.ensures (g.O.Sink.got c.args.out.now) (g.O.Sink.faults c.args.out.now) in
     let leaves = rw c.deref.ensures.value at c.replay_files.ensures.board in
-    left_by (ending_of c.replay_files.result) (Replay c.args.container.now c.args.part c.args.script.now (seen_further c.args.further)) _ (map bytes_of c.in-Ok.contents.items) _ _ (record { places = _; marks = _ }) (record { places = _; marks = _ }) read.0 leaves
+    left_by (ending_of c.replay_files.result) (Replay c.args.container.now c.args.part c.args.script.now (seen_further c.args.further)) _ (map vector_bytes c.in-Ok.contents.items) _ _ (record { places = _; marks = _ }) (record { places = _; marks = _ }) read.0 leaves
 
 pub returns-in-Err-clause-board : goal.returns-in-Err-clause-board
 returns-in-Err-clause-board g c =

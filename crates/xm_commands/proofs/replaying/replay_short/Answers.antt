@@ -2,13 +2,13 @@ use Rattle.std.proofs.Common.{map}
 use Rattle.xm_words.specs.Seen.{seen_further}
 use Rattle.xm_words.specs.Words.{replay_input}
 use Rattle.file_commands.specs.Outcome.{replay_outcome}
-use Rattle.file_commands.specs.Told.{bytes_of}
+use Rattle.file_commands.specs.Told.{vector_bytes}
 use Rattle.xm_commands.proofs.ReplayLemmas.{input_short, unready_comes, unready_leaves}
 use Rattle.xm_commands.proofs.replaying.replay_short.Goals as goal
 
 pub ready_by-requires : goal.ready_by-requires
 ready_by-requires g c =
-    rw c.input.ensures.value (input_short c.args.container.now c.args.script.now (replay_input (seen_further c.args.further)) (map bytes_of c.args.contents.now) c.requires)
+    rw c.input.ensures.value (input_short c.args.container.now c.args.script.now (replay_input (seen_further c.args.further)) (map vector_bytes c.args.contents.now) c.requires)
 
 pub returns-in-Ok-clause-comes : goal.returns-in-Ok-clause-comes
 unfolding replay_outcome

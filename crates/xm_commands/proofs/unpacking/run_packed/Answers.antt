@@ -2,8 +2,8 @@ use Rattle.std.proofs.Common.{map, refl}
 use Rattle.xm_words.specs.Seen.{seen_options}
 use Rattle.xm_words.specs.Words.{inputs_in}
 use Rattle.file_commands.specs.Outcome.{run_outcome}
-use Rattle.file_commands.specs.Packing.{names_of}
-use Rattle.file_commands.specs.Told.{bytes_of}
+use Rattle.file_commands.specs.Packing.{file_names}
+use Rattle.file_commands.specs.Told.{vector_bytes}
 use Rattle.xm_commands.proofs.BoardLemmas.{unmade_leaves}
 use Rattle.file_maker.specs.ImagingLemmas.{container_unmade}
 use Rattle.xm_commands.proofs.InputLemmas.{rest_short}
@@ -12,7 +12,7 @@ use Rattle.xm_commands.proofs.WorkLemmas.{fault_text_by, outcome-unpacked, unmad
 use Rattle.xm_commands.proofs.unpacking.run_packed.Goals as goal
 
 pub run_unpacked-requires-clause-short : goal.run_unpacked-requires-clause-short
-run_unpacked-requires-clause-short g c = rest_short c.args.container.now (names_of (inputs_in (seen_options c.args.options))) (map bytes_of c.args.contents.now) c.requires.short
+run_unpacked-requires-clause-short g c = rest_short c.args.container.now (file_names (inputs_in (seen_options c.args.options))) (map vector_bytes c.args.contents.now) c.requires.short
 
 pub run_unpacked-requires-clause-same : goal.run_unpacked-requires-clause-same
 run_unpacked-requires-clause-same g c = rw c.split_contents.ensures.first at c.in-Ok.ensures.exact
@@ -40,7 +40,7 @@ returns-in-Err-clause-board g c = unmade_leaves _ c.args.container.now c.no_cont
 pub returns-in-Ok-clause-numbers : goal.returns-in-Ok-clause-numbers
 returns-in-Ok-clause-numbers g c = λ made system inputs unpacks given.
     let exact = rw c.split_contents.ensures.first at c.in-Ok.ensures.exact in
-    told_system (seen_options c.args.options) (map bytes_of c.args.contents.now) c.in-Ok.system exact (c.run_unpacked.ensures.numbers made) system inputs unpacks given
+    told_system (seen_options c.args.options) (map vector_bytes c.args.contents.now) c.in-Ok.system exact (c.run_unpacked.ensures.numbers made) system inputs unpacks given
 
 pub returns-in-Err-clause-numbers : goal.returns-in-Err-clause-numbers
 returns-in-Err-clause-numbers g c = λ made system inputs unpacks given. absurd (never_unpacked _ c.args.container.now c.no_container.result c.unmade.ensures made)

@@ -1,4 +1,4 @@
-use Rattle.xm_container.specs.BoxLemmas.{none_goes_on}
+use Rattle.xm_container.proofs.BoxLemmas.{none_goes_on}
 use Rattle.xm_container.proofs.law.none_goes_on.Goals as goal
 
 pub returns : goal.returns

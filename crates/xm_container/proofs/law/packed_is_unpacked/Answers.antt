@@ -1,4 +1,4 @@
-use Rattle.xm_container.specs.BoxLemmas.{packed_unpacked}
+use Rattle.xm_container.proofs.BoxLemmas.{packed_unpacked}
 use Rattle.xm_container.proofs.law.packed_is_unpacked.Goals as goal
 
 pub returns : goal.returns

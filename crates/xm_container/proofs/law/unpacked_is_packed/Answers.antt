@@ -1,4 +1,4 @@
-use Rattle.xm_container.specs.SpelledLemmas.{unpacked_packed}
+use Rattle.xm_container.proofs.SpelledLemmas.{unpacked_packed}
 use Rattle.xm_container.proofs.law.unpacked_is_packed.Goals as goal
 
 pub returns : goal.returns

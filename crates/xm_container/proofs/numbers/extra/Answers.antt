@@ -1,6 +1,6 @@
 use Rattle.std.proofs.Common.{sym, ◌≡◌, None, arith, rules}
 use Rattle.xm_container.specs.Numbers.{extra, has_id}
-use Rattle.xm_container.specs.NumberLemmas.{all_below, least_on, least_here, least_done}
+use Rattle.xm_container.proofs.NumberLemmas.{all_below, least_on, least_here, least_done}
 use Rattle.xm_container.proofs.numbers.extra.Goals as goal
 
 pub returns-then-has_id-clause-value : goal.returns-then-has_id-clause-value

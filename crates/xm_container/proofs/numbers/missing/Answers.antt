@@ -1,6 +1,6 @@
 use Rattle.std.proofs.Common.{not, rules}
 use Rattle.xm_container.specs.Numbers.{has_id, missing}
-use Rattle.xm_container.specs.NumberLemmas.{least_on, least_here, least_done}
+use Rattle.xm_container.proofs.NumberLemmas.{least_on, least_here, least_done}
 use Rattle.xm_container.proofs.numbers.missing.Goals as goal
 
 pub returns-then-not-has_id : goal.returns-then-not-has_id

@@ -1,5 +1,5 @@
 use Rattle.std.proofs.Common.{◌∙◌}
-use Rattle.xm_container.specs.PackLemmas.{fields_so}
+use Rattle.xm_container.proofs.PackLemmas.{fields_so}
 use Rattle.xm_container.proofs.writing.fields.Goals as goal
 
 pub returns-clause-value : goal.returns-clause-value

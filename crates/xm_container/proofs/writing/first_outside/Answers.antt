@@ -1,7 +1,7 @@
 use Rattle.std.proofs.Common.{length, sym, rules}
 use Rattle.loaded_system.specs.Inside.{first_outside}
 use Rattle.xm_container.specs.Pack.{in_order}
-use Rattle.xm_container.specs.PackLemmas.{outside_on, outside_here, outside_done, loads_on, loads_done}
+use Rattle.xm_container.proofs.PackLemmas.{outside_on, outside_here, outside_done, loads_on, loads_done}
 use Rattle.xm_container.proofs.writing.first_outside.Goals as goal
 
 pub returns-in-Some-clause-value : goal.returns-in-Some-clause-value

@@ -1,5 +1,5 @@
 use Rattle.std.proofs.Common.{sym}
-use Rattle.xm_container.specs.PackLemmas.{image_there}
+use Rattle.xm_container.proofs.PackLemmas.{image_there}
 use Rattle.xm_container.proofs.writing.image_at.Goals as goal
 
 pub unreachable-requires : goal.unreachable-requires

@@ -1,4 +1,4 @@
-use Rattle.xm_container.specs.PackLemmas.{entries_on, entries_done}
+use Rattle.xm_container.proofs.PackLemmas.{entries_on, entries_done}
 use Rattle.xm_container.proofs.writing.put_entries.Goals as goal
 
 pub loop-id-preserved : goal.loop-id-preserved

@@ -1,7 +1,7 @@
 use Rattle.std.proofs.Common.{length, ◌≤◌, arith}
 use Rattle.std.proofs.lemmas.Option.{IfSome_then}
 use Rattle.xm_ports.specs.Channels.{first_message, content_at}
-use Rattle.xm_ports.specs.TableLemmas.{first_fits}
+use Rattle.xm_ports.proofs.TableLemmas.{first_fits}
 use Rattle.xm_ports.proofs.tests.receive.Goals as goal
 
 pub receive-count-requires-clause-room : goal.receive-count-requires-clause-room

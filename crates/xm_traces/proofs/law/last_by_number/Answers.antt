@@ -1,4 +1,4 @@
-use Rattle.xm_traces.specs.RingLemmas.{finds_by_number, keeps_last}
+use Rattle.xm_traces.proofs.RingLemmas.{finds_by_number, keeps_last}
 use Rattle.xm_traces.proofs.law.last_by_number.Goals as goal
 
 pub returns-clause-law : goal.returns-clause-law

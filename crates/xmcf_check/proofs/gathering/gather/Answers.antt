@@ -2,12 +2,12 @@ use Rattle.std.proofs.Common.{◌∙◌, ap, map, List}
 use Rattle.xm_conf.specs.Description.{Monitor}
 use Rattle.xmcf_reader.specs.declared.draft.Entry.{Entry}
 use Rattle.xmcf_check.specs.Capped.{capped_conf}
-use Rattle.xmcf_check.specs.Described.{conf_of, described_ids, description_of, monitors_of}
+use Rattle.xmcf_check.specs.Described.{described_conf, described_ids, description_of, monitors_of}
 use Rattle.xmcf_check.proofs.gathering.gather.Goals as goal
 
 pub returns-clause-conf : goal.returns-clause-conf
 unfolding description_of
-returns-clause-conf c = c.in_ok-raw.ensures ∙ ap (λ (entries : List Entry). capped_conf (conf_of entries)) c.entries-entries.ensures.entries
+returns-clause-conf c = c.in_ok-raw.ensures ∙ ap (λ (entries : List Entry). capped_conf (described_conf entries)) c.entries-entries.ensures.entries
 
 pub returns-clause-ids : goal.returns-clause-ids
 unfolding description_of

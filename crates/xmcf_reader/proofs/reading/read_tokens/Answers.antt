@@ -2,7 +2,7 @@ use Rattle.std.proofs.Common.{◌∙◌}
 use Rattle.std.proofs.lemmas.Result.{err_from_is_err_and}
 use Rattle.xmcf_reader.specs.Seen.{token_of}
 use Rattle.xmcf_reader.specs.Trees.{context_of}
-use Rattle.xmcf_reader.specs.Cuts.{left}
+use Rattle.xmcf_reader.specs.Cuts.{cut_left}
 use Rattle.xmcf_reader.proofs.Faultless.{entries_drafted}
 use Rattle.xmcf_reader.proofs.Progress.{progress, first_broken, end_whole}
 use Rattle.xmcf_reader.proofs.reading.read_tokens.Goals as goal
@@ -18,7 +18,7 @@ returns-in_err-take-in-Item c =
     let p = err_from_is_err_and c.from_residual.result c.from_residual.ensures.1 in
     rw (p.1, p.2)
     (first_broken c.args.text.now (context_of c.loop-token.tree) (token_of c.in-Item.token) c.in-Item.at
-    c.loop-token.tokens.place c.loop-token.tokens.rest.now (left c.next.new.self) _ c.loop-token.invariant c.in-Item.ensures.next c.in_err-take-in-Item.ensures)
+    c.loop-token.tokens.place c.loop-token.tokens.rest.now (cut_left c.next.new.self) _ c.loop-token.invariant c.in-Item.ensures.next c.in_err-take-in-Item.ensures)
 
 pub new-requires : goal.new-requires
 new-requires c =

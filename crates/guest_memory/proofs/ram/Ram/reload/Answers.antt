@@ -5,7 +5,7 @@ use Rattle.guest_memory.specs.Flat.{memories_in}
 use Rattle.guest_memory.specs.Memories.{map_at}
 use Rattle.guest_memory.proofs.MemoriesLemmas.{kept_on, memories_changed, part_at, same_elsewhere}
 use Rattle.guest_memory.proofs.ram.Ram.reload.Goals as goal
-use Rattle.guest_memory.specs.Loading.{loaded}
+use Rattle.guest_memory.specs.Loading.{areas_with_image}
 
 pub invariant_of-self : goal.invariant_of-self
 invariant_of-self c =
@@ -32,7 +32,7 @@ returns c =
     let e : take c.self.inside.bytes.len (c.reload.new.whole ++ drop (length c.reload.new.whole) c.self.inside.bytes.items) ≡ c.reload.new.whole = grind (arith, common_steps) in
     let around = rw c.deref_mut.ensures.value at c.reload.ensures.others in
     let changed = memories_changed c.self.inside.tables.items c.self.inside.bytes.items c.reload.new.whole c.self.inside.selected c.args.p c.index.result.now _ c.self.invariant.kept below here around same c.reload.ensures.memory in
-    let memory = ap (λ (as_seen : List Area). loaded as_seen c.args.image.now) part.areas in
+    let memory = ap (λ (as_seen : List Area). areas_with_image as_seen c.args.image.now) part.areas in
     record {
       value = rw (← c.self.view_is, e, part.areas) changed;
       others = rw (← c.self.view_is, e) (λ (other : ℕ) (differs : other ≢ c.args.p).

@@ -1,12 +1,12 @@
 use Rattle.std.proofs.Common.{rules, false, ap, ◌∙◌, arith}
 use Rattle.guest_bus.specs.Memory.{Area}
-use Rattle.guest_memory.specs.Memories.{size_of}
+use Rattle.guest_memory.specs.Memories.{areas_size}
 use Rattle.guest_memory.proofs.TableLemmas.{area_more, areas_push, follow_more, size_push}
 use Rattle.guest_memory.proofs.table.Table.new.Goals as goal
 
 pub overflow_add-size : goal.overflow_add-size
 overflow_add-size c =
-    let sized = c.loop-area.invariant.size ∙ ap size_of c.loop-area.invariant.areas in
+    let sized = c.loop-area.invariant.size ∙ ap areas_size c.loop-area.invariant.areas in
     omega (arith, sized, area_more c.args.areas.now c.loop-area.area-index (record { start = 0; size = 0; read_only = false }) c.loop-area-test.true, c.requires)
 
 pub loop-area-preserved : goal.loop-area-preserved

@@ -1,4 +1,4 @@
-use Rattle.xm_conf.specs.HealthLemmas.{action_named-exact}
+use Rattle.xm_conf.proofs.HealthLemmas.{action_named-exact}
 use Rattle.xm_conf.proofs.health.Action.named.Goals as goal
 
 pub returns-clause-exact : goal.returns-clause-exact

@@ -1,4 +1,4 @@
-use Rattle.xm_conf.specs.HealthLemmas.{event_named-exact}
+use Rattle.xm_conf.proofs.HealthLemmas.{event_named-exact}
 use Rattle.xm_conf.proofs.health.Event.named.Goals as goal
 
 pub returns-clause-exact : goal.returns-clause-exact

@@ -2,7 +2,7 @@ use Rattle.std.proofs.Common.{◌∙◌, ap, arith, refl, subst, ℕ}
 use Rattle.std.proofs.Math.Nat.{min-le_left, min-le_right}
 use Rattle.std.proofs.lemmas.Result.{err_from_is_err_and}
 use Rattle.cyclic_plans.specs.PlanClock.{ticks_left}
-use Rattle.xm_machine.specs.Cues.{KeepsLast}
+use Rattle.xm_machine.specs.Cues.{KeepsLastTick}
 use Rattle.system_ticks.specs.Machine.{IsCounted}
 use Rattle.xm_machine.specs.Machine.{Meaning}
 use Rattle.system_ticks.specs.Place.{IsAt}
@@ -61,7 +61,7 @@ returns-in_err-next-clause-kept g c =
     let p = err_from_is_err_and c.from_residual.result c.from_residual.ensures.1 in
     let left = left_is c.args.most c.min-left.result c.place_of-place.result.left c.args.self.now.state c.min-left.ensures
     (c.place_of-place.ensures.left ∙ ap (λ (m : Meaning). ticks_left m.state.system.conf m.state.clock m.state.time) c.self.view_is) in
-    rw (p.1) (subst (λ (most : ℕ). KeepsLast most c.args.self.now c.step_at.new.self) left
+    rw (p.1) (subst (λ (most : ℕ). KeepsLastTick most c.args.self.now c.step_at.new.self) left
     (stretch_cut_kept c.loop-ends.ticks c.loop-ends.lines c.loop-ends.ends c.min-left.result c.args.self.now c.loop-ends.self c.step_at.new.self
     (g.O.Sink.got c.args.out.now) (g.O.Sink.got c.loop-ends.out) c.loop-ends.invariant.goes c.in_err-next.ensures.kept))
 

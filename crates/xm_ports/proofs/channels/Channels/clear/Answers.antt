@@ -1,6 +1,6 @@
 use Rattle.std.proofs.Common.{◌≡◌, ◌++◌, take, drop, length, arith}
 use Rattle.std.proofs.lemmas.Grind.{common_steps}
-use Rattle.xm_ports.specs.TableLemmas.{kept_cleared}
+use Rattle.xm_ports.proofs.TableLemmas.{kept_cleared}
 use Rattle.xm_ports.proofs.channels.Channels.clear.Goals as goal
 
 pub invariant_of-self : goal.invariant_of-self

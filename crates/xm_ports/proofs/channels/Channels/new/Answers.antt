@@ -1,5 +1,5 @@
 use Rattle.xm_ports.specs.Channels.{shapes_of}
-use Rattle.xm_ports.specs.TableLemmas.{kept_new}
+use Rattle.xm_ports.proofs.TableLemmas.{kept_new}
 use Rattle.xm_ports.proofs.channels.Channels.new.Goals as goal
 
 pub invariant_of-result : goal.invariant_of-result

@@ -1,5 +1,5 @@
 use Rattle.xm_ports.specs.Channels.{put, IsSampling}
-use Rattle.xm_ports.specs.TableLemmas.{kept_put_sampling}
+use Rattle.xm_ports.proofs.TableLemmas.{kept_put_sampling}
 use Rattle.xm_ports.proofs.ChannelLemmas.{there, table-set}
 use Rattle.xm_ports.proofs.channels.Channels.put_sampling.Goals as goal
 

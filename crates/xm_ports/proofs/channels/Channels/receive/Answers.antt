@@ -1,6 +1,6 @@
 use Rattle.std.proofs.Common.{◌≡◌, length}
-use Rattle.xm_ports.specs.Channels.{taken, IsQueuing}
-use Rattle.xm_ports.specs.TableLemmas.{kept_taken}
+use Rattle.xm_ports.specs.Channels.{first_taken, IsQueuing}
+use Rattle.xm_ports.proofs.TableLemmas.{kept_taken}
 use Rattle.xm_ports.proofs.ChannelLemmas.{there, content_there, table-set, none-counted, both_none, table-received}
 use Rattle.xm_ports.proofs.channels.Channels.receive.Goals as goal
 
@@ -8,7 +8,7 @@ pub invariant_of-self : goal.invariant_of-self
 invariant_of-self c =
     let has = rw (← c.self.view_is) at c.requires.channel in
     let here = there (λ shape. IsQueuing shape.kind) c.self.inside.channels.items c.args.chan _ has (rw c.from.ensures at c.index_mut.ensures.value) in
-    rw (c.from.ensures, table-set taken _ _ _ _ here c.receive.ensures.shape c.receive.ensures.taken) (kept_taken _ _ c.self.invariant)
+    rw (c.from.ensures, table-set first_taken _ _ _ _ here c.receive.ensures.shape c.receive.ensures.taken) (kept_taken _ _ c.self.invariant)
 
 pub returns-clause-none : goal.returns-clause-none
 returns-clause-none c =

@@ -10,8 +10,8 @@ use Rattle.xm_conf.specs.declared.channel.ChanKind.TheVariants as chan_kind
 use Rattle.xm_conf.specs.Configuration.{Chan, Conf}
 use Rattle.xm_conf.specs.Fits.{IsChan, IsKind}
 use Rattle.xm_conf.specs.declared.channel.End.{End}
-use Rattle.xm_ports.specs.Channels.{Shape, Content, Sampling, Queuing, ChannelTable, shape_of, shapes_of, empty, empty_of, HasMost, IsShape, put, taken, cleared, first_message, changed, with_content, all_cleared, messages_of, content_at, most_of, IsSampling, IsQueuing, HasSampling, HasQueue, IsMessage, FitsChannel, IsFull, SuitsKind, Suits, IsTable}
-use Rattle.xm_ports.specs.ChangedLemmas.{slice_get-changed_same, slice_get-changed_other, length-changed}
+use Rattle.xm_ports.specs.Channels.{Shape, Content, Sampling, Queuing, ChannelTable, shape_of, shapes_of, empty, empty_of, HasMost, IsShape, put, first_taken, cleared, first_message, changed, with_content, all_cleared, messages_of, content_at, most_of, IsSampling, IsQueuing, HasSampling, HasQueue, IsMessage, FitsChannel, IsFull, SuitsKind, Suits, IsTable}
+use Rattle.xm_ports.proofs.ChangedLemmas.{slice_get-changed_same, slice_get-changed_other, length-changed}
 
 -- what one change does to each content that suits its shape
 abbrev pub Keeps : (Content → Content) → Shape → Content → Type 0
@@ -62,8 +62,8 @@ send_suits time bytes (chan_kind.Queuing most) room (Queuing messages) is fits f
 }
 
 -- a queue without its first message
-taken_suits : (kind : ChanKind) (room : ℕ) (content : Content) → SuitsKind kind room content → SuitsKind kind room (taken content)
-unfolding taken
+taken_suits : (kind : ChanKind) (room : ℕ) (content : Content) → SuitsKind kind room content → SuitsKind kind room (first_taken content)
+unfolding first_taken
 taken_suits kind room (Sampling sample) suits = suits
 taken_suits (chan_kind.Sampling refresh) room (Queuing messages) suits = absurd suits
 taken_suits (chan_kind.Queuing most) room (Queuing []) suits = suits
@@ -106,10 +106,10 @@ kept_send table c time bytes is has fits free =
         λ suits. record { held = send_suits time bytes s.kind s.length k has fits (rw there at free) suits.held }
 
 -- a table stays one where the first message of a queue is taken
-pub kept_taken : (table : ChannelTable) (c : ℕ) → IsTable table → IsTable (with_content taken c table)
-kept_taken table c is = kept_changed taken table c is (at (slice_get table.shapes c) (slice_get table.contents c))
+pub kept_taken : (table : ChannelTable) (c : ℕ) → IsTable table → IsTable (with_content first_taken c table)
+kept_taken table c is = kept_changed first_taken table c is (at (slice_get table.shapes c) (slice_get table.contents c))
   where
-    at : (shape : Option Shape) (content : Option Content) → IfSome shape (λ s. IfSome content (Keeps taken s))
+    at : (shape : Option Shape) (content : Option Content) → IfSome shape (λ s. IfSome content (Keeps first_taken s))
     at None content = tt
     at (Some s) None = tt
     at (Some s) (Some k) = λ suits. record { held = taken_suits s.kind s.length k suits.held }

@@ -5,12 +5,12 @@ use Rattle.std.specs.Int.{Width, w8, w16, w32, byte_len, from_be_bytes}
 use Rattle.std.specs.Str.{bytes_eq}
 use Rattle.std.proofs.lemmas.Bool.{false≢true}
 use Rattle.std.proofs.lemmas.Slice.Eq.{bytes_eq-Decides}
-use Rattle.xm_base.specs.Cursor.{Place, left, next, past, start}
+use Rattle.xm_base.specs.Cursor.{Place, left, next, past, cursor_start}
 use Rattle.xef_images.specs.Image.{Image}
 use Rattle.xef_images.specs.Tests.{is_entry}
 use Rattle.xef_images.specs.Gives.{Fails, Gives}
 use Rattle.xef_images.specs.Steps.{◌>>=◌}
-use Rattle.xef_images.specs.Reading.{unless, bytes_at, number_at, listed_at, magic_at, version_at, told, before_of, before, stored, found, signed, address_at, memory_at, count_at, row_at, rows_at, segment_at, segments_at, size_at, table_at, entry_at, image_of, IsForged, TellsDigests}
+use Rattle.xef_images.specs.Reading.{unless, bytes_at, number_at, listed_at, magic_at, version_at, told, before_of, before, stored, found, signed, address_at, memory_at, count_at, row_at, rows_at, segment_at, segments_at, size_at, segment_table_at, entry_point_at, image_fields, IsForged, TellsDigests}
 use Rattle.xef_images.specs.declared.row.Row.{Row}
 use Rattle.xef_images.specs.declared.fault.XefFault.{XefFault}
 use Rattle.xef_images.specs.declared.fault.XefFault.TheVariants as fault
@@ -68,7 +68,7 @@ plain_version place =
 plain_told : (bytes : List ℕ) → IsPlain (told bytes)
 unfolding told
 plain_told bytes =
-    plain_then (magic_at (start bytes)) (λ name. version_at name >>= λ version. number_at w32 version >>= λ length. Ok length.0) (plain_magic (start bytes))
+    plain_then (magic_at (cursor_start bytes)) (λ name. version_at name >>= λ version. number_at w32 version >>= λ length. Ok length.0) (plain_magic (cursor_start bytes))
     (λ name. plain_then (version_at name) (λ version. number_at w32 version >>= λ length. Ok length.0) (plain_version name)
     (λ version. plain_then (number_at w32 version) (λ length. Ok length.0) (plain_number w32 version) (λ length. tt)))
 
@@ -108,19 +108,19 @@ plain_segments (row ∷ rows) place =
     (plain_then (bytes_at row.count place) (λ bytes. Ok (record { address = row.address; memory = row.memory; bytes = bytes.0 }, bytes.1)) (plain_bytes row.count place) (λ bytes. tt))
     (λ segment. plain_then (segments_at rows segment.1) (λ others. Ok (segment.0 ∷ others.0, others.1)) (plain_segments rows segment.1) (λ others. tt))
 
-plain_table : (place : Place) → IsPlain (table_at place)
-unfolding table_at size_at
+plain_table : (place : Place) → IsPlain (segment_table_at place)
+unfolding segment_table_at size_at
 plain_table place =
     plain_then (size_at place) (λ count. rows_at count.0 0 count.1 >>= λ rows. segments_at rows.0 rows.1) (plain_listed w8 (λ count. nat_le 1 count && nat_le count 8) place)
     (λ count. plain_then (rows_at count.0 0 count.1) (λ rows. segments_at rows.0 rows.1) (plain_rows count.0 0 count.1) (λ rows. plain_segments rows.0 rows.1))
 
 -- the fields behind the head tell no digests
-pub plain_image : (front : List ℕ) → IsPlain (image_of front)
-unfolding image_of entry_at
+pub plain_image : (front : List ℕ) → IsPlain (image_fields front)
+unfolding image_fields entry_point_at
 plain_image front =
-    plain_then (entry_at (start front)) (λ entry. table_at entry.1 >>= λ segments. unless (is_entry entry.0 segments.0) (fault.Field 10) segments.1 >>= λ tested. unless (left tested == 0) (fault.Trailing tested.at) (record { entry = entry.0; segments = segments.0 }))
-    (plain_number w32 (past 10 (start front)))
-    (λ entry. plain_then (table_at entry.1) (λ segments. unless (is_entry entry.0 segments.0) (fault.Field 10) segments.1 >>= λ tested. unless (left tested == 0) (fault.Trailing tested.at) (record { entry = entry.0; segments = segments.0 })) (plain_table entry.1)
+    plain_then (entry_point_at (cursor_start front)) (λ entry. segment_table_at entry.1 >>= λ segments. unless (is_entry entry.0 segments.0) (fault.Field 10) segments.1 >>= λ tested. unless (left tested == 0) (fault.Trailing tested.at) (record { entry = entry.0; segments = segments.0 }))
+    (plain_number w32 (past 10 (cursor_start front)))
+    (λ entry. plain_then (segment_table_at entry.1) (λ segments. unless (is_entry entry.0 segments.0) (fault.Field 10) segments.1 >>= λ tested. unless (left tested == 0) (fault.Trailing tested.at) (record { entry = entry.0; segments = segments.0 })) (plain_table entry.1)
     (λ segments. plain_then (unless (is_entry entry.0 segments.0) (fault.Field 10) segments.1) (λ tested. unless (left tested == 0) (fault.Trailing tested.at) (record { entry = entry.0; segments = segments.0 }))
     (plain_cond (is_entry entry.0 segments.0) (Ok segments.1) (Err (fault.Field 10)) tt tt)
     (λ tested. plain_cond (left tested == 0) (Ok (record { entry = entry.0; segments = segments.0 })) (Err (fault.Trailing tested.at)) tt tt)))
@@ -194,10 +194,10 @@ pub tells_none : {X : Type 0} (bytes front : List ℕ) (value : X) → signed by
 tells_none bytes front value is s f = (λ e. absurd cc, λ forged. absurd (none_differ bytes front s f is forged))
 
 -- where the fields behind the head fail
-pub tells_image : {X : Type 0} (bytes front : List ℕ) (told_fault : XefFault) → signed bytes ≡ Ok front → Fails told_fault (image_of front) → TellsDigests bytes (fault_of {A = X} told_fault)
+pub tells_image : {X : Type 0} (bytes front : List ℕ) (told_fault : XefFault) → signed bytes ≡ Ok front → Fails told_fault (image_fields front) → TellsDigests bytes (fault_of {A = X} told_fault)
 tells_image bytes front told_fault is fails s f = (
   λ e. absurd (subst (λ (read : Result Image XefFault). IsPlain read)
-      (subst (λ (t : XefFault). Fails t (image_of front)) (fault_is told_fault (fault.Digest s f) e) fails) (plain_image front)),
+      (subst (λ (t : XefFault). Fails t (image_fields front)) (fault_is told_fault (fault.Digest s f) e) fails) (plain_image front)),
   λ forged. absurd (none_differ bytes front s f is forged),
 )
   where
@@ -205,7 +205,7 @@ tells_image bytes front told_fault is fails s f = (
     fault_is one other e = cc
 
 -- where the first step does not fail, whatever follows
-pub tells_given : {X : Type 0} (view : X → Image) (bytes front : List ℕ) (result : Result X XefFault) → signed bytes ≡ Ok front → Gives view result (image_of front) → TellsDigests bytes result
+pub tells_given : {X : Type 0} (view : X → Image) (bytes front : List ℕ) (result : Result X XefFault) → signed bytes ≡ Ok front → Gives view result (image_fields front) → TellsDigests bytes result
 tells_given view bytes front (Ok value) is given = tells_none bytes front value is
 tells_given view bytes front (Err told_fault) is given = tells_image bytes front told_fault is given
 

@@ -7,7 +7,7 @@ use Rattle.std.proofs.lemmas.List.Elements.{All-head, All-tail}
 use Rattle.std.proofs.lemmas.Bool.Decides.{Decides-eqb, nat_tests}
 use Rattle.md5.specs.Md5.{md5}
 use Rattle.md5.proofs.StandardFacts.{length-md5}
-use Rattle.xm_base.specs.Cursor.{Place, ahead, left, past, start}
+use Rattle.xm_base.specs.Cursor.{Place, ahead, left, past, cursor_start}
 use Rattle.xm_conf.specs.Description.{described}
 use Rattle.xm_conf.specs.Laws.{IsBrokenUnlessFits}
 use Rattle.bin_config.specs.RangeLemmas.{spelled_if_fits}
@@ -23,13 +23,13 @@ use Rattle.xef_images.specs.XefLemmas.{length-xef_text, xef_again}
 use Rattle.loaded_system.specs.Inside.{first_outside}
 use Rattle.loaded_system.specs.InsideLemmas.{none_if_inside}
 use Rattle.loaded_system.specs.System.{System, IsSystem}
-use Rattle.xm_container.specs.Box.{sized_text, entry_text, entries_text, fields_text, front_text, sealed_text, box_text}
-use Rattle.xm_container.specs.FieldLemmas.{Reads, bytes_again, number_again, listed_again}
-use Rattle.xm_container.specs.HeadLemmas.{IsSigned, lead_text, told_again, signed_again}
-use Rattle.xm_container.specs.Laws.{NoneGoesOn, PackedIsUnpacked}
-use Rattle.xm_container.specs.NumberLemmas.{numbers}
+use Rattle.xm_container.specs.Box.{sized_text, image_entry_text, entries_text, fields_text, front_text, sealed_text, box_text}
+use Rattle.xm_container.proofs.FieldLemmas.{Reads, bytes_again, number_again, listed_again}
+use Rattle.xm_container.proofs.HeadLemmas.{IsSigned, lead_text, told_again, signed_again}
+use Rattle.xm_container.specs.Laws.{ContainersArePrefixFree, PackedIsUnpacked}
+use Rattle.xm_container.proofs.NumberLemmas.{numbers}
 use Rattle.xm_container.specs.Numbers.{least_where, has_id, extra, missing}
-use Rattle.xm_container.specs.Reading.{bytes_at, number_at, told, length_at, conf_at, id_at, image_at, entry_at, entries_at, table_at, fields_of, assigned, system_in, unpacked}
+use Rattle.xm_container.specs.Reading.{bytes_at, number_at, told, length_at, conf_at, id_at, image_at, image_entry_at, image_entries_at, image_table_at, container_fields, assigned, system_in, unpacked}
 
 -- what stands before the digest has 16 bytes less than the container
 length-front : (fields : List ℕ) → length (front_text fields) ≡ 10 + length fields
@@ -54,7 +54,7 @@ same_value : {A F : Type 0} (x y : A) → (let done : Result A F = Ok x in done 
 same_value x y e = cc
 
 -- no container is a proper front of another
-pub none_goes_on : NoneGoesOn
+pub none_goes_on : ContainersArePrefixFree
 unfolding box_text
 none_goes_on one other rest below is =
     let a = fields_text one in
@@ -82,9 +82,9 @@ byte_of n below =
     ap (λ b. b ∷ []) same
 
 -- an image that stands there is read
-entry_again : (floor id : ℕ) (place : Place) (image : Image) (rest : List ℕ) → floor ≤ id → id < 256 → IsImage image → ahead place ≡ entry_text id image ++ rest
-    → Reads (entry_at floor place) (record { id = id; xef = image }) rest
-unfolding entry_text entry_at id_at image_at
+entry_again : (floor id : ℕ) (place : Place) (image : Image) (rest : List ℕ) → floor ≤ id → id < 256 → IsImage image → ahead place ≡ image_entry_text id image ++ rest
+    → Reads (image_entry_at floor place) (record { id = id; xef = image }) rest
+unfolding image_entry_text image_entry_at id_at image_at
 entry_again floor id place image rest above byte is stands =
     let text = xef_text image in
     let short : length text < 2 ^ 32 = omega (arith, length-xef_text image is.most, is.short) in
@@ -96,12 +96,12 @@ entry_again floor id place image rest above byte is stands =
 
 -- images that stand there are read
 entries_again : (id : ℕ) (place : Place) (images : List Image) (rest : List ℕ) → id + length images ≤ 256 → All IsImage images → ahead place ≡ entries_text id images ++ rest
-    → Reads (entries_at (length images) id place) (record { ids = numbers id (length images); images = images }) rest
-unfolding entries_at
+    → Reads (image_entries_at (length images) id place) (record { ids = numbers id (length images); images = images }) rest
+unfolding image_entries_at
 entries_again id place [] rest few each stands = record { after = place; is = refl; ahead = stands }
 entries_again id place (image ∷ images) rest few each stands =
     let first = entry_again id id place image (entries_text (id + 1) images ++ rest) (omega arith) (omega (arith, few)) (All-head IsImage image images each)
-    (stands ∙ append_assoc (entry_text id image) (entries_text (id + 1) images) rest) in
+    (stands ∙ append_assoc (image_entry_text id image) (entries_text (id + 1) images) rest) in
     let others = entries_again (id + 1) first.after images rest (omega (arith, few)) (All-tail IsImage image images each) first.ahead in
     record { after = others.after; is = rw (first.is, others.is) refl; ahead = others.ahead }
 
@@ -151,14 +151,14 @@ few_images system is = omega (arith, is.counted, is.fits.counts.parts.few)
 
 -- a configuration and images that stand there are read
 fields_again : (system : System) (front : List ℕ) → IsSystem system → read_of (xmc system.conf) ≡ Ok system.conf → length (xmc system.conf) < 2 ^ 32 → drop 10 front ≡ fields_text system
-    → fields_of front ≡ Ok (system.conf, record { ids = numbers 0 (length system.images); images = system.images })
-unfolding fields_of conf_at length_at table_at fields_text
+    → container_fields front ≡ Ok (system.conf, record { ids = numbers 0 (length system.images); images = system.images })
+unfolding container_fields conf_at length_at image_table_at fields_text
 fields_again system front is read short stands =
     let images = system.images in
     let count = length system.images in
     let few = few_images system is in
     let entries = entries_text 0 system.images in
-    let c = sized_again (past 10 (start front)) (xmc system.conf) (length system.images ∷ entries_text 0 system.images) short stands in
+    let c = sized_again (past 10 (cursor_start front)) (xmc system.conf) (length system.images ∷ entries_text 0 system.images) short stands in
     let n = number_again w8 256 wide8 c.1.after (length system.images) entries (omega (arith, few)) (c.1.ahead ∙ ap (λ b. b ++ entries) (sym (byte_of (length system.images) (omega (arith, few))))) in
     let e = entries_again 0 n.after system.images [] (omega (arith, few)) is.images (n.ahead ∙ sym (append-nil entries)) in
     let none : left e.after ≡ 0 = ap length e.ahead in

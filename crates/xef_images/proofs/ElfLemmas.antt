@@ -8,19 +8,19 @@ use Rattle.std.proofs.lemmas.List.{length-append, length-take}
 use Rattle.xm_base.specs.Bytes.{AreBytes}
 use Rattle.xm_base.specs.declared.limits.TheConstants.{FILE_BYTES}
 use Rattle.xef_images.specs.Image.{Image, Segment, end_of, xef_length, IsSegment, IsImage}
-use Rattle.xef_images.specs.ImageLemmas.{RiseFrom, Decides-nat_lt, image_from_parts, is_entry-Decides}
+use Rattle.xef_images.specs.ImageLemmas.{SegmentsRiseFrom, Decides-nat_lt, image_from_parts, is_entry-Decides}
 use Rattle.xef_images.specs.Tests.{is_entry}
 use Rattle.xef_images.specs.FieldLemmas.{AreBytes-drop, AreBytes-take, wide32}
 use Rattle.xef_images.specs.StepLemmas.{stepped, ok_is, led_on}
-use Rattle.xef_images.specs.SortLemmas.{all_sorted, length-sorted}
+use Rattle.xef_images.proofs.SortLemmas.{all_sorted, length-sorted}
 use Rattle.xef_images.specs.Steps.{◌>>=◌}
-use Rattle.xef_images.specs.Elf.{word, header_count, header_at, is_loaded, is_cut, segment_of, segment_from, load_at, loads, sorted, overlap, overlap_fault, verdict, elf}
+use Rattle.xef_images.specs.Elf.{elf_word, header_count, header_at, is_loaded, is_cut, segment_of, segment_from, load_at, loads, sorted, overlap, overlap_fault, verdict, elf}
 use Rattle.xef_images.specs.declared.header.Header.{Header}
 use Rattle.xef_images.specs.declared.fault.ElfFault.{ElfFault}
 use Rattle.xef_images.specs.declared.fault.ElfFault.TheVariants as fault
 
 -- a number of four bytes is a word's
-word_below : (bytes : List ℕ) (place : ℕ) → AreBytes bytes → word bytes place < 2 ^ 32
+word_below : (bytes : List ℕ) (place : ℕ) → AreBytes bytes → elf_word bytes place < 2 ^ 32
 word_below bytes place each = wide32.below (take 4 (drop place bytes)) (AreBytes-take 4 (drop place bytes) (AreBytes-drop place bytes each))
 
 -- neither of two tests
@@ -90,12 +90,12 @@ loads_take bytes before place (suc count) segments each few e =
     (record { each = all_both IsSegment a.value b.value first.each others.each; most = omega (arith, length-append a.value b.value, others.most) })
 
 -- segments of which none overlaps the one before it stand one behind the other
-rise_from_overlap : (floor : ℕ) (segments : List Segment) → AllByRecursion IsSegment segments → overlap floor segments ≡ None → RiseFrom floor segments
+rise_from_overlap : (floor : ℕ) (segments : List Segment) → AllByRecursion IsSegment segments → overlap floor segments ≡ None → SegmentsRiseFrom floor segments
 rise_from_overlap floor [] each none = tt
 rise_from_overlap floor (segment ∷ later) each none = at (nat_lt segment.address floor) refl (λ more. rise_from_overlap (end_of segment) later each.1 more) none
   where
-    at : (test : Bool) → nat_lt segment.address floor ≡ test → (overlap (end_of segment) later ≡ None → RiseFrom (end_of segment) later)
-        → cond test (Some segment.address) (overlap (end_of segment) later) ≡ None → RiseFrom floor (segment ∷ later)
+    at : (test : Bool) → nat_lt segment.address floor ≡ test → (overlap (end_of segment) later ≡ None → SegmentsRiseFrom (end_of segment) later)
+        → cond test (Some segment.address) (overlap (end_of segment) later) ≡ None → SegmentsRiseFrom floor (segment ∷ later)
     at true is behind found = absurd cc
     at false is behind found = ((ltb-false segment.address floor is, each.0), behind found)
 
@@ -135,12 +135,12 @@ verdict_takes entry segments done e =
 pub elf_takes : (bytes : List ℕ) (image : Image) → AreBytes bytes → elf bytes ≡ Ok image → IsImage image
 unfolding elf
 elf_takes bytes image each e =
-    let entry = word bytes 24 in
-    let a = stepped (header_count bytes) (λ count. loads bytes 0 (word bytes 28) count >>= λ segments. verdict entry (sorted segments) >>= λ _. Ok (record { entry = entry; segments = sorted segments })) image e in
-    let b = stepped (loads bytes 0 (word bytes 28) a.value) (λ segments. verdict entry (sorted segments) >>= λ _. Ok (record { entry = entry; segments = sorted segments })) image a.led in
+    let entry = elf_word bytes 24 in
+    let a = stepped (header_count bytes) (λ count. loads bytes 0 (elf_word bytes 28) count >>= λ segments. verdict entry (sorted segments) >>= λ _. Ok (record { entry = entry; segments = sorted segments })) image e in
+    let b = stepped (loads bytes 0 (elf_word bytes 28) a.value) (λ segments. verdict entry (sorted segments) >>= λ _. Ok (record { entry = entry; segments = sorted segments })) image a.led in
     let made : Image = record { entry = entry; segments = sorted b.value } in
     let c = stepped (verdict entry made.segments) (λ _. Ok made) image b.led in
-    let loaded = loads_take bytes 0 (word bytes 28) a.value b.value each (omega arith) b.is in
+    let loaded = loads_take bytes 0 (elf_word bytes 28) a.value b.value each (omega arith) b.is in
     let right = verdict_takes entry made.segments c.value c.is in
     subst (λ (i : Image). IsImage i) (ok_is made image c.led)
     (image_from_parts made right.some (omega (arith, length-sorted b.value, loaded.most))

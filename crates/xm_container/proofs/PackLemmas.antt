@@ -10,10 +10,10 @@ use Rattle.xef_images.specs.Image.{Image, IsImage}
 use Rattle.loaded_system.specs.Inside.{outside_in, outside_or, first_outside_from}
 use Rattle.loaded_system.specs.declared.system.Outside.{Outside}
 use Rattle.bin_config.specs.Xmc.{xmc}
-use Rattle.xm_container.specs.Box.{entry_text, entries_text, fields_text, sized_text}
-use Rattle.xm_container.specs.NumberLemmas.{none_missing}
+use Rattle.xm_container.specs.Box.{image_entry_text, entries_text, fields_text, sized_text}
+use Rattle.xm_container.proofs.NumberLemmas.{none_missing}
 use Rattle.xm_container.specs.Numbers.{has_id, missing}
-use Rattle.xm_container.specs.Pack.{ids_of, image_of, in_order, system_of}
+use Rattle.xm_container.specs.Pack.{partition_numbers, image_of, in_order, system_of}
 use Rattle.xm_container.specs.declared.image.Image.{Image as Given}
 
 -- a choice that gives nothing
@@ -22,7 +22,7 @@ chose_none true here later e = absurd cc
 chose_none false here later e = (refl, e)
 
 -- a number that no image has is none of theirs
-none_has : (images : List Given) (id : ℕ) → image_of images id ≡ None → has_id (ids_of images) id ≡ false
+none_has : (images : List Given) (id : ℕ) → image_of images id ≡ None → has_id (partition_numbers images) id ≡ false
 unfolding has_id
 none_has [] id e = refl
 none_has (image ∷ later) id e =
@@ -30,10 +30,10 @@ none_has (image ∷ later) id e =
     rw split.0 (none_has later id split.1)
 
 -- where none is missing, each partition has an image
-pub image_there : (images : List Given) (parts id : ℕ) → missing parts (ids_of images) ≡ None → id < parts → image_of images id ≡ None → ⊥
+pub image_there : (images : List Given) (parts id : ℕ) → missing parts (partition_numbers images) ≡ None → id < parts → image_of images id ≡ None → ⊥
 image_there images parts id none below e =
-    let has : has_id (ids_of images) id ≡ true = none_missing parts (ids_of images) id none below in
-    let not_has : has_id (ids_of images) id ≡ false = none_has images id e in
+    let has : has_id (partition_numbers images) id ≡ true = none_missing parts (partition_numbers images) id none below in
+    let not_has : has_id (partition_numbers images) id ≡ false = none_has images id e in
     let wrong : ⊥ = cc in wrong
 
 -- an image, and those behind it
@@ -85,9 +85,9 @@ outside_done parts images id r past so_far =
 -- an image more that is put
 pub entries_on : (images : List Given) (parts id : ℕ) (image : Image) (front whole : List ℕ) → id < parts → image_of images id ≡ Some image
     → front ++ entries_text id (in_order images id (parts - id)) ≡ whole
-    → (front ++ entry_text id image) ++ entries_text (id + 1) (in_order images (id + 1) (parts - (id + 1))) ≡ whole
+    → (front ++ image_entry_text id image) ++ entries_text (id + 1) (in_order images (id + 1) (parts - (id + 1))) ≡ whole
 entries_on images parts id image front whole below some so_far =
-    append_assoc front (entry_text id image) (entries_text (id + 1) (in_order images (id + 1) (parts - (id + 1))))
+    append_assoc front (image_entry_text id image) (entries_text (id + 1) (in_order images (id + 1) (parts - (id + 1))))
     ∙ ap (λ list. front ++ entries_text id list) (sym (order_on images parts id image below some))
     ∙ so_far
 
@@ -108,7 +108,7 @@ pub loads_done : (images : List Given) (parts id : ℕ) (whole : List Image) →
 loads_done images parts id whole past so_far = so_far (subst (λ (list : List Image). All IsImage list) (sym (order_done images parts id past)) (All-nil IsImage))
 
 -- so many images as there are partitions
-order_counted : (images : List Given) (parts count id : ℕ) → missing parts (ids_of images) ≡ None → id + count ≡ parts → length (in_order images id count) ≡ count
+order_counted : (images : List Given) (parts count id : ℕ) → missing parts (partition_numbers images) ≡ None → id + count ≡ parts → length (in_order images id count) ≡ count
 order_counted images parts zero id none all = refl
 order_counted images parts (suc count) id none all =
     at (image_of images id) refl (order_counted images parts count (id + 1) none (omega (arith, all)))
@@ -118,11 +118,11 @@ order_counted images parts (suc count) id none all =
     at (Some image) e rest = ap suc rest
 
 -- so many images as there are partitions
-pub length-in_order : (images : List Given) (parts : ℕ) → missing parts (ids_of images) ≡ None → length (in_order images 0 parts) ≡ parts
+pub length-in_order : (images : List Given) (parts : ℕ) → missing parts (partition_numbers images) ≡ None → length (in_order images 0 parts) ≡ parts
 length-in_order images parts none = order_counted images parts parts 0 none (omega arith)
 
 -- the fields, put one after the other
-pub fields_so : (conf : Conf) (images : List Given) (parts : ℕ) (bytes none first second third : List ℕ) → parts ≡ length conf.parts → missing parts (ids_of images) ≡ None → bytes ≡ xmc conf
+pub fields_so : (conf : Conf) (images : List Given) (parts : ℕ) (bytes none first second third : List ℕ) → parts ≡ length conf.parts → missing parts (partition_numbers images) ≡ None → bytes ≡ xmc conf
     → none ≡ [] → first ≡ none ++ sized_text bytes → second ≡ first ++ parts ∷ [] → third ≡ second ++ entries_text 0 (in_order images 0 parts)
     → third ≡ fields_text (system_of conf images)
 unfolding fields_text

@@ -12,15 +12,15 @@ use Rattle.sparc_code.specs.declared.instruction.MemOp.{MemOp}
 use Rattle.sparc_code.specs.declared.instruction.Src.{Src}
 use Rattle.sparc_step.specs.Conditions.{holds}
 use Rattle.sparc_step.specs.Execution.{done, executed}
-use Rattle.sparc_step.specs.Flow.{branch_row, passed, taken, target}
+use Rattle.sparc_step.specs.Flow.{branch_row, passed, taken, branch_target}
 use Rattle.sparc_step.specs.Operands.{sum_of}
 use Rattle.sparc_step.specs.Registers.{Registers, branched, placed, sent, skipped, with_register}
 use Rattle.sparc_step.specs.Words.{residue}
-use Rattle.straight_runs.specs.Kinds.{kind_of, kind_of_transfer}
+use Rattle.straight_runs.specs.Kinds.{row_kind_of, kind_of_transfer}
 use Rattle.straight_runs.specs.RareLemmas.{arith_rare}
 use Rattle.straight_runs.specs.Rows.{HasSource, IsRowOf}
 use Rattle.straight_runs.specs.StepLemmas.{arith_not_two, branch_apart, transfer_apart, transfer_kinds}
-use Rattle.straight_runs.specs.TurnLemmas.{branch_taken, called, jump_taken}
+use Rattle.straight_runs.specs.TurnLemmas.{branch_taken, call_taken, jump_taken}
 use Rattle.straight_runs.specs.Turning.{at_place, at_slot}
 use Rattle.straight_runs.specs.declared.rows.Row.{Row}
 
@@ -35,8 +35,8 @@ unfolding word_address
 after_next origin place = omega arith
 
 -- a target, by its place
-target_place : (origin at to number : ℕ) (disp : ℤ) → word_address origin to ≡ (word_address origin at + 4 * number) % 2 ^ 32 → number ≡ residue 32 disp → target (word_address origin at) disp ≡ word_address origin to
-unfolding target
+target_place : (origin at to number : ℕ) (disp : ℤ) → word_address origin to ≡ (word_address origin at + 4 * number) % 2 ^ 32 → number ≡ residue 32 disp → branch_target (word_address origin at) disp ≡ word_address origin to
+unfolding branch_target
 target_place origin at to number disp is same = ap (λ (n : ℕ). (word_address origin at + 4 * n) % 2 ^ 32) (sym same) ∙ sym is
 
 -- a branch that is taken, and does not annul its delay slot
@@ -55,13 +55,13 @@ sent-placed core pc npc to = refl
 
 always_taken : (condition pc npc : ℕ) (disp : ℤ) (areas : List Area) (core : Registers) (memory : Memory)
     → holds condition core.icc ≡ true → condition ≡ 8
-    → executed (instr.Branch condition true disp) areas (placed pc npc core) memory ≡ done (placed (target pc disp) ((target pc disp + 4) % 2 ^ 32) core) memory
+    → executed (instr.Branch condition true disp) areas (placed pc npc core) memory ≡ done (placed (branch_target pc disp) ((branch_target pc disp + 4) % 2 ^ 32) core) memory
 unfolding branch_row taken placed
 always_taken condition pc npc disp areas core memory told always =
     let test : (condition == 8) ≡ true = grind (arith, nat_tests) in
-    ap (λ (t : Bool). done (if t then taken condition true (target pc disp) (placed pc npc core) else passed true (placed pc npc core)) memory) told
-    ∙ ap (λ (t : Bool). done (if t then sent (placed pc npc core) (target pc disp) else branched (placed pc npc core) (target pc disp)) memory) test
-    ∙ ap (λ (r : Registers). done r memory) (sent-placed core pc npc (target pc disp))
+    ap (λ (t : Bool). done (if t then taken condition true (branch_target pc disp) (placed pc npc core) else passed true (placed pc npc core)) memory) told
+    ∙ ap (λ (t : Bool). done (if t then sent (placed pc npc core) (branch_target pc disp) else branched (placed pc npc core) (branch_target pc disp)) memory) test
+    ∙ ap (λ (r : Registers). done r memory) (sent-placed core pc npc (branch_target pc disp))
 
 always_to : (origin at to number condition : ℕ) (disp : ℤ) (areas : List Area) (core : Registers) (memory : Memory)
     → holds condition core.icc ≡ true → condition ≡ 8
@@ -82,7 +82,7 @@ not_taken : (condition pc npc : ℕ) (disp : ℤ) (areas : List Area) (core : Re
     → executed (instr.Branch condition true disp) areas (placed pc npc core) memory ≡ done (placed ((npc + 4) % 2 ^ 32) ((npc + 8) % 2 ^ 32) core) memory
 unfolding branch_row passed placed
 not_taken condition pc npc disp areas core memory told =
-    ap (λ (t : Bool). done (if t then taken condition true (target pc disp) (placed pc npc core) else passed true (placed pc npc core)) memory) told
+    ap (λ (t : Bool). done (if t then taken condition true (branch_target pc disp) (placed pc npc core) else passed true (placed pc npc core)) memory) told
     ∙ ap (λ (r : Registers). done r memory) (skipped-placed core pc npc)
 
 skipped_to : (origin at condition : ℕ) (disp : ℤ) (areas : List Area) (core : Registers) (memory : Memory)
@@ -105,7 +105,7 @@ call_to : (origin at to number : ℕ) (disp : ℤ) (areas : List Area) (core new
     → word_address origin to ≡ (word_address origin at + 4 * number) % 2 ^ 32 → number ≡ residue 32 disp
     → executed (instr.Call disp) areas (at_place origin at core) memory ≡ done (at_slot origin (at + 1) to new) memory
 call_to origin at to number disp areas core new memory left is same =
-    called (word_address origin at) (word_address origin (at + 1)) disp areas core memory
+    call_taken (word_address origin at) (word_address origin (at + 1)) disp areas core memory
     ∙ ap (λ (t : ℕ). done (placed (word_address origin (at + 1)) t (with_register core 15 (word_address origin at))) memory) (target_place origin at to number disp is same)
     ∙ ap (λ (r : Registers). done (at_slot origin (at + 1) to r) memory) (sym left)
 

@@ -7,14 +7,14 @@ use Rattle.std.proofs.lemmas.List.{append-nil, nil_from_length, length-append, l
 use Rattle.std.proofs.lemmas.List.Elements.{All-cons, All-nil}
 use Rattle.md5.specs.Md5.{md5}
 use Rattle.xm_base.specs.Bytes.{AreBytes}
-use Rattle.xm_base.specs.Cursor.{Place, ahead, left, past, start}
+use Rattle.xm_base.specs.Cursor.{Place, ahead, left, past, cursor_start}
 use Rattle.xm_conf.specs.Configuration.{Conf}
 use Rattle.xm_conf.specs.Description.{described}
 use Rattle.xm_conf.specs.Fits.{Fits}
 use Rattle.xm_conf.specs.Laws.{IsBrokenUnlessFits}
 use Rattle.bin_config.specs.RangeLemmas.{ranges_if_spelled}
 use Rattle.bin_config.specs.Reading.{read_of}
-use Rattle.bin_config.specs.Spelled.{HasRanges}
+use Rattle.bin_config.specs.Spelled.{HasConfRanges}
 use Rattle.bin_config.specs.Xmc.{xmc}
 use Rattle.bin_config.specs.XmcLemmas.{read_spelled}
 use Rattle.bin_config.specs.declared.fault.XmcFault.{XmcFault}
@@ -30,15 +30,15 @@ use Rattle.xef_images.specs.declared.fault.XefFault.{XefFault}
 use Rattle.loaded_system.specs.Inside.{first_outside}
 use Rattle.loaded_system.specs.InsideLemmas.{inside_if_none}
 use Rattle.loaded_system.specs.System.{System, IsSystem}
-use Rattle.xm_container.specs.Box.{sized_text, entry_text, entries_text, fields_text, front_text, sealed_text, box_text}
-use Rattle.xm_container.specs.BoxLemmas.{byte_of}
+use Rattle.xm_container.specs.Box.{sized_text, image_entry_text, entries_text, fields_text, front_text, sealed_text, box_text}
+use Rattle.xm_container.proofs.BoxLemmas.{byte_of}
 use Rattle.xm_container.specs.Entries.{Entries, RiseFrom}
-use Rattle.xm_container.specs.FieldLemmas.{passed, bytes_take, number_takes, listed_takes}
-use Rattle.xm_container.specs.HeadLemmas.{lead_text, signed_takes, told_takes}
+use Rattle.xm_container.proofs.FieldLemmas.{passed, bytes_take, number_takes, listed_takes}
+use Rattle.xm_container.proofs.HeadLemmas.{lead_text, signed_takes, told_takes}
 use Rattle.xm_container.specs.Laws.{UnpackedIsPacked}
-use Rattle.xm_container.specs.NumberLemmas.{numbers, all_below, all_counted, all_numbers}
+use Rattle.xm_container.proofs.NumberLemmas.{numbers, all_below, all_counted, all_numbers}
 use Rattle.xm_container.specs.Numbers.{extra, missing}
-use Rattle.xm_container.specs.Reading.{unless, bytes_at, number_at, listed_at, as_config, as_image, signed, length_at, conf_at, id_at, image_at, entry_at, with_entry, entries_at, table_at, fields_of, unless_some, assigned, system_in, unpacked}
+use Rattle.xm_container.specs.Reading.{unless, bytes_at, number_at, listed_at, as_config, as_image, signed, length_at, conf_at, id_at, image_at, image_entry_at, with_entry, image_entries_at, image_table_at, container_fields, unless_some, assigned, system_in, unpacked}
 use Rattle.xm_container.specs.declared.image.Image.{Image as Given}
 use Rattle.xm_container.specs.declared.fault.BoxFault.{BoxFault}
 use Rattle.xm_container.specs.declared.fault.BoxFault.TheVariants as fault
@@ -71,7 +71,7 @@ image_read id (Err told) image e = absurd cc
 
 -- a configuration that is read stands there
 conf_takes : IsBrokenUnlessFits → (place : Place) (conf : Conf) (after : Place) → AreBytes (ahead (past 10 place)) → conf_at place ≡ Ok (conf, after)
-    → Takes (past 10 place) (sized_text (xmc conf)) after × Fits (described conf) × HasRanges conf
+    → Takes (past 10 place) (sized_text (xmc conf)) after × Fits (described conf) × HasConfRanges conf
 unfolding conf_at length_at
 conf_takes law place conf after each e =
     let a = stepped (number_at w32 (past 10 place)) (λ count. bytes_at count.0 count.1 >>= λ bytes. as_config (read_of bytes.0) >>= λ conf. Ok (conf, bytes.1)) (conf, after) e in
@@ -80,20 +80,20 @@ conf_takes law place conf after each e =
     let t = sized_takes (past 10 place) a.value b.value each a.is b.is in
     let is = read_spelled law b.value.0 c.value t.1 (config_read (read_of b.value.0) c.value c.is) in
     let made : Conf × Place = (c.value, b.value.1) in
-    let P : Conf × Place → Type 0 = λ x. Takes (past 10 place) (sized_text (xmc x.0)) x.1 × Fits (described x.0) × HasRanges x.0 in
+    let P : Conf × Place → Type 0 = λ x. Takes (past 10 place) (sized_text (xmc x.0)) x.1 × Fits (described x.0) × HasConfRanges x.0 in
     subst P {x = made} (ok_is made (conf, after) c.led)
     (subst (λ (text : List ℕ). Takes (past 10 place) (sized_text text) b.value.1) is.text t.0, is.fits, ranges_if_spelled c.value is.spelled)
 
 -- an image that is read
 record IsTaken (floor : ℕ) (place : Place) (entry : Given) (after : Place) : Type 0 where
-  stands : Takes place (entry_text entry.id entry.xef) after
+  stands : Takes place (image_entry_text entry.id entry.xef) after
   loads : IsImage entry.xef
   byte : entry.id < 256
   above : floor ≤ entry.id
 
 -- an image that is read stands there
-entry_takes : (floor : ℕ) (place : Place) (entry : Given) (after : Place) → AreBytes (ahead place) → entry_at floor place ≡ Ok (entry, after) → IsTaken floor place entry after
-unfolding entry_at id_at image_at entry_text
+entry_takes : (floor : ℕ) (place : Place) (entry : Given) (after : Place) → AreBytes (ahead place) → image_entry_at floor place ≡ Ok (entry, after) → IsTaken floor place entry after
+unfolding image_entry_at id_at image_at image_entry_text
 entry_takes floor place entry after each e =
     let a = stepped (listed_at w8 (λ id. nat_le floor id) place) (λ id. (number_at w32 id.1 >>= λ count. bytes_at count.0 count.1 >>= λ bytes. as_image id.0 (xef bytes.0) >>= λ image. Ok (image, bytes.1)) >>= λ image. Ok (record { id = id.0; xef = image.0 }, image.1)) (entry, after) e in
     let b = stepped (number_at w32 a.value.1 >>= λ count. bytes_at count.0 count.1 >>= λ bytes. as_image a.value.0 (xef bytes.0) >>= λ image. Ok (image, bytes.1)) (λ image. Ok (record { id = a.value.0; xef = image.0 }, image.1)) (entry, after) a.led in
@@ -119,7 +119,7 @@ entry_takes floor place entry after each e =
 abbrev given_text : List ℕ → List Image → List ℕ
 given_text [] images = []
 given_text (id ∷ ids) [] = []
-given_text (id ∷ ids) (image ∷ images) = entry_text id image ++ given_text ids images
+given_text (id ∷ ids) (image ∷ images) = image_entry_text id image ++ given_text ids images
 
 -- images that are read
 record AreTaken (count floor : ℕ) (place : Place) (entries : Entries) (after : Place) : Type 0 where
@@ -141,24 +141,24 @@ bytes_cons x xs byte each zero = byte
 bytes_cons x xs byte each (suc i) = each i
 
 -- images that are read stand there
-entries_take : (count floor : ℕ) (place : Place) (entries : Entries) (after : Place) → AreBytes (ahead place) → entries_at count floor place ≡ Ok (entries, after)
+entries_take : (count floor : ℕ) (place : Place) (entries : Entries) (after : Place) → AreBytes (ahead place) → image_entries_at count floor place ≡ Ok (entries, after)
     → AreTaken count floor place entries after
-unfolding entries_at
+unfolding image_entries_at
 entries_take zero floor place entries after each e =
     let none : Entries × Place = (record { ids = []; images = [] }, place) in
     let P : Entries × Place → Type 0 = λ x. AreTaken 0 floor place x.0 x.1 in
     subst P {x = none} (ok_is none (entries, after) e)
     (record { stands = record { parts = refl; rest = each }; ids = refl; images = refl; load = All-nil IsImage; rise = tt; bytes = bytes_nil })
 entries_take (suc count) floor place entries after each e =
-    let a = stepped (entry_at floor place) (λ entry. entries_at count (entry.0.id + 1) entry.1 >>= λ later. Ok (with_entry entry.0 later.0, later.1)) (entries, after) e in
-    let b = stepped (entries_at count (a.value.0.id + 1) a.value.1) (λ later. Ok (with_entry a.value.0 later.0, later.1)) (entries, after) a.led in
+    let a = stepped (image_entry_at floor place) (λ entry. image_entries_at count (entry.0.id + 1) entry.1 >>= λ later. Ok (with_entry entry.0 later.0, later.1)) (entries, after) e in
+    let b = stepped (image_entries_at count (a.value.0.id + 1) a.value.1) (λ later. Ok (with_entry a.value.0 later.0, later.1)) (entries, after) a.led in
     let first = entry_takes floor place a.value.0 a.value.1 each a.is in
     let rest = entries_take count (a.value.0.id + 1) a.value.1 b.value.0 b.value.1 first.stands.rest b.is in
     let made : Entries × Place = (with_entry a.value.0 b.value.0, b.value.1) in
     let P : Entries × Place → Type 0 = λ x. AreTaken (suc count) floor place x.0 x.1 in
     subst P {x = made} (ok_is made (entries, after) b.led)
     (record {
-      stands = takes_both place (entry_text a.value.0.id a.value.0.xef) a.value.1 (given_text b.value.0.ids b.value.0.images) b.value.1 first.stands rest.stands;
+      stands = takes_both place (image_entry_text a.value.0.id a.value.0.xef) a.value.1 (given_text b.value.0.ids b.value.0.images) b.value.1 first.stands rest.stands;
       ids = ap suc rest.ids;
       images = ap suc rest.images;
       load = All-cons IsImage a.value.0.xef b.value.0.images first.loads rest.load;
@@ -175,22 +175,22 @@ record AreFields (front : List ℕ) (conf : Conf) (entries : Entries) : Type 0 w
   parts : drop 10 front ≡ given_fields conf entries
   long : 10 ≤ length front
   fits : Fits (described conf)
-  ranges : HasRanges conf
+  ranges : HasConfRanges conf
   images : length entries.images ≡ length entries.ids
   load : All IsImage entries.images
   rise : RiseFrom 0 entries.ids
   bytes : AreBytes entries.ids
 
 -- a configuration and images that are read stand there
-fields_take : IsBrokenUnlessFits → (front : List ℕ) (conf : Conf) (entries : Entries) → AreBytes front → fields_of front ≡ Ok (conf, entries) → AreFields front conf entries
-unfolding fields_of table_at
+fields_take : IsBrokenUnlessFits → (front : List ℕ) (conf : Conf) (entries : Entries) → AreBytes front → container_fields front ≡ Ok (conf, entries) → AreFields front conf entries
+unfolding container_fields image_table_at
 fields_take law front conf entries each e =
-    let a = stepped (conf_at (start front)) (λ conf. (number_at w8 conf.1 >>= λ count. entries_at count.0 0 count.1) >>= λ entries. unless (left entries.1 == 0) (fault.Trailing entries.1.at) (conf.0, entries.0)) (conf, entries) e in
-    let b = stepped (number_at w8 a.value.1 >>= λ count. entries_at count.0 0 count.1) (λ entries. unless (left entries.1 == 0) (fault.Trailing entries.1.at) (a.value.0, entries.0)) (conf, entries) a.led in
-    let c = stepped (number_at w8 a.value.1) (λ count. entries_at count.0 0 count.1) b.value b.is in
+    let a = stepped (conf_at (cursor_start front)) (λ conf. (number_at w8 conf.1 >>= λ count. image_entries_at count.0 0 count.1) >>= λ entries. unless (left entries.1 == 0) (fault.Trailing entries.1.at) (conf.0, entries.0)) (conf, entries) e in
+    let b = stepped (number_at w8 a.value.1 >>= λ count. image_entries_at count.0 0 count.1) (λ entries. unless (left entries.1 == 0) (fault.Trailing entries.1.at) (a.value.0, entries.0)) (conf, entries) a.led in
+    let c = stepped (number_at w8 a.value.1) (λ count. image_entries_at count.0 0 count.1) b.value b.is in
     let made : Conf × Entries = (a.value.0, b.value.0) in
     let p = passed (left b.value.1 == 0) (fault.Trailing b.value.1.at) made (conf, entries) b.led in
-    let first = conf_takes law (start front) a.value.0 a.value.1 (AreBytes-drop 10 front each) a.is in
+    let first = conf_takes law (cursor_start front) a.value.0 a.value.1 (AreBytes-drop 10 front each) a.is in
     let n = number_takes w8 256 wide8 a.value.1 c.value.0 c.value.1 first.0.rest c.is in
     let t = entries_take c.value.0 0 c.value.1 b.value.0 b.value.1 n.0.rest c.led in
     let ended : ahead b.value.1 ≡ [] = nil_from_length (ahead b.value.1) ((Decides-eqb (left b.value.1) 0).0 p.true) in
@@ -227,13 +227,13 @@ took refusal (Some x) later system e = absurd cc
 -- images behind the numbers of all partitions
 given_numbers : (images : List Image) (id : ℕ) → given_text (numbers id (length images)) images ≡ entries_text id images
 given_numbers [] id = refl
-given_numbers (image ∷ images) id = ap (λ rest. entry_text id image ++ rest) (given_numbers images (id + 1))
+given_numbers (image ∷ images) id = ap (λ rest. image_entry_text id image ++ rest) (given_numbers images (id + 1))
 
 -- fields that are those of a system, which can be loaded
 record AreOf (front : List ℕ) (system : System) : Type 0 where
   stands : drop 10 front ≡ fields_text system
   loads : IsSystem system
-  ranges : HasRanges system.conf
+  ranges : HasConfRanges system.conf
 
 -- fields whose images make a system are that system's
 fields_are : (front : List ℕ) (conf : Conf) (entries : Entries) (system : System) → AreFields front conf entries → assigned conf entries ≡ Ok system → AreOf front system
@@ -268,7 +268,7 @@ pub unpacked_packed : IsBrokenUnlessFits → UnpackedIsPacked
 unfolding unpacked system_in box_text sealed_text front_text
 unpacked_packed law bytes system each e =
     let s = stepped (signed bytes) system_in system e in
-    let f = stepped (fields_of s.value) (λ fields. assigned fields.0 fields.1) system s.led in
+    let f = stepped (container_fields s.value) (λ fields. assigned fields.0 fields.1) system s.led in
     let front = s.value in
     let is = signed_takes bytes s.value s.is in
     let front_each : AreBytes s.value = bytes_front s.value (md5 s.value) (subst (λ (x : List ℕ). AreBytes x) is.parts each) in

@@ -9,11 +9,11 @@ use Rattle.std.proofs.lemmas.List.{take_at, drop_at, take-append-drop, length-ta
 use Rattle.std.proofs.lemmas.Slice.Eq.{bytes_eq-Decides}
 use Rattle.md5.specs.Md5.{md5}
 use Rattle.xm_base.specs.Bytes.{AreBytes}
-use Rattle.xm_base.specs.Cursor.{Place, ahead, start}
+use Rattle.xm_base.specs.Cursor.{Place, ahead, cursor_start}
 use Rattle.xef_images.specs.FieldLemmas.{Takes, takes_both, wide16, wide32}
 use Rattle.xef_images.specs.StepLemmas.{stepped, ok_is, led_on}
 use Rattle.xef_images.specs.Steps.{◌>>=◌}
-use Rattle.xm_container.specs.FieldLemmas.{passed, bytes_take, number_takes, bytes_again, number_again}
+use Rattle.xm_container.proofs.FieldLemmas.{passed, bytes_take, number_takes, bytes_again, number_again}
 use Rattle.xm_container.specs.Reading.{unless, bytes_at, number_at, magic_at, version_at, told, before_of, before, stored, found, signed}
 use Rattle.xm_container.specs.declared.fault.BoxFault.TheVariants.{Magic, Version, Short, Trailing, Digest}
 
@@ -45,15 +45,15 @@ version_takes place after each e =
 pub told_takes : (bytes : List ℕ) (size : ℕ) → AreBytes bytes → told bytes ≡ Ok size → (bytes ≡ lead_text size ++ drop 10 bytes) × (size < 2 ^ 32)
 unfolding told
 told_takes bytes size each e =
-    let m = stepped (magic_at (start bytes)) (λ name. version_at name >>= λ version. number_at w32 version >>= λ length. Ok length.0) size e in
+    let m = stepped (magic_at (cursor_start bytes)) (λ name. version_at name >>= λ version. number_at w32 version >>= λ length. Ok length.0) size e in
     let v = stepped (version_at m.value) (λ version. number_at w32 version >>= λ length. Ok length.0) size m.led in
     let n = stepped (number_at w32 v.value) (λ length. Ok length.0) size v.led in
-    let first = magic_takes (start bytes) m.value each m.is in
+    let first = magic_takes (cursor_start bytes) m.value each m.is in
     let second = version_takes m.value v.value first.rest v.is in
     let third = number_takes w32 (2 ^ 32) wide32 v.value n.value.0 n.value.1 second.rest n.is in
     let is : n.value.0 ≡ size = ok_is n.value.0 size n.led in
-    let front = takes_both (start bytes) (codes "XMPK") m.value (to_be_bytes w16 1) v.value first second in
-    let whole = takes_both (start bytes) (codes "XMPK" ++ to_be_bytes w16 1) v.value (to_be_bytes w32 n.value.0) n.value.1 front third.0 in
+    let front = takes_both (cursor_start bytes) (codes "XMPK") m.value (to_be_bytes w16 1) v.value first second in
+    let whole = takes_both (cursor_start bytes) (codes "XMPK" ++ to_be_bytes w16 1) v.value (to_be_bytes w32 n.value.0) n.value.1 front third.0 in
     let parts : bytes ≡ lead_text size ++ ahead n.value.1 = subst (λ (k : ℕ). bytes ≡ lead_text k ++ ahead n.value.1) is whole.parts in
     let behind : drop 10 bytes ≡ ahead n.value.1 = ap (drop 10) parts ∙ drop_at (lead_text size) (ahead n.value.1) 10 refl in
     (parts ∙ ap (λ rest. lead_text size ++ rest) (sym behind), omega (arith, third.1, is))
@@ -62,7 +62,7 @@ told_takes bytes size each e =
 pub told_again : (size : ℕ) (rest : List ℕ) → size < 2 ^ 32 → told (lead_text size ++ rest) ≡ Ok size
 unfolding told magic_at version_at
 told_again size rest below =
-    let a = bytes_again 4 (start (lead_text size ++ rest)) (codes "XMPK") (to_be_bytes w16 1 ++ (to_be_bytes w32 size ++ rest)) refl refl in
+    let a = bytes_again 4 (cursor_start (lead_text size ++ rest)) (codes "XMPK") (to_be_bytes w16 1 ++ (to_be_bytes w32 size ++ rest)) refl refl in
     let b = number_again w16 (2 ^ 16) wide16 a.after 1 (to_be_bytes w32 size ++ rest) (omega arith) a.ahead in
     let c = number_again w32 (2 ^ 32) wide32 b.after size rest below b.ahead in
     rw (a.is, b.is, c.is) refl
