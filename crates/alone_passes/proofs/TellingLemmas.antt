@@ -271,7 +271,7 @@ unfolding model_part_at
 part_there g p a below is =
     same_Some (part_in g p) a (sym (ap (on (part g p)) (slice_get-get_or g.parts p (booted_part g.system p) below)) ∙ is)
 
--- the first cue that is not taken, behind one that is
+-- the first cue that is not taken, after one that is
 behind_taken : (view : PartitionView) (a : Alone) (tick : ℕ) (cue : Cue) (later : List Cue) → takes_cue view a cue ≡ true
     → first_untaken view a tick (cue ∷ later) ≡ first_untaken view (alone_step view a cue) (suc tick) later
 behind_taken view a tick cue later taken =

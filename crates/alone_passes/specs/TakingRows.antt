@@ -19,7 +19,7 @@ queue_of_two name = record { shape = record { kind = kind.Queuing 2; length = 4 
 abbrev pub samples : ℕ → ℕ → PortChannel
 samples refresh name = record { shape = record { kind = kind.Sampling refresh; length = 4 }; name = name }
 
--- a queue of two takes a message behind one, and not behind two; it gives one of one, and none of none
+-- a queue of two takes a message after one, and not after two; it gives one of one, and none of none
 pub record QueueRows : Type 0 where
   pub room : (view : PartitionView) (copies : List (Option Content)) (q : ℕ) (message one : List ℕ) → slice_index_or view.channels q None ≡ Some (queue_of_two q)
       → slice_index_or copies q None ≡ Some (Queuing (one ∷ [])) → takes_traffic view copies (OwnPuts q message) ≡ true

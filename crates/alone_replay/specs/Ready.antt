@@ -44,7 +44,7 @@ with_input system p cues (Err why) = Err why
 with_input system p cues (Ok inputs) =
     fitting (with_inputs system inputs) p cues (first_untaken (view_of (with_inputs system inputs) p) (alone_start (view_of (with_inputs system inputs) p)) 0 cues)
 
--- the input words, behind a script that was read
+-- the input words, after a script that was read
 abbrev pub with_script : loaded.System → ℕ → List ℕ → Result (List Cue) ScriptFault → Result Replay Unready
 with_script system p input (Err fault) = Err (NoScript (script_fault_text fault))
 with_script system p input (Ok cues) = with_input system p cues (inputs_given (length system.conf.parts) p input)

@@ -9,7 +9,7 @@ use Rattle.bin_config.specs.Gives.{Fails, with_front}
 use Rattle.bin_config.specs.declared.fault.XmcFault.{XmcFault}
 use Rattle.bin_config.specs.declared.fault.XmcFault.TheVariants as fault
 
--- one more element behind a front
+-- one more element after a prefix
 pub with_front-more : {X : Type 0} (front : List X) (x : X) (read : Read (List X)) → with_front (front ++ x ∷ []) read ≡ with_front front (read >>= λ xs. Ok (x ∷ xs.0, xs.1))
 with_front-more front x (Ok (xs, place)) = ap (λ all. Ok (all, place)) (append_assoc front (x ∷ []) xs)
 with_front-more front x (Err f) = refl
@@ -44,7 +44,7 @@ elements_fails element count n old front (fault.Trailing at) r below read sofar 
 elements_fails element count n old front (fault.Field at) r below read sofar = elements_fault element count n old front (fault.Field at) r below read sofar
 elements_fails element count n old front (fault.NotFit rule) r below read sofar = elements_fault element count n old front (fault.NotFit rule) r below read sofar
 
--- behind the last element
+-- after the last element
 pub elements_all : {X : Type 0} (element : Place → Read X) (count n : ℕ) (place : Place) (front : List X) (r : Read (List X))
     → count ≤ n → with_front front (elements_at element (count - n) place) ≡ r → r ≡ Ok (front, place)
 elements_all element count n place front r past sofar =

@@ -5,7 +5,7 @@ use Rattle.std.specs.List.{AllWithin}
 use Rattle.std.proofs.lemmas.List.Elements.{AllWithin-more}
 use Rattle.std.proofs.lemmas.List.{append-nil, at_drop_more, at_drop_all, get_or_default}
 
--- one piece behind another
+-- one piece after another
 pub put_then : (old mid new a b : List ℕ) → mid ≡ old ++ a → new ≡ mid ++ b → new ≡ old ++ (a ++ b)
 put_then old mid new a b first second = second ∙ ap (λ front. front ++ b) first ∙ append_assoc old a b
 
@@ -23,7 +23,7 @@ put_more f xs n d x old new r below is put sofar =
     ∙ sym (at_drop_more (λ rest. old ++ flat_map f rest) xs n d below)
     ∙ sofar
 
--- behind the last element
+-- after the last element
 pub put_all : {X : Type 0} (f : X → List ℕ) (xs : List X) (n : ℕ) (old r : List ℕ) → length xs ≤ n → old ++ flat_map f (drop n xs) ≡ r → old ≡ r
 put_all f xs n old r past sofar = put_none old ∙ sym (at_drop_all (λ rest. old ++ flat_map f rest) xs n past) ∙ sofar
 

@@ -52,17 +52,17 @@ AreBytes-take n bytes each i =
       | inr le ↦ rw (get_or_past (take n bytes) i 0 (omega (arith, length-take n bytes))) (omega arith)
     ]
 
--- a text stands at a place, and behind it a place with the bytes that are left
+-- a text stands at a place, and after it a place with the bytes that are left
 pub record Takes (place : Place) (text : List ℕ) (after : Place) : Type 0 where
   pub parts : ahead place ≡ text ++ ahead after
   pub rest : AreBytes (ahead after)
 
--- two texts, one behind the other
+-- two texts, one after the other
 pub takes_both : (a : Place) (x : List ℕ) (b : Place) (y : List ℕ) (c : Place) → Takes a x b → Takes b y c → Takes a (x ++ y) c
 takes_both a x b y c first second =
     record { parts = first.parts ∙ ap (λ rest. x ++ rest) second.parts ∙ sym (append_assoc x y (ahead c)); rest = second.rest }
 
--- what is read where a text stands: the value, and a place with the bytes behind the text
+-- what is read where a text stands: the value, and a place with the bytes after the text
 pub record Reads {X : Type 0} (read : Read X) (value : X) (rest : List ℕ) : Type 0 where
   pub after : Place
   pub is : read ≡ Ok (value, after)

@@ -6,11 +6,11 @@ use Rattle.bin_config.specs.Reading.{Read, ◌>>=◌}
 use Rattle.bin_config.specs.FieldLemmas.{IsReaderOf, Takes, stepped, ok_is, takes_both}
 use Rattle.bin_config.specs.declared.fault.XmcFault.{XmcFault}
 
--- fields before something: their values go to what follows, with the place behind them
+-- fields before something: their values go to what follows, with the place after them
 abbrev pub LeadingFields : Type 0 → Type 1
 LeadingFields T = (Y : Type 0) → (T → Place → Result Y XmcFault) → Place → Result Y XmcFault
 
--- fields that did not fail: their values, the place behind them, and what followed
+-- fields that did not fail: their values, the place after them, and what followed
 pub record Opened {T Y : Type 0} (spell : T → List ℕ) (P : T → Type 0) (more : T → Place → Result Y XmcFault) (place : Place) (end : Y) : Type 0 where
   pub value : T
   pub after : Place
@@ -18,7 +18,7 @@ pub record Opened {T Y : Type 0} (spell : T → List ℕ) (P : T → Type 0) (mo
   pub is : P value
   pub led : more value after ≡ Ok end
 
--- fields that are read where they stand: what follows is at the place behind them
+-- fields that are read where they stand: what follows is at the place after them
 pub record Reached {Y : Type 0} (read : Result Y XmcFault) (more : Place → Result Y XmcFault) (rest : List ℕ) : Type 0 where
   pub after : Place
   pub is : read ≡ more after

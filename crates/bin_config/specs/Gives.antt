@@ -15,7 +15,7 @@ Fails (fault.Trailing at) read = read ≡ Err (fault.Trailing at)
 Fails (fault.Field at) read = read ≡ Err (fault.Field at)
 Fails (fault.NotFit rule) read = read ≡ Err (fault.NotFit rule)
 
--- a value is the one that reading gives, with the place behind it
+-- a value is the one that reading gives, with the place after it
 abbrev pub Gives : {X : Type 0} → Result X XmcFault → Place → Read X → Type 0
 Gives (Ok x) new read = read ≡ Ok (x, new)
 Gives (Err fault) new read = Fails fault read

@@ -9,7 +9,7 @@ use Rattle.bin_config.specs.Spelled.{HasConfRanges, IsSpelledConf}
 use Rattle.bin_config.specs.Xmc.{xmc}
 use Rattle.bin_config.specs.declared.fault.XmcFault.TheVariants.{Short, Trailing}
 
--- no spelling has another one as its front: what follows a spelling in a spelling is nothing
+-- no spelling has another one as its prefix: what follows a spelling in a spelling is nothing
 abbrev pub IsPrefixFree : Type 0
 IsPrefixFree = (a b : Conf) (rest : List ℕ) → length (xmc b) < 2 ^ 32 → xmc b ≡ xmc a ++ rest → rest ≡ []
 
@@ -27,11 +27,11 @@ ReadIsSpelled = (bytes : List ℕ) (conf : Conf) → AreBytes bytes → read_of 
 abbrev pub SpelledIsRead : Type 0
 SpelledIsRead = (conf : Conf) → HasConfRanges conf → Fits (described conf) → read_of (xmc conf) ≡ Ok conf
 
--- nothing is read of a spelling with something behind it: that begins where the spelling ends
+-- nothing is read of a spelling with something after it: that begins where the spelling ends
 abbrev pub MoreIsTrailing : Type 0
 MoreIsTrailing = (conf : Conf) (rest : List ℕ) → IsSpelledConf conf → rest ≢ [] → read_of (xmc conf ++ rest) ≡ Err (Trailing (length (xmc conf)))
 
--- a spelling that is cut behind its length field is short where it ends
+-- a spelling that is cut after its length field is short where it ends
 abbrev pub CutIsShort : Type 0
 CutIsShort =
     (conf : Conf) (front rest : List ℕ) → IsSpelledConf conf → xmc conf ≡ front ++ rest → rest ≢ [] → 10 ≤ length front

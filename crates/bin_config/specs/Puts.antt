@@ -1,4 +1,4 @@
--- What a call that writes leaves behind.
+-- What a call that writes leaves.
 use Rattle.std.specs.Prelude.{◌≡◌, ⊤, List, ◌++◌, ℕ, Result, Ok, Err}
 
 -- the bytes grew by a piece; where there was no memory nothing is said

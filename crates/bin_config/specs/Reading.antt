@@ -1,4 +1,4 @@
--- A binary configuration is read from left to right: each field with its value and what is behind it, or the first fault.
+-- A binary configuration is read from left to right: each field with its value and what is after it, or the first fault.
 use Rattle.std.specs.Prelude.{ℕ, suc, zero, ◌==◌, Bool, true, false, ◌&&◌, ◌||◌, nat_lt, if◌then◌else◌, List, [], ◌∷◌, length, slice_get, codes, Option, Some, None, Result, Ok, Err}
 use Rattle.std.specs.Str.{bytes_eq}
 use Rattle.std.specs.Int.{Width, w8, w16, w32, from_be_bytes}
@@ -27,12 +27,12 @@ use Rattle.bin_config.specs.declared.identity.Identity.{Identity}
 use Rattle.bin_config.specs.declared.fault.XmcFault.{XmcFault}
 use Rattle.bin_config.specs.declared.fault.XmcFault.TheVariants as fault
 
--- a value with the place behind it, or a fault
+-- a value with the place after it, or a fault
 abbrev pub Read : Type 0 → Type 0
 Read X = Result (X × Place) XmcFault
 
 infixl 10 ◌>>=◌
--- what follows, behind a value
+-- what follows, after a value
 abbrev pub ◌>>=◌ : {A B : Type 0} → Result A XmcFault → (A → Result B XmcFault) → Result B XmcFault
 (Ok x) >>= f = f x
 (Err e) >>= f = Err e
@@ -254,7 +254,7 @@ part_record_at place = do
     ports.1,
   )
 
--- what stands behind the length of the whole
+-- what stands after the length of the whole
 unfoldable pub conf_body_at : Place → Read Conf
 conf_body_at place = do
   name ← text_field_at place
@@ -316,7 +316,7 @@ abbrev pub unbroken : Conf → Option Broken → Result Conf XmcFault
 unbroken conf None = Ok conf
 unbroken conf (Some broken) = Err (fault.NotFit broken.rule)
 
--- all fields, and nothing behind them
+-- all fields, and nothing after them
 unfoldable pub conf_fields : List ℕ → Result Conf XmcFault
 conf_fields bytes = do
   head ← head_at (cursor_start bytes)

@@ -424,7 +424,7 @@ part_spells =
     (λ p q. (refl, (((record { name = q.name; console = q.console; need = q.need; trace_mask = q.trace_mask }, q.hm), q.areas), q.ports)))
     (λ p q. append_assoc (xmc.identity p ++ xmc.monitor p.hm) (xmc.list_field xmc.area_record p.areas) (xmc.list_field xmc.port_record p.ports))
 
--- what stands behind the length of the whole
+-- what stands after the length of the whole
 pub conf_spells : IsReaderOf reading.conf_body_at xmc.body IsSpelledConf
 unfolding reading.conf_body_at xmc.body
 conf_spells =

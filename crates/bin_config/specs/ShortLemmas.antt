@@ -25,7 +25,7 @@ use Rattle.bin_config.specs.Xmc as xmc
 pub record HasAtMost (most : ℕ) (bytes : List ℕ) : Type 0 where
   pub is : length bytes ≤ most
 
--- one text behind another
+-- one text after another
 both_short : {a b : List ℕ} {m n : ℕ} → HasAtMost m a → HasAtMost n b → HasAtMost (m + n) (a ++ b)
 both_short {a} {b} first second = record { is = omega (arith, length-append a b, first.is, second.is) }
 
@@ -140,7 +140,7 @@ chan_short c is =
     (both_short (both_short (both_short (byte_short (xmc.chan_byte c.kind)) (half_word_short c.length)) (keeps_short c.kind)) (end_short c.source is.source))
     (counted_short xmc.end IsSpelledEnd 2 end_short c.dests is.dests)
 
--- what stands behind the length of the whole
+-- what stands after the length of the whole
 pub body_short : (conf : Conf) → IsSpelledConf conf → HasAtMost 3541226 (xmc.body conf)
 unfolding xmc.body
 body_short conf is =

@@ -117,7 +117,7 @@ end e = (e.part ∷ []) ++ (e.port ∷ [])
 unfoldable pub chan : Chan → List ℕ
 chan c = (chan_byte c.kind ∷ []) ++ half_word c.length ++ keeps c.kind ++ end c.source ++ list_field end c.dests
 
--- what stands behind the length of the whole
+-- what stands after the length of the whole
 unfoldable pub body : Conf → List ℕ
 body conf =
     text_field conf.name ++ list_field region_record conf.regions ++ word_field conf.hv_size ++ list_field text_field conf.uarts ++ list_field plan_record conf.plans

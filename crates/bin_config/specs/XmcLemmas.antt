@@ -37,7 +37,7 @@ pub length-xmc : (conf : Conf) → length (xmc conf) ≡ 10 + length (body conf)
 unfolding xmc
 length-xmc conf = length-head (10 + length (body conf)) (body conf)
 
--- the word behind the first six bytes
+-- the word after the first six bytes
 abbrev length_word : List ℕ → ℕ
 length_word bytes = from_be_bytes w32 (take 4 (drop 6 bytes))
 
@@ -46,7 +46,7 @@ total_at-head : (total : ℕ) (rest : List ℕ) → total < 2 ^ 32 → length_wo
 unfolding head
 total_at-head total rest below = from_be_bytes-to_be_bytes_4 total below
 
--- no spelling has another one as its front
+-- no spelling has another one as its prefix
 pub prefix_free : IsPrefixFree
 unfolding xmc
 prefix_free a b rest below is =
@@ -188,7 +188,7 @@ fields_again conf spelled below =
     whole_same : (size : ℕ) → is_whole size size ≡ Ok tt
     whole_same size = let same : ltb size size ≡ false = le-ltb size size (omega arith) in rw same refl
 
--- nothing is read of a spelling with something behind it
+-- nothing is read of a spelling with something after it
 fields_more : (conf : Conf) (rest : List ℕ) → length (xmc conf) < 2 ^ 32 → rest ≢ [] → conf_fields (xmc conf ++ rest) ≡ Err (fault.Trailing (length (xmc conf)))
 unfolding conf_fields
 fields_more conf rest below some =
@@ -204,7 +204,7 @@ fields_more conf rest below some =
         let short : ltb size total ≡ true = lt-ltb size total less in
         rw (long, short) refl
 
--- nothing is read of a front of a spelling that ends behind the length field
+-- nothing is read of a prefix of a spelling that ends after the length field
 fields_cut : (conf : Conf) (front rest : List ℕ) → length (xmc conf) < 2 ^ 32 → xmc conf ≡ front ++ rest → rest ≢ [] → 10 ≤ length front
     → conf_fields front ≡ Err (fault.Short (length front))
 unfolding conf_fields
@@ -250,12 +250,12 @@ unbroken_read conf spelled none =
 pub spelled_read : IsBrokenUnlessFits → SpelledIsRead
 spelled_read law conf ranges fits = unbroken_read conf (spelled_if_fits conf ranges fits) ((law (described conf)).1 fits)
 
--- nothing is read of a spelling with something behind it
+-- nothing is read of a spelling with something after it
 pub more_trailing : MoreIsTrailing
 unfolding read_of
 more_trailing conf rest spelled some = let fields = fields_more conf rest (xmc_short conf spelled) some in rw fields refl
 
--- a spelling that is cut behind its length field is short where it ends
+-- a spelling that is cut after its length field is short where it ends
 pub cut_short : CutIsShort
 unfolding read_of
 cut_short conf front rest spelled is some long = let fields = fields_cut conf front rest (xmc_short conf spelled) is some long in rw fields refl

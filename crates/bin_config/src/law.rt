@@ -25,17 +25,17 @@ pub fn spelled_is_read()
     broken_unless_fits();
 }
 
-/// Nothing is read of a spelling with something behind it.
+/// Nothing is read of a spelling with something after it.
 pub fn more_is_trailing()
     ensures law { MoreIsTrailing }
 {}
 
-/// A spelling that is cut behind its length field is short where it ends.
+/// A spelling that is cut after its length field is short where it ends.
 pub fn cut_is_short()
     ensures law { CutIsShort }
 {}
 
-/// No spelling is a proper front of another.
+/// No spelling is a proper prefix of another.
 pub fn prefix_free()
     ensures law { IsPrefixFree }
 {}

@@ -1,4 +1,4 @@
-//! Fields that are put behind bytes.
+//! Fields that are put after bytes.
 
 ghost use Rattle.std.specs.Prelude.{◌∷◌, []};
 ghost use Rattle.bin_config.specs.Puts.{Puts};

@@ -596,7 +596,7 @@ fn parts(alloc: Global, cursor: &mut Cursor<'_>) -> Result<Vec<Part>, XmcFault>
     each_part(alloc, count, cursor)
 }
 
-/// What stands behind the length of the whole.
+/// What stands after the length of the whole.
 #[tactic(auto, unfolding(crate::specs::Reading::conf_body_at))]
 fn conf(alloc: Global, cursor: &mut Cursor<'_>) -> Result<RawConf, XmcFault>
     ensures { Gives result cursor.new (reading.conf_body_at cursor.old) }
@@ -678,7 +678,7 @@ fn is_whole(total: usize, told: u32) -> Result<(), XmcFault>
     Ok(())
 }
 
-/// All fields, and nothing behind them.
+/// All fields, and nothing after them.
 #[tactic(auto, unfolding(crate::specs::Reading::conf_fields))]
 fn fields(alloc: Global, bytes: &[u8]) -> Result<RawConf, XmcFault>
     ensures { GivesWhole result (reading.conf_fields bytes.now) }

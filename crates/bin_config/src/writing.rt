@@ -155,7 +155,7 @@ fn put_plans(bytes: &mut Vec<u8>, plans: &[Plan]) -> Result<(), Memory>
     put_each_plan(bytes, plans)
 }
 
-/// The byte that tells whether something is so.
+/// The byte that answers whether something is so.
 fn flag(is: bool) -> u8
     ensures { result ≡ xmc.flag_field is }
 {
@@ -470,7 +470,7 @@ fn put_chans(bytes: &mut Vec<u8>, chans: &[Chan]) -> Result<(), Memory>
     put_each_chan(bytes, chans)
 }
 
-/// Puts what stands behind the length of the whole.
+/// Puts what stands after the length of the whole.
 #[tactic(auto, using(crate::proofs::PutsLemmas::put_then, crate::proofs::FewLemmas::few), unfolding(crate::specs::Xmc::body))]
 fn put_body(bytes: &mut Vec<u8>, raw: &RawConf) -> Result<(), Memory>
     requires counts { HasCounts raw.now }
@@ -522,7 +522,7 @@ fn framed(alloc: Global, body: &[u8]) -> Result<Vec<u8>, Memory>
     Ok(bytes)
 }
 
-/// What stands behind the length of the whole.
+/// What stands after the length of the whole.
 #[tactic(auto, using(crate::proofs::FewLemmas::fitting))]
 fn body_of(alloc: Global, conf: &Conf) -> Result<Vec<u8>, Memory>
     ensures bytes { IfOk result (λ bytes. bytes.items ≡ xmc.body conf.now) }

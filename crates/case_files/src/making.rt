@@ -11,7 +11,7 @@ use std::io::Read;
 // The first words of a program file for SPARC, 32 bits and big endian, up to its entry.
 const PROGRAM_FRONT: [u32; 6] = [0x7f45_4c46, 0x0102_0100, 0, 0, 0x0002_0002, 1];
 
-// Behind the entry: the program headers begin at 52, and there is one of 32 bytes.
+// After the entry: the program headers begin at 52, and there is one of 32 bytes.
 const PROGRAM_TABLE: [u32; 6] = [52, 0, 0, 0x0034_0020, 0x0001_0000, 0];
 
 /// Files that were made, by their names: those that every book may use, then those of one book.
@@ -130,7 +130,7 @@ fn of_hex(alloc: Global, digits: &str) -> Result<Vec<u8>> {
     Ok(hex::decode(alloc, close)?)
 }
 
-// A program file of one header, which loads words from behind the headers and enters them.
+// A program file of one header, which loads words from after the headers and enters them.
 fn program_file(alloc: Global, program: Entry<'_>) -> Result<Vec<u8>> {
     program.has_only(&["start", "words", "seed", "count"])?;
     let start = program.text("start")?.context("no start")?;

@@ -180,7 +180,7 @@ impl Memory {
         self.put(&[CALL])
     }
 
-    // A hypercall upon the messages of a port.
+    // A hypercall on the messages of a port.
     fn put_message_call(&mut self) -> Result<()> {
         let number = MESSAGES[self.draws.below(6) as usize];
         let port = self.draws.below(3);

@@ -168,7 +168,7 @@ pub fn get_system_status(sys: &mut Sys, site: CallSite) -> Served
     show(sys, site, address, status.bytes(), Act::Nothing, 0)
 }
 
-// An order upon the partition that the call names.
+// An order on the partition that the call names.
 fn order_named(sys: &mut Sys, site: CallSite, order: Order) -> Served
     requires { IsCaller site sys.old }
     ensures { IsServed site.part Unseen (tested (target (caller_of site sys.old) (a_of (caller_of site sys.old)) ∷ []) (caller_of site sys.old) (ordering order (caller_of site sys.old))) result sys.old sys.new }

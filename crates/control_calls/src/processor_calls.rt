@@ -189,7 +189,7 @@ fn set_icc(processor: &mut Processor, icc: u8)
     *processor = Processor::of(&core);
 }
 
-// The same on registers that are not at hand.
+// The same on registers that are not cached.
 #[tactic(auto, unfolding(sparc_step::specs::Registers::with_icc))]
 fn put_icc(core: &mut Core, icc: u8)
     requires { icc < 16 }
@@ -252,7 +252,7 @@ fn go_to(processor: &mut Processor, pc: u32, npc: u32)
     *processor = Processor::of(&core);
 }
 
-// The same on registers that are not at hand.
+// The same on registers that are not cached.
 fn put_counters(core: &mut Core, pc: u32, npc: u32)
     requires pc { pc % 4 ≡ 0 }
     requires npc { npc % 4 ≡ 0 }

@@ -20,7 +20,7 @@ use Rattle.cue_scripts.proofs.FieldLemmas.{Reads, bytes_again, listed_again, num
 use Rattle.cue_scripts.proofs.ScriptLemmas.{few_shown}
 use Rattle.cue_scripts.proofs.TakePartLemmas.{InOwn}
 
--- a byte that stands there is read, and then what is behind it
+-- a byte that stands there is read, and then what is after it
 pub record Leads {A : Type 0} (test : ℕ → Bool) (more : ℕ → Place → Result A ScriptFault) (place : Place) (n : ℕ) (rest : List ℕ) : Type 0 where
   pub after : Place
   pub is : (listed_at w8 test place >>= λ kind. more kind.0 kind.1) ≡ more n after
@@ -71,7 +71,7 @@ traffic_again conf p Away place (OwnTakes name) rest can still stands =
     record { after = n.after; is = k.is ∙ n.is; ahead = n.ahead }
 traffic_again conf p (Mine first) place (OwnTakes name) rest can still stands = absurd cc
 
--- a reset, behind its kind
+-- a reset, after its kind
 reset_again : (mode : Mode) (place : Place) (status : ℕ) (rest : List ℕ) → status < 2 ^ 32 → ahead place ≡ to_be_bytes w32 status ++ rest → Reads (reset_at mode place) (Some (upon.Reset mode status)) rest
 unfolding reset_at
 reset_again mode place status rest small stands =

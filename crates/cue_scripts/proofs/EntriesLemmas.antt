@@ -35,7 +35,7 @@ fails_on (fault.Field at) part whole so e = so _ e
 fails_on (fault.Length found) part whole so e = e
 fails_on (fault.Cue tick) part whole so e = e
 
--- an item more is at the end of the front
+-- an item more is at the end of the prefix
 regroup : {X : Type 0} (front : List X) (x : X) (read : ScriptRead (List X)) → with_front front (read >>= λ xs. Ok (x ∷ xs.0, xs.1)) ≡ with_front (front ++ x ∷ []) read
 regroup front x (Ok xs) = ap (λ all. Ok (all, xs.1)) (sym (append_assoc front (x ∷ []) xs.0))
 regroup front x (Err fault) = refl

@@ -71,7 +71,7 @@ listed_takes w limit wide test place n after each e =
     let P : ℕ × Place → Type 0 = λ x. Takes place (to_be_bytes w x.0) x.1 × (x.0 < limit) × (test x.0 ≡ true) in
     subst P p.is (t.0, t.1, p.true)
 
--- what is read where a text stands: the value, and a place with the bytes behind the text
+-- what is read where a text stands: the value, and a place with the bytes after the text
 pub record Reads {A : Type 0} (read : Result (A × Place) ScriptFault) (value : A) (rest : List ℕ) : Type 0 where
   pub after : Place
   pub is : read ≡ Ok (value, after)
@@ -106,7 +106,7 @@ one_byte n below =
     let same : n % 256 ≡ n = omega (arith, below) in
     ap (λ b. b ∷ []) same
 
--- a byte that was read and tested, and what was read behind it
+-- a byte that was read and tested, and what was read after it
 pub record Begins {A : Type 0} (test : ℕ → Bool) (more : ℕ → Place → Result A ScriptFault) (place : Place) (end : A) : Type 0 where
   pub kind : ℕ
   pub behind : Place
@@ -115,7 +115,7 @@ pub record Begins {A : Type 0} (test : ℕ → Bool) (more : ℕ → Place → R
   pub first : Takes place (kind ∷ []) behind
   pub led : more kind behind ≡ Ok end
 
--- what was read behind a byte
+-- what was read after a byte
 pub begins : {A : Type 0} (test : ℕ → Bool) (more : ℕ → Place → Result A ScriptFault) (place : Place) (end : A) → AreBytes (ahead place)
     → (listed_at w8 test place >>= λ kind. more kind.0 kind.1) ≡ Ok end → Begins test more place end
 begins test more place end each e =

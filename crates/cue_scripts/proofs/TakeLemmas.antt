@@ -50,7 +50,7 @@ slot_takes place mine after each e =
     slot_spelled : (n : ℕ) → nat_le n 2 ≡ true → n ∷ [] ≡ slot_byte (slot_of_byte n) ∷ []
     slot_spelled n few = ap (λ b. b ∷ []) (by n (n == 0) (n == 2) refl refl few)
 
--- a message that is read behind its kind stands there
+-- a message that is read after its kind stands there
 pub put_takes : (conf : Conf) (p : ℕ) (place behind : Place) (traffic : OwnTraffic) (after : Place) → Takes place (1 ∷ []) behind → put_message_at conf p behind ≡ Ok (traffic, after)
     → Takes place (traffic_text traffic) after × CanHear conf p traffic
 unfolding put_message_at message_at traffic_text
@@ -75,7 +75,7 @@ put_takes conf p place behind traffic after kind e =
       },
     )
 
--- a message that was taken, read behind its kind, stands there
+-- a message that was taken, read after its kind, stands there
 pub take_takes : (conf : Conf) (p : ℕ) (place behind : Place) (traffic : OwnTraffic) (after : Place) → Takes place (2 ∷ []) behind → take_at conf p behind ≡ Ok (traffic, after)
     → Takes place (traffic_text traffic) after × CanHear conf p traffic
 unfolding take_at traffic_text

@@ -63,7 +63,7 @@ traffic_takes conf p mine place traffic after each e =
         (t.0, t.1, not_own 3 mine kind _ fa passes)
     at kind behind passes first false false false fa fb fc led = absurd (no_signal behind traffic after led)
 
--- a reset that is read behind its kind stands there
+-- a reset that is read after its kind stands there
 reset_takes : (mode : Mode) (place behind : Place) (order : Option Order) (after : Place) → Takes place (reset_byte mode ∷ []) behind → reset_at mode behind ≡ Ok (order, after)
     → Takes place (order_text order) after × IsOrder order
 unfolding reset_at order_text
@@ -163,7 +163,7 @@ in_sight false (Mine first) n some passes =
     let none = rw some at passes in
     absurd cc
 
--- bytes that were shown, read behind their kind, stand there
+-- bytes that were shown, read after their kind, stand there
 words_take : (system : Bool) (mine : CueSlot) (place behind : Place) (seen : Sight) (after : Place) → (is_away mine ≡ false) × (system ≡ true) → Takes place (2 ∷ []) behind → shown_words_at behind ≡ Ok (seen, after)
     → Takes place (sight_text seen) after × CanSee system mine seen
 unfolding shown_words_at sight_text

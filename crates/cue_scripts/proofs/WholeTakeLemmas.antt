@@ -88,7 +88,7 @@ differs (Some true) false passes same = absurd cc
 differs (Some false) true passes same = absurd cc
 differs (Some false) false passes same = absurd cc
 
--- cues that are alike, read behind their kind, stand there
+-- cues that are alike, read after their kind, stand there
 alike_takes : (conf : Conf) (p cues : ℕ) (last : Option Bool) (own : Bool) (place behind : Place) (entry : Entry) (after : Place) → last ≢ Some own → Takes place (alike_byte own ∷ []) behind
     → alike_at own cues behind ≡ Ok (entry, after) → Takes place (entry_text entry) after × IsEntry conf p cues last entry
 unfolding alike_at entry_text
@@ -107,7 +107,7 @@ none_is : {X : Type 0} (option : Option X) → is_none option ≡ true → optio
 none_is None e = refl
 none_is (Some x) e = absurd cc
 
--- another cue, read behind its kind, stands there
+-- another cue, read after its kind, stands there
 other_takes : (conf : Conf) (p cues : ℕ) (last : Option Bool) (at : ℕ) (place behind : Place) (entry : Entry) (after : Place) → Takes place (2 ∷ []) behind
     → other_at conf p (cues == 1) at behind ≡ Ok (entry, after) → Takes place (entry_text entry) after × IsEntry conf p cues last entry
 unfolding other_at entry_text

@@ -21,7 +21,7 @@ abbrev pub Gives : {X Y : Type 0} → (X → Y) → Result X ScriptFault → Res
 Gives view (Ok value) read = read ≡ Ok (view value)
 Gives view (Err fault) read = Fails fault read
 
--- the same for a cursor, which stands behind what was read
+-- the same for a cursor, which stands after what was read
 abbrev pub GivesAt : {X Y : Type 0} → (X → Y) → Result X ScriptFault → Place → ScriptRead Y → Type 0
 GivesAt view (Ok value) place read = read ≡ Ok (view value, place)
 GivesAt view (Err fault) place read = Fails fault read

@@ -17,7 +17,7 @@ use Rattle.cue_scripts.specs.Spelling.{alike_byte}
 use Rattle.cue_scripts.specs.declared.fault.ScriptFault.{ScriptFault}
 use Rattle.cue_scripts.specs.declared.fault.ScriptFault.TheVariants as fault
 
--- a value with the place behind it, or a fault
+-- a value with the place after it, or a fault
 abbrev pub ScriptRead : Type 0 → Type 0
 ScriptRead X = Result (X × Place) ScriptFault
 
@@ -25,11 +25,11 @@ ScriptRead X = Result (X × Place) ScriptFault
 abbrev pub unless : {A : Type 0} → Bool → ScriptFault → A → Result A ScriptFault
 unless test fault value = if test then Ok value else Err fault
 
--- the next bytes, so many, and the place behind them; a field that passes the end is Short, at its beginning
+-- the next bytes, so many, and the place after them; a field that passes the end is Short, at its beginning
 abbrev pub bytes_at : ℕ → Place → ScriptRead (List ℕ)
 bytes_at count place = if nat_lt (left place) count then Err (fault.Short place.at) else Ok (next count place, past count place)
 
--- the next field as a number, and the place behind it
+-- the next field as a number, and the place after it
 abbrev pub number_at : Width → Place → ScriptRead ℕ
 number_at width place = bytes_at (byte_len width) place >>= λ field. Ok (from_be_bytes width field.0, field.1)
 
@@ -37,15 +37,15 @@ number_at width place = bytes_at (byte_len width) place >>= λ field. Ok (from_b
 abbrev pub listed_at : Width → (ℕ → Bool) → Place → ScriptRead ℕ
 listed_at width test place = number_at width place >>= λ field. unless (test field.0) (fault.Field place.at) field
 
--- the name of the format, and the place behind it
+-- the name of the format, and the place after it
 unfoldable pub magic_at : Place → Result Place ScriptFault
 magic_at place = bytes_at 4 place >>= λ field. unless (bytes_eq field.0 (codes "XMSC")) fault.Magic field.1
 
--- the version, and the place behind it
+-- the version, and the place after it
 unfoldable pub version_at : Place → Result Place ScriptFault
 version_at place = number_at w16 place >>= λ field. unless (field.0 == 1) (fault.Version field.0) field.1
 
--- the partition's number, and the place behind it
+-- the partition's number, and the place after it
 unfoldable pub partition_at : ℕ → Place → Result Place ScriptFault
 partition_at p place = listed_at w8 (λ id. id == p) place >>= λ field. Ok field.1
 
@@ -227,7 +227,7 @@ body_at conf p place = do
   total ← cue_count_at id
   script_entries_at conf p total.0 total.0 None total.1
 
--- the entries of a script for partition p, with nothing behind them
+-- the entries of a script for partition p, with nothing after them
 unfoldable pub entries_of : Conf → ℕ → List ℕ → Result (List Entry) ScriptFault
 entries_of conf p bytes = do
   entries ← body_at conf p (cursor_start bytes)

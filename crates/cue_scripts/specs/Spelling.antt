@@ -18,7 +18,7 @@ slot_byte Away = 0
 slot_byte (Mine false) = 1
 slot_byte (Mine true) = 2
 
--- traffic: its kind, the partition's name for the channel, and a message behind its length
+-- traffic: its kind, the partition's name for the channel, and a message after its length
 unfoldable pub traffic_text : OwnTraffic → List ℕ
 traffic_text OwnStill = 0 ∷ []
 traffic_text (OwnPuts name bytes) = 1 ∷ name ∷ to_be_bytes w16 (length bytes) ++ bytes
@@ -45,7 +45,7 @@ event_byte (AllReset mode.Cold) = 1
 event_byte (AllReset mode.Warm) = 2
 event_byte AllHalted = 3
 
--- what is seen: its kind, and bytes behind their number
+-- what is seen: its kind, and bytes after their number
 unfoldable pub sight_text : Sight → List ℕ
 sight_text Unseen = 0 ∷ []
 sight_text NotKept = 1 ∷ []

@@ -1,4 +1,4 @@
-//! Numbers that are put behind bytes.
+//! Numbers that are put after bytes.
 
 ghost use Rattle.std.specs.Prelude.{◌≡◌, ◌++◌, OnOk};
 ghost use Rattle.std.specs.Int.{to_be_bytes, w16, w32, w64};

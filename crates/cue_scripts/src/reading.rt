@@ -520,7 +520,7 @@ fn body(
     entries(alloc, conf, p, total, cursor)
 }
 
-/// The entries of a script, with nothing behind them.
+/// The entries of a script, with nothing after them.
 #[tactic(auto, unfolding(crate::specs::Reading::entries_of))]
 fn whole(
     alloc: Global,

@@ -13,7 +13,7 @@ use Rattle.cyclic_plans.specs.PlanLemmas.{plan_fits, begins_in_frame}
 use Rattle.cyclic_plans.proofs.SlotLemmas.{slot_from-found, slot_from-gap, slot_from-none}
 use Rattle.cyclic_plans.proofs.StretchLemmas.{stretch_end-past, stretch_end-inside, stretch_end-alike}
 
--- what is told of a slot that runs
+-- what is reported of a slot that runs
 runs_in : (moment number : ℕ) (slot : Slot) → Covers moment slot → RunsIn moment (here_in moment (number, slot)) slot
 runs_in moment number slot runs = record { part = refl; covers = runs; first = first }
   where

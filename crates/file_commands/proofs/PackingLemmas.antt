@@ -34,7 +34,7 @@ called_for-more : (first : List (List ℕ)) (file : List ℕ) (before : Outside)
 called_for-more [] file before = refl
 called_for-more (name ∷ first) file before = called_for-more first file (after_store_call before)
 
--- the files behind the one that is read next
+-- the files after the one that is read next
 behind : (all first rest : List (List ℕ)) (file : List ℕ) → all ≡ first ++ file ∷ rest → all ≡ (first ++ file ∷ []) ++ rest
 behind all first rest file named = named ∙ sym (append_assoc first (file ∷ []) rest)
 

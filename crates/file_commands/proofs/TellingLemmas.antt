@@ -1,4 +1,4 @@
--- The commands that tell a file read it alone, and write none.
+-- The commands that describe a file read it alone, and write none.
 use Rattle.std.proofs.Common.{◌≡◌, ℕ, List, [], ◌∷◌, None, refl}
 use Rattle.file_commands.specs.Outcome.{inputs_of, later_of, output_of, text_reported, outcome_of_contents}
 use Rattle.file_maker.specs.Telling.{text_telling}

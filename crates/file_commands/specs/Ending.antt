@@ -25,7 +25,7 @@ status_of (Unsaved file) = WriteFault
 status_of (Unheard place) = UartFault
 status_of Starved = NoMemory
 
--- what stands behind the file's name in its line
+-- what stands after the file's name in its line
 abbrev pub behind_file : List ℕ → List ℕ
 behind_file text = codes ": " ++ text ++ codes "\n"
 

@@ -151,7 +151,7 @@ scripts_for system ticks [] = Ok []
 scripts_for system ticks (named ∷ scripts) =
     unless_denied (script_denial system ticks named) (script_before (script_output system ticks named) (scripts_for system ticks scripts))
 
--- what a run of so many ticks comes to, of a system whose partitions have these input words, with these core files, and with scripts behind them
+-- what a run of so many ticks comes to, of a system whose partitions have these input words, with these core files, and with scripts after them
 unfoldable pub outcome_of_run : ℕ → List PartFile → List Output → System → List (List ℕ) → Outcome
 outcome_of_run ticks cores scripts system inputs = record {
   denial = None;
@@ -207,7 +207,7 @@ run_outcome file options bytes contents = run_by file options contents (unpacked
 abbrev pub replay_output : Readied → List ℕ → Output
 replay_output replay file = record { file = file; bytes = core_file (view_of replay.system replay.p) (replayed (view_of replay.system replay.p) replay.cues).state }
 
--- what a replay comes to that may begin: the partition's lines and that of its end, and its core file behind them, where a file is named for it
+-- what a replay comes to that may begin: the partition's lines and that of its end, and its core file after them, where a file is named for it
 unfoldable pub played : Option (List ℕ) → Readied → Outcome
 played core replay = record {
   denial = None;

@@ -4,7 +4,7 @@ use Rattle.xm_words.specs.Words.{Command, ReadImage, ListContainer, CheckContain
 use Rattle.file_maker.specs.declared.telling.Telling.{Telling}
 use Rattle.file_maker.specs.declared.telling.Telling.TheVariants.{Image, Container, Verdict, Plan, Verdicts, Groups}
 
--- the command that tells this of a file
+-- the command that reports this of a file
 abbrev pub command_telling : Telling → List ℕ → Command
 command_telling Image file = ReadImage file
 command_telling Container file = ListContainer file

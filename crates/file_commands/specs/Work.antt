@@ -77,7 +77,7 @@ told_all outcome before = reported outcome.report (wrote outcome.output before)
 abbrev pub did : Outcome → Outside → Outside
 did outcome before = wrote_all outcome.later (told_all outcome before)
 
--- files were read, one after another: of each its bytes, or a front that is too long
+-- files were read, one after another: of each its bytes, or a prefix that is too long
 abbrev pub ReadsFiles : Option Files → List (List ℕ) → List (List ℕ) → Type 0
 ReadsFiles told [] [] = Unit {0}
 ReadsFiles told [] (bytes ∷ contents) = ⊥
@@ -107,7 +107,7 @@ pub record IsRunOut (command : Command) (before after : Outside) : Type 0 where
   pub carried : IsCarriedOut None command before after
   pub run : IsSome (outcome_of command carried.contents).run
 
--- the files were read, and the sink took a front of the report, behind the file that is written
+-- the files were read, and the sink took a prefix of the report, after the file that is written
 pub record IsUnwritten (command : Command) (before after : Outside) : Type 0 where
   pub contents : List (List ℕ)
   pub read : ReadsFiles before.files (inputs_of command) contents

@@ -63,7 +63,7 @@ fn tell_line<E: Sink>(err: &mut E, program: &[u8], file: &[u8], text: &[u8]) -> 
     tell_behind(err, text)
 }
 
-// Writes what stands behind the file's name.
+// Writes what stands after the file's name.
 fn tell_behind<E: Sink>(err: &mut E, text: &[u8]) -> Result<(), Failed>
     ensures line { Writes result (E.got err.old) (behind_file text.now) (E.got err.new) }
     ensures cause { HasCause result (E.faults err.old) (E.faults err.new) }
@@ -71,7 +71,7 @@ fn tell_behind<E: Sink>(err: &mut E, text: &[u8]) -> Result<(), Failed>
     write_three(err, b": ", text, b"\n")
 }
 
-// Writes a line that names a file, and that ends with a number behind this text.
+// Writes a line that names a file, and that ends with a number after this text.
 fn name_number<E: Sink>(err: &mut E, file: &str, text: &[u8], number: u64) -> Result<(), Failed>
     requires { length text.now ≤ 32 }
     ensures line { Writes result (E.got err.old) (codes "xm_run: " ++ file.now ++ (text.now ++ decimal number ++ codes "\n")) (E.got err.new) }

@@ -91,7 +91,7 @@ pub fn read_three<'a, S: Store>(
     }
 }
 
-// The bytes of the last file, where there is one, behind those of files before it.
+// The bytes of the last file, where there is one, after those of files before it.
 fn read_last<'a, S: Store>(
     alloc: Global,
     file: Option<&'a str>,
@@ -108,7 +108,7 @@ fn read_last<'a, S: Store>(
     }
 }
 
-// The bytes of one file more, behind those of files before it.
+// The bytes of one file more, after those of files before it.
 fn read_next<'a, S: Store>(
     alloc: Global,
     file: &'a str,

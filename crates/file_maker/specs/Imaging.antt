@@ -21,21 +21,21 @@ xef_by (Err fault) = Err (elf_fault_text fault)
 unfoldable pub xef_of : List ℕ → Result (List ℕ) (List ℕ)
 xef_of program = xef_by (elf program)
 
--- the lines that tell an image, or the text of its file's fault
+-- the lines that describe an image, or the text of its file's fault
 abbrev pub image_lines_by : Result Image XefFault → Result (List ℕ) (List ℕ)
 image_lines_by (Ok image) = Ok (xef_lines image)
 image_lines_by (Err fault) = Err (xef_fault_text fault)
 
--- the lines that tell the image of a file, or the text of its first fault
+-- the lines that describe the image of a file, or the text of its first fault
 unfoldable pub image_lines_of : List ℕ → Result (List ℕ) (List ℕ)
 image_lines_of file = image_lines_by (xef file)
 
--- the lines that tell a container, or the text of its fault
+-- the lines that describe a container, or the text of its fault
 abbrev pub container_lines_by : List ℕ → Result System BoxFault → Result (List ℕ) (List ℕ)
 container_lines_by file (Ok system) = Ok (box_lines file system)
 container_lines_by file (Err fault) = Err (box_fault_text fault)
 
--- the lines that tell the container of a file, or the text of its first fault
+-- the lines that describe the container of a file, or the text of its first fault
 unfoldable pub container_lines_of : List ℕ → Result (List ℕ) (List ℕ)
 container_lines_of file = container_lines_by file (unpacked file)
 

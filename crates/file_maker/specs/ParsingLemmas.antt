@@ -20,7 +20,7 @@ pub told_makes : {X : Type 0} (why : Unmade) (made : Result X (List ℕ)) (text 
 told_makes (Refused told) made text is same = is ∙ ap Err (sym same)
 told_makes Memory made text is same = tt
 
--- want of memory says nothing
+-- out of memory says nothing
 pub starved_makes : {X : Type 0} (why : Unmade) (made : Result X (List ℕ)) → why ≡ Memory → IsUnmade why made
 starved_makes (Refused told) made is = absurd (cc)
 starved_makes Memory made is = tt

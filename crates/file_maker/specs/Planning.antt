@@ -24,7 +24,7 @@ slot_line id slot =
     codes "slot id=" ++ decimal id ++ codes " start=" ++ decimal slot.start ++ codes " duration=" ++ decimal slot.duration
     ++ codes " part=" ++ decimal slot.part ++ codes "\n"
 
--- the lines that tell a plan
+-- the lines that describe a plan
 unfoldable pub lines_of_plan : Plan → List ℕ
 lines_of_plan plan = frame_line plan.frame (length plan.slots) ++ added_by_each slot_line plan.slots
 

@@ -1,4 +1,4 @@
--- What is told of a file.
+-- What is reported of a file.
 use Rattle.std.specs.Prelude.{ℕ, List, Result}
 use Rattle.file_maker.specs.Grouping.{groups_of}
 use Rattle.file_maker.specs.Imaging.{container_lines_of, container_verdict_of, image_lines_of}

@@ -50,7 +50,7 @@ fn put_groups(alloc: Global, conf: &Conf, parts: &[Part]) -> Result<Vec<u8>, Mem
     Ok(lines)
 }
 
-// Puts the line of a partition with its group behind others.
+// Puts the line of a partition with its group after others.
 fn put_group(lines: &mut Vec<u8>, conf: &Conf, p: PartId) -> Result<(), Memory>
     requires { p < length conf.now.parts }
     ensures { OnOk result (lines.new.items ≡ lines.old.items ++ group_line p (group_of conf.now p)) }

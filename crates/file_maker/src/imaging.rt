@@ -26,7 +26,7 @@ pub fn make_xef(alloc: Global, program: &[u8]) -> Result<Vec<u8>, Unmade>
     }
 }
 
-/// The lines that tell the image of a file.
+/// The lines that describe the image of a file.
 #[tactic(auto, unfolding(crate::specs::Imaging::image_lines_of))]
 pub(crate) fn image_lines(alloc: Global, file: &[u8]) -> Result<Vec<u8>, Unmade>
     ensures { Makes result (image_lines_of file.now) }
@@ -40,7 +40,7 @@ pub(crate) fn image_lines(alloc: Global, file: &[u8]) -> Result<Vec<u8>, Unmade>
     }
 }
 
-/// The lines that tell the container of a file.
+/// The lines that describe the container of a file.
 #[tactic(auto, unfolding(crate::specs::Imaging::container_lines_of))]
 pub(crate) fn container_lines(alloc: Global, file: &[u8]) -> Result<Vec<u8>, Unmade>
     ensures { Makes result (container_lines_of file.now) }

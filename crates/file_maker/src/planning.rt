@@ -40,7 +40,7 @@ fn lines_of_made(alloc: Global, conf: &Conf) -> Result<Vec<u8>, Unmade>
     }
 }
 
-// The lines that tell a plan.
+// The lines that describe a plan.
 fn lines_of_plan(alloc: Global, plan: &Plan) -> Result<Vec<u8>, Unmade>
     ensures lines { IfOk result (λ lines. lines.items ≡ lines_of_plan plan.now) }
     ensures memory { IfErr result (λ why. why ≡ Unmade.Memory) }
@@ -51,7 +51,7 @@ fn lines_of_plan(alloc: Global, plan: &Plan) -> Result<Vec<u8>, Unmade>
     }
 }
 
-// The lines that tell a plan, where there is memory for them.
+// The lines that describe a plan, where there is memory for them.
 #[tactic(auto, unfolding(crate::specs::Planning::lines_of_plan))]
 fn put_plan(alloc: Global, plan: &Plan) -> Result<Vec<u8>, Memory>
     ensures { IfOk result (λ lines. lines.items ≡ lines_of_plan plan.now) }
@@ -62,7 +62,7 @@ fn put_plan(alloc: Global, plan: &Plan) -> Result<Vec<u8>, Memory>
     Ok(lines)
 }
 
-// Puts the line of a plan behind others.
+// Puts the line of a plan after others.
 fn put_frame(lines: &mut Vec<u8>, frame: u32, slots: usize) -> Result<(), Memory>
     ensures { OnOk result (lines.new.items ≡ lines.old.items ++ frame_line frame slots) }
 {
@@ -72,7 +72,7 @@ fn put_frame(lines: &mut Vec<u8>, frame: u32, slots: usize) -> Result<(), Memory
     Ok(())
 }
 
-// Puts the lines of slots behind others.
+// Puts the lines of slots after others.
 fn put_slots(lines: &mut Vec<u8>, slots: &[Slot]) -> Result<(), Memory>
     ensures { OnOk result (lines.new.items ≡ lines.old.items ++ added_by_each slot_line slots.now) }
 {
@@ -82,7 +82,7 @@ fn put_slots(lines: &mut Vec<u8>, slots: &[Slot]) -> Result<(), Memory>
     Ok(())
 }
 
-// Puts the line of a slot behind others.
+// Puts the line of a slot after others.
 fn put_slot(lines: &mut Vec<u8>, id: usize, slot: Slot) -> Result<(), Memory>
     ensures { OnOk result (lines.new.items ≡ lines.old.items ++ slot_line id slot) }
 {
@@ -213,7 +213,7 @@ fn put_parts(alloc: Global, plan: &Plan, parts: &[Part]) -> Result<Vec<u8>, Memo
     Ok(lines)
 }
 
-// Puts the line of a partition under a plan behind others.
+// Puts the line of a partition under a plan after others.
 fn put_part(lines: &mut Vec<u8>, plan: &Plan, id: PartId, need: Option<Need>) -> Result<(), Memory>
     requires frame { IsTime plan.now.frame }
     requires short { plan.now.frame ≤ 1000000 }

@@ -1,4 +1,4 @@
-//! What is told of a file.
+//! What is reported of a file.
 
 ghost use Rattle.std.specs.Prelude.{◌<◌, ◌^◌, length};
 ghost use Rattle.file_maker.specs.Makes.{Makes};
@@ -10,7 +10,7 @@ use crate::planning::{plan_lines, verdicts};
 use crate::unmade::Unmade;
 use std::alloc::Global;
 
-/// What is told of a file.
+/// What is reported of a file.
 #[derive(Clone, Copy, Debug, PartialEq, Eq)]
 pub enum Telling {
     /// The image.

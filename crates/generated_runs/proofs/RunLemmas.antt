@@ -72,7 +72,7 @@ reports_same : (system : System) (ticks : ℕ) → report_of (start system) tick
 unfolding report_of report start
 reports_same system ticks = refl
 
--- what is told of the machine that has run is told of the number
+-- what is reported of the machine that has run is told of the number
 pub told_so : (number container : ℕ) (ran : Ran) (system : loaded_system.System) (inputs : List (List ℕ)) (g : Machine) → system ≡ generated number → inputs ≡ replicate 16 []
     → container ≡ length (box_text (generated number)) → IsWholeRun ran run_length (start (with_inputs system inputs)) g None None
     → told_of number container ran.lines g ≡ generated_text number

@@ -1,4 +1,4 @@
--- What is told of the run of a generated system.
+-- What is reported of the run of a generated system.
 use Rattle.std.specs.Prelude.{ℕ, ◌≤◌, All, List, [], ◌++◌, length, codes, decimal, replicate, sum_by}
 use Rattle.xm_ports.specs.Channels.{Content, messages_of}
 use Rattle.xm_container.specs.Box.{box_text}
@@ -42,11 +42,11 @@ told_of number container lines g = made_line number container g.ticks ++ came_li
 abbrev pub without_inputs : loaded_system.System → System
 without_inputs system = with_inputs system (replicate 16 [])
 
--- what is told of a run of so many ticks of a system
+-- what is reported of a run of so many ticks of a system
 unfoldable pub told_of_run : ℕ → ℕ → loaded_system.System → List ℕ
 told_of_run number ticks system =
     told_of number (length (box_text system)) (length (report (without_inputs system) ticks)) (run (start (without_inputs system)) ticks)
 
--- what is told of the system that is generated out of a number
+-- what is reported of the system that is generated out of a number
 unfoldable pub generated_text : ℕ → List ℕ
 generated_text number = told_of_run number run_length (generated number)

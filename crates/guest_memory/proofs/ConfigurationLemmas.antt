@@ -30,12 +30,12 @@ pairs_behind : {X : Type 0} (R : X → X → Type 0) (xs ys : List X) → AllPai
 pairs_behind R [] ys pairs = pairs
 pairs_behind R (x ∷ xs) ys pairs = pairs_behind R xs ys (pairs_tail R x (xs ++ ys) pairs)
 
--- what holds of a list holds of its front
+-- what holds of a list holds of its prefix
 all_front : {X : Type 0} (P : X → Type 0) (xs ys : List X) → All P (xs ++ ys) → All P xs
 all_front P [] ys all = All-nil P
 all_front P (x ∷ xs) ys all = All-cons P x xs (all 0 x (omega arith)) (all_front P xs ys (λ k d below. all (suc k) d (omega (arith, below))))
 
--- pairs of a list's front
+-- pairs of a list's prefix
 pairs_front : {X : Type 0} (R : X → X → Type 0) (xs ys : List X) → AllPairs R (xs ++ ys) → AllPairs R xs
 pairs_front R [] ys pairs = λ i j d before below. absurd (omega (arith, below))
 pairs_front R (x ∷ xs) ys pairs = AllPairs-cons R x xs (all_front (R x) xs ys (pairs_head R x (xs ++ ys) pairs)) (pairs_front R xs ys (pairs_tail R x (xs ++ ys) pairs))

@@ -1,4 +1,4 @@
--- The bytes of areas that lie one behind the other, by their addresses.
+-- The bytes of areas that lie one after the other, by their addresses.
 use borrow.Rule.Slice.PartMut.{put_mid}
 use Rattle.std.proofs.Common.{◌≡◌, ℕ, zero, suc, ◌+◌, ◌-◌, ◌<◌, ◌≤◌, ◌⊎◌, Bool, true, false, ◌||◌, List, [], ◌∷◌, ◌++◌, length, take, drop, get_or, replicate, Some, None, refl, sym, ap, ◌∙◌, inl, inr, ⊎_elim, subst, arith, length-append, length-take, length-drop}
 use Rattle.std.specs.Prelude.{AllPairs, slice_get}
@@ -16,20 +16,20 @@ use Rattle.guest_memory.specs.Flat.{AllBytes, memory_in}
 use Rattle.guest_memory.specs.Memories.{AreasApart, areas_size}
 use Rattle.guest_memory.proofs.AreaLemmas.{apart_first, apart_tail, beside, covers_at, not_both}
 
--- what stands in the front of a list
+-- what stands in the prefix of a list
 pub slice_get-take : (n i : ℕ) (xs : List ℕ) → i < n → slice_get (take n xs) i ≡ slice_get xs i
 slice_get-take zero i xs below = absurd (omega arith)
 slice_get-take (suc n) i [] below = refl
 slice_get-take (suc n) zero (x ∷ xs) below = refl
 slice_get-take (suc n) (suc i) (x ∷ xs) below = slice_get-take n i xs (omega arith)
 
--- what stands behind it
+-- what stands after it
 pub slice_get-drop : (n i : ℕ) (xs : List ℕ) → slice_get (drop n xs) i ≡ slice_get xs (n + i)
 slice_get-drop zero i xs = let e : i ≡ zero + i = omega arith in ap (slice_get xs) e
 slice_get-drop (suc n) i [] = refl
 slice_get-drop (suc n) i (x ∷ xs) = let e : suc (n + i) ≡ suc n + i = omega arith in slice_get-drop n i xs ∙ ap (slice_get (x ∷ xs)) e
 
--- a front that runs into a second list
+-- a prefix that runs into a second list
 take_past : (xs ys : List ℕ) (n r : ℕ) → length xs ≡ n → take (n + r) (xs ++ ys) ≡ xs ++ take r ys
 take_past [] ys zero r counted = let e : zero + r ≡ r = omega arith in ap (λ (k : ℕ). take k ys) e
 take_past [] ys (suc n) r counted = absurd (omega (arith, counted))
@@ -38,7 +38,7 @@ take_past (x ∷ xs) ys (suc n) r counted =
     let e : suc n + r ≡ suc (n + r) = omega arith in
     ap (λ (k : ℕ). take k ((x ∷ xs) ++ ys)) e ∙ ap (λ (rest : List ℕ). x ∷ rest) (take_past xs ys n r (omega (arith, counted)))
 
--- a write into the front of a list
+-- a write into the prefix of a list
 pub take-put_in : (m i n : ℕ) (xs new : List ℕ) → length new ≡ n → i + n ≤ m → m ≤ length xs → take m (put_mid i n xs new) ≡ put_mid i n (take m xs) new
 take-put_in m zero n xs new counted fits within =
     let e : m ≡ n + (m - n) = omega arith in
@@ -49,7 +49,7 @@ take-put_in zero (suc i) n (x ∷ xs) new counted fits within = absurd (omega ar
 take-put_in (suc m) (suc i) n (x ∷ xs) new counted fits within =
     ap (λ (rest : List ℕ). x ∷ rest) (take-put_in m i n xs new counted (omega arith) (omega (arith, within)))
 
--- a write behind it
+-- a write after it
 pub drop-put_behind : (m i n : ℕ) (xs new : List ℕ) → m ≤ length xs → drop m (put_mid (m + i) n xs new) ≡ put_mid i n (drop m xs) new
 drop-put_behind zero i n xs new within = let e : zero + i ≡ i = omega arith in ap (λ (k : ℕ). put_mid k n xs new) e
 drop-put_behind (suc m) i n [] new within = absurd (omega (arith, within))
@@ -62,20 +62,20 @@ pub length-put_mid : (i n : ℕ) (old new : List ℕ) → length new ≡ n → i
 length-put_mid i n old new counted fits =
     omega (arith, length-append (take i old) (new ++ drop n (drop i old)), length-append new (drop n (drop i old)), length-take i old, length-drop n (drop i old), length-drop i old)
 
--- the front of bytes is bytes
+-- the prefix of bytes is bytes
 pub bytes-take : (n : ℕ) (bytes : List ℕ) → AllBytes bytes → (i : ℕ) → get_or (take n bytes) i 0 < 256
 bytes-take zero bytes small i = omega arith
 bytes-take (suc n) [] small i = omega arith
 bytes-take (suc n) (x ∷ xs) small zero = small 0
 bytes-take (suc n) (x ∷ xs) small (suc i) = bytes-take n xs (λ j. small (suc j)) i
 
--- so is what stands behind it
+-- so is what stands after it
 pub bytes-drop : (n : ℕ) (bytes : List ℕ) → AllBytes bytes → (i : ℕ) → get_or (drop n bytes) i 0 < 256
 bytes-drop zero bytes small i = small i
 bytes-drop (suc n) [] small i = omega arith
 bytes-drop (suc n) (x ∷ xs) small i = bytes-drop n xs (λ j. small (suc j)) i
 
--- bytes behind bytes
+-- bytes after bytes
 bytes-append : (xs ys : List ℕ) → AllBytes xs → AllBytes ys → (i : ℕ) → get_or (xs ++ ys) i 0 < 256
 bytes-append [] ys few small i = small i
 bytes-append (x ∷ xs) ys few small zero = few 0

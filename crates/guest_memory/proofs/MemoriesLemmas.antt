@@ -1,4 +1,4 @@
--- The memories of partitions whose bytes lie one behind the other.
+-- The memories of partitions whose bytes lie one after the other.
 use borrow.Rule.Slice.PartMut.{put_mid}
 use Rattle.std.proofs.Common.{◌≡◌, ℕ, zero, suc, ◌+◌, ◌-◌, ◌<◌, ◌≤◌, List, [], ◌∷◌, ◌++◌, length, set, get_or, take, drop, Some, refl, sym, ap, ◌∙◌, subst, arith, length-drop}
 use Rattle.std.specs.Prelude.{All, AllPairs, Err, Ok, OnErr, OnOk, Result, remove, slice_get}
@@ -204,7 +204,7 @@ some_part [] p k area is = absurd cc
 some_part (first ∷ others) zero k area is = omega arith
 some_part (first ∷ others) (suc p) k area is = omega (arith, some_part others p k area is)
 
--- a part of a front is a part of the whole
+-- a part of a prefix is a part of the whole
 pub part_of_part : (m i n : ℕ) (xs : List ℕ) → i + n ≤ m → take n (drop i (take m xs)) ≡ take n (drop i xs)
 part_of_part m i n xs within =
     let e : m ≡ i + (m - i) = omega arith in
@@ -242,7 +242,7 @@ whole_bytes tables bytes selected are = λ p k area address is from under.
     ap (λ (m : Memory). get m address) (maps_at (areas_of_tables tables) bytes p below)
     ∙ byte_at (get_or (areas_of_tables tables) p []) (whole_size (take p (areas_of_tables tables))) bytes k address area (are.memories.placed p [] below).apart is (part_sized (areas_of_tables tables) p bytes below are.whole) from under
 
--- a front of areas has no more bytes than all
+-- a prefix of areas has no more bytes than all
 pub size_front : (n : ℕ) (areas : List Area) → areas_size (take n areas) ≤ areas_size areas
 size_front zero areas = omega arith
 size_front (suc n) [] = omega arith

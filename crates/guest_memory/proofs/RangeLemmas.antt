@@ -22,7 +22,7 @@ pub not_not : (b : Bool) → not (not b) ≡ b
 not_not true = refl
 not_not false = refl
 
--- behind addresses that all are allowed the first refused is that of the rest
+-- after addresses that all are allowed the first refused is that of the rest
 pub first_refused-on : (allowed : ℕ → Bool) (address piece left : ℕ) → all_from allowed address piece ≡ true → piece ≤ left → first_refused allowed (address + piece) (left - piece) ≡ first_refused allowed address left
 first_refused-on allowed address zero left all within =
     let same : address + 0 ≡ address = omega arith in
@@ -35,7 +35,7 @@ first_refused-on allowed address (suc piece) (suc left) all within =
     let rest : suc left - suc piece ≡ left - piece = omega arith in
     rw (same, rest, parts.0) (first_refused-on allowed (suc address) piece left parts.1 (omega arith))
 
--- the front of a range that is allowed is allowed
+-- the prefix of a range that is allowed is allowed
 pub all_from-front : (allowed : ℕ → Bool) (address count front : ℕ) → all_from allowed address count ≡ true → front ≤ count → all_from allowed address front ≡ true
 all_from-front allowed address count front all within = all_from-true allowed address front (λ q from under. all_from-each allowed address count q all from (omega arith))
 

@@ -1,4 +1,4 @@
--- What the tests know of memories behind the bus.
+-- What the tests know of memories after the bus.
 use Rattle.std.proofs.Common.{◌≡◌, ℕ, ◌<◌, Bool, true, false, if◌then◌else◌, List, [], ◌∷◌, length, get_or, arith}
 use Rattle.std.specs.Prelude.{Some, Ok}
 use Rattle.guest_bus.specs.Access.{Stores, store_fault}
@@ -23,7 +23,7 @@ some_partition : (areas : List (List Area)) (p : ℕ) → 0 < length (get_or are
 some_partition [] p some = some
 some_partition (first ∷ others) p some = omega arith
 
--- behind a store there is a partition
+-- after a store there is a partition
 pub some_after_store : (old new : Memories) (address : ℕ) → Stores {T = Unit {0}} (Ok tt) (store_fault (areas_at old.selected old) address Four) → areas_at new.selected new ≡ areas_at old.selected old → 0 < length new.areas
 some_after_store old new address stored same =
     let some : 0 < length (areas_at new.selected new) = rw same (some_area (areas_at old.selected old) address stored) in

@@ -18,7 +18,7 @@ use Rattle.guest_memory.proofs.FlatLemmas.{ends_within}
 use Rattle.guest_memory.proofs.MemoriesLemmas.{IsPart, part_at}
 use Rattle.guest_memory.proofs.NearLemmas.{entry_inside, inside_fetched, near_within, parts_counted, there}
 
--- areas are whole pages, and so is a front of them
+-- areas are whole pages, and so is a prefix of them
 front_pages : (k : ℕ) (areas : List Area) → All IsPlaced areas → areas_size (take k areas) % 4096 ≡ 0
 front_pages zero areas all = refl
 front_pages (suc k) [] all = refl

@@ -56,11 +56,11 @@ first_of_two : (a b : Bool) (x y : Option ℕ) → cond a x (cond b x y) ≡ con
 first_of_two true b x y = refl
 first_of_two false b x y = refl
 
--- the front of zeros
+-- the prefix of zeros
 front_zeros : (m n : ℕ) → take m (replicate (m + n) 0) ≡ replicate {A = ℕ} m 0
 front_zeros m n = take-replicate m (m + n) 0 (omega arith)
 
--- the zeros behind it
+-- the zeros after it
 rest_zeros : (m n : ℕ) → drop m (replicate (m + n) 0) ≡ replicate {A = ℕ} n 0
 rest_zeros m n = let e : m + n - m ≡ n = omega arith in drop-replicate m (m + n) 0 ∙ ap (λ (k : ℕ). replicate {A = ℕ} k 0) e
 

@@ -48,7 +48,7 @@ pub record IsSpotOf (address : ℕ) (found : Found) (spot : Spot) : Type 0 where
 abbrev pub IsNear : ℕ → Found → Near → Type 0
 IsNear address found near = IsSpotOf address found near.first ⊎ IsSpotOf address found near.second
 
--- so are the 63 bytes behind it
+-- so are the 63 bytes after it
 pub record HasPart (address : ℕ) (found : Found) (spot : Spot) : Type 0 where
   pub here : IsSpotOf address found spot
   pub within : address + 64 ≤ spot.start + spot.size

@@ -4,7 +4,7 @@ use Rattle.guest_bus.specs.Memory.{Area, Others}
 use Rattle.guest_bus.specs.declared.words.Words.{Words}
 use Rattle.guest_memory.specs.Memories.{areas_size, whole_size}
 
--- four times its place is that of the byte, the areas of the selected partition behind those of the partitions before it
+-- four times its place is that of the byte, the areas of the selected partition after those of the partitions before it
 pub record LieIn (areas : List Area) (others : Others) (words : Words) : Type 0 where
   pub number : ℕ
   pub area : Area

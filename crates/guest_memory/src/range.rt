@@ -67,7 +67,7 @@ pub(crate) fn read(entries: &[Entry], bytes: &[u8], address: u64, into: &mut [u8
     }
 }
 
-/// Copies the bytes from an address on that stand in one area to a place, and tells how many.
+/// Copies the bytes from an address on that stand in one area to a place, and answers how many.
 fn read_piece(entries: &[Entry], bytes: &[u8], address: u64, into: &mut [u8], done: usize) -> usize
     requires space { IsSpace entries.now bytes.now }
     requires readable { is_readable (listed entries.now) address ≡ true }
@@ -100,7 +100,7 @@ pub(crate) fn write(entries: &[Entry], bytes: &mut [u8], address: u64, from: &[u
     }
 }
 
-/// Writes the first of some bytes from an address on, as many as stand in one area, and tells how many.
+/// Writes the first of some bytes from an address on, as many as stand in one area, and answers how many.
 fn write_piece(entries: &[Entry], bytes: &mut [u8], address: u64, from: &[u8]) -> usize
     requires space { IsSpace entries.now bytes.old }
     requires readable { is_readable (listed entries.now) address ≡ true }

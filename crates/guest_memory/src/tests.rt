@@ -13,7 +13,7 @@ use xef_images::{Segment, Xef};
 use xm_base::{Memory, PartId};
 use xm_conf::{Action, Area, Conf, HmTable, Name, Part, Plan, RawConf, Region, Slot};
 
-/// The areas of the first partition: two side by side, and one behind them that may only be read.
+/// The areas of the first partition: two side by side, and one after them that may only be read.
 const FIRST: [Area; 3] = [
     Area {
         start: 0x4010_0000,
@@ -186,7 +186,7 @@ fn a_processor_loads_and_stores_within_areas(rt: HostRuntime) -> Result<(), Fail
             Ok((eight >> 32) as u32),
             "{bytes} bytes"
         );
-        // The bytes before, and those behind, which are the next area's.
+        // The bytes before, and those after, which are the next area's.
         assert_eq!(rt;
             ram.load(0x4010_0ff0, Size::Eight),
             Ok(0),
@@ -256,7 +256,7 @@ fn a_copy_is_refused_at_its_first_byte_that_is_not_allowed(rt: HostRuntime) -> R
     Ok(())
 }
 
-/// Writes bytes, and tells whether that was allowed.
+/// Writes bytes, and answers whether that was allowed.
 fn put(ram: &mut Ram, p: PartId, address: u32, from: &[u8]) -> bool
     requires { p < length ram.old.areas }
     ensures areas { ram.new.areas ≡ ram.old.areas }
@@ -395,7 +395,7 @@ const HELD: [(PartId, u32, Option<u8>); 12] = [
 const RELOADED: [(PartId, u32, u8); 9] = [
     (0, 0x4010_0000, 1),
     (0, 0x4010_0004, 5),
-    // Behind the bytes of a segment, and behind the segment.
+    // After the bytes of a segment, and after the segment.
     (0, 0x4010_0005, 0),
     (0, 0x4010_0008, 0),
     // The next area, which has no segment.

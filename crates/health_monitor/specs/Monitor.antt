@@ -63,7 +63,7 @@ effect_of action.HypervisorWarmReset _ = does action.HypervisorWarmReset false o
 effect_of action.HypervisorHalt _ = does action.HypervisorHalt false own.Nothing whole.Halt
 effect_of action.SwitchToMaintenance _ = does action.SwitchToMaintenance true own.Nothing whole.Maintenance
 
--- the partition goes on behind the instruction that raised the event
+-- the partition goes on after the instruction that raised the event
 abbrev pub PassesOver : Action → Type 0
 PassesOver taken =
     (taken ≡ action.Ignore) ⊎ (taken ≡ action.Shutdown) ⊎ (taken ≡ action.Suspend) ⊎ (taken ≡ action.SwitchToMaintenance)

@@ -31,7 +31,7 @@ pub fn effect(action: Action, enabled: bool) -> Effect
     }
 }
 
-// The partition goes on behind the instruction.
+// The partition goes on after the instruction.
 fn passing(action: Action, own: Own, whole: Whole) -> Effect
     ensures { result ≡ does action true own whole }
 {
@@ -43,7 +43,7 @@ fn passing(action: Action, own: Own, whole: Whole) -> Effect
     }
 }
 
-// The partition does not go on behind the instruction.
+// The partition does not go on after the instruction.
 fn stopping(action: Action, own: Own, whole: Whole) -> Effect
     ensures { result ≡ does action false own whole }
 {

@@ -38,7 +38,7 @@ pub enum Whole {
 pub struct Effect {
     /// The action as it is logged and printed.
     pub action: Action,
-    /// Whether the partition goes on behind the instruction that raised the event.
+    /// Whether the partition goes on after the instruction that raised the event.
     pub pass: bool,
     /// What becomes of the partition.
     pub own: Own,

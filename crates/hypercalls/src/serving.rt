@@ -24,7 +24,7 @@ use whole_system::answering::{UNKNOWN_CALL, answer, argument};
 use whole_system::{CallSite, Served, Sys};
 use xm_base::PartId;
 
-/// Serves the hypercall of partition `p`, whose trap instruction stood at `pc`, with `npc` behind it: its number stands in %o0, its
+/// Serves the hypercall of partition `p`, whose trap instruction stood at `pc`, with `npc` after it: its number stands in %o0, its
 /// arguments in %o1 to %o5, and its result comes to %o0. It changes its caller, the channels of the caller's ports, and of other partitions
 /// only that those that hear of a message get its interrupt.
 #[inline(always)]

@@ -109,7 +109,7 @@ outside_here parts images n part image address r below within is_part is_image s
     let later = first_outside_from (n + 1) (drop (n + 1) parts) (drop (n + 1) images) in
     sym (rest_on parts images n part image below within is_part is_image ∙ ap (λ o. outside_or n o later) some) ∙ so_far
 
--- behind the last partition nothing is outside
+-- after the last partition nothing is outside
 pub outside_done : (parts : List Part) (images : List Image) (n : ℕ) (r : Option Outside) → length parts ≤ n
     → first_outside_from n (drop n parts) (drop n images) ≡ r → None ≡ r
 outside_done parts images n r past so_far =

@@ -53,7 +53,7 @@ called_by conf p (OwnPuts q bytes) can =
     heard_there conf p (named conf p q) some.0 some.1
 called_by conf p (OwnTakes q) can = tt
 
--- the system behind all passes of a tick in the slot of another partition, or in a gap
+-- the system after all passes of a tick in the slot of another partition, or in a gap
 pub away_state : (p : ℕ) (cue : Cue) (old s1 s2 s3 s4 : SysState) → s1 ≡ with_machine (traffic_done true old.machine p cue.traffic) old
     → s2 ≡ with_machine (with_part p (obeyed (view_of s1.machine.system p) cue.order (part_at p s1.machine)) s1.machine) s1
     → s3 ≡ with_machine (event_met p cue.whole s2.machine) s2 → s4 ≡ with_machine (tick_past cue.whole (rested_in p s3.machine)) s3

@@ -152,7 +152,7 @@ its_turn law g p first cue own unordered turns =
     subst (λ (slot : CueSlot). IsItsOwn slot view a (with_event cue (event_of w.act))) (sym own)
     (unordered, sym (ap (λ (o : Option LocalTick). event_of (act_in o)) local ∙ ap event_of (law g.system p (part_at p g) (copies g p) g.ticks g.time first cue.seen)))
 
--- the system behind the end of a tick in which the partition did its work
+-- the system after the end of a tick in which the partition did its work
 worked_state : (p : ℕ) (w : Worked) (event : WholeEvent) (old mid new : SysState) → mid ≡ with_machine (traded (traffic_in old.machine p w.act) (with_part p w.after old.machine)) old
     → event ≡ event_of w.act → new ≡ with_machine (tick_past event (event_met p event mid.machine)) mid → new ≡ with_machine (work_passed p w old.machine) old
 worked_state p w event old mid new mid_is event_is new_is =

@@ -1,4 +1,4 @@
--- What an observing call leaves of its caller, whatever it is shown: it tells nothing, and does nothing beyond it or asks for a plan.
+-- What an observing call leaves of its caller, whatever it is shown: it reports nothing, and does nothing beyond it or asks for a plan.
 use Rattle.std.proofs.Common.{◌≡◌, ◌⊎◌, inl, inr, ℕ, Bool, true, false, List, [], ◌∷◌, ◌++◌, length, Option, None, Some, refl, sym, ap, subst, ◌∙◌}
 use Rattle.std.specs.Prelude.{◌==◌, ◌&&◌, ◌||◌, not, nat_lt, if◌then◌else◌, is_none}
 use Rattle.std.proofs.lemmas.Bool.{eqb-true}
@@ -20,7 +20,7 @@ use Rattle.alone_passes.specs.Taking.{asks_entry}
 use Rattle.lone_ticks.specs.LoneWork.{asked_of, shown_state, shows_this}
 use Rattle.lone_ticks.specs.declared.call.Asked.{Asked}
 
--- it tells nothing, and does nothing beyond its caller or asks for a plan
+-- it reports nothing, and does nothing beyond its caller or asks for a plan
 pub record IsMild (comes : Served) : Type 0 where
   pub silent : comes.told ≡ []
   pub upshot : (comes.upshot ≡ Acts told.Nothing) ⊎ ((plan : ℕ) × (comes.upshot ≡ Acts (told.Plans (told.Asked plan))))

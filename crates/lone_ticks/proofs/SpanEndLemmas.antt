@@ -1,4 +1,4 @@
--- The end of a tick of one partition without the others in which it was told nothing but that a slot of its own runs.
+-- The end of a tick of one partition without the others in which it was reported nothing but that a slot of its own runs.
 use Rattle.std.proofs.Common.{◌≡◌, ℕ, ◌+◌, ◌<◌, ◌≤◌, Bool, false, true, List, ◌++◌, length, Option, None, Some, refl, sym, ap, ◌∙◌, subst, arith}
 use Rattle.std.specs.Prelude.{◌%◌, ◌^◌, if◌then◌else◌, IfSome}
 use Rattle.std.proofs.lemmas.List.{length-set}
@@ -143,7 +143,7 @@ pub can_end_if : (p : ℕ) (work : Option LoneWork) (asked : Option Observation)
 can_end_if p (Some work) asked w old mid got can is = work_can_end p w work old mid got can is.1
 can_end_if p None asked w old mid got can is = tt
 
--- a partition may be told nothing but that a slot of its own runs
+-- a partition may be reported nothing but that a slot of its own runs
 pub plain_cue : (conf : Conf) (p : ℕ) → IsCue conf p (bare_cue true)
 unfolding bare_cue
 plain_cue conf p = record { traffic = tt; order = tt; alone = (refl, refl); seen = tt }

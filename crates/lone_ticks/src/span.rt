@@ -1,4 +1,4 @@
-//! Many ticks of one partition without the others, in each of which it is told nothing but whether the slot is its own.
+//! Many ticks of one partition without the others, in each of which it is reported nothing but whether the slot is its own.
 
 ghost use Rattle.std.specs.Prelude.{◌≡◌, ◌+◌, ◌-◌, ◌%◌, ◌^◌, ◌<◌, ◌≤◌, [], IfSome, IsTrue, None, Some, false, length, true};
 ghost use Rattle.cue_scripts.specs.Entries.{bare_cue};
@@ -33,14 +33,14 @@ use xm_conf::Conf;
 /// Ticks of one partition without the others that were done, one after the other.
 #[derive(Debug, Drop)]
 pub struct LoneSpan {
-    /// How many there are, with the last: at least one. All but the last tell nothing.
+    /// How many there are, with the last: at least one. All but the last report nothing.
     pub ticks: u64,
     /// What its call told in the last; where the partition cannot take that one's cue there is none, and another tick or a part of one
     /// was done.
     pub told: Option<Note>,
 }
 
-/// Ticks of partition `p` without the others, at most so many, in each of which it is told nothing but whether a slot of its own runs, up to
+/// Ticks of partition `p` without the others, at most so many, in each of which it is reported nothing but whether a slot of its own runs, up to
 /// the first in which more is done than instructions that go.
 pub fn span_alone(sys: &mut Sys, lines: &mut Lines, p: PartId, own: bool, most: u64) -> LoneSpan
     requires machine { IsMachine sys.old }

@@ -33,7 +33,7 @@ pub(crate) struct LoneWork {
     pub(crate) reach: Beyond,
 }
 
-/// Work that told nothing, with how it reached beyond the partition.
+/// Work that reported nothing, with how it reached beyond the partition.
 fn silent(reach: Beyond) -> Option<LoneWork>
     ensures { result ≡ Some (record { note = Note.Nothing; reach = reach }) }
 {

@@ -38,7 +38,7 @@ pub map_table : {X Y : Type 0} (f : X → Y) (g : ℕ → X) (n : ℕ) → map f
 map_table f g zero = refl
 map_table f g (suc n) = ap (λ rest. f (g 0) ∷ rest) (map_table f (λ k. g (suc k)) n)
 
--- a table of options, read at a place with none behind its end: what is there is the function's
+-- a table of options, read at a place with none after its end: what is there is the function's
 pub table_or_none : {Y : Type 0} (P : Option Y → Type 0) (f : ℕ → Option Y) (n p : ℕ) → P (slice_index_or (table f n) p None) → (P None → P (f p)) → P (f p)
 table_or_none P f zero p at none = none at
 table_or_none P f (suc n) zero at none = at

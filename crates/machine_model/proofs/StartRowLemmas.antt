@@ -42,7 +42,7 @@ fetched_within areas m a bs i q word e h allowed spells =
 abbrev saying : Memory → Machine
 saying memory = record (start hi) { parts = at 0x40000000 memory ∷ [] }
 
--- what it prints in so many ticks, where these bytes stand behind the program's words
+-- what it prints in so many ticks, where these bytes stand after the program's words
 abbrev said_lines : ℕ → List ℕ → List ReportLine
 said_lines ticks bytes = ConsoleLine 4 0 bytes ∷ MovedLine 7 0 move.Halt ∷ EndPart 0 Halted 0 8 0x40000020 ∷ EndWhole false 0 ticks ticks ∷ []
 
@@ -110,7 +110,7 @@ has_all = record {
   eighth = has 28 0x4000001c 0x91d02070 refl (omega arith) refl refl;
 }
 
--- the two bytes behind its words are the text
+-- the two bytes after its words are the text
 text_there : bytes_at full 0x40000020 2 ≡ codes "hi"
 text_there = bytes_within bare 0x40000000 hi_bytes 32 0x40000020 2 refl (omega arith)
 

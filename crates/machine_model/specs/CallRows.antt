@@ -23,7 +23,7 @@ use Rattle.machine_model.specs.View.{view_of}
 abbrev pub Calls : Part → Memory → Type 0
 Calls part memory = Holds part memory 0x40000000 0x91d02070
 
--- the partition of the rows that calls: an instruction, and 20 bytes behind it
+-- the partition of the rows that calls: an instruction, and 20 bytes after it
 abbrev pub caller : Bool → Part
 caller is_system = record (plain_part 0x40000000 24) { system = is_system }
 
@@ -40,7 +40,7 @@ in_second_tick is_system one other =
 abbrev pub o0_of : ℕ → Machine → Option ℕ
 o0_of p g = of_part (λ ps. register_at ps.core 8) p g
 
--- a partition behind a call that answered so in a tick of its slot
+-- a partition after a call that answered so in a tick of its slot
 abbrev pub after_answer : ℕ → PartitionState → PartitionState
 after_answer value ps = record ps { core = with_register (advanced ps.core) 8 value; clocks = record ps.clocks { execution = 1 } }
 
@@ -59,7 +59,7 @@ orders number arguments memory = calling 0x40000000 (number ∷ 1 ∷ arguments)
 abbrev pub with_timer_armed : Memory → PartitionState
 with_timer_armed memory = record (at 0x40000100 memory) { clocks = record no_clocks { execution = 7; hardware_timer = Some (record { deadline = 900; interval = 0 }) } }
 
--- HALT upon another one: it is halted, its timer is disarmed, and its clock stays
+-- HALT on another one: it is halted, its timer is disarmed, and its clock stays
 abbrev pub HaltsAnother : Type 0
 HaltsAnother = (one other : Memory) → Calls (caller true) one
     → Prints (in_second_tick true (orders 2 [] one) (with_timer_armed other)) 1
@@ -67,20 +67,20 @@ HaltsAnother = (one other : Memory) → Calls (caller true) one
     × Leaves (λ g. g.parts) (in_second_tick true (orders 2 [] one) (with_timer_armed other)) 1
     (after_answer 0 (orders 2 [] one) ∷ record (at 0x40000100 other) { state = Halted; clocks = record no_clocks { execution = 7 } } ∷ [])
 
--- RESUME upon another one that is suspended
+-- RESUME on another one that is suspended
 abbrev pub ResumesAnother : Type 0
 ResumesAnother = (one other : Memory) → Calls (caller true) one
     → Prints (in_second_tick true (orders 5 [] one) (record (at 0x40000100 other) { state = Suspended })) 1
     (MovedLine 1 1 move.Resume ∷ EndPart 0 Ready 0 1 0x40000004 ∷ EndPart 1 Ready 0 0 0x40000100 ∷ EndWhole false 0 2 2 ∷ [])
 
--- RESUME upon one that is not suspended is answered 0, too, tells nothing and changes nothing
+-- RESUME on one that is not suspended is answered 0, too, reports nothing and changes nothing
 abbrev pub ResumesNothing : Type 0
 ResumesNothing = (one other : Memory) → Calls (caller true) one
     → Prints (in_second_tick true (orders 5 [] one) (with_timer_armed other)) 1
     (EndPart 0 Ready 0 1 0x40000004 ∷ EndPart 1 Ready 0 7 0x40000100 ∷ EndWhole false 0 2 2 ∷ [])
     × Leaves (λ g. g.parts) (in_second_tick true (orders 5 [] one) (with_timer_armed other)) 1 (after_answer 0 (orders 5 [] one) ∷ with_timer_armed other ∷ [])
 
--- SHUTDOWN upon another one tells nothing, and its interrupt 2 waits
+-- SHUTDOWN on another one reports nothing, and its interrupt 2 waits
 abbrev pub ShutsDownAnother : Type 0
 ShutsDownAnother = (one other : Memory) → Calls (caller true) one
     → Prints (in_second_tick true (orders 6 [] one) (with_timer_armed other)) 1
@@ -88,7 +88,7 @@ ShutsDownAnother = (one other : Memory) → Calls (caller true) one
     × Leaves (λ g. g.parts) (in_second_tick true (orders 6 [] one) (with_timer_armed other)) 1
     (after_answer 0 (orders 6 [] one) ∷ record (with_timer_armed other) { traps = record no_traps { pending = 4 } } ∷ [])
 
--- a warm RESET upon another one, with status 9, begins its clocks anew and disarms its timer
+-- a warm RESET on another one, with status 9, begins its clocks again and disarms its timer
 abbrev pub ResetsAnother : Type 0
 ResetsAnother = (one other : Memory) → Calls (caller true) one
     → Prints (in_second_tick true (orders 3 (1 ∷ 9 ∷ []) one) (with_timer_armed other)) 1
@@ -141,11 +141,11 @@ resetting mode memory = record (with_its_port (calling 0x40000000 (3 ∷ 0 ∷ m
   inputs = 0x2a ∷ [];
 }
 
--- a partition as it begins anew, after so many resets and with this memory
+-- a partition as it begins again, after so many resets and with this memory
 abbrev pub anew : ℕ → Memory → PartitionState
 anew resets memory = record (at 0x40000000 memory) { resets = resets; reset_status = 9; traces = traces; health = healths; inputs = 0x2a ∷ [] }
 
--- a cold reset of a partition by itself keeps its traces, its health log and its input words; the memory is loaded anew, and no reset is counted
+-- a cold reset of a partition by itself keeps its traces, its health log and its input words; the memory is loaded again, and no reset is counted
 abbrev pub KeepsLogsCold : Type 0
 KeepsLogsCold = (one other : Memory) → Calls (caller false) one
     → Prints (in_second_tick false (resetting 0 one) (at 0x40000100 other)) 1

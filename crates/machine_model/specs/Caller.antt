@@ -11,7 +11,7 @@ use Rattle.machine_model.specs.Told.{Act, Nothing, Sight, Told, Unseen, NotKept,
 use Rattle.machine_model.specs.View.{PartitionView}
 
 -- what a hypercall is given: the partition with its view, its copies of channels under its own names, the hardware clock,
--- what an observing call is shown, and the program counters of the trap instruction; the core has gone on behind it
+-- what an observing call is shown, and the program counters of the trap instruction; the core has gone on after it
 pub record Caller : Type 0 where
   pub view : PartitionView
   pub state : PartitionState

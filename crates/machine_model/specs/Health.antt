@@ -27,7 +27,7 @@ pub record Worked : Type 0 where
   pub told : List Told
   pub act : Act
 
--- a tick that told nothing and did not reach beyond the partition
+-- a tick that reported nothing and did not reach beyond the partition
 abbrev pub quiet : PartitionState → Worked
 quiet ps = record { after = ps; told = []; act = Nothing }
 
@@ -46,7 +46,7 @@ abbrev pub entered_told : Bool → Event → ℕ → Action → List Told
 entered_told true an_event word an_action = Health an_event word an_action ∷ []
 entered_told false an_event word an_action = []
 
--- an order upon oneself
+-- an order on oneself
 unfoldable pub self_ordered : PartitionView → Order → PartitionState → Worked
 self_ordered view an_order ps = record { after = ordered view an_order ps; told = ordered_told an_order ps; act = Nothing }
 
@@ -58,7 +58,7 @@ undelivered view time ps = record {
   act = Nothing;
 }
 
--- the partition behind a delivery
+-- the partition after a delivery
 abbrev pub after_delivery : Delivered → PartitionState → PartitionState
 after_delivery d ps = record ps { core = d.core; memory = d.memory; traps = d.traps }
 

@@ -51,7 +51,7 @@ HaltsAtIllegal = (memory : Memory) → IsIllegal action.Halt memory
     (illegal_line action.Halt ∷ MovedLine 0 0 move.Halt ∷ EndPart 0 Halted 0 1 0x40000000 ∷ EndWhole false 0 1 1 ∷ [])
     × Leaves (log_of 0) (alone_at_tick action.Halt 0 memory) 1 (Some (illegal_entry action.Halt ∷ []))
 
--- IGNORE: the partition goes on behind the instruction
+-- IGNORE: the partition goes on after the instruction
 abbrev pub IgnoresIllegal : Type 0
 IgnoresIllegal = (memory : Memory) → IsIllegal action.Ignore memory
     → Prints (alone_at_tick action.Ignore 0 memory) 1 (illegal_line action.Ignore ∷ EndPart 0 Ready 0 1 0x40000004 ∷ EndWhole false 0 1 1 ∷ [])
@@ -80,7 +80,7 @@ ends_of_queue an_action one other =
       channels = Queuing ((0x68 ∷ 0x69 ∷ []) ∷ []) ∷ [];
     }
 
--- HYPERVISOR_WARM_RESET: each partition is reset, not only the one that met the event, the queue is empty, the hardware clock begins anew,
+-- HYPERVISOR_WARM_RESET: each partition is reset, not only the one that met the event, the queue is empty, the hardware clock begins again,
 -- and the tick is counted
 abbrev pub ResetsAllWarm : Type 0
 ResetsAllWarm = (one other : Memory) → IsIllegal action.HypervisorWarmReset one

@@ -82,7 +82,7 @@ OwnLines = (system : System) (p count : ℕ) → p < length system.conf.parts �
 abbrev pub SeesNothing : Type 0
 SeesNothing = (g : Machine) (p : ℕ) → (part_of g.system.conf p).system ≡ false → sight g p ≡ Unseen
 
--- an order upon another partition never names the partition that gives it
+-- an order on another partition never names the partition that gives it
 abbrev pub NeverUponItself : Type 0
 NeverUponItself = (view : PartitionView) (ps : PartitionState) (contents : List (Option Content)) (n time : ℕ) (first : Bool) (seen : Sight) (order : Order) →
     ¬ ((local_tick view ps contents n time first seen).act ≡ Upon view.id order)

@@ -31,7 +31,7 @@ goes_on Idle first interrupt = first || is_some interrupt
 goes_on Suspended first interrupt = false
 goes_on Halted first interrupt = false
 
--- the partition with this tick on its execution clock; a reset that follows starts the clock anew
+-- the partition with this tick on its execution clock; a reset that follows starts the clock again
 unfoldable pub clocked : PartitionState → PartitionState
 clocked ps = record ps { clocks = record ps.clocks { execution = ps.clocks.execution + 1 } }
 
@@ -39,7 +39,7 @@ clocked ps = record ps { clocks = record ps.clocks { execution = ps.clocks.execu
 abbrev pub with_clock : Worked → Worked
 with_clock w = record w { after = clocked w.after }
 
--- an act upon oneself is carried out at once; another one reaches beyond the partition
+-- an act on oneself is carried out at once; another one reaches beyond the partition
 abbrev pub by_act : Act → PartitionView → PartitionState → Worked
 by_act Nothing view ps = quiet ps
 by_act (Trades traffic) view ps = record (quiet ps) { act = Trades traffic }

@@ -146,7 +146,7 @@ abbrev pub system_traffic : Conf → Option SlotTurn → OwnTraffic → Traffic
 system_traffic conf None traffic = Still
 system_traffic conf (Some turn) traffic = told_as (named conf turn.part) traffic
 
--- an order upon partition p
+-- an order on partition p
 abbrev pub order_for : Option Directed → ℕ → Option Order
 order_for None p = None
 order_for (Some directed) p = if directed.id == p then Some directed.order else None
@@ -183,12 +183,12 @@ if_its_turn false tick = None
 unfoldable pub tick_of : Happened → ℕ → Option LocalTick
 tick_of h p = if_its_turn (is_turn_of h.turn p) h.local
 
--- a partition behind its local tick, where it had it
+-- a partition after its local tick, where it had it
 abbrev pub worked_in : Option LocalTick → PartitionState → PartitionState
 worked_in None ps = ps
 worked_in (Some tick) ps = tick.after
 
--- a partition behind an order that another one gave it
+-- a partition after an order that another one gave it
 abbrev pub obeyed : PartitionView → Option Order → PartitionState → PartitionState
 obeyed view None ps = ps
 obeyed view (Some order) ps = ordered view order ps
@@ -202,7 +202,7 @@ abbrev pub rested_unless : Bool → ℕ → PartitionState → PartitionState
 rested_unless true time ps = ps
 rested_unless false time ps = rested time ps
 
--- what a tick leaves of a partition behind its own work: it hears of a message, obeys an order, meets a hypervisor event, and rests where it did no work
+-- what a tick leaves of a partition after its own work: it hears of a message, obeys an order, meets a hypervisor event, and rests where it did no work
 unfoldable pub after_tick : PartitionView → ℕ → Bool → OwnTraffic → Option Order → WholeEvent → PartitionState → PartitionState
 after_tick view time worked traffic order event ps =
     rested_unless worked time (after_event view event (obeyed view order (hearing view traffic ps)))

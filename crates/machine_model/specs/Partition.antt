@@ -1,4 +1,4 @@
--- The state of one partition: how it boots, how it is reset, and what an order upon it does.
+-- The state of one partition: how it boots, how it is reset, and what an order on it does.
 use Rattle.std.specs.Prelude.{ℕ, ◌+◌, ◌%◌, ◌^◌, Bool, true, false, if◌then◌else◌, List, [], ◌∷◌, None}
 use Rattle.guest_bus.specs.Memory.{Area, Memory}
 use Rattle.guest_memory.specs.Loading.{memory_areas as part_areas, areas_with_image as loaded_in}
@@ -62,17 +62,17 @@ areas_of view = part_areas view.part
 unfoldable pub loaded_memory : PartitionView → Memory
 loaded_memory view = loaded_in (areas_of view) view.image
 
--- the memory behind a reset: a cold one loads the image anew
+-- the memory after a reset: a cold one loads the image again
 abbrev pub memory_after : Mode → PartitionView → Memory → Memory
 memory_after Cold view memory = loaded_memory view
 memory_after Warm view memory = memory
 
--- the reset counter behind a reset: a cold one sets it to zero
+-- the reset counter after a reset: a cold one sets it to zero
 abbrev pub resets_after : Mode → ℕ → ℕ
 resets_after Cold resets = 0
 resets_after Warm resets = (resets + 1) % 2 ^ 32
 
--- a partition behind a reset; its traces, its health log and its input words stay
+-- a partition after a reset; its traces, its health log and its input words stay
 unfoldable pub reset : PartitionView → Mode → ℕ → PartitionState → PartitionState
 reset view mode status ps = record ps {
   core = registers_started view.image.entry;
@@ -161,11 +161,11 @@ order_told order.Resume = Moved move.Resume ∷ []
 order_told order.Shutdown = []
 order_told (order.Reset mode status) = Moved (reset_move mode) ∷ []
 
--- an order upon a partition; one that does not apply changes nothing
+-- an order on a partition; one that does not apply changes nothing
 unfoldable pub ordered : PartitionView → Order → PartitionState → PartitionState
 ordered view an_order ps = if applies an_order ps.state then carried_out view an_order ps else ps
 
--- what an order upon a partition tells; one that does not apply tells nothing
+-- what an order on a partition tells; one that does not apply reports nothing
 unfoldable pub ordered_told : Order → PartitionState → List Told
 ordered_told an_order ps = if applies an_order ps.state then order_told an_order else []
 

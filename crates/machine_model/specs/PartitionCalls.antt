@@ -11,7 +11,7 @@ use Rattle.machine_model.specs.Told.{AllHalted, AllReset, Upon, UponAll}
 unfoldable pub get_self : Caller → Served
 get_self caller = answering caller.view.id caller.state
 
--- an order upon the partition that the call names
+-- an order on the partition that the call names
 abbrev pub ordering : Order → Caller → Served
 ordering an_order caller = acting (Upon (a_of caller) an_order) 0 caller.state
 

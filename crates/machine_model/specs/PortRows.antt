@@ -48,7 +48,7 @@ FullQueueRefuses = (one other : Memory) → Calls (caller false) one
     (after_answer (2 ^ 32 - 7) (sending 21 one) ∷ with_its_port (at 0x40000100 other) ∷ [])
     × Leaves (λ g. g.channels) (two_joined kind.Queuing (channel.Queuing 2) two_messages (sending 21 one) (with_its_port (at 0x40000100 other))) 1 (two_messages ∷ [])
 
--- a queue with room takes the message behind the others, and interrupt 4 of the partition at its other end waits
+-- a queue with room takes the message after the others, and interrupt 4 of the partition at its other end waits
 abbrev pub QueueTakesMessage : Type 0
 QueueTakesMessage = (one other : Memory) → Calls (caller false) one
     → Leaves (λ g. g.channels) (two_joined kind.Queuing (channel.Queuing 2) (Queuing ((0x61 ∷ 0x62 ∷ []) ∷ [])) (sending 21 one) (with_its_port (at 0x40000100 other))) 1

@@ -93,7 +93,7 @@ flushed (suc count) areas moved =
     let next = spilled areas moved.core moved.memory in
     flushed_after (flushed count areas) next next.answer
 
--- the windows behind the flush
+-- the windows after the flush
 abbrev pub by_flush : Result (Unit {0}) StackFault → PartitionState → Caller → Served
 by_flush (Ok all) ps caller = answering 0 ps
 by_flush (Err fault) ps caller = undone caller ps

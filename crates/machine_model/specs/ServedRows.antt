@@ -59,7 +59,7 @@ shown_call sight outs memory = record (call true outs memory) { sight = sight }
 abbrev pub with_o0 : ℕ → PartitionState → PartitionState
 with_o0 value ps = record ps { core = with_register ps.core 8 value }
 
--- a call that tells nothing and has this act, with its result and what else it leaves of the partition
+-- a call that reports nothing and has this act, with its result and what else it leaves of the partition
 abbrev pub served_so : ℕ → Act → PartitionState → Served
 served_so value act ps = record { after = with_o0 value ps; told = []; upshot = Acts act }
 

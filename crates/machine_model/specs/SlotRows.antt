@@ -84,7 +84,7 @@ three_plans =
     record { frame = 2000; slots = slot 0 100 0 ∷ [] } ∷ record { frame = 2000; slots = slot 0 100 0 ∷ [] }
     ∷ record { frame = 2000; slots = slot 0 100 0 ∷ [] } ∷ []
 
--- a system partition with room for a word behind its instruction
+-- a system partition with room for a word after its instruction
 abbrev pub planner : Part
 planner = record (plain_part 0x40000000 8) { system = true }
 

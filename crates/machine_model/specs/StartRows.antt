@@ -8,7 +8,7 @@ use Rattle.machine_model.specs.Machine.{start}
 use Rattle.machine_model.specs.Rows.{Prints, small_conf, image, plain_part, program, slot}
 use Rattle.machine_model.specs.View.{System}
 
--- a program that writes the two bytes behind its words, `hi`, to the console, and halts
+-- a program that writes the two bytes after its words, `hi`, to the console, and halts
 abbrev pub hi_bytes : List ℕ
 hi_bytes = program (0x13100000 ∷ 0x92126020 ∷ 0x94102002 ∷ 0x90102020 ∷ 0x91d02070 ∷ 0x90102002 ∷ 0x92102000 ∷ 0x91d02070 ∷ []) (codes "hi")
 
@@ -24,7 +24,7 @@ hi = record {
 abbrev pub BeginsAtEntry : Type 0
 BeginsAtEntry = Prints (start hi) 0 (EndPart 0 Ready 0 0 0x40000000 ∷ EndWhole false 0 0 0 ∷ [])
 
--- the console has `hi` in the fifth tick, and the partition halts in the eighth, behind its last word
+-- the console has `hi` in the fifth tick, and the partition halts in the eighth, after its last word
 abbrev pub HaltsAfterHi : Type 0
 HaltsAfterHi = Prints (start hi) 8
     (ConsoleLine 4 0 (codes "hi") ∷ MovedLine 7 0 move.Halt ∷ EndPart 0 Halted 0 8 0x40000020 ∷ EndWhole false 0 8 8 ∷ [])

@@ -1,4 +1,4 @@
--- The structures that hypercalls write: big endian fields, one behind the other.
+-- The structures that hypercalls write: big endian fields, one after the other.
 use Rattle.std.specs.Prelude.{ℕ, ◌-◌, ◌==◌, ◌||◌, Bool, true, false, nat_le, List, ◌∷◌, ◌++◌, length, Option, Some, None}
 use Rattle.std.specs.Int.{to_be_bytes, w16, w32, w64}
 use Rattle.cyclic_plans.specs.PlanClock.{CyclicClock}

@@ -42,7 +42,7 @@ ticks_after NoEvent ticks = ticks + 1
 ticks_after (AllReset a_mode) ticks = ticks + 1
 ticks_after AllHalted ticks = ticks
 
--- the hardware clock after a tick: a reset starts it anew
+-- the hardware clock after a tick: a reset starts it again
 abbrev pub time_after : WholeEvent → ℕ → ℕ
 time_after NoEvent time = time + 1
 time_after (AllReset a_mode) time = 0

@@ -60,7 +60,7 @@ pub fn sees_nothing()
     ensures law { SeesNothing }
 {}
 
-/// An order upon another partition never names the partition that gives it.
+/// An order on another partition never names the partition that gives it.
 pub fn never_upon_itself()
     ensures law { NeverUponItself }
 {}

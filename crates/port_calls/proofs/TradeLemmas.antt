@@ -93,7 +93,7 @@ unmade m port (Some channel) = at (is_destination port.way)
     at true = refl
     at false = refl
 
--- the first interrupt of a port and those behind it
+-- the first interrupt of a port and those after it
 first_of : (b c : Bool) (n : ℕ) → first_heard (then_some b n) (then_some c n) ≡ then_some (if b then true else c) n
 first_of true c n = refl
 first_of false c n = refl

@@ -213,7 +213,7 @@ fn validity_at(kind: ChanKind, now: u64, written: u64) -> u32
     validity(refresh_of(kind), now.saturating_sub(written))
 }
 
-/// Copies the message of a sampling channel to the front of a buffer, and tells when it was written and how many bytes it has.
+/// Copies the message of a sampling channel to the beginning of a buffer, and answers when it was written and how many bytes it has.
 fn copy_sample(sys: &Sys, chan: u8, into: &mut [u8]) -> Option<(u64, usize)>
     requires channel { HasSampling chan (table_in sys.now) }
     requires table { IsTable (table_in sys.now) }
@@ -227,7 +227,7 @@ fn copy_sample(sys: &Sys, chan: u8, into: &mut [u8]) -> Option<(u64, usize)>
     Some((sample.time, sample.bytes.len()))
 }
 
-/// Copies bytes to the front of a buffer.
+/// Copies bytes to the beginning of a buffer.
 fn put_front(into: &mut [u8], from: &[u8])
     requires { length from.now ≤ length into.old }
     ensures { into.new ≡ from.now ++ drop (length from.now) into.old }
@@ -287,7 +287,7 @@ fn message_refusal(sys: &Sys, site: CallSite, size: u32) -> Option<u32>
     room(sys, site, argument(sys, site, B), size)
 }
 
-/// Copies the first message of a queue to the front of a buffer, and tells how many bytes it has.
+/// Copies the first message of a queue to the beginning of a buffer, and answers how many bytes it has.
 fn copy_first(sys: &Sys, chan: u8, into: &mut [u8]) -> Option<usize>
     requires channel { HasQueue chan (table_in sys.now) }
     requires table { IsTable (table_in sys.now) }

@@ -66,7 +66,7 @@ pub gone_met : (count k : ℕ) (view : PartitionView) (g : Machine) (first : Boo
 unfolding with_interrupts hardware_looked_at execution_looked_at timers_looked_at
 gone_met count k view g first ps gone = gone
 
--- a local tick that tells nothing and leaves this
+-- a local tick that reports nothing and leaves this
 abbrev quiet_tick : PartitionState → LocalTick
 quiet_tick new = record { after = new; lines = []; said = []; act = told.Nothing }
 

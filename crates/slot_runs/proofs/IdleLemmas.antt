@@ -31,7 +31,7 @@ worked_idle view contents time sight ps s is idle none =
     ∙ ap (λ state. worked_if (goes_on state false (due s.traps)) view contents time sight s) idle
     ∙ ap (λ o. worked_if (goes_on Idle false o) view contents time sight s) none
 
--- a local tick that tells nothing and leaves this
+-- a local tick that reports nothing and leaves this
 abbrev idle_tick : PartitionState → LocalTick
 idle_tick new = record { after = new; lines = []; said = []; act = told.Nothing }
 

@@ -74,7 +74,7 @@ work_said : (b : Bool) (g : Machine) (p n : ℕ) (work : Worked) → local_said 
 work_said true g p n work = refl
 work_said false g p n work = refl
 
--- a machine after ticks that tell nothing, and one whose work does not reach beyond its partition
+-- a machine after ticks that report nothing, and one whose work does not reach beyond its partition
 told_to : (g : Machine) (done p : ℕ) (first : Bool) (parts new : List PartitionState) (work : Worked) → IsUnderway g done parts
     → IsTicked (inside done parts g) new (Some (record { part = p; first = first })) (Some (seen_outside (view_of g.system p) (g.ticks + done) work))
     → IsToldSpan g done p new work.told

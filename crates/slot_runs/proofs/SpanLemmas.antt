@@ -107,7 +107,7 @@ none_said : (tick : LocalTick) (b : Bool) → tick.said ≡ [] → local_said (i
 none_said tick true none = none
 none_said tick false none = refl
 
--- such a tick with a local tick that tells nothing
+-- such a tick with a local tick that reports nothing
 pub quiet_work : (g : Machine) (parts : List PartitionState) (turn : SlotTurn) (tick : LocalTick) → tick.lines ≡ [] → tick.said ≡ [] → IsTicked g parts (Some turn) (Some tick)
     → IsQuietTick g parts
 quiet_work g parts turn tick no_lines no_bytes is = record {
@@ -134,7 +134,7 @@ span_inside g k last new span below =
     let same_ticks : g.ticks + k + 1 ≡ g.ticks + suc k = omega arith in
     rw (clock_inside g k last span below, same_time, same_ticks) refl
 
--- no line tells of a plan that goes on
+-- no line is about a plan that goes on
 pub same_plan : (n a b : ℕ) → b ≡ a → plan_lines n a b ≡ []
 same_plan n a b same = rw (eq-eqb a b (sym same)) refl
 

@@ -29,7 +29,7 @@ went_before t areas went = at t.turn refl went
 pub gone_before : (k : ℕ) (view : PartitionView) (ps : PartitionState) → HasGone (suc k) view ps → HasGone k view ps
 gone_before k view ps gone = went_before (stepped k (areas_of view) ps.core ps.memory) (areas_of view) gone
 
--- the step behind steps that only went
+-- the step after steps that only went
 pub settled_next : (k : ℕ) (areas : List Area) (core : Registers) (memory : Memory) → (stepped k areas core memory).turn ≡ Went
     → settled areas (stepped k areas core memory).core (stepped k areas core memory).memory ≡ stepped (suc k) areas core memory
 settled_next k areas core memory went = ap (λ turn. then_settled turn areas (stepped k areas core memory)) (sym went)
@@ -53,7 +53,7 @@ goes_further k areas ps =
     let same : ps.clocks.execution + k + 1 ≡ ps.clocks.execution + suc k = omega arith in
     rw same refl
 
--- the instruction behind so many that went, where it only goes, too
+-- the instruction after so many that went, where it only goes, too
 pub next_goes : (k : ℕ) (view : PartitionView) (ps : PartitionState) → HasGone (suc k) view ps
     → Executes view (gone_on k (areas_of view) ps) (gone_on (suc k) (areas_of view) ps) []
 next_goes k view ps gone = λ contents time sight.

@@ -212,7 +212,7 @@ still_there : (directed : Option Directed) (xs : List PartitionState) (p : ℕ) 
 still_there None xs p new below = below
 still_there (Some directed) xs p new below = rw (length-set xs p new) below
 
--- a partition behind its work
+-- a partition after its work
 behind_work : (b : Bool) (tick : LocalTick) (ps : PartitionState) → worked_in (if_its_turn b (Some tick)) ps ≡ (if b then tick.after else ps)
 behind_work true tick ps = refl
 behind_work false tick ps = refl

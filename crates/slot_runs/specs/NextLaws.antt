@@ -28,7 +28,7 @@ next_work g p s = delivered_or_executed (due s.traps) s.traps.enabled (view_of g
 abbrev pub MetTick : Type 0
 MetTick = (g : Machine) (p : ℕ) (first : Bool) (ps : PartitionState) → g.halted ≡ false → IsAwake g p first ps → IsTickOf g p first (next_work g p (met g first ps))
 
--- so many ticks leave these partitions and tell nothing, and the next tick is in the slot of this partition, with this work
+-- so many ticks leave these partitions and report nothing, and the next tick is in the slot of this partition, with this work
 pub record IsNextTick (g : Machine) (done : ℕ) (parts : List PartitionState) (p : ℕ) (first : Bool) (work : Worked) : Type 0 where
   pub before : IsUnderway g done parts
   pub tick : IsTickOf (run g done) p first work

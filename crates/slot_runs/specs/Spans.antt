@@ -44,7 +44,7 @@ after_span last parts g = record g {
 abbrev pub plan_line : ℕ → Machine → List ReportLine
 plan_line last g = plan_lines (g.ticks + last) g.clock.plan (ended g.system.conf g.clock (g.time + last)).plan
 
--- so many ticks leave these partitions, and tell nothing
+-- so many ticks leave these partitions, and report nothing
 pub record IsUnderway (g : Machine) (done : ℕ) (parts : List PartitionState) : Type 0 where
   pub state : run g done ≡ inside done parts g
   pub lines : lines g done ≡ []
@@ -62,7 +62,7 @@ abbrev pub said_if : Bool → List Told → List ℕ
 said_if true tale = flat_map said_in tale
 said_if false tale = []
 
--- the ticks up to this one leave these partitions, and only the last tells something, of partition p, and at most that a plan starts
+-- the ticks up to this one leave these partitions, and only the last reports something, of partition p, and at most that a plan starts
 pub record IsToldSpan (g : Machine) (last p : ℕ) (parts : List PartitionState) (tale : List Told) : Type 0 where
   pub state : run g (suc last) ≡ after_span last parts g
   pub lines : lines g (suc last) ≡ map (line_of (g.ticks + last) p) tale ++ plan_line last g

@@ -9,7 +9,7 @@ ghost use Rattle.slot_runs.specs.Rest.{DueTwice, LooksTwice, MeetsAfterRest, Res
 ghost use Rattle.slot_runs.specs.SpanLaws.{GoingTicks, IdleTicks, RestingTicks};
 ghost use Rattle.slot_runs.specs.Undisturbed.{UndisturbedIdle, UndisturbedNext, UndisturbedTicks, UndisturbedTold};
 
-/// A timer need not be looked at in each tick: a later look alone leaves the same timer, and tells whether it was due.
+/// A timer need not be looked at in each tick: a later look alone leaves the same timer, and answers whether it was due.
 pub fn late_looks()
     ensures timer { LooksTwice }
     ensures due { DueTwice }

@@ -83,6 +83,25 @@ pub data IsUnassigned (word : ℕ) : Type 0 where
   -- LDD and STD
   doubles_odd_register : (op word ≡ 3) × IsOneOf (memory_opcode_of LdD ∷ memory_opcode_of StD ∷ []) (op3 word) → rd word % 2 ≡ 1 → IsUnassigned word
 
+-- The formats, as section 5.1 of the SPARC V8 manual draws them, with the number of the first bit of a field; what has no name is not read.
+--
+--  31  29        24    21    18        1312              4       0
+-- +---+-----------------------------------------------------------+
+-- | op|                           disp30                          |  op 1: CALL
+-- +---+---------+-----+-------------------------------------------+
+-- | op|    rd   | op2 |                   imm22                   |  op 0, op2 4: SETHI
+-- +---+-+-------+-----+-------------------------------------------+
+-- | op|a|  cond | op2 |                   disp22                  |  op 0, op2 2: Bicc
+-- +---+-+-------+-----+-----+---------+-+---------------+---------+
+-- | op|    rd   |    op3    |   rs1   |0|               |   rs2   |  op 2, 3: operand 2 in a register
+-- +---+---------+-----------+---------+-+---------------+---------+
+-- | op|    rd   |    op3    |   rs1   |1|          simm13         |  op 2, 3: operand 2 in the word
+-- +---+---------+-----------+---------+-+---------------+---------+
+-- | op|    rd   |    op3    |   rs1   |1|               |  shcnt  |  op 2: a shift
+-- +---+-+-------+-----------+---------+-+-----------+---+---------+
+-- | op| |  cond |    op3    |   rs1   |1|           |     imm7    |  op 2, op3 3A: Ticc
+-- +---+-+-------+-----------+---------+-+-----------+-------------+
+
 -- the word spells the instruction
 abbrev pub Spells : ℕ → Instr → Type 0
 Spells word (Call disp) = (op word ≡ 1) × (disp30 word ≡ disp)

@@ -30,7 +30,7 @@ wide rd product core = result_alone rd (product % 2 ^ 32) (with_y core (product 
 abbrev pub wide_coded : ℕ → ℕ → Registers → RegisterOutcome
 wide_coded rd product core = logical rd (product % 2 ^ 32) (with_y core (product / 2 ^ 32))
 
--- the double word that is divided: Y, and the first operand behind it
+-- the double word that is divided: Y, and the first operand after it
 unfoldable pub dividend : Registers → ℕ → ℕ
 dividend core a = core.y * 2 ^ 32 + a
 
@@ -49,7 +49,7 @@ tagged_sum_overflows a b = sum_overflows a b false || is_tagged a b
 unfoldable pub tagged_difference_overflows : ℕ → ℕ → Bool
 tagged_difference_overflows a b = difference_overflows a b false || is_tagged a b
 
--- the first operand of a step of a multiplication: one place to the right, behind the true sign of the product so far
+-- the first operand of a step of a multiplication: one place to the right, after the true sign of the product so far
 unfoldable pub stepped_operand : Registers → ℕ → ℕ
 stepped_operand core a = a / 2 + 2 ^ 31 * bit (differ (negative core.icc) (overflow core.icc))
 
@@ -57,7 +57,7 @@ stepped_operand core a = a / 2 + 2 ^ 31 * bit (differ (negative core.icc) (overf
 unfoldable pub step_addend : Registers → ℕ → ℕ
 step_addend core b = if core.y % 2 == 1 then b else 0
 
--- Y one place to the right, behind the lowest bit of the first operand
+-- Y one place to the right, after the lowest bit of the first operand
 unfoldable pub stepped_y : Registers → ℕ → ℕ
 stepped_y core a = core.y / 2 + 2 ^ 31 * (a % 2)
 

@@ -16,18 +16,18 @@ lies_in from count k = nat_le from k && nat_lt k (from + count)
 abbrev pub own_place : ℕ → ℕ
 own_place window = 16 * window
 
--- the word at a place of the windows: that at hand, where it is the current window's
+-- the word at a place of the windows: that cached, where it is the current window's
 abbrev pub word_at : ℕ → List ℕ → List ℕ → ℕ → ℕ
 word_at cwp hand windows k =
     if lies_in (own_place cwp) 16 k then slice_index hand (k - own_place cwp + 8)
     else if lies_in (ins_place cwp) 8 k then slice_index hand (k - ins_place cwp + 24)
     else slice_index windows k
 
--- the windows with what is at hand
+-- the windows with what is cached
 unfoldable pub windows_with : ℕ → List ℕ → List ℕ → List ℕ
 windows_with cwp hand windows = listed_below (word_at cwp hand windows) 128
 
--- the registers with what is at hand
+-- the registers with what is cached
 unfoldable pub gathered : ℕ → ℕ → ℕ → ℕ → ℕ → ℕ → List ℕ → List ℕ → Registers
 gathered pc npc y icc cwp inv hand windows = record {
   pc = pc;
@@ -40,7 +40,7 @@ gathered pc npc y icc cwp inv hand windows = record {
   windows = windows_with cwp hand windows;
 }
 
--- what holds of what is at hand, at all times
+-- what holds of what is cached, at all times
 pub record IsAtHand (pc npc y icc cwp inv : ℕ) (hand windows : List ℕ) : Type 0 where
   pub pc_aligned : pc % 4 ≡ 0
   pub npc_aligned : npc % 4 ≡ 0

@@ -76,7 +76,7 @@ module _ (cwp : ℕ) (hand windows : List ℕ) (k : ℕ) where
 ins_apart : (cwp k : ℕ) → cwp < 8 → ins_place cwp ≤ k → k < ins_place cwp + 8 → (k < own_place cwp) ⊎ (own_place cwp + 16 ≤ k)
 ins_apart cwp k window low high = ⊎_elim (λ here. inl here) (λ from. inr (omega arith)) (cases_lt k (own_place cwp))
 
--- the value of a register is the one at hand
+-- the value of a register is the one cached
 pub register_at_gathered : (pc npc y icc cwp inv : ℕ) (hand windows : List ℕ) (r : ℕ) → cwp < 8 → r < 32 → register_at (gathered pc npc y icc cwp inv hand windows) r ≡ slice_index hand r
 unfolding register_at gathered windows_with
 register_at_gathered pc npc y icc cwp inv hand windows r window small = at (nat_lt r 8) refl
@@ -104,11 +104,11 @@ register_at_gathered pc npc y icc cwp inv hand windows r window small = at (nat_
     at true is = let low : r < 8 = grind (arith, nat_tests) in get_or-take 8 hand r 0 low
     at false is = let low : 8 ≤ r = grind (arith, nat_tests) in windowed low (nat_lt r 24) refl
 
--- a register set at hand, register 0 staying zero
+-- a register set in the cache, register 0 staying zero
 abbrev pub put_at : List ℕ → ℕ → ℕ → List ℕ
 put_at hand r value = slice_set (slice_set hand r value) 0 0
 
--- what stands at hand then
+-- what is cached then
 put_at-same : (hand : List ℕ) (r value : ℕ) → 0 < r → r < length hand → slice_index (put_at hand r value) r ≡ value
 put_at-same hand r value some small = get_or-set_other (slice_set hand r value) 0 r 0 0 (omega arith) ∙ get_or-set_same hand r value 0 small
 
@@ -167,7 +167,7 @@ gathered-same : (pc npc y icc cwp inv : ℕ) (hand windows globals words : List 
 unfolding gathered
 gathered-same pc npc y icc cwp inv hand windows globals words globals_are words_are = rw (globals_are, words_are) refl
 
--- to set a register at hand is to set it
+-- to set a register cached is to set it
 pub with_register_gathered : (pc npc y icc cwp inv : ℕ) (hand windows : List ℕ) (r value : ℕ) → cwp < 8 → r < 32 → length hand ≡ 32 → slice_index hand 0 ≡ 0 → with_register (gathered pc npc y icc cwp inv hand windows) r value ≡ gathered pc npc y icc cwp inv (put_at hand r value) windows
 unfolding with_register gathered windows_with
 with_register_gathered pc npc y icc cwp inv hand windows r value window small counted zero_first = at (r == 0) (nat_lt r 8) refl refl
@@ -234,7 +234,7 @@ length-part xs from count fits = grind (arith, places)
 length-rest : (xs : List ℕ) (from count : ℕ) → from + count ≡ length xs → length (drop from xs) ≡ count
 length-rest xs from count fits = grind (arith, places)
 
--- the windows with what is at hand, written back: first the outs and locals, then the ins
+-- the windows with what is cached, written back: first the outs and locals, then the ins
 pub written_back : (cwp : ℕ) (hand windows own ins : List ℕ) → cwp < 8 → length hand ≡ 32 → length windows ≡ 128 → own ≡ take 16 (drop 8 hand) → ins ≡ drop 24 hand → put_mid (ins_place cwp) 8 (put_mid (own_place cwp) 16 windows own) ins ≡ windows_with cwp hand windows
 unfolding windows_with
 written_back cwp hand windows own ins window counted whole own_is ins_is = sym (table-of (word_at cwp hand windows) _ 128 (length-put_mid once ins (ins_place cwp) 8 eight (omega (arith, counted_once)) ∙ counted_once) each)
@@ -316,7 +316,7 @@ pub taken_to_hand-globals : (hand own ins : List ℕ) → length hand ≡ 32 →
 taken_to_hand-globals hand own ins counted sixteen =
     take-put_mid_below 24 8 (put_mid 8 16 hand own) ins 8 (omega arith) (omega (arith, length-put_mid hand own 8 16 sixteen (omega arith))) ∙ take-put_mid_below 8 16 hand own 8 (omega arith) (omega arith)
 
--- what is at hand are registers
+-- what is cached are registers
 pub at_hand-AreRegisters : (pc npc y icc cwp inv : ℕ) (hand windows : List ℕ) → IsAtHand pc npc y icc cwp inv hand windows → AreRegisters (gathered pc npc y icc cwp inv hand windows)
 unfolding gathered windows_with
 at_hand-AreRegisters pc npc y icc cwp inv hand windows is = record {
@@ -352,7 +352,7 @@ taken_in_two cwp from to hand windows once twice window counted whole from_is to
     ∙ ap (λ place. put_mid 24 8 (put_mid 8 16 hand (take 16 (drop place windows))) (take 8 (drop (ins_place cwp) windows))) from_is)
     ∙ taken_to_hand cwp hand windows (take 16 (drop (own_place cwp) windows)) (take 8 (drop (ins_place cwp) windows)) window counted whole refl refl
 
--- the front of a list that was written is what was written
+-- the prefix of a list that was written is what was written
 pub front_written : (count : ℕ) (new ys rest : List ℕ) → new ≡ ys → length ys ≡ count → take count (new ++ rest) ≡ ys
 front_written count new ys rest is counted = ap (λ (xs : List ℕ). take count (xs ++ rest)) is ∙ same_lists _ _ (grind (arith, places)) (λ k d h. grind (arith, places))
 
@@ -361,7 +361,7 @@ pub gathered_from : (pc npc y icc cwp inv : ℕ) (globals windows first hand : L
 gathered_from pc npc y icc cwp inv globals windows first hand first_is front words =
     sym (gathered-same pc npc y icc cwp inv hand windows globals windows (sym (front ∙ first_is)) (sym words))
 
--- what stands apart from what is at hand
+-- what stands apart from what is cached
 pub record IsAway (cwp from count : ℕ) : Type 0 where
   pub own : (from + count ≤ own_place cwp) ⊎ (own_place cwp + 16 ≤ from)
   pub ins : (from + count ≤ ins_place cwp) ⊎ (ins_place cwp + 8 ≤ from)
@@ -441,7 +441,7 @@ put_away cwp hand windows words from count whole fits counted away =
     each : (k : ℕ) → k < 128 → word_at cwp hand put k ≡ slice_index (put_mid from count all words) k
     each k small = lies_or from count k (inside k) (outside k small)
 
--- the locals and the ins of a window of which nothing is at hand
+-- the locals and the ins of a window of which nothing is cached
 locals_away : (cwp window : ℕ) → cwp < 8 → window < 8 → window ≢ cwp → IsAway cwp (locals_place window) 8
 locals_away cwp window current small other = record { own = of_own (cases_lt window cwp); ins = of_ins (cases_lt window ((cwp + 1) % 8)) }
   where
@@ -464,7 +464,7 @@ ins_away cwp window current small other above_other = record { own = of_own (cas
     of_ins (inl below) = inl (omega arith)
     of_ins (inr above) = inr (omega arith)
 
--- the stack pointer of a window is not at hand
+-- the stack pointer of a window is not cached
 pub stack_away : (cwp window : ℕ) (hand windows : List ℕ) → cwp < 8 → window < 8 → window ≢ cwp → window ≢ (cwp + 1) % 8 → slice_index (windows_with cwp hand windows) (16 * window + 6) ≡ slice_index windows (16 * window + 6)
 unfolding windows_with
 stack_away cwp window hand windows current small other above =
@@ -501,7 +501,7 @@ with_saved_away cwp window hand windows words current small whole counted other 
     front : length (take 8 words) ≡ 8
     front = length-part words 0 8 (omega (arith, counted))
 
--- two parts, written one behind the other
+-- two parts, written one after the other
 two_parts_of : (n m : ℕ) (words first second : List ℕ) → length words ≡ n + m → length first ≡ n → length second ≡ m → put_mid n m (put_mid 0 n words first) second ≡ first ++ second
 two_parts_of n m words first second counted one two = same_lists _ _ (grind (arith, places)) (λ k d h. grind (arith, places))
 

@@ -17,10 +17,10 @@ went core = record { turn = Went; core = core }
 abbrev pub trapped : ℕ → Registers → RegisterOutcome
 trapped type core = record { turn = Trap type; core = core }
 
--- the registers behind an instruction with a result
+-- the registers after an instruction with a result
 unfoldable pub with_result : ℕ → ℕ → Registers → Registers
 with_result rd value core = advanced (with_register core rd value)
 
--- the registers behind an instruction with a result and condition codes
+-- the registers after an instruction with a result and condition codes
 unfoldable pub with_result_and_codes : ℕ → ℕ → ℕ → Registers → Registers
 with_result_and_codes rd value icc core = advanced (with_icc (with_register core rd value) icc)

@@ -62,7 +62,7 @@ advanced r = record r { pc = r.npc; npc = (r.npc + 4) % 2 ^ 32 }
 unfoldable pub branched : Registers → ℕ → Registers
 branched r target = record r { pc = r.npc; npc = target }
 
--- the registers behind the next instruction, which is annulled
+-- the registers after the next instruction, which is annulled
 unfoldable pub skipped : Registers → Registers
 skipped r = record r { pc = (r.npc + 4) % 2 ^ 32; npc = (r.npc + 8) % 2 ^ 32 }
 
@@ -97,7 +97,7 @@ locals_place window = 16 * window + 8
 abbrev pub ins_place : ℕ → ℕ
 ins_place window = 16 * ((window + 1) % 8)
 
--- the locals of a window, and behind them its ins
+-- the locals of a window, and after them its ins
 unfoldable pub locals_and_ins : List ℕ → ℕ → List ℕ
 locals_and_ins windows window = take 8 (drop (locals_place window) windows) ++ take 8 (drop (ins_place window) windows)
 

@@ -1,4 +1,4 @@
--- What the rows have in common: a trap changes nothing, and a call of the hypervisor only goes on behind it.
+-- What the rows have in common: a trap changes nothing, and a call of the hypervisor only goes on after it.
 use Rattle.std.proofs.Common.{◌∙◌, sym}
 use Rattle.std.specs.Prelude.{◌≡◌, ℕ, List, Option, Some, None, Result, Ok, Err, Bool, true, false, refl, ◌==◌, if◌then◌else◌}
 use Rattle.guest_bus.specs.Access.{fetched, loaded, store_fault}
@@ -29,7 +29,7 @@ IsUndone Went before after old new = Unit {0}
 IsUndone (Trap type) before after old new = (after ≡ before) × (new ≡ old)
 IsUndone Call before after old new = Unit {0}
 
--- a trap changes nothing, and a call of the hypervisor only goes on behind it
+-- a trap changes nothing, and a call of the hypervisor only goes on after it
 pub record IsOrderly (core : Registers) (memory : Memory) (t : Turned) : Type 0 where
   pub undone : IsUndone t.turn core t.core memory t.memory
   pub called : t.turn ≡ Call → t.core ≡ advanced core
@@ -189,7 +189,7 @@ turned_after_orderly : (r : Result ℕ BusFault) (areas : List Area) (core : Reg
 turned_after_orderly (Ok word) areas core memory = executed_orderly (decoded word) areas core memory
 turned_after_orderly (Err fault) areas core memory = trapped_orderly 0x01 core memory
 
--- an instruction that traps changes nothing, and one that calls the hypervisor goes on behind it
+-- an instruction that traps changes nothing, and one that calls the hypervisor goes on after it
 pub turned-IsOrderly : (areas : List Area) (core : Registers) (memory : Memory) → IsOrderly core memory (turned areas core memory)
 unfolding turned
 turned-IsOrderly areas core memory = turned_after_orderly (fetched areas memory core.pc) areas core memory
@@ -198,6 +198,6 @@ turned-IsOrderly areas core memory = turned_after_orderly (fetched areas memory 
 pub undone_pieces : (areas : List Area) (core after : Registers) (old new : Memory) (t : Turn) → t ≡ (turned areas core old).turn → after ≡ (turned areas core old).core → new ≡ (turned areas core old).memory → IsUndone t core after old new
 undone_pieces areas core after old new t turn_is core_is memory_is = rw (turn_is, core_is, memory_is) (turned-IsOrderly areas core old).undone
 
--- and a call goes on behind it
+-- and a call goes on after it
 pub called_pieces : (areas : List Area) (core after : Registers) (old : Memory) (t : Turn) → t ≡ (turned areas core old).turn → after ≡ (turned areas core old).core → t ≡ Call → after ≡ advanced core
 called_pieces areas core after old t turn_is core_is is_call = core_is ∙ (turned-IsOrderly areas core old).called (sym turn_is ∙ is_call)

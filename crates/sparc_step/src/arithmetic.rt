@@ -357,7 +357,7 @@ fn put_product_with_codes(core: &mut Processor, word: u32, product: u64)
     put_logic(core, word, (product % 0x1_0000_0000) as u32);
 }
 
-// The double word that is divided: Y, and the first operand behind it.
+// The double word that is divided: Y, and the first operand after it.
 #[tactic(auto, unfolding(crate::specs::Arithmetic::dividend))]
 fn dividend(core: &Processor, a: u32) -> u64
     ensures { result ≡ dividend core.now a }
@@ -519,7 +519,7 @@ fn step_addend(core: &Processor, b: u32) -> u32
     if core.y() % 2 == 1 { b } else { 0 }
 }
 
-// Y behind the step.
+// Y after the step.
 #[tactic(auto, unfolding(crate::specs::Arithmetic::stepped_y))]
 fn stepped_y(core: &Processor, a: u32) -> u32
     ensures { result ≡ stepped_y core.now a }

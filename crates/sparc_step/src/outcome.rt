@@ -7,6 +7,6 @@ pub enum Turn {
     Went,
     /// It trapped with this type, and changed nothing.
     Trap(u8),
-    /// It called the hypervisor. The program goes on behind it.
+    /// It called the hypervisor. The program goes on after it.
     Call,
 }

@@ -1,4 +1,4 @@
-//! The registers as a processor has them at hand.
+//! The registers as a processor has them cached.
 
 ghost use borrow.Rule.Slice.PartMut.{put_mid};
 ghost use Rattle.std.specs.Prelude.{◌≡◌, ◌≢◌, ◌*◌, ◌+◌, ◌%◌, ◌<◌, ◌≤◌, ◌++◌, drop, length, slice_index, take};
@@ -26,7 +26,7 @@ ghost use Rattle.sparc_step.specs.Registers.{
 use crate::registers::Core;
 use std::marker::Model;
 
-/// The registers of a guest's processor, those of the current window at hand by their numbers.
+/// The registers of a guest's processor, those of the current window cached by their numbers.
 ///
 /// It is the form for many instructions: a `Core` is taken to hand before them, and asked for after.
 #[derive(Debug, Drop)]
@@ -106,7 +106,7 @@ impl Processor {
         self.pc & 0xffff_fffc
     }
 
-    /// Where the program goes on behind the instruction at `pc`.
+    /// Where the program goes on after the instruction at `pc`.
     #[tactic(auto, unfolding(crate::specs::AtHand::gathered))]
     pub fn npc(&self) -> u32
         ensures value { result ≡ self.now.npc }
@@ -182,7 +182,7 @@ impl Processor {
         self.windows[16 * usize::from(window) + 6]
     }
 
-    /// The locals of a window, and behind them its ins. The window is neither the current one nor the one below it.
+    /// The locals of a window, and after them its ins. The window is neither the current one nor the one below it.
     #[inline(always)]
     pub fn saved(&self, window: u8) -> [u32; 16]
         requires window { window < 8 }
@@ -253,7 +253,7 @@ impl Processor {
         self.npc = target;
     }
 
-    /// Goes on behind the next instruction, which is annulled.
+    /// Goes on after the next instruction, which is annulled.
     #[tactic(auto, unfolding(crate::specs::Registers::skipped, crate::specs::AtHand::gathered))]
     pub(crate) fn skip(&mut self)
         ensures { self.new ≡ skipped self.old }
@@ -363,7 +363,7 @@ fn take_ins(hand: &mut [u32], windows: &[u32], at: usize)
     hand[24..].copy_from_slice(&windows[at..at + 8]);
 }
 
-// Writes what is at hand of a window back to the windows.
+// Writes what is cached of a window back to the windows.
 #[inline(always)]
 fn write_window(windows: &mut [u32], hand: &[u32], window: u8)
     requires hand { length hand.now ≡ 32 }

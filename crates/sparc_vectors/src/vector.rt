@@ -27,7 +27,7 @@ pub(crate) fn read_vector(line: &str) -> Option<Vector<'_>> {
     if !before.set_all(given) || !after.set_all(given) || !after.set_all(changes) {
         return None;
     }
-    // A hypercall that is told as a trap is not yet entered; the processor goes on behind it.
+    // A hypercall that is told as a trap is not yet entered; the processor goes on after it.
     if came == Came::Trap(0xf0) {
         after.advance();
         return Some(Vector {
@@ -47,7 +47,7 @@ pub(crate) fn read_vector(line: &str) -> Option<Vector<'_>> {
     })
 }
 
-// The first word, and what stands behind it.
+// The first word, and what stands after it.
 fn name_and_settings(text: &str) -> (&str, &str) {
     match text.split_once(' ') {
         Some(parts) => parts,

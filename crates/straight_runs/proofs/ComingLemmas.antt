@@ -20,7 +20,7 @@ use Rattle.straight_runs.specs.declared.rows.Row.{Row}
 use Rattle.straight_runs.specs.declared.simple.Step.TheVariants as step
 use Rattle.straight_runs.specs.declared.turning.Goal.TheVariants as goal
 
--- behind a place, the next word follows
+-- after a place, the next word follows
 followed : (count origin to : ℕ) (areas : List Area) (core new : Registers) (memory after : Memory)
     → AreSteps count areas core memory (placed (word_address origin to) ((word_address origin to + 4) % 2 ^ 32) new) after → AreSteps count areas core memory (at_place origin to new) after
 followed count origin to areas core new memory after steps =
@@ -100,7 +100,7 @@ came_jump raw origin at to row areas old mid new memory there stands is same byt
     (gone raw origin at areas old (at_place origin to new) memory stands
     (ap (λ (r : Registers). executed (decoded (swapped raw)) areas (at_place origin at r) memory) (sym same) ∙ turns (decoded (swapped raw)) areas memory is.spelled))
 
--- what came behind a turn
+-- what came after a turn
 pub came_turned : (came : Came) (raw origin at to : ℕ) (row : Row) (here areas : List Area) (old mid turned new : Registers) (memory there after : Memory)
     → fetched areas memory (word_address origin at) ≡ Ok (swapped raw) → IsRowFor raw row → mid ≡ old → there ≡ memory → here ≡ areas → Turns (goal.Behind to) row origin at mid turned
     → ((core : Registers) (m : Memory) → AreSteps 1 here (at_place origin at core) m (at_slot origin (at + 1) to turned) there → IsCame came origin at here core new m after)

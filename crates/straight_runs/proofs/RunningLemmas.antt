@@ -72,7 +72,7 @@ jumped_on code areas from most at limit last to next core memory here new there 
     more : 1 + (most - (limit - at)) ≡ most - (to + (limit - (at + 1)) - to)
     more = omega (arith, under, is.stops.short under, is.few)
 
--- the same behind a delay slot
+-- the same after a delay slot
 pub turned_on : (code : Code) (areas : List Area) (from most at limit last to next : ℕ) (core : Registers) (memory : Memory) (here new : Registers) (there after : Memory)
     → IsRunning code areas from most at limit last core memory here there → at < last → to < 2 ^ 33
     → IsCame (Turn to) code.words.origin at areas here new there after → RunStopsAt code to (to + (limit - (at + 2))) next

@@ -29,7 +29,7 @@ pub next_address : (origin place : ℕ) → (word_address origin place + 4) % 2 
 unfolding word_address
 next_address origin place = omega arith
 
--- and of the one behind it
+-- and of the one after it
 after_next : (origin place : ℕ) → (word_address origin place + 8) % 2 ^ 32 ≡ word_address origin (place + 2)
 unfolding word_address
 after_next origin place = omega arith

@@ -56,7 +56,7 @@ pub word_more : (count word pc npc : ℕ) (areas : List Area) (core old new : Re
 word_more count word pc npc areas core old new memory there after steps stands goes =
     one_more count areas core (placed pc npc old) (placed npc ((npc + 4) % 2 ^ 32) new) memory there after steps (turned-word word pc npc areas old there _ stands (goes pc npc))
 
--- the word at pc turns to a target, behind its delay slot
+-- the word at pc turns to a target, after its delay slot
 pub turn_more : (count word pc npc to : ℕ) (areas : List Area) (core old new : Registers) (memory there : Memory)
     → AreSteps count areas core memory (placed pc npc old) there → fetched areas there pc ≡ Ok word
     → executed (decoded word) areas (placed pc npc old) there ≡ done (placed npc to new) there
@@ -71,7 +71,7 @@ zero_add a = omega arith
 suc_add : (b a : ℕ) → suc b + a ≡ suc (b + a)
 suc_add b a = omega arith
 
--- steps behind steps
+-- steps after steps
 went_eta : (t : Turned) → t.turn ≡ Went → t ≡ done t.core t.memory
 went_eta t went = ap (λ (turn : Turn). record { turn = turn; core = t.core; memory = t.memory }) went
 

@@ -17,7 +17,7 @@ use Rattle.virt_traps.specs.Moves.{fill_address, filled, move_made, move_refused
 use Rattle.virt_traps.specs.SaveArea.{is_usable, register_of, registers_from, saved, with_registers}
 use Rattle.straight_runs.specs.Shifts.{IsFilled, IsSpilled}
 
--- registers of a window that stand one behind the other
+-- registers of a window that stand one after the other
 registers_placed : (windows : List ℕ) (window n count from : ℕ) → ((k : ℕ) → k < count → place_in_windows window (n + k) ≡ from + k) → from + count ≤ length windows → registers_from windows window n count ≡ take count (drop from windows)
 unfolding registers_from
 registers_placed windows window n zero from there fits = refl
@@ -72,7 +72,7 @@ saved_is windows window small whole =
     ∙ ap (λ (xs : List ℕ). xs ++ registers_from windows window 24 8) (registers_placed windows window 16 8 (locals_place window) (locals_there window) (omega (arith, whole)))
     ∙ ap (λ (xs : List ℕ). take 8 (drop (locals_place window) windows) ++ xs) (registers_placed windows window 24 8 (ins_place window) (λ k below. ins_there window k) (omega (arith, whole)))
 
--- values of registers that stand one behind the other
+-- values of registers that stand one after the other
 values_placed : (windows : List ℕ) (window n from : ℕ) (values : List ℕ) → ((k : ℕ) → k < length values → place_in_windows window (n + k) ≡ from + k) → with_registers windows window n values ≡ sets windows from values
 unfolding with_registers
 values_placed windows window n from [] there = refl

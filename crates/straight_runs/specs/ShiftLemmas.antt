@@ -105,7 +105,7 @@ filled-placed areas core memory pc npc = at (is_usable (is_readable areas) (fill
     at true = refl
     at false = refl
 
--- the step behind a spill that was made, and behind a fill
+-- the step after a spill that was made, and after a fill
 settled_spilled : (areas : List Area) (core mid : Registers) (memory there : Memory) (t : Turned) → turned areas core memory ≡ refused_by 5 core memory → spilled areas core memory ≡ move_made mid there → turned areas mid there ≡ t → settled areas core memory ≡ t
 unfolding settled after_trap made_again
 settled_spilled areas core mid memory there t trap moves again =

@@ -22,7 +22,7 @@ branched-placed : (core : Registers) (pc npc to : ℕ) → branched (placed pc n
 unfolding branched placed
 branched-placed core pc npc to = refl
 
--- where a taken branch annuls nothing, it goes on to its target behind its delay slot
+-- where a taken branch annuls nothing, it goes on to its target after its delay slot
 taken-placed : (condition to pc npc : ℕ) (annul : Bool) (core : Registers) → (annul && (condition == 8)) ≡ false → taken condition annul to (placed pc npc core) ≡ placed npc to core
 unfolding taken
 taken-placed condition to pc npc annul core none =

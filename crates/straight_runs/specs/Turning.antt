@@ -10,11 +10,11 @@ use Rattle.straight_runs.specs.declared.rows.Row.{Row}
 use Rattle.straight_runs.specs.declared.turning.Goal.{Goal}
 use Rattle.straight_runs.specs.declared.turning.Goal.TheVariants.{Behind, Now, Stays}
 
--- registers at the word of a place, behind which the next word follows
+-- registers at the word of a place, after which the next word follows
 abbrev pub at_place : ℕ → ℕ → Registers → Registers
 at_place origin place core = placed (word_address origin place) (word_address origin (place + 1)) core
 
--- registers at the word of a place, behind which a place follows
+-- registers at the word of a place, after which a place follows
 abbrev pub at_slot : ℕ → ℕ → ℕ → Registers → Registers
 at_slot origin place to core = placed (word_address origin place) (word_address origin to) core
 

@@ -18,7 +18,7 @@ use sparc_step::conditions::holds;
 /// Where an instruction goes that does not go on to the next word.
 #[derive(Clone, Copy, Debug)]
 pub(crate) enum Goal {
-    /// Behind its delay slot to this place.
+    /// After its delay slot to this place.
     Behind(usize),
     /// To this place, its delay slot being annulled.
     Now(usize),

@@ -132,7 +132,7 @@ told_apart (note.Take chan) memory = refl
 told_apart (note.Saw at size) memory = refl
 told_apart note.NotKept memory = refl
 
--- where it tells nothing, no memory shows bytes for the console
+-- where it reports nothing, no memory shows bytes for the console
 console_none : (a_note : Note) (memory other : Memory) → told_by a_note memory ≡ [] → console_told a_note other ≡ console_told a_note memory
 console_none note.Nothing memory other none = refl
 console_none (note.Console at size) memory other none = absurd cc
@@ -280,7 +280,7 @@ call_worked p pc npc n answer reach old one two new had between got below empty 
       one_is = one_is;
     })
 
--- a call that tells nothing, and asks for nothing
+-- a call that reports nothing, and asks for nothing
 pub call_quiet : (p pc npc : ℕ) (answer : code.Served) (old one two : SysState) (had : List ReportLine) → p < length old.machine.parts → had ≡ []
     → IsServed p (caller_at p pc npc old).sight (served (caller_at p pc npc old)) answer old one
     → two ≡ with_machine (with_part p (clocked (part_at p one.machine)) one.machine) one → answer.note ≡ note.Nothing → answer.act ≡ act.Nothing
@@ -325,7 +325,7 @@ unfolding clocked
 mild_memory u view time ps (inl nothing) = ap (λ (x : Upshot). (by_upshot x view time (clocked ps)).after.memory) nothing
 mild_memory u view time ps (inr (plan, asks)) = ap (λ (x : Upshot). (by_upshot x view time (clocked ps)).after.memory) asks
 
--- an order upon itself and a health event have no traffic
+-- an order on itself and a health event have no traffic
 order_still : (b : Bool) (view : PartitionView) (id : ℕ) (order : Order) (ps : PartitionState)
     → traffic_of (if b then self_ordered view order ps else record (quiet ps) { act = told.Upon id order }).act ≡ OwnStill
 unfolding self_ordered
@@ -365,7 +365,7 @@ saw_mild p pc npc old bytes shows = at (observed_by (view_of old.machine.system 
     at None is = absurd (let none : sight_for old.machine (view_of old.machine.system p) None ≡ Words bytes = sym (ap (sight_for old.machine (view_of old.machine.system p)) is) ∙ shows in cc)
     at (Some call) is = served_mild (caller_at p pc npc old) call is
 
--- what a call's note tells is its traffic and what it was shown
+-- what a call's note reports is its traffic and what it was shown
 pub call_noted : (p pc npc : ℕ) (answer : code.Served) (old one : SysState) → IsServed p (caller_at p pc npc old).sight (served (caller_at p pc npc old)) answer old one
     → IsToldBy p (caller_at p pc npc old).sight (called (caller_at p pc npc old)) answer.note old
 unfolding called caller_at

@@ -121,7 +121,7 @@ kept_after (note.Saw at size) reach turn p traffic after m below (inr (plan, ask
     (ap (λ (act : Act). memory_of p (ended_by act p (traded traffic (with_part p after m)))) asks ∙ asking_memory plan p traffic after m below)
 kept_after note.NotKept reach turn p traffic after m below alone = refl
 
--- an order is upon a partition that there is
+-- an order is on a partition that there is
 beyond_one : (reach : Beyond) (m : Machine) → ReachIsUponOne reach m → IfSome (reach_of (act_beyond reach)).directed (λ directed. directed.id < length m.parts)
 beyond_one beyond.Nothing m one = tt
 beyond_one (beyond.Order id order) m one = one

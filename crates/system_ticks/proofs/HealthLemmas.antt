@@ -26,7 +26,7 @@ use Rattle.system_ticks.proofs.WorkLemmas.{done_then, state_then}
 pub is_work : (p : ℕ) (w v : Worked) (old new : SysState) (had got : List ReportLine) → w ≡ v → IsPartDone p v.after v.told old new had got → IsPartDone p w.after w.told old new had got
 is_work p w v old new had got is done = subst (λ (x : Worked). IsPartDone p x.after x.told old new had got) (sym is) done
 
--- a part of the work that tells nothing
+-- a part of the work that reports nothing
 pub silent : (p : ℕ) (ps : PartitionState) (old new : SysState) (had : List ReportLine) → new ≡ with_machine (with_part p ps old.machine) old → IsPartDone p ps [] old new had had
 silent p ps old new had is = record { state = is; lines = sym (append-nil had) }
 

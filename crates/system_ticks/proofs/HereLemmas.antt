@@ -33,7 +33,7 @@ plan_owned conf plan fits below =
 at_place : (P : Slot → Type 0) (slots : List Slot) (k : ℕ) (slot : Slot) → All P slots → slice_get slots k ≡ Some slot → P slot
 at_place P slots k slot all is = subst P (get_or_from_slice_get slots k slot slot is) (all k slot (slice_get_within slots k slot is))
 
--- the partition of the slot at hand is one of the system
+-- the partition of the current slot is one of the system
 owned : (g : Machine) (slot : Here) → Fits (described g.system.conf) → g.clock.plan < length g.system.conf.plans
     → IsHere (moment g.clock g.time) (slots_of g.system.conf g.clock.plan) slot → length g.parts ≡ length g.system.conf.parts → slot.part < length g.parts
 owned g slot fits below covers counted = at (slice_get (slots_of g.system.conf g.clock.plan) slot.slot) refl covers

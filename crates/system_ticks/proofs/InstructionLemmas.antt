@@ -1,4 +1,4 @@
--- An instruction that trapped or called: its work, as the system behind it has it.
+-- An instruction that trapped or called: its work, as the system after it has it.
 use Rattle.std.proofs.Common.{◌≡◌, ℕ, ◌+◌, ◌<◌, Bool, true, false, List, ◌++◌, length, map, Option, Some, refl, sym, ap, subst, ◌∙◌}
 use Rattle.std.specs.Prelude.{◌%◌, ◌^◌, ◌==◌, if◌then◌else◌, Result, Ok, Err}
 use Rattle.std.proofs.lemmas.List.{get_or-set_same, length-set, set-set}
@@ -114,7 +114,7 @@ trap_work m p type pc s new old mid below is traps new_is pc_is =
 abbrev calls_so : Machine → ℕ → PartitionState → Sight → ℕ → ℕ → Caller
 calls_so m p state seen pc npc = record { view = view_of m.system p; state = state; contents = copies m p; time = m.time; sight = seen; pc = pc; npc = npc }
 
--- the caller behind the instruction
+-- the caller after the instruction
 caller_is : (m : Machine) (p pc npc : ℕ) (new : PartitionState) (old : SysState) → p < length m.parts
     → caller_at p pc npc (with_machine (with_part p new m) old)
     ≡ calls_so m p new (sight_for (with_part p new m) (view_of m.system p) (observed_by (view_of m.system p) new.core)) pc npc

@@ -50,7 +50,7 @@ plain_act (beyond.Whole whole.Maintenance) = refl
 pub no_traffic : (p : ℕ) (work : Worked) (reach : Beyond) (old : SysState) → work.act ≡ act_beyond reach → traffic_in old.machine p work.act ≡ Still
 no_traffic p work reach old is = ap (λ (traffic : OwnTraffic). told_as (named old.machine.system.conf p) traffic) (ap traffic_of is ∙ still_act reach)
 
--- an order is upon a partition that there was
+-- an order is on a partition that there was
 pub one_before : (reach : Beyond) (g h : Machine) → length g.parts ≡ length h.parts → ReachIsUponOne reach g → ReachIsUponOne reach h
 one_before beyond.Nothing g h same one = one
 one_before (beyond.Order id order) g h same one = subst (λ (count : ℕ). id < count) same one

@@ -1,4 +1,4 @@
--- What each call keeps: the health log and the execution clock; one that tells something does nothing else.
+-- What each call keeps: the health log and the execution clock; one that reports something does nothing else.
 use Rattle.std.proofs.Common.{◌≡◌, ◌⊎◌, inl, inr, ℕ, Bool, true, false, List, [], ◌∷◌, Option, None, Some, Result, Ok, Err, refl, arith}
 use Rattle.std.specs.Prelude.{◌==◌, ◌||◌, if◌then◌else◌, bit_and, nat_lt}
 use Rattle.health_monitor.specs.declared.entry.HealthEntry.{HealthEntry}
@@ -37,12 +37,12 @@ pub record KeptParts : Type 0 where
 abbrev pub kept_parts : PartitionState → KeptParts
 kept_parts ps = record { health = ps.health; execution = ps.clocks.execution }
 
--- a call keeps it, and does nothing where it tells something
+-- a call keeps it, and does nothing where it reports something
 pub record Keeps (caller : Caller) (comes : Served) : Type 0 where
   pub same : kept_parts comes.after ≡ kept_parts caller.state
   pub acts : (comes.told ≡ []) ⊎ (comes.upshot ≡ Acts Nothing)
 
--- a call that tells nothing
+-- a call that reports nothing
 tells_nothing : (caller : Caller) (comes : Served) → kept_parts comes.after ≡ kept_parts caller.state → comes.told ≡ [] → Keeps caller comes
 tells_nothing caller comes same silent = record { same = same; acts = inl silent }
 

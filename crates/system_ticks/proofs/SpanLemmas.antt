@@ -36,7 +36,7 @@ use Rattle.system_ticks.specs.ListLemmas.{each_at, each_length}
 use Rattle.system_ticks.proofs.QuietLemmas.{calm_goes, earlier_bound}
 use Rattle.system_ticks.proofs.WorkLemmas.{put_there}
 
--- so many ticks of partition p in which no call told anything
+-- so many ticks of partition p in which no call reported anything
 abbrev pub quiet_span : ℕ → ℕ → Bool → Beyond → Span
 quiet_span ticks p worked reach = record { ticks = ticks; part = p; worked = worked; note = note.Nothing; reach = reach }
 
@@ -133,7 +133,7 @@ behind_count : (p k : ℕ) (g : Machine) → length (machine_underway p k g).par
 behind_count p zero g = refl
 behind_count p (suc k) g = each_length (λ q ps. if is_number (Some p) q then ps else rested (g.time + k) ps) g.parts
 
--- what stays of a system behind ticks in which a partition only went
+-- what stays of a system after ticks in which a partition only went
 pub record Stands (p k : ℕ) (old mid : SysState) : Type 0 where
   pub part : part_at p mid.machine ≡ part_at p old.machine
   pub counted : length mid.machine.parts ≡ length old.machine.parts
@@ -205,7 +205,7 @@ worked_frame p work a_note reach mid after got worked frame =
     subst (λ (x : SysState). IsInFrame x.machine.system.conf x.machine.clock x.machine.time) (sym worked.state)
     (traded_frame (traffic_in mid.machine p work.act) (with_part p work.after mid.machine) frame)
 
--- the system behind ticks in which its partition went, and an instruction of it
+-- the system after ticks in which its partition went, and an instruction of it
 pub turned_behind : OthersRest → UndisturbedNext → (g : Machine) (p : ℕ) (first : Bool) (ps new : PartitionState) (went : ℕ) (old mid : SysState)
     → IsUndisturbed g p first ps went → HasGone went (view_of g.system p) (met g first ps) → old ≡ with_machine (with_part p new g) old
     → mid ≡ with_machine (machine_underway p went old.machine) old → mid ≡ with_machine (with_part p new (run g went)) old

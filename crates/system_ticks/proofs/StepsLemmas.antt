@@ -69,7 +69,7 @@ module _ (g : Machine) (p : ℕ) (first : Bool) (ps : PartitionState) (most : �
         (subst (λ (x : PartitionState). NoneFallsDue old.machine.time (within - 1) true x.clocks) part_is calm));
   }
 
-  -- the system behind the steps
+  -- the system after the steps
   behind_steps : (went : ℕ) (core : Registers) (memory : Memory) (mid new : SysState) → AreSteps p went core memory old mid new
       → new ≡ with_machine (with_part p (counted_on went (with_turned core memory (met g first ps))) g) old
   behind_steps went core memory mid new steps =
@@ -184,6 +184,6 @@ next_after p went areas before bytes mid counted below is calls core =
     goes : GoesOn before (settled areas before bytes).core
     goes = call_goes_on areas before bytes calls
 
--- the partition is still there behind its steps
+-- the partition is still there after its steps
 pub below_steps : (p : ℕ) (x : PartitionState) (old mid : SysState) → p < length old.machine.parts → mid ≡ with_machine (with_part p x old.machine) old → p < length mid.machine.parts
 below_steps p x old mid below is = omega (arith, ap (λ (y : SysState). length y.machine.parts) is, length-set old.machine.parts p x, below)

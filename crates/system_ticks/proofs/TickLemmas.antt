@@ -84,7 +84,7 @@ ending_is (Upon id order) p after g = set_ending (Upon id order) p after g
 ending_is (Plans change) p after g = set_ending (Plans change) p after g
 ending_is (UponAll event) p after g = set_ending (UponAll event) p after g
 
--- lists one after another, put together from behind
+-- lists one after another, put together from after
 regrouped : {X : Type 0} (a b c d e : List X) → a ++ b ++ c ++ d ++ e ≡ a ++ (b ++ c ++ d ++ e)
 regrouped [] b c d e = refl
 regrouped (x ∷ a) b c d e = ap (λ rest. x ∷ rest) (regrouped a b c d e)

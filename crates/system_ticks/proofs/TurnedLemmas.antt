@@ -40,7 +40,7 @@ use Rattle.system_ticks.proofs.SightLemmas.{delivered_unseen}
 use Rattle.system_ticks.proofs.SlotLemmas.{at_next, its_before}
 use Rattle.system_ticks.proofs.SpanLemmas.{quiet_span, turned_behind}
 
--- the partition before its instruction, and behind it
+-- the partition before its instruction, and after it
 abbrev gone_to : ℕ → Machine → ℕ → Bool → PartitionState → PartitionState
 gone_to went g p first ps = gone_on went (its_areas g p) (met g first ps)
 

@@ -68,7 +68,7 @@ bytes_noted (note.Take chan) memory = []
 bytes_noted (note.Saw at size) memory = bytes_at memory at size
 bytes_noted note.NotKept memory = []
 
--- the traffic that a note tells with these bytes
+-- the traffic that a note reports with these bytes
 abbrev pub traffic_with : Note → List ℕ → Traffic
 traffic_with note.Nothing bytes = Still
 traffic_with (note.Console at size) bytes = Still
@@ -78,7 +78,7 @@ traffic_with (note.Take chan) bytes = Takes chan
 traffic_with (note.Saw at size) bytes = Still
 traffic_with note.NotKept bytes = Still
 
--- what a note tells with these bytes of what was shown
+-- what a note reports with these bytes of what was shown
 abbrev pub sight_with : Note → List ℕ → Sight
 sight_with note.Nothing bytes = Unseen
 sight_with (note.Console at size) bytes = Unseen
@@ -99,7 +99,7 @@ kept_with turn worked a_note reach bytes = record {
   seen = sight_with a_note bytes;
 }
 
--- what partition p was told in a tick of which this is kept: the traffic of others under its own names, an order upon it, the hypervisor
+-- what partition p was told in a tick of which this is kept: the traffic of others under its own names, an order on it, the hypervisor
 -- event, and what it was shown in its slot
 unfoldable pub kept_cue : Conf → KeptTick → ℕ → Cue
 kept_cue conf kept p = record {

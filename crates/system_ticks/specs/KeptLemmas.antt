@@ -212,7 +212,7 @@ no_ends : (view : PartitionView) → AreEnds view no_ports
 unfolding no_ports
 no_ends view r is = absurd (let e : false ≡ true = sym (none_made 32 r) ∙ is in cc)
 
--- a partition behind a reset, whose health log is no longer than the ticks
+-- a partition after a reset, whose health log is no longer than the ticks
 reset_facts : (view : PartitionView) (mode : Mode) (status ticks : ℕ) (ps : PartitionState) → AreFacts view ticks ps → ps.health.next ≤ ticks → AreFacts view ticks (reset view mode status ps)
 unfolding no_clocks reset
 reset_facts view mode status ticks ps is log = record {

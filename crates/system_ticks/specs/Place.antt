@@ -22,7 +22,7 @@ pub record IsPlace (place : Place) (g : Machine) : Type 0 where
   pub at : IsAt place g
   pub left : place.left ≡ ticks_left g.system.conf g.clock g.time
 
--- what is told of a slot past its first tick
+-- what is reported of a slot past its first tick
 abbrev pub past_first_tick : Here → Here
 past_first_tick slot = record { slot = slot.slot; part = slot.part; first = false }
 

@@ -26,14 +26,14 @@ act_beyond (beyond.Order id order) = told.Upon id order
 act_beyond (beyond.Plan plan) = told.Plans (told.Asked plan)
 act_beyond (beyond.Whole event) = done_to_all event
 
--- an order is upon a partition that there is
+-- an order is on a partition that there is
 abbrev pub ReachIsUponOne : Beyond → Machine → Type 0
 ReachIsUponOne beyond.Nothing g = Unit {0}
 ReachIsUponOne (beyond.Order id order) g = id < length g.parts
 ReachIsUponOne (beyond.Plan plan) g = Unit {0}
 ReachIsUponOne (beyond.Whole event) g = Unit {0}
 
--- what a note tells of the console, over the memory that the tick leaves
+-- what a note reports of the console, over the memory that the tick leaves
 abbrev pub console_told : Note → Memory → List Told
 console_told note.Nothing memory = []
 console_told (note.Console at size) memory = told.Console (bytes_at memory at size) ∷ []
@@ -80,7 +80,7 @@ added_below f (suc n) = added_below f n ++ f n
 abbrev pub reset_lines : ℕ → ℕ → Mode → List ReportLine
 reset_lines n count mode = whole_lines n (AllReset mode) ++ added_below (λ p. event_lines n (AllReset mode) p) count
 
--- what a note tells of traces
+-- what a note reports of traces
 abbrev pub trace_told : Note → List Told
 trace_told note.Nothing = []
 trace_told (note.Console at size) = []
@@ -90,7 +90,7 @@ trace_told (note.Take chan) = []
 trace_told (note.Saw at size) = []
 trace_told note.NotKept = []
 
--- the note of a call, and how it reaches beyond its partition, where none is told that tells nothing and does not
+-- the note of a call, and how it reaches beyond its partition, where none is told that reports nothing and does not
 abbrev pub note_in : Option (Note × Beyond) → Note
 note_in None = note.Nothing
 note_in (Some told) = told.0

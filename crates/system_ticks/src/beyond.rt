@@ -8,7 +8,7 @@ use xm_base::{Order, PartId};
 pub enum Beyond {
     /// Not at all.
     Nothing,
-    /// An order upon another partition.
+    /// An order on another partition.
     Order { id: PartId, order: Order },
     /// A plan is asked for.
     Plan { plan: u8 },

@@ -101,7 +101,7 @@ pub(crate) fn mine_of(slot: Option<Here>, p: PartId) -> Mine
     }
 }
 
-/// The traffic that a note tells with these bytes, as partition `p` hears of it: on a channel of its own, under its name for it.
+/// The traffic that a note reports with these bytes, as partition `p` hears of it: on a channel of its own, under its name for it.
 pub(crate) fn traffic_heard<'a>(conf: &Conf, p: PartId, note: Note, bytes: &'a [u8]) -> Traffic<'a>
     requires { p < length conf.now.parts }
     ensures { traffic_value result ≡ heard_as (name_of conf.now p) (traffic_with note bytes.now) }
@@ -134,7 +134,7 @@ fn take_heard(name: Option<u8>) -> Traffic<'static>
     }
 }
 
-/// The order upon partition `p`.
+/// The order on partition `p`.
 pub(crate) fn order_for(reach: Beyond, p: PartId) -> Option<Order>
     ensures { result ≡ order_for (reach_of (act_beyond reach)).directed p }
 {
@@ -158,7 +158,7 @@ pub fn whole_of(reach: Beyond) -> WholeCue
     }
 }
 
-/// What a note tells with these bytes of what its partition was shown.
+/// What a note reports with these bytes of what its partition was shown.
 pub(crate) fn sight_of(note: Note, bytes: &[u8]) -> Sight<'_>
     ensures { sight_value result ≡ sight_with note bytes.now }
 {

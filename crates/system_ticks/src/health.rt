@@ -140,7 +140,7 @@ fn advance(processor: &mut Processor)
     *processor = Processor::of(&core);
 }
 
-// The same on registers that are not at hand.
+// The same on registers that are not cached.
 #[tactic(auto, unfolding(sparc_step::specs::Registers::advanced))]
 fn go_on(core: &mut Core)
     ensures { core.new ≡ advanced core.old }

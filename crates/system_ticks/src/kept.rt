@@ -73,7 +73,7 @@ impl Kept {
         })
     }
 
-    /// The place of a system in its plan. The slot of the last tick and the one behind it are looked at first.
+    /// The place of a system in its plan. The slot of the last tick and the one after it are looked at first.
     #[inline(always)]
     pub fn place_of(&self, sys: &Sys) -> Place
         requires { IsMachine sys.now }
@@ -168,7 +168,7 @@ fn first_after(done: u64, first: bool) -> bool
     if done == 0 { first } else { false }
 }
 
-// Reads the bytes of a message that a note names, or of what was shown, and tells how many they are.
+// Reads the bytes of a message that a note names, or of what was shown, and answers how many they are.
 fn read_noted(sys: &Sys, p: PartId, note: Note, bytes: &mut [u8]) -> usize
     requires partition { p < length sys.now.machine.parts }
     requires readable { CanBeTold note (areas_in p sys.now.machine) }

@@ -1,4 +1,4 @@
-//! Orders upon partitions, and their resets.
+//! Orders on partitions, and their resets.
 
 ghost use Rattle.std.specs.Prelude.{◌≡◌, ◌+◌, ◌<◌, ◌≤◌, ◌++◌, length, map};
 ghost use Rattle.whole_system.specs.State.{with_machine};
@@ -20,7 +20,7 @@ use xm_report::{Line, Move};
 /// The interrupt that asks for a shutdown.
 const SHUTDOWN: u8 = 2;
 
-/// A partition obeys an order. One that does not apply changes nothing and tells nothing.
+/// A partition obeys an order. One that does not apply changes nothing and reports nothing.
 #[tactic(auto, unfolding(machine_model::specs::Partition::ordered, machine_model::specs::Partition::ordered_told))]
 pub fn obey(sys: &mut Sys, lines: &mut Lines, p: PartId, order: Order)
     requires partition { p < length sys.old.machine.parts }

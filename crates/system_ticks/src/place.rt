@@ -10,16 +10,16 @@ use cyclic_plans::Here;
 use hypercalls::Sys;
 use xm_conf::{Plan, Slot};
 
-/// Whose slot it is, or `None` in a gap, and how many ticks are left of the slot or gap, with the one at hand.
+/// Whose slot it is, or `None` in a gap, and how many ticks are left of the slot or gap, with the current one.
 #[derive(Clone, Copy, Debug)]
 pub struct Place {
     /// The slot, or `None` in a gap.
     pub slot: Option<Here>,
-    /// The ticks that are left of it, with the one at hand: at least one.
+    /// The ticks that are left of it, with the current one: at least one.
     pub left: u64,
 }
 
-/// The place of a machine in its plan. The slot of a number and the one behind it are looked at first, so that one slot after another is
+/// The place of a machine in its plan. The slot of a number and the one after it are looked at first, so that one slot after another is
 /// found without a search.
 #[inline(always)]
 pub(crate) fn place_of(sys: &Sys, number: u8) -> Place
@@ -46,7 +46,7 @@ pub fn later(place: Place, ticks: u64) -> Place
     }
 }
 
-// What is told of a slot past its first tick.
+// What is reported of a slot past its first tick.
 fn past(slot: Here) -> Here
     ensures { result ≡ past_first_tick slot }
 {
@@ -57,7 +57,7 @@ fn past(slot: Here) -> Here
     }
 }
 
-// The place, where the slot of this number runs, or the one behind it.
+// The place, where the slot of this number runs, or the one after it.
 #[inline(always)]
 fn near(sys: &Sys, number: u8) -> Option<Place>
     requires { IsMachine sys.now }

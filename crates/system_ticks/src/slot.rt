@@ -56,7 +56,7 @@ pub struct Span {
 }
 
 impl Span {
-    /// So many ticks in which no call told anything, with how the last reached beyond its partition.
+    /// So many ticks in which no call reported anything, with how the last reached beyond its partition.
     pub(crate) fn quiet(ticks: u64, part: PartId, worked: bool, reach: Beyond) -> Span
         ensures { result ≡ record { ticks = ticks; part = part; worked = worked; note = Note.Nothing; reach = reach } }
     {
@@ -368,7 +368,7 @@ fn call_after(sys: &mut Sys, lines: &mut Lines, span: &mut Span, p: PartId, went
     }
 }
 
-// Ends the tick of a call, the last of so many, that tells nothing and reaches beyond no partition.
+// Ends the tick of a call, the last of so many, that reports nothing and reaches beyond no partition.
 #[inline(always)]
 fn pass_call(sys: &mut Sys, lines: &mut Lines, span: &mut Span, p: PartId, ticks: u64)
     requires time { sys.old.machine.time + 1 < 2 ^ 64 }
@@ -415,7 +415,7 @@ fn end_call(
     };
 }
 
-// The system as it stands behind so many ticks in which the partition only went: all others have rested.
+// The system as it stands after so many ticks in which the partition only went: all others have rested.
 #[inline(always)]
 fn stand_behind(sys: &mut Sys, p: PartId, ticks: u64)
     requires time { sys.old.machine.time + ticks < 2 ^ 64 }

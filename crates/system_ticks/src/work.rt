@@ -88,7 +88,7 @@ pub fn call(sys: &mut Sys, lines: &mut Lines, p: PartId, pc: u32) -> (Note, Beyo
     }
 }
 
-/// The same, and none where the call tells nothing and reaches beyond no partition, as most do.
+/// The same, and none where the call reports nothing and reaches beyond no partition, as most do.
 #[inline(always)]
 pub(crate) fn call_told(
     sys: &mut Sys,
@@ -122,7 +122,7 @@ pub(crate) fn call_told(
     Some((served.note, reach))
 }
 
-// Whether a call told nothing, and asks for nothing.
+// Whether a call reported nothing, and asks for nothing.
 #[inline(always)]
 fn is_quiet(note: Note, act: Act) -> bool
     ensures note { OnTrue result (note ≡ Note.Nothing) }

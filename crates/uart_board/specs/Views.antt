@@ -3,7 +3,7 @@ use Rattle.std.specs.Prelude.{◌≡◌, ℕ, List, Option, None, replicate, sli
 use Rattle.xm_outside.specs.Causes.{Rose}
 use Rattle.xm_outside.specs.Growth.{GrewBySome, grown}
 
--- what it got, where it tells it, and how many of its writes failed
+-- what it got, where that is known, and how many of its writes failed
 pub record UartView : Type 0 where
   pub got : Option (List ℕ)
   pub faults : ℕ

@@ -35,7 +35,7 @@ impl<R: Files + Drop> TapeUart<R> {
         }
     }
 
-    /// Writes the bytes that are kept to the file, and tells whether the call is done.
+    /// Writes the bytes that are kept to the file, and answers whether the call is done.
     fn take(&mut self, bytes: &[u8]) -> io::Result<bool>
         ensures faults { self.new.faults ≡ self.old.faults }
     {

@@ -15,7 +15,7 @@ use Rattle.virt_traps.specs.SaveArea.{is_usable}
 use Rattle.virt_traps.specs.Settled.{FailsAlone, GoesOn, IsUndoneButSpill, Unchanged, after_trap, again_or_trap, answered, made_again, settled}
 use Rattle.virt_traps.specs.declared.windows.StackFault.{StackFault}
 
--- what a spill or a fill leaves as it was, and which window is the invalid one behind it
+-- what a spill or a fill leaves as it was, and which window is the invalid one after it
 pub record Keeps (core : Registers) (memory : Memory) (invalid : ℕ) (moved : Moved) : Type 0 where
   pub pc : moved.core.pc ≡ core.pc
   pub npc : moved.core.npc ≡ core.npc
@@ -63,7 +63,7 @@ pub record IsSettled (areas : List Area) (core : Registers) (memory : Memory) (t
   pub trapped : IsUndoneButSpill t.turn areas core t.core memory t.memory
   pub called : t.turn ≡ Call → GoesOn core t.core
 
--- a call goes on behind its instruction
+-- a call goes on after its instruction
 advanced_goes_on : (core before after : Registers) → before.pc ≡ core.pc → before.npc ≡ core.npc → after ≡ advanced before → GoesOn core after
 unfolding advanced
 advanced_goes_on core before after pc npc is = (ap (λ (r : Registers). r.pc) is ∙ npc, ap (λ (r : Registers). r.npc) is ∙ ap (λ n. (n + 4) % 2 ^ 32) npc)
@@ -163,7 +163,7 @@ module _ (areas : List Area) (core : Registers) (memory : Memory) where
           let keeps = filled_keeps areas core memory in
           let first = turned-HasWindowTraps areas core memory in
           let word = ap (fetched areas (filled areas core memory).memory) keeps.keeps.pc ∙ ap (λ m. fetched areas m core.pc) keeps.bytes in
-          first.after_underflow underflow (filled areas core memory).core (filled areas core memory).memory word (valid (first.underflow underflow) keeps.keeps.cwp (keeps.keeps.inv move_made))
+          first.after_underflow underflow (filled areas core memory).core (filled areas core memory).memory word (valid (first.underflow underflow) keeps.keeps.cwp (keeps.keeps.inv made))
 
   -- where it was refused
   fill_refused : (turned areas core memory).turn ≡ Trap 6 → IsErr (filled areas core memory).answer → IsSettled areas core memory (trapped 6 (filled areas core memory).core (filled areas core memory).memory)
@@ -238,7 +238,7 @@ module _ (areas : List Area) (core : Registers) (memory : Memory) where
   pub settled_pieces : (turn : Turn) (after : Registers) (new : Memory) → turn ≡ (settled areas core memory).turn → after ≡ (settled areas core memory).core → new ≡ (settled areas core memory).memory → IsSettled areas core memory record { turn = turn; core = after; memory = new }
   settled_pieces turn after new turn_is after_is new_is = rw (turn_is, after_is, new_is) settled-IsSettled
 
--- what is known behind an instruction that trapped: nothing changed, and a window trap came only where its window is the invalid one
+-- what is known after an instruction that trapped: nothing changed, and a window trap came only where its window is the invalid one
 pub record HasTrapped (areas : List Area) (before : Registers) (old : Memory) (type : ℕ) (after : Registers) (new : Memory) : Type 0 where
   pub registers : after ≡ before
   pub bytes : new ≡ old

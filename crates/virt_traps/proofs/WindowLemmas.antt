@@ -14,12 +14,12 @@ with_bytes-append memory address [] back = ap (λ a. with_bytes memory a back) (
 with_bytes-append memory address (byte ∷ front) back =
     with_bytes-append (insert memory address byte) (suc address) front back ∙ ap (λ a. with_bytes (with_bytes memory address (byte ∷ front)) a back) (omega arith)
 
--- two registers as bytes, and the others behind them
+-- two registers as bytes, and the others after them
 two_registers : (windows : List ℕ) (window n count : ℕ) → bytes_of (registers_from windows window n (suc (suc count))) ≡ (to_be_bytes w32 (register_of windows window n) ++ to_be_bytes w32 (register_of windows window (suc n))) ++ bytes_of (registers_from windows window (suc (suc n)) count)
 unfolding bytes_of registers_from
 two_registers windows window n count = refl
 
--- two registers that are written, and the others behind them
+-- two registers that are written, and the others after them
 pub stored_two : (memory : Memory) (windows : List ℕ) (window n address count : ℕ) (bytes : List ℕ) (after later whole : ℕ) → bytes ≡ to_be_bytes w32 (register_of windows window n) ++ to_be_bytes w32 (register_of windows window (n + 1)) → after ≡ n + 2 → later ≡ address + 8 → whole ≡ count + 2 → with_bytes (with_bytes memory address bytes) later (bytes_of (registers_from windows window after count)) ≡ with_bytes memory address (bytes_of (registers_from windows window n whole))
 stored_two memory windows window n address count bytes after later whole bytes_are after_is later_is whole_is =
     let next : n + 1 ≡ suc n = omega arith in
@@ -40,12 +40,12 @@ double_high a b c d e f g h below_e below_f below_g below_h = omega arith
 double_low : (a b c d e f g h : ℕ) → e < 256 → f < 256 → g < 256 → h < 256 → from_be_bytes w64 (a ∷ b ∷ c ∷ d ∷ e ∷ f ∷ g ∷ h ∷ []) % 2 ^ 32 ≡ from_be_bytes w32 (e ∷ f ∷ g ∷ h ∷ [])
 double_low a b c d e f g h below_e below_f below_g below_h = omega arith
 
--- two words from an address on, and the others behind them
+-- two words from an address on, and the others after them
 two_words : (memory : Memory) (address count : ℕ) → words_at memory address (suc (suc count)) ≡ from_be_bytes w32 (bytes_at memory address 4) ∷ from_be_bytes w32 (bytes_at memory (address + 4) 4) ∷ words_at memory (address + 4 + 4) count
 unfolding words_at
 two_words memory address count = refl
 
--- two values in registers, and the others behind them
+-- two values in registers, and the others after them
 two_values : (windows : List ℕ) (window n first second : ℕ) (values : List ℕ) → with_registers windows window n (first ∷ second ∷ values) ≡ with_registers (slice_set (slice_set windows (place_in_windows window n) first) (place_in_windows window (suc n)) second) window (suc (suc n)) values
 unfolding with_registers
 two_values windows window n first second values = refl
@@ -60,7 +60,7 @@ module _ (memory : Memory) (address : ℕ) (small : (i : ℕ) → get_or (bytes_
       let there : address + 4 ≡ suc (suc (suc (suc address))) = omega arith in
       rw there (double_low (byte_at memory address) _ _ _ _ _ _ _ (small 4) (small 5) (small 6) (small 7))
 
--- two registers that are read, and the others behind them
+-- two registers that are read, and the others after them
 pub loaded_two : (memory : Memory) (windows : List ℕ) (window n address count value : ℕ) (after later whole : ℕ) → ((i : ℕ) → get_or (bytes_at memory address 8) i 0 < 256) → from_be_bytes w64 (bytes_at memory address 8) ≡ value → after ≡ n + 2 → later ≡ address + 8 → whole ≡ count + 2 → with_registers (slice_set (slice_set windows (place_in_windows window n) (value / 2 ^ 32)) (place_in_windows window (n + 1)) (value % 2 ^ 32)) window after (words_at memory later count) ≡ with_registers windows window n (words_at memory address whole)
 loaded_two memory windows window n address count value after later whole small value_is after_is later_is whole_is =
     let next : n + 1 ≡ suc n = omega arith in

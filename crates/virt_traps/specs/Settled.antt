@@ -58,6 +58,6 @@ IsUndoneButSpill Went areas before after old new = Unit {0}
 IsUndoneButSpill (Trap type) areas before after old new = Unchanged before after old new ⊎ SpillStays areas before after old new
 IsUndoneButSpill Call areas before after old new = Unit {0}
 
--- the program goes on behind the instruction
+-- the program goes on after the instruction
 abbrev pub GoesOn : Registers → Registers → Type 0
 GoesOn before after = (after.pc ≡ before.npc) × (after.npc ≡ (before.npc + 4) % 2 ^ 32)

@@ -32,7 +32,7 @@ pub fn settle<B: Bus>(core: &mut Core, bus: &mut B) -> Turn
     turn
 }
 
-/// The same on registers at hand.
+/// The same on cached registers.
 #[inline(always)]
 #[tactic(auto, unfolding(crate::specs::Settled::settled))]
 pub fn settle_at_hand<B: Bus>(processor: &mut Processor, bus: &mut B) -> Turn
@@ -52,7 +52,7 @@ pub fn settle_at_hand<B: Bus>(processor: &mut Processor, bus: &mut B) -> Turn
     }
 }
 
-// The step behind an instruction that trapped.
+// The step after an instruction that trapped.
 #[cold]
 #[inline(never)]
 #[tactic(auto, unfolding(crate::specs::Settled::after_trap))]
@@ -74,7 +74,7 @@ fn after_trap<B: Bus>(processor: &mut Processor, bus: &mut B, trap_type: u8) -> 
     }
 }
 
-// The step behind a SAVE that met the invalid window: the spill, and the instruction again.
+// The step after a SAVE that met the invalid window: the spill, and the instruction again.
 #[tactic(auto, unfolding(crate::specs::Settled::made_again))]
 fn after_overflow<B: Bus>(processor: &mut Processor, bus: &mut B) -> Turn
     requires { (processor.old.cwp + 7) % 8 ≡ processor.old.inv }
@@ -90,7 +90,7 @@ fn after_overflow<B: Bus>(processor: &mut Processor, bus: &mut B) -> Turn
     }
 }
 
-// The step behind a RESTORE that met the invalid window: the fill, and the instruction again.
+// The step after a RESTORE that met the invalid window: the fill, and the instruction again.
 #[tactic(auto, unfolding(crate::specs::Settled::made_again))]
 fn after_underflow<B: Bus>(processor: &mut Processor, bus: &mut B) -> Turn
     requires { (processor.old.cwp + 1) % 8 ≡ processor.old.inv }
@@ -106,7 +106,7 @@ fn after_underflow<B: Bus>(processor: &mut Processor, bus: &mut B) -> Turn
     }
 }
 
-// The spill, of registers at hand.
+// The spill, of cached registers.
 fn spill_at_hand<B: Bus>(processor: &mut Processor, bus: &mut B) -> Result<(), StackFault>
     requires { (processor.old.cwp + 1) % 8 ≢ processor.old.inv }
     ensures answer { result ≡ (spilled (B.areas bus.old) processor.old (B.memory bus.old)).answer }
@@ -121,7 +121,7 @@ fn spill_at_hand<B: Bus>(processor: &mut Processor, bus: &mut B) -> Result<(), S
     answer
 }
 
-// The fill, of registers at hand.
+// The fill, of cached registers.
 fn fill_at_hand<B: Bus>(processor: &mut Processor, bus: &mut B) -> Result<(), StackFault>
     requires { (processor.old.inv + 1) % 8 ≢ processor.old.cwp }
     ensures answer { result ≡ (filled (B.areas bus.old) processor.old (B.memory bus.old)).answer }

@@ -182,7 +182,7 @@ is_copied a sys p address bytes ram kept is below ram_is =
     is_rewritten a sys p (with_bytes (map_at p a.ram) address bytes) ram kept is below ram_is
     ∙ ap (λ (m : Memory). with_machine (with_part p (record (part_at p sys.machine) { memory = with_bytes m address bytes }) sys.machine) sys) (sym (is_its_memory a sys p kept is below))
 
--- an image as it is loaded anew
+-- an image as it is loaded again
 loads : (a : Inside) (sys : SysState) (p : ℕ) (image : Image) → IsKept a → seen a ≡ sys → p < length sys.machine.parts → slice_get a.system.images p ≡ Some image
     → areas_with_image (areas_at p a.ram) image ≡ model.loaded_memory (view_of sys.machine.system p)
 unfolding model.loaded_memory model.areas_of view_of

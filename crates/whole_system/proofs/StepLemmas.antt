@@ -18,7 +18,7 @@ use Rattle.virt_traps.specs.Settled.{GoesOn, IsUndoneButSpill, settled}
 use Rattle.virt_traps.specs.declared.windows.StackFault.{StackFault}
 use Rattle.whole_system.specs.Stepping.{IsGone, IsMoved, with_turned}
 
--- behind a step that went, one more is settled
+-- after a step that went, one more is settled
 then_is : (t : Turned) (areas : List Area) → t.turn ≡ Went → then_settled t.turn areas t ≡ settled areas t.core t.memory
 then_is t areas went = ap (λ (turn : Turn). then_settled turn areas t) went
 
@@ -41,21 +41,21 @@ one_step_more count next areas here core after last memory new newest turn next_
       bytes = newest_is ∙ ap (λ (x : Turned). x.memory) one;
     })
 
--- the steps of a straight run behind others
+-- the steps of a straight run after others
 pub run_more : (count ran total : ℕ) (areas here : List Area) (core after last : Registers) (memory new newest : Memory) → total ≡ ran + count → here ≡ areas → AreSteps count areas core memory after new → AreSteps ran here after new last newest
     → AreSteps total areas core memory last newest
 run_more count ran total areas here core after last memory new newest is same steps more =
     subst (λ (n : ℕ). AreSteps n areas core memory last newest) (sym is)
     (steps_then ran count areas core after last memory new newest steps (subst (λ (a : List Area). AreSteps ran a after new last newest) same more))
 
--- what is known of a step is known of the one behind others
+-- what is known of a step is known of the one after others
 step_behind : (P : List Area → Registers → Memory → Type 0) (count : ℕ) (areas here : List Area) (core after : Registers) (memory new : Memory) → here ≡ areas → AreSteps count areas core memory after new → P here after new
     → P areas (stepped count areas core memory).core (stepped count areas core memory).memory
 step_behind P count areas here core after memory new same steps known =
     subst (λ (m : Memory). P areas (stepped count areas core memory).core m) steps.bytes
     (subst (λ (r : Registers). P areas r new) steps.registers (subst (λ (a : List Area). P a after new) same known))
 
--- a step that trapped, behind others
+-- a step that trapped, after others
 pub trapped_behind : (count most type : ℕ) (areas here : List Area) (core after last : Registers) (memory new newest : Memory) → count < most → here ≡ areas → AreSteps count areas core memory after new
     → Trap type ≡ (settled here after new).turn → last ≡ (settled here after new).core → newest ≡ (settled here after new).memory → IsUndoneButSpill (Trap type) here after last new newest
     → IsGone (Trap type) count most areas (stepped count areas core memory) last newest
@@ -128,7 +128,7 @@ flush_spills left count areas core memory left_is some =
     let test : ((core.cwp + 1) % 8 == core.inv) ≡ false = grind (arith, nat_tests) in
     rw (left_is, test)
 
--- and goes on behind it
+-- and goes on after it
 pub flush_more : (left count : ℕ) (areas : List Area) (core new : Registers) (memory newest : Memory) → left ≡ suc count → (core.cwp + 1) % 8 ≢ core.inv
     → (spilled areas core memory).answer ≡ Ok tt → new ≡ (spilled areas core memory).core → newest ≡ (spilled areas core memory).memory
     → flushed left areas (move_made core memory) ≡ flushed count areas (move_made new newest)

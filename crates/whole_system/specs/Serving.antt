@@ -56,7 +56,7 @@ IsCaller site sys = site.part < length sys.machine.parts
 abbrev pub MayRead : Caller → ℕ → ℕ → Type 0
 MayRead caller address size = all_from (is_readable (areas_of caller.view)) address size ≡ true
 
--- what a note tells, over the memory that the call leaves
+-- what a note reports, over the memory that the call leaves
 abbrev pub told_by : Note → Memory → List Told
 told_by note.Nothing memory = []
 told_by (note.Console at size) memory = told.Console (bytes_at memory at size) ∷ []
@@ -66,7 +66,7 @@ told_by (note.Take chan) memory = []
 told_by (note.Saw at size) memory = []
 told_by note.NotKept memory = []
 
--- the traffic that a note tells
+-- the traffic that a note reports
 abbrev pub traffic_by : Note → Memory → Traffic
 traffic_by note.Nothing memory = Still
 traffic_by (note.Console at size) memory = Still
@@ -76,7 +76,7 @@ traffic_by (note.Take chan) memory = Takes chan
 traffic_by (note.Saw at size) memory = Still
 traffic_by note.NotKept memory = Still
 
--- what a note tells of what the call was shown
+-- what a note reports of what the call was shown
 abbrev pub sight_by : Note → Memory → Sight
 sight_by note.Nothing memory = told.Unseen
 sight_by (note.Console at size) memory = told.Unseen
@@ -104,7 +104,7 @@ upshot_of (act.Ask plan) = Acts (told.Plans (told.Asked plan))
 upshot_of (act.Whole event) = Acts (done_to_all event)
 upshot_of (act.Event event word) = Meets event word
 
--- an order that is told is one upon a partition that there is
+-- an order that is told is one on a partition that there is
 abbrev pub IsUponOne : code_act.Act → SysState → Type 0
 IsUponOne act.Nothing sys = Unit {0}
 IsUponOne (act.Upon id order) sys = id < length sys.machine.parts

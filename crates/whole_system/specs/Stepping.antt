@@ -38,7 +38,7 @@ delivered_to type areas ps = delivered areas ps.traps ps.core ps.memory type
 abbrev pub returned_in : List Area → PartitionState → Returned
 returned_in areas ps = returned areas ps.traps ps.core ps.memory
 
--- the partition behind it
+-- the partition after it
 abbrev pub behind_return : Returned → PartitionState → PartitionState
 behind_return r ps = record ps { core = r.core; traps = r.traps }
 
@@ -52,6 +52,6 @@ pub record IsMoved (answer : Result (Unit {0}) StackFault) (core : Registers) (m
   pub registers : core ≡ moved.core
   pub bytes : memory ≡ moved.memory
 
--- the partition behind it
+-- the partition after it
 abbrev pub behind_flush : Moved → PartitionState → PartitionState
 behind_flush moved ps = record ps { core = moved.core; memory = moved.memory }

@@ -9,6 +9,6 @@ pub struct Gone {
     pub went: u64,
     /// What the one after them came to; that it went, where all did.
     pub turn: Turn,
-    /// The program counter behind those that went.
+    /// The program counter after those that went.
     pub pc: u32,
 }

@@ -17,7 +17,7 @@ use xm_traces::{Ring, TraceEntry};
 /// The state of a partition, but for its memory and its input words, which belong to the system.
 #[derive(Debug, Drop)]
 pub struct PartState {
-    /// The registers, as they are at hand for many instructions.
+    /// The registers, as they are cached for many instructions.
     pub core: Processor,
     pub virt: Virt,
     pub clocks: Clocks,

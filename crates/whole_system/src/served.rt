@@ -29,7 +29,7 @@ pub enum Note {
 pub enum Act {
     /// Not at all.
     Nothing,
-    /// An order upon a partition, which may be the caller.
+    /// An order on a partition, which may be the caller.
     Upon { id: PartId, order: Order },
     /// A plan is asked for.
     Ask { plan: u8 },

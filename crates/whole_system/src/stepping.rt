@@ -36,7 +36,7 @@ pub(crate) fn settle_part(core: &mut Processor, ram: &mut Ram, p: PartId) -> Tur
     ensures called { result ≡ Turn.Call → GoesOn core.old core.new }
 {
     select(ram, p);
-    // It is selected before and behind the step.
+    // It is selected before and after the step.
     let _before = ram.selected();
     let turn = settle_at_hand(core, ram);
     let _behind = ram.selected();
@@ -59,14 +59,14 @@ pub(crate) fn deliver_part(
     ensures unchanged { OnErr result ((virt.new ≡ virt.old) × (core.new ≡ core.old) × (map_at p ram.new ≡ map_at p ram.old)) }
 {
     select(ram, p);
-    // It is selected before and behind the delivery.
+    // It is selected before and after the delivery.
     let _before = ram.selected();
     let answer = deliver_at_hand(virt, core, ram, tt);
     let _behind = ram.selected();
     answer
 }
 
-// Delivers a trap of a type, to registers at hand.
+// Delivers a trap of a type, to cached registers.
 fn deliver_at_hand<B: Bus>(
     virt: &mut Virt,
     processor: &mut Processor,
@@ -102,14 +102,14 @@ pub(crate) fn return_part(
     ensures unchanged { OnErr result ((virt.new ≡ virt.old) × (core.new ≡ core.old)) }
 {
     select(ram, p);
-    // It is selected before and behind the return.
+    // It is selected before and after the return.
     let _before = ram.selected();
     let answer = return_at_hand(virt, core, ram);
     let _behind = ram.selected();
     answer
 }
 
-// Returns from a trap, with registers at hand.
+// Returns from a trap, with cached registers.
 fn return_at_hand<B: Bus>(
     virt: &mut Virt,
     processor: &mut Processor,
@@ -137,14 +137,14 @@ pub(crate) fn flush_part(core: &mut Processor, ram: &mut Ram, p: PartId) -> Resu
     ensures memory { ram.new ≡ with_selected p (with_map p (flushed 8 (areas_at p ram.old) (move_made core.old (map_at p ram.old))).memory ram.old) }
 {
     select(ram, p);
-    // It is selected before and behind the spills.
+    // It is selected before and after the spills.
     let _before = ram.selected();
     let answer = flush_at_hand(core, ram);
     let _behind = ram.selected();
     answer
 }
 
-// Spills windows until all but the current one are, of registers at hand.
+// Spills windows until all but the current one are, of cached registers.
 fn flush_at_hand<B: Bus>(processor: &mut Processor, bus: &mut B) -> Result<(), StackFault>
     ensures moved { IsMoved result processor.new (B.memory bus.new) (flushed 8 (B.areas bus.old) (move_made processor.old (B.memory bus.old))) }
     ensures areas { B.areas bus.new ≡ B.areas bus.old }
@@ -187,7 +187,7 @@ pub(crate) fn step_part(
     ensures others { ram.new ≡ with_selected p (with_map p (map_at p ram.new) ram.old) }
 {
     select(ram, p);
-    // It is selected before and behind the steps.
+    // It is selected before and after the steps.
     let _before = ram.selected();
     let gone = go(core, ram, table, most);
     let _behind = ram.selected();
@@ -207,7 +207,7 @@ fn go<B: HasWords>(core: &mut Processor, bus: &mut B, table: &mut Rows, most: u6
     go_at_hand(core, bus, table, most)
 }
 
-// The same with the registers at hand. What a straight run leaves to others is a step of its own.
+// The same with the cached registers. What a straight run leaves to others is a step of its own.
 #[inline(always)]
 fn go_at_hand<B: HasWords>(own: &mut Processor, bus: &mut B, table: &mut Rows, most: u64) -> Gone
     ensures went { (stepped result.went (B.areas bus.old) own.old (B.memory bus.old)).turn ≡ Turn.Went }

@@ -164,7 +164,7 @@ impl Sys {
         self.ram.may_write(p, address, size)
     }
 
-    /// An input word of a partition, or `None` behind its last.
+    /// An input word of a partition, or `None` after its last.
     pub fn input(&self, p: PartId, place: usize) -> Option<u32>
         requires { p < length self.now.machine.parts }
         ensures value { result ≡ slice_get (input_words_of p self.now.machine) place }

@@ -1,4 +1,4 @@
--- Two digests are told exactly where they differ.
+-- Two digests are reported exactly where they differ.
 use Rattle.std.proofs.Common.{◌≡◌, ℕ, zero, suc, Bool, true, false, cond, List, [], ◌∷◌, length, take, codes, Result, Ok, Err, refl, sym, ap, subst, ◌∙◌}
 use Rattle.std.specs.Prelude.{◌≢◌, ◌↔◌, nat_lt, nat_le, ◌==◌, ◌&&◌, ◌+◌, ◌^◌}
 use Rattle.std.specs.Int.{Width, w8, w16, w32, byte_len, from_be_bytes}
@@ -15,7 +15,7 @@ use Rattle.xef_images.specs.declared.row.Row.{Row}
 use Rattle.xef_images.specs.declared.fault.XefFault.{XefFault}
 use Rattle.xef_images.specs.declared.fault.XefFault.TheVariants as fault
 
--- a reading that tells no digests
+-- a reading that reports no digests
 abbrev pub IsPlain : {A : Type 0} → Result A XefFault → Type 0
 IsPlain (Ok value) = Unit {0}
 IsPlain (Err fault.Magic) = Unit {0}
@@ -26,7 +26,7 @@ IsPlain (Err (fault.Digest stored found)) = ⊥
 IsPlain (Err (fault.Field at)) = Unit {0}
 IsPlain (Err fault.Memory) = Unit {0}
 
--- steps that tell no digests
+-- steps that reports no digests
 plain_then : {A B : Type 0} (read : Result A XefFault) (next : A → Result B XefFault) → IsPlain read → ((value : A) → IsPlain (next value)) → IsPlain (read >>= next)
 plain_then (Ok value) next first more = more value
 plain_then (Err fault.Magic) next first more = tt
@@ -37,7 +37,7 @@ plain_then (Err (fault.Digest stored found)) next first more = absurd first
 plain_then (Err (fault.Field at)) next first more = tt
 plain_then (Err fault.Memory) next first more = tt
 
--- a choice of two that tell no digests
+-- a choice of two that reports no digests
 plain_cond : {A : Type 0} (test : Bool) (one other : Result A XefFault) → IsPlain one → IsPlain other → IsPlain (cond test one other)
 plain_cond true one other first second = first
 plain_cond false one other first second = second
@@ -114,7 +114,7 @@ plain_table place =
     plain_then (size_at place) (λ count. rows_at count.0 0 count.1 >>= λ rows. segments_at rows.0 rows.1) (plain_listed w8 (λ count. nat_le 1 count && nat_le count 8) place)
     (λ count. plain_then (rows_at count.0 0 count.1) (λ rows. segments_at rows.0 rows.1) (plain_rows count.0 0 count.1) (λ rows. plain_segments rows.0 rows.1))
 
--- the fields behind the head tell no digests
+-- the fields after the head reports no digests
 pub plain_image : (front : List ℕ) → IsPlain (image_fields front)
 unfolding image_fields entry_point_at
 plain_image front =
@@ -141,7 +141,7 @@ fault_of told_fault = Err told_fault
 fault_moves : {A B : Type 0} (one other : XefFault) → fault_of {A = A} one ≡ fault_of other → fault_of {A = B} one ≡ fault_of other
 fault_moves one other e = ap (λ t. Err t) cc
 
--- the first step tells the digests where they differ
+-- the first step reports the digests where they differ
 pub signed_tells : (bytes s f : List ℕ) → (signed bytes ≡ Err (fault.Digest s f)) ↔ IsForged bytes s f
 unfolding signed
 signed_tells bytes s f = (at (before bytes) refl, back)
@@ -193,7 +193,7 @@ none_differ bytes front s f is forged = ok_is_not front (fault.Digest s f) (sym 
 pub tells_none : {X : Type 0} (bytes front : List ℕ) (value : X) → signed bytes ≡ Ok front → TellsDigests bytes (Ok value)
 tells_none bytes front value is s f = (λ e. absurd cc, λ forged. absurd (none_differ bytes front s f is forged))
 
--- where the fields behind the head fail
+-- where the fields after the head fail
 pub tells_image : {X : Type 0} (bytes front : List ℕ) (told_fault : XefFault) → signed bytes ≡ Ok front → Fails told_fault (image_fields front) → TellsDigests bytes (fault_of {A = X} told_fault)
 tells_image bytes front told_fault is fails s f = (
   λ e. absurd (subst (λ (read : Result Image XefFault). IsPlain read)

@@ -33,7 +33,7 @@ all_both : (P : Segment → Type 0) (xs ys : List Segment) → AllByRecursion P 
 all_both P [] ys first second = second
 all_both P (x ∷ xs) ys first second = (first.0, all_both P xs ys first.1 second)
 
--- segments that were loaded behind so many others: each may be, and there are 8 together
+-- segments that were loaded after so many others: each may be, and there are 8 together
 pub record AreLoaded (before : ℕ) (segments : List Segment) : Type 0 where
   pub each : AllByRecursion IsSegment segments
   pub most : before + length segments ≤ 8
@@ -89,7 +89,7 @@ loads_take bytes before place (suc count) segments each few e =
     subst (λ (x : List Segment). AreLoaded before x) (ok_is (a.value ++ b.value) segments b.led)
     (record { each = all_both IsSegment a.value b.value first.each others.each; most = omega (arith, length-append a.value b.value, others.most) })
 
--- segments of which none overlaps the one before it stand one behind the other
+-- segments of which none overlaps the one before it stand one after the other
 rise_from_overlap : (floor : ℕ) (segments : List Segment) → AllByRecursion IsSegment segments → overlap floor segments ≡ None → SegmentsRiseFrom floor segments
 rise_from_overlap floor [] each none = tt
 rise_from_overlap floor (segment ∷ later) each none = at (nat_lt segment.address floor) refl (λ more. rise_from_overlap (end_of segment) later each.1 more) none

@@ -31,7 +31,7 @@ elf_fails_on (fault.Entry found) part whole so e = so _ e
 elf_fails_on (fault.Overlap address) part whole so e = so _ e
 elf_fails_on (fault.Limit at) part whole so e = so _ e
 
--- what a header loads is at the end of the front
+-- what a header loads is at the end of the prefix
 regroup : (front first : List Segment) (read : Result (List Segment) ElfFault) → with_loaded front (read >>= λ others. Ok (first ++ others)) ≡ with_loaded (front ++ first) read
 regroup front first (Ok others) = ap (λ all. Ok all) (sym (append_assoc front first others))
 regroup front first (Err told) = refl

@@ -41,7 +41,7 @@ lower : (low high : ℕ) (segments : List Segment) → low < high → AllByRecur
 lower low high [] below above = tt
 lower low high (segment ∷ later) below above = (omega (arith, above.0), lower low high later below above.1)
 
--- what is left behind a segment that both have
+-- what is left after a segment that both have
 tail_same : (test : Bool) (x : Segment) (xs ys : List Segment) → cond test (x ∷ xs) xs ≡ cond test (x ∷ ys) ys → xs ≡ ys
 tail_same true x xs ys e = cc
 tail_same false x xs ys e = e

@@ -63,7 +63,7 @@ is_cut bytes header = nat_lt 0 header.count && nat_lt (length bytes) (header.off
 abbrev pub segment_of : List ℕ → Header → Segment
 segment_of bytes header = record { address = header.address; memory = header.memory; bytes = take header.count (drop header.offset bytes) }
 
--- the segment of a header that is loaded, behind so many others, or its first fault
+-- the segment of a header that is loaded, after so many others, or its first fault
 unfoldable pub segment_from : List ℕ → ℕ → Header → Result Segment ElfFault
 segment_from bytes before header =
     if nat_lt header.memory header.count then Err (fault.Size header.place)
@@ -71,14 +71,14 @@ segment_from bytes before header =
     else if is_cut bytes header then Err (fault.Short header.offset)
     else Ok (segment_of bytes header)
 
--- what the header at a place loads behind so many other segments: none, one, or its first fault
+-- what the header at a place loads after so many other segments: none, one, or its first fault
 unfoldable pub load_at : List ℕ → ℕ → ℕ → Result (List Segment) ElfFault
 load_at bytes before place =
     if nat_lt (length bytes) (place + 32) then Err (fault.Short place)
     else if is_loaded (header_at bytes place) then (segment_from bytes before (header_at bytes place) >>= λ segment. Ok (segment ∷ []))
     else Ok []
 
--- what so many headers load, from a place on, behind so many other segments: segments in the order of the headers, or the first fault
+-- what so many headers load, from a place on, after so many other segments: segments in the order of the headers, or the first fault
 unfoldable pub loads : List ℕ → ℕ → ℕ → ℕ → Result (List Segment) ElfFault
 loads bytes before place zero = Ok []
 loads bytes before place (suc count) = do
@@ -96,7 +96,7 @@ abbrev pub sorted : List Segment → List Segment
 sorted [] = []
 sorted (segment ∷ others) = inserted_by_address segment (sorted others)
 
--- the address of the first segment that begins before the one before it ends, the first of all behind the floor
+-- the address of the first segment that begins before the one before it ends, the first of all after the floor
 abbrev pub overlap : ℕ → List Segment → Option ℕ
 overlap floor [] = None
 overlap floor (segment ∷ later) = if nat_lt segment.address floor then Some segment.address else overlap (end_of segment) later

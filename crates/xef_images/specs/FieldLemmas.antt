@@ -33,12 +33,12 @@ pub test_passed : {A : Type 0} (test : Bool) (fault : XefFault) (value end : A) 
 test_passed true fault value end e = record { true = refl; is = cc }
 test_passed false fault value end e = absurd cc
 
--- a text stands at a place, and behind it a place with the bytes that are left
+-- a text stands at a place, and after it a place with the bytes that are left
 pub record Takes (place : Place) (text : List ℕ) (after : Place) : Type 0 where
   pub parts : ahead place ≡ text ++ ahead after
   pub rest : AreBytes (ahead after)
 
--- two texts, one behind the other
+-- two texts, one after the other
 pub takes_both : (a : Place) (x : List ℕ) (b : Place) (y : List ℕ) (c : Place) → Takes a x b → Takes b y c → Takes a (x ++ y) c
 takes_both a x b y c first second =
     record { parts = first.parts ∙ ap (λ rest. x ++ rest) second.parts ∙ sym (append_assoc x y (ahead c)); rest = second.rest }
@@ -115,7 +115,7 @@ listed_takes w limit wide test place n after each e =
     let P : ℕ × Place → Type 0 = λ x. Takes place (to_be_bytes w x.0) x.1 × (x.0 < limit) × (test x.0 ≡ true) in
     subst P p.is (t.0, t.1, p.true)
 
--- what is read where a text stands: the value, and a place with the bytes behind the text
+-- what is read where a text stands: the value, and a place with the bytes after the text
 pub record Reads {A : Type 0} (read : Result (A × Place) XefFault) (value : A) (rest : List ℕ) : Type 0 where
   pub after : Place
   pub is : read ≡ Ok (value, after)

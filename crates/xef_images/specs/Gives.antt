@@ -24,7 +24,7 @@ abbrev pub IsRead : {X Y : Type 0} → (X → Y) → Result X XefFault → Resul
 IsRead view (Ok value) read = read ≡ Ok (view value)
 IsRead view (Err fault) read = read ≡ Err fault
 
--- the same for a cursor, which stands behind what was read
+-- the same for a cursor, which stands after what was read
 abbrev pub IsReadAt : {X Y : Type 0} → (X → Y) → Result X XefFault → Place → Result (Y × Place) XefFault → Type 0
 IsReadAt view (Ok value) place read = read ≡ Ok (view value, place)
 IsReadAt view (Err fault) place read = read ≡ Err fault

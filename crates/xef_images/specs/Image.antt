@@ -13,7 +13,7 @@ pub record Image : Type 0 where
   pub entry : ℕ
   pub segments : List Segment
 
--- the first address behind the memory of a segment
+-- the first address after the memory of a segment
 abbrev pub end_of : Segment → ℕ
 end_of segment = segment.address + segment.memory
 
@@ -24,7 +24,7 @@ pub record IsSegment (segment : Segment) : Type 0 where
   pub ends : end_of segment ≤ 2 ^ 32
   pub fits : length segment.bytes ≤ segment.memory
 
--- each segment ends before all those behind it begin
+-- each segment ends before all those after it begin
 abbrev pub SegmentsApart : List Segment → Type 0
 SegmentsApart [] = Unit {0}
 SegmentsApart (segment ∷ later) = AllByRecursion (λ other. end_of segment ≤ other.address) later × SegmentsApart later

@@ -15,7 +15,7 @@ Decides-nat_le a b = grind (arith, nat_tests)
 pub Decides-nat_lt : (a b : ℕ) → Decides (nat_lt a b) (a < b)
 Decides-nat_lt a b = grind (arith, nat_tests)
 
--- segments stand one behind the other, the first of them behind the floor
+-- segments stand one after the other, the first of them after the floor
 abbrev pub SegmentsRiseFrom : ℕ → List Segment → Type 0
 SegmentsRiseFrom floor [] = Unit {0}
 SegmentsRiseFrom floor (segment ∷ later) = ((floor ≤ segment.address) × IsSegment segment) × SegmentsRiseFrom (end_of segment) later
@@ -29,7 +29,7 @@ pub above_lower : (low floor : ℕ) (segments : List Segment) → low ≤ floor 
 above_lower low floor [] lower above = tt
 above_lower low floor (segment ∷ later) lower above = (omega (arith, above.0), above_lower low floor later lower above.1)
 
--- segments that are apart stand one behind the other
+-- segments that are apart stand one after the other
 pub rise_from_apart : (floor : ℕ) (segments : List Segment) → AllByRecursion IsSegment segments → SegmentsApart segments → AreAbove floor segments → SegmentsRiseFrom floor segments
 rise_from_apart floor [] each apart above = tt
 rise_from_apart floor (segment ∷ later) each apart above =
@@ -41,7 +41,7 @@ pub record Risen (floor : ℕ) (segments : List Segment) : Type 0 where
   pub apart : SegmentsApart segments
   pub above : AreAbove floor segments
 
--- segments that stand one behind the other are apart
+-- segments that stand one after the other are apart
 pub apart_from_rise : (floor : ℕ) (segments : List Segment) → SegmentsRiseFrom floor segments → Risen floor segments
 apart_from_rise floor [] rise = record { each = tt; apart = tt; above = tt }
 apart_from_rise floor (segment ∷ later) rise =
@@ -57,7 +57,7 @@ pub above_nothing : (segments : List Segment) → AreAbove 0 segments
 above_nothing [] = tt
 above_nothing (segment ∷ later) = (omega arith, above_nothing later)
 
--- whether a segment may stand behind the floor is decided
+-- whether a segment may stand after the floor is decided
 pub is_placed-Decides : (floor : ℕ) (segment : Segment) → Decides (is_placed floor segment) ((floor ≤ segment.address) × IsSegment segment)
 is_placed-Decides floor segment =
     Decides-like (is_placed floor segment)
@@ -66,7 +66,7 @@ is_placed-Decides floor segment =
     (Decides-and _ _ (Decides-and _ _ (Decides-and _ _ (Decides-and _ _ (Decides-nat_le floor segment.address) (Decides-nat_le 1 segment.memory))
     (Decides-nat_lt segment.memory (2 ^ 32))) (Decides-nat_le (end_of segment) (2 ^ 32))) (Decides-nat_le (length segment.bytes) segment.memory))
 
--- whether segments stand one behind the other is decided
+-- whether segments stand one after the other is decided
 pub are_placed-Decides : (floor : ℕ) (segments : List Segment) → Decides (are_placed floor segments) (SegmentsRiseFrom floor segments)
 are_placed-Decides floor [] = (λ _. tt, λ _. refl)
 are_placed-Decides floor (segment ∷ later) =

@@ -8,7 +8,7 @@ use Rattle.xef_images.specs.Reading.{xef}
 abbrev pub WrittenImageIsRead : Type 0
 WrittenImageIsRead = (image : Image) → IsImage image → xef (xef_text image) ≡ Ok image
 
--- no file of an image is a proper front of another: what stands behind one that is a front is nothing
+-- no file of an image is a proper prefix of another: what stands after one that is a prefix is nothing
 abbrev pub ImagesArePrefixFree : Type 0
 ImagesArePrefixFree = (image other : Image) (rest : List ℕ) → IsImage image → IsImage other → xef_text other ≡ xef_text image ++ rest → rest ≡ []
 

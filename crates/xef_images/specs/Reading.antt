@@ -15,11 +15,11 @@ use Rattle.xef_images.specs.declared.fault.XefFault.TheVariants.{Magic, Version,
 abbrev pub unless : {A : Type 0} → Bool → XefFault → A → Result A XefFault
 unless test fault value = if test then Ok value else Err fault
 
--- the next bytes, so many, and the place behind them; a field that passes the end is Short, at its beginning
+-- the next bytes, so many, and the place after them; a field that passes the end is Short, at its beginning
 abbrev pub bytes_at : ℕ → Place → Result (List ℕ × Place) XefFault
 bytes_at count place = if nat_lt (left place) count then Err (Short place.at) else Ok (next count place, past count place)
 
--- the next field as a number, and the place behind it
+-- the next field as a number, and the place after it
 abbrev pub number_at : Width → Place → Result (ℕ × Place) XefFault
 number_at width place = bytes_at (byte_len width) place >>= λ field. Ok (from_be_bytes width field.0, field.1)
 
@@ -27,15 +27,15 @@ number_at width place = bytes_at (byte_len width) place >>= λ field. Ok (from_b
 abbrev pub listed_at : Width → (ℕ → Bool) → Place → Result (ℕ × Place) XefFault
 listed_at width test place = number_at width place >>= λ field. unless (test field.0) (Field place.at) field
 
--- the name of the format, and the place behind it
+-- the name of the format, and the place after it
 unfoldable pub magic_at : Place → Result Place XefFault
 magic_at place = bytes_at 4 place >>= λ field. unless (bytes_eq field.0 (codes "XMEF")) Magic field.1
 
--- the version, and the place behind it
+-- the version, and the place after it
 unfoldable pub version_at : Place → Result Place XefFault
 version_at place = number_at w16 place >>= λ field. unless (field.0 == 1) (Version field.0) field.1
 
--- the length that the head tells
+-- the length that stands in the head
 unfoldable pub told : List ℕ → Result ℕ XefFault
 told bytes = do
   name ← magic_at (cursor_start bytes)
@@ -43,7 +43,7 @@ told bytes = do
   length ← number_at w32 version
   Ok length.0
 
--- how many bytes stand before the digest, in a file of so many bytes of which so many are told
+-- how many bytes stand before the digest, in a file of so many bytes whose head says so many
 unfoldable pub before_of : ℕ → ℕ → Result ℕ XefFault
 before_of size told =
     if nat_lt size told then Err (Short size)
@@ -55,7 +55,7 @@ before_of size told =
 unfoldable pub before : List ℕ → Result ℕ XefFault
 before bytes = told bytes >>= λ length_told. before_of (length bytes) length_told
 
--- the digest that is stored behind so many bytes
+-- the digest that is stored after so many bytes
 abbrev pub stored : ℕ → List ℕ → List ℕ
 stored count bytes = drop count bytes
 
@@ -81,7 +81,7 @@ memory_at address place = listed_at w32 (λ memory. nat_le 1 memory && nat_le (a
 unfoldable pub count_at : ℕ → Place → Result (ℕ × Place) XefFault
 count_at memory place = listed_at w32 (λ count. nat_le count memory) place
 
--- the row of a segment that begins at the floor or behind it
+-- the row of a segment that begins at the floor or after it
 unfoldable pub row_at : ℕ → Place → Result (Row × Place) XefFault
 row_at floor place = do
   address ← address_at floor place
@@ -89,7 +89,7 @@ row_at floor place = do
   count ← count_at memory.0 memory.1
   Ok (record { address = address.0; memory = memory.0; count = count.0 }, count.1)
 
--- so many rows, each behind the end of the one before it
+-- so many rows, each after the end of the one before it
 unfoldable pub rows_at : ℕ → ℕ → Place → Result (List Row × Place) XefFault
 rows_at zero floor place = Ok ([], place)
 rows_at (suc count) floor place = do
@@ -122,7 +122,7 @@ segment_table_at place = do
   rows ← rows_at count.0 0 count.1
   segments_at rows.0 rows.1
 
--- the entry, behind the 10 bytes of name, version and length. A file so short that its head and its digest overlap never has the digest of its other bytes, so what is said here of fewer than 10 bytes is reported for no file
+-- the entry, after the 10 bytes of name, version and length. A file so short that its head and its digest overlap never has the digest of its other bytes, so what is said here of fewer than 10 bytes is reported for no file
 unfoldable pub entry_point_at : Place → Result (ℕ × Place) XefFault
 entry_point_at place = number_at w32 (past 10 place)
 
@@ -146,6 +146,6 @@ pub record IsForged (bytes stored_digest found_digest : List ℕ) : Type 0 where
   pub found : found_digest ≡ found count bytes
   pub differ : stored_digest ≢ found_digest
 
--- the two digests are told exactly where they differ
+-- the two digests are reported exactly where they differ
 abbrev pub TellsDigests : {X : Type 0} → List ℕ → Result X XefFault → Type 0
 TellsDigests {X} bytes result = (s f : List ℕ) → (result ≡ Err (Digest s f)) ↔ IsForged bytes s f

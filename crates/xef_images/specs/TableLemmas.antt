@@ -24,7 +24,7 @@ row_of segment = record { address = segment.address; memory = segment.memory; co
 abbrev pub row_line : Row → List ℕ
 row_line row = to_be_bytes w32 row.address ++ to_be_bytes w32 row.memory ++ to_be_bytes w32 row.count
 
--- a row of a segment that may stand behind the floor
+-- a row of a segment that may stand after the floor
 pub record IsRow (floor : ℕ) (row : Row) : Type 0 where
   pub above : floor ≤ row.address
   pub some : 1 ≤ row.memory
@@ -32,7 +32,7 @@ pub record IsRow (floor : ℕ) (row : Row) : Type 0 where
   pub ends : row.address + row.memory ≤ 2 ^ 32
   pub fits : row.count ≤ row.memory
 
--- rows of segments that stand one behind the other
+-- rows of segments that stand one after the other
 abbrev pub RowsRise : ℕ → List Row → Type 0
 RowsRise floor [] = Unit {0}
 RowsRise floor (row ∷ later) = IsRow floor row × RowsRise (row.address + row.memory) later
@@ -109,14 +109,14 @@ lines_are_rows (segment ∷ others) =
     ∙ ap (λ rest. row_line (row_of segment) ++ rest) (lines_are_rows others)
     ∙ sym (flat_map-cons row_text segment others)
 
--- segments stand one behind the other as their rows say
+-- segments stand one after the other as their rows say
 pub rise_of_rows : (floor : ℕ) (segments : List Segment) → RowsRise floor (map row_of segments) → SegmentsRiseFrom floor segments
 rise_of_rows floor [] rise = tt
 rise_of_rows floor (segment ∷ later) rise =
     let row = rise.0 in
     ((row.above, record { some = row.some; said = row.said; ends = row.ends; fits = row.fits }), rise_of_rows (end_of segment) later rise.1)
 
--- the rows of segments that stand one behind the other
+-- the rows of segments that stand one after the other
 pub rows_of_rise : (floor : ℕ) (segments : List Segment) → SegmentsRiseFrom floor segments → RowsRise floor (map row_of segments)
 rows_of_rise floor [] rise = tt
 rows_of_rise floor (segment ∷ later) rise =

@@ -8,13 +8,13 @@ use Rattle.xef_images.specs.Image.{Image, Segment, end_of, xef_length}
 abbrev pub is_covered : ℕ → Segment → Bool
 is_covered address segment = nat_le segment.address address && nat_lt address (end_of segment)
 
--- whether a segment may stand behind one that ends at the floor
+-- whether a segment may stand after one that ends at the floor
 abbrev pub is_placed : ℕ → Segment → Bool
 is_placed floor segment =
     nat_le floor segment.address && nat_le 1 segment.memory && nat_lt segment.memory (2 ^ 32) && nat_le (end_of segment) (2 ^ 32)
     && nat_le (length segment.bytes) segment.memory
 
--- whether segments may stand one behind the other, the first of them behind the floor
+-- whether segments may stand one after the other, the first of them after the floor
 abbrev pub are_placed : ℕ → List Segment → Bool
 are_placed floor [] = true
 are_placed floor (segment ∷ later) = is_placed floor segment && are_placed (end_of segment) later

@@ -1,4 +1,4 @@
--- What is printed: the faults, and the lines that tell an image's file.
+-- What is printed: the faults, and the lines that describe an image's file.
 use Rattle.std.specs.Prelude.{ℕ, List, ◌++◌, length, codes, decimal}
 use Rattle.std.specs.Int.{w32, to_be_bytes}
 use Rattle.std.specs.List.{flat_map}
@@ -52,6 +52,6 @@ segment_line segment =
 unfoldable pub digest_line : List ℕ → List ℕ
 digest_line digest = codes "md5=" ++ encode_lower digest ++ codes "\n"
 
--- the lines that tell the file of an image: its entry, its segments, and the digest that stands at its end
+-- the lines that describe the file of an image: its entry, its segments, and the digest that stands at its end
 unfoldable pub xef_lines : Image → List ℕ
 xef_lines image = entry_line image.entry ++ flat_map segment_line image.segments ++ digest_line (md5 (before_text image))

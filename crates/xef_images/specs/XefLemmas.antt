@@ -29,7 +29,7 @@ use Rattle.xef_images.specs.declared.fault.XefFault.TheVariants.{Magic, Version,
 abbrev pub table_text : List Segment → List ℕ
 table_text segments = to_be_bytes w8 (length segments) ++ (flat_map row_text segments ++ contents segments)
 
--- segments that are read stand there, 1 to 8 of them, one behind the other
+-- segments that are read stand there, 1 to 8 of them, one after the other
 pub record IsSegmentTable (segments : List Segment) : Type 0 where
   pub some : 1 ≤ length segments
   pub most : length segments ≤ 8
@@ -99,7 +99,7 @@ version_takes place after each e =
     let same : s.value.0 ≡ 1 = (Decides-eqb s.value.0 1).0 p.true in
     subst (λ (place' : Place). Takes place (to_be_bytes w16 1) place') p.is (subst (λ (n : ℕ). Takes place (to_be_bytes w16 n) s.value.1) same t.0)
 
--- the length that is told stands behind name and version
+-- the length that is told stands after name and version
 told_takes : (bytes : List ℕ) (size : ℕ) → AreBytes bytes → told bytes ≡ Ok size → (bytes ≡ lead_text size ++ drop 10 bytes) × (size < 2 ^ 32)
 unfolding told
 told_takes bytes size each e =
@@ -116,7 +116,7 @@ told_takes bytes size each e =
     let behind : drop 10 bytes ≡ ahead n.value.1 = ap (drop 10) parts ∙ drop_at (lead_text size) (ahead n.value.1) 10 refl in
     (parts ∙ ap (λ rest. lead_text size ++ rest) (sym behind), omega (arith, third.1, is))
 
--- a length that stands behind name and version is told
+-- a length that stands after name and version is told
 told_again : (size : ℕ) (rest : List ℕ) → size < 2 ^ 32 → told (lead_text size ++ rest) ≡ Ok size
 unfolding told magic_at version_at
 told_again size rest below =
@@ -174,7 +174,7 @@ signed_again bytes front is =
     let same : bytes_eq (md5 front) (md5 front) ≡ true = (bytes_eq-Decides (md5 front) (md5 front)).1 refl in
     rw (is.told, before_of_again (length bytes) (omega (arith, is.count)), count, last, first, same) refl
 
--- the bytes before the digest, behind name, version and length
+-- the bytes before the digest, after name, version and length
 abbrev pub body_text : Image → List ℕ
 body_text image = to_be_bytes w32 image.entry ++ table_text image.segments
 
@@ -236,7 +236,7 @@ byte_of n below =
     let same : n % 256 ≡ n = omega arith in
     ap (λ b. b ∷ []) same
 
--- what stands before the digest: name, version and length, and what stands behind them
+-- what stands before the digest: name, version and length, and what stands after them
 before_regrouped : (image : Image) → length image.segments ≤ 8 → before_text image ≡ lead_text (xef_length image.segments) ++ body_text image
 unfolding before_text image_head_text
 before_regrouped image few =
@@ -348,7 +348,7 @@ xef_again image is =
     } in
     rw (signed_again (xef_text image) front (is_signed image is), image_of_again front image (entry_below image.entry image.segments is.each is.inside) body) refl
 
--- no file of an image is a proper front of another
+-- no file of an image is a proper prefix of another
 pub xef_ends : (image other : Image) (rest : List ℕ) → IsImage image → IsImage other → xef_text other ≡ xef_text image ++ rest → rest ≡ []
 unfolding xef_text
 xef_ends image other rest is is_other longer =

@@ -71,7 +71,7 @@ fn header_count(bytes: &[u8]) -> Result<u16, ElfFault>
     Ok(count)
 }
 
-/// The segment of a header that is loaded, behind so many others.
+/// The segment of a header that is loaded, after so many others.
 #[tactic(auto, unfolding(crate::specs::Elf::segment_from))]
 fn segment(alloc: Global, bytes: &[u8], before: usize, header: Header) -> Result<Segment, ElfFault>
     ensures { ElfGives (λ segment. segment) result (segment_from bytes.now before header) }
@@ -114,7 +114,7 @@ fn contents(bytes: &[u8], place: usize, count: usize) -> &[u8]
     &bytes[place..place + count]
 }
 
-/// What the header at a place loads behind so many other segments.
+/// What the header at a place loads after so many other segments.
 #[tactic(auto, unfolding(crate::specs::Elf::load_at))]
 fn load(
     alloc: Global,

@@ -7,7 +7,7 @@ pub fn written_is_read()
     ensures { WrittenImageIsRead }
 {}
 
-/// No file of an image is a proper front of the file of another.
+/// No file of an image is a proper prefix of the file of another.
 pub fn none_goes_on()
     ensures { ImagesArePrefixFree }
 {}

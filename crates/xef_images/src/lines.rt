@@ -1,4 +1,4 @@
-//! The lines that tell an image's file.
+//! The lines that describe an image's file.
 
 ghost use Rattle.std.specs.Prelude.{◌≡◌, ◌++◌, ◌-◌, ◌≤◌, IfOk, OnOk, decimal, drop, length};
 ghost use Rattle.std.specs.List.{flat_map};
@@ -12,7 +12,7 @@ use md5::DIGEST_LEN;
 use std::alloc::Global;
 use xm_base::Memory;
 
-/// The lines that tell the file of an image: its entry, its segments, and the digest that stands
+/// The lines that describe the file of an image: its entry, its segments, and the digest that stands
 /// at its end.
 #[tactic(auto, unfolding(crate::specs::Texts::xef_lines))]
 pub fn describe(alloc: Global, bytes: &[u8], image: &Xef) -> Result<Vec<u8>, Memory>
@@ -67,7 +67,7 @@ fn put_segment(alloc: Global, lines: &mut Vec<u8>, segment: &Segment) -> Result<
     Ok(())
 }
 
-/// Writes an address with eight hexadecimal digits, behind its name.
+/// Writes an address with eight hexadecimal digits, after its name.
 fn put_address(lines: &mut Vec<u8>, name: &[u8], address: u32) -> Result<(), Memory>
     ensures { OnOk result (lines.new.items ≡ lines.old.items ++ (name.now ++ address_text address)) }
 {
@@ -76,7 +76,7 @@ fn put_address(lines: &mut Vec<u8>, name: &[u8], address: u32) -> Result<(), Mem
     Ok(())
 }
 
-/// Writes a number with decimal digits, behind its name.
+/// Writes a number with decimal digits, after its name.
 fn put_number(alloc: Global, lines: &mut Vec<u8>, name: &[u8], number: usize) -> Result<(), Memory>
     ensures { OnOk result (lines.new.items ≡ lines.old.items ++ (name.now ++ decimal number)) }
 {

@@ -43,7 +43,7 @@ fn version(cursor: &mut Cursor<'_>) -> Result<(), XefFault>
     Ok(())
 }
 
-/// The length that the head tells.
+/// The length that stands in the head.
 #[tactic(auto, unfolding(crate::specs::Reading::told))]
 fn told(bytes: &[u8]) -> Result<u32, XefFault>
     ensures { IsRead (λ length. length) result (told bytes.now) }
@@ -54,7 +54,7 @@ fn told(bytes: &[u8]) -> Result<u32, XefFault>
     Ok(cursor.u32()?)
 }
 
-/// How many bytes stand before the digest, in a file of so many bytes of which so many are told.
+/// How many bytes stand before the digest, in a file of so many bytes whose head says so many.
 #[tactic(auto, unfolding(crate::specs::Reading::before_of))]
 fn before_of(size: usize, told: usize) -> Result<usize, XefFault>
     ensures value { result ≡ before_of size told }
@@ -139,7 +139,7 @@ fn count(cursor: &mut Cursor<'_>, memory: u32) -> Result<u32, XefFault>
     Ok(count)
 }
 
-/// The row of a segment that begins at the floor or behind it.
+/// The row of a segment that begins at the floor or after it.
 #[tactic(auto, unfolding(crate::specs::Reading::row_at))]
 fn row(cursor: &mut Cursor<'_>, floor: u64) -> Result<Row, XefFault>
     ensures { IsReadAt (λ row. row) result cursor.new (row_at floor cursor.old) }
@@ -154,7 +154,7 @@ fn row(cursor: &mut Cursor<'_>, floor: u64) -> Result<Row, XefFault>
     })
 }
 
-/// So many rows, each behind the end of the one before it.
+/// So many rows, each after the end of the one before it.
 fn rows(alloc: Global, cursor: &mut Cursor<'_>, count: u8) -> Result<Vec<Row>, XefFault>
     ensures { GivesAt (λ rows. rows.items) result cursor.new (rows_at count 0 cursor.old) }
 {
@@ -217,7 +217,7 @@ fn table(alloc: Global, cursor: &mut Cursor<'_>) -> Result<Vec<Segment>, XefFaul
     segments(alloc, cursor, &rows)
 }
 
-/// The entry, behind the bytes of name, version and length.
+/// The entry, after the bytes of name, version and length.
 #[tactic(auto, unfolding(crate::specs::Reading::entry_point_at))]
 fn entry(cursor: &mut Cursor<'_>) -> Result<u32, XefFault>
     requires { cursor.old.at ≡ 0 }
@@ -264,7 +264,7 @@ pub fn read_xef(alloc: Global, bytes: &[u8]) -> Result<Xef, XefFault>
     ensures only { (image : Image) → IsSpelledImage bytes.now image → Gives (λ found. found) result (Ok image) }
     // A fault is the first one.
     ensures exact { Gives (λ found. found) result (xef bytes.now) }
-    // Two digests are told exactly where they differ.
+    // Two digests are reported exactly where they differ.
     ensures digest { TellsDigests bytes.now result }
 {
     let (entry, segments) = whole(alloc, bytes)?;

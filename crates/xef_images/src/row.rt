@@ -14,7 +14,7 @@ pub(crate) struct Row {
 }
 
 impl Row {
-    /// The first address behind its memory.
+    /// The first address after its memory.
     pub(crate) fn end(self) -> u64
         ensures { result ≡ self.address + self.memory }
     {

@@ -30,7 +30,7 @@ impl Model for Segment {
 }
 
 impl Segment {
-    /// The first address behind its memory.
+    /// The first address after its memory.
     pub(crate) fn end(&self) -> u64
         ensures { result ≡ end_of self.now }
     {

@@ -72,7 +72,7 @@ pub(crate) const SEGMENTS: usize = 8;
 /// The length of the longest file whose length a word can say.
 const MOST_BYTES: usize = 0xffff_ffff;
 
-/// Whether the segments may stand one behind the other.
+/// Whether the segments may stand one after the other.
 fn are_placed(segments: &[Segment]) -> bool
     ensures { result ≡ are_placed 0 segments.now }
 {

@@ -90,7 +90,7 @@ taken_on view a next tick after cue later taken steps counts =
     ap (λ takes. if takes then first_untaken view (alone_step view a cue) (suc tick) later else Some tick) taken
     ∙ ap (λ (b : Alone). first_untaken view b (suc tick) later) (sym steps) ∙ ap (λ n. first_untaken view next n later) (sym counts)
 
--- the number of a cue behind others
+-- the number of a cue after others
 one_behind : (xs : List Cue) (x : Cue) → length (xs ++ x ∷ []) ≡ suc (length xs)
 one_behind xs x = omega (arith, length-append xs (x ∷ []))
 

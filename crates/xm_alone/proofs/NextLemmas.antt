@@ -141,7 +141,7 @@ many_fit p tick cues quiet cue later old now mid script is silent = record {
   count = omega (arith, is.count, length-append is.before quiet);
 }
 
--- what is left of the cues before and behind those that come next
+-- what is left of the cues before and after those that come next
 rest_is : {T : Type 0} (ended : Result T AloneFault) (ticks p : ℕ) (all : List Cue) (first : code_next.Next) (others : code.Cues) (old new : Machine) (had got : Option (List ℕ)) (begun board : BoardView)
     → ComesNext all first others → (f : Follows ended ticks p first old new had got begun board) → all ≡ f.quiet ++ f.cue ∷ (next_left first ticks ++ cues_left others)
 rest_is ended ticks p all first others old new had got begun board next f =

@@ -72,13 +72,13 @@ one_played p cues left cue later old now next had mid got first between board st
   heard = said_then p old now is.before cue first between board is.following.system.system is.following.part is.heard heard;
 }
 
--- a front of a text is a front of a longer one
+-- a prefix of a text is a prefix of a longer one
 front_of : (had got : Option (List ℕ)) (a b whole : List ℕ) (cut : GrewByPrefix had a got) → a ++ b ≡ whole → got ≡ grown had (take cut.count whole)
 front_of had got a b whole cut all =
     let within : cut.count ≤ length a = omega (arith, cut.short) in
     cut.grew ∙ ap (grown had) (sym (take-append-le cut.count a b within) ∙ ap (take cut.count) all)
 
--- a text went out, and then a front of another
+-- a text went out, and then a prefix of another
 behind : (had mid got : Option (List ℕ)) (a b rest whole : List ℕ) → mid ≡ grown had a → (cut : GrewByPrefix mid b got) → (a ++ b) ++ rest ≡ whole → got ≡ grown had (take (length a + cut.count) whole)
 behind had mid got a b rest whole first cut all =
     let within : length a + cut.count ≤ length (a ++ b) = omega (arith, cut.short, length-append a b) in

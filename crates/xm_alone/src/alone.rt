@@ -135,7 +135,7 @@ fn unwritten(fault: AloneFault) -> WriteFault
     }
 }
 
-/// The line that tells how partition `p` stands at the end.
+/// The line that answers how partition `p` stands at the end.
 fn end_line(machine: &Machine, p: PartId) -> Line<'static>
     requires { p < length machine.now.state.parts }
     ensures { line_value result ≡ end_line p (part_at p machine.now.state) }

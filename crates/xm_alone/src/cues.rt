@@ -25,7 +25,7 @@ pub(crate) struct Cues<'a> {
     // Whose running slot the plain cues tell that come first, and how many these are.
     own: bool,
     left: u32,
-    // The entries behind them.
+    // The entries after them.
     entries: &'a [ScriptEntry],
 }
 
@@ -41,7 +41,7 @@ impl<'a> Cues<'a> {
         }
     }
 
-    /// Those that come next, which are all alike or one, and the cues of the entries behind them; or `None` where there is none.
+    /// Those that come next, which are all alike or one, and the cues of the entries after them; or `None` where there is none.
     pub(crate) fn next(self) -> Option<(Next<'a>, Cues<'a>)>
         ensures { MatchOption result (cues_left self.entry ≡ []) (λ (first, others). ComesNext (cues_left self.entry) first others) }
     {
@@ -71,7 +71,7 @@ impl<'a> Cues<'a> {
         Some((next, others))
     }
 
-    /// What is left of the cues that came next when so many of them are done, before those of the entries behind them.
+    /// What is left of the cues that came next when so many of them are done, before those of the entries after them.
     pub(crate) fn after(self, next: Next<'a>, done: u64) -> Cues<'a>
         requires none { self.left ≡ 0 }
         requires within { HasNext next done }

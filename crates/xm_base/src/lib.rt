@@ -1,4 +1,4 @@
-//! Small types that all crates share: partition numbers, states and orders, want of memory, the limits, and a cursor over bytes.
+//! Small types that all crates share: partition numbers, states and orders, being out of memory, the limits, and a cursor over bytes.
 #![tactic(auto)]
 
 mod cursor;

@@ -1,4 +1,4 @@
-//! What a partition is called, the states that it can be in, and the orders upon it.
+//! What a partition is called, the states that it can be in, and the orders on it.
 
 ghost use Rattle.std.specs.Prelude.{◌≡◌};
 ghost use Rattle.xm_base.specs.State.{state_text};
@@ -28,7 +28,7 @@ pub enum State {
     Halted,
 }
 
-/// An order upon a partition, given by another one, by itself or in answer to a health event.
+/// An order on a partition, given by another one, by itself or in answer to a health event.
 #[derive(Clone, Copy, Debug, PartialEq, Eq)]
 pub enum Order {
     /// It stops until it is reset.

@@ -1,4 +1,4 @@
--- What is done behind a report that went out.
+-- What is done after a report that went out.
 use Rattle.std.proofs.Common.{◌≡◌, ℕ, List, Option, Some, None, subst, inl, inr}
 use Rattle.std.specs.Prelude.{IsSome}
 use Rattle.uart_board.specs.Views.{BoardView}
@@ -34,7 +34,7 @@ unsaved_outcome (Unsaved file) outcome before mid after told lost = inr (subst (
 unsaved_outcome (Unheard place) outcome before mid after told lost = absurd lost
 unsaved_outcome Starved outcome before mid after told lost = absurd lost
 
--- so an outcome whose report went out comes to what is done behind it
+-- so an outcome whose report went out comes to what is done after it
 pub behind_outcome : (e : Ending) (board : BoardView) (outcome : Outcome) (before mid after : Outside) → outcome.denial ≡ None → IsSome outcome.run → mid ≡ told_all outcome before
     → EndsBehind e outcome.later board mid after → Comes e outcome before after
 behind_outcome e board outcome before mid after granted runs told (inl ends) = ended_outcome e board outcome before mid after granted runs told ends.0 ends.1

@@ -74,7 +74,7 @@ stored-others files file bytes other differs = get-insert nat_list_cmp_total fil
     at Equal is = absurd (differs (slice_cmp-IsAntisymmetric nat_cmp-IsAntisymmetric other file is))
     at Greater is = refl
 
--- a file that is written leaves the others, where the store tells them
+-- a file that is written leaves the others, where the store knows them
 pub others_stored : (told : Option Files) (file bytes : List ℕ) → OthersStay told file (stored told file bytes)
 others_stored None file bytes = tt
 others_stored (Some files) file bytes = λ other differs. stored-others files file bytes other differs
@@ -180,7 +180,7 @@ outcome-denied command contents denial is = at command (first_long (inputs_of co
 
 -- What is read.
 
--- a front is too long exactly where its whole is
+-- a prefix is too long exactly where its whole is
 front_long : (whole bytes : List ℕ) → take (FILE_BYTES + 1) whole ≡ bytes → nat_lt FILE_BYTES (length bytes) ≡ nat_lt FILE_BYTES (length whole)
 front_long whole bytes front = ⊎_elim long short (cases_lt FILE_BYTES (length whole))
   where
@@ -193,18 +193,18 @@ front_long whole bytes front = ⊎_elim long short (cases_lt FILE_BYTES (length 
     short : length whole ≤ FILE_BYTES → nat_lt FILE_BYTES (length bytes) ≡ nat_lt FILE_BYTES (length whole)
     short h = ap (λ (b : List ℕ). nat_lt FILE_BYTES (length b)) (sym front ∙ take_all (FILE_BYTES + 1) whole (omega arith))
 
--- a front that is not too long is the whole
+-- a prefix that is not too long is the whole
 front_whole : (whole bytes : List ℕ) → take (FILE_BYTES + 1) whole ≡ bytes → nat_lt FILE_BYTES (length whole) ≡ false → bytes ≡ whole
 front_whole whole bytes front test = (let short : length whole ≤ FILE_BYTES = grind (arith, nat_tests) in sym front ∙ take_all (FILE_BYTES + 1) whole (omega arith))
 
--- the contents of files whose fronts were read
+-- the contents of files whose prefixes were read
 pub record AreWhole (files : Files) (names fronts : List (List ℕ)) : Type 0 where
   pub contents : List (List ℕ)
   pub read : read_all files names ≡ Ok contents
   pub long : first_long names fronts ≡ first_long names contents
   pub whole : first_long names contents ≡ None → fronts ≡ contents
 
--- the fronts that were read are those of the files' contents
+-- the prefixes that were read are those of the files' contents
 pub are_whole : (files : Files) (names fronts : List (List ℕ)) → ReadsFiles (Some files) names fronts → AreWhole files names fronts
 are_whole files [] [] read = record { contents = []; read = refl; long = refl; whole = λ _. refl }
 are_whole files [] (bytes ∷ fronts) read = absurd read

@@ -53,7 +53,7 @@ pub played-runs : (core : Option (List ℕ)) (replay : Readied) → IsSome (play
 unfolding played
 played-runs core replay = refl
 
--- so it comes to what is done behind its report
+-- so it comes to what is done after its report
 pub behind_replay : (e : Ending) (board : BoardView) (lone new : Lone) (cues : List Cue) (core : Option (List ℕ)) (had got : Option (List ℕ)) (before now : ℕ) (files : Option Files) (reads writes calls : ℕ) (mid last : BoardView) (after : Outside)
     → IsWholeReplay cues (replay_lines (own_view lone) cues) lone new had got mid last → now ≡ before → EndsBehind e (map (lone_output new) (name_if_any core)) board (outside files reads writes calls got now) after
     → Comes e (played core (ready_of lone cues)) (outside files reads writes calls had before) after
@@ -117,7 +117,7 @@ unready_leaves container part script further (Some why) run had got board = refl
 
 -- Contents.
 
--- the content of the file behind the first
+-- the content of the file after the first
 content_next : (n : ℕ) (contents : List (List ℕ)) → content (suc n) contents ≡ content n (drop 1 contents)
 content_next n [] = refl
 content_next n (bytes ∷ contents) = refl

@@ -1,4 +1,4 @@
--- Scripts that are made before a run, and written behind its core files.
+-- Scripts that are made before a run, and written after its core files.
 use Rattle.std.proofs.Common.{◌≡◌, ℕ, ◌+◌, ◌<◌, ◌≤◌, Bool, true, false, nat_lt, if◌then◌else◌, List, [], ◌∷◌, ◌++◌, length, map, drop, Option, Some, None, Result, Ok, Err, get_or, refl, sym, ap, ◌∙◌, subst, arith, append_assoc}
 use Rattle.std.proofs.lemmas.Bool.Decides.{nat_tests}
 use Rattle.std.proofs.lemmas.List.{append-nil, at_drop_more}
@@ -81,7 +81,7 @@ scripts_begun system ticks all rest first same none =
     none_before (scripts_for system ticks all) ∙ ap (λ (outputs : List Output). scripts_before outputs (scripts_for system ticks all)) (sym none)
     ∙ ap (λ (names : List PartFile). scripts_before first (scripts_for system ticks names)) (sym same)
 
--- one before others, behind the first
+-- one before others, after the first
 one_before : (first : List Output) (output : Output) (made : Result (List Output) Denial) → scripts_before first (script_before output made) ≡ scripts_before (first ++ output ∷ []) made
 one_before first output (Ok outputs) = ap Ok (sym (append_assoc first (output ∷ []) outputs))
 one_before first output (Err refusal) = refl

@@ -64,7 +64,7 @@ same_cores law system ticks (named ∷ cores) inside =
     ap (λ (o : Output). o ∷ map (core_output (run (start system) ticks)) cores) one
     ∙ ap (λ (os : List Output). alone_output system ticks named ∷ os) (same_cores law system ticks cores inside.1)
 
--- and scripts stand behind them
+-- and scripts stand after them
 same_later : SameCoreFile → (system : System) (ticks : ℕ) (cores scripts : List PartFile) → AreForPartitions (length system.conf.parts) cores
     → core_outputs (run (start system) ticks) cores ++ map (script_output system ticks) scripts ≡ alone_outputs system ticks cores scripts
 same_later law system ticks cores scripts inside = ap (λ (os : List Output). os ++ map (script_output system ticks) scripts) (same_cores law system ticks cores inside)
@@ -93,11 +93,11 @@ scripts_are system ticks (named ∷ names) outputs made = at (script_denial syst
 abbrev IsAllOf : Outside → Outside → Outcome → Type 0
 IsAllOf read_from after outcome = (outcome.denial ≡ None) × (after ≡ did outcome read_from)
 
--- a front of the report, behind the file that comes first
+-- a prefix of the report, after the file that comes first
 abbrev IsFrontOf : Outside → Outside → Outcome → Type 0
 IsFrontOf before after outcome = GrewByPrefix before.got outcome.report after.got × (after.files ≡ (wrote outcome.output before).files)
 
--- all but a file after the report, and those behind it
+-- all but a file after the report, and those after it
 record IsSomeOf (before after : Outside) (outcome : Outcome) : Type 0 where
   first : List Output
   output : Output
@@ -124,7 +124,7 @@ own_append : (p : ℕ) (xs ys : List ReportLine) → own p (xs ++ ys) ≡ own p 
 unfolding own
 own_append p xs ys = filter-append (λ line. is_number (tag_of line) p) xs ys
 
--- of all lines the first went out, and a front of the next one
+-- of all lines the first went out, and a prefix of the next one
 record AreCutIn (all : List ReportLine) (had got : Option (List ℕ)) : Type 0 where
   lines : List ReportLine
   next : ReportLine

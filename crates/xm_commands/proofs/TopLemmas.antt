@@ -317,7 +317,7 @@ quiet (Unsaved file) (Some command) before after w q = absurd (loud WriteFault (
 quiet (Unheard place) (Some command) before after w q = absurd (loud UartFault (λ h. cc) (λ h. cc) (λ h. cc) (λ h. cc) q)
 quiet Starved (Some command) before after w q = ap (λ (x : Outside). x.got) w.outside ∙ ap (λ (x : Outside). x.got) (called_for-is w.first before)
 
--- a line goes out, or a front of it
+-- a line goes out, or a prefix of it
 pub said : {T F : Type 0} (r : Result T F) (line : List ℕ) (had got : Option (List ℕ)) (before now : ℕ) → Writes r had line got → HasCause r before now → IsSaid line had before got now
 said (Ok _) line had got before now writes cause = inl (writes, cause)
 said (Err _) line had got before now writes cause = inr (writes, cause)

@@ -82,7 +82,7 @@ runs : (ticks : ℕ) (cores : List PartFile) (scripts : List Output) (system : S
 unfolding outcome_of_run
 runs ticks cores scripts system inputs = refl
 
--- the files behind its report
+-- the files after its report
 behind_files : (cores : List PartFile) (scripts : List Output) (system : System) (inputs : List (List ℕ)) (ticks : ℕ) (new : Machine) → new ≡ run (start (with_inputs system inputs)) ticks
     → core_outputs new cores ++ scripts ≡ (outcome_of_run ticks cores scripts system inputs).later
 unfolding outcome_of_run
@@ -96,7 +96,7 @@ behind_report r cores scripts system inputs ticks new had got before now files r
     let told = finished r cores scripts system inputs ticks new had got is in
     rw (told, same) refl
 
--- a run whose whole report went out comes to what is done behind it
+-- a run whose whole report went out comes to what is done after it
 pub behind_run : (e : Ending) (board : BoardView) (r : Ran) (cores : List PartFile) (scripts : List Output) (system : System) (inputs : List (List ℕ)) (ticks : ℕ) (new : Machine) (had got : Option (List ℕ)) (before now : ℕ) (files : Option Files) (reads writes calls : ℕ) (after : Outside)
     → EndsBehind e (core_outputs new cores ++ scripts) board (outside files reads writes calls got now) after → IsRun (Ok r) ticks (start (with_inputs system inputs)) new had got → now ≡ before
     → Comes e (outcome_of_run ticks cores scripts system inputs) (outside files reads writes calls had before) after

@@ -1,4 +1,4 @@
--- What is done behind a report that went out.
+-- What is done after a report that went out.
 use Rattle.std.specs.Prelude.{◌⊎◌, List, None}
 use Rattle.uart_board.specs.Views.{BoardView}
 use Rattle.file_commands.specs.Ending.{Ending}

@@ -48,7 +48,7 @@ pub record TellsShort (container : List ℕ) (options : List RunOption) (content
   pub short : first_long (container ∷ file_names (inputs_in options)) contents ≡ None
   pub told : TellsIn options contents
 
--- they are, where the store tells its files
+-- they are, where the store's files are known
 abbrev pub TellsOf : List ℕ → List RunOption → Option Files → Type 0
 TellsOf container options told =
     (files : Files) → told ≡ Some files → (contents : List (List ℕ)) → read_all files (container ∷ file_names (inputs_in options)) ≡ Ok contents → TellsIn options contents

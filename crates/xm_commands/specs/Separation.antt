@@ -43,17 +43,17 @@ pub record PrintsAlone (system : System) (ticks : ℕ) (before after : Outside) 
   pub report : after.got ≡ grown before.got (texts lines)
   pub own : (p : ℕ) → p < length system.conf.parts → own p lines ≡ alone_report system p ticks
 
--- the core files of partitions alone, and scripts behind them
+-- the core files of partitions alone, and scripts after them
 abbrev pub alone_outputs : System → ℕ → List PartFile → List PartFile → List Output
 alone_outputs system ticks cores scripts = map (alone_output system ticks) cores ++ map (script_output system ticks) scripts
 
 -- a run of so many ticks, with these core files and scripts: its whole report went out, and the core files that were written, in this order, are
--- those of the partitions alone, and the scripts behind them are what the partitions were told; no other file has changed
+-- those of the partitions alone, and the scripts after them are what the partitions were told; no other file has changed
 pub record ShowsAlone (system : System) (ticks : ℕ) (cores scripts : List PartFile) (before after : Outside) : Type 0 where
   pub printed : PrintsAlone system ticks before after
   pub written : after.files ≡ (wrote_all (alone_outputs system ticks cores scripts) before).files
 
--- the same run, where its report was cut: what went out is the first lines of it, and a front of the next line. Of these lines each partition's
+-- the same run, where its report was cut: what went out is the first lines of it, and a prefix of the next line. Of these lines each partition's
 -- own are the first of those of that partition alone, and the rest of them did not go out. No file has changed
 pub record ShowsFront (system : System) (ticks : ℕ) (cores scripts : List PartFile) (before after : Outside) : Type 0 where
   pub lines : List ReportLine
@@ -84,7 +84,7 @@ pub record BareAlone (Shows : System → ℕ → List PartFile → List PartFile
   pub are : AreContents before.files (Bare image ticks) contents
   pub shows : Shows (with_inputs (bare_system (content 0 contents)) (no_inputs 1)) ticks [] [] before after
 
--- a container was run, with input words for its partitions, and the run shows this; where the store tells its files, what the partitions of its scripts are
+-- a container was run, with input words for its partitions, and the run shows this; where the store's files are known, what the partitions of its scripts are
 -- told has its numbers, so that each script can be replayed
 pub record ContainerAlone (Shows : System → ℕ → List PartFile → List PartFile → Outside → Outside → Type 0) (container : List ℕ) (options : List RunOption) (before after : Outside) : Type 0 where
   pub contents : List (List ℕ)

@@ -12,7 +12,7 @@ use Rattle.file_commands.specs.Work.{Outside, IsWorked, told_all, wrote, wrote_a
 use Rattle.file_commands.specs.declared.status.Status.{Status}
 use Rattle.file_commands.specs.declared.status.Status.TheVariants.{Done, Refused, Usage, ReadFault, WriteFault, UartFault, NoMemory}
 
--- a line went out: all of it, or a front where the sink's own count of faults rose
+-- a line went out: all of it, or a prefix where the sink's own count of faults rose
 abbrev pub IsSaid : List ℕ → Option (List ℕ) → ℕ → Option (List ℕ) → ℕ → Type 0
 IsSaid line had before got now =
     ((got ≡ grown had line) × (now ≡ before)) ⊎ (GrewByPrefix had line got × Rose before now)
@@ -30,7 +30,7 @@ pub record HasNoFault (before after : Outside) : Type 0 where
   pub writes : Rose before.write_faults after.write_faults → ⊥
   pub report : Rose before.faults after.faults → ⊥
 
--- in a world without faults the answer is that of the definition: where the store tells its files, no count
+-- in a world without faults the answer is that of the definition: where the store's files are known, no count
 -- rose and memory is there; the status and the line on the error output also need that no UART failed
 pub record Answers (status : Status) (words : List (List ℕ)) (before after : Outside) (had : Option (List ℕ)) (error_faults : ℕ) (got : Option (List ℕ)) (error_faults_after : ℕ) : Type 0 where
   -- the status
@@ -48,18 +48,18 @@ pub record IsAmong (file : List ℕ) (files : List (List ℕ)) : Type 0 where
   pub rest : List (List ℕ)
   pub among : files ≡ first ++ file ∷ rest
 
--- the store tells its files, and one of these is not among them
+-- the store's files are known, and one of these is not among them
 pub record IsOneAbsent (told : Option Files) (files : List (List ℕ)) : Type 0 where
   pub file : List ℕ
   pub named : IsAmong file files
   pub absent : IsAbsent told file
 
--- the count of failed reads rose, or the store tells its files and one that the words name is not among them
+-- the count of failed reads rose, or the store's files are known and one that the words name is not among them
 abbrev pub IsReadCause : Option Command → Outside → Outside → Type 0
 IsReadCause None before after = ⊥
 IsReadCause (Some command) before after = Rose before.read_faults after.read_faults ⊎ IsOneAbsent before.files (inputs_of command)
 
--- these are the contents of the files that a command reads; where the store tells no files, nothing is said of them
+-- these are the contents of the files that a command reads; where the store's files are not known, nothing is said of them
 abbrev pub AreContents : Option Files → Command → List (List ℕ) → Type 0
 AreContents None command contents = Unit {0}
 AreContents (Some files) command contents = read_all files (inputs_of command) ≡ Ok contents
@@ -77,7 +77,7 @@ abbrev pub IsRefusal : Option Command → Outside → Outside → Type 0
 IsRefusal None before after = ⊥
 IsRefusal (Some command) before after = IsRefusedIn command before after
 
--- the report's sink failed, and has got a front of the report; the file that comes before it is written, and none after it
+-- the report's sink failed, and has got a prefix of the report; the file that comes before it is written, and none after it
 pub record IsCutShort (command : Command) (before after : Outside) : Type 0 where
   pub cause : Rose before.faults after.faults
   pub contents : List (List ℕ)

@@ -1,4 +1,4 @@
-//! What a run does after its report: core files are written, and scripts behind them, and it ends.
+//! What a run does after its report: core files are written, and scripts after them, and it ends.
 
 ghost use Rattle.std.specs.Prelude.{ℕ, List, ◌++◌, Option, length, map};
 ghost use Rattle.xm_commands.specs.Behind.{EndsBehind};
@@ -18,7 +18,7 @@ use xm_machine::Machine;
 use xm_outside::Store;
 use xm_words::PartFiles;
 
-/// Writes core files of a machine, and these scripts behind them; or how the call ends at the first that is not written.
+/// Writes core files of a machine, and these scripts after them; or how the call ends at the first that is not written.
 pub(crate) fn write_later<'a, S: Store>(
     machine: &Machine,
     cores: PartFiles<'a>,
@@ -38,7 +38,7 @@ pub(crate) fn write_later<'a, S: Store>(
     }
 }
 
-/// How a run ends whose whole report went out, by whether the files behind it were written.
+/// How a run ends whose whole report went out, by whether the files after it were written.
 pub(crate) fn ended<'a>(saved: Result<(), Ending<'a>>, board: &Board) -> Ending<'a>
     ensures { (outputs : List Output) (before after : Outside) → AreSaved saved.entry outputs before after → EndsBehind (ending_of result) outputs (⟦<Board as ViewBoard>⟧.board_view board.now) before after }
 {

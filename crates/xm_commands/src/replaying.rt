@@ -172,7 +172,7 @@ fn play_ready<'a, S: Store, O: Sink>(
     }
 }
 
-// Plays a replay that is ready, with room for its core file, and writes that behind the report.
+// Plays a replay that is ready, with room for its core file, and writes that after the report.
 fn play_into<'a, S: Store, O: Sink>(
     alone: &mut Alone,
     script: &Script,

@@ -90,7 +90,7 @@ fn run_bytes<'a, S: Store, O: Sink>(
 }
 
 /// Boots a system whose partitions have these input words and runs it; then core files of its partitions are written, and these scripts
-/// behind them. All memory is taken before the run.
+/// after them. All memory is taken before the run.
 pub(crate) fn run_system<'a, S: Store, O: Sink>(
     alloc: Global,
     ticks: u64,
@@ -148,7 +148,7 @@ fn run_booted<'a, S: Store, O: Sink>(
     }
 }
 
-// Runs a machine that boots, with room for its core files, and writes these and the scripts behind the report.
+// Runs a machine that boots, with room for its core files, and writes these and the scripts after the report.
 fn run_into<'a, S: Store, O: Sink>(
     ticks: u64,
     cores: PartFiles<'a>,

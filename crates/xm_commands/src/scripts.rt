@@ -70,7 +70,7 @@ pub(crate) fn make_scripts<'a>(
     Ok(made)
 }
 
-// Puts a script behind others.
+// Puts a script after others.
 fn put_made<'a>(made: &mut Vec<MadeScript<'a>>, script: MadeScript<'a>) -> Result<(), Memory>
     ensures { OnOk result (map made_output made.new.items ≡ map made_output made.old.items ++ made_output script.entry ∷ []) }
 {

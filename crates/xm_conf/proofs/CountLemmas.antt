@@ -1,4 +1,4 @@
--- What the counts of a configuration give to the rules behind them.
+-- What the counts of a configuration give to the rules after them.
 use Rattle.std.proofs.Common.{◌≡◌, ◌≤◌, List, length, get_or, Option, Some, None, sym, arith}
 use Rattle.std.specs.Prelude.{All, IfNone}
 use Rattle.xm_conf.specs.Along.{head_of}

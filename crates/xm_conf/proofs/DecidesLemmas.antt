@@ -196,7 +196,7 @@ decides-any {X} {P} test d (x ∷ xs) = at (test x) (d x) (decides-any test d xs
       λ any. more.1 (first false here refl any.0 any.1 any.2 any.3 any.4),
     )
 
--- a slot behind the one before it, where there is one
+-- a slot after the one before it, where there is one
 pub decides-follows : (earlier : Option Slot) (slot : Slot) → Decides (follows earlier slot) (IfSome earlier (λ e. e.start + e.duration ≤ slot.start))
 decides-follows None slot = decides-yes tt
 decides-follows (Some earlier) slot = decides-le (earlier.start + earlier.duration) slot.start

@@ -59,7 +59,7 @@ each_from-push h n (y ∷ xs) x =
 pub each-push : {X Y : Type 0} (h : ℕ → X → List Y) (xs : List X) (x : X) → added_by_each h (xs ++ x ∷ []) ≡ added_by_each h xs ++ h (length xs) x
 each-push h xs x = each_from-push h 0 xs x ∙ ap (λ m. added_by_each h xs ++ h m x) (omega arith)
 
--- along what elements add: each element goes along what it adds, behind what those before it added
+-- along what elements add: each element goes along what it adds, after what those before it added
 pub along_from-each : {X E Y : Type 0} (f : List E → E → List Y) (h : ℕ → X → List E) (front : List E) (before xs : List X)
     → along_from f (front ++ added_by_each h before) (each_from h (length before) xs)
     ≡ along_from (λ earlier x. along_from f (front ++ added_by_each h earlier) (h (length earlier) x)) before xs
@@ -80,7 +80,7 @@ along-each_one f label front xs =
     along_from-each f (λ n x. label n x ∷ []) front [] xs
     ∙ ap (λ g. along_from g [] xs) (λ i earlier x. append-nil (f (front ++ added_by_each (λ n y. label n y ∷ []) earlier) (label (length earlier) x)) i)
 
--- the areas of a partition behind those before them
+-- the areas of a partition after those before them
 pub along-areas : (front : List (Item × Region)) (p : ℕ) (areas : List Area) → along_from (meets 9 overlaps) front (added_by_each (area_stretch p) areas) ≡ along (area_meets front p) areas
 unfolding area_meets
 along-areas front p areas =
@@ -115,7 +115,7 @@ area-hits at whole parts p areas =
     (items_where-append test (whole_stretch whole) (added_by_each part_stretches parts)
     ∙ ap (λ more. items_where test (whole_stretch whole) ++ more) (items_where-each test part_stretches 0 parts))
 
--- the destinations of a channel behind the ends before them
+-- the destinations of a channel after the ends before them
 pub along-dests : (front : List (Item × End)) (c : ℕ) (dests : List End) → along_from (meets 18 same_end) front (added_by_each (dest_item c) dests) ≡ along (dest_meets front c) dests
 unfolding dest_meets
 along-dests front c dests =

@@ -35,7 +35,7 @@ room_stops f xs n d x room r below is value sofar =
 pub room_after-zero : (room : ℕ) → Some room ≡ room_after room 0
 room_after-zero room = grind (arith, nat_tests)
 
--- behind the last element
+-- after the last element
 pub room_ends : {X : Type 0} (f : X → ℕ) (xs : List X) (n : ℕ) (room : ℕ) (r : Option ℕ) → length xs ≤ n → room_after room (sum_by f (drop n xs)) ≡ r → Some room ≡ r
 room_ends f xs n room r past sofar =
     room_after-zero room ∙ sym (at_drop_all (λ rest. room_after room (sum_by f rest)) xs n past) ∙ sofar

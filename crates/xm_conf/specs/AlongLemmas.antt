@@ -32,7 +32,7 @@ each_stops f xs n d x found r below is value some sofar =
     ∙ sym (at_drop_more (λ rest. head_of (each_from f n rest)) xs n d below)
     ∙ sofar
 
--- behind the last element nothing is found
+-- after the last element nothing is found
 pub each_ends : {X Y : Type 0} (f : ℕ → X → List Y) (xs : List X) (n : ℕ) (r : Option Y) → length xs ≤ n → head_of (each_from f n (drop n xs)) ≡ r → None ≡ r
 each_ends f xs n r past sofar = sym (at_drop_all (λ rest. head_of (each_from f n rest)) xs n past) ∙ sofar
 
@@ -58,7 +58,7 @@ along_stops f xs n d x found r below is value some sofar =
     ∙ sym (at_drop_more (λ rest. head_of (along_from f (take n xs) rest)) xs n d below)
     ∙ sofar
 
--- behind the last element nothing is found
+-- after the last element nothing is found
 pub along_ends : {X Y : Type 0} (f : List X → X → List Y) (xs : List X) (n : ℕ) (r : Option Y) → length xs ≤ n → head_of (along_from f (take n xs) (drop n xs)) ≡ r → None ≡ r
 along_ends f xs n r past sofar = sym (at_drop_all (λ rest. head_of (along_from f (take n xs) rest)) xs n past) ∙ sofar
 
@@ -72,7 +72,7 @@ pub ruleset along_loop = (along_goes_on, along_stops, along_ends)
 pub turn_first : {X : Type 0} (a b : List X) (found : Option X) → found ≡ head_of a → is_some found ≡ true → found ≡ head_of (a ++ b)
 turn_first a b found value some = value ∙ sym (first-append_some a b (ap is_some (sym value) ∙ some))
 
--- one list after another: where the first tells nothing, the second goes first
+-- one list after another: where the first reports nothing, the second goes first
 pub turn_second : {X : Type 0} (a b : List X) (found next : Option X) → found ≡ head_of a → is_some found ≡ false → next ≡ head_of b → next ≡ head_of (a ++ b)
 turn_second a b found next value none then = then ∙ sym (first-append_none a b (ap is_some (sym value) ∙ none))
 

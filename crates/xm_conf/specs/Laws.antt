@@ -1,4 +1,4 @@
--- The law of the rules: what is told of a broken rule, and what it means to meet them all.
+-- The law of the rules: what is reported of a broken rule, and what it means to meet them all.
 use Rattle.std.specs.Prelude.{◌≡◌, ◌↔◌, None}
 use Rattle.xm_conf.specs.Description.{Description}
 use Rattle.xm_conf.specs.Rules.{first_broken}

@@ -275,7 +275,7 @@ is_time time = nat_lt 0 time && nat_le time longest
 unfoldable pub in_frame : ℕ → Slot → Bool
 in_frame frame slot = nat_lt 0 slot.duration && nat_le (slot.start + slot.duration) frame
 
--- a slot that does not last, or ends behind the frame
+-- a slot that does not last, or ends after the frame
 unfoldable pub late_slot : ℕ → ℕ → ℕ → Slot → List Broken
 late_slot p frame n slot = unless (in_frame frame slot) (broken 11 (item.Slot p n) (item.Plan p))
 

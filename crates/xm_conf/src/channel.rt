@@ -5,7 +5,7 @@ use std::marker::Model;
 /// What a channel keeps of its messages.
 #[derive(Clone, Copy, Debug, PartialEq, Eq)]
 pub enum ChanKind {
-    /// The last one, which is valid for `refresh` microseconds, or for ever where that is 0.
+    /// The last one, which is valid for `refresh` microseconds, or forever where that is 0.
     Sampling { refresh: u32 },
     /// As many as `most`, until each is taken.
     Queuing { most: u8 },

@@ -41,7 +41,7 @@ pub length-sealed : (fields : List ℕ) → length (sealed_text fields) ≡ 26 +
 unfolding sealed_text
 length-sealed fields = omega (arith, length-append (front_text fields) (md5 (front_text fields)), length-md5 (front_text fields), length-front fields)
 
--- a container tells its length, whatever stands behind it
+-- a container tells its length, whatever stands after it
 sealed_told : (fields rest : List ℕ) → 26 + length fields < 2 ^ 32 → told (sealed_text fields ++ rest) ≡ Ok (26 + length fields)
 unfolding sealed_text front_text
 sealed_told fields rest below =
@@ -53,7 +53,7 @@ sealed_told fields rest below =
 same_value : {A F : Type 0} (x y : A) → (let done : Result A F = Ok x in done ≡ Ok y) → x ≡ y
 same_value x y e = cc
 
--- no container is a proper front of another
+-- no container is a proper prefix of another
 pub none_goes_on : ContainersArePrefixFree
 unfolding box_text
 none_goes_on one other rest below is =
@@ -67,7 +67,7 @@ none_goes_on one other rest below is =
     let same : 26 + length b ≡ 26 + length a = same_value (26 + length b) (26 + length a) (sym told_b ∙ told_a) in
     nil_from_length rest (omega (arith, same, size_a, size_b, long))
 
--- bytes behind their length are read
+-- bytes after their length are read
 sized_again : (place : Place) (bytes rest : List ℕ) → length bytes < 2 ^ 32 → ahead place ≡ sized_text bytes ++ rest
     → (count : Reads (number_at w32 place) (length bytes) (bytes ++ rest)) × Reads (bytes_at (length bytes) count.after) bytes rest
 unfolding sized_text
@@ -165,7 +165,7 @@ fields_again system front is read short stands =
     let ended : (left e.after == 0) ≡ true = (Decides-eqb (left e.after) 0).1 none in
     rw (c.0.is, c.1.is, read, n.is, e.is, ended) refl
 
--- what stands before the digest, behind name, version and length
+-- what stands before the digest, after name, version and length
 front_fields : (fields : List ℕ) → drop 10 (front_text fields) ≡ fields
 unfolding front_text
 front_fields fields = drop_at (lead_text (26 + length fields)) fields 10 refl

@@ -32,7 +32,7 @@ fault_of told_fault = Err told_fault
 fault_moves : {A B : Type 0} (one other : BoxFault) → fault_of {A = A} one ≡ fault_of other → fault_of {A = B} one ≡ fault_of other
 fault_moves one other e = ap (λ t. Err t) cc
 
--- a reading that tells no digests
+-- a reading that reports no digests
 abbrev IsPlain : {A : Type 0} → Result A BoxFault → Type 0
 IsPlain read = (s f : List ℕ) → read ≢ Err (fault.Digest s f)
 
@@ -40,17 +40,17 @@ IsPlain read = (s f : List ℕ) → read ≢ Err (fault.Digest s f)
 plain_ok : {A : Type 0} (value : A) → (let done : Result A BoxFault = Ok value in IsPlain done)
 plain_ok value s f e = absurd cc
 
--- steps that tell no digests
+-- steps that reports no digests
 plain_then : {A B : Type 0} (read : Result A BoxFault) (next : A → Result B BoxFault) → IsPlain read → ((value : A) → IsPlain (next value)) → IsPlain (read >>= next)
 plain_then (Ok value) next first more = more value
 plain_then (Err told_fault) next first more = λ s f e. first s f (fault_moves told_fault (fault.Digest s f) e)
 
--- a choice of two that tell no digests
+-- a choice of two that reports no digests
 plain_cond : {A : Type 0} (test : Bool) (one other : Result A BoxFault) → IsPlain one → IsPlain other → IsPlain (cond test one other)
 plain_cond true one other first second = first
 plain_cond false one other first second = second
 
--- a refusal that tells no digests, where there is one
+-- a refusal that reports no digests, where there is one
 plain_some : {X A : Type 0} (refusal : X → BoxFault) (there : Option X) (later : Result A BoxFault) → ((x : X) → IsPlain (fault_of {A = A} (refusal x))) → IsPlain later → IsPlain (unless_some refusal there later)
 plain_some refusal None later first second = second
 plain_some refusal (Some x) later first second = first x
@@ -160,7 +160,7 @@ plain_assigned conf entries =
     (plain_some (λ outside. fault.Outside outside.id outside.address) (first_outside conf.parts entries.images) _ (λ outside s f e. absurd cc)
     (plain_ok (record { conf = conf; images = entries.images }))))
 
--- the fields behind the head tell no digests
+-- the fields after the head reports no digests
 plain_system : (front : List ℕ) → IsPlain (system_in front)
 unfolding system_in
 plain_system front = plain_then (container_fields front) (λ fields. assigned fields.0 fields.1) (plain_fields front) (λ fields. plain_assigned fields.0 fields.1)
@@ -173,7 +173,7 @@ told_apart xs ys differ = at (bytes_eq xs ys) refl
     at true same = absurd (differ ((bytes_eq-Decides xs ys).0 same))
     at false other = other
 
--- the first step tells the digests where they differ
+-- the first step reports the digests where they differ
 signed_tells : (bytes s f : List ℕ) → (signed bytes ≡ Err (fault.Digest s f)) ↔ IsForged bytes s f
 unfolding signed
 signed_tells bytes s f = (at (before bytes) refl, back)
@@ -213,7 +213,7 @@ tells_signed bytes told_fault is s f = (
   λ forged. fault_moves told_fault (fault.Digest s f) (sym is ∙ (signed_tells bytes s f).1 forged),
 )
 
--- what gives a reading that tells no digests tells none
+-- what gives a reading that reports no digests tells none
 given_plain : {X Y : Type 0} (view : X → Y) (result : Result X BoxFault) (read : Result Y BoxFault) → IsPlain read → Gives view result read → IsPlain result
 given_plain view (Ok value) read plain given = λ s f e. absurd cc
 given_plain view (Err told_fault) read plain given = λ s f e. plain s f (subst (λ (t : BoxFault). Fails t read) (fault_is told_fault (fault.Digest s f) e) given)

@@ -59,7 +59,7 @@ listed_takes w limit wide test place n after each e =
     let P : ℕ × Place → Type 0 = λ x. Takes place (to_be_bytes w x.0) x.1 × (x.0 < limit) × (test x.0 ≡ true) in
     subst P p.is (t.0, t.1, p.true)
 
--- what is read where a text stands: the value, and a place with the bytes behind the text
+-- what is read where a text stands: the value, and a place with the bytes after the text
 pub record Reads {A : Type 0} (read : Result (A × Place) BoxFault) (value : A) (rest : List ℕ) : Type 0 where
   pub after : Place
   pub is : read ≡ Ok (value, after)

@@ -34,7 +34,7 @@ fails_on (fault.Missing id) part whole so e = so _ e
 fails_on (fault.Extra id) part whole so e = so _ e
 fails_on (fault.Outside id address) part whole so e = so _ e
 
--- an image more is at the end of the front
+-- an image more is at the end of the prefix
 regroup : (ids : List ℕ) (images : List Image) (entry : Given) (read : Result (Entries × Place) BoxFault)
     → with_front ids images (read >>= λ later. Ok (with_entry entry later.0, later.1)) ≡ with_front (ids ++ entry.id ∷ []) (images ++ entry.xef ∷ []) read
 regroup ids images entry (Ok later) =

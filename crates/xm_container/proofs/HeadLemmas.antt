@@ -41,7 +41,7 @@ version_takes place after each e =
     let same : s.value.0 ≡ 1 = (Decides-eqb s.value.0 1).0 p.true in
     subst (λ (place' : Place). Takes place (to_be_bytes w16 1) place') p.is (subst (λ (n : ℕ). Takes place (to_be_bytes w16 n) s.value.1) same t.0)
 
--- the length that is told stands behind name and version
+-- the length that is told stands after name and version
 pub told_takes : (bytes : List ℕ) (size : ℕ) → AreBytes bytes → told bytes ≡ Ok size → (bytes ≡ lead_text size ++ drop 10 bytes) × (size < 2 ^ 32)
 unfolding told
 told_takes bytes size each e =
@@ -58,7 +58,7 @@ told_takes bytes size each e =
     let behind : drop 10 bytes ≡ ahead n.value.1 = ap (drop 10) parts ∙ drop_at (lead_text size) (ahead n.value.1) 10 refl in
     (parts ∙ ap (λ rest. lead_text size ++ rest) (sym behind), omega (arith, third.1, is))
 
--- a length that stands behind name and version is told
+-- a length that stands after name and version is told
 pub told_again : (size : ℕ) (rest : List ℕ) → size < 2 ^ 32 → told (lead_text size ++ rest) ≡ Ok size
 unfolding told magic_at version_at
 told_again size rest below =

@@ -21,7 +21,7 @@ unpacked_long bytes system e =
     let s = stepped (signed bytes) system_in system e in
     omega (arith, (signed_takes bytes s.value s.is).count)
 
--- an image, and those behind it
+-- an image, and those after it
 image_first : (images : List Image) (id : ℕ) (image : Image) → slice_get images id ≡ Some image → drop id images ≡ image ∷ drop (id + 1) images
 image_first images id image some =
     let below = slice_get_within images id image some in
@@ -58,6 +58,6 @@ spelled_line id entry image bytes is is_entry =
     ∙ ap (λ digest. file_line id (length bytes) image.entry digest) (digest_at_end bytes image is).1
     ∙ ap (λ b. file_line id (length b) image.entry (md5 (before_text image))) is
 
--- four pieces, one behind the other
+-- four pieces, one after the other
 pub four_pieces : (a b c d : List ℕ) → ((a ++ b) ++ c) ++ d ≡ a ++ (b ++ (c ++ d))
 four_pieces a b c d = simp append_assoc

@@ -27,7 +27,7 @@ least_here test end n r below passes so_far =
     let one : least_where test n (end - n) ≡ Some n = rw (more, passes) refl in
     sym one ∙ so_far
 
--- behind the last number there is none
+-- after the last number there is none
 pub least_done : (test : ℕ → Bool) (end n : ℕ) (r : Option ℕ) → end ≤ n → least_where test n (end - n) ≡ r → None ≡ r
 least_done test end n r past so_far =
     let none : end - n ≡ 0 = omega arith in

@@ -36,14 +36,14 @@ image_there images parts id none below e =
     let not_has : has_id (partition_numbers images) id ≡ false = none_has images id e in
     let wrong : ⊥ = cc in wrong
 
--- an image, and those behind it
+-- an image, and those after it
 order_on : (images : List Given) (parts id : ℕ) (image : Image) → id < parts → image_of images id ≡ Some image
     → in_order images id (parts - id) ≡ image ∷ in_order images (id + 1) (parts - (id + 1))
 order_on images parts id image below some =
     let more : parts - id ≡ suc (parts - (id + 1)) = omega arith in
     rw (more, some) refl
 
--- behind the last partition there is none
+-- after the last partition there is none
 order_done : (images : List Given) (parts id : ℕ) → parts ≤ id → in_order images id (parts - id) ≡ []
 order_done images parts id past =
     let none : parts - id ≡ 0 = omega arith in
@@ -76,7 +76,7 @@ outside_here parts images id part image address r below is some found so_far =
     let later = first_outside_from (id + 1) (drop (id + 1) parts) (in_order images (id + 1) (length parts - (id + 1))) in
     sym (rest_on parts images id part image below is some ∙ ap (λ o. outside_or id o later) found) ∙ so_far
 
--- behind the last partition nothing is outside
+-- after the last partition nothing is outside
 pub outside_done : (parts : List Part) (images : List Given) (id : ℕ) (r : Option Outside) → length parts ≤ id
     → first_outside_from id (drop id parts) (in_order images id (length parts - id)) ≡ r → None ≡ r
 outside_done parts images id r past so_far =
@@ -103,7 +103,7 @@ pub loads_on : (images : List Given) (parts id : ℕ) (image : Image) (whole : L
 loads_on images parts id image whole below some loads so_far rest =
     so_far (subst (λ (list : List Image). All IsImage list) (sym (order_on images parts id image below some)) (All-cons IsImage image (in_order images (id + 1) (parts - (id + 1))) loads rest))
 
--- behind the last partition nothing is left to load
+-- after the last partition nothing is left to load
 pub loads_done : (images : List Given) (parts id : ℕ) (whole : List Image) → parts ≤ id → (All IsImage (in_order images id (parts - id)) → All IsImage whole) → All IsImage whole
 loads_done images parts id whole past so_far = so_far (subst (λ (list : List Image). All IsImage list) (sym (order_done images parts id past)) (All-nil IsImage))
 

@@ -43,11 +43,11 @@ use Rattle.xm_container.specs.declared.image.Image.{Image as Given}
 use Rattle.xm_container.specs.declared.fault.BoxFault.{BoxFault}
 use Rattle.xm_container.specs.declared.fault.BoxFault.TheVariants as fault
 
--- the bytes of a front are bytes
+-- the bytes of a prefix are bytes
 bytes_front : (xs ys : List ℕ) → AreBytes (xs ++ ys) → AreBytes xs
 bytes_front xs ys all = subst (λ (x : List ℕ). AreBytes x) (take_at xs ys (length xs) refl) (AreBytes-take (length xs) (xs ++ ys) all)
 
--- bytes behind their length that are read stand there
+-- bytes after their length that are read stand there
 sized_takes : (place : Place) (count : ℕ × Place) (bytes : List ℕ × Place) → AreBytes (ahead place) → number_at w32 place ≡ Ok count → bytes_at count.0 count.1 ≡ Ok bytes
     → Takes place (sized_text bytes.0) bytes.1 × AreBytes bytes.0
 unfolding sized_text
@@ -115,7 +115,7 @@ entry_takes floor place entry after each e =
     subst Q {x = made} (ok_is made (entry, after) b.led)
     (record { stands = at_image.0; loads = at_image.1; byte = l.1; above = (Decides-nat_le floor a.value.0).0 l.2 })
 
--- images behind their numbers
+-- images after their numbers
 abbrev given_text : List ℕ → List Image → List ℕ
 given_text [] images = []
 given_text (id ∷ ids) [] = []
@@ -224,7 +224,7 @@ took : {X : Type 0} (refusal : X → BoxFault) (found : Option X) (later : Resul
 took refusal None later system e = record { none = refl; led = e }
 took refusal (Some x) later system e = absurd cc
 
--- images behind the numbers of all partitions
+-- images after the numbers of all partitions
 given_numbers : (images : List Image) (id : ℕ) → given_text (numbers id (length images)) images ≡ entries_text id images
 given_numbers [] id = refl
 given_numbers (image ∷ images) id = ap (λ rest. image_entry_text id image ++ rest) (given_numbers images (id + 1))

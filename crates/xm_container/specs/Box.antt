@@ -8,7 +8,7 @@ use Rattle.xef_images.specs.Image.{Image}
 use Rattle.xef_images.specs.Spelling.{xef_text}
 use Rattle.loaded_system.specs.System.{System, IsSystem}
 
--- bytes behind their length
+-- bytes after their length
 unfoldable pub sized_text : List ℕ → List ℕ
 sized_text bytes = to_be_bytes w32 (length bytes) ++ bytes
 
@@ -25,7 +25,7 @@ entries_text id (image ∷ images) = image_entry_text id image ++ entries_text (
 unfoldable pub fields_text : System → List ℕ
 fields_text system = sized_text (xmc system.conf) ++ length system.images ∷ entries_text 0 system.images
 
--- the length of a container with these fields: 10 bytes before them and 16 behind them
+-- the length of a container with these fields: 10 bytes before them and 16 after them
 abbrev pub box_length : List ℕ → ℕ
 box_length fields = 26 + length fields
 

@@ -29,7 +29,7 @@ abbrev pub IsRead : {X Y : Type 0} → (X → Y) → Result X BoxFault → Resul
 IsRead view (Ok value) read = read ≡ Ok (view value)
 IsRead view (Err fault) read = read ≡ Err fault
 
--- the same for a cursor, which stands behind what was read
+-- the same for a cursor, which stands after what was read
 abbrev pub IsReadAt : {X Y : Type 0} → (X → Y) → Result X BoxFault → Place → Result (Y × Place) BoxFault → Type 0
 IsReadAt view (Ok value) place read = read ≡ Ok (view value, place)
 IsReadAt view (Err fault) place read = read ≡ Err fault

@@ -6,7 +6,7 @@ use Rattle.loaded_system.specs.System.{System, IsSystem}
 use Rattle.xm_container.specs.Box.{box_text, IsSpelledContainer}
 use Rattle.xm_container.specs.Reading.{unpacked}
 
--- no container is a proper front of another: what stands behind one that is a front is nothing
+-- no container is a proper prefix of another: what stands after one that is a prefix is nothing
 abbrev pub ContainersArePrefixFree : Type 0
 ContainersArePrefixFree = (one other : System) (rest : List ℕ) → length (box_text other) < 2 ^ 32 → box_text other ≡ box_text one ++ rest → rest ≡ []
 

@@ -25,12 +25,12 @@ use Rattle.xm_container.specs.declared.fault.BoxFault.TheVariants as fault
 abbrev pub unless : {A : Type 0} → Bool → BoxFault → A → Result A BoxFault
 unless test fault value = if test then Ok value else Err fault
 
--- the next bytes, so many, and the place behind them; a field that passes the end is Short, at its beginning
+-- the next bytes, so many, and the place after them; a field that passes the end is Short, at its beginning
 abbrev pub bytes_at : ℕ → Place → Result (List ℕ × Place) BoxFault
 bytes_at count place =
     if nat_lt (left place) count then Err (fault.Short place.at) else Ok (next count place, past count place)
 
--- the next field as a number, and the place behind it
+-- the next field as a number, and the place after it
 abbrev pub number_at : Width → Place → Result (ℕ × Place) BoxFault
 number_at width place = bytes_at (byte_len width) place >>= λ field. Ok (from_be_bytes width field.0, field.1)
 
@@ -38,15 +38,15 @@ number_at width place = bytes_at (byte_len width) place >>= λ field. Ok (from_b
 abbrev pub listed_at : Width → (ℕ → Bool) → Place → Result (ℕ × Place) BoxFault
 listed_at width test place = number_at width place >>= λ field. unless (test field.0) (fault.Field place.at) field
 
--- the name of the format, and the place behind it
+-- the name of the format, and the place after it
 unfoldable pub magic_at : Place → Result Place BoxFault
 magic_at place = bytes_at 4 place >>= λ field. unless (bytes_eq field.0 (codes "XMPK")) fault.Magic field.1
 
--- the version, and the place behind it
+-- the version, and the place after it
 unfoldable pub version_at : Place → Result Place BoxFault
 version_at place = number_at w16 place >>= λ field. unless (field.0 == 1) (fault.Version field.0) field.1
 
--- the length that the head tells
+-- the length that stands in the head
 unfoldable pub told : List ℕ → Result ℕ BoxFault
 told bytes = do
   name ← magic_at (cursor_start bytes)
@@ -54,7 +54,7 @@ told bytes = do
   length ← number_at w32 version
   Ok length.0
 
--- how many bytes stand before the digest, in a file of so many bytes of which so many are told
+-- how many bytes stand before the digest, in a file of so many bytes whose head says so many
 unfoldable pub before_of : ℕ → ℕ → Result ℕ BoxFault
 before_of size told =
     if nat_lt size told then Err (fault.Short size)
@@ -66,7 +66,7 @@ before_of size told =
 unfoldable pub before : List ℕ → Result ℕ BoxFault
 before bytes = told bytes >>= λ length_told. before_of (length bytes) length_told
 
--- the digest that is stored behind so many bytes
+-- the digest that is stored after so many bytes
 abbrev pub stored : ℕ → List ℕ → List ℕ
 stored count bytes = drop count bytes
 
@@ -110,7 +110,7 @@ abbrev pub as_image : ℕ → Result Image XefFault → Result Image BoxFault
 as_image id (Ok image) = Ok image
 as_image id (Err told_fault) = Err (image_fault id told_fault)
 
--- the length of the configuration, behind the 10 bytes of name, version and length. A file so short that its head and its digest overlap never has the digest of its other bytes, so what is said here of fewer than 10 bytes is reported for no file
+-- the length of the configuration, after the 10 bytes of name, version and length. A file so short that its head and its digest overlap never has the digest of its other bytes, so what is said here of fewer than 10 bytes is reported for no file
 unfoldable pub length_at : Place → Result (ℕ × Place) BoxFault
 length_at place = number_at w32 (past 10 place)
 
@@ -153,13 +153,13 @@ image_entries_at (suc count) floor place = do
   later ← image_entries_at count (entry.0.id + 1) entry.1
   Ok (with_entry entry.0 later.0, later.1)
 
--- the images behind their number
+-- the images after their number
 unfoldable pub image_table_at : Place → Result (Entries × Place) BoxFault
 image_table_at place = do
   count ← number_at w8 place
   image_entries_at count.0 0 count.1
 
--- the configuration and the images of the bytes before the digest, and nothing behind them
+-- the configuration and the images of the bytes before the digest, and nothing after them
 unfoldable pub container_fields : List ℕ → Result (Conf × Entries) BoxFault
 container_fields bytes = do
   conf ← conf_at (cursor_start bytes)

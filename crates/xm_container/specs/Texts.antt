@@ -1,4 +1,4 @@
--- What is printed: the faults, and the lines that tell a container.
+-- What is printed: the faults, and the lines that describe a container.
 use Rattle.std.specs.Prelude.{ℕ, ◌+◌, ◌-◌, List, [], ◌∷◌, ◌++◌, length, drop, codes, decimal}
 use Rattle.hex.specs.Hex.{encode_lower}
 use Rattle.md5.specs.Md5.{md5}
@@ -58,7 +58,7 @@ abbrev pub image_lines : ℕ → List Image → List ℕ
 image_lines id [] = []
 image_lines id (image ∷ images) = image_line id image ++ image_lines (id + 1) images
 
--- the lines that tell a container and its system
+-- the lines that describe a container and its system
 unfoldable pub box_lines : List ℕ → System → List ℕ
 box_lines bytes system =
     container_line (length bytes) (drop (length bytes - 16) bytes)

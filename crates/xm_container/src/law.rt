@@ -4,7 +4,7 @@ ghost use Rattle.xm_container.specs.Laws.{ContainersArePrefixFree, PackedIsUnpac
 
 use xm_conf::broken_unless_fits;
 
-/// No container is a proper front of another.
+/// No container is a proper prefix of another.
 pub fn none_goes_on()
     ensures law { ContainersArePrefixFree }
 {}

@@ -1,4 +1,4 @@
-//! The lines that tell a container.
+//! The lines that describe a container.
 
 ghost use Rattle.std.specs.Prelude.{◌≡◌, ◌++◌, ◌-◌, ◌≤◌, IfOk, OnOk, Ok, decimal, drop, length};
 ghost use Rattle.hex.specs.Hex.{encode_lower};
@@ -14,7 +14,7 @@ use xef_images::{Xef, build_xef};
 use xm_base::Memory;
 use xm_conf::RawConf;
 
-/// The lines that tell a container and the system that it is: its length and digest, its configuration, and each
+/// The lines that describe a container and the system that it is: its length and digest, its configuration, and each
 /// image.
 #[tactic(auto, unfolding(crate::specs::Texts::box_lines))]
 pub fn list_lines(alloc: Global, bytes: &[u8], system: &System) -> Result<Vec<u8>, Memory>
@@ -153,7 +153,7 @@ fn put_file(
     Ok(())
 }
 
-/// Writes an address with eight hexadecimal digits, behind its name.
+/// Writes an address with eight hexadecimal digits, after its name.
 fn put_address(lines: &mut Vec<u8>, name: &[u8], address: u32) -> Result<(), Memory>
     ensures { OnOk result (lines.new.items ≡ lines.old.items ++ (name.now ++ address_text address)) }
 {
@@ -162,7 +162,7 @@ fn put_address(lines: &mut Vec<u8>, name: &[u8], address: u32) -> Result<(), Mem
     Ok(())
 }
 
-/// Writes a number with decimal digits, behind its name.
+/// Writes a number with decimal digits, after its name.
 fn put_number(alloc: Global, lines: &mut Vec<u8>, name: &[u8], number: usize) -> Result<(), Memory>
     ensures { OnOk result (lines.new.items ≡ lines.old.items ++ (name.now ++ decimal number)) }
 {
@@ -172,7 +172,7 @@ fn put_number(alloc: Global, lines: &mut Vec<u8>, name: &[u8], number: usize) ->
     Ok(())
 }
 
-/// Writes a digest with 32 hexadecimal digits, behind its name.
+/// Writes a digest with 32 hexadecimal digits, after its name.
 fn put_digest(lines: &mut Vec<u8>, name: &[u8], digest: &[u8]) -> Result<(), Memory>
     requires { length digest.now ≡ 16 }
     ensures { OnOk result (lines.new.items ≡ lines.old.items ++ (name.now ++ encode_lower digest.now)) }

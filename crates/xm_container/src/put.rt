@@ -1,4 +1,4 @@
-//! Fields that are put behind bytes.
+//! Fields that are put after bytes.
 
 ghost use Rattle.std.specs.Prelude.{◌≡◌, ◌++◌, OnOk, length};
 ghost use Rattle.std.specs.Int.{to_be_bytes, w16, w32};
@@ -27,7 +27,7 @@ pub(crate) fn put_word(out: &mut Vec<u8>, number: u32) -> Result<(), Memory>
     Ok(())
 }
 
-/// Puts bytes behind their length. A file has far fewer bytes than a word can tell.
+/// Puts bytes after their length. A file has far fewer bytes than a word can tell.
 #[tactic(auto, unfolding(crate::specs::Box::sized_text))]
 pub(crate) fn put_sized(out: &mut Vec<u8>, bytes: &[u8]) -> Result<(), Memory>
     ensures { OnOk result (out.new.items ≡ out.old.items ++ sized_text bytes.now) }

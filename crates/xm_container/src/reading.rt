@@ -50,7 +50,7 @@ fn version(cursor: &mut Cursor<'_>) -> Result<(), BoxFault>
     Ok(())
 }
 
-/// The length that the head tells.
+/// The length that stands in the head.
 #[tactic(auto, unfolding(crate::specs::Reading::told))]
 fn told(bytes: &[u8]) -> Result<u32, BoxFault>
     ensures { IsRead (λ length. length) result (told bytes.now) }
@@ -61,7 +61,7 @@ fn told(bytes: &[u8]) -> Result<u32, BoxFault>
     Ok(cursor.u32()?)
 }
 
-/// How many bytes stand before the digest, in a file of so many bytes of which so many are told.
+/// How many bytes stand before the digest, in a file of so many bytes whose head says so many.
 #[tactic(auto, unfolding(crate::specs::Reading::before_of))]
 fn before_of(size: usize, told: usize) -> Result<usize, BoxFault>
     ensures value { result ≡ before_of size told }
@@ -176,7 +176,7 @@ fn xef_of(alloc: Global, id: u8, bytes: &[u8]) -> Result<Xef, BoxFault>
     }
 }
 
-/// The length of the configuration, behind the bytes of name, version and length.
+/// The length of the configuration, after the bytes of name, version and length.
 #[tactic(auto, unfolding(crate::specs::Reading::length_at))]
 fn conf_length(cursor: &mut Cursor<'_>) -> Result<u32, BoxFault>
     requires { cursor.old.at ≡ 0 }
@@ -249,7 +249,7 @@ fn entries(alloc: Global, cursor: &mut Cursor<'_>, count: u8) -> Result<Entries,
     Ok(Entries { ids, images })
 }
 
-/// The images behind their number.
+/// The images after their number.
 #[tactic(auto, unfolding(crate::specs::Reading::image_table_at))]
 fn table(alloc: Global, cursor: &mut Cursor<'_>) -> Result<Entries, BoxFault>
     ensures exact { GivesAt (λ entries. entries) result cursor.new (image_table_at cursor.old) }

@@ -24,7 +24,7 @@ use xef_images::{Xef, build_xef};
 use xm_base::{FILE_BYTES, Memory};
 use xm_conf::{Conf, Part};
 
-/// The bytes of a container before and behind its fields.
+/// The bytes of a container before and after its fields.
 const FRAME: usize = 26;
 
 /// The numbers of images.
@@ -81,7 +81,7 @@ fn first_outside(parts: &[Part], images: &[Image]) -> Option<Outside>
     None
 }
 
-/// Puts an image behind the number of its partition.
+/// Puts an image after the number of its partition.
 #[tactic(auto, unfolding(crate::specs::Box::image_entry_text))]
 fn put_entry(alloc: Global, out: &mut Vec<u8>, id: u8, xef: &Xef) -> Result<(), Memory>
     ensures { OnOk result (out.new.items ≡ out.old.items ++ image_entry_text id xef.now) }

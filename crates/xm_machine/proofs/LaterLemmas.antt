@@ -47,7 +47,7 @@ inside_frame conf clock now begun before =
     let goes : (now + 1 - clock.frame_start == frame_of conf clock.plan) ≡ false = grind (arith, nat_tests) in
     ap (λ (b : Bool). if b then frame_from (next_plan clock) (now + 1) else clock) goes
 
--- the clocks behind a tick
+-- the clocks after a tick
 step_clock : (g : Machine) → g.halted ≡ false → ends_in g ≡ false → (step g).clock ≡ ended g.system.conf g.clock g.time
 unfolding step after happened happened_by ends_in next_clock
 step_clock g runs goes = ap (λ (b : Bool). (step_unless b g).clock) runs ∙ clock_goes g.system.conf g.clock g.time (machine.act_of (local g)) goes
@@ -105,7 +105,7 @@ found_is m base (slot ∷ rest) found is = at (covers m slot) refl is (found_is 
         let place : found.0 - base ≡ suc (found.0 - (base + 1)) = omega (arith, behind.from) in
         record { from = omega (arith, behind.from); there = ap (slice_get (slot ∷ rest)) place ∙ behind.there; runs = behind.runs }
 
--- what is told of a tick, by what is found
+-- what is reported of a tick, by what is found
 here_by : (conf : Conf) (clock : CyclicClock) (now : ℕ) (found : Option (ℕ × Slot)) → slot_at conf clock now ≡ found → here conf clock now ≡ on (here_in (moment clock now)) found
 unfolding here
 here_by conf clock now found is = ap (on (here_in (moment clock now))) is
@@ -118,7 +118,7 @@ found_there conf clock now found is = found_is (moment clock now) 0 (slots_of co
 not_first : (m n : ℕ) (s : Slot) → covers m s ≡ true → m < n → (s.start == n) ≡ false
 not_first m n s runs less = let start = (runs_now m s runs).0 in grind (arith, nat_tests)
 
--- what is told of the same slot or gap so many ticks later
+-- what is reported of the same slot or gap so many ticks later
 record IsLater (conf : Conf) (clock : CyclicClock) (now ticks : ℕ) (slot : Option Here) : Type 0 where
   pub told : on past_first_tick slot ≡ here conf clock (now + ticks)
   pub covers : IfSome (on past_first_tick slot) (IsHere (moment clock (now + ticks)) (slots_of conf clock.plan))

@@ -24,7 +24,7 @@ use Rattle.xm_machine.specs.Steps.{Tells}
 use Rattle.xm_machine.specs.declared.alone_fault.AloneFault.{AloneFault}
 use Rattle.xm_machine.proofs.HeardLemmas.{alone_heard}
 
--- its lines went out, or a front of them
+-- its lines went out, or a prefix of them
 told_so : (t : Result ℕ WriteFault) (p : ℕ) (cue : Cue) (old new : Machine) (had got : Option (List ℕ)) → IsLone p cue old new
     → Tells t (alone_step_lines (view_of old.system p) (part_in old p) cue) had got → StepsAlone (told_alone t) p cue old new had got
 told_so (Ok count) p cue old new had got lone tells = (lone, tells.1)

@@ -58,7 +58,7 @@ all_quiet count g quiet last k below =
     the_last : count ≤ k + 1 → k ≡ count - 1
     the_last from = omega (arith, from, below)
 
--- a tick behind others
+-- a tick after others
 run_from : (g mid : Machine) (done k : ℕ) → mid ≡ run g done → done ≤ k → ends_in (run g k) ≡ ends_in (run mid (k - done))
 run_from g mid done k is from =
     let rest : k ≡ done + (k - done) = omega (arith, from) in

@@ -24,7 +24,7 @@ use Rattle.xm_machine.specs.Steps.{Tells}
 use Rattle.xm_machine.specs.declared.alone_fault.AloneFault.{AloneFault}
 use Rattle.xm_machine.specs.declared.alone_fault.AloneFault.TheVariants as fault
 
--- what a tick without the others answers: its lines went out; or it was done, and a front of its lines went out; or the partition cannot
+-- what a tick without the others answers: its lines went out; or it was done, and a prefix of its lines went out; or the partition cannot
 -- take the cue
 abbrev pub StepsAlone : {T : Type 0} → Result T AloneFault → ℕ → Cue → Machine → Machine → Option (List ℕ) → Option (List ℕ) → Type 0
 StepsAlone (Ok done) p cue old new had got =
@@ -55,7 +55,7 @@ IsSaidAlone (Ok done) p cue old before after = IsHeard (said_alone old p cue) be
 IsSaidAlone (Err fault.Write) p cue old before after = IsHeard (said_alone old p cue) before after
 IsSaidAlone (Err fault.Cue) p cue old before after = after ≡ before
 
--- what is told of a tick that was done: bytes for the console that its note tells, and then these lines
+-- what is reported of a tick that was done: bytes for the console that its note tells, and then these lines
 pub record IsToldDone (n p : ℕ) (note : Note) (g : Machine) (lines : List ReportLine) (result : Result (Unit {0}) AloneFault) (had got : Option (List ℕ)) (before now : ℕ) (old new : BoardView) : Type 0 where
   pub ends : Result ℕ WriteFault
   pub is : result ≡ told_alone ends

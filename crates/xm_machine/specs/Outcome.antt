@@ -13,7 +13,7 @@ abbrev pub HasWriteCause : {T : Type 0} → Result T WriteFault → ℕ → ℕ 
 HasWriteCause (Ok _) before now = now ≡ before
 HasWriteCause (Err _) before now = Rose before now
 
--- a tick was done whole, and its lines went out, or a front of them
+-- a tick was done whole, and its lines went out, or a prefix of them
 pub record IsTick {T : Type 0} (result : Result T WriteFault) (old new : Machine) (had got : Option (List ℕ)) : Type 0 where
   pub state : new ≡ step old
   pub report : Writes result had (texts (step_lines old)) got

@@ -239,7 +239,7 @@ impl Machine {
         tell_alone(&self.sys, n, p, done, &self.lines, out, board)
     }
 
-    /// Ticks of partition `p` without the others, at least one and at most so many, in each of which it is told nothing but whether a slot of
+    /// Ticks of partition `p` without the others, at least one and at most so many, in each of which it is reported nothing but whether a slot of
     /// its own runs. Only the last may print and say something; it ends as that of `step_alone`.
     pub fn span_alone<O: Sink>(
         &mut self,
@@ -300,7 +300,7 @@ impl Machine {
         reset(&mut self.sys, p, mode, status);
     }
 
-    /// Resets all partitions and the hypervisor: the hardware clock and the plans begin anew, and the channels are empty.
+    /// Resets all partitions and the hypervisor: the hardware clock and the plans begin again, and the channels are empty.
     pub fn reset_all(&mut self, mode: Mode)
         requires log { All (λ part. part.health.next ≤ self.old.state.ticks) self.old.state.parts }
         ensures value { self.new.state ≡ record (evented (AllReset mode) self.old.state) { clock = started; time = 0 } }

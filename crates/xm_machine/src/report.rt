@@ -146,7 +146,7 @@ fn console_of(sys: &Sys, p: PartId) -> Option<u8>
     conf.parts[usize::from(p)].console
 }
 
-// Puts out lines, and tells how many.
+// Puts out lines, and answers how many.
 fn put_all<O: Sink>(out: &mut O, lines: &[Line<'_>]) -> Result<u64, WriteFault>
     requires short { All IsShort (map line_value lines.now) }
     ensures told { Tells result (map line_value lines.now) (O.got out.old) (O.got out.new) }
@@ -161,7 +161,7 @@ fn put_all<O: Sink>(out: &mut O, lines: &[Line<'_>]) -> Result<u64, WriteFault>
     Ok(count)
 }
 
-/// Puts out how each partition stands at the end, and tells how many lines that was.
+/// Puts out how each partition stands at the end, and answers how many lines that was.
 pub(crate) fn end_parts<O: Sink>(sys: &Sys, out: &mut O) -> Result<u64, WriteFault>
     ensures told { Tells result (all_of (λ p ps. end_line p ps ∷ []) sys.now.machine.parts) (O.got out.old) (O.got out.new) }
     ensures few { IfOk result (λ told. told ≤ 16) }
@@ -175,7 +175,7 @@ pub(crate) fn end_parts<O: Sink>(sys: &Sys, out: &mut O) -> Result<u64, WriteFau
     Ok(u64::from(p))
 }
 
-// The line that tells how a partition stands at the end.
+// The line that answers how a partition stands at the end.
 fn end_line(sys: &Sys, p: PartId) -> Line<'static>
     requires { p < length sys.now.machine.parts }
     ensures { line_value result ≡ end_line p (part_at p sys.now.machine) }

@@ -15,7 +15,7 @@ abbrev pub ReadsFile : Option Files → List ℕ → ℕ → List ℕ → Type 0
 ReadsFile None name most bytes = Unit {0}
 ReadsFile (Some files) name most bytes = on (take (most + 1)) (get files name) ≡ Some bytes
 
--- the store tells its files, and none has this name
+-- the store's files are known, and none has this name
 abbrev pub IsAbsent : Option Files → List ℕ → Type 0
 IsAbsent None name = ⊥
 IsAbsent (Some files) name = get files name ≡ None

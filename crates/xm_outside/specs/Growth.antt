@@ -1,10 +1,10 @@
--- What a device that takes bytes has got, where it tells it, and how that grows.
+-- What a device that takes bytes has got, where that is known, and how that grows.
 use Rattle.std.specs.Prelude.{◌≡◌, ℕ, ◌+◌, ◌<◌, ◌≤◌, List, [], ◌++◌, length, take, Option, Some, None, Result, Ok, Err, refl}
 use Rattle.std.proofs.Common.{sym, ◌∙◌, ap, arith, append_assoc, length-append}
 use Rattle.std.proofs.Math.Seq.{take-append-add}
 use Rattle.std.proofs.lemmas.List.{append-nil, take-append-le}
 
--- grown by bytes at its end; a device that tells nothing goes on telling nothing
+-- grown by bytes at its end; a device that reports nothing goes on telling nothing
 abbrev pub grown : Option (List ℕ) → List ℕ → Option (List ℕ)
 grown None bytes = None
 grown (Some got) bytes = Some (got ++ bytes)
@@ -14,13 +14,13 @@ abbrev pub TakesPiece : {E : Type 0} → Result ℕ E → Option (List ℕ) → 
 TakesPiece (Ok count) old piece new = new ≡ grown old (take count piece)
 TakesPiece (Err _) old piece new = new ≡ old
 
--- grown by a front of the bytes, short of the whole
+-- grown by a prefix of the bytes, short of the whole
 pub record GrewByPrefix (old : Option (List ℕ)) (bytes : List ℕ) (new : Option (List ℕ)) : Type 0 where
   pub count : ℕ
   pub short : count < length bytes
   pub grew : new ≡ grown old (take count bytes)
 
--- the writing of a whole text: all of it, and after a fault a front of it that falls short
+-- the writing of a whole text: all of it, and after a fault a prefix of it that falls short
 abbrev pub Writes : {T E : Type 0} → Result T E → Option (List ℕ) → List ℕ → Option (List ℕ) → Type 0
 Writes (Ok _) old bytes new = new ≡ grown old bytes
 Writes (Err _) old bytes new = GrewByPrefix old bytes new
@@ -45,7 +45,7 @@ pub grown_grown : (old : Option (List ℕ)) (a b : List ℕ) → grown (grown ol
 grown_grown None a b = refl
 grown_grown (Some got) a b = ap Some (append_assoc got a b)
 
--- a front of the first text is a front of both
+-- a prefix of the first text is a prefix of both
 pub prefix_first : (old new : Option (List ℕ)) (a b : List ℕ) → GrewByPrefix old a new → GrewByPrefix old (a ++ b) new
 prefix_first old new a b p = record {
   count = p.count;
@@ -53,7 +53,7 @@ prefix_first old new a b p = record {
   grew = (let bound : p.count ≤ length a = omega (arith, p.short) in p.grew ∙ ap (grown old) (sym (take-append-le p.count a b bound)));
 }
 
--- the first text and a front of the second is a front of both
+-- the first text and a prefix of the second is a prefix of both
 pub prefix_second : (old mid new : Option (List ℕ)) (a b : List ℕ) → mid ≡ grown old a → GrewByPrefix mid b new → GrewByPrefix old (a ++ b) new
 prefix_second old mid new a b first p = record {
   count = length a + p.count;

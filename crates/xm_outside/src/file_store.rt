@@ -11,7 +11,7 @@ use std::rt::Files;
 use std::{fs, io};
 
 /// The files of the system, by their paths. A file that is missing can't be read: that is
-/// `StoreFault::Failed`, as is every other refusal of the system but want of memory.
+/// `StoreFault::Failed`, as is every other refusal of the system but being out of memory.
 #[derive(Drop)]
 pub struct FileStore<R> {
     rt: R,

@@ -67,7 +67,7 @@ impl MemSink {
         &self.got
     }
 
-    /// How many calls failed for want of memory alone.
+    /// How many calls failed because memory was out, and for nothing else.
     pub fn starved(&self) -> u64
         ensures { result ≡ self.now.starved }
     {

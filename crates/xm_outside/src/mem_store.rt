@@ -93,7 +93,7 @@ impl MemStore {
         self.fails.contains(&self.calls)
     }
 
-    /// How many writes failed for want of memory alone.
+    /// How many writes failed because memory was out, and for nothing else.
     pub fn starved(&self) -> u64
         ensures { result ≡ self.now.starved }
     {

@@ -8,13 +8,13 @@ use crate::store::Failed;
 
 /// A device that takes bytes, perhaps fewer at a time than it is given.
 pub trait Sink {
-    /// What it has got, where it tells it.
+    /// What it has got, where that is known.
     ghost got: { Self → Option (List ℕ) };
 
     /// How many writes failed; it never falls, and stands still at its last value.
     ghost faults: { Self → ℕ };
 
-    /// Takes a front of the piece, and answers how many bytes: at least one where there are any.
+    /// Takes a prefix of the piece, and answers how many bytes: at least one where there are any.
     /// A device that takes nothing of a piece with bytes has failed.
     fn write(&mut self, piece: &[u8]) -> Result<usize, Failed>
         ensures bound { IfOk result (λ count. count ≤ length piece.now) }
@@ -23,7 +23,7 @@ pub trait Sink {
         ensures cause { HasCause result (faults self.old) (faults self.new) };
 }
 
-/// Writes all of the bytes, a piece at a time. After a fault the sink has got a front of them.
+/// Writes all of the bytes, a piece at a time. After a fault the sink has got a prefix of them.
 pub fn write_all<O: Sink>(out: &mut O, bytes: &[u8]) -> Result<(), Failed>
     ensures got { Writes result (O.got out.old) bytes.now (O.got out.new) }
     ensures cause { HasCause result (O.faults out.old) (O.faults out.new) }

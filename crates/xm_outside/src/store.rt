@@ -23,7 +23,7 @@ pub enum StoreFault {
 
 /// Files by their names.
 pub trait Store {
-    /// The files, where the store tells them.
+    /// The files, where the store knows them.
     ghost files: { Self → Option Files };
 
     /// How many reads failed; it never falls, and stands still at its last value.

@@ -8,7 +8,7 @@ use crate::store::Failed;
 
 /// A device that takes the bytes of a console, all at once. It is used in a box.
 pub trait Uart: Drop {
-    /// What it has got, where it tells it.
+    /// What it has got, where that is known.
     ghost got: { Self → Option (List ℕ) };
 
     /// How many writes failed; it never falls, and stands still at its last value.

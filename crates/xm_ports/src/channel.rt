@@ -85,7 +85,7 @@ impl Channel {
         }
     }
 
-    /// Takes the message that waits longest in a queue, and tells how many bytes it has.
+    /// Takes the message that waits longest in a queue, and answers how many bytes it has.
     #[tactic(auto, unfolding(crate::specs::Channels::first_taken))]
     pub(crate) fn receive(&mut self, into: &mut [u8]) -> Option<usize>
         requires { IfSome (first_message (channel_content self.old)) (λ first. length first ≤ length into.old) }

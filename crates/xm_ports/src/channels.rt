@@ -80,7 +80,7 @@ impl Channels {
         self.channels[usize::from(chan)].first()
     }
 
-    /// Takes the message that waits longest in a queue, copies it to the front of `into`, and tells how many bytes
+    /// Takes the message that waits longest in a queue, copies it to the beginning of `into`, and answers how many bytes
     /// it has; or `None` where none waits.
     pub fn receive(&mut self, chan: u8, into: &mut [u8]) -> Option<usize>
         requires channel { HasQueue chan self.old }

@@ -75,7 +75,7 @@ impl QueuingChannel {
         }
     }
 
-    /// Takes the message that waits longest, and tells how many bytes it has.
+    /// Takes the message that waits longest, and answers how many bytes it has.
     pub(crate) fn receive(&mut self, into: &mut [u8]) -> Option<usize>
         requires { IfSome (slice_get self.old.messages 0) (λ first. length first ≤ length into.old) }
         ensures length { result ≡ option_map length (slice_get self.old.messages 0) }

@@ -51,7 +51,7 @@ impl Room {
     }
 }
 
-/// Copies bytes to the front of others, and tells how many.
+/// Copies bytes to the beginning of others, and answers how many.
 pub(crate) fn copy_to(bytes: &[u8], into: &mut [u8]) -> usize
     requires { length bytes.now ≤ length into.old }
     ensures count { result ≡ length bytes.now }

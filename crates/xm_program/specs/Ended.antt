@@ -6,7 +6,7 @@ use Rattle.file_commands.specs.declared.status.Status.{Status}
 use Rattle.file_commands.specs.declared.status.Status.TheVariants.{Done}
 use Rattle.xm_program.specs.Called.{IsSomeCall}
 
--- the UART of a file before its first write: it tells nothing of what it got, and counts no fault
+-- the UART of a file before its first write: it reports nothing of what it got, and counts no fault
 abbrev pub unwritten : UartView
 unwritten = record { got = None; faults = 0 }
 
@@ -19,7 +19,7 @@ abbrev pub file_board : BoardView
 file_board = record { places = files_below 8; marks = replicate 8 None }
 
 -- the exit status is the code of a status to which some words come over some store, with the board of files, and with a report and an
--- error output that tell nothing but their faults, of which there were none before
+-- error output that report nothing but their faults, of which there were none before
 pub record IsEnded (exit : ℕ) : Type 0 where
   pub status : Status
   pub faults : ℕ

@@ -15,7 +15,7 @@ pub enum Move {
     Suspend,
     /// It was resumed.
     Resume,
-    /// It was reset, and its memory loaded anew.
+    /// It was reset, and its memory loaded again.
     Cold,
     /// It was reset, and its memory kept.
     Warm,

@@ -13,7 +13,7 @@ use xm_outside::{Failed, Sink, write_all};
 #[derive(Clone, Copy, Debug, PartialEq, Eq)]
 pub struct WriteFault;
 
-/// Writes a line whole. After a fault the sink has got a front of it.
+/// Writes a line whole. After a fault the sink has got a prefix of it.
 pub fn put_line<O: Sink>(out: &mut O, line: &Line<'_>) -> Result<(), WriteFault>
     requires { IsShort (line_value line.now) }
     ensures got { Writes result (O.got out.old) (text_of (line_value line.now)) (O.got out.new) }

@@ -32,7 +32,7 @@ module _ {T : Type 0} where
       ap (all_noted rest) (noted_more prior entry) ∙ noted_on (prior ++ entry ∷ []) rest
       ∙ ap (λ all. kept_of (length all) (keep_last RING_ENTRIES all)) (append_assoc prior (entry ∷ []) rest)
 
-  -- the entry at a place behind those that are gone
+  -- the entry at a place after those that are gone
   got_behind : (gone n : ℕ) (xs : List T) → slice_get (drop gone xs) n ≡ slice_get xs (gone + n)
   got_behind zero n xs = let e : 0 + n ≡ n = omega arith in rw e refl
   got_behind (suc gone) n [] = refl

@@ -16,11 +16,11 @@ use Rattle.xm_words.specs.Words.{PartFile, are_apart, are_named, are_part_files,
 use Rattle.xm_words.proofs.NumberLemmas.{numerals}
 use Rattle.xm_words.proofs.WordLemmas.{file_is, is_of_file, number_text, text_number}
 
--- where something stands behind the first `=`, there is one
+-- where something stands after the first `=`, there is one
 equals_stands : (word : List ℕ) → 0 < length (after_first is_equals word) → position_or_len is_equals word < length word
 equals_stands word some = (let long = length-drop (position_or_len is_equals word + 1) word in omega arith)
 
--- a word is what stands before its first `=`, that byte, and what stands behind it
+-- a word is what stands before its first `=`, that byte, and what stands after it
 split_word : (word : List ℕ) → 0 < length (after_first is_equals word) → word ≡ before_first is_equals word ++ codes "=" ++ after_first is_equals word
 split_word word some =
     let stands = equals_stands word some in
@@ -45,7 +45,7 @@ word_named word named e = at (part_number (before_first is_equals word)) (is_fil
         ((text.0, file), split_word word file.some ∙ ap (λ front. front ++ codes "=" ++ after_first is_equals word) text.1)
     at (Some part) false count is e = absurd (let no : ⊥ = cc in no)
 
--- the first `=` of what is typed stands behind the partition
+-- the first `=` of what is typed stands after the partition
 first_equals : (part : ℕ) (file : List ℕ) → part ≤ 31 → position_or_len is_equals (decimal part ++ (61 ∷ file)) ≡ length (decimal part)
 first_equals part file small =
     let long = length-append (decimal part) (61 ∷ file) in
@@ -112,7 +112,7 @@ part_none part (file ∷ files) others =
     at true same none = absurd (All-head (λ (other : PartFile). part ≢ other.part) file files others (sym (eqb-true file.part part same)))
     at false differs none = none
 
--- what stands behind the first of a list
+-- what stands after the first of a list
 behind_first : {X : Type 0} (x : X) (xs : List X) (k : ℕ) (d : X) → get_or (x ∷ xs) (k + 1) d ≡ get_or xs k d
 behind_first x xs k d =
     let same : k + 1 - 1 ≡ k = omega arith in

@@ -26,7 +26,7 @@ abbrev pub option_of : Span → List ℕ
 option_of (Frames count) = codes "--frames"
 option_of (Ticks count) = codes "--ticks"
 
--- the number behind it
+-- the number after it
 abbrev pub count_of : Span → ℕ
 count_of (Frames count) = count
 count_of (Ticks count) = count

@@ -88,7 +88,7 @@ part_file_by (Some part) false file = None
 abbrev pub is_equals : ℕ → Bool
 is_equals byte = byte == 61
 
--- the file for a partition that a word names: the partition stands before its first `=`, and the file behind it
+-- the file for a partition that a word names: the partition stands before its first `=`, and the file after it
 unfoldable pub part_file_of : List ℕ → Option PartFile
 part_file_of word = part_file_by (part_number (before_first is_equals word)) (is_file (after_first is_equals word)) (after_first is_equals word)
 

@@ -16,9 +16,9 @@ pub enum ReplayFiles<'a> {
     InputAlone(&'a str),
     /// That of the core file alone.
     CoreAlone(&'a str),
-    /// That of the input words, and that of the core file behind it.
+    /// That of the input words, and that of the core file after it.
     InputThenCore(&'a str, &'a str),
-    /// That of the core file, and that of the input words behind it.
+    /// That of the core file, and that of the input words after it.
     CoreThenInput(&'a str, &'a str),
 }
 

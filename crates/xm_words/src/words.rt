@@ -35,7 +35,7 @@ impl Words {
         }
     }
 
-    /// Puts one more word behind the others.
+    /// Puts one more word after the others.
     pub fn push(&mut self, word: &str) -> Result<(), Memory>
         ensures pushed { OnOk result (self.new ≡ self.old ++ word.now ∷ []) }
         ensures unchanged { OnErr result (self.new ≡ self.old) }

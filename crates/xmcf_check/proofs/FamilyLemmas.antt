@@ -31,13 +31,13 @@ none_kept : {X : Type 0} (P : X → Bool) (xs : List X) → ((k : ℕ) (x : X) �
 none_kept P [] none = refl
 none_kept P (x ∷ xs) none = rw (none 0 x refl) (none_kept P xs (λ k y is. none (suc k) y is))
 
--- those that pass are all behind the first
+-- those that pass are all after the first
 front_dropped : {X : Type 0} (P : X → Bool) (n : ℕ) (xs : List X) → ((k : ℕ) (x : X) → slice_get xs k ≡ Some x → k < n → P x ≡ false) → filter P (drop n xs) ≡ filter P xs
 front_dropped P zero xs none = refl
 front_dropped P (suc n) [] none = refl
 front_dropped P (suc n) (x ∷ xs) none = rw (none 0 x refl (omega arith)) (front_dropped P n xs (λ k y is less. none (suc k) y is (omega (arith, less))))
 
--- one more from the front
+-- one more from the prefix
 one_more : {X : Type 0} (n : ℕ) (x : X) (xs : List X) → take (1 + n) (x ∷ xs) ≡ x ∷ take n xs
 one_more n x xs = let e : 1 + n ≡ suc n = omega arith in rw e refl
 
@@ -54,13 +54,13 @@ back_dropped {X} P Q (x ∷ xs) leads = at (Q x) refl (back_dropped P Q xs (λ k
     at true q more = rw q (ap (filter P) (one_more (prefix_len Q xs) x xs) ∙ ap (λ kept. cond (P x) (x ∷ kept) kept) more)
     at false q more = rw q (sym (none_kept P (x ∷ xs) (λ k y is. fails (P y) (Q x) (λ passes. leads k 0 y x is passes refl (omega arith)) q)))
 
--- an element behind the first ones has its number among all
+-- an element after the first ones has its number among all
 got_behind : {X : Type 0} (n k : ℕ) (xs : List X) (x : X) → slice_get (drop n xs) k ≡ Some x → slice_get xs (n + k) ≡ Some x
 got_behind zero k xs x is = let e : 0 + k ≡ k = omega arith in rw e is
 got_behind (suc n) k [] x is = is
 got_behind (suc n) k (y ∷ xs) x is = let e : suc n + k ≡ suc (n + k) = omega arith in rw e (got_behind n k xs x is)
 
--- what is behind the first ones, without the root
+-- what is after the first ones, without the root
 behind : (n : ℕ) (root : Entry) (rest : List Entry) → drop (n + 1) (root ∷ rest) ≡ drop n rest
 behind n root rest = simp unary_clauses refl
 
@@ -68,7 +68,7 @@ behind n root rest = simp unary_clauses refl
 one_entry : (entries : List Entry) (i j : ℕ) (x y : Entry) → StandsAt entries i x → StandsAt entries j y → i ≡ j → x.parent ≡ y.parent
 one_entry entries i j x y one two same = cc
 
--- a parent does not stand behind
+-- a parent does not stand after
 parent_before : (entries : List Entry) (n : ℕ) (x : Entry) → IsDraft entries → StandsAt entries n x → x.parent ≤ n
 parent_before entries zero x draft is = let first = draft.root in let same = one_entry entries 0 0 x first.0 is first.1 refl in omega (arith, same, first.2.parent)
 parent_before entries (suc n) x draft is = omega (arith, draft.before (suc n) x is (omega arith))

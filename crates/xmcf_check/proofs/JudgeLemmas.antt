@@ -1,4 +1,4 @@
--- What is told of a description is its first broken rule.
+-- What is reported of a description is its first broken rule.
 use Rattle.std.proofs.Common.{◌≡◌, ℕ, ◌+◌, ◌<◌, ◌≤◌, if◌then◌else◌, nat_le, Bool, true, false, List, [], ◌∷◌, ◌++◌, length, map, Option, Some, None, refl, sym, ap, ◌∙◌, arith}
 use Rattle.std.specs.Prelude.{◌==◌, All}
 use Rattle.std.proofs.lemmas.List.{length-map}
@@ -47,7 +47,7 @@ no_head : {X : Type 0} (xs : List X) → head_of xs ≡ None → xs ≡ []
 no_head [] none = refl
 no_head (x ∷ xs) none = absurd (let no : ⊥ = cc in no)
 
--- what comes behind matters where nothing comes first
+-- what comes after matters where nothing comes first
 first_same : {X : Type 0} (a : List X) (x y : Option X) → (a ≡ [] → x ≡ y) → first_there (head_of a) x ≡ first_there (head_of a) y
 first_same [] x y same = same refl
 first_same (z ∷ a) x y same = refl
@@ -100,7 +100,7 @@ capped-parts conf =
     ∙ first_same (rules.rule_1 conf) _ _
     (λ none. ap (λ others. first_there others (first_there (tables_broken conf) (head_of (rules.rule_20 conf)))) (middle-capped conf (bounded conf none)))
 
--- what is told of a description's parts
+-- what is reported of a description's parts
 told_parts : (d : Description) → All (λ monitor. monitor.logged < 4096) d.monitors → map (λ part. part.hm) d.conf.parts ≡ map health_table_of d.monitors
     → first_told (length d.conf.plans) d.ids (map (λ monitor. monitor.answers) d.monitors) (rules.first_broken (described (capped_conf d.conf))) ≡ rules.first_broken d
 unfolding first_told
@@ -123,7 +123,7 @@ plans-capped : (conf : Conf) → length (capped_conf conf).plans ≡ length conf
 unfolding capped_conf
 plans-capped conf = length-map conf.plans capped_plan
 
--- what is told of what is gathered is the description's first broken rule
+-- what is reported of what is gathered is the description's first broken rule
 pub told_first : (raw : Conf) (ids : Ids) (answers : List (List HealthAnswer)) (d : Description) → Gathers (gathered_of raw ids answers) d
     → first_told (length raw.plans) ids answers (rules.first_broken (described raw)) ≡ rules.first_broken d
 told_first raw ids answers d gathers =
@@ -195,7 +195,7 @@ told_some plans ids answers b none = at (nat_le b.rule 1) (head_of (rules.rule_2
     at false None false (Some a) none = cc
     at false None false None none = cc
 
--- what is told of what is gathered is the description's first broken rule
+-- what is reported of what is gathered is the description's first broken rule
 pub told_is : (raw : Conf) (ids : Ids) (answers : List (List HealthAnswer)) (plans : ℕ) (found told : Option Broken) → plans ≡ length raw.plans
     → found ≡ rules.first_broken (described raw) → told ≡ first_told plans ids answers found
     → (d : Description) → Gathers (gathered_of raw ids answers) d → told ≡ rules.first_broken d

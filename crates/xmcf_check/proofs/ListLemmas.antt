@@ -88,12 +88,12 @@ sum_by-made f h g same [] = refl
 sum_by-made f h g same (x ∷ xs) =
     omega (arith, same x, sum_by-made f h g same xs, sum_by-cons f (g x) (map g xs), sum_by-cons h x xs)
 
--- where the later of two lists matters only behind an empty one
+-- where the later of two lists matters only after an empty one
 pub last_first : {X : Type 0} (a b c : List X) → (a ≡ [] → b ≡ c) → head_of (a ++ b) ≡ head_of (a ++ c)
 last_first [] b c same = ap head_of (same refl)
 last_first (x ∷ a) b c same = refl
 
--- lists with one front have one first, where the rests have one
+-- lists with one prefix have one first, where the rests have one
 pub back_first : {X : Type 0} (a b c : List X) → head_of b ≡ head_of c → head_of (a ++ b) ≡ head_of (a ++ c)
 back_first [] b c same = same
 back_first (x ∷ a) b c same = refl

@@ -1,4 +1,4 @@
--- The order of the rules: ids behind the counts, and answers behind channels.
+-- The order of the rules: ids after the counts, and answers after channels.
 use Rattle.std.proofs.Common.{◌≡◌, ℕ, ◌≤◌, nat_le, true, false, List, [], ◌∷◌, ◌++◌, length, Option, Some, None, refl, arith}
 use Rattle.std.specs.Prelude.{IfSome}
 use Rattle.std.proofs.lemmas.Bool.Decides.{nat_tests}
@@ -39,7 +39,7 @@ first_broken-parts d =
 abbrev pub IsFrom : ℕ → ℕ → Option Broken → Type 0
 IsFrom low high found = IfSome found (λ b. (low ≤ b.rule) × (b.rule ≤ high))
 
--- what is found behind the answers, where a table's action breaks a rule only if an answer does
+-- what is found after the answers, where a table's action breaks a rule only if an answer does
 order_last : (id answer table need : Option Broken) → IsFrom 19 20 (first_there table need) → (answer ≡ None → table ≡ None)
     → told_among id answer (first_there table need) ≡ first_there id (first_there answer need)
 unfolding told_among

@@ -55,7 +55,7 @@ each-more f made pick i entries makes =
 pub each-all : {Y : Type 0} (f : ℕ → Entry → List Y) (i : ℕ) (entries : List Entry) → length entries ≤ i → added_by_each f (take i entries) ≡ added_by_each f entries
 each-all f i entries all = ap (added_by_each f) (take_all i entries all)
 
--- the images of a list with more behind it
+-- the images of a list with more after it
 pub map-more : {X Y : Type 0} (f : X → Y) (xs ys : List X) → map f (xs ++ ys) ≡ map f xs ++ map f ys
 map-more f [] ys = refl
 map-more f (x ∷ xs) ys = ap (λ zs. f x ∷ zs) (map-more f xs ys)

@@ -1,4 +1,4 @@
--- The n-th of two lists one behind the other.
+-- The n-th of two lists one after the other.
 use Rattle.std.proofs.Common.{◌≡◌, ◌∙◌, refl, sym, ap, arith, ℕ, zero, suc, ◌+◌, ◌-◌, ◌<◌, ◌≤◌, List, [], ◌∷◌, ◌++◌, length, drop, get_or}
 use Rattle.std.proofs.lemmas.List.{drop_all, drop_more}
 use Rattle.xm_conf.specs.declared.health.Event.{Event}
@@ -38,7 +38,7 @@ pub found_here : (f : Event → List Entry) (events : List Event) (i left n : �
 found_here f events i left n d more inside is =
     sym (nth_first left (f (get_or events i d)) (flat_map f (drop (i + 1) events)) inside) ∙ ap (λ (es : List Event). place_nth left (flat_map f es)) (sym (drop_more events i d more)) ∙ is
 
--- it is behind those of the next event
+-- it is after those of the next event
 pub found_later : (f : Event → List Entry) (events : List Event) (i left n : ℕ) (d : Event) → i < length events → length (f (get_or events i d)) ≤ left → IsLeft f events i left n
     → IsLeft f events (i + 1) (left - length (f (get_or events i d))) n
 found_later f events i left n d more past is =

@@ -1,4 +1,4 @@
--- What is told of a draft is what its description breaks.
+-- What is reported of a draft is what its description breaks.
 use Rattle.std.proofs.Common.{◌≡◌, List, Some, None, ap}
 use Rattle.xm_base.specs.Options.{on}
 use Rattle.xm_conf.specs.Rules.{first_broken}

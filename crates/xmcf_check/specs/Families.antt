@@ -1,4 +1,4 @@
--- The entries that stand within an entry: those behind it up to the first whose parent stands before it.
+-- The entries that stand within an entry: those after it up to the first whose parent stands before it.
 use Rattle.std.specs.Prelude.{ℕ, ◌+◌, nat_le, List, Option, None, Some, drop, take_while}
 use Rattle.xmcf_reader.specs.declared.draft.Element.{Element}
 use Rattle.xmcf_reader.specs.declared.draft.Entry.{Entry}

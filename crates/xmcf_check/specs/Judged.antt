@@ -45,7 +45,7 @@ pub record Gathers (g : Gathered) (d : Description) : Type 0 where
   pub tables : map (λ part. part.hm) d.conf.parts ≡ map health_table_of d.monitors
   pub sizes : HasSizes g
 
--- what is told of a description: its configuration, which breaks no rule, or the first rule that is broken
+-- what is reported of a description: its configuration, which breaks no rule, or the first rule that is broken
 abbrev pub Judges : Result Conf Broken → Description → Type 0
 Judges (Ok conf) d = (first_broken d ≡ None) × (conf ≡ d.conf)
 Judges (Err broken) d = first_broken d ≡ Some broken

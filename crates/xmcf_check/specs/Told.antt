@@ -16,7 +16,7 @@ abbrev pub is_within : ℕ → Option Broken → Bool
 is_within last None = false
 is_within last (Some broken) = nat_le broken.rule last
 
--- the first of an id, an answer and what is found: ids come behind rule 1, and answers behind rule 18
+-- the first of an id, an answer and what is found: ids come after rule 1, and answers after rule 18
 unfoldable pub told_among : Option Broken → Option Broken → Option Broken → Option Broken
 told_among id answer found = if is_within 1 found then found else first_there id (if is_within 18 found then found else first_there answer found)
 

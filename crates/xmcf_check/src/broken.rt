@@ -1,4 +1,4 @@
-//! What is told of a rule that is broken.
+//! What is reported of a rule that is broken.
 
 ghost use Rattle.std.specs.Prelude.{◌≡◌};
 ghost use Rattle.xm_base.specs.Options.{on};

@@ -9,7 +9,7 @@ use crate::sorts::{Owner, Sort, is_item, is_of};
 use xm_conf::{EVENTS, Event, Item};
 use xmcf_reader::{Draft, Entry};
 
-/// The entries behind the first.
+/// The entries after the first.
 fn behind_root(entries: &[Entry]) -> &[Entry]
     ensures { result.now ≡ behind_root entries.now }
 {

@@ -5,7 +5,7 @@ use Rattle.std.specs.List.{position, position_from}
 use Rattle.std.proofs.lemmas.Iterator.Adapters.{position_from-zero}
 use Rattle.xmcf_reader.specs.Bytes.{first_where}
 
--- a search that counts from a number finds the first place behind it
+-- a search that counts from a number finds the first place after it
 pub position_from-first : {X : Type 0} (test : X → Bool) (from : ℕ) (xs : List X) → position_from test from xs ≡ option_map (λ k. from + k) (first_where test xs)
 position_from-first test from [] = refl
 position_from-first {X} test from (x ∷ xs) = at (test x) (position_from-first test (from + 1) xs)

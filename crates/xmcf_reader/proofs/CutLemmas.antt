@@ -14,7 +14,7 @@ cut_passes at zero bytes h = ap (λ n. cut n 0 bytes) (omega arith)
 cut_passes at (suc more) [] h = absurd (omega arith)
 cut_passes at (suc more) (byte ∷ bytes) h = cut_passes (at + 1) more bytes (omega arith) ∙ ap (λ n. cut n 0 (drop more bytes)) (omega arith)
 
--- a token at the front comes next
+-- a token at the beginning comes next
 pub cut_found : (at byte : ℕ) (bytes : List ℕ) (token : Token) (size : ℕ) → front (nat_eq at 0) (byte ∷ bytes) ≡ Found token size → 1 ≤ size → size ≤ length (byte ∷ bytes)
     → cut at 0 (byte ∷ bytes) ≡ Item token at (cut (at + size) 0 (drop size (byte ∷ bytes)))
 unfolding cut
@@ -32,7 +32,7 @@ pub cut_ends : (at : ℕ) → cut at 0 [] ≡ End at
 unfolding cut
 cut_ends at = refl
 
--- where a token stands at the front of what is left, it comes next
+-- where a token stands at the beginning of what is left, it comes next
 pub next_found : (at : ℕ) (text : List ℕ) (token : Token) (size : ℕ) → Found token size ≡ front (nat_eq at 0) text → 1 ≤ size → size ≤ length text → cut at 0 text ≡ Item token at (cut (at + size) 0 (drop size text))
 next_found at [] token size e some most = absurd (omega arith)
 next_found at (byte ∷ bytes) token size e some most = cut_found at byte bytes token size (sym e) some most

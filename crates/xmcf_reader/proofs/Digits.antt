@@ -15,6 +15,6 @@ more_digits base n d k fits below h =
 pub few_digits : (n k : ℕ) → k ≤ 10 → n < 16 ^ k → n < 1099511627776
 few_digits n k few h = let most : 16 ^ k ≤ 1099511627776 = pow-le-pow_right {n = 16} (lit< tt) {i = k} {j = 10} few in omega (arith, most)
 
--- the digits from a place on are the one there and those behind it
+-- the digits from a place on are the one there and those after it
 pub next_digit : (base n d i : ℕ) (bytes : List ℕ) → i < length bytes → Some d ≡ digit base (get_or bytes i 0) → spelled base n (drop i bytes) ≡ spelled base (n * base + d) (drop (i + 1) bytes)
 next_digit base n d i bytes h e = rw (drop-cons bytes i 0) (rw (← e) (rw add-one refl))

@@ -88,7 +88,7 @@ pub record Sound (context : Context) : Type 0 where
   pub stands : Stands context.entries context.open_elements
   pub tag : TagStands context.stage context.tag context.open_elements context.entries
 
--- behind blanks
+-- after blanks
 sound_spaced : (stage : Stage) (tag : Tag) (open_elements : List Open) (entries : List Entry) → TagStands stage tag open_elements entries → TagStands (blank_passed stage) tag open_elements entries
 sound_spaced Between tag open_elements entries h = tt
 sound_spaced Bare tag open_elements entries h = h
@@ -96,7 +96,7 @@ sound_spaced Spaced tag open_elements entries h = h
 sound_spaced (Named attribute) tag open_elements entries h = h
 sound_spaced (Equaled attribute) tag open_elements entries h = h
 
--- behind a `=`
+-- after a `=`
 sound_equaled : (stage : Stage) (tag : Tag) (open_elements : List Open) (entries : List Entry) → TagStands stage tag open_elements entries → TagStands (equaled stage) tag open_elements entries
 sound_equaled Between tag open_elements entries h = tt
 sound_equaled Bare tag open_elements entries h = h

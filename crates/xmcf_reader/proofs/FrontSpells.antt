@@ -1,4 +1,4 @@
--- What is found at the front of a text is spelled there.
+-- What is found at the beginning of a text is spelled there.
 use Rattle.std.proofs.Common.{◌≡◌, ℕ, zero, suc, ◌+◌, ◌-◌, ◌<◌, ◌≤◌, ◌==◌, Bool, true, false, cond, ◌&&◌, List, [], ◌∷◌, ◌++◌, length, take, drop, get_or, Option, Some, None, refl, sym, ap, ◌∙◌, arith, subst, append_assoc, length-append}
 use Rattle.std.specs.Prelude.{codes, nat_lt, nat_eq}
 use Rattle.std.proofs.lemmas.List.Folds.{length-prefix_len}
@@ -15,7 +15,7 @@ use Rattle.xmcf_reader.specs.declared.token.Stop.{Stop}
 use Rattle.xmcf_reader.specs.declared.token.Stop.TheVariants.{Break, Reference, Ended}
 use Rattle.xmcf_reader.proofs.Splits.{IsParted, parted, each_prefix, IsDashed, dashed}
 
--- what is found is spelled at the front of the whole
+-- what is found is spelled at the beginning of the whole
 abbrev pub SpeltIn : List ℕ → Front → Type 0
 SpeltIn whole (Found token size) = SpellsToken token (take size whole) × (size ≤ length whole)
 SpeltIn whole (Broken stop) = Unit {0}
@@ -37,12 +37,12 @@ pick whole false this that so otherwise = otherwise refl
 same_byte : (byte other : ℕ) → (byte == other) ≡ true → byte ≡ other
 same_byte byte other e = grind (arith, nat_tests, e)
 
--- the front of a text
+-- the prefix of a text
 take_front : (front rest : List ℕ) → take (length front) (front ++ rest) ≡ front
 take_front [] rest = refl
 take_front (byte ∷ front) rest = ap (λ more. byte ∷ more) (take_front front rest)
 
--- a byte behind a front
+-- a byte after a prefix
 front_and : (front : List ℕ) (byte : ℕ) (rest : List ℕ) (size : ℕ) → size ≡ length front → take (size + 1) (front ++ byte ∷ rest) ≡ front ++ byte ∷ []
 front_and front byte rest size e =
     let long : size + 1 ≡ length (front ++ byte ∷ []) = omega (arith, e, length-append front (byte ∷ [])) in
@@ -135,7 +135,7 @@ value_spelt quote bytes is_quote = by (position (ends_value quote) bytes) refl
         record { fits = (record { quote = quote; is = ap (λ n. take n (quote ∷ bytes)) steps ∙ ap (λ rest. quote ∷ rest) front; is_quote = is_quote; plain = part.plain }, inside) })
         (λ _. pick _ (get_or bytes at 0 == 38) (Broken (Reference (at + 1))) (Broken (Break (at + 1))) (λ _. broken _ _) (λ _. broken _ _))
 
--- a letter and what is behind it of a name are a name
+-- a letter and what is after it of a name are a name
 name_spelt : (byte : ℕ) (bytes : List ℕ) → is_letter byte ≡ true → IsTagName (take (prefix_len is_of_name (byte ∷ bytes)) (byte ∷ bytes))
 unfolding is_of_name
 name_spelt byte bytes letter = record {
@@ -165,7 +165,7 @@ attribute_spelt byte bytes letter =
     (Found (Name (take (prefix_len is_of_name (byte ∷ bytes)) (byte ∷ bytes))) (0 + prefix_len is_of_name (byte ∷ bytes))) (Broken Ended)
     (λ _. record { fits = (record { is = ap (λ n. take n (byte ∷ bytes)) counts; named = name_spelt byte bytes letter }, omega (arith, prefix_len-le-length is_of_name (byte ∷ bytes))) }) (λ _. broken _ _)
 
--- a text is its front and what is behind it
+-- a text is its prefix and what is after it
 halves : (n : ℕ) (bytes : List ℕ) → bytes ≡ take n bytes ++ drop n bytes
 halves zero bytes = refl
 halves (suc n) [] = refl
@@ -257,7 +257,7 @@ declared_spelt bytes =
     (λ _. pick (60 ∷ 63 ∷ bytes) (starts_with nat_eq bytes (codes "xml") && is_blank (get_or bytes 3 0)) (declaration (drop 4 bytes)) (Broken (Break 0))
     (λ t. xml_spelt bytes t) (λ _. broken _ _))
 
--- blanks at the front
+-- blanks at the beginning
 blanks_spelt : (byte : ℕ) (bytes : List ℕ) → is_blank byte ≡ true → AreBlanks (take (prefix_len is_blank (byte ∷ bytes)) (byte ∷ bytes))
 blanks_spelt byte bytes blank = record { some = subst (λ (n : ℕ). 0 < length (take n (byte ∷ bytes))) (sym counts) (omega arith); each = each_prefix is_blank (byte ∷ bytes) }
   where
@@ -297,7 +297,7 @@ front_spelt first (byte ∷ bytes) =
     (λ _. pick (byte ∷ bytes) (is_letter byte) (named_token Name 0 (prefix_len is_of_name (byte ∷ bytes)) (byte ∷ bytes)) (Broken (Break 0))
     (λ letter. attribute_spelt byte bytes letter) (λ _. broken _ _)))))))
 
--- what is found at the front of a text is spelled there
+-- what is found at the beginning of a text is spelled there
 pub front_spells : (first : Bool) (text : List ℕ) (token : Token) (size : ℕ) → front first text ≡ Found token size → SpellsToken token (take size text) × (size ≤ length text)
 front_spells first text token size e = subst (λ (found : Front). SpeltIn text found) e (front_spelt first text).fits
 

@@ -163,7 +163,7 @@ known_element : (found : Option Word) (open_elements : List Open) (at : ℕ) →
 known_element None open_elements at none = cc
 known_element (Some word) open_elements at none = (word, refl)
 
--- a value that breaks nothing stands behind a `=`
+-- a value that breaks nothing stands after a `=`
 known_value : (stage : Stage) (text : List ℕ) (at : ℕ) → value_faults stage text at ≡ [] → (attribute : Attribute) × (stage ≡ Equaled attribute)
 known_value Between text at none = cc
 known_value Bare text at none = cc
@@ -383,7 +383,7 @@ empty_tells context at past ended tells =
     subst (λ (entries : List Entry). Told (past ++ (record { token = EmptyEnd; at = at }) ∷ []) entries (tag_ended context).open_elements) (sym ended.more)
     (tells_empty past (record { token = EmptyEnd; at = at }) context.entries ended.entry context.tag.word context.open_elements tells refl refl)
 
--- behind the end of a start tag the text is between tags
+-- after the end of a start tag the text is between tags
 ended_between : (context : Context) → is_between (tag_ended context).stage ≡ true
 unfolding tag_ended
 ended_between context = refl

@@ -17,7 +17,7 @@ use Rattle.xmcf_reader.specs.declared.token.Stop.TheVariants.{Break, Reference, 
 use Rattle.xmcf_reader.specs.declared.word.Word.{Word}
 use Rattle.xmcf_reader.proofs.Quotes.{HasQuotes, front_quotes}
 
--- a fault stands behind a place, or there with a kind that is no lesser
+-- a fault stands after a place, or there with a kind that is no lesser
 abbrev pub AtLeast : ℕ → ℕ → ReadFault → Type 0
 AtLeast at kind found = (at < place found) ⊎ ((place found ≡ at) × (kind ≤ rank found))
 
@@ -101,11 +101,11 @@ map_level : {X : Type 0} (at kind : ℕ) (fault_of : X → ReadFault) (xs : List
 map_level at kind fault_of [] here same = tt
 map_level at kind fault_of (x ∷ xs) here same = (here x, same x, map_level at kind fault_of xs here same)
 
--- what stands behind a place stands behind it in any kind
+-- what stands after a place stands after it in any kind
 later : (at kind : ℕ) (more : List ReadFault) → InOrder (at + 1) 0 more → InOrder at kind more
 later at kind more order = sooner (at + 1) 0 at kind more (inl (omega arith)) order
 
--- one level and what stands behind
+-- one level and what stands after
 one_level : (at kind : ℕ) (some more : List ReadFault) → Level at kind some → InOrder (at + 1) 0 more → InOrder at kind (some ++ more)
 one_level at kind some more level order = level_then at kind some more level (later at kind more order)
 
@@ -133,7 +133,7 @@ attribute_order : (attribute : Option Attribute) (tag : Tag) (at : ℕ) (more : 
 attribute_order None tag at more order = lower at 4 1 _ (omega arith) (one_level at 4 (fault.UnknownAttribute at ∷ []) more (refl, refl, tt) order)
 attribute_order (Some attribute) tag at more order = lower at 6 1 _ (omega arith) (one_level at 6 _ more (when_level at 6 _ (fault.RepeatedAttribute at) refl refl) order)
 
--- a value stands before what is behind its first byte
+-- a value stands before what is after its first byte
 abbrev pub ValueFirst : Token → ℕ → List ReadFault → Type 0
 ValueFirst Blanks at more = Unit {0}
 ValueFirst Comment at more = Unit {0}
@@ -150,7 +150,7 @@ ValueFirst (EndTag name) at more = Unit {0}
 item_order : (comes : Bool) (at : ℕ) (more : List ReadFault) → InOrder at 1 more → InOrder at 0 (when comes (fault.BadItem at) ++ more)
 item_order comes at more order = lower at 1 0 _ (omega arith) (level_then at 1 (when comes (fault.BadItem at)) more (when_level at 1 comes (fault.BadItem at) refl refl) order)
 
--- two parts of a token's faults, before what is behind it
+-- two parts of a token's faults, before what is after it
 two_parts : (comes : Bool) (at : ℕ) (some more : List ReadFault) → InOrder at 1 (some ++ more) → InOrder at 0 ((when comes (fault.BadItem at) ++ some) ++ more)
 two_parts comes at some more order = subst (λ (all : List ReadFault). InOrder at 0 all) (sym (append_assoc (when comes (fault.BadItem at)) some more)) (item_order comes at (some ++ more) order)
 
@@ -162,7 +162,7 @@ value_order (Named attribute) text at more order = item_order true at more (late
 value_order (Equaled attribute) text at more order =
     sooner (at + 1) 7 at 0 _ (inl (omega arith)) (level_then (at + 1) 7 _ more (when_level (at + 1) 7 _ (fault.BadValue (at + 1)) refl refl) order)
 
--- the faults of a token and of what stands behind it
+-- the faults of a token and of what stands after it
 token_order : (context : Context) (token : Token) (at : ℕ) (more : List ReadFault) → InOrder (at + 1) 0 more → ValueFirst token at more → InOrder at 0 (faults_of context token at ++ more)
 token_order context Blanks at more order first = later at 0 more order
 token_order context Comment at more order first = item_order _ at more (later at 1 more order)
@@ -182,12 +182,12 @@ token_order context EmptyEnd at more order first =
 token_order context (EndTag name) at more order first =
     two_parts _ at _ more (lower at 10 1 _ (omega arith) (one_level at 10 _ more (missing_level context.open_elements at) order))
 
--- the kind from which faults stand behind a token's first byte, of which so many bytes are left
+-- the kind from which faults stand after a token's first byte, of which so many bytes are left
 abbrev pub low_of_left : ℕ → ℕ
 low_of_left zero = 0
 low_of_left (suc left) = 7
 
--- a fault some bytes behind a place
+-- a fault some bytes after a place
 from_place : (at behind kind : ℕ) (one : ReadFault) → place one ≡ at + behind → kind ≤ rank one → AtLeast at kind one
 from_place at zero kind one here kinds = inr (omega (arith, here), kinds)
 from_place at (suc behind) kind one here kinds = inl (omega (arith, here))
@@ -203,7 +203,7 @@ end_order : (comes : Bool) (at : ℕ) → InOrder at 8 (when comes (fault.Unclos
 end_order true at = record { good = refl; behind = (inr (refl, omega arith), tt) }
 end_order false at = record { good = refl; behind = tt }
 
--- where two bytes belong to a value, faults behind its first byte are of a value's kind or greater
+-- where two bytes belong to a value, faults after its first byte are of a value's kind or greater
 value_first : (token : Token) (size at : ℕ) (more : List ReadFault) → HasQuotes (Found token size) → InOrder (at + 1) (low_of_left (size - 1)) more → ValueFirst token at more
 value_first Blanks size at more quotes order = tt
 value_first Comment size at more quotes order = tt

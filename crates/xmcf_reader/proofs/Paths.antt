@@ -35,7 +35,7 @@ closed_count : (tokens : List Placed) → AllClosed tokens → count_begun token
 closed_count [] closed = omega arith
 closed_count (one ∷ more) closed = closed.0
 
--- closed tokens behind closed tokens
+-- closed tokens after closed tokens
 closed_more : (some more : List Placed) → AllClosed some → AllClosed more → AllClosed (some ++ more)
 closed_more [] more closed also = also
 closed_more (one ∷ some) more closed also = (
@@ -69,12 +69,12 @@ plain_closed : (tokens : List Placed) → ArePlain tokens → AllClosed tokens
 plain_closed [] plain = tt
 plain_closed (one ∷ tokens) plain = (let here : begins one.token ≡ 0 = plain.0.0 in omega (arith, plain_begun tokens plain.1), plain_closed tokens plain.1)
 
--- the open elements are those that are open behind tokens
+-- the open elements are those that are open after tokens
 abbrev pub AreOpen : List Placed → List Open → Type 0
 AreOpen tokens [] = AllClosed tokens
 AreOpen tokens (inner ∷ outer) = (innermost : IsInnermost tokens inner.number) × AreOpen innermost.before outer
 
--- behind tokens at which all that begins ends, the same are open
+-- after tokens at which all that begins ends, the same are open
 open_more : (tokens more : List Placed) (open_elements : List Open) → AreOpen tokens open_elements → AllClosed more → count_begun more ≡ count_ended more → AreOpen (tokens ++ more) open_elements
 open_more tokens more [] all closed same = closed_more tokens more all closed
 open_more tokens more (inner ∷ outer) all closed same = (
@@ -96,7 +96,7 @@ noted_open : (tokens : List Placed) (word : Word) (open_elements : List Open) �
 noted_open tokens word [] all = all
 noted_open tokens word (inner ∷ outer) all = all
 
--- behind an end tag the outer ones are open
+-- after an end tag the outer ones are open
 open_end : (tokens : List Placed) (one : Placed) (inner : Open) (outer : List Open) → AreOpen tokens (inner ∷ outer) → begins one.token ≡ 0 → ends one.token ≡ 1 → AreOpen (tokens ++ one ∷ []) outer
 open_end tokens one inner outer all begin end =
     subst (λ (some : List Placed). AreOpen some outer) (sym (ap (λ some. some ++ one ∷ []) all.0.is ∙ append_assoc all.0.before (all.0.start ∷ all.0.behind) (one ∷ [])))
@@ -111,7 +111,7 @@ open_end tokens one inner outer all begin end =
     whole_closed : AllClosed (all.0.start ∷ (all.0.behind ++ one ∷ []))
     whole_closed = (omega (arith, balanced), closed_more all.0.behind (one ∷ []) all.0.closed ((omega arith, tt)))
 
--- behind a start tag its element is open, too
+-- after a start tag its element is open, too
 open_start : (before : List Placed) (start : Placed) (inside : List Placed) (word : Word) (number : ℕ) (open_elements : List Open) → AreOpen before open_elements → begins start.token ≡ 1 → ends start.token ≡ 0 → ArePlain inside → number ≡ count_begun before
     → AreOpen (before ++ start ∷ inside) ((record { word = word; number = number; children = [] }) ∷ child_noted word open_elements)
 open_start before start inside word number open_elements all begin end plain counted = (
@@ -127,7 +127,7 @@ open_start before start inside word number open_elements all begin end plain cou
   noted_open before word open_elements all,
 )
 
--- behind an empty tag the same are open
+-- after an empty tag the same are open
 open_empty : (before : List Placed) (start : Placed) (inside : List Placed) (one : Placed) (word : Word) (open_elements : List Open) → AreOpen before open_elements → begins start.token ≡ 1 → ends start.token ≡ 0 → ArePlain inside
     → begins one.token ≡ 0 → ends one.token ≡ 1 → AreOpen (before ++ start ∷ (inside ++ one ∷ [])) (child_noted word open_elements)
 open_empty before start inside one word open_elements all begin end plain begin_one end_one =

@@ -16,7 +16,7 @@ use Rattle.xmcf_reader.specs.declared.word.Word.{Word}
 use Rattle.xmcf_reader.specs.declared.stage.Stage.{Stage}
 use Rattle.xmcf_reader.specs.declared.stage.Stage.TheVariants.{Between, Bare, Spaced, Named, Equaled}
 
--- what is read of a text: its faults and its draft are those of what is left, and each entry was behind a token
+-- what is read of a text: its faults and its draft are those of what is left, and each entry was after a token
 pub record Progress (text : List ℕ) (context : Context) (place : ℕ) (rest : List ℕ) : Type 0 where
   pub broken : faults_from empty_draft (cut 0 0 text) ≡ faults_from context (cut place 0 rest)
   pub draft : draft_from empty_draft (cut 0 0 text) ≡ draft_from context (cut place 0 rest)

@@ -1,4 +1,4 @@
--- A value at the front of a text has both its quotes.
+-- A value at the beginning of a text has both its quotes.
 use Rattle.std.proofs.Common.{ℕ, ◌+◌, ◌≤◌, ◌==◌, Bool, true, false, cond, List, [], ◌∷◌, Option, Some, None, arith}
 use Rattle.std.specs.List.{position}
 use Rattle.xmcf_reader.specs.Bytes.{ends_value, ends_declaration, are_dashes, pairs}
@@ -44,7 +44,7 @@ opening_quoted name size = record { fits = tt }
 name_quoted : (name : List ℕ) (size : ℕ) → Quoted (Found (Name name) size)
 name_quoted name size = record { fits = tt }
 
--- a value that ends behind a quote
+-- a value that ends after a quote
 value_quoted : (text : List ℕ) (at : ℕ) → Quoted (Found (Value text) (at + 2))
 value_quoted text at = record { fits = omega arith }
 
@@ -145,6 +145,6 @@ front_quoted first [] = stopped _
 front_quoted first (byte ∷ bytes) =
     search (pick, stopped, markup_quotes, blanks_quoted, tag_end_quoted, empty_closed, equals_quoted, value_quotes, name_quotes) depth 16
 
--- a value at the front of a text has both its quotes
+-- a value at the beginning of a text has both its quotes
 pub front_quotes : (first : Bool) (bytes : List ℕ) → HasQuotes (front first bytes)
 front_quotes first bytes = (front_quoted first bytes).fits

@@ -6,7 +6,7 @@ use Rattle.std.specs.List.{prefix_len}
 use Rattle.xmcf_reader.specs.Bytes.{first_where, pairs, are_dashes}
 use Rattle.xmcf_reader.specs.Spelling.{Each, NoneOf, NoDashes}
 
--- a text is what stands before a place, the byte there, and what is behind it
+-- a text is what stands before a place, the byte there, and what is after it
 pub record IsParted (test : ℕ → Bool) (bytes : List ℕ) (at : ℕ) : Type 0 where
   pub is : bytes ≡ take at bytes ++ get_or bytes at 0 ∷ drop (suc at) bytes
   pub plain : NoneOf test (take at bytes)
@@ -26,7 +26,7 @@ parted test (byte ∷ bytes) at e = by (test byte) refl (first_where test bytes)
         let later : suc k ≡ at = cc in
         subst (λ (m : ℕ). IsParted test (byte ∷ bytes) m) later (record { is = ap (λ rest. byte ∷ rest) (more k refl).is; plain = (t, (more k refl).plain); size = ap suc (more k refl).size; here = (more k refl).here })
 
--- the bytes at the front that pass
+-- the bytes at the beginning that pass
 pub each_prefix : (test : ℕ → Bool) (bytes : List ℕ) → Each test (take (prefix_len test bytes) bytes)
 each_prefix test [] = tt
 each_prefix test (byte ∷ bytes) = by (test byte) refl (each_prefix test bytes)
@@ -38,7 +38,7 @@ each_prefix test (byte ∷ bytes) = by (test byte) refl (each_prefix test bytes)
     by true t more = subst (λ (n : ℕ). Each test (take n (byte ∷ bytes))) (sym next) (t, more)
     by false t more = tt
 
--- a text is what stands before its first two dashes, these, and what is behind them
+-- a text is what stands before its first two dashes, these, and what is after them
 pub record IsDashed (bytes : List ℕ) (at : ℕ) : Type 0 where
   pub is : bytes ≡ take at bytes ++ 45 ∷ 45 ∷ drop (suc (suc at)) bytes
   pub plain : NoDashes (take at bytes ++ 45 ∷ [])
@@ -56,7 +56,7 @@ dashes_are one two e = (grind (arith, nat_tests, e), grind (arith, nat_tests, e)
 head_is : (one two : ℕ) (rest other : List ℕ) → one ∷ rest ≡ two ∷ other → one ≡ two
 head_is one two rest other e = cc
 
--- no dashes here and none behind are none
+-- no dashes here and none after are none
 not_here : (one two : ℕ) (bytes : List ℕ) → are_dashes (one, two) ≡ false → NoDashes (two ∷ bytes) → NoDashes (one ∷ two ∷ bytes)
 not_here one two bytes apart none = by (are_dashes (one, two)) apart (first_where are_dashes (pairs (two ∷ bytes))) none
   where

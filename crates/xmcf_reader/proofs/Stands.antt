@@ -16,13 +16,13 @@ use Rattle.xmcf_reader.specs.declared.word.Word.{Word}
 use Rattle.xmcf_reader.specs.declared.word.Word.TheVariants as word
 use Rattle.xmcf_reader.proofs.Counts.{Partly, partly_none, partly_more, complete}
 
--- what stands at a number still does when one more is behind
+-- what stands at a number still does when one more is after
 pub got_before : {X : Type 0} (xs : List X) (y x : X) (k : ℕ) → slice_get xs k ≡ Some x → slice_get (xs ++ y ∷ []) k ≡ Some x
 got_before [] y x k e = cc
 got_before (z ∷ xs) y x zero e = e
 got_before (z ∷ xs) y x (suc k) e = got_before xs y x k e
 
--- what stands at a number stood there, or is the one behind
+-- what stands at a number stood there, or is the one after
 got_of : {X : Type 0} (xs : List X) (y x : X) (k : ℕ) → slice_get (xs ++ y ∷ []) k ≡ Some x → (slice_get xs k ≡ Some x) ⊎ ((k ≡ length xs) × (y ≡ x))
 got_of [] y x zero e = inr (refl, cc)
 got_of [] y x (suc k) e = cc
@@ -33,7 +33,7 @@ got_of (z ∷ xs) y x (suc k) e = by (got_of xs y x k e)
     by (inl got) = inl got
     by (inr last) = inr (ap suc last.0, last.1)
 
--- the one behind stands at the length
+-- the one after stands at the length
 got_last : {X : Type 0} (xs : List X) (y : X) → slice_get (xs ++ y ∷ []) (length xs) ≡ Some y
 got_last [] y = refl
 got_last (z ∷ xs) y = got_last xs y
@@ -75,7 +75,7 @@ child_elsewhere number entries entry some elsewhere =
     let test : (entry.parent == number) ≡ false = grind (arith, nat_tests) in
     later_child number entries entry some ∙ ap (λ b. children_of number entries ++ cond b (word_at entry ∷ []) []) test ∙ append-nil (children_of number entries)
 
--- a number behind all parents has no children
+-- a number after all parents has no children
 childless : (number : ℕ) (entries : List Entry) → ((k : ℕ) (entry : Entry) → slice_get entries k ≡ Some entry → entry.parent < number) → map word_at (filter (λ entry. entry.parent == number) entries) ≡ []
 childless number [] below = refl
 childless number (entry ∷ entries) below =
@@ -105,7 +105,7 @@ IsOneOf number (other ∷ others) = (number ≡ other) ⊎ IsOneOf number others
 abbrev pub numbers : List Open → List ℕ
 numbers open_elements = map (λ inner. inner.number) open_elements
 
--- an open element is an entry with the children that it has so far, and all that stands behind it stands within it
+-- an open element is an entry with the children that it has so far, and all that stands after it stands within it
 pub record IsOpenEntry (entries : List Entry) (inner : Open) (outer : List Open) : Type 0 where
   pub entry : Entry
   pub stands : StandsAt entries inner.number entry
@@ -254,7 +254,7 @@ pub record Stands (entries : List Entry) (open_elements : List Open) : Type 0 wh
   pub base : Base entries (numbers open_elements)
   pub path : ArePath entries open_elements
 
--- the entries behind a start tag, whose element is to be opened or has no children
+-- the entries after a start tag, whose element is to be opened or has no children
 pub record Enters (entries : List Entry) (open_elements : List Open) (number : ℕ) (entry : Entry) : Type 0 where
   pub base : Base entries (number ∷ numbers open_elements)
   pub path : ArePath entries open_elements

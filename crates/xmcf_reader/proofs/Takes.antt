@@ -1,4 +1,4 @@
--- What is spelled as a token, with a byte behind it that ends it, is taken.
+-- What is spelled as a token, with a byte after it that ends it, is taken.
 use Rattle.std.proofs.Common.{◌≡◌, ℕ, suc, ◌+◌, ◌<◌, ◌==◌, Bool, true, false, cond, List, [], ◌∷◌, ◌++◌, length, take, drop, get_or, Option, Some, None, refl, sym, ap, ◌∙◌, arith, append_assoc, length-append}
 use Rattle.std.specs.Prelude.{nat_lt}
 use Rattle.std.specs.Option.{option_map}
@@ -20,7 +20,7 @@ none_before : (test : ℕ → Bool) (word : List ℕ) (byte : ℕ) (rest : List 
 none_before test [] byte rest none here = rw here refl
 none_before test (other ∷ word) byte rest none here = rw none.0 (ap (option_map suc) (none_before test word byte rest none.1 here))
 
--- the front and the rest of a text
+-- the prefix and the rest of a text
 front_of : (word rest : List ℕ) → take (length word) (word ++ rest) ≡ word
 front_of [] rest = refl
 front_of (byte ∷ word) rest = ap (λ more. byte ∷ more) (front_of word rest)
@@ -118,7 +118,7 @@ dashes_found (one ∷ two ∷ body) more plain = by (are_dashes (one, two)) (fir
     by false None long e more = ap (option_map suc) (more refl)
     by false (Some k) long e more = cc
 
--- two behind the front
+-- two after the prefix
 two_behind : (body : List ℕ) (more : List ℕ) (n : ℕ) → n ≡ length body → drop (n + 2) (body ++ 45 ∷ 45 ∷ more) ≡ more
 two_behind body more n e =
     let long : n + 2 ≡ length (body ++ 45 ∷ 45 ∷ []) = omega (arith, e, length-append body (45 ∷ 45 ∷ [])) in
@@ -130,7 +130,7 @@ comment_taken first body rest plain =
     let found : position are_dashes (pairs (body ++ 45 ∷ 45 ∷ 62 ∷ rest)) ≡ Some (length body) = position_first are_dashes (pairs (body ++ 45 ∷ 45 ∷ 62 ∷ rest)) ∙ dashes_found body (62 ∷ rest) plain in
     rw found (rw (two_behind body (62 ∷ rest) (length body) refl) (ap (Found Comment) (omega arith)))
 
--- one behind the front
+-- one after the prefix
 one_behind : (body : List ℕ) (byte : ℕ) (more : List ℕ) → drop (length body + 1) (body ++ byte ∷ more) ≡ more
 one_behind body byte more =
     let long : length body + 1 ≡ length (body ++ byte ∷ []) = omega (arith, length-append body (byte ∷ [])) in
@@ -152,13 +152,13 @@ blank_of_no_name : (byte : ℕ) → is_blank byte ≡ true → is_of_name byte �
 unfolding is_blank is_of_name is_letter is_digit
 blank_of_no_name byte e = grind (arith, nat_tests, e)
 
--- behind a tag's name stands no byte of a name
+-- after a tag's name stands no byte of a name
 stops_name : (blanks rest : List ℕ) → Each is_blank blanks → TestStopsAt is_of_name (blanks ++ 62 ∷ rest)
 unfolding is_of_name is_letter is_digit
 stops_name [] rest each = refl
 stops_name (byte ∷ blanks) rest each = blank_of_no_name byte each.0
 
--- behind blanks stands no blank
+-- after blanks stands no blank
 stops_blank : (rest : List ℕ) → TestStopsAt is_blank (62 ∷ rest)
 unfolding is_blank
 stops_blank rest = refl
@@ -194,7 +194,7 @@ taken_as : (first : Bool) (token : Token) (word spelled text rest : List ℕ) (s
 taken_as first token word spelled text rest size is whole found long =
     ap (λ other. front first (other ++ rest)) is ∙ ap (front first) whole ∙ found ∙ ap (Found token) (long ∙ sym (ap length is))
 
--- what is spelled as a token, with a byte behind it that ends it, is taken
+-- what is spelled as a token, with a byte after it that ends it, is taken
 pub token_taken : (first : Bool) (token : Token) (word rest : List ℕ) → SpellsToken token word → Ends token first rest → front first (word ++ rest) ≡ Found token (length word)
 token_taken first Blanks word rest spells ends = blanks_taken first word rest spells ends
 token_taken first Comment word rest spells ends =

@@ -55,7 +55,7 @@ on_some (Some x) = refl
 pub last_flag : (text : List ℕ) (found : FlagSet) → position is_space text ≡ None → with_flag text found ≡ with_flags (split text) found
 last_flag text found e = rw (one_word_at text e) (on_some (with_flag text found))
 
--- the flags of a text go on behind its first word
+-- the flags of a text go on after its first word
 pub more_flags : (text : List ℕ) (at : ℕ) (found : FlagSet) → position is_space text ≡ Some at → on_value (with_flag (take at text) found) (λ more. with_flags (split (drop (at + 1) text)) more) ≡ with_flags (split text) found
 more_flags text at found e = rw (first_word_at text at e) refl
 

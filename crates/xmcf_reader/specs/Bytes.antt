@@ -40,7 +40,7 @@ abbrev pub first_where : {X : Type 0} → (X → Bool) → List X → Option ℕ
 first_where test [] = None
 first_where test (x ∷ xs) = if test x then Some 0 else option_map suc (first_where test xs)
 
--- each byte with the one behind it
+-- each byte with the one after it
 abbrev pub pairs : List ℕ → List (ℕ × ℕ)
 pairs bytes = zip bytes (drop 1 bytes)
 

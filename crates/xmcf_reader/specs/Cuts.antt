@@ -16,7 +16,7 @@ StopsWithin (Break at) size = at ≤ size
 StopsWithin (Reference at) size = at ≤ size
 StopsWithin Ended size = Unit {0}
 
--- what is found at the front of so many bytes has one at least, and not more
+-- what is found at the beginning of so many bytes has one at least, and not more
 abbrev pub FrontWithin : Front → ℕ → Type 0
 FrontWithin (Found token size) most = (1 ≤ size) × (size ≤ most)
 FrontWithin (Broken stop) most = StopsWithin stop most
@@ -29,13 +29,13 @@ cut_left tokens = cut tokens.place 0 tokens.rest.now
 abbrev pub text_length : Tokens → ℕ
 text_length tokens = tokens.place + length tokens.rest.now
 
--- what came next, of the cut before and the cut behind it
+-- what came next, of the cut before and the cut after it
 abbrev pub IsNext : Next → Cut → Cut → Type 0
 IsNext (Item token at) before behind = before ≡ faults.Item (token_of token) at behind
 IsNext (Rest at byte broken) before behind = before ≡ faults.Rest at byte broken
 IsNext (End at) before behind = before ≡ faults.End at
 
--- a token stands at its place, and the next one behind it
+-- a token stands at its place, and the next one after it
 abbrev pub MovesOn : Next → Tokens → Tokens → Type 0
 MovesOn (Item token at) before behind = (at ≡ before.place) × (before.place < behind.place)
 MovesOn (Rest at byte broken) before behind = at ≡ before.place

@@ -100,7 +100,7 @@ abbrev pub child_noted : Word → List Open → List Open
 child_noted word [] = []
 child_noted word (parent ∷ outer) = record parent { children = parent.children ++ word ∷ [] } ∷ outer
 
--- behind blanks an attribute may stand
+-- after blanks an attribute may stand
 abbrev pub blank_passed : Stage → Stage
 blank_passed Between = Between
 blank_passed Bare = Spaced
@@ -135,7 +135,7 @@ valued (Named attribute) text context = context
 valued (Equaled attribute) text context =
     record context { stage = Bare; tag = record { at = context.tag.at; word = context.tag.word; given = context.tag.given ++ (record { word = attribute.word; text = text }) ∷ [] } }
 
--- the element of a start tag is an entry, behind those before it
+-- the element of a start tag is an entry, after those before it
 abbrev pub entry_added : Option Element → Context → List Entry
 entry_added None context = context.entries
 entry_added (Some what) context = context.entries ++ (record { at = context.tag.at; parent = parent_number context.open_elements; what = what }) ∷ []

@@ -47,7 +47,7 @@ word_of (element.Destination part name) = word.Destination
 abbrev pub StandsAt : List Entry → ℕ → Entry → Type 0
 StandsAt entries number entry = slice_get entries number ≡ Some entry
 
--- the entries behind the first
+-- the entries after the first
 abbrev pub behind_root : List Entry → List Entry
 behind_root [] = []
 behind_root (root ∷ entries) = entries

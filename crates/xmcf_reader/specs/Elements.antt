@@ -132,7 +132,7 @@ port_element given =
     on_value (kind_named (attribute_text_of word.Kind given)) (λ kind.
     on_value (way_named (attribute_text_of word.Direction given)) (λ way. Some (element.Port name kind way))))
 
--- a sampling channel's refresh period; 0 is for ever
+-- a sampling channel's refresh period; 0 is forever
 unfoldable pub refresh : List Pair → Option ℕ
 refresh given = default 0 time (attribute_text word.RefreshPeriod given)
 

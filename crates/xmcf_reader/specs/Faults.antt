@@ -31,7 +31,7 @@ stopped at size (Break offset) = fault.BadItem (at + offset)
 stopped at size (Reference offset) = fault.Reference (at + offset)
 stopped at size Ended = fault.Unclosed (at + size)
 
--- a cut by what stands at the front of a byte and those behind it, with the cut of these behind so many bytes more
+-- a cut by what stands at the beginning of a byte and those after it, with the cut of these after so many bytes more
 abbrev pub cut_at : Front → ℕ → ℕ → ℕ → (ℕ → Cut) → Cut
 cut_at (Found token size) at byte behind next = Item token at (next (size - 1))
 cut_at (Broken stop) at byte behind next = Rest at byte (stopped at (behind + 1) stop)
@@ -71,7 +71,7 @@ may_end Spaced = true
 may_end (Named attribute) = false
 may_end (Equaled attribute) = false
 
--- behind an attribute's name
+-- after an attribute's name
 abbrev pub is_named : Stage → Bool
 is_named Between = false
 is_named Bare = false
@@ -195,7 +195,7 @@ rank fault.Memory = 11
 abbrev pub comes_before : ReadFault → ReadFault → Bool
 comes_before one other = nat_lt (place one) (place other) || (nat_eq (place one) (place other) && nat_lt (rank one) (rank other))
 
--- the lesser of a fault and what is the least behind it; of equals the first
+-- the lesser of a fault and what is the least after it; of equals the first
 abbrev pub lesser_fault : ReadFault → Option ReadFault → Option ReadFault
 lesser_fault one None = Some one
 lesser_fault one (Some other) = if comes_before other one then Some other else Some one
@@ -220,7 +220,7 @@ abbrev pub first_of : List ReadFault → Option ReadFault
 first_of [] = None
 first_of (one ∷ others) = Some one
 
--- a fault is the first of faults; want of memory is free
+-- a fault is the first of faults; out of memory may always be the answer
 abbrev pub IsFirst : ReadFault → List ReadFault → Type 0
 IsFirst found [] = found ≡ fault.Memory
 IsFirst found (one ∷ others) = (found ≡ fault.Memory) ⊎ (found ≡ one)

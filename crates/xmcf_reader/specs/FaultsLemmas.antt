@@ -25,7 +25,7 @@ first_passes {X} test fault_of (y ∷ ys) x e = at (test y) e (first_passes test
     at true f more = let same : x ≡ y = cc in inr (ap fault_of same)
     at false f more = more f
 
--- want of memory is free, whatever is broken
+-- out of memory may always be the answer, whatever is broken
 pub memory_first : (one : ReadFault) (faults : List ReadFault) → one ≡ fault.Memory → IsFirst one faults
 memory_first one [] e = e
 memory_first one (other ∷ others) e = inl e

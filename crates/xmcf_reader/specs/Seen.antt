@@ -24,7 +24,7 @@ token_of code.TagEnd = spec.TagEnd
 token_of code.EmptyEnd = spec.EmptyEnd
 token_of (code.EndTag name) = spec.EndTag name.now
 
--- what the program finds at the front of a text
+-- what the program finds at the beginning of a text
 abbrev pub prefix_seen : front.Front → spec.Front
 prefix_seen (front_code.Found token size) = spec.Found (token_of token) size
 prefix_seen (front_code.Broken stop) = spec.Broken stop

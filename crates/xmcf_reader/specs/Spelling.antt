@@ -82,7 +82,7 @@ SpellsToken TagEnd word = word ≡ codes ">"
 SpellsToken EmptyEnd word = word ≡ codes "/>"
 SpellsToken (EndTag name) word = IsEndTag name word
 
--- a token stands at a place, spelled by the front of a text
+-- a token stands at a place, spelled by the prefix of a text
 pub record IsTokenAt (token : Token) (at place : ℕ) (text word rest : List ℕ) : Type 0 where
   pub is : text ≡ word ++ rest
   pub here : place ≡ at
@@ -103,14 +103,14 @@ abbrev pub TestStopsAt : (ℕ → Bool) → List ℕ → Type 0
 TestStopsAt test [] = Unit {0}
 TestStopsAt test (byte ∷ bytes) = test byte ≡ false
 
--- a byte stands behind that is of no name
+-- a byte stands after that is of no name
 pub record EndsName (rest : List ℕ) : Type 0 where
   pub behind : ℕ
   pub more : List ℕ
   pub is : rest ≡ behind ∷ more
   pub apart : is_of_name behind ≡ false
 
--- what stands behind a token ends it; a declaration stands at the text's first place
+-- what stands after a token ends it; a declaration stands at the text's first place
 abbrev pub Ends : Token → Bool → List ℕ → Type 0
 Ends Blanks first rest = TestStopsAt is_blank rest
 Ends Comment first rest = Unit {0}
@@ -123,6 +123,6 @@ Ends TagEnd first rest = Unit {0}
 Ends EmptyEnd first rest = Unit {0}
 Ends (EndTag name) first rest = Unit {0}
 
--- what is spelled as a token, with a byte behind it that ends it, is the token that is found
+-- what is spelled as a token, with a byte after it that ends it, is the token that is found
 abbrev pub SpelledIsTaken : Type 0
 SpelledIsTaken = (first : Bool) (token : Token) (word rest : List ℕ) → SpellsToken token word → Ends token first rest → front first (word ++ rest) ≡ Found token (length word)

@@ -63,7 +63,7 @@ abbrev pub AllClosed : List Placed → Type 0
 AllClosed [] = Unit {0}
 AllClosed (one ∷ more) = (count_begun (one ∷ more) ≤ count_ended (one ∷ more)) × AllClosed more
 
--- the innermost element that is open behind tokens has this number: its start tag is the last token from which on more
+-- the innermost element that is open after tokens has this number: its start tag is the last token from which on more
 -- elements begin than end
 pub record IsInnermost (tokens : List Placed) (number : ℕ) : Type 0 where
   pub before : List Placed
@@ -74,11 +74,11 @@ pub record IsInnermost (tokens : List Placed) (number : ℕ) : Type 0 where
   pub closed : AllClosed behind
   pub number_is : number ≡ count_begun before
 
--- an element that begins behind tokens has the innermost open element as its parent; the parent of the first is 0
+-- an element that begins after tokens has the innermost open element as its parent; the parent of the first is 0
 abbrev pub IsParent : List Placed → ℕ → Type 0
 IsParent before number = ((count_begun before ≡ 0) × (number ≡ 0)) ⊎ IsInnermost before number
 
--- a token of a start tag and those behind it; the end of the tag ends them
+-- a token of a start tag and those after it; the end of the tag ends them
 abbrev pub tag_token : Token → List Token → List Token
 tag_token Blanks more = Blanks ∷ more
 tag_token Comment more = Comment ∷ more
@@ -91,12 +91,12 @@ tag_token TagEnd more = []
 tag_token EmptyEnd more = []
 tag_token (EndTag name) more = EndTag name ∷ more
 
--- the tokens of a start tag behind its name
+-- the tokens of a start tag after its name
 abbrev pub in_tag : List Placed → List Token
 in_tag [] = []
 in_tag (one ∷ more) = tag_token one.token (in_tag more)
 
--- a token and those behind it, of which only names count
+-- a token and those after it, of which only names count
 abbrev pub name_token : Token → List (List ℕ) → List (List ℕ)
 name_token Blanks more = more
 name_token Comment more = more
@@ -114,7 +114,7 @@ abbrev pub names_in : List Token → List (List ℕ)
 names_in [] = []
 names_in (one ∷ more) = name_token one (names_in more)
 
--- a token and those behind it, of which only values count
+-- a token and those after it, of which only values count
 abbrev pub value_token : Token → List (List ℕ) → List (List ℕ)
 value_token Blanks more = more
 value_token Comment more = more
@@ -140,7 +140,7 @@ pair_named element pair = option_map (λ attribute. record { word = attribute.wo
 abbrev pub given_in : Word → List Token → List Pair
 given_in element tokens = filter_map (pair_named element) (zip (names_in tokens) (values_in tokens))
 
--- the entry of the start tag with this name and place, behind and before these tokens: its element, with the values of
+-- the entry of the start tag with this name and place, after and before these tokens: its element, with the values of
 -- the tag, and its parent
 pub record IsEntryOf (before : List Placed) (name : List ℕ) (at : ℕ) (behind : List Placed) (entry : Entry) : Type 0 where
   pub place : entry.at ≡ at

@@ -1,4 +1,4 @@
--- The tokens of an XM_CF text: what token stands at the front of a text, and the cut of a text into tokens.
+-- The tokens of an XM_CF text: what token stands at the beginning of a text, and the cut of a text into tokens.
 use Rattle.std.specs.Prelude.{ℕ, ◌+◌, ◌==◌, Bool, ◌&&◌, nat_lt, nat_eq, if◌then◌else◌, List, [], ◌∷◌, length, codes, take, drop, slice_index, Option, Some, None}
 use Rattle.std.specs.List.{position, prefix_len, starts_with}
 use Rattle.xmcf_reader.specs.Bytes.{is_blank, is_letter, is_of_name, is_quote, ends_value, ends_declaration, pairs, are_dashes}
@@ -18,7 +18,7 @@ pub data Token : Type 0 where
   EmptyEnd : Token
   EndTag : (name : List ℕ) → Token
 
--- what stands at the front of a text: a token and its length, or where its spelling stops
+-- what stands at the beginning of a text: a token and its length, or where its spelling stops
 pub data Front : Type 0 where
   Found : (token : Token) (size : ℕ) → Front
   Broken : (stop : Stop) → Front
@@ -43,7 +43,7 @@ remark [] = Broken Ended
 remark (one ∷ []) = if one == 45 then Broken Ended else Broken (Break 0)
 remark (one ∷ two ∷ bytes) = if one == 45 && two == 45 then comment bytes else Broken (Break 0)
 
--- a declaration at its first `?`, `&` or byte past ASCII, with what stands behind that
+-- a declaration at its first `?`, `&` or byte past ASCII, with what stands after that
 unfoldable pub declaration_byte : ℕ → ℕ → List ℕ → Front
 declaration_byte at byte bytes =
     if byte == 63 then byte_token 62 Declaration (at + 7) bytes
@@ -65,7 +65,7 @@ declared bytes =
     else (if starts_with nat_eq bytes (codes "xml") && is_blank (slice_index bytes 3) then declaration (drop 4 bytes)
     else Broken (Break 0))
 
--- a name that stands behind so many bytes of its token; a byte has to follow it
+-- a name that stands after so many bytes of its token; a byte has to follow it
 unfoldable pub named_token : (List ℕ → Token) → ℕ → ℕ → List ℕ → Front
 named_token token before size bytes = if nat_lt size (length bytes) then Found (token (take size bytes)) (before + size) else Broken Ended
 
@@ -107,7 +107,7 @@ value_at quote (Some at) bytes = value_byte quote at (slice_index bytes at) (tak
 unfoldable pub value : ℕ → List ℕ → Front
 value quote bytes = value_at quote (position (ends_value quote) bytes) bytes
 
--- what stands at the front of a text, at the text's first place or at a later one
+-- what stands at the beginning of a text, at the text's first place or at a later one
 unfoldable pub front : Bool → List ℕ → Front
 front first [] = Broken Ended
 front first (byte ∷ bytes) =

@@ -33,7 +33,7 @@ digit base byte =
     else (if base == 16 && nat_le 97 byte && nat_le byte 102 then Some (byte - 87)
     else None))
 
--- the number that digits spell behind those of a number
+-- the number that digits spell after those of a number
 abbrev pub spelled : ℕ → ℕ → List ℕ → Option ℕ
 spelled base n [] = Some n
 spelled base n (byte ∷ bytes) = on_value (digit base byte) (λ d. spelled base (n * base + d) bytes)
@@ -54,7 +54,7 @@ address text = if starts_with nat_eq text (codes "0x") then on_value (digits 16 
 unfoldable pub millionths : ℕ → ℕ → ℕ → ℕ
 millionths whole part size = whole * 1000000 + part * 10 ^ (6 - size)
 
--- a decimal number with a part behind its point, in millionths
+-- a decimal number with a part after its point, in millionths
 unfoldable pub parted : List ℕ → List ℕ → Option ℕ
 parted whole part = on_value (digits 10 10 whole) (λ w. on_value (digits 10 6 part) (λ p. Some (millionths w p (length part))))
 

@@ -101,7 +101,7 @@ pub enum Element {
     },
     /// The channels.
     Channels,
-    /// A sampling channel; a refresh period of 0 is for ever.
+    /// A sampling channel; a refresh period of 0 is forever.
     Sampling {
         length: u32,
         refresh: u32,

@@ -88,7 +88,7 @@ fn is_logged(given: &[Pair<'_>]) -> Option<bool>
     }
 }
 
-/// A sampling channel's refresh period; 0 is for ever.
+/// A sampling channel's refresh period; 0 is forever.
 #[tactic(auto, unfolding(crate::specs::Elements::refresh))]
 fn refresh(given: &[Pair<'_>]) -> Option<u32>
     ensures { result ≡ elements.refresh (pairs_of given.now) }

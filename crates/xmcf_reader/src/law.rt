@@ -8,12 +8,12 @@ pub fn spelled()
     ensures { TextIsCut }
 {}
 
-/// What is spelled as a token, with a byte behind it that ends it, is the token that is found.
+/// What is spelled as a token, with a byte after it that ends it, is the token that is found.
 pub fn taken()
     ensures { SpelledIsTaken }
 {}
 
-/// What a text without a fault gives is a draft: each start tag gives its entry, behind its parent, and each entry has the
+/// What a text without a fault gives is a draft: each start tag gives its entry, after its parent, and each entry has the
 /// children that the table allows and demands.
 pub fn drafted()
     ensures { FaultlessIsDraft }

@@ -1,4 +1,4 @@
-//! What token stands at the front of a text.
+//! What token stands at the beginning of a text.
 
 ghost use Rattle.std.specs.Prelude.{◌≡◌, ℕ, ◌+◌, ◌<◌, ◌≤◌, ◌^◌, length, IfSome};
 ghost use Rattle.std.specs.List.{position, prefix_len};
@@ -73,7 +73,7 @@ fn ends_declaration(byte: u8) -> bool
     byte == b'?' || byte == b'&' || is_past_ascii(byte)
 }
 
-/// How many blanks stand at the front.
+/// How many blanks stand at the beginning.
 fn blanks(bytes: &[u8]) -> usize
     ensures count { result ≡ prefix_len is_blank bytes.now }
     ensures within { result ≤ length bytes.now }
@@ -81,7 +81,7 @@ fn blanks(bytes: &[u8]) -> usize
     bytes.iter().take_while(|byte| is_blank(**byte)).count()
 }
 
-/// How many bytes of a name stand at the front.
+/// How many bytes of a name stand at the beginning.
 fn name_size(bytes: &[u8]) -> usize
     ensures count { result ≡ prefix_len is_of_name bytes.now }
     ensures within { result ≤ length bytes.now }
@@ -321,7 +321,7 @@ fn value(quote: u8, bytes: &[u8]) -> Front<'_>
     }
 }
 
-/// What stands at the front of a text, at its first place or at a later one.
+/// What stands at the beginning of a text, at its first place or at a later one.
 #[tactic(auto, unfolding(crate::specs::Tokens::front))]
 pub(crate) fn front(first: bool, bytes: &[u8]) -> Front<'_>
     requires { length bytes.now < 2 ^ 32 }

@@ -12,13 +12,13 @@ use crate::table::Attribute;
 pub(crate) enum Stage {
     /// Between tags.
     Between,
-    /// In a start tag, right behind its name or a value.
+    /// In a start tag, right after its name or a value.
     Bare,
-    /// In a start tag, behind blanks: an attribute may stand.
+    /// In a start tag, after blanks: an attribute may stand.
     Spaced,
-    /// Behind an attribute's name.
+    /// After an attribute's name.
     Named(Attribute),
-    /// Behind an attribute's `=`.
+    /// After an attribute's `=`.
     Equaled(Attribute),
 }
 
@@ -53,7 +53,7 @@ impl Stage {
         }
     }
 
-    /// Whether it is behind an attribute's name.
+    /// Whether it is after an attribute's name.
     pub(crate) fn is_named(self) -> bool
         ensures { result ≡ faults.is_named self }
     {
@@ -76,7 +76,7 @@ impl Stage {
         }
     }
 
-    /// The stage behind blanks.
+    /// The stage after blanks.
     pub(crate) fn spaced(self) -> Stage
         ensures { result ≡ draft.blank_passed self }
     {
@@ -86,7 +86,7 @@ impl Stage {
         }
     }
 
-    /// The stage behind a `=`.
+    /// The stage after a `=`.
     pub(crate) fn equaled(self) -> Stage
         ensures { result ≡ draft.equaled self }
     {

@@ -25,7 +25,7 @@ pub(crate) enum Token<'a> {
     EndTag(&'a [u8]),
 }
 
-/// Why no token stands at the front of a text.
+/// Why no token stands at the beginning of a text.
 #[derive(Clone, Copy, Debug, PartialEq, Eq)]
 pub(crate) enum Stop {
     /// The spelling breaks at this byte.
@@ -36,7 +36,7 @@ pub(crate) enum Stop {
     Ended,
 }
 
-/// What stands at the front of a text.
+/// What stands at the beginning of a text.
 #[derive(Clone, Copy, Debug)]
 pub(crate) enum Front<'a> {
     /// A token, and its length.

@@ -112,7 +112,7 @@ fn millionths(whole: u64, part: u64, size: usize) -> u64
     whole * MILLION + part * unit
 }
 
-/// A decimal number with a part behind its point, in millionths.
+/// A decimal number with a part after its point, in millionths.
 #[tactic(auto, unfolding(crate::specs::Values::parted))]
 fn parted(whole: &[u8], part: &[u8]) -> Option<u64>
     ensures value { result ≡ values.parted whole.now part.now }
@@ -298,7 +298,7 @@ fn space(text: &[u8]) -> Option<usize>
     text.iter().position(|byte| *byte == b' ')
 }
 
-/// The flags that single spaces part, behind those that were found.
+/// The flags that single spaces part, after those that were found.
 fn more_flags(text: &[u8], found: FlagSet) -> Option<FlagSet>
     ensures { option_map flags_of result ≡ values.with_flags (values.split text.now) (flags_of found) }
 {

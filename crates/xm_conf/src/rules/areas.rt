@@ -116,7 +116,7 @@ fn parts_outside_areas(regions: &[Region], parts: &[Part]) -> Option<Broken>
     None
 }
 
-/// What is left of a room for bytes behind these areas, or `None` where they have more.
+/// What is left of a room for bytes after these areas, or `None` where they have more.
 #[tactic(auto, using(crate::proofs::RoomLemmas::room_loop))]
 fn room_behind(areas: &[Area], room: u32) -> Option<u32>
     ensures { result ≡ room_after room (sum_by (λ area. area.size) areas.now) }
@@ -128,7 +128,7 @@ fn room_behind(areas: &[Area], room: u32) -> Option<u32>
     Some(room)
 }
 
-/// What is left of a room for bytes behind the areas of these partitions.
+/// What is left of a room for bytes after the areas of these partitions.
 #[tactic(auto, using(crate::proofs::RoomLemmas::room_loop), unfolding(crate::specs::Rules::part_size))]
 fn room_behind_all(parts: &[Part], room: u32) -> Option<u32>
     ensures { result ≡ room_after room (sum_by rules.part_size parts.now) }

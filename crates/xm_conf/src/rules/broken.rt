@@ -1,4 +1,4 @@
-//! What is told of a rule that is broken.
+//! What is reported of a rule that is broken.
 
 ghost use Rattle.std.specs.Prelude.{◌≡◌};
 ghost use Rattle.xm_conf.specs.Along.{head_of, unless as unless_of};

@@ -29,7 +29,7 @@ fn in_frame(frame: u32, slot: &Slot) -> bool
     0 < slot.duration && end <= u64::from(frame)
 }
 
-/// A slot that does not last, or ends behind the frame.
+/// A slot that does not last, or ends after the frame.
 #[tactic(auto, unfolding(crate::specs::Rules::late_slot))]
 fn late_slot(p: u8, frame: u32, n: u8, slot: &Slot) -> Option<Broken>
     ensures { result ≡ head_of (rules.late_slot p frame n slot.now) }
@@ -37,7 +37,7 @@ fn late_slot(p: u8, frame: u32, n: u8, slot: &Slot) -> Option<Broken>
     unless_by(in_frame(frame, slot), 11, Item::Slot(p, n), Item::Plan(p))
 }
 
-/// The first slot that does not last, or ends behind the frame.
+/// The first slot that does not last, or ends after the frame.
 #[tactic(auto, using(crate::specs::AlongLemmas::each_loop))]
 fn late_slots(p: u8, frame: u32, slots: &[Slot]) -> Option<Broken>
     requires { length slots.now ≤ 64 }

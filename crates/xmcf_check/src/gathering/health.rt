@@ -128,7 +128,7 @@ pub(super) fn table(given: &[Given]) -> HmTable
     }
 }
 
-/// All answers to an event, behind the others.
+/// All answers to an event, after the others.
 #[tactic(auto, unfolding(crate::specs::Described::answers_to))]
 fn push_answers(answers: &mut Vec<Answer>, given: &[Given], event: Event) -> Result<(), Memory>
     ensures { OnOk result (answers.new.items ≡ answers.old.items ++ answers_to given.now event) }
