@@ -10,10 +10,10 @@ use Rattle.xm_base.specs.declared.limits.TheConstants.{FILE_BYTES}
 use Rattle.xef_images.specs.Image.{Image, Segment, end_of, xef_length, IsSegment, IsImage}
 use Rattle.xef_images.specs.ImageLemmas.{SegmentsRiseFrom, Decides-nat_lt, image_from_parts, is_entry-Decides}
 use Rattle.xef_images.specs.Tests.{is_entry}
-use Rattle.xef_images.specs.FieldLemmas.{AreBytes-drop, AreBytes-take, wide32}
-use Rattle.xef_images.specs.StepLemmas.{stepped, ok_is, led_on}
+use Rattle.sealed_files.specs.FieldLemmas.{AreBytes-drop, AreBytes-take, wide32}
+use Rattle.sealed_files.specs.StepLemmas.{stepped, ok_is, led_on}
 use Rattle.xef_images.proofs.SortLemmas.{all_sorted, length-sorted}
-use Rattle.xef_images.specs.Steps.{◌>>=◌}
+use Rattle.sealed_files.specs.Steps.{◌>>=◌}
 use Rattle.xef_images.specs.Elf.{elf_word, header_count, header_at, is_loaded, is_cut, segment_of, segment_from, load_at, loads, sorted, overlap, overlap_fault, verdict, elf}
 use Rattle.xef_images.specs.declared.header.Header.{Header}
 use Rattle.xef_images.specs.declared.fault.ElfFault.{ElfFault}

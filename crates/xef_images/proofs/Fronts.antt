@@ -4,7 +4,7 @@ use Rattle.std.proofs.Math.Seq.{drop-cons}
 use Rattle.std.proofs.lemmas.List.{append-nil, drop_all}
 use Rattle.xm_base.specs.Cursor.{Place}
 use Rattle.xef_images.specs.Image.{Segment}
-use Rattle.xef_images.specs.Steps.{◌>>=◌}
+use Rattle.sealed_files.specs.Steps.{◌>>=◌}
 use Rattle.xef_images.specs.Reading.{row_at, rows_at, segment_at, segments_at}
 use Rattle.xef_images.specs.Gives.{Fails}
 use Rattle.xef_images.specs.declared.row.Row.{Row}

@@ -3,7 +3,7 @@ use Rattle.std.specs.Prelude.{ℕ, zero, suc, ◌+◌, ◌^◌, ◌==◌, Bool, 
 use Rattle.std.specs.Int.{w16, w32, from_be_bytes}
 use Rattle.std.specs.Str.{bytes_eq}
 use Rattle.xef_images.specs.Image.{Image, Segment, end_of, xef_length}
-use Rattle.xef_images.specs.Steps.{◌>>=◌}
+use Rattle.sealed_files.specs.Steps.{◌>>=◌}
 use Rattle.xef_images.specs.Tests.{is_entry}
 use Rattle.xef_images.specs.declared.header.Header.{Header}
 use Rattle.xef_images.specs.declared.fault.ElfFault.{ElfFault}

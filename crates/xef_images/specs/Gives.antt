@@ -1,6 +1,5 @@
 -- What a reader of a file answers, against what reading gives.
-use Rattle.std.specs.Prelude.{◌≡◌, Result, Ok, Err}
-use Rattle.xm_base.specs.Cursor.{Place}
+use Rattle.std.specs.Prelude.{◌≡◌, Result, Err}
 use Rattle.xef_images.specs.declared.fault.XefFault.{XefFault}
 use Rattle.xef_images.specs.declared.fault.XefFault.TheVariants as fault
 
@@ -13,23 +12,3 @@ Fails (fault.Short at) read = read ≡ Err (fault.Short at)
 Fails (fault.Trailing at) read = read ≡ Err (fault.Trailing at)
 Fails (fault.Digest stored found) read = read ≡ Err (fault.Digest stored found)
 Fails (fault.Field at) read = read ≡ Err (fault.Field at)
-
--- what was answered is what reading gives, unless there was no memory
-abbrev pub Gives : {X Y : Type 0} → (X → Y) → Result X XefFault → Result Y XefFault → Type 0
-Gives view (Ok value) read = read ≡ Ok (view value)
-Gives view (Err fault) read = Fails fault read
-
--- what was answered is what reading gives
-abbrev pub IsRead : {X Y : Type 0} → (X → Y) → Result X XefFault → Result Y XefFault → Type 0
-IsRead view (Ok value) read = read ≡ Ok (view value)
-IsRead view (Err fault) read = read ≡ Err fault
-
--- the same for a cursor, which stands after what was read
-abbrev pub IsReadAt : {X Y : Type 0} → (X → Y) → Result X XefFault → Place → Result (Y × Place) XefFault → Type 0
-IsReadAt view (Ok value) place read = read ≡ Ok (view value, place)
-IsReadAt view (Err fault) place read = read ≡ Err fault
-
--- the same for a cursor, unless there was no memory
-abbrev pub GivesAt : {X Y : Type 0} → (X → Y) → Result X XefFault → Place → Result (Y × Place) XefFault → Type 0
-GivesAt view (Ok value) place read = read ≡ Ok (view value, place)
-GivesAt view (Err fault) place read = Fails fault read

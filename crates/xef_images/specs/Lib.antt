@@ -1,14 +1,11 @@
 pub mod Elf
 pub mod ElfGives
-pub mod FieldLemmas
 pub mod Gives
 pub mod Image
 pub mod ImageLemmas
 pub mod Laws
 pub mod Reading
 pub mod Spelling
-pub mod StepLemmas
-pub mod Steps
 pub mod TableLemmas
 pub mod Tests
 pub mod Texts

@@ -10,10 +10,11 @@ use Rattle.xm_base.specs.Cursor.{Place, ahead}
 use Rattle.xef_images.specs.Image.{Segment, contents, end_of}
 use Rattle.xef_images.specs.ImageLemmas.{SegmentsRiseFrom, Decides-nat_le}
 use Rattle.xef_images.specs.Spelling.{row_text}
-use Rattle.xef_images.specs.StepLemmas.{stepped, ok_is}
-use Rattle.xef_images.specs.Steps.{◌>>=◌}
-use Rattle.xef_images.specs.Reading.{bytes_at, address_at, memory_at, count_at, row_at, rows_at, segment_at, segments_at}
-use Rattle.xef_images.specs.FieldLemmas.{Takes, takes_both, bytes_take, wide32, listed_takes, Reads, bytes_again, listed_again}
+use Rattle.sealed_files.specs.StepLemmas.{stepped, ok_is}
+use Rattle.sealed_files.specs.Steps.{◌>>=◌}
+use Rattle.sealed_files.specs.Fields.{field_bytes}
+use Rattle.xef_images.specs.Reading.{xef_field, xef_short, address_at, memory_at, count_at, row_at, rows_at, segment_at, segments_at}
+use Rattle.sealed_files.specs.FieldLemmas.{Takes, takes_both, bytes_take, wide32, listed_takes, Reads, bytes_again, listed_again}
 use Rattle.xef_images.specs.declared.row.Row.{Row}
 
 -- the row of a segment
@@ -44,9 +45,9 @@ row_takes floor place row after each e =
     let a = stepped (address_at floor place) (λ address. memory_at address.0 address.1 >>= λ memory. count_at memory.0 memory.1 >>= λ count. Ok (record { address = address.0; memory = memory.0; count = count.0 }, count.1)) (row, after) e in
     let m = stepped (memory_at a.value.0 a.value.1) (λ memory. count_at memory.0 memory.1 >>= λ count. Ok (record { address = a.value.0; memory = memory.0; count = count.0 }, count.1)) (row, after) a.led in
     let n = stepped (count_at m.value.0 m.value.1) (λ count. Ok (record { address = a.value.0; memory = m.value.0; count = count.0 }, count.1)) (row, after) m.led in
-    let first = listed_takes w32 (2 ^ 32) wide32 (λ address. nat_le floor address) place a.value.0 a.value.1 each a.is in
-    let second = listed_takes w32 (2 ^ 32) wide32 (λ memory. nat_le 1 memory && nat_le (a.value.0 + memory) (2 ^ 32)) a.value.1 m.value.0 m.value.1 first.0.rest m.is in
-    let third = listed_takes w32 (2 ^ 32) wide32 (λ count. nat_le count m.value.0) m.value.1 n.value.0 n.value.1 second.0.rest n.is in
+    let first = listed_takes xef_short xef_field w32 (2 ^ 32) wide32 (λ address. nat_le floor address) place a.value.0 a.value.1 each a.is in
+    let second = listed_takes xef_short xef_field w32 (2 ^ 32) wide32 (λ memory. nat_le 1 memory && nat_le (a.value.0 + memory) (2 ^ 32)) a.value.1 m.value.0 m.value.1 first.0.rest m.is in
+    let third = listed_takes xef_short xef_field w32 (2 ^ 32) wide32 (λ count. nat_le count m.value.0) m.value.1 n.value.0 n.value.1 second.0.rest n.is in
     let sizes = (Decides-and _ _ (Decides-nat_le 1 m.value.0) (Decides-nat_le (a.value.0 + m.value.0) (2 ^ 32))).0 second.2 in
     let front = takes_both place (to_be_bytes w32 a.value.0) a.value.1 (to_be_bytes w32 m.value.0) m.value.1 first.0 second.0 in
     let whole = takes_both place (to_be_bytes w32 a.value.0 ++ to_be_bytes w32 m.value.0) m.value.1 (to_be_bytes w32 n.value.0) n.value.1 front third.0 in
@@ -89,8 +90,8 @@ segments_take [] place segments after each e =
 segments_take (row ∷ rows) place segments after each e =
     let a = stepped (segment_at row place) (λ segment. segments_at rows segment.1 >>= λ others. Ok (segment.0 ∷ others.0, others.1)) (segments, after) e in
     let b = stepped (segments_at rows a.value.1) (λ others. Ok (a.value.0 ∷ others.0, others.1)) (segments, after) a.led in
-    let s = stepped (bytes_at row.count place) (λ bytes. Ok (record { address = row.address; memory = row.memory; bytes = bytes.0 }, bytes.1)) a.value a.is in
-    let t = bytes_take row.count place s.value.0 s.value.1 each s.is in
+    let s = stepped (field_bytes xef_short row.count place) (λ bytes. Ok (record { address = row.address; memory = row.memory; bytes = bytes.0 }, bytes.1)) a.value a.is in
+    let t = bytes_take xef_short row.count place s.value.0 s.value.1 each s.is in
     let made : Segment × Place = (record { address = row.address; memory = row.memory; bytes = s.value.0 }, s.value.1) in
     let Q : Segment × Place → Type 0 = λ x. Takes place x.0.bytes x.1 × (row ≡ row_of x.0) in
     let first = subst Q (ok_is made a.value s.led) (t.0, ap (λ n. record { address = row.address; memory = row.memory; count = n }) (sym t.1)) in
@@ -130,11 +131,11 @@ row_again floor place row rest is stands =
     let regrouped : row_line row ++ rest ≡ to_be_bytes w32 row.address ++ (to_be_bytes w32 row.memory ++ (to_be_bytes w32 row.count ++ rest))
     = append_assoc (to_be_bytes w32 row.address ++ to_be_bytes w32 row.memory) (to_be_bytes w32 row.count) rest
     ∙ append_assoc (to_be_bytes w32 row.address) (to_be_bytes w32 row.memory) (to_be_bytes w32 row.count ++ rest) in
-    let a = listed_again w32 (2 ^ 32) wide32 (λ address. nat_le floor address) place row.address (to_be_bytes w32 row.memory ++ (to_be_bytes w32 row.count ++ rest))
+    let a = listed_again xef_short xef_field w32 (2 ^ 32) wide32 (λ address. nat_le floor address) place row.address (to_be_bytes w32 row.memory ++ (to_be_bytes w32 row.count ++ rest))
     (omega (arith, is.ends, is.some)) ((Decides-nat_le floor row.address).1 is.above) (stands ∙ regrouped) in
-    let m = listed_again w32 (2 ^ 32) wide32 (λ memory. nat_le 1 memory && nat_le (row.address + memory) (2 ^ 32)) a.after row.memory (to_be_bytes w32 row.count ++ rest)
+    let m = listed_again xef_short xef_field w32 (2 ^ 32) wide32 (λ memory. nat_le 1 memory && nat_le (row.address + memory) (2 ^ 32)) a.after row.memory (to_be_bytes w32 row.count ++ rest)
     is.said ((Decides-and _ _ (Decides-nat_le 1 row.memory) (Decides-nat_le (row.address + row.memory) (2 ^ 32))).1 (is.some, is.ends)) a.ahead in
-    let n = listed_again w32 (2 ^ 32) wide32 (λ count. nat_le count row.memory) m.after row.count rest
+    let n = listed_again xef_short xef_field w32 (2 ^ 32) wide32 (λ count. nat_le count row.memory) m.after row.count rest
     (omega (arith, is.said, is.fits)) ((Decides-nat_le row.count row.memory).1 is.fits) m.ahead in
     record { after = n.after; is = rw (a.is, m.is, n.is) refl; ahead = n.ahead }
 
@@ -156,6 +157,6 @@ segments_again place [] rest stands = record { after = place; is = refl; ahead =
 segments_again place (segment ∷ others) rest stands =
     let regrouped : contents (segment ∷ others) ++ rest ≡ segment.bytes ++ (contents others ++ rest)
     = ap (λ x. x ++ rest) (flat_map-cons (λ s. s.bytes) segment others) ∙ append_assoc segment.bytes (contents others) rest in
-    let first = bytes_again (length segment.bytes) place segment.bytes (contents others ++ rest) refl (stands ∙ regrouped) in
+    let first = bytes_again xef_short (length segment.bytes) place segment.bytes (contents others ++ rest) refl (stands ∙ regrouped) in
     let more = segments_again first.after others rest first.ahead in
     record { after = more.after; is = rw (first.is, more.is) refl; ahead = more.ahead }

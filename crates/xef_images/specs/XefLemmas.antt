@@ -1,15 +1,12 @@
 -- The file of an image: what is read is the image that it spells, and what is spelled is read.
-use Rattle.std.proofs.Common.{◌≡◌, ℕ, ◌+◌, ◌-◌, ◌%◌, ◌^◌, ◌<◌, ◌≤◌, true, false, List, [], ◌∷◌, ◌++◌, length, take, drop, map, codes, sum_by, Ok, refl, sym, ap, subst, ◌∙◌, append_assoc, arith, inl, inr}
-use Rattle.std.specs.Prelude.{nat_le, nat_lt, ◌==◌, ◌&&◌}
+use Rattle.std.proofs.Common.{◌≡◌, ℕ, ◌+◌, ◌-◌, ◌%◌, ◌^◌, ◌<◌, ◌≤◌, true, List, [], ◌∷◌, ◌++◌, length, take, drop, map, codes, sum_by, Ok, refl, sym, ap, subst, ◌∙◌, append_assoc, arith, inl, inr}
+use Rattle.std.specs.Prelude.{nat_le, ◌==◌, ◌&&◌}
 use Rattle.std.specs.List.{flat_map, AllByRecursion}
-use Rattle.std.specs.Int.{w8, w16, w32, to_be_bytes}
-use Rattle.std.specs.Str.{bytes_eq}
-use Rattle.std.proofs.lemmas.Bool.{ltb-false, le-ltb}
+use Rattle.std.specs.Int.{w8, w32, to_be_bytes}
 use Rattle.std.proofs.lemmas.Bool.Decides.{Decides-and, Decides-eqb}
-use Rattle.std.proofs.lemmas.List.{append-nil, nil_from_length, length-append, length-map, take_at, drop_at, take-append-le, take-append-drop, length-take, length-drop}
+use Rattle.std.proofs.lemmas.List.{append-nil, nil_from_length, length-append, length-map, take_at, drop_at, take-append-le, take-append-drop, length-drop}
 use Rattle.std.proofs.lemmas.List.Concat.{flat_map-cons}
 use Rattle.std.proofs.lemmas.List.Sums.{sum_by-cons}
-use Rattle.std.proofs.lemmas.Slice.Eq.{bytes_eq-Decides}
 use Rattle.md5.specs.Md5.{md5}
 use Rattle.md5.proofs.StandardFacts.{length-md5}
 use Rattle.xm_base.specs.Bytes.{AreBytes}
@@ -18,12 +15,14 @@ use Rattle.xef_images.specs.Image.{Image, Segment, contents, share, xef_length, 
 use Rattle.xef_images.specs.ImageLemmas.{SegmentsRiseFrom, rise_from_apart, above_nothing, image_from_parts, is_entry-Decides, Decides-nat_le}
 use Rattle.xef_images.specs.Tests.{is_entry}
 use Rattle.xef_images.specs.Spelling.{image_head_text, row_text, before_text, xef_text, IsSpelledImage}
-use Rattle.xef_images.specs.StepLemmas.{stepped, ok_is, led_on}
-use Rattle.xef_images.specs.Steps.{◌>>=◌}
-use Rattle.xef_images.specs.Reading.{unless, bytes_at, number_at, magic_at, version_at, told, before_of, before, stored, found, signed, rows_at, segments_at, size_at, segment_table_at, entry_point_at, image_fields, xef}
-use Rattle.xef_images.specs.FieldLemmas.{test_passed, Takes, takes_both, bytes_take, wide8, wide16, wide32, number_takes, listed_takes, Reads, bytes_again, number_again, listed_again, AreBytes-drop, AreBytes-take}
+use Rattle.sealed_files.specs.StepLemmas.{stepped, ok_is, passed}
+use Rattle.sealed_files.specs.Steps.{◌>>=◌, unless}
+use Rattle.sealed_files.specs.HeadLemmas.{IsSealed, stated_again, stated_takes_first, unsealed_again, unsealed_takes}
+use Rattle.sealed_files.specs.Heads.{lead_text, stated_length, unsealed}
+use Rattle.xef_images.specs.Reading.{xef_field, xef_short, xef_faults, rows_at, segments_at, size_at, segment_table_at, entry_point_at, image_fields, xef}
+use Rattle.sealed_files.specs.FieldLemmas.{Takes, takes_both, wide8, wide32, number_takes, listed_takes, Reads, number_again, listed_again, AreBytes-drop, AreBytes-take}
 use Rattle.xef_images.specs.TableLemmas.{row_of, row_line, RowsRise, rows_take, segments_take, lines_are_rows, rise_of_rows, rows_of_rise, rows_again, segments_again}
-use Rattle.xef_images.specs.declared.fault.XefFault.TheVariants.{Magic, Version, Short, Trailing, Digest, Field}
+use Rattle.xef_images.specs.declared.fault.XefFault.TheVariants.{Trailing, Field}
 
 -- the table of segments: their number, their rows and their bytes
 abbrev pub table_text : List Segment → List ℕ
@@ -41,7 +40,7 @@ unfolding segment_table_at size_at
 table_takes place segments after each e =
     let a = stepped (size_at place) (λ count. rows_at count.0 0 count.1 >>= λ rows. segments_at rows.0 rows.1) (segments, after) e in
     let b = stepped (rows_at a.value.0 0 a.value.1) (λ rows. segments_at rows.0 rows.1) (segments, after) a.led in
-    let first = listed_takes w8 256 wide8 (λ count. nat_le 1 count && nat_le count 8) place a.value.0 a.value.1 each a.is in
+    let first = listed_takes xef_short xef_field w8 256 wide8 (λ count. nat_le 1 count && nat_le count 8) place a.value.0 a.value.1 each a.is in
     let rows = rows_take a.value.0 0 a.value.1 b.value.0 b.value.1 first.0.rest b.is in
     let bytes = segments_take b.value.0 b.value.1 segments after rows.0.rest b.led in
     let size = (Decides-and _ _ (Decides-nat_le 1 a.value.0) (Decides-nat_le a.value.0 8)).0 first.2 in
@@ -68,111 +67,16 @@ table_again place segments rest is stands =
     = append_assoc (to_be_bytes w8 (length segments)) (flat_map row_text segments ++ contents segments) rest
     ∙ ap (λ x. to_be_bytes w8 (length segments) ++ x) (append_assoc (flat_map row_text segments) (contents segments) rest)
     ∙ ap (λ rs. to_be_bytes w8 (length segments) ++ (rs ++ (contents segments ++ rest))) (sym (lines_are_rows segments)) in
-    let a = listed_again w8 256 wide8 (λ count. nat_le 1 count && nat_le count 8) place (length segments) (flat_map row_line (map row_of segments) ++ (contents segments ++ rest))
+    let a = listed_again xef_short xef_field w8 256 wide8 (λ count. nat_le 1 count && nat_le count 8) place (length segments) (flat_map row_line (map row_of segments) ++ (contents segments ++ rest))
     (omega (arith, is.most)) ((Decides-and _ _ (Decides-nat_le 1 (length segments)) (Decides-nat_le (length segments) 8)).1 (is.some, is.most)) (stands ∙ regrouped) in
     let b = rows_again 0 a.after (map row_of segments) (contents segments ++ rest) (rows_of_rise 0 segments is.rise) a.ahead in
     let c = segments_again b.after segments rest b.ahead in
     let counted : rows_at (length segments) 0 a.after ≡ Ok (map row_of segments, b.after) = ap (λ n. rows_at n 0 a.after) (sym (length-map segments row_of)) ∙ b.is in
     record { after = c.after; is = rw (a.is, counted, c.is) refl; ahead = c.ahead }
 
--- the first 10 bytes of a file: its name, version 1, and its length
-abbrev pub lead_text : ℕ → List ℕ
-lead_text length = codes "XMEF" ++ to_be_bytes w16 1 ++ to_be_bytes w32 length
-
--- the name that is read stands there
-magic_takes : (place after : Place) → AreBytes (ahead place) → magic_at place ≡ Ok after → Takes place (codes "XMEF") after
-unfolding magic_at
-magic_takes place after each e =
-    let s = stepped (bytes_at 4 place) (λ field. unless (bytes_eq field.0 (codes "XMEF")) Magic field.1) after e in
-    let p = test_passed (bytes_eq s.value.0 (codes "XMEF")) Magic s.value.1 after s.led in
-    let t = bytes_take 4 place s.value.0 s.value.1 each s.is in
-    let same : s.value.0 ≡ codes "XMEF" = (bytes_eq-Decides s.value.0 (codes "XMEF")).0 p.true in
-    subst (λ (place' : Place). Takes place (codes "XMEF") place') p.is (subst (λ (text : List ℕ). Takes place text s.value.1) same t.0)
-
--- the version that is read is 1, and stands there
-version_takes : (place after : Place) → AreBytes (ahead place) → version_at place ≡ Ok after → Takes place (to_be_bytes w16 1) after
-unfolding version_at
-version_takes place after each e =
-    let s = stepped (number_at w16 place) (λ field. unless (field.0 == 1) (Version field.0) field.1) after e in
-    let p = test_passed (s.value.0 == 1) (Version s.value.0) s.value.1 after s.led in
-    let t = number_takes w16 (2 ^ 16) wide16 place s.value.0 s.value.1 each s.is in
-    let same : s.value.0 ≡ 1 = (Decides-eqb s.value.0 1).0 p.true in
-    subst (λ (place' : Place). Takes place (to_be_bytes w16 1) place') p.is (subst (λ (n : ℕ). Takes place (to_be_bytes w16 n) s.value.1) same t.0)
-
--- the length that is told stands after name and version
-told_takes : (bytes : List ℕ) (size : ℕ) → AreBytes bytes → told bytes ≡ Ok size → (bytes ≡ lead_text size ++ drop 10 bytes) × (size < 2 ^ 32)
-unfolding told
-told_takes bytes size each e =
-    let m = stepped (magic_at (cursor_start bytes)) (λ name. version_at name >>= λ version. number_at w32 version >>= λ length. Ok length.0) size e in
-    let v = stepped (version_at m.value) (λ version. number_at w32 version >>= λ length. Ok length.0) size m.led in
-    let n = stepped (number_at w32 v.value) (λ length. Ok length.0) size v.led in
-    let first = magic_takes (cursor_start bytes) m.value each m.is in
-    let second = version_takes m.value v.value first.rest v.is in
-    let third = number_takes w32 (2 ^ 32) wide32 v.value n.value.0 n.value.1 second.rest n.is in
-    let is : n.value.0 ≡ size = ok_is n.value.0 size n.led in
-    let front = takes_both (cursor_start bytes) (codes "XMEF") m.value (to_be_bytes w16 1) v.value first second in
-    let whole = takes_both (cursor_start bytes) (codes "XMEF" ++ to_be_bytes w16 1) v.value (to_be_bytes w32 n.value.0) n.value.1 front third.0 in
-    let parts : bytes ≡ lead_text size ++ ahead n.value.1 = subst (λ (k : ℕ). bytes ≡ lead_text k ++ ahead n.value.1) is whole.parts in
-    let behind : drop 10 bytes ≡ ahead n.value.1 = ap (drop 10) parts ∙ drop_at (lead_text size) (ahead n.value.1) 10 refl in
-    (parts ∙ ap (λ rest. lead_text size ++ rest) (sym behind), omega (arith, third.1, is))
-
--- a length that stands after name and version is told
-told_again : (size : ℕ) (rest : List ℕ) → size < 2 ^ 32 → told (lead_text size ++ rest) ≡ Ok size
-unfolding told magic_at version_at
-told_again size rest below =
-    let a = bytes_again 4 (cursor_start (lead_text size ++ rest)) (codes "XMEF") (to_be_bytes w16 1 ++ (to_be_bytes w32 size ++ rest)) refl refl in
-    let b = number_again w16 (2 ^ 16) wide16 a.after 1 (to_be_bytes w32 size ++ rest) (omega arith) a.ahead in
-    let c = number_again w32 (2 ^ 32) wide32 b.after size rest below b.ahead in
-    rw (a.is, b.is, c.is) refl
-
--- a file has as many bytes as are told, and the last 16 of them are the digest
-before_of_takes : (size length_told count : ℕ) → before_of size length_told ≡ Ok count → (length_told ≡ size) × (count + 16 ≡ size)
-unfolding before_of
-before_of_takes size length_told count e =
-    let a = led_on (nat_lt size length_told) (Short size) _ count e in
-    let b = led_on (nat_lt length_told size) (Trailing length_told) _ count a.1 in
-    let c = led_on (nat_lt size 16) (Short size) _ count b.1 in
-    let is : size - 16 ≡ count = ok_is (size - 16) count c.1 in
-    (omega (arith, ltb-false size length_told a.0, ltb-false length_told size b.0), omega (arith, ltb-false size 16 c.0, is))
-
--- a file of as many bytes as are told
-before_of_again : (size : ℕ) → 16 ≤ size → before_of size size ≡ Ok (size - 16)
-unfolding before_of
-before_of_again size long =
-    let same : nat_lt size size ≡ false = le-ltb size size (omega arith) in
-    let enough : nat_lt size 16 ≡ false = le-ltb size 16 long in
-    rw (same, enough) refl
-
--- what stands before the digest of a file, and the digest
-pub record HasDigest (bytes front : List ℕ) : Type 0 where
-  pub told : told bytes ≡ Ok (length bytes)
-  pub parts : bytes ≡ front ++ md5 front
-  pub count : length front + 16 ≡ length bytes
-
--- bytes before a digest that is theirs
-signed_takes : (bytes front : List ℕ) → signed bytes ≡ Ok front → HasDigest bytes front
-unfolding signed before
-signed_takes bytes front e =
-    let b = stepped (before bytes) (λ count. unless (bytes_eq (stored count bytes) (found count bytes)) (Digest (stored count bytes) (found count bytes)) (take count bytes)) front e in
-    let t = stepped (told bytes) (λ length_told. before_of (length bytes) length_told) b.value b.is in
-    let count = before_of_takes (length bytes) t.value b.value t.led in
-    let p = test_passed (bytes_eq (stored b.value bytes) (found b.value bytes)) (Digest (stored b.value bytes) (found b.value bytes)) (take b.value bytes) front b.led in
-    let same : stored b.value bytes ≡ md5 front = (bytes_eq-Decides (stored b.value bytes) (found b.value bytes)).0 p.true ∙ ap md5 p.is in
-    record {
-      told = t.is ∙ ap (λ n. Ok n) count.0;
-      parts = sym (take-append-drop b.value bytes) ∙ ap (λ x. x ++ drop b.value bytes) p.is ∙ ap (λ x. front ++ x) same;
-      count = omega (arith, sym (ap length p.is), length-take b.value bytes, count.1);
-    }
-
--- bytes before a digest that is theirs are found
-signed_again : (bytes front : List ℕ) → HasDigest bytes front → signed bytes ≡ Ok front
-unfolding signed before
-signed_again bytes front is =
-    let count : length bytes - 16 ≡ length front = omega (arith, is.count) in
-    let first : take (length front) bytes ≡ front = ap (take (length front)) is.parts ∙ take_at front (md5 front) (length front) refl in
-    let last : drop (length front) bytes ≡ md5 front = ap (drop (length front)) is.parts ∙ drop_at front (md5 front) (length front) refl in
-    let same : bytes_eq (md5 front) (md5 front) ≡ true = (bytes_eq-Decides (md5 front) (md5 front)).1 refl in
-    rw (is.told, before_of_again (length bytes) (omega (arith, is.count)), count, last, first, same) refl
+-- the first 10 bytes of a file
+abbrev pub xef_lead : ℕ → List ℕ
+xef_lead size = lead_text (codes "XMEF") 1 size
 
 -- the bytes before the digest, after name, version and length
 abbrev pub body_text : Image → List ℕ
@@ -192,10 +96,10 @@ image_of_takes front image each e =
     let a = stepped (entry_point_at (cursor_start front)) (λ entry. segment_table_at entry.1 >>= λ segments. unless (is_entry entry.0 segments.0) (Field 10) segments.1 >>= λ tested. unless (left tested == 0) (Trailing tested.at) (record { entry = entry.0; segments = segments.0 })) image e in
     let b = stepped (segment_table_at a.value.1) (λ segments. unless (is_entry a.value.0 segments.0) (Field 10) segments.1 >>= λ tested. unless (left tested == 0) (Trailing tested.at) (record { entry = a.value.0; segments = segments.0 })) image a.led in
     let c = stepped (unless (is_entry a.value.0 b.value.0) (Field 10) b.value.1) (λ tested. unless (left tested == 0) (Trailing tested.at) (record { entry = a.value.0; segments = b.value.0 })) image b.led in
-    let p = test_passed (is_entry a.value.0 b.value.0) (Field 10) b.value.1 c.value c.is in
+    let p = passed (is_entry a.value.0 b.value.0) (Field 10) b.value.1 c.value c.is in
     let made : Image = record { entry = a.value.0; segments = b.value.0 } in
-    let q = test_passed (left c.value == 0) (Trailing c.value.at) made image c.led in
-    let first = number_takes w32 (2 ^ 32) wide32 (past 10 (cursor_start front)) a.value.0 a.value.1 (AreBytes-drop 10 front each) a.is in
+    let q = passed (left c.value == 0) (Trailing c.value.at) made image c.led in
+    let first = number_takes xef_short w32 (2 ^ 32) wide32 (past 10 (cursor_start front)) a.value.0 a.value.1 (AreBytes-drop 10 front each) a.is in
     let second = table_takes a.value.1 b.value.0 b.value.1 first.0.rest b.is in
     let both = takes_both (past 10 (cursor_start front)) (to_be_bytes w32 a.value.0) a.value.1 (table_text b.value.0) b.value.1 first.0 second.0 in
     let ended : ahead b.value.1 ≡ [] = nil_from_length (ahead b.value.1) (ap left p.is ∙ (Decides-eqb (left c.value) 0).0 q.true) in
@@ -213,7 +117,7 @@ image_of_takes front image each e =
 image_of_again : (front : List ℕ) (image : Image) → image.entry < 2 ^ 32 → IsBody front image → image_fields front ≡ Ok image
 unfolding image_fields entry_point_at
 image_of_again front image below is =
-    let a = number_again w32 (2 ^ 32) wide32 (past 10 (cursor_start front)) image.entry (table_text image.segments) below is.parts in
+    let a = number_again xef_short w32 (2 ^ 32) wide32 (past 10 (cursor_start front)) image.entry (table_text image.segments) below is.parts in
     let b = table_again a.after image.segments [] is.table (a.ahead ∙ sym (append-nil (table_text image.segments))) in
     let tested : is_entry image.entry image.segments ≡ true = (is_entry-Decides image.entry image.segments).1 is.entry in
     let none : left b.after ≡ 0 = ap length b.ahead in
@@ -237,11 +141,11 @@ byte_of n below =
     ap (λ b. b ∷ []) same
 
 -- what stands before the digest: name, version and length, and what stands after them
-before_regrouped : (image : Image) → length image.segments ≤ 8 → before_text image ≡ lead_text (xef_length image.segments) ++ body_text image
+before_regrouped : (image : Image) → length image.segments ≤ 8 → before_text image ≡ xef_lead (xef_length image.segments) ++ body_text image
 unfolding before_text image_head_text
 before_regrouped image few =
     let segments = image.segments in
-    let lead = lead_text (xef_length segments) in
+    let lead = xef_lead (xef_length segments) in
     let entry = to_be_bytes w32 image.entry in
     ap (λ size. (((lead ++ entry) ++ size) ++ flat_map row_text segments) ++ contents segments) (sym (byte_of (length segments) (omega arith)))
     ∙ regroup lead entry (to_be_bytes w8 (length segments)) (flat_map row_text segments) (contents segments)
@@ -255,7 +159,7 @@ length-before image few =
     let segments = image.segments in
     let size = length image.segments in
     let whole = ap length (before_regrouped image few) in
-    let lead : length (lead_text (xef_length segments)) ≡ 10 = refl in
+    let lead : length (xef_lead (xef_length segments)) ≡ 10 = refl in
     let entry : length (to_be_bytes w32 image.entry) ≡ 4 = refl in
     let byte : length (to_be_bytes w8 size) ≡ 1 = refl in
     omega (
@@ -264,7 +168,7 @@ length-before image few =
       lead,
       entry,
       byte,
-      length-append (lead_text (xef_length segments)) (body_text image),
+      length-append (xef_lead (xef_length segments)) (body_text image),
       length-append (to_be_bytes w32 image.entry) (table_text segments),
       length-append (to_be_bytes w8 size) (flat_map row_text segments ++ contents segments),
       length-append (flat_map row_text segments) (contents segments),
@@ -281,21 +185,21 @@ length-xef_text image few =
 pub xef_takes : (bytes : List ℕ) (image : Image) → AreBytes bytes → xef bytes ≡ Ok image → IsSpelledImage bytes image
 unfolding xef xef_text
 xef_takes bytes image each e =
-    let s = stepped (signed bytes) image_fields image e in
+    let s = stepped (unsealed xef_faults (codes "XMEF") 1 bytes) image_fields image e in
     let front = s.value in
-    let is = signed_takes bytes front s.is in
+    let is = unsealed_takes xef_faults (codes "XMEF") 1 bytes front s.is in
     let front_each : AreBytes front = subst (λ (x : List ℕ). AreBytes x) (ap (take (length front)) is.parts ∙ take_at front (md5 front) (length front) refl) (AreBytes-take (length front) bytes each) in
     let body = image_of_takes front image front_each s.led in
     let size = length bytes in
-    let head = told_takes bytes size each is.told in
-    let lead = lead_text size in
+    let head = stated_takes_first xef_faults (codes "XMEF") bytes size refl each is.stated in
+    let lead = xef_lead size in
     let first : take 10 bytes ≡ lead = ap (take 10) head.0 ∙ take_at lead (drop 10 bytes) 10 refl in
     let same : take 10 bytes ≡ take 10 front = ap (take 10) is.parts ∙ take-append-le 10 front (md5 front) body.long in
     let parts : front ≡ lead ++ body_text image = sym (take-append-drop 10 front) ∙ ap (λ x. x ++ drop 10 front) (sym same ∙ first) ∙ ap (λ x. lead ++ x) body.parts in
     let few = body.table.most in
     let segments = image.segments in
     let ten : length lead ≡ 10 = refl in
-    let told_ten : length (lead_text (xef_length segments)) ≡ 10 = refl in
+    let told_ten : length (xef_lead (xef_length segments)) ≡ 10 = refl in
     let sized : size ≡ xef_length segments = omega (
       arith,
       is.count,
@@ -304,10 +208,10 @@ xef_takes bytes image each e =
       ten,
       told_ten,
       ap length (before_regrouped image few),
-      length-append (lead_text (xef_length segments)) (body_text image),
+      length-append (xef_lead (xef_length segments)) (body_text image),
       length-before image few,
     ) in
-    let spelled : front ≡ before_text image = parts ∙ ap (λ n. lead_text n ++ body_text image) sized ∙ sym (before_regrouped image few) in
+    let spelled : front ≡ before_text image = parts ∙ ap (λ n. xef_lead n ++ body_text image) sized ∙ sym (before_regrouped image few) in
     record {
       loads = image_from_parts image body.table.some few body.table.rise body.entry (omega (arith, head.1, sized));
       text = is.parts ∙ ap (λ x. x ++ md5 x) spelled;
@@ -320,15 +224,15 @@ entry_below entry (segment ∷ others) each (inl covers) = omega (arith, covers,
 entry_below entry (segment ∷ others) each (inr later) = entry_below entry others each.1 later
 
 -- what stands before the digest of an image's file
-is_signed : (image : Image) → IsImage image → HasDigest (xef_text image) (before_text image)
+is_signed : (image : Image) → IsImage image → IsSealed xef_faults (codes "XMEF") 1 (xef_text image) (before_text image)
 unfolding xef_text
 is_signed image is =
     let size = xef_length image.segments in
     let rest = body_text image ++ md5 (before_text image) in
-    let parts : xef_text image ≡ lead_text size ++ rest
-    = ap (λ x. x ++ md5 (before_text image)) (before_regrouped image is.most) ∙ append_assoc (lead_text size) (body_text image) (md5 (before_text image)) in
+    let parts : xef_text image ≡ xef_lead size ++ rest
+    = ap (λ x. x ++ md5 (before_text image)) (before_regrouped image is.most) ∙ append_assoc (xef_lead size) (body_text image) (md5 (before_text image)) in
     record {
-      told = ap told parts ∙ told_again size rest is.short ∙ ap (λ n. Ok n) (sym (length-xef_text image is.most));
+      stated = ap (stated_length xef_faults (codes "XMEF") 1) parts ∙ stated_again xef_faults (codes "XMEF") 1 1 size rest refl refl (omega arith) is.short ∙ ap (λ n. Ok n) (sym (length-xef_text image is.most));
       parts = refl;
       count = length-before image is.most ∙ sym (length-xef_text image is.most);
     }
@@ -339,14 +243,14 @@ unfolding xef
 xef_again image is =
     let front = before_text image in
     let size = xef_length image.segments in
-    let behind : drop 10 front ≡ body_text image = ap (drop 10) (before_regrouped image is.most) ∙ drop_at (lead_text size) (body_text image) 10 refl in
+    let behind : drop 10 front ≡ body_text image = ap (drop 10) (before_regrouped image is.most) ∙ drop_at (xef_lead size) (body_text image) 10 refl in
     let body : IsBody front image = record {
       parts = behind;
       long = omega (arith, length-before image is.most);
       table = record { some = is.some; most = is.most; rise = rise_from_apart 0 image.segments is.each is.apart (above_nothing image.segments) };
       entry = (is.aligned, is.inside);
     } in
-    rw (signed_again (xef_text image) front (is_signed image is), image_of_again front image (entry_below image.entry image.segments is.each is.inside) body) refl
+    rw (unsealed_again xef_faults (codes "XMEF") 1 (xef_text image) front (is_signed image is), image_of_again front image (entry_below image.entry image.segments is.each is.inside) body) refl
 
 -- no file of an image is a proper prefix of another
 pub xef_ends : (image other : Image) (rest : List ℕ) → IsImage image → IsImage other → xef_text other ≡ xef_text image ++ rest → rest ≡ []
@@ -354,11 +258,11 @@ unfolding xef_text
 xef_ends image other rest is is_other longer =
     let size = xef_length image.segments in
     let behind = (body_text image ++ md5 (before_text image)) ++ rest in
-    let parts : xef_text image ++ rest ≡ lead_text size ++ behind
+    let parts : xef_text image ++ rest ≡ xef_lead size ++ behind
     = ap (λ x. (x ++ md5 (before_text image)) ++ rest) (before_regrouped image is.most)
-    ∙ regroup (lead_text size) (body_text image) (md5 (before_text image)) rest in
-    let told_first : told (xef_text other) ≡ Ok size = ap told (longer ∙ parts) ∙ told_again size behind is.short in
-    let same : length (xef_text other) ≡ size = ok_is (length (xef_text other)) size (sym (is_signed other is_other).told ∙ told_first) in
+    ∙ regroup (xef_lead size) (body_text image) (md5 (before_text image)) rest in
+    let stated_first : stated_length xef_faults (codes "XMEF") 1 (xef_text other) ≡ Ok size = ap (stated_length xef_faults (codes "XMEF") 1) (longer ∙ parts) ∙ stated_again xef_faults (codes "XMEF") 1 1 size behind refl refl (omega arith) is.short in
+    let same : length (xef_text other) ≡ size = ok_is (length (xef_text other)) size (sym (is_signed other is_other).stated ∙ stated_first) in
     nil_from_length rest (omega (arith, same, ap length longer, length-append (xef_text image) rest, length-xef_text image is.most))
   where
     regroup : (a b c d : List ℕ) → ((a ++ b) ++ c) ++ d ≡ a ++ ((b ++ c) ++ d)

@@ -1,6 +1,7 @@
 //! Why bytes are no image.
 
 use crate::digits::{address_digits, digest_digits, text};
+use sealed_files::HeadFault;
 use std::alloc::{AllocError, AllocFailed};
 use std::fmt;
 use xm_base::Short;
@@ -57,6 +58,23 @@ impl From<Short> for XefFault {
 
     fn from(short: Short) -> XefFault {
         XefFault::Short { at: short.at }
+    }
+}
+
+impl From<HeadFault> for XefFault {
+    ghost use Rattle.std.specs.Prelude.{◌≡◌};
+    ghost use Rattle.xef_images.specs.Reading.{xef_fault};
+
+    ghost from_gives = { λ head e. e ≡ xef_fault head };
+
+    fn from(head: HeadFault) -> XefFault {
+        match head {
+            HeadFault::Magic => XefFault::Magic,
+            HeadFault::Version { found } => XefFault::Version { found },
+            HeadFault::Short { at } => XefFault::Short { at },
+            HeadFault::Trailing { at } => XefFault::Trailing { at },
+            HeadFault::Digest { stored, found } => XefFault::Digest { stored, found },
+        }
     }
 }
 

@@ -1,102 +1,30 @@
 //! The reading of an image's file.
 
-ghost use Rattle.std.specs.Prelude.{◌≡◌, ◌+◌, IfOk, length};
-ghost use Rattle.std.specs.Int.{w8, w16, w32};
+ghost use Rattle.std.specs.Prelude.{◌≡◌, IfOk, codes};
+ghost use Rattle.sealed_files.specs.Gives.{Gives, GivesAt, IsRead, IsReadAt};
+ghost use Rattle.sealed_files.specs.Heads.{ReportsDigests, unsealed};
 ghost use Rattle.xef_images.specs.Image.{Image};
 ghost use Rattle.xef_images.specs.Spelling.{IsSpelledImage};
-ghost use Rattle.xef_images.specs.Gives.{Gives, GivesAt, IsRead, IsReadAt};
-ghost use Rattle.xef_images.specs.Reading.{address_at, before, before_of, bytes_at, count_at, entry_point_at, image_fields, magic_at, memory_at, number_at, row_at, rows_at, segment_at, segments_at, size_at, signed, segment_table_at, told, version_at, xef, TellsDigests};
-ghost use Rattle.xm_base.specs.Cursor.{left};
+ghost use Rattle.xef_images.specs.Gives.{Fails};
+ghost use Rattle.xef_images.specs.Reading.{address_at, count_at, entry_point_at, image_fields, memory_at, row_at, rows_at, segment_at, segments_at, size_at, segment_table_at, xef, xef_faults};
 
 use crate::fault::XefFault;
 use crate::row::Row;
 use crate::segment::{ADDRESSES, Segment};
 use crate::writing::{MAGIC, VERSION};
 use crate::xef::{SEGMENTS, Xef, is_entry};
-use md5::{DIGEST_LEN, Digest, Md5};
+use sealed_files::unsealed;
 use std::alloc::Global;
 use xm_base::Cursor;
 
 /// The bytes of name, version and length.
 const LEAD: usize = 10;
 
-/// The name of the format.
-#[tactic(auto, unfolding(crate::specs::Reading::magic_at))]
-fn magic(cursor: &mut Cursor<'_>) -> Result<(), XefFault>
-    ensures { IsRead (λ _. cursor.new) result (magic_at cursor.old) }
-{
-    if cursor.take(4)? != MAGIC.as_slice() {
-        return Err(XefFault::Magic);
-    }
-    Ok(())
-}
-
-/// The version.
-#[tactic(auto, unfolding(crate::specs::Reading::version_at))]
-fn version(cursor: &mut Cursor<'_>) -> Result<(), XefFault>
-    ensures { IsRead (λ _. cursor.new) result (version_at cursor.old) }
-{
-    let found = cursor.u16()?;
-    if found != VERSION {
-        return Err(XefFault::Version { found });
-    }
-    Ok(())
-}
-
-/// The length that stands in the head.
-#[tactic(auto, unfolding(crate::specs::Reading::told))]
-fn told(bytes: &[u8]) -> Result<u32, XefFault>
-    ensures { IsRead (λ length. length) result (told bytes.now) }
-{
-    let mut cursor = Cursor::new(bytes);
-    magic(&mut cursor)?;
-    version(&mut cursor)?;
-    Ok(cursor.u32()?)
-}
-
-/// How many bytes stand before the digest, in a file of so many bytes whose head says so many.
-#[tactic(auto, unfolding(crate::specs::Reading::before_of))]
-fn before_of(size: usize, told: usize) -> Result<usize, XefFault>
-    ensures value { result ≡ before_of size told }
-    ensures within { IfOk result (λ count. count + 16 ≡ size) }
-{
-    if size < told {
-        return Err(XefFault::Short { at: size });
-    }
-    if told < size {
-        return Err(XefFault::Trailing { at: told });
-    }
-    if size < DIGEST_LEN {
-        return Err(XefFault::Short { at: size });
-    }
-    Ok(size - DIGEST_LEN)
-}
-
-/// How many bytes stand before the digest.
-#[tactic(auto, unfolding(crate::specs::Reading::before))]
-fn before(bytes: &[u8]) -> Result<usize, XefFault>
-    ensures value { IsRead (λ count. count) result (before bytes.now) }
-    ensures within { IfOk result (λ count. count + 16 ≡ length bytes.now) }
-{
-    let told = told(bytes)?;
-    before_of(bytes.len(), told as usize)
-}
-
 /// The bytes before the digest, where it is theirs.
-#[tactic(auto, unfolding(crate::specs::Reading::signed))]
-fn signed(bytes: &[u8]) -> Result<&[u8], XefFault>
-    ensures { IsRead (λ front. front.now) result (signed bytes.now) }
+fn unsealed_xef(bytes: &[u8]) -> Result<&[u8], XefFault>
+    ensures { IsRead (λ front. front.now) result (unsealed xef_faults (codes "XMEF") 1 bytes.now) }
 {
-    let count = before(bytes)?;
-    let (front, stored) = bytes.split_at(count);
-    let Ok(stored) = <[u8; DIGEST_LEN]>::try_from(stored) else {
-        unreachable!();
-    };
-    let found = Md5::digest(front);
-    if stored != found {
-        return Err(XefFault::Digest { stored, found });
-    }
-    Ok(front)
+    Ok(unsealed(bytes, MAGIC, VERSION)?)
 }
 
 /// An address that is not below the floor.
@@ -156,7 +84,7 @@ fn row(cursor: &mut Cursor<'_>, floor: u64) -> Result<Row, XefFault>
 
 /// So many rows, each after the end of the one before it.
 fn rows(alloc: Global, cursor: &mut Cursor<'_>, count: u8) -> Result<Vec<Row>, XefFault>
-    ensures { GivesAt (λ rows. rows.items) result cursor.new (rows_at count 0 cursor.old) }
+    ensures { GivesAt Fails (λ rows. rows.items) result cursor.new (rows_at count 0 cursor.old) }
 {
     let mut rows = Vec::new(alloc);
     let mut floor = 0;
@@ -171,7 +99,7 @@ fn rows(alloc: Global, cursor: &mut Cursor<'_>, count: u8) -> Result<Vec<Row>, X
 /// The segment of a row, with its bytes.
 #[tactic(auto, unfolding(crate::specs::Reading::segment_at))]
 fn segment(alloc: Global, cursor: &mut Cursor<'_>, row: Row) -> Result<Segment, XefFault>
-    ensures { GivesAt (λ segment. segment) result cursor.new (segment_at row cursor.old) }
+    ensures { GivesAt Fails (λ segment. segment) result cursor.new (segment_at row cursor.old) }
 {
     let bytes = cursor.take(row.count as usize)?;
     Ok(Segment {
@@ -183,7 +111,7 @@ fn segment(alloc: Global, cursor: &mut Cursor<'_>, row: Row) -> Result<Segment, 
 
 /// The segments of the rows, with their bytes one after the other.
 fn segments(alloc: Global, cursor: &mut Cursor<'_>, rows: &[Row]) -> Result<Vec<Segment>, XefFault>
-    ensures { GivesAt (λ segments. segments.items) result cursor.new (segments_at rows.now cursor.old) }
+    ensures { GivesAt Fails (λ segments. segments.items) result cursor.new (segments_at rows.now cursor.old) }
 {
     let mut segments = Vec::new(alloc);
     for row in rows {
@@ -210,7 +138,7 @@ fn size(cursor: &mut Cursor<'_>) -> Result<u8, XefFault>
 /// The segments: their number, their rows and their bytes.
 #[tactic(auto, unfolding(crate::specs::Reading::segment_table_at))]
 fn table(alloc: Global, cursor: &mut Cursor<'_>) -> Result<Vec<Segment>, XefFault>
-    ensures { GivesAt (λ segments. segments.items) result cursor.new (segment_table_at cursor.old) }
+    ensures { GivesAt Fails (λ segments. segments.items) result cursor.new (segment_table_at cursor.old) }
 {
     let count = size(cursor)?;
     let rows = rows(alloc, cursor, count)?;
@@ -232,7 +160,7 @@ fn entry(cursor: &mut Cursor<'_>) -> Result<u32, XefFault>
 /// The entry and the segments of the bytes before the digest.
 #[tactic(auto, unfolding(crate::specs::Reading::image_fields))]
 fn image(alloc: Global, bytes: &[u8]) -> Result<(u32, Vec<Segment>), XefFault>
-    ensures { Gives (λ image. record { entry = image.0; segments = image.1.items }) result (image_fields bytes.now) }
+    ensures { Gives Fails (λ image. record { entry = image.0; segments = image.1.items }) result (image_fields bytes.now) }
 {
     let mut cursor = Cursor::new(bytes);
     let entry = entry(&mut cursor)?;
@@ -249,10 +177,10 @@ fn image(alloc: Global, bytes: &[u8]) -> Result<(u32, Vec<Segment>), XefFault>
 /// The entry and the segments of a file.
 #[tactic(auto, unfolding(crate::specs::Reading::xef))]
 fn whole(alloc: Global, bytes: &[u8]) -> Result<(u32, Vec<Segment>), XefFault>
-    ensures exact { Gives (λ image. record { entry = image.0; segments = image.1.items }) result (xef bytes.now) }
-    ensures digest { TellsDigests bytes.now result }
+    ensures exact { Gives Fails (λ image. record { entry = image.0; segments = image.1.items }) result (xef bytes.now) }
+    ensures digest { ReportsDigests xef_faults (codes "XMEF") 1 bytes.now result }
 {
-    let front = signed(bytes)?;
+    let front = unsealed_xef(bytes)?;
     image(alloc, front)
 }
 
@@ -261,11 +189,11 @@ pub fn read_xef(alloc: Global, bytes: &[u8]) -> Result<Xef, XefFault>
     // What is read is the image that the bytes spell.
     ensures found { IfOk result (IsSpelledImage bytes.now) }
     // What is spelled is read, unless there is no memory.
-    ensures only { (image : Image) → IsSpelledImage bytes.now image → Gives (λ found. found) result (Ok image) }
+    ensures only { (image : Image) → IsSpelledImage bytes.now image → Gives Fails (λ found. found) result (Ok image) }
     // A fault is the first one.
-    ensures exact { Gives (λ found. found) result (xef bytes.now) }
+    ensures exact { Gives Fails (λ found. found) result (xef bytes.now) }
     // Two digests are reported exactly where they differ.
-    ensures digest { TellsDigests bytes.now result }
+    ensures digest { ReportsDigests xef_faults (codes "XMEF") 1 bytes.now result }
 {
     let (entry, segments) = whole(alloc, bytes)?;
     Ok(Xef { entry, segments })

@@ -2,9 +2,10 @@ use Rattle.std.proofs.Common.{ap, subst, sym, ◌∙◌, arith}
 use Rattle.std.proofs.lemmas.Result.{err_from_is_err_and}
 use Rattle.xef_images.specs.Gives.{Fails}
 use Rattle.xef_images.specs.Image.{Image}
-use Rattle.xef_images.specs.Reading.{xef}
+use Rattle.xef_images.specs.Reading.{xef, xef_faults}
 use Rattle.xef_images.specs.XefLemmas.{xef_takes, xef_again}
-use Rattle.xef_images.proofs.DigestLemmas.{tells_moved, tells_other}
+use Rattle.std.proofs.Common.{codes}
+use Rattle.sealed_files.specs.DigestLemmas.{reports_moved, reports_other}
 use Rattle.xef_images.proofs.reading.read_xef.Goals as goal
 
 pub returns-in_err-entry-clause-only : goal.returns-in_err-entry-clause-only
@@ -15,7 +16,7 @@ returns-in_err-entry-clause-only c = λ image spelled.
 pub returns-in_err-entry-clause-digest : goal.returns-in_err-entry-clause-digest
 returns-in_err-entry-clause-digest c =
     let p = err_from_is_err_and c.from_residual.result c.from_residual.ensures.1 in
-    rw (p.1, p.2) (tells_moved c.args.bytes.now c.in_err-entry.field-0.0 c.in_err-entry.ensures.digest)
+    rw (p.1, p.2) (reports_moved xef_faults (codes "XMEF") 1 c.args.bytes.now c.in_err-entry.field-0.0 c.in_err-entry.ensures.digest)
 
 pub invariant_of-result : goal.invariant_of-result
 invariant_of-result c =
@@ -31,4 +32,4 @@ pub returns-clause-only : goal.returns-clause-only
 returns-clause-only c = λ image spelled. sym (ap xef spelled.text ∙ xef_again image spelled.loads) ∙ c.in_ok-entry.ensures.exact
 
 pub returns-clause-digest : goal.returns-clause-digest
-returns-clause-digest c = tells_other c.args.bytes.now (c.in_ok-entry.entry, c.in_ok-entry.segments) _ c.in_ok-entry.ensures.digest
+returns-clause-digest c = reports_other xef_faults (codes "XMEF") 1 c.args.bytes.now (c.in_ok-entry.entry, c.in_ok-entry.segments) _ c.in_ok-entry.ensures.digest

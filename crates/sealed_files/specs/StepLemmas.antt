@@ -1,6 +1,6 @@
 -- Steps that did not fail.
 use Rattle.std.proofs.Common.{◌≡◌, Bool, true, false, cond, Result, Ok, Err, refl}
-use Rattle.xef_images.specs.Steps.{◌>>=◌}
+use Rattle.sealed_files.specs.Steps.{◌>>=◌, unless}
 
 -- a step that did not fail: its value, and what followed
 pub record Stepped {A B F : Type 0} (read : Result A F) (next : A → Result B F) (end : B) : Type 0 where
@@ -26,3 +26,13 @@ went_on false fault value end e = (refl, cc)
 pub led_on : {A F : Type 0} (test : Bool) (fault : F) (more : Result A F) (end : A) → cond test (Err fault) more ≡ Ok end → (test ≡ false) × (more ≡ Ok end)
 led_on true fault more end e = absurd cc
 led_on false fault more end e = (refl, e)
+
+-- a test that did not fail
+pub record Passed {A : Type 0} (test : Bool) (value end : A) : Type 0 where
+  pub true : test ≡ true
+  pub is : value ≡ end
+
+-- what did not fail has passed its test
+pub passed : {A F : Type 0} (test : Bool) (fault : F) (value end : A) → unless test fault value ≡ Ok end → Passed test value end
+passed true fault value end e = record { true = refl; is = cc }
+passed false fault value end e = absurd cc

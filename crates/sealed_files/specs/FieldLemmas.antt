@@ -6,10 +6,9 @@ use Rattle.std.proofs.lemmas.List.{take_at, drop_at, take-append-drop, drop-drop
 use Rattle.std.proofs.lemmas.Nat.{be_bytes_2, be_bytes_4, from_be_bytes-to_be_bytes_2, from_be_bytes-to_be_bytes_4}
 use Rattle.xm_base.specs.Bytes.{AreBytes, spelled_1}
 use Rattle.xm_base.specs.Cursor.{Place, ahead, left, next, past}
-use Rattle.xef_images.specs.StepLemmas.{stepped, ok_is, went_on}
-use Rattle.xef_images.specs.Reading.{unless, bytes_at, number_at, listed_at}
-use Rattle.xef_images.specs.declared.fault.XefFault.{XefFault}
-use Rattle.xef_images.specs.declared.fault.XefFault.TheVariants.{Short, Field}
+use Rattle.sealed_files.specs.Fields.{field_bytes, listed_at, number_at}
+use Rattle.sealed_files.specs.StepLemmas.{ok_is, passed, stepped, went_on}
+use Rattle.sealed_files.specs.Steps.{unless}
 
 -- from some byte on they are bytes
 pub AreBytes-drop : (n : ℕ) (bytes : List ℕ) → AreBytes bytes → AreBytes (drop n bytes)
@@ -23,16 +22,6 @@ AreBytes-take n bytes each i =
       | inr le ↦ rw (get_or_past (take n bytes) i 0 (omega (arith, length-take n bytes))) (omega arith)
     ]
 
--- a test that did not fail
-pub record Passed {A : Type 0} (test : Bool) (value end : A) : Type 0 where
-  pub true : test ≡ true
-  pub is : value ≡ end
-
--- what did not fail has passed its test
-pub test_passed : {A : Type 0} (test : Bool) (fault : XefFault) (value end : A) → unless test fault value ≡ Ok end → Passed test value end
-test_passed true fault value end e = record { true = refl; is = cc }
-test_passed false fault value end e = absurd cc
-
 -- a text stands at a place, and after it a place with the bytes that are left
 pub record Takes (place : Place) (text : List ℕ) (after : Place) : Type 0 where
   pub parts : ahead place ≡ text ++ ahead after
@@ -44,9 +33,9 @@ takes_both a x b y c first second =
     record { parts = first.parts ∙ ap (λ rest. x ++ rest) second.parts ∙ sym (append_assoc x y (ahead c)); rest = second.rest }
 
 -- bytes that are read stand there
-pub bytes_take : (count : ℕ) (place : Place) (bytes : List ℕ) (after : Place) → AreBytes (ahead place) → bytes_at count place ≡ Ok (bytes, after) → Takes place bytes after × (length bytes ≡ count)
-bytes_take count place bytes after each e =
-    let g = went_on (ltb (left place) count) (Short place.at) (next count place, past count place) (bytes, after) e in
+pub bytes_take : {F : Type 0} (short : ℕ → F) (count : ℕ) (place : Place) (bytes : List ℕ) (after : Place) → AreBytes (ahead place) → field_bytes short count place ≡ Ok (bytes, after) → Takes place bytes after × (length bytes ≡ count)
+bytes_take short count place bytes after each e =
+    let g = went_on (ltb (left place) count) (short place.at) (next count place, past count place) (bytes, after) e in
     let enough : count ≤ left place = ltb-false _ _ g.0 in
     let behind : ahead (past count place) ≡ drop count (ahead place) = sym (drop-drop count place.at place.bytes) in
     let P : List ℕ × Place → Type 0 = λ x. Takes place x.0 x.1 × (length x.0 ≡ count) in
@@ -93,10 +82,10 @@ wide32 = record {
 }
 
 -- a number that is read is the one whose bytes stand there
-pub number_takes : (w : Width) (limit : ℕ) (wide : IsWide w limit) (place : Place) (n : ℕ) (after : Place) → AreBytes (ahead place) → number_at w place ≡ Ok (n, after) → Takes place (to_be_bytes w n) after × (n < limit)
-number_takes w limit wide place n after each e =
-    let s = stepped (bytes_at (byte_len w) place) (λ field. Ok (from_be_bytes w field.0, field.1)) (n, after) e in
-    let t = bytes_take (byte_len w) place s.value.0 s.value.1 each s.is in
+pub number_takes : {F : Type 0} (short : ℕ → F) (w : Width) (limit : ℕ) (wide : IsWide w limit) (place : Place) (n : ℕ) (after : Place) → AreBytes (ahead place) → number_at short w place ≡ Ok (n, after) → Takes place (to_be_bytes w n) after × (n < limit)
+number_takes short w limit wide place n after each e =
+    let s = stepped (field_bytes short (byte_len w) place) (λ field. Ok (from_be_bytes w field.0, field.1)) (n, after) e in
+    let t = bytes_take short (byte_len w) place s.value.0 s.value.1 each s.is in
     let is = ok_is (from_be_bytes w s.value.0, s.value.1) (n, after) s.led in
     let front : AreBytes s.value.0 = AreBytes-front s.value.0 (ahead s.value.1) (rw t.0.parts at each) in
     let P : ℕ × Place → Type 0 = λ x. Takes place (to_be_bytes w x.0) x.1 × (x.0 < limit) in
@@ -106,24 +95,24 @@ number_takes w limit wide place n after each e =
     AreBytes-front xs ys all = rw (take_at xs ys (length xs) refl) at (AreBytes-take (length xs) (xs ++ ys) all)
 
 -- a number that is read and tested has passed
-pub listed_takes : (w : Width) (limit : ℕ) (wide : IsWide w limit) (test : ℕ → Bool) (place : Place) (n : ℕ) (after : Place) → AreBytes (ahead place) → listed_at w test place ≡ Ok (n, after)
+pub listed_takes : {F : Type 0} (short field : ℕ → F) (w : Width) (limit : ℕ) (wide : IsWide w limit) (test : ℕ → Bool) (place : Place) (n : ℕ) (after : Place) → AreBytes (ahead place) → listed_at short field w test place ≡ Ok (n, after)
     → Takes place (to_be_bytes w n) after × (n < limit) × (test n ≡ true)
-listed_takes w limit wide test place n after each e =
-    let s = stepped (number_at w place) (λ field. unless (test field.0) (Field place.at) field) (n, after) e in
-    let p = test_passed (test s.value.0) (Field place.at) s.value (n, after) s.led in
-    let t = number_takes w limit wide place s.value.0 s.value.1 each s.is in
+listed_takes short field w limit wide test place n after each e =
+    let s = stepped (number_at short w place) (λ number. unless (test number.0) (field place.at) number) (n, after) e in
+    let p = passed (test s.value.0) (field place.at) s.value (n, after) s.led in
+    let t = number_takes short w limit wide place s.value.0 s.value.1 each s.is in
     let P : ℕ × Place → Type 0 = λ x. Takes place (to_be_bytes w x.0) x.1 × (x.0 < limit) × (test x.0 ≡ true) in
     subst P p.is (t.0, t.1, p.true)
 
 -- what is read where a text stands: the value, and a place with the bytes after the text
-pub record Reads {A : Type 0} (read : Result (A × Place) XefFault) (value : A) (rest : List ℕ) : Type 0 where
+pub record Reads {A F : Type 0} (read : Result (A × Place) F) (value : A) (rest : List ℕ) : Type 0 where
   pub after : Place
   pub is : read ≡ Ok (value, after)
   pub ahead : ahead after ≡ rest
 
 -- bytes that stand there are read
-pub bytes_again : (count : ℕ) (place : Place) (bytes rest : List ℕ) → length bytes ≡ count → ahead place ≡ bytes ++ rest → Reads (bytes_at count place) bytes rest
-bytes_again count place bytes rest counted stands =
+pub bytes_again : {F : Type 0} (short : ℕ → F) (count : ℕ) (place : Place) (bytes rest : List ℕ) → length bytes ≡ count → ahead place ≡ bytes ++ rest → Reads (field_bytes short count place) bytes rest
+bytes_again short count place bytes rest counted stands =
     let long : ltb (left place) count ≡ false = le-ltb _ _ (omega (arith, ap length stands, length-append bytes rest)) in
     let front : next count place ≡ bytes = rw stands (take_at bytes rest count counted) in
     record {
@@ -133,13 +122,13 @@ bytes_again count place bytes rest counted stands =
     }
 
 -- a number whose bytes stand there is read
-pub number_again : (w : Width) (limit : ℕ) (wide : IsWide w limit) (place : Place) (n : ℕ) (rest : List ℕ) → n < limit → ahead place ≡ to_be_bytes w n ++ rest → Reads (number_at w place) n rest
-number_again w limit wide place n rest below stands =
-    let b = bytes_again (byte_len w) place (to_be_bytes w n) rest (wide.size n) stands in
+pub number_again : {F : Type 0} (short : ℕ → F) (w : Width) (limit : ℕ) (wide : IsWide w limit) (place : Place) (n : ℕ) (rest : List ℕ) → n < limit → ahead place ≡ to_be_bytes w n ++ rest → Reads (number_at short w place) n rest
+number_again short w limit wide place n rest below stands =
+    let b = bytes_again short (byte_len w) place (to_be_bytes w n) rest (wide.size n) stands in
     record { after = b.after; is = rw (b.is, wide.again n below) refl; ahead = b.ahead }
 
 -- a number that passes its test is read
-pub listed_again : (w : Width) (limit : ℕ) (wide : IsWide w limit) (test : ℕ → Bool) (place : Place) (n : ℕ) (rest : List ℕ) → n < limit → test n ≡ true → ahead place ≡ to_be_bytes w n ++ rest → Reads (listed_at w test place) n rest
-listed_again w limit wide test place n rest below passes stands =
-    let b = number_again w limit wide place n rest below stands in
+pub listed_again : {F : Type 0} (short field : ℕ → F) (w : Width) (limit : ℕ) (wide : IsWide w limit) (test : ℕ → Bool) (place : Place) (n : ℕ) (rest : List ℕ) → n < limit → test n ≡ true → ahead place ≡ to_be_bytes w n ++ rest → Reads (listed_at short field w test place) n rest
+listed_again short field w limit wide test place n rest below passes stands =
+    let b = number_again short w limit wide place n rest below stands in
     record { after = b.after; is = rw (b.is, passes) refl; ahead = b.ahead }

@@ -1,8 +1,0 @@
--- Steps of which each may fail, one after the other.
-use Rattle.std.specs.Prelude.{Result, Ok, Err}
-
--- the first fault, or what follows
-infixl 10 ◌>>=◌
-abbrev pub ◌>>=◌ : {A B F : Type 0} → Result A F → (A → Result B F) → Result B F
-(Ok x) >>= f = f x
-(Err fault) >>= f = Err fault
