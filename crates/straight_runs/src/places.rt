@@ -1,7 +1,6 @@
 //! Words by their places.
 
 ghost use Rattle.std.specs.Prelude.{◌≡◌, ℕ, ◌+◌, ◌*◌, ◌%◌, ◌^◌, ◌<◌, ◌≤◌, IfSome};
-ghost use Rattle.std.specs.Bool.{OnTrue};
 ghost use Rattle.guest_bus.specs.Words.{AreWords, word_address};
 ghost use Rattle.straight_runs.specs.Codes.{IsCode, IsStart};
 
@@ -105,16 +104,6 @@ pub(crate) fn number(code: Code, place: usize) -> usize
     ensures { result < 131072 }
 {
     place.wrapping_add(code.shift)
-}
-
-/// Whether a place is one of the code.
-#[inline(always)]
-pub(crate) fn has(code: Code, place: usize) -> bool
-    requires { IsCode code }
-    ensures from { OnTrue result (code.begin ≤ place) }
-    ensures under { OnTrue result (place < code.end) }
-{
-    place.wrapping_sub(code.begin) < code.end - code.begin
 }
 
 /// The code around an address of the memory, and the place of the word there.

@@ -8,7 +8,7 @@ ghost use Rattle.straight_runs.specs.Tables.{AreRows};
 ghost use Rattle.straight_runs.specs.Turning.{at_place, at_slot};
 
 use crate::one::{Came, one};
-use crate::places::{Code, Start, address, has, start_at};
+use crate::places::{Code, Start, address, start_at};
 use crate::rows::Row;
 use crate::table::Rows;
 use guest_bus::{HasWords, Words};
@@ -140,13 +140,13 @@ fn stand_in_slot(own: &mut Processor, words: Words, at: usize, to: usize)
     own.place(address(words, at), address(words, to));
 }
 
-// The last place of a run at a place: 0 where that is none of the code.
+// The last place of a run at a place: 0 where that lies before the code.
 #[inline(always)]
 fn last_at(code: Code, at: usize, limit: usize) -> usize
     requires { IsCode code }
     ensures { RunStopsAt code at limit result }
 {
-    if has(code, at) {
+    if code.begin <= at {
         limit.min(code.end).saturating_sub(1)
     } else {
         0

@@ -38,18 +38,30 @@ pub(crate) fn execute<B: Bus>(own: &mut Processor, bus: &mut B, row: &Row) -> St
     ensures areas { B.areas bus.new ≡ B.areas bus.old }
     ensures others { B.others bus.new ≡ B.others bus.old }
 {
-    if row.kind < kinds::LD {
-        if row.kind == kinds::BRANCH {
-            branch(own, row)
-        } else {
-            on_registers(own, row)
-        }
+    if row.kind < kinds::OR {
+        most_frequent(own, row)
+    } else if row.kind < kinds::LD {
+        on_registers(own, row)
     } else if row.kind < kinds::ADDCC {
         on_memory(own, bus, row)
     } else if row.kind < kinds::WRY {
         more(own, row)
     } else {
         rare(own, row)
+    }
+}
+
+// The kinds 0 to 2.
+#[inline(always)]
+fn most_frequent(own: &mut Processor, row: &Row) -> Step
+    requires below { row.now.kind < 3 }
+    requires registers { AreRegisterNumbers row.now }
+    ensures { (areas : List Area) (memory : Memory) → IsRowStep result row.now areas own.old own.new memory memory }
+{
+    if row.kind == kinds::BRANCH {
+        branch(own, row)
+    } else {
+        on_registers(own, row)
     }
 }
 
