@@ -1,20 +1,22 @@
 -- What the counts of a configuration give to the rules after them.
-use Rattle.std.proofs.Common.{◌≡◌, ◌≤◌, List, length, get_or, Option, Some, None, sym, arith}
+use Rattle.std.proofs.Common.{◌≡◌, ℕ, ◌≤◌, List, length, get_or, Option, Some, None, sym, arith}
 use Rattle.std.specs.Prelude.{All, IfNone}
 use Rattle.xm_conf.specs.Along.{head_of}
 use Rattle.xm_conf.specs.Configuration.{Conf}
 use Rattle.xm_conf.specs.Rules as rules
 use Rattle.xm_conf.specs.Fits.{HasCounts, HasFewDests, IsKind, IsChan}
+use Rattle.xm_conf.specs.Limits.{most_parts, most_dests}
 use Rattle.xm_conf.specs.declared.item.Broken.{Broken}
 use Rattle.xm_conf.specs.declared.channel.ChanKind.{ChanKind}
 use Rattle.xm_conf.specs.declared.channel.ChanKind.TheVariants as chan_kind
 use Rattle.xm_conf.specs.declared.channel.End.{End}
+use Rattle.xm_conf.specs.FitLemmas.{counts_within}
 use Rattle.xm_conf.proofs.RuleLaws.{none-first, says-rule_1, says-rule_15}
 
 -- where the rule on counts is not broken, the counts hold
-pub counted : (conf : Conf) (found : Option Broken) → found ≡ head_of (rules.rule_1 conf) → IfNone found (HasCounts conf)
-counted conf None is = (none-first (rules.rule_1 conf) (says-rule_1 conf)).0 (sym is)
-counted conf (Some broken) is = tt
+pub counted : (most : ℕ) (conf : Conf) (found : Option Broken) → most ≤ most_parts → found ≡ head_of (rules.rule_1 most conf) → IfNone found (HasCounts conf)
+counted most conf None few is = counts_within most conf few ((none-first (rules.rule_1 most conf) (says-rule_1 most conf)).0 (sym is))
+counted most conf (Some broken) few is = tt
 
 -- where the rule on messages is not broken, each channel has its messages
 pub messaged : (conf : Conf) (found : Option Broken) → found ≡ head_of (rules.rule_15 conf) → IfNone found (All IsChan conf.chans)
@@ -30,11 +32,11 @@ pub few_areas : (conf : Conf) → HasCounts conf → All (λ part. length part.a
 few_areas conf h n d below = (h.areas n d below).few
 
 -- a channel of its kind has few destinations
-pub few_of_kind : (of : ChanKind) (dests : List End) → HasFewDests of dests → IsKind of dests → length dests ≤ 16
+pub few_of_kind : (of : ChanKind) (dests : List End) → HasFewDests of dests → IsKind of dests → length dests ≤ most_dests
 few_of_kind (chan_kind.Sampling refresh) dests few is = few
 few_of_kind (chan_kind.Queuing most) dests few is = let one : length dests ≡ 1 = is.0 in omega arith
 
 -- channels have few destinations
-pub few_dests : (conf : Conf) → HasCounts conf → All IsChan conf.chans → All (λ chan. length chan.dests ≤ 16) conf.chans
+pub few_dests : (conf : Conf) → HasCounts conf → All IsChan conf.chans → All (λ chan. length chan.dests ≤ most_dests) conf.chans
 few_dests conf h chans n d below =
     few_of_kind (get_or conf.chans n d).kind (get_or conf.chans n d).dests (h.dests n d below) (chans n d below).kind

@@ -1,5 +1,5 @@
 -- What the tests of the rules decide.
-use Rattle.std.proofs.Common.{◌≡◌, ◌≢◌, ℕ, zero, suc, get_or, ◌||◌, ◌+◌, ◌<◌, ◌≤◌, Bool, true, false, not, ◌&&◌, nat_lt, nat_le, List, [], ◌∷◌, length, Option, Some, None, refl, sym, ◌∙◌, ap, subst, arith}
+use Rattle.std.proofs.Common.{◌≡◌, ◌≢◌, ℕ, zero, suc, get_or, ◌||◌, ◌+◌, ◌<◌, ◌≤◌, Bool, true, false, not, ◌&&◌, nat_lt, nat_le, List, [], ◌∷◌, length, Option, Some, None, refl, sym, ◌∙◌, ap, subst, arith, inl, inr}
 use Rattle.std.specs.Prelude.{◌==◌, Decides, Any, IfSome, IsSomeAnd}
 use Rattle.std.specs.List.{list_any}
 use Rattle.std.specs.Str.{bytes_eq}
@@ -7,8 +7,9 @@ use Rattle.std.proofs.lemmas.Bool.Decides.{Decides-and, Decides-eqb, Decides-lik
 use Rattle.std.proofs.lemmas.Slice.Eq.{bytes_eq-Decides}
 use Rattle.xm_conf.specs.Health.{event_row}
 use Rattle.xm_conf.specs.Description.{HealthAnswer, event_numbered}
-use Rattle.xm_conf.specs.Rules.{is_sized, is_region, is_paged, addresses, longest, overlaps, has_area, is_time, in_frame, is_kind, is_of_kind, is_way, may_be_end, same_end, has_plan, same_event, is_need, is_console, fits_into, follows}
-use Rattle.xm_conf.specs.Fits.{IsSized, IsRegion, Apart, LiesIn, IsTime, InFrame, IsKind, IsOfKind, IsEnd, IsNeed}
+use Rattle.xm_conf.specs.Rules.{is_sized, is_region, is_paged, addresses, longest, overlaps, has_area, is_time, in_frame, is_kind, is_of_kind, is_way, may_be_end, same_end, has_plan, same_event, is_need, is_console, fits_into, follows, is_link, same_link}
+use Rattle.xm_conf.specs.Limits.{link_numbers}
+use Rattle.xm_conf.specs.Fits.{IsSized, IsRegion, Apart, LiesIn, IsTime, InFrame, IsKind, IsOfKind, IsEnd, IsNeed, IsLink, DifferLinks}
 use Rattle.xm_conf.specs.declared.health.Event.{Event}
 use Rattle.xm_conf.specs.declared.health.Event.TheVariants as event
 use Rattle.xm_conf.specs.declared.health.Action.{Action}
@@ -24,6 +25,7 @@ use Rattle.xm_conf.specs.declared.port.Way.TheVariants as way
 use Rattle.xm_conf.specs.declared.channel.ChanKind.{ChanKind}
 use Rattle.xm_conf.specs.declared.channel.ChanKind.TheVariants as chan_kind
 use Rattle.xm_conf.specs.declared.channel.End.{End}
+use Rattle.xm_conf.specs.declared.link.Link.{Link}
 use Rattle.xm_conf.specs.declared.raw.Region.{Region}
 
 -- the order of numbers is decided
@@ -179,6 +181,34 @@ decides-need (Some need) =
     Decides-like (nat_lt 0 need.duration && nat_le need.duration need.period && nat_le need.period longest)
     (λ t. record { some = t.0.0; inside = t.0.1; most = t.1 }) (λ n. ((n.some, n.inside), n.most))
     (Decides-and _ _ (Decides-and _ _ (decides-lt 0 need.duration) (decides-le need.duration need.period)) (decides-le need.period longest))
+
+-- a link
+pub decides-link : (parts : ℕ) (link : Link) → Decides (is_link parts link) (IsLink parts link)
+unfolding is_link
+decides-link parts link =
+    Decides-like (nat_lt link.number link_numbers && nat_lt link.source parts && nat_lt link.dest parts && not (link.source == link.dest))
+    (λ t. record { number = t.0.0.0; source = t.0.0.1; dest = t.0.1; differ = t.1 }) (λ l. (((l.number, l.source), l.dest), l.differ))
+    (Decides-and _ _ (Decides-and _ _ (Decides-and _ _ (decides-lt link.number link_numbers) (decides-lt link.source parts)) (decides-lt link.dest parts))
+    (Decides-not (link.source == link.dest) (Decides-eqb link.source link.dest)))
+
+-- two links that differ
+pub decides-same_link : (a b : Link) → Decides (not (same_link a b)) (DifferLinks a b)
+unfolding same_link
+decides-same_link a b = at (a.source == b.source) (Decides-eqb a.source b.source) (a.number == b.number) (Decides-eqb a.number b.number)
+  where
+    never : false ≡ true → ⊥
+    never e = cc
+
+    at : (s : Bool) → Decides s (a.source ≡ b.source) → (n : Bool) → Decides n (a.number ≡ b.number) → Decides (not (s && n)) (DifferLinks a b)
+    at true source true number = (
+      λ t. absurd (never t),
+      λ other. elim other [
+        | inl differ ↦ absurd (differ (source.0 refl))
+        | inr differ ↦ absurd (differ (number.0 refl))
+      ],
+    )
+    at true source false number = (λ t. inr (λ e. never (number.1 e)), λ other. refl)
+    at false source n number = (λ t. inl (λ e. never (source.1 e)), λ other. refl)
 
 -- an element of a list that passes a test
 pub decides-any : {X : Type 0} {P : X → Type 0} (test : X → Bool) → ((x : X) → Decides (test x) (P x)) → (xs : List X) → Decides (list_any test xs) (Any P xs)

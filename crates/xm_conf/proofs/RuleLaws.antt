@@ -11,7 +11,8 @@ use Rattle.xm_conf.specs.Configuration.{Plan, Part, Chan, Conf}
 use Rattle.xm_conf.specs.Description.{PlanIds, Ids, HealthAnswer, Monitor, Description}
 use Rattle.xm_conf.specs.Health.{is_allowed}
 use Rattle.xm_conf.specs.Rules as rules
-use Rattle.xm_conf.specs.Fits.{HasSome, HasFewDests, HasCounts, InOrder, HasIds, HasNames, IsSized, IsRegion, Apart, HasHypervisor, LiesIn, IsTime, InFrame, InTurn, IsChan, HasPorts, IsEnd, SuitsPorts, HasAnswers, IsNeed, Fits}
+use Rattle.xm_conf.specs.Fits.{HasSome, HasFewDests, HasCountsWithin, InOrder, HasIds, HasNames, IsSized, IsRegion, Apart, HasHypervisor, LiesIn, IsTime, InFrame, InTurn, IsChan, HasPorts, IsEnd, SuitsPorts, HasAnswers, IsNeed, IsLink, DifferLinks, FitsWithin}
+use Rattle.xm_conf.specs.Limits.{most_dests, most_links}
 use Rattle.xm_conf.specs.declared.item.Item.TheVariants as item
 use Rattle.xm_conf.specs.declared.health.Action.TheVariants as action
 use Rattle.xm_conf.specs.declared.plan.Slot.{Slot}
@@ -20,7 +21,7 @@ use Rattle.xm_conf.specs.declared.channel.ChanKind.{ChanKind}
 use Rattle.xm_conf.specs.declared.channel.ChanKind.TheVariants as chan_kind
 use Rattle.xm_conf.specs.declared.channel.End.{End}
 use Rattle.xm_conf.specs.declared.port.Way.TheVariants as way
-use Rattle.xm_conf.proofs.DecidesLemmas.{decides-le, decides-lt, decides-sized, decides-region, decides-apart, decides-lies_in, decides-time, decides-in_frame, decides-fits_into, decides-console, decides-kind, decides-end, decides-same_end, decides-differ, decides-follows, decides-same_event, decides-plan, decides-need, decides-any}
+use Rattle.xm_conf.proofs.DecidesLemmas.{decides-le, decides-lt, decides-sized, decides-region, decides-apart, decides-lies_in, decides-time, decides-in_frame, decides-fits_into, decides-console, decides-kind, decides-end, decides-same_end, decides-differ, decides-follows, decides-same_event, decides-plan, decides-need, decides-any, decides-link, decides-same_link}
 use Rattle.xm_conf.proofs.SaysLemmas.{Says, says-like, says-unless, says-append, says-each, says-all, says-along, says-repeated, says-meets, says-pairs, says-pairs_and, within-limit}
 
 -- a count within its limit
@@ -47,14 +48,14 @@ says-plan_counts n plan =
     (says-past 64 (item.Slot n) plan.slots))
 
 -- a partition's counts
-pub says-part_counts : (n : ℕ) (part : Part) → Says (rules.part_counts n part) (n < 16 × HasSome part.areas 8 × (length part.ports ≤ 32))
+pub says-part_counts : (most n : ℕ) (part : Part) → Says (rules.part_counts most n part) (n < most × HasSome part.areas 8 × (length part.ports ≤ 32))
 unfolding rules.part_counts
-says-part_counts n part =
-    says-like (rules.part_counts n part) (λ t. (t.0.0.0, record { some = t.0.0.1; few = t.0.1 }, t.1)) (λ h. (((h.0, h.1.some), h.1.few), h.2))
+says-part_counts most n part =
+    says-like (rules.part_counts most n part) (λ t. (t.0.0.0, record { some = t.0.0.1; few = t.0.1 }, t.1)) (λ h. (((h.0, h.1.some), h.1.few), h.2))
     (says-append _ (rules.past_limit 32 (item.Port n) part.ports)
     (says-append _ (rules.past_limit 8 (item.Area n) part.areas)
-    (says-append (unless (nat_lt n 16) (rules.alone 1 (item.Part n))) (unless (nat_lt 0 (length part.areas)) (rules.alone 1 (item.Part n)))
-    (says-unless (nat_lt n 16) (rules.alone 1 (item.Part n)) (decides-lt n 16))
+    (says-append (unless (nat_lt n most) (rules.alone 1 (item.Part n))) (unless (nat_lt 0 (length part.areas)) (rules.alone 1 (item.Part n)))
+    (says-unless (nat_lt n most) (rules.alone 1 (item.Part n)) (decides-lt n most))
     (says-unless (nat_lt 0 (length part.areas)) (rules.alone 1 (item.Part n)) (decides-lt 0 (length part.areas))))
     (says-past 8 (item.Area n) part.areas))
     (says-past 32 (item.Port n) part.ports))
@@ -62,7 +63,7 @@ says-part_counts n part =
 -- a channel's destinations
 pub says-dest_counts : (n : ℕ) (of : ChanKind) (dests : List End) → Says (rules.dest_counts n of dests) (HasFewDests of dests)
 unfolding rules.dest_counts
-says-dest_counts n (chan_kind.Sampling refresh) dests = says-unless (nat_le (length dests) 16) (rules.alone 1 (item.End n 17)) (decides-le (length dests) 16)
+says-dest_counts n (chan_kind.Sampling refresh) dests = says-unless (nat_le (length dests) most_dests) (rules.alone 1 (item.End n 17)) (decides-le (length dests) most_dests)
 says-dest_counts n (chan_kind.Queuing most) dests = record { tells = λ none. tt; told = λ yes. refl }
 
 -- a channel's counts
@@ -86,37 +87,43 @@ says-list_counts conf =
     (says-past 8 item.Uart conf.uarts))
 
 -- rule 1
-pub says-rule_1 : (conf : Conf) → Says (rules.rule_1 conf) (HasCounts conf)
+pub says-rule_1 : (most : ℕ) (conf : Conf) → Says (rules.rule_1 most conf) (HasCountsWithin most conf)
 unfolding rules.rule_1
-says-rule_1 conf =
-    says-like (rules.rule_1 conf)
+says-rule_1 most conf =
+    says-like (rules.rule_1 most conf)
     (λ t. record {
-      regions = record { some = t.0.0.0.0.0.0; few = t.0.0.0.1 };
-      uarts = t.0.0.0.2;
-      plans = record { some = t.0.0.0.0.0.1; few = within-limit conf.plans 8 (λ n d below. (t.0.0.1 n d below).0) };
-      slots = λ n d below. (t.0.0.1 n d below).1;
-      parts = record { some = t.0.0.0.0.1; few = within-limit conf.parts 16 (λ n d below. (t.0.1 n d below).0) };
-      areas = λ n d below. (t.0.1 n d below).1;
-      ports = λ n d below. (t.0.1 n d below).2;
-      chans = within-limit conf.chans 64 (λ n d below. (t.1 n d below).0);
-      dests = λ n d below. (t.1 n d below).1;
+      regions = record { some = t.0.0.0.0.0.0.0; few = t.0.0.0.0.1 };
+      uarts = t.0.0.0.0.2;
+      plans = record { some = t.0.0.0.0.0.0.1; few = within-limit conf.plans 8 (λ n d below. (t.0.0.0.1 n d below).0) };
+      slots = λ n d below. (t.0.0.0.1 n d below).1;
+      parts = record { some = t.0.0.0.0.0.1; few = within-limit conf.parts most (λ n d below. (t.0.0.1 n d below).0) };
+      areas = λ n d below. (t.0.0.1 n d below).1;
+      ports = λ n d below. (t.0.0.1 n d below).2;
+      chans = within-limit conf.chans 64 (λ n d below. (t.0.1 n d below).0);
+      dests = λ n d below. (t.0.1 n d below).1;
+      links = t.1;
     })
     (λ h. let plans = h.plans.few in let parts = h.parts.few in let chans = h.chans in (
       (
         (
-          (((h.regions.some, h.plans.some), h.parts.some), h.regions.few, h.uarts),
-          λ n d below. (omega arith, h.slots n d below),
+          (
+            (((h.regions.some, h.plans.some), h.parts.some), h.regions.few, h.uarts),
+            λ n d below. (omega arith, h.slots n d below),
+          ),
+          λ n d below. (omega arith, h.areas n d below, h.ports n d below),
         ),
-        λ n d below. (omega arith, h.areas n d below, h.ports n d below),
+        λ n d below. (omega arith, h.dests n d below),
       ),
-      λ n d below. (omega arith, h.dests n d below),
+      h.links,
     ))
+    (says-append _ (rules.past_limit most_links item.Link conf.links)
     (says-append _ (added_by_each rules.chan_counts conf.chans)
-    (says-append _ (added_by_each rules.part_counts conf.parts)
+    (says-append _ (added_by_each (rules.part_counts most) conf.parts)
     (says-append (rules.list_counts conf) (added_by_each rules.plan_counts conf.plans) (says-list_counts conf)
     (says-each rules.plan_counts (λ n plan. n < 8 × HasSome plan.slots 64) says-plan_counts conf.plans))
-    (says-each rules.part_counts (λ n part. n < 16 × HasSome part.areas 8 × (length part.ports ≤ 32)) says-part_counts conf.parts))
+    (says-each (rules.part_counts most) (λ n part. n < most × HasSome part.areas 8 × (length part.ports ≤ 32)) (says-part_counts most) conf.parts))
     (says-each rules.chan_counts (λ n chan. n < 64 × HasFewDests chan.kind chan.dests) says-chan_counts conf.chans))
+    (says-past most_links item.Link conf.links))
 
 -- ids in order
 pub says-in_order : (numbered : ℕ → Item) (ids : List ℕ) → Says (added_by_each (rules.misplaced numbered) ids) (InOrder ids)
@@ -348,6 +355,20 @@ says-rule_20 conf =
     says-all rules.unfit_need (λ part. IfSome part.need IsNeed)
     (λ n part. says-unless (rules.is_need part.need) (rules.alone 20 (item.Part n)) (decides-need part.need)) conf.parts
 
+-- rule 21
+pub says-rule_21 : (conf : Conf) → Says (rules.rule_21 conf) (All (IsLink (length conf.parts)) conf.links)
+unfolding rules.rule_21 rules.unfit_link
+says-rule_21 conf =
+    says-all (rules.unfit_link (length conf.parts)) (IsLink (length conf.parts))
+    (λ n link. says-unless (rules.is_link (length conf.parts) link) (rules.alone 21 (item.Link n)) (decides-link (length conf.parts) link)) conf.links
+
+-- rule 22
+pub says-rule_22 : (conf : Conf) → Says (rules.rule_22 conf) (AllPairs DifferLinks conf.links)
+unfolding rules.rule_22
+says-rule_22 conf =
+    says-pairs DifferLinks (rules.repeated 22 item.Link rules.same_link)
+    (says-repeated {R = DifferLinks} 22 item.Link rules.same_link decides-same_link) conf.links
+
 -- the rules on memory
 pub says-memory : (conf : Conf) → Says (rules.memory_rules conf)
     (All IsRegion conf.regions × AllPairs Apart conf.regions × HasHypervisor conf × All (λ part. All (λ area. IsSized area.start area.size) part.areas) conf.parts
@@ -379,51 +400,61 @@ says-chans conf =
     (says-append _ (rules.rule_18 conf) (says-append _ (rules.rule_17 conf) (says-append (rules.rule_15 conf) (rules.rule_16 conf) (says-rule_15 conf) (says-rule_16 conf))
     (says-rule_17 conf)) (says-rule_18 conf))
 
+-- the rules on links
+pub says-links : (conf : Conf) → Says (rules.link_rules conf) (All (IsLink (length conf.parts)) conf.links × AllPairs DifferLinks conf.links)
+unfolding rules.link_rules
+says-links conf = says-append (rules.rule_21 conf) (rules.rule_22 conf) (says-rule_21 conf) (says-rule_22 conf)
+
 -- all rules
-pub says-all_broken : (d : Description) → Says (rules.all_broken d) (Fits d)
+pub says-all_broken : (most : ℕ) (d : Description) → Says (rules.all_broken most d) (FitsWithin most d)
 unfolding rules.all_broken
-says-all_broken d =
-    says-like (rules.all_broken d)
+says-all_broken most d =
+    says-like (rules.all_broken most d)
     (λ t. record {
-      counts = t.0.0.0.0.0.0.0;
-      ids = t.0.0.0.0.0.0.1;
-      names = t.0.0.0.0.0.1;
-      regions_sized = t.0.0.0.0.1.0;
-      regions_apart = t.0.0.0.0.1.1;
-      hypervisor = t.0.0.0.0.1.2;
-      areas_sized = t.0.0.0.0.1.3;
-      areas_inside = t.0.0.0.0.1.4;
-      areas_apart = t.0.0.0.0.1.5;
-      memory = t.0.0.0.0.1.6;
-      frames = t.0.0.0.1.0.0;
-      slots_inside = t.0.0.0.1.0.1;
-      slots_in_turn = t.0.0.0.1.1;
-      slots_owned = t.0.0.0.1.2;
-      consoles = t.0.0.0.1.3;
-      messages = t.0.0.1.0;
-      ends_exist = t.0.0.1.1;
-      ends_suit = t.0.0.1.2;
-      ends_differ = t.0.0.1.3;
-      answers = t.0.1;
-      needs = t.1;
+      counts = t.0.0.0.0.0.0.0.0;
+      ids = t.0.0.0.0.0.0.0.1;
+      names = t.0.0.0.0.0.0.1;
+      regions_sized = t.0.0.0.0.0.1.0;
+      regions_apart = t.0.0.0.0.0.1.1;
+      hypervisor = t.0.0.0.0.0.1.2;
+      areas_sized = t.0.0.0.0.0.1.3;
+      areas_inside = t.0.0.0.0.0.1.4;
+      areas_apart = t.0.0.0.0.0.1.5;
+      memory = t.0.0.0.0.0.1.6;
+      frames = t.0.0.0.0.1.0.0;
+      slots_inside = t.0.0.0.0.1.0.1;
+      slots_in_turn = t.0.0.0.0.1.1;
+      slots_owned = t.0.0.0.0.1.2;
+      consoles = t.0.0.0.0.1.3;
+      messages = t.0.0.0.1.0;
+      ends_exist = t.0.0.0.1.1;
+      ends_suit = t.0.0.0.1.2;
+      ends_differ = t.0.0.0.1.3;
+      answers = t.0.0.1;
+      needs = t.0.1;
+      links_suit = t.1.0;
+      links_differ = t.1.1;
     })
     (λ f. (
       (
         (
           (
-            (((f.counts, f.ids), f.names), (f.regions_sized, f.regions_apart, f.hypervisor, f.areas_sized, f.areas_inside, f.areas_apart, f.memory)),
-            ((f.frames, f.slots_inside), f.slots_in_turn, f.slots_owned, f.consoles),
+            (
+              (((f.counts, f.ids), f.names), (f.regions_sized, f.regions_apart, f.hypervisor, f.areas_sized, f.areas_inside, f.areas_apart, f.memory)),
+              ((f.frames, f.slots_inside), f.slots_in_turn, f.slots_owned, f.consoles),
+            ),
+            (f.messages, f.ends_exist, f.ends_suit, f.ends_differ),
           ),
-          (f.messages, f.ends_exist, f.ends_suit, f.ends_differ),
+          f.answers,
         ),
-        f.answers,
+        f.needs,
       ),
-      f.needs,
+      (f.links_suit, f.links_differ),
     ))
-    (says-append _ (rules.rule_20 d.conf) (says-append _ (rules.rule_19 (length d.conf.plans) d.monitors) (says-append _ (rules.chan_rules d.conf)
+    (says-append _ (rules.link_rules d.conf) (says-append _ (rules.rule_20 d.conf) (says-append _ (rules.rule_19 (length d.conf.plans) d.monitors) (says-append _ (rules.chan_rules d.conf)
     (says-append _ (rules.plan_rules d.conf) (says-append _ (rules.memory_rules d.conf) (says-append _ (rules.rule_3 d.conf)
-    (says-append (rules.rule_1 d.conf) (rules.rule_2 d.ids) (says-rule_1 d.conf) (says-rule_2 d.ids)) (says-rule_3 d.conf)) (says-memory d.conf)) (says-plans d.conf))
-    (says-chans d.conf)) (says-rule_19 (length d.conf.plans) d.monitors)) (says-rule_20 d.conf))
+    (says-append (rules.rule_1 most d.conf) (rules.rule_2 d.ids) (says-rule_1 most d.conf) (says-rule_2 d.ids)) (says-rule_3 d.conf)) (says-memory d.conf)) (says-plans d.conf))
+    (says-chans d.conf)) (says-rule_19 (length d.conf.plans) d.monitors)) (says-rule_20 d.conf)) (says-links d.conf))
 
 -- nothing comes first exactly where there is nothing
 pub none-first : {Y : Type 0} {P : Type 0} (ys : List Y) → Says ys P → (head_of ys ≡ None → P) × (P → head_of ys ≡ None)
@@ -431,6 +462,6 @@ none-first [] s = (λ none. s.tells refl, λ p. refl)
 none-first (y ∷ ys) s = (λ none. absurd (let never : ⊥ = cc in never), λ p. absurd (let no : y ∷ ys ≡ [] = s.told p in let never : ⊥ = cc in never))
 
 -- no rule is broken exactly where the description fits
-pub first_broken_none : (d : Description) → (rules.first_broken d ≡ None) ↔ Fits d
+pub first_broken_none : (most : ℕ) (d : Description) → (rules.first_broken most d ≡ None) ↔ FitsWithin most d
 unfolding rules.first_broken
-first_broken_none d = none-first (rules.all_broken d) (says-all_broken d)
+first_broken_none most d = none-first (rules.all_broken most d) (says-all_broken most d)

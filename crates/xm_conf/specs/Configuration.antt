@@ -7,6 +7,7 @@ use Rattle.xm_conf.specs.declared.part.HmTable.{HmTable}
 use Rattle.xm_conf.specs.declared.port.Port.{Port}
 use Rattle.xm_conf.specs.declared.channel.ChanKind.{ChanKind}
 use Rattle.xm_conf.specs.declared.channel.End.{End}
+use Rattle.xm_conf.specs.declared.link.Link.{Link}
 use Rattle.xm_conf.specs.declared.raw.Region.{Region}
 
 -- a cyclic plan: its frame and its slots
@@ -41,3 +42,4 @@ pub record Conf : Type 0 where
   pub plans : List Plan
   pub parts : List Part
   pub chans : List Chan
+  pub links : List Link

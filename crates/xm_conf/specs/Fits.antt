@@ -17,6 +17,8 @@ use Rattle.xm_conf.specs.declared.port.Way.TheVariants as way
 use Rattle.xm_conf.specs.declared.channel.ChanKind.{ChanKind}
 use Rattle.xm_conf.specs.declared.channel.ChanKind.TheVariants as chan_kind
 use Rattle.xm_conf.specs.declared.channel.End.{End}
+use Rattle.xm_conf.specs.Limits.{most_parts, most_dests, most_links, link_numbers}
+use Rattle.xm_conf.specs.declared.link.Link.{Link}
 use Rattle.xm_conf.specs.declared.raw.Region.{Region}
 
 -- a list has at least one element, and at most so many
@@ -24,22 +26,28 @@ pub record HasSome {X : Type 0} (xs : List X) (most : ℕ) : Type 0 where
   pub some : 0 < length xs
   pub few : length xs ≤ most
 
--- a sampling channel has at most 16 destinations
+-- a sampling channel has few destinations
 abbrev pub HasFewDests : ChanKind → List End → Type 0
-HasFewDests (chan_kind.Sampling refresh) dests = length dests ≤ 16
+HasFewDests (chan_kind.Sampling refresh) dests = length dests ≤ most_dests
 HasFewDests (chan_kind.Queuing most) dests = ⊤
 
--- rule 1: there is something of each kind that has to be, and not too much of any kind
-pub record HasCounts (conf : Conf) : Type 0 where
+-- rule 1: there is something of each kind that has to be, and not too much of any kind, where so many partitions are the
+-- most
+pub record HasCountsWithin (most : ℕ) (conf : Conf) : Type 0 where
   pub regions : HasSome conf.regions 8
   pub uarts : length conf.uarts ≤ 8
   pub plans : HasSome conf.plans 8
   pub slots : All (λ plan. HasSome plan.slots 64) conf.plans
-  pub parts : HasSome conf.parts 16
+  pub parts : HasSome conf.parts most
   pub areas : All (λ part. HasSome part.areas 8) conf.parts
   pub ports : All (λ part. length part.ports ≤ 32) conf.parts
   pub chans : length conf.chans ≤ 64
   pub dests : All (λ chan. HasFewDests chan.kind chan.dests) conf.chans
+  pub links : length conf.links ≤ most_links
+
+-- the same, of any configuration
+abbrev pub HasCounts : Conf → Type 0
+HasCounts conf = HasCountsWithin most_parts conf
 
 -- each id is its place
 abbrev pub InOrder : List ℕ → Type 0
@@ -145,9 +153,20 @@ pub record IsNeed (need : Need) : Type 0 where
   pub inside : need.duration ≤ need.period
   pub most : need.period ≤ longest
 
--- a description meets the rules
-pub record Fits (d : Description) : Type 0 where
-  pub counts : HasCounts d.conf
+-- rule 21: a link's number is one, and it goes from one partition to another
+pub record IsLink (parts : ℕ) (link : Link) : Type 0 where
+  pub number : link.number < link_numbers
+  pub source : link.source < parts
+  pub dest : link.dest < parts
+  pub differ : link.source ≢ link.dest
+
+-- rule 22: two links have other sources, or other numbers
+abbrev pub DifferLinks : Link → Link → Type 0
+DifferLinks a b = (a.source ≢ b.source) ⊎ (a.number ≢ b.number)
+
+-- a description meets the rules, where so many partitions are the most
+pub record FitsWithin (most : ℕ) (d : Description) : Type 0 where
+  pub counts : HasCountsWithin most d.conf
   pub ids : HasIds d.ids
   pub names : HasNames d.conf
   pub regions_sized : All IsRegion d.conf.regions
@@ -168,3 +187,9 @@ pub record Fits (d : Description) : Type 0 where
   pub ends_differ : AllPairs (λ a b. a.1 ≢ b.1) (added_by_each chan_ends d.conf.chans)
   pub answers : All (HasAnswers (length d.conf.plans)) d.monitors
   pub needs : All (λ part. IfSome part.need IsNeed) d.conf.parts
+  pub links_suit : All (IsLink (length d.conf.parts)) d.conf.links
+  pub links_differ : AllPairs DifferLinks d.conf.links
+
+-- a description meets the rules
+abbrev pub Fits : Description → Type 0
+Fits d = FitsWithin most_parts d

@@ -2,9 +2,11 @@ pub mod Along
 pub mod AlongLemmas
 pub mod Configuration
 pub mod Description
+pub mod FitLemmas
 pub mod Fits
 pub mod Health
 pub mod Laws
+pub mod Limits
 pub mod Name
 pub mod NameKept
 pub mod NameLemmas

@@ -1,6 +1,6 @@
 -- What breaks the rules of a configuration: of each rule, each item that breaks it with the item that it clashes with, in
 -- the order of the items.
-use Rattle.std.specs.Prelude.{ℕ, ◌+◌, ◌-◌, ◌%◌, ◌==◌, if◌then◌else◌, Bool, true, false, ◌&&◌, nat_le, nat_lt, List, [], ◌∷◌, ◌++◌, length, sum_by, slice_get, Option, Some, None, is_some}
+use Rattle.std.specs.Prelude.{ℕ, ◌+◌, ◌-◌, ◌%◌, ◌==◌, if◌then◌else◌, Bool, true, false, not, ◌&&◌, nat_le, nat_lt, List, [], ◌∷◌, ◌++◌, length, sum_by, slice_get, Option, Some, None, is_some}
 use Rattle.std.specs.List.{list_any, position_from}
 use Rattle.std.specs.Str.{bytes_eq}
 use Rattle.xm_base.specs.Options.{on}
@@ -21,6 +21,8 @@ use Rattle.xm_conf.specs.declared.port.Way.TheVariants as way
 use Rattle.xm_conf.specs.declared.channel.ChanKind.{ChanKind}
 use Rattle.xm_conf.specs.declared.channel.ChanKind.TheVariants as chan_kind
 use Rattle.xm_conf.specs.declared.channel.End.{End}
+use Rattle.xm_conf.specs.Limits.{most_dests, most_links, link_numbers}
+use Rattle.xm_conf.specs.declared.link.Link.{Link}
 use Rattle.xm_conf.specs.declared.raw.Region.{Region}
 use Rattle.xm_conf.specs.declared.item.Item.{Item}
 use Rattle.xm_conf.specs.declared.item.Item.TheVariants as item
@@ -90,17 +92,17 @@ plan_counts n plan =
     ++ unless (nat_lt 0 (length plan.slots)) (alone 1 (item.Plan n))
     ++ past_limit 64 (item.Slot n) plan.slots
 
--- a partition past the limit, a partition without areas, and the first area and port past their limits
-unfoldable pub part_counts : ℕ → Part → List Broken
-part_counts n part =
-    unless (nat_lt n 16) (alone 1 (item.Part n))
+-- a partition past so many, a partition without areas, and the first area and port past their limits
+unfoldable pub part_counts : ℕ → ℕ → Part → List Broken
+part_counts most n part =
+    unless (nat_lt n most) (alone 1 (item.Part n))
     ++ unless (nat_lt 0 (length part.areas)) (alone 1 (item.Part n))
     ++ past_limit 8 (item.Area n) part.areas
     ++ past_limit 32 (item.Port n) part.ports
 
--- the destination past the limit, which is 16 for a sampling channel
+-- the destination past the limit of a sampling channel
 unfoldable pub dest_counts : ℕ → ChanKind → List End → List Broken
-dest_counts n (chan_kind.Sampling refresh) dests = unless (nat_le (length dests) 16) (alone 1 (item.End n 17))
+dest_counts n (chan_kind.Sampling refresh) dests = unless (nat_le (length dests) most_dests) (alone 1 (item.End n 17))
 dest_counts n (chan_kind.Queuing most) dests = []
 
 -- a channel past the limit, and its destination past the limit
@@ -112,9 +114,11 @@ unfoldable pub list_counts : Conf → List Broken
 list_counts conf =
     unless (has_some conf) (alone 1 item.Whole) ++ past_limit 8 item.Region conf.regions ++ past_limit 8 item.Uart conf.uarts
 
--- there is something of each kind that has to be, and not too much of any kind
-unfoldable pub rule_1 : Conf → List Broken
-rule_1 conf = list_counts conf ++ added_by_each plan_counts conf.plans ++ added_by_each part_counts conf.parts ++ added_by_each chan_counts conf.chans
+-- there is something of each kind that has to be, and not too much of any kind, where so many partitions are the most
+unfoldable pub rule_1 : ℕ → Conf → List Broken
+rule_1 most conf =
+    list_counts conf ++ added_by_each plan_counts conf.plans ++ added_by_each (part_counts most) conf.parts ++ added_by_each chan_counts conf.chans
+    ++ past_limit most_links item.Link conf.links
 
 -- Rule 2: ids.
 
@@ -473,6 +477,33 @@ unfit_need n part = unless (is_need part.need) (alone 20 (item.Part n))
 unfoldable pub rule_20 : Conf → List Broken
 rule_20 conf = added_by_each unfit_need conf.parts
 
+-- Rules 21 and 22: links.
+
+-- whether a partition exists, where there are so many
+abbrev pub exists : ℕ → ℕ → Bool
+exists parts part = nat_lt part parts
+
+-- whether a link may stand: its number is one, and it goes from one partition to another
+unfoldable pub is_link : ℕ → Link → Bool
+is_link parts link =
+    nat_lt link.number link_numbers && exists parts link.source && exists parts link.dest && not (link.source == link.dest)
+
+-- a link that may not stand
+unfoldable pub unfit_link : ℕ → ℕ → Link → List Broken
+unfit_link parts n link = unless (is_link parts link) (alone 21 (item.Link n))
+
+-- links have a number, and go from one partition to another
+unfoldable pub rule_21 : Conf → List Broken
+rule_21 conf = added_by_each (unfit_link (length conf.parts)) conf.links
+
+-- whether two links have the same source and number
+unfoldable pub same_link : Link → Link → Bool
+same_link a b = a.source == b.source && a.number == b.number
+
+-- the links of one source differ in their numbers
+unfoldable pub rule_22 : Conf → List Broken
+rule_22 conf = along (repeated 22 item.Link same_link) conf.links
+
 -- All rules.
 
 -- what breaks the rules on memory
@@ -488,12 +519,17 @@ plan_rules conf = rule_11 conf ++ rule_12 conf ++ rule_13 conf ++ rule_14 conf
 unfoldable pub chan_rules : Conf → List Broken
 chan_rules conf = rule_15 conf ++ rule_16 conf ++ rule_17 conf ++ rule_18 conf
 
--- all that breaks a rule, by the rules' numbers
-unfoldable pub all_broken : Description → List Broken
-all_broken d =
-    rule_1 d.conf ++ rule_2 d.ids ++ rule_3 d.conf ++ memory_rules d.conf ++ plan_rules d.conf ++ chan_rules d.conf
-    ++ rule_19 (length d.conf.plans) d.monitors ++ rule_20 d.conf
+-- what breaks the rules on links
+unfoldable pub link_rules : Conf → List Broken
+link_rules conf = rule_21 conf ++ rule_22 conf
 
--- the first rule that is broken, with the first item that breaks it and the item that it clashes with
-unfoldable pub first_broken : Description → Option Broken
-first_broken d = head_of (all_broken d)
+-- all that breaks a rule, by the rules' numbers, where so many partitions are the most
+unfoldable pub all_broken : ℕ → Description → List Broken
+all_broken most d =
+    rule_1 most d.conf ++ rule_2 d.ids ++ rule_3 d.conf ++ memory_rules d.conf ++ plan_rules d.conf ++ chan_rules d.conf
+    ++ rule_19 (length d.conf.plans) d.monitors ++ rule_20 d.conf ++ link_rules d.conf
+
+-- the first rule that is broken, with the first item that breaks it and the item that it clashes with, where so many
+-- partitions are the most
+unfoldable pub first_broken : ℕ → Description → Option Broken
+first_broken most d = head_of (all_broken most d)

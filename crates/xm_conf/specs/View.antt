@@ -1,8 +1,10 @@
--- What a partition has of a configuration: the channels of its ports, and what a system partition sees.
+-- What a partition has of a configuration: the channels of its ports, its links, and what a system partition sees.
 use Rattle.std.specs.Prelude.{◌≡◌, ◌==◌, ℕ, Bool, true, false, ◌&&◌, ◌||◌, ◌⊎◌, length, slice_get, Contains, Option, Some, None}
-use Rattle.std.specs.List.{list_any, position_from}
+use Rattle.std.specs.List.{find, list_any, position_from}
+use Rattle.xm_base.specs.Options.{on}
 use Rattle.xm_conf.specs.Configuration.{Part, Chan, Conf}
 use Rattle.xm_conf.specs.declared.channel.End.{End}
+use Rattle.xm_conf.specs.declared.link.Link.{Link}
 use Rattle.xm_conf.specs.declared.conf.Seen.{Seen}
 
 -- a port of a partition is an end of a channel: its source, or one of its destinations
@@ -21,6 +23,18 @@ has_end part port chan = is_port part port chan.source || list_any (is_port part
 -- the number of the first channel that has a port of a partition as an end
 unfoldable pub channel_of : Conf → ℕ → ℕ → Option ℕ
 channel_of conf part port = position_from (has_end part port) 0 conf.chans
+
+-- a link is a partition's, of a number
+abbrev pub IsLinkOf : ℕ → ℕ → Link → Type 0
+IsLinkOf part number link = (link.source ≡ part) × (link.number ≡ number)
+
+-- whether a link is a partition's, of a number
+unfoldable pub is_link_of : ℕ → ℕ → Link → Bool
+is_link_of part number link = link.source == part && link.number == number
+
+-- where the first link goes that is a partition's, of a number
+unfoldable pub link_of : Conf → ℕ → ℕ → Option ℕ
+link_of conf part number = on (λ link. link.dest) (find (is_link_of part number) conf.links)
 
 -- two counts for a system partition, and 0 and 0 for another
 abbrev pub counts_seen : ℕ → ℕ → Bool → Seen

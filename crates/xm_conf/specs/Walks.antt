@@ -4,7 +4,7 @@ use Rattle.xm_conf.specs.Along.{added_by_each, along, unless}
 use Rattle.xm_conf.specs.Configuration.{Part, Chan, Conf}
 use Rattle.xm_conf.specs.Description.{event_numbered, monitor_of}
 use Rattle.xm_conf.specs.Health.{is_allowed}
-use Rattle.xm_conf.specs.Rules.{alone, meets, item_if, items_where, overlaps, stretch, area_stretch, part_stretches, whole_stretch, same_end, dest_item, chan_ends, has_plan, monitor_broken, rule_1, rule_3, memory_rules, plan_rules, chan_rules, rule_19, rule_20}
+use Rattle.xm_conf.specs.Rules.{alone, meets, item_if, items_where, overlaps, stretch, area_stretch, part_stretches, whole_stretch, same_end, dest_item, chan_ends, has_plan, monitor_broken, rule_1, rule_3, memory_rules, plan_rules, chan_rules, rule_19, rule_20, link_rules}
 use Rattle.xm_conf.specs.declared.health.Action.{Action}
 use Rattle.xm_conf.specs.declared.part.Area.{Area}
 use Rattle.xm_conf.specs.declared.channel.End.{End}
@@ -72,8 +72,8 @@ action_broken plans p n action =
 unfoldable pub part_monitor : ℕ → ℕ → Part → List Broken
 part_monitor plans p part = monitor_broken plans p (monitor_of part)
 
--- all that breaks a rule in a configuration: its ids are its places, and break none
-unfoldable pub walk_broken : Conf → List Broken
-walk_broken conf =
-    rule_1 conf ++ rule_3 conf ++ memory_rules conf ++ plan_rules conf ++ chan_rules conf
-    ++ rule_19 (length conf.plans) (map monitor_of conf.parts) ++ rule_20 conf
+-- all that breaks a rule in a configuration, where so many partitions are the most: its ids are its places, and break none
+unfoldable pub walk_broken : ℕ → Conf → List Broken
+walk_broken most conf =
+    rule_1 most conf ++ rule_3 conf ++ memory_rules conf ++ plan_rules conf ++ chan_rules conf
+    ++ rule_19 (length conf.plans) (map monitor_of conf.parts) ++ rule_20 conf ++ link_rules conf

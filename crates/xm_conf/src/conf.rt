@@ -1,14 +1,18 @@
 //! A configuration that meets the rules.
 
-ghost use Rattle.std.specs.Prelude.{◌≡◌, ◌↔◌, ◌<◌, ◌≤◌, All, IfErr, IfSome, IfOk, IsNone, IsOk, IsSomeAnd, Some, length, slice_get};
-ghost use Rattle.std.specs.List.{list_any, position_from};
+ghost use Rattle.std.specs.Prelude.{◌≡◌, ◌↔◌, ◌<◌, ◌≤◌, All, Contains, IfErr, IfSome, IfOk, IsNone, IsOk, IsSomeAnd, Some, length, slice_get};
+ghost use Rattle.std.specs.List.{find, list_any, position_from};
+ghost use Rattle.xm_base.specs.Options.{on};
 ghost use Rattle.xm_conf.specs.Description.{described};
-ghost use Rattle.xm_conf.specs.Fits.{Fits};
+ghost use Rattle.xm_conf.specs.Fits.{Fits, FitsWithin};
+ghost use Rattle.xm_conf.specs.Limits.{most_parts};
 ghost use Rattle.xm_conf.specs.Rules.{first_broken as first_broken_of};
-ghost use Rattle.xm_conf.specs.View.{HasEnd, channel_of, has_end, counts_seen, is_port, is_system, sees};
+ghost use Rattle.xm_conf.specs.View.{HasEnd, IsLinkOf, channel_of, has_end, counts_seen, is_link_of, is_port, is_system, link_of, sees};
 
 use crate::channel::{Chan, End};
 use crate::item::Broken;
+use crate::limits::PARTS;
+use crate::link::Link;
 use crate::part::Part;
 use crate::raw::RawConf;
 use crate::rules::first_broken;
@@ -41,13 +45,23 @@ impl Model for Conf {
 
 impl Conf {
     /// The configuration, where it meets the rules, or else the first rule that is broken.
-    #[tactic(auto, using(crate::proofs::RuleLaws::first_broken_none))]
     pub fn new(raw: RawConf) -> Result<Conf, Broken>
         ensures value { IfOk result (λ conf. conf ≡ raw) }
         ensures fits { IsOk result ↔ Fits (described raw) }
-        ensures refused { IfErr result (λ broken. first_broken_of (described raw) ≡ Some broken) }
+        ensures refused { IfErr result (λ broken. first_broken_of most_parts (described raw) ≡ Some broken) }
     {
-        match first_broken(&raw) {
+        Conf::within(PARTS, raw)
+    }
+
+    /// The same, where it may have no more than so many partitions.
+    #[tactic(auto, using(crate::proofs::RuleLaws::first_broken_none, crate::specs::FitLemmas::fits_within))]
+    pub fn within(most: u8, raw: RawConf) -> Result<Conf, Broken>
+        requires { most ≤ most_parts }
+        ensures value { IfOk result (λ conf. conf ≡ raw) }
+        ensures fits { IsOk result ↔ FitsWithin most (described raw) }
+        ensures refused { IfErr result (λ broken. first_broken_of most (described raw) ≡ Some broken) }
+    {
+        match first_broken(most, &raw) {
             Some(broken) => Err(broken),
             None => Ok(Conf { raw }),
         }
@@ -69,6 +83,16 @@ impl Conf {
         ensures none { IsNone result ↔ All (λ chan. ¬ (HasEnd part port chan)) self.now.chans }
     {
         channel_with_end(&self.raw.chans, part, port)
+    }
+
+    /// The partition to which a partition's link of a number goes, or `None` where it has none.
+    #[tactic(auto, using(crate::proofs::ViewLemmas::link_of_found, crate::proofs::ViewLemmas::link_of_none), unfolding(crate::specs::View::link_of))]
+    pub fn link_of(&self, part: u8, number: u8) -> Option<u8>
+        ensures value { result ≡ link_of self.now part number }
+        ensures found { IfSome result (λ dest. Contains self.now.links (record { number = number; source = part; dest = dest })) }
+        ensures none { IsNone result ↔ All (λ link. ¬ (IsLinkOf part number link)) self.now.links }
+    {
+        dest_of(&self.raw.links, part, number)
     }
 
     /// What a partition sees: the two counts for a system partition, and 0 and 0 for another.
@@ -120,6 +144,34 @@ fn channel_with_end(chans: &[Chan], part: u8, port: u8) -> Option<u8>
 {
     match first_with_end(chans, part, port) {
         Some(c) => Some(c as u8),
+        None => None,
+    }
+}
+
+/// Whether a link is a partition's, of a number.
+#[tactic(auto, unfolding(crate::specs::View::is_link_of))]
+fn is_link_of(part: u8, number: u8, link: &Link) -> bool
+    ensures { result ≡ is_link_of part number link.now }
+{
+    link.source == part && link.number == number
+}
+
+/// The first link that is a partition's, of a number.
+fn first_link(links: &[Link], part: u8, number: u8) -> Option<Link>
+    ensures { result ≡ find (is_link_of part number) links.now }
+{
+    links
+        .iter()
+        .copied()
+        .find(|link| is_link_of(part, number, link))
+}
+
+/// Where the first link goes that is a partition's, of a number.
+fn dest_of(links: &[Link], part: u8, number: u8) -> Option<u8>
+    ensures { result ≡ on (λ link. link.dest) (find (is_link_of part number) links.now) }
+{
+    match first_link(links, part, number) {
+        Some(link) => Some(link.dest),
         None => None,
     }
 }

@@ -18,6 +18,7 @@ pub enum Item {
     Chan(u8),
     /// An end of a channel: 0 is the source, and the destinations count from 1.
     End(u8, u8),
+    Link(u8),
 }
 
 /// A rule that is broken.

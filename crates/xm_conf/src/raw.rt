@@ -1,6 +1,7 @@
 //! A configuration as it is given, whether or not it meets the rules.
 
 use crate::channel::Chan;
+use crate::link::Link;
 use crate::name::Name;
 use crate::part::Part;
 use crate::plan::Plan;
@@ -27,6 +28,7 @@ pub struct RawConf {
     pub plans: Vec<Plan>,
     pub parts: Vec<Part>,
     pub chans: Vec<Chan>,
+    pub links: Vec<Link>,
 }
 
 impl Model for RawConf {
@@ -34,5 +36,5 @@ impl Model for RawConf {
 
     ghost Value = { plain.Conf };
 
-    ghost view = { λ raw. record { name = raw.name; regions = raw.regions.items; hv_size = raw.hv_size; uarts = raw.uarts.items; plans = raw.plans.items; parts = raw.parts.items; chans = raw.chans.items } };
+    ghost view = { λ raw. record { name = raw.name; regions = raw.regions.items; hv_size = raw.hv_size; uarts = raw.uarts.items; plans = raw.plans.items; parts = raw.parts.items; chans = raw.chans.items; links = raw.links.items } };
 }

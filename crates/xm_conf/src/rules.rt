@@ -1,9 +1,10 @@
 //! The rules of a configuration: the first that is broken, and by which item.
 
-ghost use Rattle.std.specs.Prelude.{◌≡◌, ◌++◌};
+ghost use Rattle.std.specs.Prelude.{◌≡◌, ◌++◌, ◌≤◌};
 ghost use Rattle.xm_conf.specs.Along.{head_of};
 ghost use Rattle.xm_conf.specs.Description.{described};
 ghost use Rattle.xm_conf.specs.Fits.{HasCounts};
+ghost use Rattle.xm_conf.specs.Limits.{most_parts};
 ghost use Rattle.xm_conf.specs.Rules as specs;
 ghost use Rattle.xm_conf.specs.Walks.{walk_broken};
 
@@ -12,6 +13,7 @@ mod broken;
 mod channels;
 mod counts;
 mod ends;
+mod links;
 mod memory;
 mod names;
 mod partitions;
@@ -24,6 +26,7 @@ use areas::{rule_7, rule_8, rule_10};
 use channels::{rule_15, rule_16, rule_17};
 use counts::rule_1;
 use ends::rule_18;
+use links::{rule_21, rule_22};
 use memory::{rule_4, rule_5, rule_6};
 use names::rule_3;
 use partitions::{rule_14, rule_19, rule_20};
@@ -114,12 +117,26 @@ fn channels_broken(raw: &RawConf) -> Option<Broken>
     rule_18(raw)
 }
 
-/// The first rule that is broken, in the order of the rules.
-#[tactic(auto, using(crate::specs::AlongLemmas::in_turn), unfolding(crate::specs::Walks::walk_broken))]
-fn walk(raw: &RawConf) -> Option<Broken>
-    ensures { result ≡ head_of (walk_broken raw.now) }
+/// The first item that breaks a rule on links.
+#[tactic(auto, using(crate::specs::AlongLemmas::in_turn), unfolding(crate::specs::Rules::link_rules))]
+fn links_broken(raw: &RawConf) -> Option<Broken>
+    requires { HasCounts raw.now }
+    ensures { result ≡ head_of (specs.link_rules raw.now) }
 {
-    let broken = rule_1(raw);
+    let broken = rule_21(raw);
+    if broken.is_some() {
+        return broken;
+    }
+    rule_22(raw)
+}
+
+/// The first rule that is broken, in the order of the rules, where so many partitions are the most.
+#[tactic(auto, using(crate::specs::AlongLemmas::in_turn), unfolding(crate::specs::Walks::walk_broken))]
+fn walk(most: u8, raw: &RawConf) -> Option<Broken>
+    requires { most ≤ most_parts }
+    ensures { result ≡ head_of (walk_broken most raw.now) }
+{
+    let broken = rule_1(most, raw);
     if broken.is_some() {
         return broken;
     }
@@ -143,13 +160,18 @@ fn walk(raw: &RawConf) -> Option<Broken>
     if broken.is_some() {
         return broken;
     }
-    rule_20(raw)
+    let broken = rule_20(raw);
+    if broken.is_some() {
+        return broken;
+    }
+    links_broken(raw)
 }
 
-/// The first rule that is broken, with the items.
+/// The first rule that is broken, with the items, where so many partitions are the most.
 #[tactic(auto, using(crate::proofs::WalkLemmas::walk_first))]
-pub(crate) fn first_broken(raw: &RawConf) -> Option<Broken>
-    ensures { result ≡ specs.first_broken (described raw.now) }
+pub(crate) fn first_broken(most: u8, raw: &RawConf) -> Option<Broken>
+    requires { most ≤ most_parts }
+    ensures { result ≡ specs.first_broken most (described raw.now) }
 {
-    walk(raw)
+    walk(most, raw)
 }

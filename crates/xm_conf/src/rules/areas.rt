@@ -4,6 +4,7 @@ ghost use Rattle.std.specs.Prelude.{◌≡◌, ◌≤◌, All, length, sum_by};
 ghost use Rattle.std.specs.List.{list_any};
 ghost use Rattle.xm_conf.specs.Along.{added_by_each, head_of};
 ghost use Rattle.xm_conf.specs.Fits.{HasCounts};
+ghost use Rattle.xm_conf.specs.Limits.{most_parts};
 ghost use Rattle.xm_conf.specs.Rules as rules;
 ghost use Rattle.xm_conf.specs.Room.{room_after};
 
@@ -48,7 +49,7 @@ fn unsized_areas(p: u8, areas: &[Area]) -> Option<Broken>
 /// The first area of all that is not whole pages.
 #[tactic(auto, using(crate::specs::AlongLemmas::each_loop), unfolding(crate::specs::Rules::unsized_areas))]
 fn parts_unsized_areas(parts: &[Part]) -> Option<Broken>
-    requires few { length parts.now ≤ 16 }
+    requires few { length parts.now ≤ most_parts }
     requires areas { All (λ part. length part.areas ≤ 8) parts.now }
     ensures { result ≡ head_of (added_by_each rules.unsized_areas parts.now) }
 {
@@ -103,7 +104,7 @@ fn outside_areas(regions: &[Region], p: u8, areas: &[Area]) -> Option<Broken>
 /// The first area of all that is not inside a region.
 #[tactic(auto, using(crate::specs::AlongLemmas::each_loop), unfolding(crate::specs::Rules::outside_areas))]
 fn parts_outside_areas(regions: &[Region], parts: &[Part]) -> Option<Broken>
-    requires few { length parts.now ≤ 16 }
+    requires few { length parts.now ≤ most_parts }
     requires areas { All (λ part. length part.areas ≤ 8) parts.now }
     ensures { result ≡ head_of (added_by_each (rules.outside_areas regions.now) parts.now) }
 {

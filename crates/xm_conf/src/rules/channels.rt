@@ -3,6 +3,7 @@
 ghost use Rattle.std.specs.Prelude.{◌≡◌, ◌≤◌, All, IfNone, Some, length, slice_get, option_copied};
 ghost use Rattle.xm_conf.specs.Along.{added_by_each, head_of};
 ghost use Rattle.xm_conf.specs.Fits.{HasCounts, IsChan};
+ghost use Rattle.xm_conf.specs.Limits.{most_dests};
 ghost use Rattle.xm_conf.specs.Rules as rules;
 
 use super::broken::unless;
@@ -81,7 +82,7 @@ fn stray_end(parts: &[Part], item: Item, end: &End) -> Option<Broken>
 /// A destination that is no port.
 #[tactic(auto, unfolding(crate::specs::Rules::stray_dest))]
 fn stray_dest(parts: &[Part], c: u8, n: u8, end: &End) -> Option<Broken>
-    requires { n ≤ 16 }
+    requires { n ≤ most_dests }
     ensures { result ≡ head_of (rules.stray_dest parts.now c n end.now) }
 {
     stray_end(parts, Item::End(c, n + 1), end)
@@ -90,7 +91,7 @@ fn stray_dest(parts: &[Part], c: u8, n: u8, end: &End) -> Option<Broken>
 /// The first destination that is no port.
 #[tactic(auto, using(crate::specs::AlongLemmas::each_loop))]
 fn stray_dests(parts: &[Part], c: u8, dests: &[End]) -> Option<Broken>
-    requires { length dests.now ≤ 16 }
+    requires { length dests.now ≤ most_dests }
     ensures { result ≡ head_of (added_by_each (rules.stray_dest parts.now c) dests.now) }
 {
     for (n, end) in dests.iter().enumerate() {
@@ -105,7 +106,7 @@ fn stray_dests(parts: &[Part], c: u8, dests: &[End]) -> Option<Broken>
 /// The first end of a channel that is no port.
 #[tactic(auto, using(crate::specs::AlongLemmas::in_turn), unfolding(crate::specs::Rules::stray_ends))]
 fn stray_ends(parts: &[Part], c: u8, chan: &Chan) -> Option<Broken>
-    requires { length chan.now.dests ≤ 16 }
+    requires { length chan.now.dests ≤ most_dests }
     ensures { result ≡ head_of (rules.stray_ends parts.now c chan.now) }
 {
     let broken = stray_end(parts, Item::End(c, 0), &chan.source);
@@ -119,7 +120,7 @@ fn stray_ends(parts: &[Part], c: u8, chan: &Chan) -> Option<Broken>
 #[tactic(auto, using(crate::specs::AlongLemmas::each_loop))]
 fn chans_stray_ends(parts: &[Part], chans: &[Chan]) -> Option<Broken>
     requires few { length chans.now ≤ 64 }
-    requires dests { All (λ chan. length chan.dests ≤ 16) chans.now }
+    requires dests { All (λ chan. length chan.dests ≤ most_dests) chans.now }
     ensures { result ≡ head_of (added_by_each (rules.stray_ends parts.now) chans.now) }
 {
     for (n, chan) in chans.iter().enumerate() {
@@ -183,7 +184,7 @@ fn wrong_end(parts: &[Part], kind: ChanKind, way: Way, item: Item, end: &End) ->
 /// A destination whose port is of another kind or way.
 #[tactic(auto, unfolding(crate::specs::Rules::wrong_dest))]
 fn wrong_dest(parts: &[Part], kind: ChanKind, c: u8, n: u8, end: &End) -> Option<Broken>
-    requires { n ≤ 16 }
+    requires { n ≤ most_dests }
     ensures { result ≡ head_of (rules.wrong_dest parts.now kind c n end.now) }
 {
     wrong_end(parts, kind, Way::Destination, Item::End(c, n + 1), end)
@@ -192,7 +193,7 @@ fn wrong_dest(parts: &[Part], kind: ChanKind, c: u8, n: u8, end: &End) -> Option
 /// The first destination whose port is of another kind or way.
 #[tactic(auto, using(crate::specs::AlongLemmas::each_loop))]
 fn wrong_dests(parts: &[Part], kind: ChanKind, c: u8, dests: &[End]) -> Option<Broken>
-    requires { length dests.now ≤ 16 }
+    requires { length dests.now ≤ most_dests }
     ensures { result ≡ head_of (added_by_each (rules.wrong_dest parts.now kind c) dests.now) }
 {
     for (n, end) in dests.iter().enumerate() {
@@ -207,7 +208,7 @@ fn wrong_dests(parts: &[Part], kind: ChanKind, c: u8, dests: &[End]) -> Option<B
 /// The first end of a channel whose port is of another kind or way.
 #[tactic(auto, using(crate::specs::AlongLemmas::in_turn), unfolding(crate::specs::Rules::wrong_ends))]
 fn wrong_ends(parts: &[Part], c: u8, chan: &Chan) -> Option<Broken>
-    requires { length chan.now.dests ≤ 16 }
+    requires { length chan.now.dests ≤ most_dests }
     ensures { result ≡ head_of (rules.wrong_ends parts.now c chan.now) }
 {
     let broken = wrong_end(parts, chan.kind, Way::Source, Item::End(c, 0), &chan.source);
@@ -221,7 +222,7 @@ fn wrong_ends(parts: &[Part], c: u8, chan: &Chan) -> Option<Broken>
 #[tactic(auto, using(crate::specs::AlongLemmas::each_loop))]
 fn chans_wrong_ends(parts: &[Part], chans: &[Chan]) -> Option<Broken>
     requires few { length chans.now ≤ 64 }
-    requires dests { All (λ chan. length chan.dests ≤ 16) chans.now }
+    requires dests { All (λ chan. length chan.dests ≤ most_dests) chans.now }
     ensures { result ≡ head_of (added_by_each (rules.wrong_ends parts.now) chans.now) }
 {
     for (n, chan) in chans.iter().enumerate() {

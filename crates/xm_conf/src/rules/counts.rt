@@ -2,12 +2,14 @@
 
 ghost use Rattle.std.specs.Prelude.{◌≡◌, ◌<◌, ◌≤◌, IfNone};
 ghost use Rattle.xm_conf.specs.Fits.{HasCounts};
+ghost use Rattle.xm_conf.specs.Limits.{most_parts};
 ghost use Rattle.xm_conf.specs.Along.{added_by_each, head_of};
 ghost use Rattle.xm_conf.specs.Rules as rules;
 
 use super::broken::unless;
 use crate::channel::{Chan, ChanKind};
 use crate::item::{Broken, Item};
+use crate::limits::{DESTS, LINKS};
 use crate::part::Part;
 use crate::plan::Plan;
 use crate::raw::RawConf;
@@ -20,15 +22,11 @@ const PLANS: u8 = 8;
 
 const SLOTS: usize = 64;
 
-const PARTS: u8 = 16;
-
 const AREAS: usize = 8;
 
 const PORTS: usize = 32;
 
 const CHANS: u8 = 64;
-
-const DESTS: usize = 16;
 
 /// Whether there are regions, plans and partitions.
 #[tactic(auto, unfolding(crate::specs::Rules::has_some))]
@@ -78,13 +76,13 @@ fn plans_counts(plans: &[Plan]) -> Option<Broken>
     None
 }
 
-/// A partition past the limit, and too few or too many areas and ports.
+/// A partition past so many, and too few or too many areas and ports.
 #[tactic(auto, unfolding(crate::specs::Rules::part_counts))]
-fn part_counts(n: u8, part: &Part) -> Option<Broken>
-    ensures first { result ≡ head_of (rules.part_counts n part.now) }
-    ensures below { IfNone result (n < 16) }
+fn part_counts(most: u8, n: u8, part: &Part) -> Option<Broken>
+    ensures first { result ≡ head_of (rules.part_counts most n part.now) }
+    ensures below { IfNone result (n < most) }
 {
-    if n >= PARTS || part.areas.is_empty() {
+    if n >= most || part.areas.is_empty() {
         return unless(false, 1, Item::Part(n));
     }
     if AREAS < part.areas.len() {
@@ -93,13 +91,13 @@ fn part_counts(n: u8, part: &Part) -> Option<Broken>
     unless(part.ports.len() <= PORTS, 1, Item::Port(n, 32))
 }
 
-/// The first partition past the limit, or with too few or too many areas and ports.
+/// The first partition past so many, or with too few or too many areas and ports.
 #[tactic(auto, using(crate::specs::AlongLemmas::each_loop))]
-fn parts_counts(parts: &[Part]) -> Option<Broken>
-    ensures { result ≡ head_of (added_by_each rules.part_counts parts.now) }
+fn parts_counts(most: u8, parts: &[Part]) -> Option<Broken>
+    ensures { result ≡ head_of (added_by_each (rules.part_counts most) parts.now) }
 {
     for (n, part) in parts.iter().enumerate() {
-        let broken = part_counts(n as u8, part);
+        let broken = part_counts(most, n as u8, part);
         if broken.is_some() {
             return broken;
         }
@@ -136,10 +134,10 @@ fn chans_counts(chans: &[Chan]) -> Option<Broken>
     None
 }
 
-/// The first item that is missing, or past its limit.
+/// The first item that is missing, or past its limit, where so many partitions are the most.
 #[tactic(auto, using(crate::specs::AlongLemmas::in_turn), unfolding(crate::specs::Rules::rule_1))]
-fn first_count(raw: &RawConf) -> Option<Broken>
-    ensures { result ≡ head_of (rules.rule_1 raw.now) }
+fn first_count(most: u8, raw: &RawConf) -> Option<Broken>
+    ensures { result ≡ head_of (rules.rule_1 most raw.now) }
 {
     let broken = list_counts(raw);
     if broken.is_some() {
@@ -149,18 +147,23 @@ fn first_count(raw: &RawConf) -> Option<Broken>
     if broken.is_some() {
         return broken;
     }
-    let broken = parts_counts(&raw.parts);
+    let broken = parts_counts(most, &raw.parts);
     if broken.is_some() {
         return broken;
     }
-    chans_counts(&raw.chans)
+    let broken = chans_counts(&raw.chans);
+    if broken.is_some() {
+        return broken;
+    }
+    unless(raw.links.len() <= LINKS, 1, Item::Link(64))
 }
 
-/// The first item that is missing, or past its limit.
+/// The first item that is missing, or past its limit, where so many partitions are the most.
 #[tactic(auto, using(crate::proofs::CountLemmas::counted))]
-pub(super) fn rule_1(raw: &RawConf) -> Option<Broken>
-    ensures first { result ≡ head_of (rules.rule_1 raw.now) }
+pub(super) fn rule_1(most: u8, raw: &RawConf) -> Option<Broken>
+    requires { most ≤ most_parts }
+    ensures first { result ≡ head_of (rules.rule_1 most raw.now) }
     ensures counted { IfNone result (HasCounts raw.now) }
 {
-    first_count(raw)
+    first_count(most, raw)
 }

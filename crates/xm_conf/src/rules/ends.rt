@@ -4,6 +4,7 @@ ghost use Rattle.std.specs.Prelude.{◌≡◌, ◌++◌, ◌<◌, ◌≤◌, All
 ghost use Rattle.std.specs.List.{position_from};
 ghost use Rattle.xm_conf.specs.Along.{along, added_by_each, head_of};
 ghost use Rattle.xm_conf.specs.Fits.{HasCounts, IsChan};
+ghost use Rattle.xm_conf.specs.Limits.{most_dests};
 ghost use Rattle.xm_conf.specs.Rules as rules;
 ghost use Rattle.xm_conf.specs.Walks as walks;
 ghost use Rattle.xm_conf.specs.declared.item.Item.TheVariants as item;
@@ -32,7 +33,7 @@ fn first_dest(at: &End, dests: &[End]) -> Option<usize>
 /// The first destination of a channel that is one port with an end.
 #[tactic(auto, using(crate::proofs::MeetLemmas::first_hit), unfolding(crate::specs::Walks::dest_hits))]
 fn dest_hit(at: &End, c: u8, dests: &[End]) -> Option<Item>
-    requires { length dests.now ≤ 16 }
+    requires { length dests.now ≤ most_dests }
     ensures { result ≡ head_of (walks.dest_hits at.now c dests.now) }
 {
     match first_dest(at, dests) {
@@ -55,7 +56,7 @@ fn source_hit(at: &End, c: u8, source: &End) -> Option<Item>
 /// The first end of a channel that is one port with an end.
 #[tactic(auto, using(crate::specs::AlongLemmas::in_turn), unfolding(crate::specs::Walks::chan_hits, crate::specs::Walks::source_hits, crate::specs::Walks::dest_hits, crate::specs::Rules::chan_ends))]
 fn chan_hit(at: &End, c: u8, chan: &Chan) -> Option<Item>
-    requires { length chan.now.dests ≤ 16 }
+    requires { length chan.now.dests ≤ most_dests }
     ensures { result ≡ head_of (walks.chan_hits at.now c chan.now) }
 {
     let found = source_hit(at, c, &chan.source);
@@ -69,7 +70,7 @@ fn chan_hit(at: &End, c: u8, chan: &Chan) -> Option<Item>
 #[tactic(auto, using(crate::specs::AlongLemmas::each_loop))]
 fn chans_hit(at: &End, chans: &[Chan]) -> Option<Item>
     requires few { length chans.now ≤ 64 }
-    requires dests { All (λ chan. length chan.dests ≤ 16) chans.now }
+    requires dests { All (λ chan. length chan.dests ≤ most_dests) chans.now }
     ensures { result ≡ head_of (added_by_each (walks.chan_hits at.now) chans.now) }
 {
     for (n, chan) in chans.iter().enumerate() {
@@ -85,8 +86,8 @@ fn chans_hit(at: &End, chans: &[Chan]) -> Option<Item>
 #[tactic(auto, using(crate::specs::AlongLemmas::in_turn))]
 fn first_before(at: &End, chans: &[Chan], source: &End, before: &[End]) -> Option<Item>
     requires few { length chans.now ≤ 64 }
-    requires dests { All (λ chan. length chan.dests ≤ 16) chans.now }
-    requires before { length before.now ≤ 16 }
+    requires dests { All (λ chan. length chan.dests ≤ most_dests) chans.now }
+    requires before { length before.now ≤ most_dests }
     ensures { result ≡ head_of (added_by_each (walks.chan_hits at.now) chans.now ++ walks.source_hits at.now (length chans.now) source.now ++ walks.dest_hits at.now (length chans.now) before.now) }
 {
     let found = chans_hit(at, chans);
@@ -104,8 +105,8 @@ fn first_before(at: &End, chans: &[Chan], source: &End, before: &[End]) -> Optio
 /// A destination that is a port of an end before it.
 fn dest_meets(chans: &[Chan], source: &End, before: &[End], dest: &End) -> Option<Broken>
     requires few { length chans.now ≤ 64 }
-    requires dests { All (λ chan. length chan.dests ≤ 16) chans.now }
-    requires before { length before.now ≤ 16 }
+    requires dests { All (λ chan. length chan.dests ≤ most_dests) chans.now }
+    requires before { length before.now ≤ most_dests }
     ensures { result ≡ head_of (walks.dest_meets (walks.before_dests chans.now source.now) (length chans.now) before.now dest.now) }
 {
     let earlier = first_before(dest, chans, source, before);
@@ -117,8 +118,8 @@ fn dest_meets(chans: &[Chan], source: &End, before: &[End], dest: &End) -> Optio
 #[tactic(auto, using(crate::specs::AlongLemmas::along_loop))]
 fn dests_meet(chans: &[Chan], source: &End, dests: &[End]) -> Option<Broken>
     requires few { length chans.now ≤ 64 }
-    requires dests { All (λ chan. length chan.dests ≤ 16) chans.now }
-    requires next { length dests.now ≤ 16 }
+    requires dests { All (λ chan. length chan.dests ≤ most_dests) chans.now }
+    requires next { length dests.now ≤ most_dests }
     ensures { result ≡ head_of (along (walks.dest_meets (walks.before_dests chans.now source.now) (length chans.now)) dests.now) }
 {
     for (n, dest) in dests.iter().enumerate() {
@@ -133,7 +134,7 @@ fn dests_meet(chans: &[Chan], source: &End, dests: &[End]) -> Option<Broken>
 /// A source that is a port of an end before it.
 fn source_meets(chans: &[Chan], source: &End) -> Option<Broken>
     requires few { length chans.now ≤ 64 }
-    requires dests { All (λ chan. length chan.dests ≤ 16) chans.now }
+    requires dests { All (λ chan. length chan.dests ≤ most_dests) chans.now }
     ensures { result ≡ head_of (rules.meets 18 rules.same_end (added_by_each rules.chan_ends chans.now) (item.End (length chans.now) 0, source.now)) }
 {
     beside(
@@ -147,8 +148,8 @@ fn source_meets(chans: &[Chan], source: &End) -> Option<Broken>
 #[tactic(auto, using(crate::specs::AlongLemmas::in_turn), unfolding(crate::specs::Walks::chan_meets))]
 fn chan_meets(before: &[Chan], chan: &Chan) -> Option<Broken>
     requires few { length before.now ≤ 64 }
-    requires dests { All (λ chan. length chan.dests ≤ 16) before.now }
-    requires next { length chan.now.dests ≤ 16 }
+    requires dests { All (λ chan. length chan.dests ≤ most_dests) before.now }
+    requires next { length chan.now.dests ≤ most_dests }
     ensures { result ≡ head_of (walks.chan_meets before.now chan.now) }
 {
     let broken = source_meets(before, &chan.source);
@@ -162,7 +163,7 @@ fn chan_meets(before: &[Chan], chan: &Chan) -> Option<Broken>
 #[tactic(auto, using(crate::specs::AlongLemmas::along_loop))]
 fn chans_meet(chans: &[Chan]) -> Option<Broken>
     requires few { length chans.now ≤ 64 }
-    requires dests { All (λ chan. length chan.dests ≤ 16) chans.now }
+    requires dests { All (λ chan. length chan.dests ≤ most_dests) chans.now }
     ensures { result ≡ head_of (along walks.chan_meets chans.now) }
 {
     for (n, chan) in chans.iter().enumerate() {

@@ -5,6 +5,7 @@ ghost use Rattle.std.specs.List.{position_from};
 ghost use Rattle.std.specs.Str.{bytes_eq};
 ghost use Rattle.xm_conf.specs.Along.{along, head_of};
 ghost use Rattle.xm_conf.specs.Fits.{HasCounts};
+ghost use Rattle.xm_conf.specs.Limits.{most_parts};
 ghost use Rattle.xm_conf.specs.Rules as rules;
 ghost use Rattle.xm_conf.specs.declared.item.Item.TheVariants as item;
 
@@ -109,7 +110,7 @@ fn first_part(parts: &[Part], part: &Part) -> Option<usize>
 
 /// A partition with an earlier one's name.
 fn part_name(before: &[Part], part: &Part) -> Option<Broken>
-    requires { length before.now ≤ 16 }
+    requires { length before.now ≤ most_parts }
     ensures { result ≡ head_of (rules.repeated 3 item.Part rules.same_part before.now part.now) }
 {
     let later = Item::Part(before.len() as u8);
@@ -122,7 +123,7 @@ fn part_name(before: &[Part], part: &Part) -> Option<Broken>
 /// A partition with an earlier one's name, or its first port with an earlier one's name.
 #[tactic(auto, using(crate::specs::AlongLemmas::in_turn), unfolding(crate::specs::Rules::part_names))]
 fn part_names(before: &[Part], part: &Part) -> Option<Broken>
-    requires few { length before.now ≤ 16 }
+    requires few { length before.now ≤ most_parts }
     requires ports { length part.now.ports ≤ 32 }
     ensures { result ≡ head_of (rules.part_names before.now part.now) }
 {
@@ -136,7 +137,7 @@ fn part_names(before: &[Part], part: &Part) -> Option<Broken>
 /// The first partition or port with an earlier one's name.
 #[tactic(auto, using(crate::specs::AlongLemmas::along_loop))]
 fn parts_names(parts: &[Part]) -> Option<Broken>
-    requires few { length parts.now ≤ 16 }
+    requires few { length parts.now ≤ most_parts }
     requires ports { All (λ part. length part.ports ≤ 32) parts.now }
     ensures { result ≡ head_of (along rules.part_names parts.now) }
 {

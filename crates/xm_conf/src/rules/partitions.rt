@@ -3,6 +3,7 @@
 ghost use Rattle.std.specs.Prelude.{◌≡◌, ◌++◌, ◌<◌, ◌≤◌, length, map, nat_lt};
 ghost use Rattle.xm_conf.specs.Along.{added_by_each, head_of, unless as unless_of};
 ghost use Rattle.xm_conf.specs.Fits.{HasCounts};
+ghost use Rattle.xm_conf.specs.Limits.{most_parts};
 ghost use Rattle.xm_conf.specs.Rules as rules;
 ghost use Rattle.xm_conf.specs.Walks as walks;
 ghost use Rattle.xm_conf.specs.declared.item.Item.TheVariants as item;
@@ -39,7 +40,7 @@ fn no_console(uarts: usize, n: u8, part: &Part) -> Option<Broken>
 /// The first partition whose console is no UART.
 #[tactic(auto, using(crate::specs::AlongLemmas::each_loop))]
 fn parts_no_console(uarts: usize, parts: &[Part]) -> Option<Broken>
-    requires { length parts.now ≤ 16 }
+    requires { length parts.now ≤ most_parts }
     ensures { result ≡ head_of (added_by_each (rules.no_console uarts) parts.now) }
 {
     for (n, part) in parts.iter().enumerate() {
@@ -75,7 +76,7 @@ fn unfit_need(n: u8, part: &Part) -> Option<Broken>
 /// The first partition whose requirement is none.
 #[tactic(auto, using(crate::specs::AlongLemmas::each_loop))]
 fn unfit_needs(parts: &[Part]) -> Option<Broken>
-    requires { length parts.now ≤ 16 }
+    requires { length parts.now ≤ most_parts }
     ensures { result ≡ head_of (added_by_each rules.unfit_need parts.now) }
 {
     for (n, part) in parts.iter().enumerate() {
@@ -166,7 +167,7 @@ fn part_monitor(plans: usize, p: u8, part: &Part) -> Option<Broken>
 /// The first partition or action that breaks the rule on health events.
 #[tactic(auto, using(crate::specs::AlongLemmas::each_loop))]
 fn parts_monitors(plans: usize, parts: &[Part]) -> Option<Broken>
-    requires { length parts.now ≤ 16 }
+    requires { length parts.now ≤ most_parts }
     ensures { result ≡ head_of (added_by_each (walks.part_monitor plans) parts.now) }
 {
     for (n, part) in parts.iter().enumerate() {

@@ -4,6 +4,7 @@ ghost use Rattle.std.specs.Prelude.{◌≡◌, ◌++◌, ◌<◌, ◌≤◌, All
 ghost use Rattle.std.specs.List.{position_from};
 ghost use Rattle.xm_conf.specs.Along.{along, added_by_each, head_of};
 ghost use Rattle.xm_conf.specs.Fits.{HasCounts};
+ghost use Rattle.xm_conf.specs.Limits.{most_parts};
 ghost use Rattle.xm_conf.specs.Rules as rules;
 ghost use Rattle.xm_conf.specs.Walks as walks;
 
@@ -76,7 +77,7 @@ fn area_hit(at: &Region, p: u8, areas: &[Area]) -> Option<Item>
 /// The first area of all partitions that overlaps a stretch.
 #[tactic(auto, using(crate::specs::AlongLemmas::each_loop))]
 fn parts_hit(at: &Region, parts: &[Part]) -> Option<Item>
-    requires few { length parts.now ≤ 16 }
+    requires few { length parts.now ≤ most_parts }
     requires areas { All (λ part. length part.areas ≤ 8) parts.now }
     ensures { result ≡ head_of (added_by_each (walks.part_hits at.now) parts.now) }
 {
@@ -101,7 +102,7 @@ fn part_hit(at: &Region, p: u8, part: &Part) -> Option<Item>
 /// The first of what stands before an area and overlaps a stretch.
 #[tactic(auto, using(crate::specs::AlongLemmas::in_turn))]
 fn first_before(at: &Region, whole: Option<Region>, parts: &[Part], before: &[Area]) -> Option<Item>
-    requires few { length parts.now ≤ 16 }
+    requires few { length parts.now ≤ most_parts }
     requires areas { All (λ part. length part.areas ≤ 8) parts.now }
     requires before { length before.now ≤ 8 }
     ensures { result ≡ head_of (walks.whole_hits at.now whole ++ added_by_each (walks.part_hits at.now) parts.now ++ walks.area_hits at.now (length parts.now) before.now) }
@@ -119,7 +120,7 @@ fn first_before(at: &Region, whole: Option<Region>, parts: &[Part], before: &[Ar
 
 /// An area that overlaps one before it.
 fn area_meets(whole: Option<Region>, parts: &[Part], before: &[Area], area: &Area) -> Option<Broken>
-    requires few { length parts.now ≤ 16 }
+    requires few { length parts.now ≤ most_parts }
     requires areas { All (λ part. length part.areas ≤ 8) parts.now }
     requires before { length before.now ≤ 8 }
     ensures { result ≡ head_of (walks.area_meets (rules.whole_stretch whole ++ added_by_each rules.part_stretches parts.now) (length parts.now) before.now area.now) }
@@ -132,7 +133,7 @@ fn area_meets(whole: Option<Region>, parts: &[Part], before: &[Area], area: &Are
 /// The first area of a partition that overlaps one before it.
 #[tactic(auto, using(crate::specs::AlongLemmas::along_loop))]
 fn areas_meet(whole: Option<Region>, parts: &[Part], areas: &[Area]) -> Option<Broken>
-    requires few { length parts.now ≤ 16 }
+    requires few { length parts.now ≤ most_parts }
     requires areas { All (λ part. length part.areas ≤ 8) parts.now }
     requires next { length areas.now ≤ 8 }
     ensures { result ≡ head_of (along (walks.area_meets (rules.whole_stretch whole ++ added_by_each rules.part_stretches parts.now) (length parts.now)) areas.now) }
@@ -149,7 +150,7 @@ fn areas_meet(whole: Option<Region>, parts: &[Part], areas: &[Area]) -> Option<B
 /// The first area of a partition that overlaps one before it.
 #[tactic(auto, unfolding(crate::specs::Walks::part_meets))]
 fn part_meets(whole: Option<Region>, before: &[Part], part: &Part) -> Option<Broken>
-    requires few { length before.now ≤ 16 }
+    requires few { length before.now ≤ most_parts }
     requires areas { All (λ part. length part.areas ≤ 8) before.now }
     requires next { length part.now.areas ≤ 8 }
     ensures { result ≡ head_of (walks.part_meets whole before.now part.now) }
@@ -160,7 +161,7 @@ fn part_meets(whole: Option<Region>, before: &[Part], part: &Part) -> Option<Bro
 /// The first area of all partitions that overlaps one before it.
 #[tactic(auto, using(crate::specs::AlongLemmas::along_loop))]
 fn parts_meet(whole: Option<Region>, parts: &[Part]) -> Option<Broken>
-    requires few { length parts.now ≤ 16 }
+    requires few { length parts.now ≤ most_parts }
     requires areas { All (λ part. length part.areas ≤ 8) parts.now }
     ensures { result ≡ head_of (along (walks.part_meets whole) parts.now) }
 {

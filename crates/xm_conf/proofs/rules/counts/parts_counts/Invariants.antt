@@ -4,4 +4,4 @@ use Rattle.xm_conf.specs.Rules as rules
 use Rattle.xm_conf.proofs.rules.counts.parts_counts.Given as goal
 
 abbrev pub invariant-loop-n : goal.invariant-loop-n
-invariant-loop-n l = record { first : head_of (each_from rules.part_counts l.n (drop l.n l.parts)) ≡ head_of (added_by_each rules.part_counts l.parts); below : l.n ≤ 16 }
+invariant-loop-n l = record { first : head_of (each_from (rules.part_counts l.most) l.n (drop l.n l.parts)) ≡ head_of (added_by_each (rules.part_counts l.most) l.parts); below : l.n ≤ l.most }

@@ -1,0 +1,117 @@
+//! Links between partitions.
+
+ghost use Rattle.std.specs.Prelude.{◌≡◌, ◌<◌, ◌≤◌, IfSome, length};
+ghost use Rattle.std.specs.List.{position_from};
+ghost use Rattle.xm_conf.specs.Along.{along, added_by_each, head_of};
+ghost use Rattle.xm_conf.specs.Fits.{HasCounts};
+ghost use Rattle.xm_conf.specs.Limits.{most_links};
+ghost use Rattle.xm_conf.specs.Rules as rules;
+ghost use Rattle.xm_conf.specs.declared.item.Item.TheVariants as item;
+
+use super::broken::{beside, unless};
+use crate::item::{Broken, Item};
+use crate::limits::LINK_NUMBERS;
+use crate::link::Link;
+use crate::raw::RawConf;
+
+/// Whether a partition exists, where there are so many.
+fn exists(parts: usize, part: u8) -> bool
+    ensures { result ≡ rules.exists parts part }
+{
+    usize::from(part) < parts
+}
+
+/// Whether a link may stand: its number is one, and it goes from one partition to another.
+#[tactic(auto, unfolding(crate::specs::Rules::is_link))]
+fn is_link(parts: usize, link: &Link) -> bool
+    ensures { result ≡ rules.is_link parts link.now }
+{
+    link.number < LINK_NUMBERS
+        && exists(parts, link.source)
+        && exists(parts, link.dest)
+        && link.source != link.dest
+}
+
+/// A link that may not stand.
+#[tactic(auto, unfolding(crate::specs::Rules::unfit_link))]
+fn unfit_link(parts: usize, n: u8, link: &Link) -> Option<Broken>
+    ensures { result ≡ head_of (rules.unfit_link parts n link.now) }
+{
+    unless(is_link(parts, link), 21, Item::Link(n))
+}
+
+/// The first link that may not stand.
+#[tactic(auto, using(crate::specs::AlongLemmas::each_loop))]
+fn unfit_links(parts: usize, links: &[Link]) -> Option<Broken>
+    requires { length links.now ≤ most_links }
+    ensures { result ≡ head_of (added_by_each (rules.unfit_link parts) links.now) }
+{
+    for (n, link) in links.iter().enumerate() {
+        let broken = unfit_link(parts, n as u8, link);
+        if broken.is_some() {
+            return broken;
+        }
+    }
+    None
+}
+
+/// Whether two links have the same source and number.
+#[tactic(auto, unfolding(crate::specs::Rules::same_link))]
+fn same_link(a: &Link, b: &Link) -> bool
+    ensures { result ≡ rules.same_link a.now b.now }
+{
+    a.source == b.source && a.number == b.number
+}
+
+/// The place of the first link with this one's source and number.
+fn first_link(links: &[Link], link: &Link) -> Option<usize>
+    ensures first { result ≡ position_from (λ earlier. rules.same_link earlier link.now) 0 links.now }
+    ensures within { IfSome result (λ n. n < length links.now) }
+{
+    links.iter().position(|earlier| same_link(earlier, link))
+}
+
+/// A link with an earlier one's source and number.
+fn repeated_link(before: &[Link], link: &Link) -> Option<Broken>
+    requires { length before.now ≤ most_links }
+    ensures { result ≡ head_of (rules.repeated 22 item.Link rules.same_link before.now link.now) }
+{
+    let later = Item::Link(before.len() as u8);
+    match first_link(before, link) {
+        Some(n) => beside(22, later, Some(Item::Link(n as u8))),
+        None => None,
+    }
+}
+
+/// The first link with an earlier one's source and number.
+#[tactic(auto, using(crate::specs::AlongLemmas::along_loop))]
+fn repeated_links(links: &[Link]) -> Option<Broken>
+    requires { length links.now ≤ most_links }
+    ensures { result ≡ head_of (along (rules.repeated 22 item.Link rules.same_link) links.now) }
+{
+    for (n, link) in links.iter().enumerate() {
+        let broken = repeated_link(&links[..n], link);
+        if broken.is_some() {
+            return broken;
+        }
+    }
+    None
+}
+
+/// The first link that may not stand.
+#[tactic(auto, unfolding(crate::specs::Rules::rule_21))]
+pub(super) fn rule_21(raw: &RawConf) -> Option<Broken>
+    requires { HasCounts raw.now }
+    ensures { result ≡ head_of (rules.rule_21 raw.now) }
+{
+    unfit_links(raw.parts.len(), &raw.links)
+}
+
+/// The first link with an earlier one's source and number.
+#[tactic(auto, unfolding(crate::specs::Rules::rule_22))]
+pub(super) fn rule_22(raw: &RawConf) -> Option<Broken>
+    requires { HasCounts raw.now }
+    ensures { result ≡ head_of (rules.rule_22 raw.now) }
+{
+    repeated_links(&raw.links)
+}
