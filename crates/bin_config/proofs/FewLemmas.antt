@@ -4,6 +4,9 @@ use Rattle.std.specs.Prelude.{All}
 use Rattle.xm_conf.specs.Configuration.{Conf}
 use Rattle.xm_conf.specs.Description.{described}
 use Rattle.xm_conf.specs.Fits.{Fits, HasCounts, HasFewDests, IsKind}
+use Rattle.xm_conf.specs.Limits.{most_dests}
+use Rattle.bin_config.specs.Version.{FitsVersion}
+use Rattle.bin_config.specs.declared.version.Version.TheVariants.{Two}
 use Rattle.xm_conf.specs.declared.channel.ChanKind.{ChanKind}
 use Rattle.xm_conf.specs.declared.channel.ChanKind.TheVariants as chan_kind
 use Rattle.xm_conf.specs.declared.channel.End.{End}
@@ -20,12 +23,12 @@ few_areas conf h n d below = (h.areas n d below).few
 pub ruleset few = (few_slots, few_areas)
 
 -- a channel of its kind has few destinations
-pub few_of_kind : (of : ChanKind) (dests : List End) → HasFewDests of dests → IsKind of dests → length dests ≤ 16
+pub few_of_kind : (of : ChanKind) (dests : List End) → HasFewDests of dests → IsKind of dests → length dests ≤ most_dests
 few_of_kind (chan_kind.Sampling refresh) dests few is = few
 few_of_kind (chan_kind.Queuing most) dests few is = let one : length dests ≡ 1 = is.0 in omega arith
 
 -- channels have few destinations
-pub fitting_dests : (conf : Conf) → Fits (described conf) → All (λ chan. length chan.dests ≤ 16) conf.chans
+pub fitting_dests : (conf : Conf) → Fits (described conf) → All (λ chan. length chan.dests ≤ most_dests) conf.chans
 unfolding described
 fitting_dests conf fits n d below =
     few_of_kind (get_or conf.chans n d).kind (get_or conf.chans n d).dests (fits.counts.dests n d below) (fits.messages n d below).kind
@@ -35,5 +38,9 @@ pub fitting_counts : (conf : Conf) → Fits (described conf) → HasCounts conf
 unfolding described
 fitting_counts conf fits = fits.counts
 
+-- the rules of version 2 are met
+pub fitting_two : (conf : Conf) → Fits (described conf) → FitsVersion Two conf
+fitting_two conf fits = record { fits = fits; links = tt }
+
 -- what the rules tell
-pub ruleset fitting = (fitting_counts, fitting_dests)
+pub ruleset fitting = (fitting_counts, fitting_dests, fitting_two)

@@ -1,42 +1,54 @@
 -- The laws of the binary form.
-use Rattle.std.specs.Prelude.{◌≡◌, ◌≢◌, ℕ, ◌<◌, ◌≤◌, ◌^◌, List, [], ◌++◌, length, Ok, Err}
+use Rattle.std.specs.Prelude.{◌≡◌, ◌≢◌, ℕ, ◌<◌, ◌≤◌, ◌^◌, List, [], ◌++◌, length, Option, Some, Ok, Err}
 use Rattle.xm_base.specs.Bytes.{AreBytes}
 use Rattle.xm_conf.specs.Configuration.{Conf}
-use Rattle.xm_conf.specs.Description.{described}
-use Rattle.xm_conf.specs.Fits.{Fits}
-use Rattle.bin_config.specs.Reading.{read_of}
+use Rattle.bin_config.specs.Reading.{read_as, read_within}
 use Rattle.bin_config.specs.Spelled.{HasConfRanges, IsSpelledConf}
+use Rattle.bin_config.specs.Version.{FitsVersion, IsWanted, version_number}
 use Rattle.bin_config.specs.Xmc.{xmc}
-use Rattle.bin_config.specs.declared.fault.XmcFault.TheVariants.{Short, Trailing}
+use Rattle.bin_config.specs.declared.fault.XmcFault.TheVariants as fault
+use Rattle.bin_config.specs.declared.version.Version.{Version}
 
--- no spelling has another one as its prefix: what follows a spelling in a spelling is nothing
+-- no spelling, of either version, has another one as its prefix: what follows a spelling in a spelling is nothing
 abbrev pub IsPrefixFree : Type 0
-IsPrefixFree = (a b : Conf) (rest : List ℕ) → length (xmc b) < 2 ^ 32 → xmc b ≡ xmc a ++ rest → rest ≡ []
+IsPrefixFree =
+    (v w : Version) (a b : Conf) (rest : List ℕ) → length (xmc w b) < 2 ^ 32 → xmc w b ≡ xmc v a ++ rest → rest ≡ []
 
--- bytes are the one spelling of a configuration, which can be spelled and meets the rules
-pub record IsSpellingOf (bytes : List ℕ) (conf : Conf) : Type 0 where
-  pub text : bytes ≡ xmc conf
-  pub spelled : IsSpelledConf conf
-  pub fits : Fits (described conf)
+-- bytes are the one spelling of a configuration in a version, which can be spelled in it and meets its rules
+pub record IsSpellingOf (v : Version) (bytes : List ℕ) (conf : Conf) : Type 0 where
+  pub text : bytes ≡ xmc v conf
+  pub spelled : IsSpelledConf v conf
+  pub fits : FitsVersion v conf
 
--- what is read of bytes is what they spell
+-- what is read of bytes is what they spell, in a version that is wanted
 abbrev pub ReadIsSpelled : Type 0
-ReadIsSpelled = (bytes : List ℕ) (conf : Conf) → AreBytes bytes → read_of bytes ≡ Ok conf → IsSpellingOf bytes conf
+ReadIsSpelled =
+    (want : Option Version) (bytes : List ℕ) (conf : Conf) → AreBytes bytes → read_within want bytes ≡ Ok conf
+    → (v : Version) × IsWanted want v × IsSpellingOf v bytes conf
 
--- a configuration whose numbers are in the ranges of their fields, and which meets the rules, is read of its spelling
+-- a configuration whose numbers are in the ranges of their fields, and which meets the rules of a version, is read of its
+-- spelling in that version
 abbrev pub SpelledIsRead : Type 0
-SpelledIsRead = (conf : Conf) → HasConfRanges conf → Fits (described conf) → read_of (xmc conf) ≡ Ok conf
+SpelledIsRead =
+    (want : Option Version) (v : Version) (conf : Conf) → IsWanted want v → HasConfRanges conf → FitsVersion v conf
+    → read_within want (xmc v conf) ≡ Ok conf
+
+-- a spelling in another version than the one that is wanted is refused by its version
+abbrev pub OtherIsRefused : Type 0
+OtherIsRefused = (v w : Version) (conf : Conf) → v ≢ w → read_as v (xmc w conf) ≡ Err (fault.Version (version_number w))
 
 -- nothing is read of a spelling with something after it: that begins where the spelling ends
 abbrev pub MoreIsTrailing : Type 0
-MoreIsTrailing = (conf : Conf) (rest : List ℕ) → IsSpelledConf conf → rest ≢ [] → read_of (xmc conf ++ rest) ≡ Err (Trailing (length (xmc conf)))
+MoreIsTrailing =
+    (want : Option Version) (v : Version) (conf : Conf) (rest : List ℕ) → IsWanted want v → IsSpelledConf v conf → rest ≢ []
+    → read_within want (xmc v conf ++ rest) ≡ Err (fault.Trailing (length (xmc v conf)))
 
 -- a spelling that is cut after its length field is short where it ends
 abbrev pub CutIsShort : Type 0
 CutIsShort =
-    (conf : Conf) (front rest : List ℕ) → IsSpelledConf conf → xmc conf ≡ front ++ rest → rest ≢ [] → 10 ≤ length front
-    → read_of front ≡ Err (Short (length front))
+    (want : Option Version) (v : Version) (conf : Conf) (front rest : List ℕ) → IsWanted want v → IsSpelledConf v conf
+    → xmc v conf ≡ front ++ rest → rest ≢ [] → 10 ≤ length front → read_within want front ≡ Err (fault.Short (length front))
 
 -- what can be spelled is shorter than what its length field tells
 abbrev pub FitsItsLength : Type 0
-FitsItsLength = (conf : Conf) → IsSpelledConf conf → length (xmc conf) < 2 ^ 32
+FitsItsLength = (v : Version) (conf : Conf) → IsSpelledConf v conf → length (xmc v conf) < 2 ^ 32

@@ -1,15 +1,20 @@
 -- What has its fields' ranges and meets the rules can be spelled, and what can be spelled has its fields' ranges.
-use Rattle.std.proofs.Common.{ℕ, ◌<◌, ◌≤◌, List, length, get_or, Option, Some, None, subst, arith}
-use Rattle.std.specs.Prelude.{IfSome}
+use Rattle.std.proofs.Common.{◌≡◌, ℕ, ◌<◌, ◌≤◌, List, [], length, get_or, Option, Some, None, sym, subst, arith}
+use Rattle.std.specs.Prelude.{All, IfSome}
 use Rattle.std.proofs.lemmas.List.{length-map, get_or-map}
 use Rattle.xm_conf.specs.Configuration.{Plan, Part, Chan, Conf}
 use Rattle.xm_conf.specs.Description.{described, monitor_of}
-use Rattle.xm_conf.specs.Fits.{Fits, HasSome, HasFewDests, HasAnswers, IsKind, IsNeed}
+use Rattle.xm_conf.specs.Fits.{HasSome, HasFewDests, HasAnswers, IsKind, IsNeed}
 use Rattle.xm_conf.specs.declared.part.Need.{Need}
 use Rattle.xm_conf.specs.declared.channel.ChanKind.{ChanKind}
 use Rattle.xm_conf.specs.declared.channel.ChanKind.TheVariants as chan_kind
+use Rattle.xm_conf.specs.Limits.{most_parts, most_links}
 use Rattle.xm_conf.specs.declared.channel.End.{End}
-use Rattle.bin_config.specs.Spelled.{IsSpelledPlan, IsSpelledNeed, IsSpelledPart, IsSpelledChan, IsSpelledConf, HasPlanRanges, HasNeedRanges, HasPartRanges, HasChanRanges, HasConfRanges}
+use Rattle.xm_conf.specs.declared.link.Link.{Link}
+use Rattle.bin_config.specs.Spelled.{IsSpelledPlan, IsSpelledNeed, IsSpelledPart, IsSpelledChan, IsSpelledLink, AreSpelledLinks, IsSpelledConf, HasPlanRanges, HasNeedRanges, HasPartRanges, HasChanRanges, HasConfRanges}
+use Rattle.bin_config.specs.Version.{parts_in_version, MayHaveLinks, FitsVersion}
+use Rattle.bin_config.specs.declared.version.Version.{Version}
+use Rattle.bin_config.specs.declared.version.Version.TheVariants as version
 
 -- a plan with few slots
 plan_spelled : (plan : Plan) → HasPlanRanges plan → HasSome plan.slots 64 → IsSpelledPlan plan
@@ -40,10 +45,20 @@ few_dests : (of : ChanKind) (dests : List End) → HasFewDests of dests → IsKi
 few_dests (chan_kind.Sampling refresh) dests few is = omega (arith, few)
 few_dests (chan_kind.Queuing most) dests few is = omega (arith, is.0)
 
--- what has its fields' ranges and meets the rules can be spelled
-pub spelled_if_fits : (conf : Conf) → HasConfRanges conf → Fits (described conf) → IsSpelledConf conf
+-- the partitions of each version are few
+pub parts_few : (v : Version) → parts_in_version v ≤ most_parts
+parts_few version.One = omega arith
+parts_few version.Two = omega arith
+
+-- the links of each version
+links_spelled : (v : Version) (links : List Link) → MayHaveLinks v links → length links ≤ most_links → All IsSpelledLink links → AreSpelledLinks v links
+links_spelled version.One links none few each = none
+links_spelled version.Two links none few each = record { few = omega (arith, few); each = each }
+
+-- what has its fields' ranges and meets the rules of a version can be spelled in it
+pub spelled_if_fits : (v : Version) (conf : Conf) → HasConfRanges conf → FitsVersion v conf → IsSpelledConf v conf
 unfolding described
-spelled_if_fits conf h fits = record {
+spelled_if_fits v conf h of = let fits = of.fits in record {
   name = h.name;
   regions = record { few = omega (arith, fits.counts.regions.few); each = h.regions };
   hv_size = h.hv_size;
@@ -52,7 +67,7 @@ spelled_if_fits conf h fits = record {
     few = omega (arith, fits.counts.plans.few);
     each = λ n d below. plan_spelled (get_or conf.plans n d) (h.plans n d below) (fits.counts.slots n d below);
   };
-  parts = record { few = omega (arith, fits.counts.parts.few); each = λ n d below. part n d below };
+  parts = record { few = omega (arith, fits.counts.parts.few, parts_few v); each = λ n d below. part n d below };
   chans = record {
     few = omega (arith, fits.counts.chans);
     each = λ n d below.
@@ -65,12 +80,13 @@ spelled_if_fits conf h fits = record {
           dests = record { few = few_dests c.kind c.dests (fits.counts.dests n d below) (fits.messages n d below).kind; each = is.dests };
         };
   };
+  links = links_spelled v conf.links of.links fits.counts.links h.links;
 }
   where
     answers : (n : ℕ) (d : Part) → n < length conf.parts → HasAnswers (length conf.plans) (monitor_of (get_or conf.parts n d))
     answers n d below =
         subst (HasAnswers (length conf.plans)) (get_or-map monitor_of conf.parts n d (monitor_of d) below)
-        (fits.answers n (monitor_of d) (omega (arith, below, length-map conf.parts monitor_of)))
+        (of.fits.answers n (monitor_of d) (omega (arith, below, length-map conf.parts monitor_of)))
 
     part : (n : ℕ) (d : Part) → n < length conf.parts → IsSpelledPart (get_or conf.parts n d)
     part n d below =
@@ -78,12 +94,12 @@ spelled_if_fits conf h fits = record {
         let is = h.parts n d below in
         record {
           name = is.name;
-          console = console_spelled p.console (length conf.uarts) fits.counts.uarts (fits.consoles n d below);
-          need = need_spelled p.need is.need (fits.needs n d below);
+          console = console_spelled p.console (length conf.uarts) of.fits.counts.uarts (of.fits.consoles n d below);
+          need = need_spelled p.need is.need (of.fits.needs n d below);
           trace_mask = is.trace_mask;
           hm = record { actions = is.actions; logged = logged_spelled p (length conf.plans) (answers n d below) };
-          areas = record { few = omega (arith, (fits.counts.areas n d below).few); each = is.areas };
-          ports = record { few = omega (arith, fits.counts.ports n d below); each = is.ports };
+          areas = record { few = omega (arith, (of.fits.counts.areas n d below).few); each = is.areas };
+          ports = record { few = omega (arith, of.fits.counts.ports n d below); each = is.ports };
         }
 
 -- a requirement that can be spelled
@@ -106,9 +122,14 @@ part_ranges part is = record {
 chan_ranges : (chan : Chan) → IsSpelledChan chan → HasChanRanges chan
 chan_ranges chan is = record { kind = is.kind; length = is.length; source = is.source; dests = is.dests.each }
 
+-- links that can be spelled
+link_ranges : (v : Version) (links : List Link) → AreSpelledLinks v links → All IsSpelledLink links
+link_ranges version.One links none = subst (λ (all : List Link). All IsSpelledLink all) (sym none) (λ n d below. absurd (omega arith))
+link_ranges version.Two links is = is.each
+
 -- what can be spelled has its fields' ranges
-pub ranges_if_spelled : (conf : Conf) → IsSpelledConf conf → HasConfRanges conf
-ranges_if_spelled conf is = record {
+pub ranges_if_spelled : (v : Version) (conf : Conf) → IsSpelledConf v conf → HasConfRanges conf
+ranges_if_spelled v conf is = record {
   name = is.name;
   regions = is.regions.each;
   hv_size = is.hv_size;
@@ -116,4 +137,5 @@ ranges_if_spelled conf is = record {
   plans = λ n d below. let plan = is.plans.each n d below in record { frame = plan.frame; slots = plan.slots.each };
   parts = λ n d below. part_ranges (get_or conf.parts n d) (is.parts.each n d below);
   chans = λ n d below. chan_ranges (get_or conf.chans n d) (is.chans.each n d below);
+  links = link_ranges v conf.links is.links;
 }

@@ -19,11 +19,15 @@ use Rattle.xm_conf.specs.declared.port.Way.TheVariants as way
 use Rattle.xm_conf.specs.declared.channel.ChanKind.{ChanKind}
 use Rattle.xm_conf.specs.declared.channel.ChanKind.TheVariants as chan_kind
 use Rattle.xm_conf.specs.declared.channel.End.{End}
+use Rattle.xm_conf.specs.declared.link.Link.{Link}
 use Rattle.xm_conf.specs.declared.raw.Region.{Region}
 use Rattle.xm_conf.specs.declared.item.Broken.{Broken}
 use Rattle.xm_conf.specs.Description.{described}
 use Rattle.xm_conf.specs.Rules.{first_broken}
+use Rattle.bin_config.specs.Version.{wanted, parts_in_version}
 use Rattle.bin_config.specs.declared.identity.Identity.{Identity}
+use Rattle.bin_config.specs.declared.version.Version.{Version}
+use Rattle.bin_config.specs.declared.version.Version.TheVariants as version
 use Rattle.bin_config.specs.declared.fault.XmcFault.{XmcFault}
 use Rattle.bin_config.specs.declared.fault.XmcFault.TheVariants as fault
 
@@ -254,9 +258,22 @@ part_record_at place = do
     ports.1,
   )
 
+-- a link
+unfoldable pub link_at : Place → Read Link
+link_at place = do
+  number ← byte_field_at place
+  source ← byte_field_at number.1
+  dest ← byte_field_at source.1
+  Ok (record { number = number.0; source = source.0; dest = dest.0 }, dest.1)
+
+-- the links, which version 1 does not have
+abbrev pub links_at : Version → Place → Read (List Link)
+links_at version.One place = Ok ([], place)
+links_at version.Two place = counted_at link_at place
+
 -- what stands after the length of the whole
-unfoldable pub conf_body_at : Place → Read Conf
-conf_body_at place = do
+unfoldable pub conf_body_at : Version → Place → Read Conf
+conf_body_at v place = do
   name ← text_field_at place
   regions ← counted_at region_at name.1
   hv_size ← word_field_at regions.1
@@ -264,6 +281,7 @@ conf_body_at place = do
   plans ← counted_at plan_record_at uarts.1
   parts ← counted_at part_record_at plans.1
   chans ← counted_at chan_record_at parts.1
+  links ← links_at v chans.1
   Ok (
     record {
       name = name.0;
@@ -273,8 +291,9 @@ conf_body_at place = do
       plans = plans.0;
       parts = parts.0;
       chans = chans.0;
+      links = links.0;
     },
-    chans.1,
+    links.1,
   )
 
 -- the first four bytes; the value says nothing
@@ -284,28 +303,29 @@ magic_at place =
     else if bytes_eq (next 4 place) (codes "XMCF") then Ok (4, past 4 place)
     else Err fault.Magic
 
--- the version that is known
-abbrev pub known : (ℕ × Place) → Read ℕ
-known version = if version.0 == 1 then Ok version else Err (fault.Version version.0)
+-- a version where there is one; else the number of a version is at fault
+abbrev pub or_version : ℕ → Place → Option Version → Read Version
+or_version number behind None = Err (fault.Version number)
+or_version number behind (Some v) = Ok (v, behind)
 
--- the version
-unfoldable pub version_at : Place → Read ℕ
-version_at place = do
-  version ← half_word_at place
-  known version
+-- the version, which is the one that is wanted, or either
+unfoldable pub version_at : Option Version → Place → Read Version
+version_at want place = do
+  number ← half_word_at place
+  or_version number.0 number.1 (wanted want number.0)
 
 -- the bytes are as many as they tell
 abbrev pub is_whole : ℕ → ℕ → Result (Unit {0}) XmcFault
 is_whole total told =
     if nat_lt total told then Err (fault.Short total) else if nat_lt told total then Err (fault.Trailing told) else Ok tt
 
--- the first fields: what comes first, the version, and the length of the whole
-unfoldable pub head_at : Place → Read ℕ
-head_at place = do
+-- the first fields: what comes first, the version, which is told, and the length of the whole
+unfoldable pub head_at : Option Version → Place → Read Version
+head_at want place = do
   magic ← magic_at place
-  version ← version_at magic.1
+  version ← version_at want magic.1
   told ← word_field_at version.1
-  is_whole (length place.bytes) told.0 >>= λ all. Ok told
+  is_whole (length place.bytes) told.0 >>= λ all. Ok (version.0, told.1)
 
 -- nothing is left
 abbrev pub nothing_left : (Conf × Place) → Result Conf XmcFault
@@ -316,15 +336,23 @@ abbrev pub unbroken : Conf → Option Broken → Result Conf XmcFault
 unbroken conf None = Ok conf
 unbroken conf (Some broken) = Err (fault.NotFit broken.rule)
 
--- all fields, and nothing after them
-unfoldable pub conf_fields : List ℕ → Result Conf XmcFault
-conf_fields bytes = do
-  head ← head_at (cursor_start bytes)
-  conf ← conf_body_at head.1
+-- the other fields of a version, and nothing after them
+unfoldable pub fields_at : Version → Place → Result Conf XmcFault
+fields_at v place = do
+  conf ← conf_body_at v place
   nothing_left conf
 
--- the configuration that bytes are, or the first fault
-unfoldable pub read_of : List ℕ → Result Conf XmcFault
-read_of bytes = do
-  conf ← conf_fields bytes
-  unbroken conf (first_broken (described conf))
+-- the configuration that bytes are in the version that is wanted, or in either, or the first fault
+unfoldable pub read_within : Option Version → List ℕ → Result Conf XmcFault
+read_within want bytes = do
+  head ← head_at want (cursor_start bytes)
+  conf ← fields_at head.0 head.1
+  unbroken conf (first_broken (parts_in_version head.0) (described conf))
+
+-- the configuration that bytes are in either version, or the first fault
+abbrev pub read_of : List ℕ → Result Conf XmcFault
+read_of bytes = read_within None bytes
+
+-- the configuration that bytes are in one version, or the first fault
+abbrev pub read_as : Version → List ℕ → Result Conf XmcFault
+read_as v bytes = read_within (Some v) bytes

@@ -18,13 +18,16 @@ use Rattle.xm_conf.specs.declared.port.Way.{Way}
 use Rattle.xm_conf.specs.declared.port.Way.TheVariants as way
 use Rattle.xm_conf.specs.declared.channel.ChanKind.{ChanKind}
 use Rattle.xm_conf.specs.declared.channel.ChanKind.TheVariants as chan_kind
+use Rattle.xm_conf.specs.declared.link.Link.{Link}
 use Rattle.bin_config.specs.Reading as reading
 use Rattle.bin_config.specs.Reading.{Read, ◌>>=◌}
-use Rattle.bin_config.specs.Spelled.{IsByte, IsHalfWord, HasFourBytes, IsSpelledRegion, IsSpelledSlot, IsSpelledPlan, IsSpelledNeed, IsSpelledMonitor, IsSpelledArea, IsSpelledPart, IsSpelledEnd, IsSpelledKind, IsSpelledChan, IsSpelledConf}
+use Rattle.bin_config.specs.Spelled.{IsByte, IsHalfWord, HasFourBytes, IsSpelledRegion, IsSpelledSlot, IsSpelledPlan, IsSpelledNeed, IsSpelledMonitor, IsSpelledArea, IsSpelledPart, IsSpelledEnd, IsSpelledKind, IsSpelledChan, IsSpelledLink, AreSpelledLinks, IsSpelledConf}
 use Rattle.bin_config.specs.Xmc as xmc
-use Rattle.bin_config.specs.FieldLemmas.{Takes, Reads, IsReaderOf, stepped, went_on, had, next_take, stands_next, takes_both, byte_spells, half_word_spells, word_spells, coded_spells, elements_spells, counted_spells}
+use Rattle.bin_config.specs.FieldLemmas.{Takes, Reads, IsReaderOf, ok_is, stepped, went_on, had, next_take, stands_next, takes_both, byte_spells, half_word_spells, word_spells, coded_spells, elements_spells, counted_spells}
 use Rattle.bin_config.specs.FrontLemmas.{first, then, followed, made_of_fields}
 use Rattle.bin_config.specs.declared.identity.Identity.{Identity}
+use Rattle.bin_config.specs.declared.version.Version.{Version}
+use Rattle.bin_config.specs.declared.version.Version.TheVariants as version
 use Rattle.bin_config.specs.declared.fault.XmcFault.TheVariants.{Short}
 
 -- a region
@@ -424,14 +427,32 @@ part_spells =
     (λ p q. (refl, (((record { name = q.name; console = q.console; need = q.need; trace_mask = q.trace_mask }, q.hm), q.areas), q.ports)))
     (λ p q. append_assoc (xmc.identity p ++ xmc.monitor p.hm) (xmc.list_field xmc.area_record p.areas) (xmc.list_field xmc.port_record p.ports))
 
+-- a link
+link_spells : IsReaderOf reading.link_at xmc.link_text IsSpelledLink
+unfolding reading.link_at xmc.link_text
+link_spells =
+    made_of_fields (λ t. record { number = t.0.0; source = t.0.1; dest = t.1 }) (λ l. ((l.number, l.source), l.dest)) xmc.link_text IsSpelledLink
+    (then (then (first byte_spells) byte_spells) byte_spells)
+    (λ t p. (refl, record { number = p.0.0; source = p.0.1; dest = p.1 })) (λ l q. (refl, ((q.number, q.source), q.dest))) (λ l q. refl)
+
+-- the links of each version
+links_spells : (v : Version) → IsReaderOf (reading.links_at v) (xmc.links v) (AreSpelledLinks v)
+links_spells version.One = record {
+  takes = λ place xs after each e.
+      let R : List Link × Place → Type 0 = λ x. Takes place [] x.1 × (x.0 ≡ []) in
+      subst R (ok_is ([], place) (xs, after) e) (record { parts = refl; rest = each }, refl);
+  again = λ place xs rest none is. record { after = place; is = ap (λ (ys : List Link). Ok (ys, place)) (sym none); ahead = is };
+}
+links_spells version.Two = counted_spells reading.link_at xmc.link_text IsSpelledLink link_spells
+
 -- what stands after the length of the whole
-pub conf_spells : IsReaderOf reading.conf_body_at xmc.body IsSpelledConf
+pub conf_spells : (v : Version) → IsReaderOf (reading.conf_body_at v) (xmc.body v) (IsSpelledConf v)
 unfolding reading.conf_body_at xmc.body
-conf_spells =
-    made_of_fields (λ t. record { name = t.0.0.0.0.0.0; regions = t.0.0.0.0.0.1; hv_size = t.0.0.0.0.1; uarts = t.0.0.0.1; plans = t.0.0.1; parts = t.0.1; chans = t.1 })
-    (λ c. ((((((c.name, c.regions), c.hv_size), c.uarts), c.plans), c.parts), c.chans)) xmc.body IsSpelledConf
-    (then (then (then (then (then (then (first text_spells) (counted_spells reading.region_at xmc.region_record IsSpelledRegion region_spells)) word_spells)
+conf_spells v =
+    made_of_fields (λ t. record { name = t.0.0.0.0.0.0.0; regions = t.0.0.0.0.0.0.1; hv_size = t.0.0.0.0.0.1; uarts = t.0.0.0.0.1; plans = t.0.0.0.1; parts = t.0.0.1; chans = t.0.1; links = t.1 })
+    (λ c. (((((((c.name, c.regions), c.hv_size), c.uarts), c.plans), c.parts), c.chans), c.links)) (xmc.body v) (IsSpelledConf v)
+    (then (then (then (then (then (then (then (first text_spells) (counted_spells reading.region_at xmc.region_record IsSpelledRegion region_spells)) word_spells)
     (counted_spells reading.text_field_at xmc.text_field IsName text_spells)) (counted_spells reading.plan_record_at xmc.plan_record IsSpelledPlan plan_spells))
-    (counted_spells reading.part_record_at xmc.part_record IsSpelledPart part_spells)) (counted_spells reading.chan_record_at xmc.chan IsSpelledChan chan_spells))
-    (λ t p. (refl, record { name = p.0.0.0.0.0.0; regions = p.0.0.0.0.0.1; hv_size = p.0.0.0.0.1; uarts = p.0.0.0.1; plans = p.0.0.1; parts = p.0.1; chans = p.1 }))
-    (λ c q. (refl, ((((((q.name, q.regions), q.hv_size), q.uarts), q.plans), q.parts), q.chans))) (λ c q. refl)
+    (counted_spells reading.part_record_at xmc.part_record IsSpelledPart part_spells)) (counted_spells reading.chan_record_at xmc.chan IsSpelledChan chan_spells)) (links_spells v))
+    (λ t p. (refl, record { name = p.0.0.0.0.0.0.0; regions = p.0.0.0.0.0.0.1; hv_size = p.0.0.0.0.0.1; uarts = p.0.0.0.0.1; plans = p.0.0.0.1; parts = p.0.0.1; chans = p.0.1; links = p.1 }))
+    (λ c q. (refl, (((((((q.name, q.regions), q.hv_size), q.uarts), q.plans), q.parts), q.chans), q.links))) (λ c q. refl)

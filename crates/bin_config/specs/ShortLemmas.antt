@@ -17,9 +17,12 @@ use Rattle.xm_conf.specs.declared.port.Port.{Port}
 use Rattle.xm_conf.specs.declared.channel.ChanKind.{ChanKind}
 use Rattle.xm_conf.specs.declared.channel.ChanKind.TheVariants as chan_kind
 use Rattle.xm_conf.specs.declared.channel.End.{End}
+use Rattle.xm_conf.specs.declared.link.Link.{Link}
 use Rattle.xm_conf.specs.declared.raw.Region.{Region}
-use Rattle.bin_config.specs.Spelled.{AreFew, IsSpelledRegion, IsSpelledSlot, IsSpelledPlan, IsSpelledMonitor, IsSpelledArea, IsSpelledPart, IsSpelledEnd, IsSpelledChan, IsSpelledConf}
+use Rattle.bin_config.specs.Spelled.{AreFew, IsSpelledRegion, IsSpelledSlot, IsSpelledPlan, IsSpelledMonitor, IsSpelledArea, IsSpelledPart, IsSpelledEnd, IsSpelledChan, IsSpelledLink, AreSpelledLinks, IsSpelledConf}
 use Rattle.bin_config.specs.Xmc as xmc
+use Rattle.bin_config.specs.declared.version.Version.{Version}
+use Rattle.bin_config.specs.declared.version.Version.TheVariants as version
 
 -- a text has at most so many bytes
 pub record HasAtMost (most : ℕ) (bytes : List ℕ) : Type 0 where
@@ -140,11 +143,22 @@ chan_short c is =
     (both_short (both_short (both_short (byte_short (xmc.chan_byte c.kind)) (half_word_short c.length)) (keeps_short c.kind)) (end_short c.source is.source))
     (counted_short xmc.end IsSpelledEnd 2 end_short c.dests is.dests)
 
+-- a link
+link_short : (l : Link) → IsSpelledLink l → HasAtMost 3 (xmc.link_text l)
+unfolding xmc.link_text
+link_short l is = both_short (both_short (byte_short l.number) (byte_short l.source)) (byte_short l.dest)
+
+-- the links of each version
+links_short : (v : Version) (ls : List Link) → AreSpelledLinks v ls → HasAtMost 766 (xmc.links v ls)
+links_short version.One ls is = record { is = omega arith }
+links_short version.Two ls is = counted_short xmc.link_text IsSpelledLink 3 link_short ls is
+
 -- what stands after the length of the whole
-pub body_short : (conf : Conf) → IsSpelledConf conf → HasAtMost 3541226 (xmc.body conf)
+pub body_short : (v : Version) (conf : Conf) → IsSpelledConf v conf → HasAtMost 3541992 (xmc.body v conf)
 unfolding xmc.body
-body_short conf is =
+body_short v conf is =
     both_short
+    (both_short
     (both_short
     (both_short
     (both_short
@@ -152,4 +166,5 @@ body_short conf is =
     (counted_short xmc.text_field IsName 32 text_short conf.uarts is.uarts))
     (counted_short xmc.plan_record IsSpelledPlan 2300 plan_short conf.plans is.plans))
     (counted_short xmc.part_record IsSpelledPart 11027 part_short conf.parts is.parts))
-    (counted_short xmc.chan IsSpelledChan 520 chan_short conf.chans is.chans)
+    (counted_short xmc.chan IsSpelledChan 520 chan_short conf.chans is.chans))
+    (links_short v conf.links is.links)

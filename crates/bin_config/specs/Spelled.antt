@@ -1,5 +1,5 @@
 -- What can be spelled, and what values of the fields' types are.
-use Rattle.std.specs.Prelude.{◌≡◌, ◌≢◌, ℕ, ◌<◌, ◌^◌, List, length, All, IfSome}
+use Rattle.std.specs.Prelude.{◌≡◌, ◌≢◌, ℕ, ◌<◌, ◌^◌, List, [], length, All, IfSome}
 use Rattle.xm_conf.specs.Configuration.{Plan, Part, Chan, Conf}
 use Rattle.xm_conf.specs.Name.{IsName}
 use Rattle.xm_conf.specs.declared.plan.Slot.{Slot}
@@ -9,7 +9,10 @@ use Rattle.xm_conf.specs.declared.part.HmTable.{HmTable}
 use Rattle.xm_conf.specs.declared.channel.ChanKind.{ChanKind}
 use Rattle.xm_conf.specs.declared.channel.ChanKind.TheVariants as chan_kind
 use Rattle.xm_conf.specs.declared.channel.End.{End}
+use Rattle.xm_conf.specs.declared.link.Link.{Link}
 use Rattle.xm_conf.specs.declared.raw.Region.{Region}
+use Rattle.bin_config.specs.declared.version.Version.{Version}
+use Rattle.bin_config.specs.declared.version.Version.TheVariants as version
 
 -- a number has one byte
 abbrev pub IsByte : ℕ → Type 0
@@ -88,8 +91,19 @@ pub record IsSpelledChan (chan : Chan) : Type 0 where
   pub source : IsSpelledEnd chan.source
   pub dests : AreFew IsSpelledEnd chan.dests
 
+-- a link
+pub record IsSpelledLink (link : Link) : Type 0 where
+  pub number : IsByte link.number
+  pub source : IsByte link.source
+  pub dest : IsByte link.dest
+
+-- the links, of which version 1 has none
+abbrev pub AreSpelledLinks : Version → List Link → Type 0
+AreSpelledLinks version.One links = links ≡ []
+AreSpelledLinks version.Two links = AreFew IsSpelledLink links
+
 -- a configuration
-pub record IsSpelledConf (conf : Conf) : Type 0 where
+pub record IsSpelledConf (v : Version) (conf : Conf) : Type 0 where
   pub name : IsName conf.name
   pub regions : AreFew IsSpelledRegion conf.regions
   pub hv_size : HasFourBytes conf.hv_size
@@ -97,6 +111,7 @@ pub record IsSpelledConf (conf : Conf) : Type 0 where
   pub plans : AreFew IsSpelledPlan conf.plans
   pub parts : AreFew IsSpelledPart conf.parts
   pub chans : AreFew IsSpelledChan conf.chans
+  pub links : AreSpelledLinks v conf.links
 
 -- a plan's numbers are in the ranges of their fields
 pub record HasPlanRanges (plan : Plan) : Type 0 where
@@ -133,3 +148,4 @@ pub record HasConfRanges (conf : Conf) : Type 0 where
   pub plans : All HasPlanRanges conf.plans
   pub parts : All HasPartRanges conf.parts
   pub chans : All HasChanRanges conf.chans
+  pub links : All IsSpelledLink conf.links

@@ -1,4 +1,4 @@
--- The binary form of a configuration: the one spelling of each.
+-- The binary form of a configuration: the one spelling of each in each version.
 use Rattle.std.specs.Prelude.{ℕ, ◌+◌, Bool, true, false, List, [], ◌∷◌, ◌++◌, length, codes, flat_map, Option, Some, None}
 use Rattle.std.specs.Int.{w16, w32, to_be_bytes}
 use Rattle.xm_conf.specs.Configuration.{Plan, Part, Chan, Conf}
@@ -16,7 +16,11 @@ use Rattle.xm_conf.specs.declared.port.Way.TheVariants as way
 use Rattle.xm_conf.specs.declared.channel.ChanKind.{ChanKind}
 use Rattle.xm_conf.specs.declared.channel.ChanKind.TheVariants as chan_kind
 use Rattle.xm_conf.specs.declared.channel.End.{End}
+use Rattle.xm_conf.specs.declared.link.Link.{Link}
 use Rattle.xm_conf.specs.declared.raw.Region.{Region}
+use Rattle.bin_config.specs.Version.{version_number}
+use Rattle.bin_config.specs.declared.version.Version.{Version}
+use Rattle.bin_config.specs.declared.version.Version.TheVariants as version
 
 -- two bytes of a number, the higher one first
 abbrev pub half_word : ℕ → List ℕ
@@ -117,16 +121,25 @@ end e = (e.part ∷ []) ++ (e.port ∷ [])
 unfoldable pub chan : Chan → List ℕ
 chan c = (chan_byte c.kind ∷ []) ++ half_word c.length ++ keeps c.kind ++ end c.source ++ list_field end c.dests
 
+-- a link
+unfoldable pub link_text : Link → List ℕ
+link_text l = (l.number ∷ []) ++ (l.source ∷ []) ++ (l.dest ∷ [])
+
+-- the links, which version 1 does not have
+abbrev pub links : Version → List Link → List ℕ
+links version.One ls = []
+links version.Two ls = list_field link_text ls
+
 -- what stands after the length of the whole
-unfoldable pub body : Conf → List ℕ
-body conf =
+unfoldable pub body : Version → Conf → List ℕ
+body v conf =
     text_field conf.name ++ list_field region_record conf.regions ++ word_field conf.hv_size ++ list_field text_field conf.uarts ++ list_field plan_record conf.plans
-    ++ list_field part_record conf.parts ++ list_field chan conf.chans
+    ++ list_field part_record conf.parts ++ list_field chan conf.chans ++ links v conf.links
 
 -- the first bytes of a file of so many bytes
-unfoldable pub head : ℕ → List ℕ
-head total = codes "XMCF" ++ half_word 1 ++ word_field total
+unfoldable pub head : Version → ℕ → List ℕ
+head v total = codes "XMCF" ++ half_word (version_number v) ++ word_field total
 
 -- the binary form
-unfoldable pub xmc : Conf → List ℕ
-xmc conf = head (10 + length (body conf)) ++ body conf
+unfoldable pub xmc : Version → Conf → List ℕ
+xmc v conf = head v (10 + length (body v conf)) ++ body v conf

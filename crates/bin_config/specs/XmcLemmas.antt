@@ -12,13 +12,15 @@ use Rattle.std.proofs.lemmas.Slice.Eq.{bytes_eq-Decides}
 use Rattle.xm_base.specs.Bytes.{AreBytes}
 use Rattle.xm_base.specs.Cursor.{Place, ahead, left, next, past, cursor_start}
 use Rattle.xm_conf.specs.Configuration.{Conf}
+use Rattle.xm_conf.specs.declared.link.Link.{Link}
 use Rattle.xm_conf.specs.Description.{described}
 use Rattle.xm_conf.specs.Laws.{IsBrokenUnlessFits}
 use Rattle.xm_conf.specs.Rules.{first_broken}
 use Rattle.xm_conf.specs.declared.item.Broken.{Broken}
-use Rattle.bin_config.specs.Laws.{IsPrefixFree, ReadIsSpelled, SpelledIsRead, MoreIsTrailing, CutIsShort, FitsItsLength}
-use Rattle.bin_config.specs.Reading.{Read, ◌>>=◌, magic_at, half_word_at, known, version_at, is_whole, head_at, conf_body_at, nothing_left, unbroken, conf_fields, read_of}
-use Rattle.bin_config.specs.Spelled.{IsSpelledConf}
+use Rattle.bin_config.specs.Laws.{IsPrefixFree, ReadIsSpelled, SpelledIsRead, OtherIsRefused, MoreIsTrailing, CutIsShort, FitsItsLength}
+use Rattle.bin_config.specs.Reading.{Read, ◌>>=◌, magic_at, half_word_at, or_version, version_at, is_whole, head_at, conf_body_at, nothing_left, unbroken, fields_at, read_within}
+use Rattle.bin_config.specs.Spelled.{IsSpelledConf, AreSpelledLinks}
+use Rattle.bin_config.specs.Version.{version_number, parts_in_version, version_numbered, wanted, IsWanted, MayHaveLinks, FitsVersion}
 use Rattle.bin_config.specs.Xmc.{half_word, word_field, body, head, xmc}
 use Rattle.bin_config.specs.FieldLemmas.{Takes, Reads, IsReaderOf, stepped, ok_is, went_on, next_take, stands_next, takes_both, half_word_spells, word_spells}
 use Rattle.bin_config.specs.FrontLemmas.{Reached, first, then}
@@ -26,37 +28,39 @@ use Rattle.bin_config.specs.RangeLemmas.{spelled_if_fits}
 use Rattle.bin_config.specs.RecordLemmas.{conf_spells}
 use Rattle.bin_config.specs.ShortLemmas.{body_short}
 use Rattle.bin_config.specs.declared.fault.XmcFault.TheVariants as fault
+use Rattle.bin_config.specs.declared.version.Version.{Version}
+use Rattle.bin_config.specs.declared.version.Version.TheVariants as version
 
 -- the length of the first fields
-length-head : (size : ℕ) (rest : List ℕ) → length (head size ++ rest) ≡ 10 + length rest
+length-head : (v : Version) (size : ℕ) (rest : List ℕ) → length (head v size ++ rest) ≡ 10 + length rest
 unfolding head
-length-head size rest = let n : ℕ = length rest in let e : suc (suc (suc (suc (suc (suc (suc (suc (suc (suc n))))))))) ≡ 10 + n = omega arith in e
+length-head v size rest = let n : ℕ = length rest in let e : suc (suc (suc (suc (suc (suc (suc (suc (suc (suc n))))))))) ≡ 10 + n = omega arith in e
 
 -- the length of a file
-pub length-xmc : (conf : Conf) → length (xmc conf) ≡ 10 + length (body conf)
+pub length-xmc : (v : Version) (conf : Conf) → length (xmc v conf) ≡ 10 + length (body v conf)
 unfolding xmc
-length-xmc conf = length-head (10 + length (body conf)) (body conf)
+length-xmc v conf = length-head v (10 + length (body v conf)) (body v conf)
 
 -- the word after the first six bytes
 abbrev length_word : List ℕ → ℕ
 length_word bytes = from_be_bytes w32 (take 4 (drop 6 bytes))
 
 -- a file tells its total
-total_at-head : (total : ℕ) (rest : List ℕ) → total < 2 ^ 32 → length_word (head total ++ rest) ≡ total
+total_at-head : (v : Version) (total : ℕ) (rest : List ℕ) → total < 2 ^ 32 → length_word (head v total ++ rest) ≡ total
 unfolding head
-total_at-head total rest below = from_be_bytes-to_be_bytes_4 total below
+total_at-head v total rest below = from_be_bytes-to_be_bytes_4 total below
 
 -- no spelling has another one as its prefix
 pub prefix_free : IsPrefixFree
 unfolding xmc
-prefix_free a b rest below is =
-    let own_a : length (xmc a) ≡ 10 + length (body a) = length-xmc a in
-    let own_b : length (xmc b) ≡ 10 + length (body b) = length-xmc b in
-    let sum : length (xmc b) ≡ length (xmc a) + length rest = ap length is ∙ length-append (xmc a) rest in
-    let told_b : length_word (xmc b) ≡ 10 + length (body b) = total_at-head (10 + length (body b)) (body b) (omega arith) in
-    let told_a : length_word (xmc a ++ rest) ≡ 10 + length (body a) =
-    ap length_word (append_assoc (head (10 + length (body a))) (body a) rest) ∙ total_at-head (10 + length (body a)) (body a ++ rest) (omega arith) in
-    let same : 10 + length (body b) ≡ 10 + length (body a) = sym told_b ∙ ap length_word is ∙ told_a in
+prefix_free v w a b rest below is =
+    let own_a : length (xmc v a) ≡ 10 + length (body v a) = length-xmc v a in
+    let own_b : length (xmc w b) ≡ 10 + length (body w b) = length-xmc w b in
+    let sum : length (xmc w b) ≡ length (xmc v a) + length rest = ap length is ∙ length-append (xmc v a) rest in
+    let told_b : length_word (xmc w b) ≡ 10 + length (body w b) = total_at-head w (10 + length (body w b)) (body w b) (omega arith) in
+    let told_a : length_word (xmc v a ++ rest) ≡ 10 + length (body v a) =
+    ap length_word (append_assoc (head v (10 + length (body v a))) (body v a) rest) ∙ total_at-head v (10 + length (body v a)) (body v a ++ rest) (omega arith) in
+    let same : 10 + length (body w b) ≡ 10 + length (body v a) = sym told_b ∙ ap length_word is ∙ told_a in
     nil_from_length rest (omega arith)
 
 -- a list with something in it
@@ -65,19 +69,20 @@ some_length [] is = absurd (is refl)
 some_length (x ∷ xs) is = omega arith
 
 -- a length that is at least that of the first fields
-front_is : (size count : ℕ) → 10 ≤ count → count ≡ length (head size) + (count - 10)
+front_is : (v : Version) (size count : ℕ) → 10 ≤ count → count ≡ length (head v size) + (count - 10)
 unfolding head
-front_is size count long = omega (arith, long)
+front_is v size count long = omega (arith, long)
 
 -- a file of as many bytes as it tells
-text_of_whole : (bytes : List ℕ) (conf : Conf) → bytes ≡ head (length bytes) ++ body conf → bytes ≡ xmc conf
+text_of_whole : (v : Version) (bytes : List ℕ) (conf : Conf) → bytes ≡ head v (length bytes) ++ body v conf → bytes ≡ xmc v conf
 unfolding xmc
-text_of_whole bytes conf parts = parts ∙ ap (λ size. head size ++ body conf) (ap length parts ∙ length-head (length bytes) (body conf))
+text_of_whole v bytes conf parts = parts ∙ ap (λ size. head v size ++ body v conf) (ap length parts ∙ length-head v (length bytes) (body v conf))
 
 -- the parts of a file, and of a longer one
-xmc_is : (conf : Conf) (rest : List ℕ) → (xmc conf ≡ head (10 + length (body conf)) ++ body conf) × (xmc conf ++ rest ≡ head (10 + length (body conf)) ++ (body conf ++ rest))
+xmc_is : (v : Version) (conf : Conf) (rest : List ℕ)
+    → (xmc v conf ≡ head v (10 + length (body v conf)) ++ body v conf) × (xmc v conf ++ rest ≡ head v (10 + length (body v conf)) ++ (body v conf ++ rest))
 unfolding xmc
-xmc_is conf rest = (refl, append_assoc (head (10 + length (body conf))) (body conf) rest)
+xmc_is v conf rest = (refl, append_assoc (head v (10 + length (body v conf))) (body v conf) rest)
 
 -- the first four bytes that are read
 conf_magic_takes : (place : Place) (n : ℕ) (after : Place) → AreBytes (ahead place) → magic_at place ≡ Ok (n, after) → Takes place (codes "XMCF") after × (n ≡ 4)
@@ -105,43 +110,100 @@ magic_again place n rest four is =
 magic_spells : IsReaderOf magic_at (λ n. codes "XMCF") (λ n. n ≡ 4)
 magic_spells = record { takes = conf_magic_takes; again = magic_again }
 
--- the version that is read
-conf_version_takes : (place : Place) (n : ℕ) (after : Place) → AreBytes (ahead place) → version_at place ≡ Ok (n, after) → Takes place (half_word 1) after × (n ≡ 1)
-unfolding version_at
-conf_version_takes place n after each e =
-    let v = stepped (half_word_at place) known (n, after) e in
-    let t = half_word_spells.takes place v.value.0 v.value.1 each v.is in
-    let k = was (v.value.0 == 1) v.led in
-    let one : v.value.0 ≡ 1 = let test : (v.value.0 == 1) ≡ true = k.0 in grind (arith, nat_tests) in
-    let P : ℕ × Place → Type 0 = λ x. Takes place (half_word 1) x.1 × (x.0 ≡ 1) in
-    subst P (ok_is v.value (n, after) k.1) (subst (λ (m : ℕ). Takes place (half_word m) v.value.1) one t.0, one)
+-- a version that was found
+had_version : (n : ℕ) (behind : Place) (found : Option Version) (v : Version) (after : Place) → or_version n behind found ≡ Ok (v, after) → (found ≡ Some v) × (behind ≡ after)
+had_version n behind (Some w) v after e = let same : (w, behind) ≡ (v, after) = ok_is (w, behind) (v, after) e in (ap (λ p. Some p.0) same, ap (λ p. p.1) same)
+had_version n behind None v after e = absurd cc
+
+-- the version that was found is the one of the number
+found_is : (w v : Version) → (let found : Option Version = Some w in found ≡ Some v) → w ≡ v
+found_is w v e = cc
+
+-- the version of a number has that number
+pub numbered_there : (n : ℕ) (v : Version) → version_numbered n ≡ Some v → n ≡ version_number v
+numbered_there n v e = at (n == 1) refl (n == 2) refl e
   where
-    was : {value : ℕ × Place} (b : Bool) → cond {A = Read ℕ} b (Ok value) (Err (fault.Version value.0)) ≡ Ok (n, after) → (b ≡ true) × ((let done : Read ℕ = Ok value in done) ≡ Ok (n, after))
-    was true e = (refl, e)
-    was false e = absurd cc
+    at : (a : Bool) → (n == 1) ≡ a → (b : Bool) → (n == 2) ≡ b → cond a (Some version.One) (cond b (Some version.Two) None) ≡ Some v → n ≡ version_number v
+    at true one b other found =
+        let is : n ≡ 1 = grind (arith, nat_tests) in
+        subst (λ (w : Version). n ≡ version_number w) (found_is version.One v found) is
+    at false one true two found =
+        let is : n ≡ 2 = grind (arith, nat_tests) in
+        subst (λ (w : Version). n ≡ version_number w) (found_is version.Two v found) is
+    at false one false two found = absurd cc
+
+-- a version of a number that is wanted
+wanted_there : (want : Option Version) (n : ℕ) (v : Version) → wanted want n ≡ Some v → (n ≡ version_number v) × IsWanted want v
+wanted_there None n v e = (numbered_there n v e, tt)
+wanted_there (Some w) n v e = at (n == version_number w) refl e
+  where
+    at : (a : Bool) → (n == version_number w) ≡ a → cond a (Some w) None ≡ Some v → (n ≡ version_number v) × (w ≡ v)
+    at true test found =
+        let is : n ≡ version_number w = grind (arith, nat_tests) in
+        let same : w ≡ v = found_is w v found in
+        (is ∙ ap version_number same, same)
+    at false test found = absurd cc
+
+-- a version is that of its number
+pub numbered_back : (v : Version) → version_numbered (version_number v) ≡ Some v
+numbered_back version.One = refl
+numbered_back version.Two = refl
+
+-- the number of a version that is wanted is taken
+wanted_back : (want : Option Version) (v : Version) → IsWanted want v → wanted want (version_number v) ≡ Some v
+wanted_back None version.One is = refl
+wanted_back None version.Two is = refl
+wanted_back (Some version.One) version.One is = refl
+wanted_back (Some version.Two) version.Two is = refl
+wanted_back (Some version.One) version.Two is = absurd cc
+wanted_back (Some version.Two) version.One is = absurd cc
+
+-- the number of another version is not
+wanted_other : (v w : Version) → v ≢ w → wanted (Some v) (version_number w) ≡ None
+wanted_other version.One version.One differ = absurd (differ refl)
+wanted_other version.One version.Two differ = refl
+wanted_other version.Two version.One differ = refl
+wanted_other version.Two version.Two differ = absurd (differ refl)
+
+-- the number of a version has two bytes
+pub number_small : (v : Version) → version_number v < 2 ^ 16
+number_small version.One = omega arith
+number_small version.Two = omega arith
+
+-- the version that is read
+conf_version_takes : (want : Option Version) (place : Place) (v : Version) (after : Place) → AreBytes (ahead place) → version_at want place ≡ Ok (v, after)
+    → Takes place (half_word (version_number v)) after × IsWanted want v
+unfolding version_at
+conf_version_takes want place v after each e =
+    let n = stepped (half_word_at place) (λ n. or_version n.0 n.1 (wanted want n.0)) (v, after) e in
+    let t = half_word_spells.takes place n.value.0 n.value.1 each n.is in
+    let h = had_version n.value.0 n.value.1 (wanted want n.value.0) v after n.led in
+    let is = wanted_there want n.value.0 v h.0 in
+    (subst (λ (m : ℕ). Takes place (half_word m) after) is.0 (subst (λ (behind : Place). Takes place (half_word n.value.0) behind) h.1 t.0), is.1)
 
 -- the version, where it stands
-version_again : (place : Place) (n : ℕ) (rest : List ℕ) → n ≡ 1 → ahead place ≡ half_word 1 ++ rest → Reads (version_at place) n rest
+version_again : (want : Option Version) (place : Place) (v : Version) (rest : List ℕ) → IsWanted want v → ahead place ≡ half_word (version_number v) ++ rest → Reads (version_at want place) v rest
 unfolding version_at
-version_again place n rest one is =
-    let r = half_word_spells.again place 1 rest (omega arith) is in
-    record { after = r.after; is = rw (r.is, one) refl; ahead = r.ahead }
+version_again want place v rest wants is =
+    let r = half_word_spells.again place (version_number v) rest (number_small v) is in
+    record { after = r.after; is = rw (r.is, wanted_back want v wants) refl; ahead = r.ahead }
 
 -- the version
-version_spells : IsReaderOf version_at (λ n. half_word 1) (λ n. n ≡ 1)
-version_spells = record { takes = conf_version_takes; again = version_again }
+version_spells : (want : Option Version) → IsReaderOf (version_at want) (λ v. half_word (version_number v)) (IsWanted want)
+version_spells want = record { takes = conf_version_takes want; again = version_again want }
 
 -- the first fields that are read: the bytes are as many as they tell
-head_takes : (bytes : List ℕ) (told : ℕ × Place) → AreBytes bytes → head_at (cursor_start bytes) ≡ Ok told → Takes (cursor_start bytes) (head (length bytes)) told.1
+head_takes : (want : Option Version) (bytes : List ℕ) (got : Version × Place) → AreBytes bytes → head_at want (cursor_start bytes) ≡ Ok got
+    → Takes (cursor_start bytes) (head got.0 (length bytes)) got.1 × IsWanted want got.0
 unfolding head_at head
-head_takes bytes told each e =
-    let fields = then (then (first magic_spells) version_spells) word_spells in
-    let o = fields.takes (ℕ × Place) (λ t behind. is_whole (length bytes) t.1 >>= λ all. Ok (t.1, behind)) (cursor_start bytes) told each e in
-    let w = stepped (is_whole (length bytes) o.value.1) (λ all. Ok (o.value.1, o.after)) told o.led in
+head_takes want bytes got each e =
+    let fields = then (then (first magic_spells) (version_spells want)) word_spells in
+    let o = fields.takes (Version × Place) (λ t behind. is_whole (length bytes) t.1 >>= λ all. Ok (t.0.1, behind)) (cursor_start bytes) got each e in
+    let w = stepped (is_whole (length bytes) o.value.1) (λ all. Ok (o.value.0.1, o.after)) got o.led in
     let size : o.value.1 ≡ length bytes = whole_is (length bytes) o.value.1 w.value w.is in
-    let behind : o.after ≡ told.1 = ap (λ x. x.1) (ok_is (o.value.1, o.after) told w.led) in
-    subst (λ (place : Place). Takes (cursor_start bytes) (codes "XMCF" ++ half_word 1 ++ word_field (length bytes)) place) behind
-    (subst (λ (n : ℕ). Takes (cursor_start bytes) (codes "XMCF" ++ half_word 1 ++ word_field n) o.after) size o.takes)
+    let P : Version × Place → Type 0 = λ x. Takes (cursor_start bytes) (codes "XMCF" ++ half_word (version_number x.0) ++ word_field (length bytes)) x.1 × IsWanted want x.0 in
+    subst P (ok_is (o.value.0.1, o.after) got w.led)
+    (subst (λ (n : ℕ). Takes (cursor_start bytes) (codes "XMCF" ++ half_word (version_number o.value.0.1) ++ word_field n) o.after) size o.takes, o.is.0.1)
   where
     whole_is : (total size : ℕ) (all : Unit {0}) → is_whole total size ≡ Ok all → size ≡ total
     whole_is total size all is =
@@ -150,112 +212,127 @@ head_takes bytes told each e =
         omega (arith, ltb-false total size a.0, ltb-false size total b.0)
 
 -- the first fields, where they stand
-head_again : (bytes : List ℕ) (size : ℕ) (rest : List ℕ) → size < 2 ^ 32 → bytes ≡ head size ++ rest
-    → Reached (head_at (cursor_start bytes)) (λ behind. is_whole (length bytes) size >>= λ all. Ok (size, behind)) rest
+head_again : (want : Option Version) (v : Version) (bytes : List ℕ) (size : ℕ) (rest : List ℕ) → IsWanted want v → size < 2 ^ 32 → bytes ≡ head v size ++ rest
+    → Reached (head_at want (cursor_start bytes)) (λ behind. is_whole (length bytes) size >>= λ all. Ok (v, behind)) rest
 unfolding head_at head
-head_again bytes size rest below is =
-    let fields = then (then (first magic_spells) version_spells) word_spells in
-    fields.again (ℕ × Place) (λ t behind. is_whole (length bytes) t.1 >>= λ all. Ok (t.1, behind)) (cursor_start bytes) ((4, 1), size) rest ((refl, refl), below) is
+head_again want v bytes size rest wants below is =
+    let fields = then (then (first magic_spells) (version_spells want)) word_spells in
+    fields.again (Version × Place) (λ t behind. is_whole (length bytes) t.1 >>= λ all. Ok (t.0.1, behind)) (cursor_start bytes) ((4, v), size) rest ((refl, wants), below) is
 
 -- fields that are read are a spelling
-fields_takes : (bytes : List ℕ) (conf : Conf) → AreBytes bytes → conf_fields bytes ≡ Ok conf → (bytes ≡ xmc conf) × IsSpelledConf conf
-unfolding conf_fields
-fields_takes bytes conf each e =
-    let h = stepped (head_at (cursor_start bytes)) (λ head. conf_body_at head.1 >>= λ c. nothing_left c) conf e in
-    let c = stepped (conf_body_at h.value.1) (λ c. nothing_left c) conf h.led in
+fields_takes : (v : Version) (bytes : List ℕ) (place : Place) (conf : Conf) → Takes (cursor_start bytes) (head v (length bytes)) place → fields_at v place ≡ Ok conf
+    → (bytes ≡ xmc v conf) × IsSpelledConf v conf
+unfolding fields_at
+fields_takes v bytes place conf first e =
+    let c = stepped (conf_body_at v place) (λ c. nothing_left c) conf e in
     let n = went_on (ltb 0 (left c.value.1)) (fault.Trailing c.value.1.at) (Ok c.value.0) conf c.led in
     let is : c.value.0 ≡ conf = ok_is c.value.0 conf n.1 in
-    let first = head_takes bytes h.value each h.is in
-    let second = conf_spells.takes h.value.1 c.value.0 c.value.1 first.rest c.is in
+    let second = (conf_spells v).takes place c.value.0 c.value.1 first.rest c.is in
     let none : ahead c.value.1 ≡ [] = nil_from_length (ahead c.value.1) (omega (arith, ltb-false 0 (left c.value.1) n.0)) in
-    let both = takes_both (cursor_start bytes) (head (length bytes)) h.value.1 (body c.value.0) c.value.1 first second.0 in
-    let parts : bytes ≡ head (length bytes) ++ body c.value.0
-    = both.parts ∙ ap (λ rest. (head (length bytes) ++ body c.value.0) ++ rest) none ∙ append-nil (head (length bytes) ++ body c.value.0) in
-    let P : Conf → Type 0 = λ x. (bytes ≡ xmc x) × IsSpelledConf x in
-    subst P is (text_of_whole bytes c.value.0 parts, second.1)
+    let both = takes_both (cursor_start bytes) (head v (length bytes)) place (body v c.value.0) c.value.1 first second.0 in
+    let parts : bytes ≡ head v (length bytes) ++ body v c.value.0
+    = both.parts ∙ ap (λ rest. (head v (length bytes) ++ body v c.value.0) ++ rest) none ∙ append-nil (head v (length bytes) ++ body v c.value.0) in
+    let P : Conf → Type 0 = λ x. (bytes ≡ xmc v x) × IsSpelledConf v x in
+    subst P is (text_of_whole v bytes c.value.0 parts, second.1)
 
--- a spelling is read
-fields_again : (conf : Conf) → IsSpelledConf conf → length (xmc conf) < 2 ^ 32 → conf_fields (xmc conf) ≡ Ok conf
-unfolding conf_fields
-fields_again conf spelled below =
-    let size : ℕ = 10 + length (body conf) in
-    let r = head_again (xmc conf) size (body conf) (omega (arith, below, length-xmc conf)) (xmc_is conf []).0 in
-    let c = conf_spells.again r.after conf [] spelled (r.ahead ∙ sym (append-nil (body conf))) in
-    let all : is_whole (length (xmc conf)) size ≡ Ok tt = ap (λ n. is_whole n size) (length-xmc conf) ∙ whole_same size in
+-- fields that stand there are read
+fields_again : (v : Version) (place : Place) (conf : Conf) → IsSpelledConf v conf → ahead place ≡ body v conf → fields_at v place ≡ Ok conf
+unfolding fields_at
+fields_again v place conf spelled is =
+    let c = (conf_spells v).again place conf [] spelled (is ∙ sym (append-nil (body v conf))) in
     let none : ltb 0 (left c.after) ≡ false = ap (λ rest. ltb 0 (length rest)) c.ahead in
-    rw (r.is, all, c.is, none) refl
-  where
-    whole_same : (size : ℕ) → is_whole size size ≡ Ok tt
-    whole_same size = let same : ltb size size ≡ false = le-ltb size size (omega arith) in rw same refl
+    rw (c.is, none) refl
 
--- nothing is read of a spelling with something after it
-fields_more : (conf : Conf) (rest : List ℕ) → length (xmc conf) < 2 ^ 32 → rest ≢ [] → conf_fields (xmc conf ++ rest) ≡ Err (fault.Trailing (length (xmc conf)))
-unfolding conf_fields
-fields_more conf rest below some =
-    let size : ℕ = 10 + length (body conf) in
-    let r = head_again (xmc conf ++ rest) size (body conf ++ rest) (omega (arith, below, length-xmc conf)) (xmc_is conf rest).1 in
-    let more : size < length (xmc conf ++ rest) = omega (arith, length-xmc conf, length-append (xmc conf) rest, some_length rest some) in
-    let all : is_whole (length (xmc conf ++ rest)) size ≡ Err (fault.Trailing size) = whole_more (length (xmc conf ++ rest)) size more in
-    rw (r.is, all) (ap (λ n. Err (fault.Trailing n)) (sym (length-xmc conf)))
-  where
-    whole_more : (total size : ℕ) → size < total → is_whole total size ≡ Err (fault.Trailing size)
-    whole_more total size less =
-        let long : ltb total size ≡ false = le-ltb total size (omega (arith, less)) in
-        let short : ltb size total ≡ true = lt-ltb size total less in
-        rw (long, short) refl
+-- what can be spelled is shorter than what its length field tells
+pub xmc_short : FitsItsLength
+xmc_short v conf spelled = omega (arith, length-xmc v conf, (body_short v conf spelled).is)
 
--- nothing is read of a prefix of a spelling that ends after the length field
-fields_cut : (conf : Conf) (front rest : List ℕ) → length (xmc conf) < 2 ^ 32 → xmc conf ≡ front ++ rest → rest ≢ [] → 10 ≤ length front
-    → conf_fields front ≡ Err (fault.Short (length front))
-unfolding conf_fields
-fields_cut conf front rest below is some long =
-    let size : ℕ = 10 + length (body conf) in
-    let sum : size ≡ length front + length rest = sym (length-xmc conf) ∙ ap length is ∙ length-append front rest in
-    let begins : front ≡ head size ++ take (length front - 10) (body conf)
-    = sym (take-append_seam front rest)
-    ∙ ap (take (length front)) (sym is ∙ (xmc_is conf []).0)
-    ∙ ap (λ n. take n (head size ++ body conf)) (front_is size (length front) long)
-    ∙ take-append-add (head size) (body conf) (length front - 10) in
-    let r = head_again front size (take (length front - 10) (body conf)) (omega (arith, below, length-xmc conf)) begins in
-    let less : length front < size = omega (arith, sum, some_length rest some) in
-    let all : is_whole (length front) size ≡ Err (fault.Short (length front)) = let test : ltb (length front) size ≡ true = lt-ltb (length front) size less in rw test refl in
-    rw (r.is, all) refl
+-- as many bytes as are told
+whole_same : (size : ℕ) → is_whole size size ≡ Ok tt
+whole_same size = let same : ltb size size ≡ false = le-ltb size size (omega arith) in rw same refl
+
+-- more bytes than are told
+whole_more : (total size : ℕ) → size < total → is_whole total size ≡ Err (fault.Trailing size)
+whole_more total size less =
+    let long : ltb total size ≡ false = le-ltb total size (omega (arith, less)) in
+    let short : ltb size total ≡ true = lt-ltb size total less in
+    rw (long, short) refl
+
+-- fewer bytes than are told
+whole_less : (total size : ℕ) → total < size → is_whole total size ≡ Err (fault.Short total)
+whole_less total size less = let test : ltb total size ≡ true = lt-ltb total size less in rw test refl
+
+-- links that are spelled are those of a version
+links_had : (v : Version) (links : List Link) → AreSpelledLinks v links → MayHaveLinks v links
+links_had version.One links none = none
+links_had version.Two links is = tt
 
 -- what is read of bytes is what they spell
 pub read_spelled : IsBrokenUnlessFits → ReadIsSpelled
-unfolding read_of
-read_spelled law bytes conf each e =
-    let f = stepped (conf_fields bytes) (λ c. unbroken c (first_broken (described c))) conf e in
-    let u = was f.value (first_broken (described f.value)) f.led in
-    let fields : conf_fields bytes ≡ Ok conf = f.is ∙ ap (λ c. Ok c) u.0 in
-    let t = fields_takes bytes conf each fields in
-    record { text = t.0; spelled = t.1; fits = (law (described conf)).0 (ap (λ c. first_broken (described c)) (sym u.0) ∙ u.1) }
+unfolding read_within
+read_spelled law want bytes conf each e =
+    let h = stepped (head_at want (cursor_start bytes)) (λ head. fields_at head.0 head.1 >>= λ c. unbroken c (first_broken (parts_in_version head.0) (described c))) conf e in
+    let v : Version = h.value.0 in
+    let f = stepped (fields_at v h.value.1) (λ c. unbroken c (first_broken (parts_in_version v) (described c))) conf h.led in
+    let u = was f.value (first_broken (parts_in_version v) (described f.value)) f.led in
+    let head = head_takes want bytes h.value each h.is in
+    let fields : fields_at v h.value.1 ≡ Ok conf = f.is ∙ ap (λ c. Ok c) u.0 in
+    let t = fields_takes v bytes h.value.1 conf head.0 fields in
+    let none : first_broken (parts_in_version v) (described conf) ≡ None = ap (λ c. first_broken (parts_in_version v) (described c)) (sym u.0) ∙ u.1 in
+    (v, head.1, record { text = t.0; spelled = t.1; fits = record { fits = (law (parts_in_version v) (described conf)).0 none; links = links_had v conf.links t.1.links } })
   where
     was : (c : Conf) (broken : Option Broken) → unbroken c broken ≡ Ok conf → (c ≡ conf) × (broken ≡ None)
     was c None is = (ok_is c conf is, refl)
     was c (Some broken) is = absurd cc
 
--- what can be spelled is shorter than what its length field tells
-pub xmc_short : FitsItsLength
-xmc_short conf spelled = omega (arith, length-xmc conf, (body_short conf spelled).is)
-
 -- a configuration that can be spelled and breaks no rule is read of its spelling
-pub unbroken_read : (conf : Conf) → IsSpelledConf conf → first_broken (described conf) ≡ None → read_of (xmc conf) ≡ Ok conf
-unfolding read_of
-unbroken_read conf spelled none =
-    let fields : conf_fields (xmc conf) ≡ Ok conf = fields_again conf spelled (xmc_short conf spelled) in
-    rw (fields, none) refl
+pub unbroken_read : (want : Option Version) (v : Version) (conf : Conf) → IsWanted want v → IsSpelledConf v conf → first_broken (parts_in_version v) (described conf) ≡ None
+    → read_within want (xmc v conf) ≡ Ok conf
+unfolding read_within
+unbroken_read want v conf wants spelled none =
+    let size : ℕ = 10 + length (body v conf) in
+    let r = head_again want v (xmc v conf) size (body v conf) wants (omega (arith, xmc_short v conf spelled, length-xmc v conf)) (xmc_is v conf []).0 in
+    let all : is_whole (length (xmc v conf)) size ≡ Ok tt = ap (λ n. is_whole n size) (length-xmc v conf) ∙ whole_same size in
+    let fields : fields_at v r.after ≡ Ok conf = fields_again v r.after conf spelled r.ahead in
+    rw (r.is, all, fields, none) refl
 
 -- a configuration whose numbers are in the ranges of their fields, and which meets the rules, is read of its spelling
 pub spelled_read : IsBrokenUnlessFits → SpelledIsRead
-spelled_read law conf ranges fits = unbroken_read conf (spelled_if_fits conf ranges fits) ((law (described conf)).1 fits)
+spelled_read law want v conf wants ranges fits = unbroken_read want v conf wants (spelled_if_fits v conf ranges fits) ((law (parts_in_version v) (described conf)).1 fits.fits)
+
+-- a spelling in another version than the one that is wanted
+pub other_refused : OtherIsRefused
+unfolding read_within head_at version_at xmc head
+other_refused v w conf differ =
+    let total : ℕ = 10 + length (body w conf) in
+    let behind : List ℕ = word_field total ++ body w conf in
+    let m = magic_again (cursor_start (xmc w conf)) 4 ((half_word (version_number w) ++ word_field total) ++ body w conf) refl refl in
+    let n = half_word_spells.again m.after (version_number w) behind (number_small w) (m.ahead ∙ append_assoc (half_word (version_number w)) (word_field total) (body w conf)) in
+    rw (m.is, n.is, wanted_other v w differ) refl
 
 -- nothing is read of a spelling with something after it
 pub more_trailing : MoreIsTrailing
-unfolding read_of
-more_trailing conf rest spelled some = let fields = fields_more conf rest (xmc_short conf spelled) some in rw fields refl
+unfolding read_within
+more_trailing want v conf rest wants spelled some =
+    let size : ℕ = 10 + length (body v conf) in
+    let below : length (xmc v conf) < 2 ^ 32 = xmc_short v conf spelled in
+    let r = head_again want v (xmc v conf ++ rest) size (body v conf ++ rest) wants (omega (arith, below, length-xmc v conf)) (xmc_is v conf rest).1 in
+    let more : size < length (xmc v conf ++ rest) = omega (arith, length-xmc v conf, length-append (xmc v conf) rest, some_length rest some) in
+    let all : is_whole (length (xmc v conf ++ rest)) size ≡ Err (fault.Trailing size) = whole_more (length (xmc v conf ++ rest)) size more in
+    rw (r.is, all) (ap (λ n. Err (fault.Trailing n)) (sym (length-xmc v conf)))
 
 -- a spelling that is cut after its length field is short where it ends
 pub cut_short : CutIsShort
-unfolding read_of
-cut_short conf front rest spelled is some long = let fields = fields_cut conf front rest (xmc_short conf spelled) is some long in rw fields refl
+unfolding read_within
+cut_short want v conf front rest wants spelled is some long =
+    let size : ℕ = 10 + length (body v conf) in
+    let below : length (xmc v conf) < 2 ^ 32 = xmc_short v conf spelled in
+    let sum : size ≡ length front + length rest = sym (length-xmc v conf) ∙ ap length is ∙ length-append front rest in
+    let begins : front ≡ head v size ++ take (length front - 10) (body v conf)
+    = sym (take-append_seam front rest)
+    ∙ ap (take (length front)) (sym is ∙ (xmc_is v conf []).0)
+    ∙ ap (λ n. take n (head v size ++ body v conf)) (front_is v size (length front) long)
+    ∙ take-append-add (head v size) (body v conf) (length front - 10) in
+    let r = head_again want v front size (take (length front - 10) (body v conf)) wants (omega (arith, below, length-xmc v conf)) begins in
+    let less : length front < size = omega (arith, sum, some_length rest some) in
+    rw (r.is, whole_less (length front) size less) refl

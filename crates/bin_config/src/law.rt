@@ -5,6 +5,7 @@ ghost use Rattle.bin_config.specs.Laws.{
   IsPrefixFree,
   FitsItsLength,
   MoreIsTrailing,
+  OtherIsRefused,
   ReadIsSpelled,
   SpelledIsRead,
 };
@@ -25,6 +26,11 @@ pub fn spelled_is_read()
     broken_unless_fits();
 }
 
+/// A spelling in another version than the one that is wanted is refused by its version.
+pub fn other_is_refused()
+    ensures law { OtherIsRefused }
+{}
+
 /// Nothing is read of a spelling with something after it.
 pub fn more_is_trailing()
     ensures law { MoreIsTrailing }
@@ -35,7 +41,7 @@ pub fn cut_is_short()
     ensures law { CutIsShort }
 {}
 
-/// No spelling is a proper prefix of another.
+/// No spelling is a proper prefix of another, of whichever versions they are.
 pub fn prefix_free()
     ensures law { IsPrefixFree }
 {}

@@ -7,16 +7,19 @@ ghost use Rattle.bin_config.specs.Gives.{Gives, GivesFilled, GivesItems, GivesWh
 ghost use Rattle.xm_conf.specs.Description.{described};
 ghost use Rattle.xm_conf.specs.Rules.{first_broken};
 ghost use Rattle.bin_config.specs.Reading as reading;
+ghost use Rattle.bin_config.specs.Version.{parts_in_version};
 ghost use Rattle.bin_config.specs.Xmc.{xmc};
+ghost use Rattle.bin_config.specs.declared.version.Version.{Version as AVersion};
 
 use crate::fault::XmcFault;
 use crate::identity::Identity;
 use crate::law::read_is_spelled;
+use crate::version::Version;
 use std::alloc::Global;
 use xm_base::Cursor;
 use xm_conf::{
-    Action, Area, Chan, ChanKind, Conf, End, HmTable, Kind, Name, Need, Part, Plan, Port, RawConf,
-    Region, Slot, Way, broken_unless_fits,
+    Action, Area, Chan, ChanKind, Conf, End, HmTable, Kind, Link, Name, Need, Part, Plan, Port,
+    RawConf, Region, Slot, Way, broken_unless_fits,
 };
 
 /// A number of one byte.
@@ -596,10 +599,56 @@ fn parts(alloc: Global, cursor: &mut Cursor<'_>) -> Result<Vec<Part>, XmcFault>
     each_part(alloc, count, cursor)
 }
 
+/// A link.
+#[tactic(auto, unfolding(crate::specs::Reading::link_at))]
+fn link(cursor: &mut Cursor<'_>) -> Result<Link, XmcFault>
+    ensures { Gives result cursor.new (reading.link_at cursor.old) }
+{
+    let number = byte(cursor)?;
+    let source = byte(cursor)?;
+    let dest = byte(cursor)?;
+    Ok(Link {
+        number,
+        source,
+        dest,
+    })
+}
+
+/// Links.
+#[tactic(auto, using(crate::proofs::ElementsLemmas::elements_loop))]
+fn each_link(alloc: Global, count: u8, cursor: &mut Cursor<'_>) -> Result<Vec<Link>, XmcFault>
+    ensures { GivesItems result cursor.new (reading.elements_at reading.link_at count cursor.old) }
+{
+    let mut links = Vec::new(alloc);
+    for _ in 0..count {
+        let link = link(cursor)?;
+        links.push(link)?;
+    }
+    Ok(links)
+}
+
+/// Links.
+fn counted_links(alloc: Global, cursor: &mut Cursor<'_>) -> Result<Vec<Link>, XmcFault>
+    ensures { GivesItems result cursor.new (reading.counted_at reading.link_at cursor.old) }
+{
+    let count = byte(cursor)?;
+    each_link(alloc, count, cursor)
+}
+
+/// The links, which version 1 does not have.
+fn links(alloc: Global, version: Version, cursor: &mut Cursor<'_>) -> Result<Vec<Link>, XmcFault>
+    ensures { GivesItems result cursor.new (reading.links_at version cursor.old) }
+{
+    match version {
+        Version::One => Ok(Vec::new(alloc)),
+        Version::Two => counted_links(alloc, cursor),
+    }
+}
+
 /// What stands after the length of the whole.
 #[tactic(auto, unfolding(crate::specs::Reading::conf_body_at))]
-fn conf(alloc: Global, cursor: &mut Cursor<'_>) -> Result<RawConf, XmcFault>
-    ensures { Gives result cursor.new (reading.conf_body_at cursor.old) }
+fn conf(alloc: Global, version: Version, cursor: &mut Cursor<'_>) -> Result<RawConf, XmcFault>
+    ensures { Gives result cursor.new (reading.conf_body_at version cursor.old) }
 {
     let name = text(cursor)?;
     let regions = regions(alloc, cursor)?;
@@ -608,6 +657,7 @@ fn conf(alloc: Global, cursor: &mut Cursor<'_>) -> Result<RawConf, XmcFault>
     let plans = plans(alloc, cursor)?;
     let parts = parts(alloc, cursor)?;
     let chans = chans(alloc, cursor)?;
+    let links = links(alloc, version, cursor)?;
     Ok(RawConf {
         name,
         regions,
@@ -616,6 +666,7 @@ fn conf(alloc: Global, cursor: &mut Cursor<'_>) -> Result<RawConf, XmcFault>
         plans,
         parts,
         chans,
+        links,
     })
 }
 
@@ -638,30 +689,30 @@ fn magic(cursor: &mut Cursor<'_>) -> Result<usize, XmcFault>
     Err(XmcFault::Magic)
 }
 
-/// The version, which is 1.
+/// The version, which is the one that is wanted, or either.
 #[tactic(auto, unfolding(crate::specs::Reading::version_at))]
-fn version(cursor: &mut Cursor<'_>) -> Result<u16, XmcFault>
-    ensures { Gives result cursor.new (reading.version_at cursor.old) }
+fn version(wanted: Option<Version>, cursor: &mut Cursor<'_>) -> Result<Version, XmcFault>
+    ensures { Gives result cursor.new (reading.version_at wanted cursor.old) }
 {
     let found = half_word(cursor)?;
-    if found == 1 {
-        return Ok(found);
+    match Version::wanted(wanted, found) {
+        Some(version) => Ok(version),
+        None => Err(XmcFault::Version { found }),
     }
-    Err(XmcFault::Version { found })
 }
 
-/// The first fields: what comes first, the version, and the length of the whole, which has so many
-/// bytes.
+/// The first fields: what comes first, the version, which is told, and the length of the whole, which
+/// has so many bytes.
 #[tactic(auto, unfolding(crate::specs::Reading::head_at))]
-fn head(total: usize, cursor: &mut Cursor<'_>) -> Result<u32, XmcFault>
+fn head(total: usize, wanted: Option<Version>, cursor: &mut Cursor<'_>) -> Result<Version, XmcFault>
     requires { total ≡ length cursor.old.bytes }
-    ensures { Gives result cursor.new (reading.head_at cursor.old) }
+    ensures { Gives result cursor.new (reading.head_at wanted cursor.old) }
 {
     magic(cursor)?;
-    version(cursor)?;
+    let version = version(wanted, cursor)?;
     let told = word(cursor)?;
     is_whole(total, told)?;
-    Ok(told)
+    Ok(version)
 }
 
 /// The bytes are as many as they tell.
@@ -678,40 +729,56 @@ fn is_whole(total: usize, told: u32) -> Result<(), XmcFault>
     Ok(())
 }
 
-/// All fields, and nothing after them.
-#[tactic(auto, unfolding(crate::specs::Reading::conf_fields))]
-fn fields(alloc: Global, bytes: &[u8]) -> Result<RawConf, XmcFault>
-    ensures { GivesWhole result (reading.conf_fields bytes.now) }
+/// The other fields of a version, and nothing after them.
+#[tactic(auto, unfolding(crate::specs::Reading::fields_at))]
+fn fields(alloc: Global, version: Version, cursor: &mut Cursor<'_>) -> Result<RawConf, XmcFault>
+    ensures { GivesWhole result (reading.fields_at version cursor.old) }
 {
-    let mut cursor = Cursor::new(bytes);
-    head(bytes.len(), &mut cursor)?;
-    let raw = conf(alloc, &mut cursor)?;
+    let raw = conf(alloc, version, cursor)?;
     if cursor.left() > 0 {
         return Err(XmcFault::Trailing { at: cursor.at() });
     }
     Ok(raw)
 }
 
-/// A configuration, where no rule is broken.
-fn unbroken(raw: RawConf) -> Result<Conf, XmcFault>
-    ensures { GivesWhole result (reading.unbroken raw (first_broken (described raw))) }
+/// A configuration, where no rule of a version is broken.
+fn unbroken(version: Version, raw: RawConf) -> Result<Conf, XmcFault>
+    ensures { GivesWhole result (reading.unbroken raw (first_broken (parts_in_version version) (described raw))) }
 {
     broken_unless_fits();
-    match Conf::new(raw) {
+    match Conf::within(version.parts(), raw) {
         Ok(conf) => Ok(conf),
         Err(broken) => Err(XmcFault::NotFit { rule: broken.rule }),
     }
 }
 
-/// The configuration that these bytes are, or the first fault: of the head, then of the length,
-/// then of the other fields from left to right, then a byte that is left, then a broken rule.
-/// `Memory` where there is none.
-#[tactic(auto, unfolding(crate::specs::Reading::read_of))]
+/// The configuration that these bytes are in the version that is wanted, or in either.
+#[tactic(auto, unfolding(crate::specs::Reading::read_within))]
+fn read_within(alloc: Global, wanted: Option<Version>, bytes: &[u8]) -> Result<Conf, XmcFault>
+    ensures { GivesWhole result (reading.read_within wanted bytes.now) }
+{
+    let mut cursor = Cursor::new(bytes);
+    let version = head(bytes.len(), wanted, &mut cursor)?;
+    let raw = fields(alloc, version, &mut cursor)?;
+    unbroken(version, raw)
+}
+
+/// The configuration that these bytes are in either version, or the first fault: of the head, then of
+/// the length, then of the other fields from left to right, then a byte that is left, then a broken
+/// rule. `Memory` where there is none.
 pub fn read_xmc(alloc: Global, bytes: &[u8]) -> Result<Conf, XmcFault>
     ensures exact { GivesWhole result (reading.read_of bytes.now) }
-    ensures spelled { IfOk result (λ conf. bytes.now ≡ xmc conf) }
+    ensures spelled { IfOk result (λ conf. (v : AVersion) × (bytes.now ≡ xmc v conf)) }
 {
     read_is_spelled();
-    let raw = fields(alloc, bytes)?;
-    unbroken(raw)
+    read_within(alloc, None, bytes)
+}
+
+/// The same, where no other version than one is known.
+pub fn read_version(alloc: Global, version: Version, bytes: &[u8]) -> Result<Conf, XmcFault>
+    ensures exact { GivesWhole result (reading.read_as version bytes.now) }
+    ensures spelled { IfOk result (λ conf. bytes.now ≡ xmc version conf) }
+{
+    read_is_spelled();
+    read_within(alloc, Some(version), bytes)
 }

@@ -4,18 +4,21 @@ ghost use Rattle.std.specs.Prelude.{◌≡◌, ◌++◌, ◌+◌, ◌≤◌, All
 ghost use Rattle.bin_config.specs.Puts.{Puts};
 ghost use Rattle.bin_config.specs.Spelled as spelled;
 ghost use Rattle.bin_config.specs.Xmc as xmc;
+ghost use Rattle.bin_config.specs.declared.version.Version.TheVariants.{Two};
 ghost use Rattle.bin_config.specs.Reading.{read_of};
-ghost use Rattle.xm_conf.specs.Description.{described};
-ghost use Rattle.xm_conf.specs.Fits.{Fits, HasCounts};
+ghost use Rattle.bin_config.specs.Version.{FitsVersion};
+ghost use Rattle.xm_conf.specs.Fits.{HasCounts};
+ghost use Rattle.xm_conf.specs.Limits.{most_dests, most_links, most_parts};
 ghost use Rattle.xm_conf.specs.Name.{IsName};
 
 use crate::law::spelled_is_read;
 use crate::put::{put, put_byte, put_half_word, put_word};
+use crate::version::Version;
 use std::alloc::Global;
 use xm_base::Memory;
 use xm_conf::{
-    Action, Area, Chan, ChanKind, Conf, End, HmTable, Kind, Name, Need, Part, Plan, Port, RawConf,
-    Region, Slot, Way,
+    Action, Area, Chan, ChanKind, Conf, End, HmTable, Kind, Link, Name, Need, Part, Plan, Port,
+    RawConf, Region, Slot, Way,
 };
 
 /// Puts a name: its length, and its bytes.
@@ -367,7 +370,7 @@ fn put_each_part(bytes: &mut Vec<u8>, parts: &[Part]) -> Result<(), Memory>
 /// Puts the partitions.
 #[tactic(auto, using(crate::proofs::PutsLemmas::put_then))]
 fn put_parts(bytes: &mut Vec<u8>, parts: &[Part]) -> Result<(), Memory>
-    requires few { length parts.now ≤ 16 }
+    requires few { length parts.now ≤ most_parts }
     requires areas { All (λ part. length part.areas ≤ 8) parts.now }
     requires ports { All (λ part. length part.ports ≤ 32) parts.now }
     ensures bytes { Puts result bytes.old.items bytes.new.items (xmc.list_field xmc.part_record parts.now) }
@@ -423,7 +426,7 @@ fn put_each_end(bytes: &mut Vec<u8>, ends: &[End]) -> Result<(), Memory>
 /// Puts the destinations of a channel.
 #[tactic(auto, using(crate::proofs::PutsLemmas::put_then))]
 fn put_ends(bytes: &mut Vec<u8>, ends: &[End]) -> Result<(), Memory>
-    requires { length ends.now ≤ 16 }
+    requires { length ends.now ≤ most_dests }
     ensures bytes { Puts result bytes.old.items bytes.new.items (xmc.list_field xmc.end ends.now) }
     ensures ranges { OnOk result (All spelled.IsSpelledEnd ends.now) }
 {
@@ -434,7 +437,7 @@ fn put_ends(bytes: &mut Vec<u8>, ends: &[End]) -> Result<(), Memory>
 /// Puts a channel.
 #[tactic(auto, using(crate::proofs::PutsLemmas::put_then), unfolding(crate::specs::Xmc::chan))]
 fn put_chan(bytes: &mut Vec<u8>, chan: &Chan) -> Result<(), Memory>
-    requires { length chan.now.dests ≤ 16 }
+    requires { length chan.now.dests ≤ most_dests }
     ensures bytes { Puts result bytes.old.items bytes.new.items (xmc.chan chan.now) }
     ensures ranges { OnOk result (spelled.HasChanRanges chan.now) }
 {
@@ -448,7 +451,7 @@ fn put_chan(bytes: &mut Vec<u8>, chan: &Chan) -> Result<(), Memory>
 /// Puts channels.
 #[tactic(auto, using(crate::proofs::PutsLemmas::put_loop))]
 fn put_each_chan(bytes: &mut Vec<u8>, chans: &[Chan]) -> Result<(), Memory>
-    requires { All (λ chan. length chan.dests ≤ 16) chans.now }
+    requires { All (λ chan. length chan.dests ≤ most_dests) chans.now }
     ensures bytes { Puts result bytes.old.items bytes.new.items (flat_map xmc.chan chans.now) }
     ensures ranges { OnOk result (All spelled.HasChanRanges chans.now) }
 {
@@ -462,7 +465,7 @@ fn put_each_chan(bytes: &mut Vec<u8>, chans: &[Chan]) -> Result<(), Memory>
 #[tactic(auto, using(crate::proofs::PutsLemmas::put_then))]
 fn put_chans(bytes: &mut Vec<u8>, chans: &[Chan]) -> Result<(), Memory>
     requires few { length chans.now ≤ 64 }
-    requires dests { All (λ chan. length chan.dests ≤ 16) chans.now }
+    requires dests { All (λ chan. length chan.dests ≤ most_dests) chans.now }
     ensures bytes { Puts result bytes.old.items bytes.new.items (xmc.list_field xmc.chan chans.now) }
     ensures ranges { OnOk result (All spelled.HasChanRanges chans.now) }
 {
@@ -470,12 +473,46 @@ fn put_chans(bytes: &mut Vec<u8>, chans: &[Chan]) -> Result<(), Memory>
     put_each_chan(bytes, chans)
 }
 
+/// Puts a link.
+#[tactic(auto, using(crate::proofs::PutsLemmas::put_then), unfolding(crate::specs::Xmc::link_text))]
+fn put_link(bytes: &mut Vec<u8>, link: &Link) -> Result<(), Memory>
+    ensures bytes { Puts result bytes.old.items bytes.new.items (xmc.link_text link.now) }
+    ensures ranges { OnOk result (spelled.IsSpelledLink link.now) }
+{
+    put_byte(bytes, link.number)?;
+    put_byte(bytes, link.source)?;
+    put_byte(bytes, link.dest)
+}
+
+/// Puts links.
+#[tactic(auto, using(crate::proofs::PutsLemmas::put_loop))]
+fn put_each_link(bytes: &mut Vec<u8>, links: &[Link]) -> Result<(), Memory>
+    ensures bytes { Puts result bytes.old.items bytes.new.items (flat_map xmc.link_text links.now) }
+    ensures ranges { OnOk result (All spelled.IsSpelledLink links.now) }
+{
+    for link in links {
+        put_link(bytes, link)?;
+    }
+    Ok(())
+}
+
+/// Puts the links.
+#[tactic(auto, using(crate::proofs::PutsLemmas::put_then))]
+fn put_links(bytes: &mut Vec<u8>, links: &[Link]) -> Result<(), Memory>
+    requires { length links.now ≤ most_links }
+    ensures bytes { Puts result bytes.old.items bytes.new.items (xmc.list_field xmc.link_text links.now) }
+    ensures ranges { OnOk result (All spelled.IsSpelledLink links.now) }
+{
+    put_byte(bytes, links.len() as u8)?;
+    put_each_link(bytes, links)
+}
+
 /// Puts what stands after the length of the whole.
 #[tactic(auto, using(crate::proofs::PutsLemmas::put_then, crate::proofs::FewLemmas::few), unfolding(crate::specs::Xmc::body))]
 fn put_body(bytes: &mut Vec<u8>, raw: &RawConf) -> Result<(), Memory>
     requires counts { HasCounts raw.now }
-    requires dests { All (λ chan. length chan.dests ≤ 16) raw.now.chans }
-    ensures bytes { Puts result bytes.old.items bytes.new.items (xmc.body raw.now) }
+    requires dests { All (λ chan. length chan.dests ≤ most_dests) raw.now.chans }
+    ensures bytes { Puts result bytes.old.items bytes.new.items (xmc.body Two raw.now) }
     ensures ranges { OnOk result (spelled.HasConfRanges raw.now) }
 {
     put_text(bytes, &raw.name)?;
@@ -484,7 +521,8 @@ fn put_body(bytes: &mut Vec<u8>, raw: &RawConf) -> Result<(), Memory>
     put_texts(bytes, &raw.uarts)?;
     put_plans(bytes, &raw.plans)?;
     put_parts(bytes, &raw.parts)?;
-    put_chans(bytes, &raw.chans)
+    put_chans(bytes, &raw.chans)?;
+    put_links(bytes, &raw.links)
 }
 
 /// The length of a file whose body has so many bytes. A body is far shorter than what a length can
@@ -504,16 +542,16 @@ fn total(body: usize) -> Result<u32, Memory>
 /// Puts the first bytes of a file of so many bytes.
 #[tactic(auto, using(crate::proofs::PutsLemmas::put_then), unfolding(crate::specs::Xmc::head))]
 fn put_head(bytes: &mut Vec<u8>, total: u32) -> Result<(), Memory>
-    ensures { Puts result bytes.old.items bytes.new.items (xmc.head total) }
+    ensures { Puts result bytes.old.items bytes.new.items (xmc.head Two total) }
 {
     put(bytes, b"XMCF")?;
-    put_half_word(bytes, 1)?;
+    put_half_word(bytes, Version::Two.number())?;
     put_word(bytes, total)
 }
 
 /// The file with this body.
 fn framed(alloc: Global, body: &[u8]) -> Result<Vec<u8>, Memory>
-    ensures { IfOk result (λ bytes. bytes.items ≡ xmc.head (10 + length body.now) ++ body.now) }
+    ensures { IfOk result (λ bytes. bytes.items ≡ xmc.head Two (10 + length body.now) ++ body.now) }
 {
     let total = total(body.len())?;
     let mut bytes = Vec::new(alloc);
@@ -525,20 +563,20 @@ fn framed(alloc: Global, body: &[u8]) -> Result<Vec<u8>, Memory>
 /// What stands after the length of the whole.
 #[tactic(auto, using(crate::proofs::FewLemmas::fitting))]
 fn body_of(alloc: Global, conf: &Conf) -> Result<Vec<u8>, Memory>
-    ensures bytes { IfOk result (λ bytes. bytes.items ≡ xmc.body conf.now) }
+    ensures bytes { IfOk result (λ bytes. bytes.items ≡ xmc.body Two conf.now) }
     ensures ranges { OnOk result (spelled.HasConfRanges conf.now) }
-    ensures fits { Fits (described conf.now) }
+    ensures fits { FitsVersion Two conf.now }
 {
     let mut body = Vec::new(alloc);
     put_body(&mut body, conf.raw())?;
     Ok(body)
 }
 
-/// The one spelling of a configuration, of which the same configuration is read again. `Memory`
-/// where there is none.
-#[tactic(auto, unfolding(crate::specs::Xmc::xmc))]
+/// The one spelling of a configuration in version 2, of which the same configuration is read again.
+/// `Memory` where there is none.
+#[tactic(auto, using(crate::proofs::ReadLemmas::written_read), unfolding(crate::specs::Xmc::xmc))]
 pub fn write_xmc(alloc: Global, conf: &Conf) -> Result<Vec<u8>, Memory>
-    ensures exact { IfOk result (λ bytes. bytes.items ≡ xmc.xmc conf.now) }
+    ensures exact { IfOk result (λ bytes. bytes.items ≡ xmc.xmc Two conf.now) }
     ensures ranges { OnOk result (spelled.HasConfRanges conf.now) }
     ensures read { IfOk result (λ bytes. read_of bytes.items ≡ Ok conf.now) }
 {

@@ -3,7 +3,8 @@ use Rattle.std.proofs.Common.{◌≡◌, ℕ, List, [], ◌∷◌, length, refl,
 use Rattle.std.specs.Prelude.{Any}
 use Rattle.std.proofs.lemmas.List.Elements.{All-cons, All-nil}
 use Rattle.xm_conf.specs.Description.{described, ids_of, event_numbered, monitor_of}
-use Rattle.xm_conf.specs.Rules.{page, addresses, most_memory, longest, has_some, plan_counts, part_counts, dest_counts, chan_counts, list_counts, rule_1, plan_misplaced, rule_2, part_names, rule_3, is_paged, is_region, unsized_region, rule_4, overlaps, rule_5, rule_6, unsized_area, unsized_areas, rule_7, has_area, outside_area, outside_areas, rule_8, part_stretches, stretches, rule_9, part_size, rule_10, is_time, in_frame, late_slot, frame_broken, rule_11, early_slot, early_slots, rule_12, stray_slot, stray_slots, rule_13, no_console, rule_14, is_kind, unfit_chan, rule_15, port_at, stray_end, stray_dest, stray_ends, rule_16, wrong_end, wrong_dest, wrong_ends, rule_17, same_end, chan_ends, rule_18, same_event, answer_broken, monitor_broken, rule_19, unfit_need, rule_20, memory_rules, plan_rules, chan_rules, all_broken, first_broken}
+use Rattle.xm_conf.specs.Limits.{most_parts}
+use Rattle.xm_conf.specs.Rules.{page, addresses, most_memory, longest, has_some, plan_counts, part_counts, dest_counts, chan_counts, list_counts, rule_1, plan_misplaced, rule_2, part_names, rule_3, is_paged, is_region, unsized_region, rule_4, overlaps, rule_5, rule_6, unsized_area, unsized_areas, rule_7, has_area, outside_area, outside_areas, rule_8, part_stretches, stretches, rule_9, part_size, rule_10, is_time, in_frame, late_slot, frame_broken, rule_11, early_slot, early_slots, rule_12, stray_slot, stray_slots, rule_13, no_console, rule_14, is_kind, unfit_chan, rule_15, port_at, stray_end, stray_dest, stray_ends, rule_16, wrong_end, wrong_dest, wrong_ends, rule_17, same_end, chan_ends, rule_18, same_event, answer_broken, monitor_broken, rule_19, unfit_need, rule_20, is_link, unfit_link, rule_21, same_link, rule_22, memory_rules, plan_rules, chan_rules, link_rules, all_broken, first_broken}
 use Rattle.xm_conf.specs.Configuration.{Conf}
 use Rattle.xm_conf.specs.declared.item.Broken.{Broken}
 use Rattle.xm_conf.specs.declared.part.Area.{Area}
@@ -12,8 +13,8 @@ use Rattle.loaded_system.specs.System.{AreInside, HasSegment}
 use Rattle.loaded_system.specs.Bare.{IsImageLength, bare_conf, bare_image, bare_part, bare_plan, bare_regions}
 
 -- the configuration breaks no rule
-pub bare_unbroken : first_broken (described bare_conf) ≡ None
-unfolding bare_conf bare_part bare_plan bare_regions described ids_of event_numbered monitor_of page addresses most_memory longest has_some plan_counts part_counts dest_counts chan_counts list_counts rule_1 plan_misplaced rule_2 part_names rule_3 is_paged is_region unsized_region rule_4 overlaps rule_5 rule_6 unsized_area unsized_areas rule_7 has_area outside_area outside_areas rule_8 part_stretches stretches rule_9 part_size rule_10 is_time in_frame late_slot frame_broken rule_11 early_slot early_slots rule_12 stray_slot stray_slots rule_13 no_console rule_14 is_kind unfit_chan rule_15 port_at stray_end stray_dest stray_ends rule_16 wrong_end wrong_dest wrong_ends rule_17 same_end chan_ends rule_18 same_event answer_broken monitor_broken rule_19 unfit_need rule_20 memory_rules plan_rules chan_rules all_broken first_broken
+pub bare_unbroken : first_broken most_parts (described bare_conf) ≡ None
+unfolding bare_conf bare_part bare_plan bare_regions described ids_of event_numbered monitor_of page addresses most_memory longest has_some plan_counts part_counts dest_counts chan_counts list_counts rule_1 plan_misplaced rule_2 part_names rule_3 is_paged is_region unsized_region rule_4 overlaps rule_5 rule_6 unsized_area unsized_areas rule_7 has_area outside_area outside_areas rule_8 part_stretches stretches rule_9 part_size rule_10 is_time in_frame late_slot frame_broken rule_11 early_slot early_slots rule_12 stray_slot stray_slots rule_13 no_console rule_14 is_kind unfit_chan rule_15 port_at stray_end stray_dest stray_ends rule_16 wrong_end wrong_dest wrong_ends rule_17 same_end chan_ends rule_18 same_event answer_broken monitor_broken rule_19 unfit_need rule_20 is_link unfit_link rule_21 same_link rule_22 memory_rules plan_rules chan_rules link_rules all_broken first_broken
 bare_unbroken = refl
 
 -- the image may be loaded
@@ -30,9 +31,9 @@ bare_loads image long = record {
 }
 
 -- a configuration that is this one breaks no rule
-pub bare_not_broken : (conf : Conf) (broken : Broken) → conf ≡ bare_conf → first_broken (described conf) ≡ Some broken → ⊥
+pub bare_not_broken : (conf : Conf) (broken : Broken) → conf ≡ bare_conf → first_broken most_parts (described conf) ≡ Some broken → ⊥
 bare_not_broken conf broken is some =
-    let none : first_broken (described conf) ≡ None = ap (λ c. first_broken (described c)) is ∙ bare_unbroken in
+    let none : first_broken most_parts (described conf) ≡ None = ap (λ c. first_broken most_parts (described c)) is ∙ bare_unbroken in
     let wrong : ⊥ = cc in wrong
 
 -- the image lies inside the partition's area

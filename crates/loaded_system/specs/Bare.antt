@@ -45,6 +45,7 @@ bare_conf = record {
   plans = bare_plan ∷ [];
   parts = bare_part ∷ [];
   chans = [];
+  links = [];
 }
 
 -- the image: one segment, loaded at the start of the area and entered there

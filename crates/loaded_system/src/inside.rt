@@ -2,6 +2,7 @@
 
 ghost use Rattle.std.specs.Prelude.{◌≡◌, ◌≤◌, All, IsNone, length};
 ghost use Rattle.std.specs.List.{list_any};
+ghost use Rattle.xm_conf.specs.Limits.{most_parts};
 ghost use Rattle.loaded_system.specs.Inside.{first_outside as first_outside_of, has_segment, is_inside, outside_in};
 ghost use Rattle.xef_images.specs.Image.{IsImage};
 
@@ -49,7 +50,7 @@ pub fn outside_of(part: &Part, image: &Xef) -> Option<u32>
 /// The first segment of the images that lies inside no area of its partition.
 pub(crate) fn first_outside(parts: &[Part], images: &[Xef]) -> Option<Outside>
     requires counted { length images.now ≡ length parts.now }
-    requires few { length parts.now ≤ 16 }
+    requires few { length parts.now ≤ most_parts }
     ensures value { result ≡ first_outside_of parts.now images.now }
     ensures images { IsNone result → All IsImage images.now }
 {

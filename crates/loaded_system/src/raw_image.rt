@@ -109,6 +109,7 @@ fn raw(alloc: Global) -> Result<RawConf, Memory>
         plans: Vec::from_array(alloc, [plan])?,
         parts: Vec::from_array(alloc, [part])?,
         chans: Vec::new(alloc),
+        links: Vec::new(alloc),
     })
 }
 

@@ -5,6 +5,7 @@ ghost use Rattle.loaded_system.specs.Inside.{first_outside as first_outside_of};
 ghost use Rattle.loaded_system.specs.System.{AreInside, IsSystem};
 ghost use Rattle.xm_conf.specs.Description.{described};
 ghost use Rattle.xm_conf.specs.Fits.{Fits};
+ghost use Rattle.xm_conf.specs.Limits.{most_parts};
 
 use crate::inside::first_outside;
 use std::marker::Model;
@@ -74,7 +75,7 @@ impl System {
 #[tactic(auto, unfolding(xm_conf::specs::Description::described))]
 fn parts(conf: &Conf) -> &[Part]
     ensures value { result.now ≡ conf.now.parts }
-    ensures few { length result.now ≤ 16 }
+    ensures few { length result.now ≤ most_parts }
     ensures fits { Fits (described conf.now) }
 {
     &conf.raw().parts

@@ -1,5 +1,5 @@
 -- A container tells its length, and a system is unpacked from its container.
-use Rattle.std.proofs.Common.{◌≡◌, ℕ, zero, suc, ◌+◌, ◌-◌, ◌%◌, ◌^◌, ◌<◌, ◌≤◌, Bool, true, false, not, List, [], ◌∷◌, ◌++◌, length, drop, None, Result, Ok, refl, sym, ap, ◌∙◌, append_assoc, arith}
+use Rattle.std.proofs.Common.{◌≡◌, ℕ, zero, suc, ◌+◌, ◌-◌, ◌%◌, ◌^◌, ◌<◌, ◌≤◌, Bool, true, false, not, List, [], ◌∷◌, ◌++◌, length, drop, None, Some, Result, Ok, refl, sym, ap, ◌∙◌, append_assoc, arith, codes}
 use Rattle.std.specs.Prelude.{nat_le, nat_lt, ◌==◌, ◌&&◌, ◌||◌, All}
 use Rattle.std.specs.Int.{w8, w32, to_be_bytes}
 use Rattle.std.proofs.lemmas.List.{append-nil, nil_from_length, length-append, drop_at}
@@ -11,10 +11,14 @@ use Rattle.xm_base.specs.Cursor.{Place, ahead, left, past, cursor_start}
 use Rattle.xm_conf.specs.Description.{described}
 use Rattle.xm_conf.specs.Laws.{IsBrokenUnlessFits}
 use Rattle.bin_config.specs.RangeLemmas.{spelled_if_fits}
-use Rattle.bin_config.specs.Reading.{read_of}
+use Rattle.bin_config.specs.Reading.{read_as}
+use Rattle.bin_config.specs.Version.{version_number}
+use Rattle.xm_conf.specs.Limits.{most_parts}
+use Rattle.bin_config.specs.declared.version.Version.{Version}
 use Rattle.bin_config.specs.Xmc.{xmc}
-use Rattle.bin_config.specs.XmcLemmas.{spelled_read, xmc_short}
-use Rattle.xef_images.specs.FieldLemmas.{wide8, wide32}
+use Rattle.bin_config.specs.XmcLemmas.{spelled_read, xmc_short, numbered_back, number_small}
+use Rattle.bin_config.specs.declared.version.Version.TheVariants.{One, Two}
+use Rattle.sealed_files.specs.FieldLemmas.{wide8, wide32}
 use Rattle.xef_images.specs.Image.{Image, IsImage}
 use Rattle.xef_images.specs.ImageLemmas.{Decides-nat_le}
 use Rattle.xef_images.specs.Reading.{xef}
@@ -23,31 +27,45 @@ use Rattle.xef_images.specs.XefLemmas.{length-xef_text, xef_again}
 use Rattle.loaded_system.specs.Inside.{first_outside}
 use Rattle.loaded_system.specs.InsideLemmas.{none_if_inside}
 use Rattle.loaded_system.specs.System.{System, IsSystem}
+use Rattle.sealed_files.specs.Fields.{field_bytes, number_at}
+use Rattle.sealed_files.specs.HeadLemmas.{IsSealed, stated_again, stated_version_again, unsealed_again}
+use Rattle.sealed_files.specs.Heads.{is_version, lead_text, stated_length}
 use Rattle.xm_container.specs.Box.{sized_text, image_entry_text, entries_text, fields_text, front_text, sealed_text, box_text}
-use Rattle.xm_container.proofs.FieldLemmas.{Reads, bytes_again, number_again, listed_again}
-use Rattle.xm_container.proofs.HeadLemmas.{IsSigned, lead_text, told_again, signed_again}
+use Rattle.sealed_files.specs.FieldLemmas.{Reads, bytes_again, number_again, listed_again}
 use Rattle.xm_container.specs.Laws.{ContainersArePrefixFree, PackedIsUnpacked}
 use Rattle.xm_container.proofs.NumberLemmas.{numbers}
 use Rattle.xm_container.specs.Numbers.{least_where, has_id, extra, missing}
-use Rattle.xm_container.specs.Reading.{bytes_at, number_at, told, length_at, conf_at, id_at, image_at, image_entry_at, image_entries_at, image_table_at, container_fields, assigned, system_in, unpacked}
+use Rattle.xm_container.specs.Reading.{length_at, conf_at, id_at, image_at, image_entry_at, image_entries_at, image_table_at, container_fields, assigned, version_in, system_in, unpacked, box_faults, box_field, box_short}
+
+-- the number of a version is that of a version of containers
+is_container_version : (v : Version) → is_version 2 (version_number v) ≡ true
+is_container_version One = refl
+is_container_version Two = refl
+
+-- the version that stands there is the one of the bytes before the digest
+pub version_in_again : (v : Version) (size : ℕ) (rest : List ℕ) → version_in (lead_text (codes "XMPK") (version_number v) size ++ rest) ≡ Ok v
+unfolding version_in
+version_in_again v size rest =
+    rw (stated_version_again box_faults (codes "XMPK") 2 (version_number v) size rest refl (is_container_version v) (number_small v), numbered_back v) refl
 
 -- what stands before the digest has 16 bytes less than the container
-length-front : (fields : List ℕ) → length (front_text fields) ≡ 10 + length fields
+length-front : (v : Version) (fields : List ℕ) → length (front_text v fields) ≡ 10 + length fields
 unfolding front_text
-length-front fields = length-append (lead_text (26 + length fields)) fields
+length-front v fields = length-append (lead_text (codes "XMPK") (version_number v) (26 + length fields)) fields
 
 -- the length of a container
-pub length-sealed : (fields : List ℕ) → length (sealed_text fields) ≡ 26 + length fields
+pub length-sealed : (v : Version) (fields : List ℕ) → length (sealed_text v fields) ≡ 26 + length fields
 unfolding sealed_text
-length-sealed fields = omega (arith, length-append (front_text fields) (md5 (front_text fields)), length-md5 (front_text fields), length-front fields)
+length-sealed v fields =
+    omega (arith, length-append (front_text v fields) (md5 (front_text v fields)), length-md5 (front_text v fields), length-front v fields)
 
 -- a container tells its length, whatever stands after it
-sealed_told : (fields rest : List ℕ) → 26 + length fields < 2 ^ 32 → told (sealed_text fields ++ rest) ≡ Ok (26 + length fields)
+sealed_told : (v : Version) (fields rest : List ℕ) → 26 + length fields < 2 ^ 32 → stated_length box_faults (codes "XMPK") 2 (sealed_text v fields ++ rest) ≡ Ok (26 + length fields)
 unfolding sealed_text front_text
-sealed_told fields rest below =
-    let lead = lead_text (26 + length fields) in
-    ap told (ap (λ x. x ++ rest) (append_assoc lead fields (md5 (front_text fields))) ∙ append_assoc lead (fields ++ md5 (front_text fields)) rest)
-    ∙ told_again (26 + length fields) ((fields ++ md5 (front_text fields)) ++ rest) below
+sealed_told v fields rest below =
+    let lead = lead_text (codes "XMPK") (version_number v) (26 + length fields) in
+    ap (stated_length box_faults (codes "XMPK") 2) (ap (λ x. x ++ rest) (append_assoc lead fields (md5 (front_text v fields))) ∙ append_assoc lead (fields ++ md5 (front_text v fields)) rest)
+    ∙ stated_again box_faults (codes "XMPK") 2 (version_number v) (26 + length fields) ((fields ++ md5 (front_text v fields)) ++ rest) refl (is_container_version v) (number_small v) below
 
 -- the same value
 same_value : {A F : Type 0} (x y : A) → (let done : Result A F = Ok x in done ≡ Ok y) → x ≡ y
@@ -56,24 +74,24 @@ same_value x y e = cc
 -- no container is a proper prefix of another
 pub none_goes_on : ContainersArePrefixFree
 unfolding box_text
-none_goes_on one other rest below is =
-    let a = fields_text one in
-    let b = fields_text other in
-    let long = ap length is ∙ length-append (sealed_text a) rest in
-    let size_a = length-sealed a in
-    let size_b = length-sealed b in
-    let told_b : told (sealed_text b) ≡ Ok (26 + length b) = ap told (sym (append-nil (sealed_text b))) ∙ sealed_told b [] (omega (arith, below, size_b)) in
-    let told_a : told (sealed_text b) ≡ Ok (26 + length a) = ap told is ∙ sealed_told a rest (omega (arith, below, size_a, long)) in
+none_goes_on v w one other rest below is =
+    let a = fields_text v one in
+    let b = fields_text w other in
+    let long = ap length is ∙ length-append (sealed_text v a) rest in
+    let size_a = length-sealed v a in
+    let size_b = length-sealed w b in
+    let told_b : stated_length box_faults (codes "XMPK") 2 (sealed_text w b) ≡ Ok (26 + length b) = ap (stated_length box_faults (codes "XMPK") 2) (sym (append-nil (sealed_text w b))) ∙ sealed_told w b [] (omega (arith, below, size_b)) in
+    let told_a : stated_length box_faults (codes "XMPK") 2 (sealed_text w b) ≡ Ok (26 + length a) = ap (stated_length box_faults (codes "XMPK") 2) is ∙ sealed_told v a rest (omega (arith, below, size_a, long)) in
     let same : 26 + length b ≡ 26 + length a = same_value (26 + length b) (26 + length a) (sym told_b ∙ told_a) in
     nil_from_length rest (omega (arith, same, size_a, size_b, long))
 
 -- bytes after their length are read
 sized_again : (place : Place) (bytes rest : List ℕ) → length bytes < 2 ^ 32 → ahead place ≡ sized_text bytes ++ rest
-    → (count : Reads (number_at w32 place) (length bytes) (bytes ++ rest)) × Reads (bytes_at (length bytes) count.after) bytes rest
+    → (count : Reads (number_at box_short w32 place) (length bytes) (bytes ++ rest)) × Reads (field_bytes box_short (length bytes) count.after) bytes rest
 unfolding sized_text
 sized_again place bytes rest below stands =
-    let a = number_again w32 (2 ^ 32) wide32 place (length bytes) (bytes ++ rest) below (stands ∙ append_assoc (to_be_bytes w32 (length bytes)) bytes rest) in
-    (a, bytes_again (length bytes) a.after bytes rest refl a.ahead)
+    let a = number_again box_short w32 (2 ^ 32) wide32 place (length bytes) (bytes ++ rest) below (stands ∙ append_assoc (to_be_bytes w32 (length bytes)) bytes rest) in
+    (a, bytes_again box_short (length bytes) a.after bytes rest refl a.ahead)
 
 -- a number of one byte is that byte
 pub byte_of : (n : ℕ) → n < 256 → to_be_bytes w8 n ≡ n ∷ []
@@ -89,7 +107,7 @@ entry_again floor id place image rest above byte is stands =
     let text = xef_text image in
     let short : length text < 2 ^ 32 = omega (arith, length-xef_text image is.most, is.short) in
     let first : ahead place ≡ to_be_bytes w8 id ++ (sized_text text ++ rest) = stands ∙ ap (λ b. b ++ (sized_text text ++ rest)) (sym (byte_of id byte)) in
-    let a = listed_again w8 256 wide8 (λ n. nat_le floor n) place id (sized_text text ++ rest) byte ((Decides-nat_le floor id).1 above) first in
+    let a = listed_again box_short box_field w8 256 wide8 (λ n. nat_le floor n) place id (sized_text text ++ rest) byte ((Decides-nat_le floor id).1 above) first in
     let b = sized_again a.after text rest short a.ahead in
     let loads : xef text ≡ Ok image = xef_again image is in
     record { after = b.1.after; is = rw (a.is, b.0.is, b.1.is, loads) refl; ahead = b.1.ahead }
@@ -144,49 +162,55 @@ assigned_again system is =
     let none_outside : first_outside system.conf.parts system.images ≡ None = none_if_inside system.conf.parts system.images is.inside in
     rw (none_extra, none_missing, none_outside) refl
 
--- there are at most 16 images
-few_images : (system : System) → IsSystem system → length system.images ≤ 16
+-- there are few images
+few_images : (system : System) → IsSystem system → length system.images ≤ most_parts
 unfolding described
 few_images system is = omega (arith, is.counted, is.fits.counts.parts.few)
 
 -- a configuration and images that stand there are read
-fields_again : (system : System) (front : List ℕ) → IsSystem system → read_of (xmc system.conf) ≡ Ok system.conf → length (xmc system.conf) < 2 ^ 32 → drop 10 front ≡ fields_text system
-    → container_fields front ≡ Ok (system.conf, record { ids = numbers 0 (length system.images); images = system.images })
+fields_again : (v : Version) (system : System) (front : List ℕ) → IsSystem system → read_as v (xmc v system.conf) ≡ Ok system.conf → length (xmc v system.conf) < 2 ^ 32
+    → drop 10 front ≡ fields_text v system
+    → container_fields v front ≡ Ok (system.conf, record { ids = numbers 0 (length system.images); images = system.images })
 unfolding container_fields conf_at length_at image_table_at fields_text
-fields_again system front is read short stands =
+fields_again v system front is read short stands =
     let images = system.images in
     let count = length system.images in
     let few = few_images system is in
     let entries = entries_text 0 system.images in
-    let c = sized_again (past 10 (cursor_start front)) (xmc system.conf) (length system.images ∷ entries_text 0 system.images) short stands in
-    let n = number_again w8 256 wide8 c.1.after (length system.images) entries (omega (arith, few)) (c.1.ahead ∙ ap (λ b. b ++ entries) (sym (byte_of (length system.images) (omega (arith, few))))) in
+    let c = sized_again (past 10 (cursor_start front)) (xmc v system.conf) (length system.images ∷ entries_text 0 system.images) short stands in
+    let n = number_again box_short w8 256 wide8 c.1.after (length system.images) entries (omega (arith, few)) (c.1.ahead ∙ ap (λ b. b ++ entries) (sym (byte_of (length system.images) (omega (arith, few))))) in
     let e = entries_again 0 n.after system.images [] (omega (arith, few)) is.images (n.ahead ∙ sym (append-nil entries)) in
     let none : left e.after ≡ 0 = ap length e.ahead in
     let ended : (left e.after == 0) ≡ true = (Decides-eqb (left e.after) 0).1 none in
     rw (c.0.is, c.1.is, read, n.is, e.is, ended) refl
 
 -- what stands before the digest, after name, version and length
-front_fields : (fields : List ℕ) → drop 10 (front_text fields) ≡ fields
+front_fields : (v : Version) (fields : List ℕ) → drop 10 (front_text v fields) ≡ fields
 unfolding front_text
-front_fields fields = drop_at (lead_text (26 + length fields)) fields 10 refl
+front_fields v fields = drop_at (lead_text (codes "XMPK") (version_number v) (26 + length fields)) fields 10 refl
+
+-- the version of what stands before the digest
+front_version : (v : Version) (fields : List ℕ) → version_in (front_text v fields) ≡ Ok v
+unfolding front_text
+front_version v fields = version_in_again v (26 + length fields) fields
 
 -- a container has the digest of what stands before it
-sealed_signed : (fields : List ℕ) → 26 + length fields < 2 ^ 32 → IsSigned (sealed_text fields) (front_text fields)
+sealed_signed : (v : Version) (fields : List ℕ) → 26 + length fields < 2 ^ 32 → IsSealed box_faults (codes "XMPK") 2 (sealed_text v fields) (front_text v fields)
 unfolding sealed_text
-sealed_signed fields below = record {
-  told = ap told (sym (append-nil (sealed_text fields))) ∙ sealed_told fields [] below ∙ ap (λ n. Ok n) (sym (length-sealed fields));
+sealed_signed v fields below = record {
+  stated = ap (stated_length box_faults (codes "XMPK") 2) (sym (append-nil (sealed_text v fields))) ∙ sealed_told v fields [] below ∙ ap (λ n. Ok n) (sym (length-sealed v fields));
   parts = refl;
-  count = omega (arith, length-front fields, length-sealed fields);
+  count = omega (arith, length-front v fields, length-sealed v fields);
 }
 
 -- a system is unpacked from its container
 pub packed_unpacked : IsBrokenUnlessFits → PackedIsUnpacked
 unfolding unpacked system_in box_text
-packed_unpacked law system is ranges below =
-    let fields = fields_text system in
-    let small : 26 + length (fields_text system) < 2 ^ 32 = omega (arith, below, length-sealed (fields_text system)) in
-    let read : read_of (xmc system.conf) ≡ Ok system.conf = spelled_read law system.conf ranges is.fits in
-    let short : length (xmc system.conf) < 2 ^ 32 = xmc_short system.conf (spelled_if_fits system.conf ranges is.fits) in
-    let first = signed_again (sealed_text fields) (front_text fields) (sealed_signed fields small) in
-    let second = fields_again system (front_text fields) is read short (front_fields fields) in
-    rw (first, second) (assigned_again system is)
+packed_unpacked law v system is fits ranges below =
+    let fields = fields_text v system in
+    let small : 26 + length (fields_text v system) < 2 ^ 32 = omega (arith, below, length-sealed v (fields_text v system)) in
+    let read : read_as v (xmc v system.conf) ≡ Ok system.conf = spelled_read law (Some v) v system.conf refl ranges fits in
+    let short : length (xmc v system.conf) < 2 ^ 32 = xmc_short v system.conf (spelled_if_fits v system.conf ranges fits) in
+    let first = unsealed_again box_faults (codes "XMPK") 2 (sealed_text v fields) (front_text v fields) (sealed_signed v fields small) in
+    let second = fields_again v system (front_text v fields) is read short (front_fields v fields) in
+    rw (first, front_version v fields, second) (assigned_again system is)

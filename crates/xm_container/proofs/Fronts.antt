@@ -1,16 +1,17 @@
 -- Reading one image after the other, as a loop does.
-use Rattle.std.proofs.Common.{◌≡◌, ℕ, zero, suc, ◌-◌, ◌+◌, ◌≤◌, ◌<◌, List, [], ◌∷◌, ◌++◌, length, Bool, true, false, Result, Ok, Err, refl, sym, ap, subst, ◌∙◌, append_assoc, arith}
+use Rattle.std.proofs.Common.{◌≡◌, ℕ, zero, suc, ◌-◌, ◌+◌, ◌≤◌, ◌<◌, List, [], ◌∷◌, ◌++◌, length, Result, Ok, Err, refl, sym, ap, subst, ◌∙◌, append_assoc, arith}
 use Rattle.std.specs.Prelude.{nat_le}
 use Rattle.std.specs.Int.{w8}
 use Rattle.std.proofs.lemmas.List.{append-nil}
 use Rattle.xef_images.specs.ImageLemmas.{Decides-nat_le}
 use Rattle.xm_base.specs.Cursor.{Place}
 use Rattle.xef_images.specs.Image.{Image}
-use Rattle.xef_images.specs.Steps.{◌>>=◌}
-use Rattle.xef_images.specs.StepLemmas.{stepped, ok_is}
+use Rattle.sealed_files.specs.Steps.{◌>>=◌, unless}
+use Rattle.sealed_files.specs.StepLemmas.{stepped, ok_is, passed}
+use Rattle.sealed_files.specs.Fields.{number_at}
 use Rattle.xm_container.specs.Entries.{Entries, RiseFrom}
 use Rattle.xm_container.specs.Gives.{Fails}
-use Rattle.xm_container.specs.Reading.{unless, number_at, id_at, image_at, image_entry_at, image_entries_at, with_entry}
+use Rattle.xm_container.specs.Reading.{id_at, image_at, image_entry_at, image_entries_at, with_entry, box_field, box_short}
 use Rattle.xm_container.specs.declared.image.Image.{Image as Given}
 use Rattle.xm_container.specs.declared.fault.BoxFault.{BoxFault}
 use Rattle.xm_container.specs.declared.fault.BoxFault.TheVariants as fault
@@ -89,24 +90,14 @@ entries_done ids images count i floor place total all so_far =
     = rw none (ap (λ list. Ok (record { ids = list; images = images ++ [] }, place)) (append-nil ids) ∙ ap (λ list. Ok (record { ids = ids; images = list }, place)) (append-nil images)) in
     sym so_far ∙ one
 
--- a test that did not fail
-record Passed {A : Type 0} (test : Bool) (value end : A) : Type 0 where
-  true : test ≡ true
-  is : value ≡ end
-
--- what did not fail has passed its test
-passed : {A : Type 0} (test : Bool) (told : BoxFault) (value end : A) → unless test told value ≡ Ok end → Passed test value end
-passed true told value end e = record { true = refl; is = cc }
-passed false told value end e = absurd cc
-
 -- the number of an image that is read is not below the floor
 id_above : (floor : ℕ) (place : Place) (entry : Given) (after : Place) → image_entry_at floor place ≡ Ok (entry, after) → floor ≤ entry.id
 unfolding image_entry_at id_at
 id_above floor place entry after e =
     let a = stepped (id_at floor place) (λ id. image_at id.0 id.1 >>= λ image. Ok (record { id = id.0; xef = image.0 }, image.1)) (entry, after) e in
     let b = stepped (image_at a.value.0 a.value.1) (λ image. Ok (record { id = a.value.0; xef = image.0 }, image.1)) (entry, after) a.led in
-    let t = stepped (number_at w8 place) (λ field. unless (nat_le floor field.0) (fault.Field place.at) field) a.value a.is in
-    let p = passed (nat_le floor t.value.0) (fault.Field place.at) t.value a.value t.led in
+    let t = stepped (number_at box_short w8 place) (λ field. unless (nat_le floor field.0) (box_field place.at) field) a.value a.is in
+    let p = passed (nat_le floor t.value.0) (box_field place.at) t.value a.value t.led in
     let above : floor ≤ t.value.0 = (Decides-nat_le floor t.value.0).0 p.true in
     let made : Given × Place = (record { id = a.value.0; xef = b.value.0 }, b.value.1) in
     let Q : Given × Place → Type 0 = λ x. floor ≤ x.0.id in

@@ -3,9 +3,7 @@ pub mod AssignedLemmas
 pub mod BoxLemmas
 pub mod DigestLemmas
 pub mod FaultLemmas
-pub mod FieldLemmas
 pub mod Fronts
-pub mod HeadLemmas
 pub mod LineLemmas
 pub mod NumberLemmas
 pub mod PackLemmas

@@ -1,5 +1,5 @@
 -- What the lines of a container are made of.
-use Rattle.std.proofs.Common.{◌≡◌, ℕ, suc, ◌+◌, ◌-◌, ◌≤◌, List, ◌∷◌, ◌++◌, length, drop, Some, Ok, sym, ap, ◌∙◌, append_assoc, arith}
+use Rattle.std.proofs.Common.{◌≡◌, ℕ, suc, ◌+◌, ◌-◌, ◌≤◌, List, ◌∷◌, ◌++◌, length, drop, Some, Ok, sym, ap, ◌∙◌, append_assoc, arith, codes}
 use Rattle.std.specs.Prelude.{slice_get}
 use Rattle.std.proofs.Math.Seq.{drop-cons}
 use Rattle.std.proofs.lemmas.List.{append-nil, drop_all}
@@ -8,18 +8,19 @@ use Rattle.xef_images.specs.Image.{Image}
 use Rattle.md5.specs.Md5.{md5}
 use Rattle.xef_images.specs.Spelling.{before_text, xef_text}
 use Rattle.xef_images.specs.XefLemmas.{digest_at_end}
-use Rattle.xef_images.specs.StepLemmas.{stepped}
+use Rattle.sealed_files.specs.StepLemmas.{stepped}
 use Rattle.loaded_system.specs.System.{System}
-use Rattle.xm_container.proofs.HeadLemmas.{signed_takes}
-use Rattle.xm_container.specs.Reading.{signed, system_in, unpacked}
+use Rattle.sealed_files.specs.HeadLemmas.{unsealed_takes}
+use Rattle.sealed_files.specs.Heads.{unsealed}
+use Rattle.xm_container.specs.Reading.{system_in, unpacked, box_faults}
 use Rattle.xm_container.specs.Texts.{file_line, image_line, image_lines}
 
 -- a container has the bytes of its digest
 pub unpacked_long : (bytes : List ℕ) (system : System) → unpacked bytes ≡ Ok system → 16 ≤ length bytes
 unfolding unpacked
 unpacked_long bytes system e =
-    let s = stepped (signed bytes) system_in system e in
-    omega (arith, (signed_takes bytes s.value s.is).count)
+    let s = stepped (unsealed box_faults (codes "XMPK") 2 bytes) system_in system e in
+    omega (arith, (unsealed_takes box_faults (codes "XMPK") 2 bytes s.value s.is).count)
 
 -- an image, and those after it
 image_first : (images : List Image) (id : ℕ) (image : Image) → slice_get images id ≡ Some image → drop id images ≡ image ∷ drop (id + 1) images

@@ -10,6 +10,7 @@ use Rattle.xef_images.specs.Image.{Image, IsImage}
 use Rattle.loaded_system.specs.Inside.{outside_in, outside_or, first_outside_from}
 use Rattle.loaded_system.specs.declared.system.Outside.{Outside}
 use Rattle.bin_config.specs.Xmc.{xmc}
+use Rattle.bin_config.specs.declared.version.Version.TheVariants.{Two}
 use Rattle.xm_container.specs.Box.{image_entry_text, entries_text, fields_text, sized_text}
 use Rattle.xm_container.proofs.NumberLemmas.{none_missing}
 use Rattle.xm_container.specs.Numbers.{has_id, missing}
@@ -122,12 +123,12 @@ pub length-in_order : (images : List Given) (parts : ℕ) → missing parts (par
 length-in_order images parts none = order_counted images parts parts 0 none (omega arith)
 
 -- the fields, put one after the other
-pub fields_so : (conf : Conf) (images : List Given) (parts : ℕ) (bytes none first second third : List ℕ) → parts ≡ length conf.parts → missing parts (partition_numbers images) ≡ None → bytes ≡ xmc conf
+pub fields_so : (conf : Conf) (images : List Given) (parts : ℕ) (bytes none first second third : List ℕ) → parts ≡ length conf.parts → missing parts (partition_numbers images) ≡ None → bytes ≡ xmc Two conf
     → none ≡ [] → first ≡ none ++ sized_text bytes → second ≡ first ++ parts ∷ [] → third ≡ second ++ entries_text 0 (in_order images 0 parts)
-    → third ≡ fields_text (system_of conf images)
+    → third ≡ fields_text Two (system_of conf images)
 unfolding fields_text
 fields_so conf images parts bytes none first second third counted complete is_xmc is_none is_first is_second is_third =
-    let sized = sized_text (xmc conf) in
+    let sized = sized_text (xmc Two conf) in
     let entries : ℕ → List ℕ = λ p. entries_text 0 (in_order images 0 p) in
     let front : first ≡ sized = is_first ∙ ap (λ x. x ++ sized_text bytes) is_none ∙ ap sized_text is_xmc in
     is_third

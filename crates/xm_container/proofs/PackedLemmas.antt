@@ -6,6 +6,8 @@ use Rattle.xm_conf.specs.Description.{described}
 use Rattle.xm_conf.specs.Fits.{Fits}
 use Rattle.xm_base.specs.declared.limits.TheConstants.{FILE_BYTES}
 use Rattle.bin_config.specs.Spelled.{HasConfRanges}
+use Rattle.bin_config.specs.Version.{FitsVersion}
+use Rattle.bin_config.specs.declared.version.Version.TheVariants.{Two}
 use Rattle.xef_images.specs.Image.{IsImage}
 use Rattle.xef_images.specs.ImageLemmas.{Decides-nat_le}
 use Rattle.loaded_system.specs.Inside.{first_outside}
@@ -33,23 +35,24 @@ system_loads conf images fits each none inside = record {
 }
 
 -- fields that are sealed are not too long
-sealed_so : (fields bytes : List ℕ) → sealed fields ≡ Ok bytes → (26 + length fields ≤ FILE_BYTES) × (sealed_text fields ≡ bytes)
+sealed_so : (fields bytes : List ℕ) → sealed fields ≡ Ok bytes → (26 + length fields ≤ FILE_BYTES) × (sealed_text Two fields ≡ bytes)
 unfolding sealed
 sealed_so fields bytes e =
     let t = at (nat_le (box_length fields) FILE_BYTES) e in
     ((Decides-nat_le (box_length fields) FILE_BYTES).0 t.0, t.1)
   where
-    at : (test : Bool) → cond {A = Result (List ℕ) PackFault} test (Ok (sealed_text fields)) (Err (fault.Long (box_length fields))) ≡ Ok bytes → (test ≡ true) × (sealed_text fields ≡ bytes)
+    at : (test : Bool) → cond {A = Result (List ℕ) PackFault} test (Ok (sealed_text Two fields)) (Err (fault.Long (box_length fields))) ≡ Ok bytes → (test ≡ true) × (sealed_text Two fields ≡ bytes)
     at true is = (refl, cc)
     at false is = absurd cc
 
 -- what is packed is unpacked
 pub packed_read : {A : Type 0} → PackedIsUnpacked → (conf : Conf) (images : List Given) (fields : List ℕ) (result : Result (Vec ℕ A) PackFault) → IsSystem (system_of conf images) → HasConfRanges conf
-    → fields ≡ fields_text (system_of conf images) → Packs result (sealed fields) → IfOk result (λ bytes. unpacked bytes.items ≡ Ok (system_of conf images))
+    → fields ≡ fields_text Two (system_of conf images) → Packs result (sealed fields) → IfOk result (λ bytes. unpacked bytes.items ≡ Ok (system_of conf images))
 unfolding box_text
 packed_read law conf images fields (Err fault) loads ranges is given = tt
 packed_read law conf images fields (Ok bytes) loads ranges is given =
     let s = sealed_so fields bytes.items given in
-    let text : box_text (system_of conf images) ≡ bytes.items = ap sealed_text (sym is) ∙ s.1 in
-    let size : length (box_text (system_of conf images)) ≡ 26 + length fields = ap (λ f. length (sealed_text f)) (sym is) ∙ length-sealed fields in
-    ap unpacked (sym text) ∙ law (system_of conf images) loads ranges (omega (arith, s.0, size))
+    let text : box_text Two (system_of conf images) ≡ bytes.items = ap (sealed_text Two) (sym is) ∙ s.1 in
+    let size : length (box_text Two (system_of conf images)) ≡ 26 + length fields = ap (λ f. length (sealed_text Two f)) (sym is) ∙ length-sealed Two fields in
+    let fits : FitsVersion Two conf = record { fits = loads.fits; links = tt } in
+    ap unpacked (sym text) ∙ law Two (system_of conf images) loads fits ranges (omega (arith, s.0, size))

@@ -1,9 +1,11 @@
--- The one spelling of a system: its container, byte by byte.
+-- The one spelling of a system in each version: its container, byte by byte.
 use Rattle.std.specs.Prelude.{◌≡◌, ℕ, ◌+◌, ◌<◌, ◌^◌, List, [], ◌∷◌, ◌++◌, length, codes}
 use Rattle.std.specs.Int.{w16, w32, to_be_bytes}
 use Rattle.md5.specs.Md5.{md5}
 use Rattle.bin_config.specs.Spelled.{HasConfRanges}
+use Rattle.bin_config.specs.Version.{version_number, FitsVersion}
 use Rattle.bin_config.specs.Xmc.{xmc}
+use Rattle.bin_config.specs.declared.version.Version.{Version}
 use Rattle.xef_images.specs.Image.{Image}
 use Rattle.xef_images.specs.Spelling.{xef_text}
 use Rattle.loaded_system.specs.System.{System, IsSystem}
@@ -22,28 +24,30 @@ entries_text id [] = []
 entries_text id (image ∷ images) = image_entry_text id image ++ entries_text (id + 1) images
 
 -- what stands between the length of the whole and the digest: the configuration, the number of images, and the images
-unfoldable pub fields_text : System → List ℕ
-fields_text system = sized_text (xmc system.conf) ++ length system.images ∷ entries_text 0 system.images
+unfoldable pub fields_text : Version → System → List ℕ
+fields_text v system = sized_text (xmc v system.conf) ++ length system.images ∷ entries_text 0 system.images
 
 -- the length of a container with these fields: 10 bytes before them and 16 after them
 abbrev pub box_length : List ℕ → ℕ
 box_length fields = 26 + length fields
 
--- what stands before the digest: the name, version 1, the length of the whole, and the fields
-unfoldable pub front_text : List ℕ → List ℕ
-front_text fields = codes "XMPK" ++ to_be_bytes w16 1 ++ to_be_bytes w32 (box_length fields) ++ fields
+-- what stands before the digest: the name, the version, the length of the whole, and the fields
+unfoldable pub front_text : Version → List ℕ → List ℕ
+front_text v fields = codes "XMPK" ++ to_be_bytes w16 (version_number v) ++ to_be_bytes w32 (box_length fields) ++ fields
 
 -- a container with these fields: the digest of all that stands before it is at its end
-unfoldable pub sealed_text : List ℕ → List ℕ
-sealed_text fields = front_text fields ++ md5 (front_text fields)
+unfoldable pub sealed_text : Version → List ℕ → List ℕ
+sealed_text v fields = front_text v fields ++ md5 (front_text v fields)
 
--- the container of a system
-unfoldable pub box_text : System → List ℕ
-box_text system = sealed_text (fields_text system)
+-- the container of a system, whose configuration is of the same version
+unfoldable pub box_text : Version → System → List ℕ
+box_text v system = sealed_text v (fields_text v system)
 
--- the bytes are the container of a system, which can be loaded and whose configuration has its numbers in the ranges of their fields; a word can say how many they are
-pub record IsSpelledContainer (bytes : List ℕ) (system : System) : Type 0 where
+-- the bytes are the container of a system in a version. The system can be loaded, its configuration meets the rules of the
+-- version and has its numbers in the ranges of their fields; a word can say how many the bytes are
+pub record IsSpelledContainer (v : Version) (bytes : List ℕ) (system : System) : Type 0 where
   pub loads : IsSystem system
+  pub fits : FitsVersion v system.conf
   pub ranges : HasConfRanges system.conf
   pub short : length bytes < 2 ^ 32
-  pub text : bytes ≡ box_text system
+  pub text : bytes ≡ box_text v system

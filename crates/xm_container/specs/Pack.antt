@@ -1,7 +1,8 @@
--- What a configuration and images come to: a container, or why there is none.
+-- What a configuration and images come to: a container of version 2, or why there is none.
 use Rattle.std.specs.Prelude.{◌≡◌, ℕ, zero, suc, ◌+◌, ◌==◌, nat_le, if◌then◌else◌, List, [], ◌∷◌, ◌++◌, length, map, Option, Some, None, Result, Ok, Err, Vec}
 use Rattle.std.specs.Option.{option_to_list}
 use Rattle.xm_base.specs.declared.limits.TheConstants.{FILE_BYTES}
+use Rattle.bin_config.specs.declared.version.Version.TheVariants.{Two}
 use Rattle.xm_conf.specs.Configuration.{Conf}
 use Rattle.xef_images.specs.Image.{Image}
 use Rattle.loaded_system.specs.Inside.{first_outside}
@@ -34,7 +35,7 @@ system_of conf images = record { conf = conf; images = in_order images 0 (length
 -- a container with these fields, where it is not too long
 unfoldable pub sealed : List ℕ → Result (List ℕ) PackFault
 sealed fields =
-    if nat_le (box_length fields) FILE_BYTES then Ok (sealed_text fields) else Err (fault.Long (box_length fields))
+    if nat_le (box_length fields) FILE_BYTES then Ok (sealed_text Two fields) else Err (fault.Long (box_length fields))
 
 -- refused where a segment lies outside
 abbrev pub unless_outside : Option Outside → Result (List ℕ) PackFault → Result (List ℕ) PackFault
@@ -58,7 +59,7 @@ packed conf images =
     unless_extra (extra (length conf.parts) (partition_numbers images))
     (unless_image_missing (missing (length conf.parts) (partition_numbers images))
     (unless_outside (first_outside conf.parts (in_order images 0 (length conf.parts)))
-    (sealed (fields_text (system_of conf images)))))
+    (sealed (fields_text Two (system_of conf images)))))
 
 -- what was answered is what packing comes to, unless there was no memory
 abbrev pub Packs : {A : Type 0} → Result (Vec ℕ A) PackFault → Result (List ℕ) PackFault → Type 0

@@ -1,16 +1,23 @@
 -- The reading of a container: the system that the bytes spell, or the first fault from left to right.
-use Rattle.std.specs.Prelude.{◌≡◌, ◌≢◌, ◌↔◌, ℕ, zero, suc, ◌+◌, ◌-◌, ◌==◌, Bool, nat_le, nat_lt, if◌then◌else◌, List, [], ◌∷◌, length, take, drop, codes, Option, Some, None, Result, Ok, Err}
-use Rattle.std.specs.Int.{Width, w8, w16, w32, byte_len, from_be_bytes}
-use Rattle.std.specs.Str.{bytes_eq}
-use Rattle.md5.specs.Md5.{md5}
-use Rattle.xm_base.specs.Cursor.{Place, left, next, past, cursor_start}
+use Rattle.std.specs.Prelude.{ℕ, zero, suc, ◌+◌, ◌==◌, nat_le, List, [], ◌∷◌, length, codes, Option, Some, None, Result, Ok, Err}
+use Rattle.std.specs.Int.{w8, w32}
+use Rattle.xm_base.specs.Cursor.{Place, left, past, cursor_start}
 use Rattle.xm_conf.specs.Configuration.{Conf}
-use Rattle.bin_config.specs.Reading.{read_of}
+use Rattle.sealed_files.specs.Faults.{HeadFaults}
+use Rattle.sealed_files.specs.Fields.{field_bytes, listed_at, number_at}
+use Rattle.sealed_files.specs.Heads.{stated_version, unsealed}
+use Rattle.sealed_files.specs.Known.{head_faults}
+use Rattle.sealed_files.specs.Lifted.{lifted_faults}
+use Rattle.sealed_files.specs.Steps.{◌>>=◌, unless}
+use Rattle.sealed_files.specs.declared.fault.HeadFault.{HeadFault}
+use Rattle.sealed_files.specs.declared.fault.HeadFault.TheVariants as head
+use Rattle.bin_config.specs.Reading.{read_as}
+use Rattle.bin_config.specs.Version.{version_numbered}
+use Rattle.bin_config.specs.declared.version.Version.{Version}
 use Rattle.bin_config.specs.declared.fault.XmcFault.{XmcFault}
 use Rattle.bin_config.specs.declared.fault.XmcFault.TheVariants as xmc
 use Rattle.xef_images.specs.Image.{Image}
 use Rattle.xef_images.specs.Reading.{xef}
-use Rattle.xef_images.specs.Steps.{◌>>=◌}
 use Rattle.xef_images.specs.declared.fault.XefFault.{XefFault}
 use Rattle.xef_images.specs.declared.fault.XefFault.TheVariants as xef_fault
 use Rattle.loaded_system.specs.Inside.{first_outside}
@@ -21,64 +28,23 @@ use Rattle.xm_container.specs.declared.image.Image.{Image as Given}
 use Rattle.xm_container.specs.declared.fault.BoxFault.{BoxFault}
 use Rattle.xm_container.specs.declared.fault.BoxFault.TheVariants as fault
 
--- the fault where a test fails, else the value
-abbrev pub unless : {A : Type 0} → Bool → BoxFault → A → Result A BoxFault
-unless test fault value = if test then Ok value else Err fault
+-- the fault of a head or of a digest as that of its container
+abbrev pub box_fault : HeadFault → BoxFault
+box_fault head.Magic = fault.Magic
+box_fault (head.Version found) = fault.Version found
+box_fault (head.Short at) = fault.Short at
+box_fault (head.Trailing at) = fault.Trailing at
+box_fault (head.Digest stored found) = fault.Digest stored found
 
--- the next bytes, so many, and the place after them; a field that passes the end is Short, at its beginning
-abbrev pub bytes_at : ℕ → Place → Result (List ℕ × Place) BoxFault
-bytes_at count place =
-    if nat_lt (left place) count then Err (fault.Short place.at) else Ok (next count place, past count place)
+abbrev pub box_faults : HeadFaults BoxFault
+box_faults = lifted_faults box_fault head_faults
 
--- the next field as a number, and the place after it
-abbrev pub number_at : Width → Place → Result (ℕ × Place) BoxFault
-number_at width place = bytes_at (byte_len width) place >>= λ field. Ok (from_be_bytes width field.0, field.1)
+-- a field that passes the end, and one whose value is not allowed
+abbrev pub box_short : ℕ → BoxFault
+box_short at = fault.Short at
 
--- the next field as a number that passes a test; one that does not is Field, at its beginning
-abbrev pub listed_at : Width → (ℕ → Bool) → Place → Result (ℕ × Place) BoxFault
-listed_at width test place = number_at width place >>= λ field. unless (test field.0) (fault.Field place.at) field
-
--- the name of the format, and the place after it
-unfoldable pub magic_at : Place → Result Place BoxFault
-magic_at place = bytes_at 4 place >>= λ field. unless (bytes_eq field.0 (codes "XMPK")) fault.Magic field.1
-
--- the version, and the place after it
-unfoldable pub version_at : Place → Result Place BoxFault
-version_at place = number_at w16 place >>= λ field. unless (field.0 == 1) (fault.Version field.0) field.1
-
--- the length that stands in the head
-unfoldable pub told : List ℕ → Result ℕ BoxFault
-told bytes = do
-  name ← magic_at (cursor_start bytes)
-  version ← version_at name
-  length ← number_at w32 version
-  Ok length.0
-
--- how many bytes stand before the digest, in a file of so many bytes whose head says so many
-unfoldable pub before_of : ℕ → ℕ → Result ℕ BoxFault
-before_of size told =
-    if nat_lt size told then Err (fault.Short size)
-    else if nat_lt told size then Err (fault.Trailing told)
-    else if nat_lt size 16 then Err (fault.Short size)
-    else Ok (size - 16)
-
--- how many bytes stand before the digest
-unfoldable pub before : List ℕ → Result ℕ BoxFault
-before bytes = told bytes >>= λ length_told. before_of (length bytes) length_told
-
--- the digest that is stored after so many bytes
-abbrev pub stored : ℕ → List ℕ → List ℕ
-stored count bytes = drop count bytes
-
--- the digest that is found of so many bytes
-abbrev pub found : ℕ → List ℕ → List ℕ
-found count bytes = md5 (take count bytes)
-
--- the bytes before the digest, where it is theirs
-unfoldable pub signed : List ℕ → Result (List ℕ) BoxFault
-signed bytes = do
-  count ← before bytes
-  unless (bytes_eq (stored count bytes) (found count bytes)) (fault.Digest (stored count bytes) (found count bytes)) (take count bytes)
+abbrev pub box_field : ℕ → BoxFault
+box_field at = fault.Field at
 
 -- the fault of a configuration as that of its container
 abbrev pub config_fault : XmcFault → BoxFault
@@ -112,25 +78,25 @@ as_image id (Err told_fault) = Err (image_fault id told_fault)
 
 -- the length of the configuration, after the 10 bytes of name, version and length. A file so short that its head and its digest overlap never has the digest of its other bytes, so what is said here of fewer than 10 bytes is reported for no file
 unfoldable pub length_at : Place → Result (ℕ × Place) BoxFault
-length_at place = number_at w32 (past 10 place)
+length_at place = number_at box_short w32 (past 10 place)
 
--- the configuration
-unfoldable pub conf_at : Place → Result (Conf × Place) BoxFault
-conf_at place = do
+-- the configuration, which is of the same version
+unfoldable pub conf_at : Version → Place → Result (Conf × Place) BoxFault
+conf_at v place = do
   count ← length_at place
-  bytes ← bytes_at count.0 count.1
-  conf ← as_config (read_of bytes.0)
+  bytes ← field_bytes box_short count.0 count.1
+  conf ← as_config (read_as v bytes.0)
   Ok (conf, bytes.1)
 
 -- the number of an image's partition, which is not below the floor
 unfoldable pub id_at : ℕ → Place → Result (ℕ × Place) BoxFault
-id_at floor place = listed_at w8 (λ id. nat_le floor id) place
+id_at floor place = listed_at box_short box_field w8 (λ id. nat_le floor id) place
 
 -- an image, by its length and its bytes
 unfoldable pub image_at : ℕ → Place → Result (Image × Place) BoxFault
 image_at id place = do
-  count ← number_at w32 place
-  bytes ← bytes_at count.0 count.1
+  count ← number_at box_short w32 place
+  bytes ← field_bytes box_short count.0 count.1
   image ← as_image id (xef bytes.0)
   Ok (image, bytes.1)
 
@@ -156,13 +122,13 @@ image_entries_at (suc count) floor place = do
 -- the images after their number
 unfoldable pub image_table_at : Place → Result (Entries × Place) BoxFault
 image_table_at place = do
-  count ← number_at w8 place
+  count ← number_at box_short w8 place
   image_entries_at count.0 0 count.1
 
 -- the configuration and the images of the bytes before the digest, and nothing after them
-unfoldable pub container_fields : List ℕ → Result (Conf × Entries) BoxFault
-container_fields bytes = do
-  conf ← conf_at (cursor_start bytes)
+unfoldable pub container_fields : Version → List ℕ → Result (Conf × Entries) BoxFault
+container_fields v bytes = do
+  conf ← conf_at v (cursor_start bytes)
   entries ← image_table_at conf.1
   unless (left entries.1 == 0) (fault.Trailing entries.1.at) (conf.0, entries.0)
 
@@ -179,24 +145,24 @@ assigned conf entries =
     (unless_some (λ outside. fault.Outside outside.id outside.address) (first_outside conf.parts entries.images)
     (Ok (record { conf = conf; images = entries.images }))))
 
+-- a version where there is one; else its number is at fault
+abbrev pub or_container_version : ℕ → Option Version → Result Version BoxFault
+or_container_version number None = Err (fault.Version number)
+or_container_version number (Some v) = Ok v
+
+-- the version of the bytes before the digest
+unfoldable pub version_in : List ℕ → Result Version BoxFault
+version_in bytes = do
+  number ← stated_version box_faults (codes "XMPK") 2 bytes
+  or_container_version number (version_numbered number)
+
 -- the system of the bytes before the digest
 unfoldable pub system_in : List ℕ → Result System BoxFault
 system_in bytes = do
-  fields ← container_fields bytes
+  version ← version_in bytes
+  fields ← container_fields version bytes
   assigned fields.0 fields.1
 
 -- the system of a container, or its first fault
 unfoldable pub unpacked : List ℕ → Result System BoxFault
-unpacked bytes = signed bytes >>= system_in
-
--- the digest that is stored at the end of a container is not the one that is found; the head and the length are right
-pub record IsForged (bytes stored_digest found_digest : List ℕ) : Type 0 where
-  pub count : ℕ
-  pub before : before bytes ≡ Ok count
-  pub stored : stored_digest ≡ stored count bytes
-  pub found : found_digest ≡ found count bytes
-  pub differ : stored_digest ≢ found_digest
-
--- the two digests are reported exactly where they differ
-abbrev pub TellsDigests : {X : Type 0} → List ℕ → Result X BoxFault → Type 0
-TellsDigests {X} bytes result = (s f : List ℕ) → (result ≡ Err (fault.Digest s f)) ↔ IsForged bytes s f
+unpacked bytes = unsealed box_faults (codes "XMPK") 2 bytes >>= system_in

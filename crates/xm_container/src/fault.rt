@@ -2,6 +2,7 @@
 
 use crate::digits::{address_digits, digest_digits, text};
 use bin_config::XmcFault;
+use sealed_files::HeadFault;
 use std::alloc::{AllocError, AllocFailed};
 use std::fmt;
 use xef_images::XefFault;
@@ -124,6 +125,23 @@ impl fmt::Display for BoxFault {
                 write!(f, "outside id={id} address={address}")
             }
             BoxFault::Memory => f.write_str("memory"),
+        }
+    }
+}
+
+impl From<HeadFault> for BoxFault {
+    ghost use Rattle.std.specs.Prelude.{◌≡◌};
+    ghost use Rattle.xm_container.specs.Reading.{box_fault};
+
+    ghost from_gives = { λ head made. made ≡ box_fault head };
+
+    fn from(head: HeadFault) -> BoxFault {
+        match head {
+            HeadFault::Magic => BoxFault::Magic,
+            HeadFault::Version { found } => BoxFault::Version { found },
+            HeadFault::Short { at } => BoxFault::Short { at },
+            HeadFault::Trailing { at } => BoxFault::Trailing { at },
+            HeadFault::Digest { stored, found } => BoxFault::Digest { stored, found },
         }
     }
 }

@@ -1,24 +1,28 @@
 //! The reading of a container.
 
-ghost use Rattle.std.specs.Prelude.{◌≡◌, ◌+◌, ◌≤◌, IfOk, Ok, length};
+ghost use Rattle.std.specs.Prelude.{◌≡◌, ◌≤◌, IfOk, Ok, codes, length};
 ghost use Rattle.std.specs.Int.{w8, w16, w32};
-ghost use Rattle.bin_config.specs.Reading.{read_of};
+ghost use Rattle.bin_config.specs.Reading.{read_as};
+ghost use Rattle.bin_config.specs.declared.version.Version.{Version as AVersion};
 ghost use Rattle.xef_images.specs.Reading.{xef};
 ghost use Rattle.xm_base.specs.Cursor.{left};
 ghost use Rattle.loaded_system.specs.System.{System as Meaning};
+ghost use Rattle.sealed_files.specs.Gives.{Gives, GivesAt, IsRead, IsReadAt};
+ghost use Rattle.sealed_files.specs.Heads.{ReportsDigests, stated_version, unsealed};
+ghost use Rattle.xm_conf.specs.Limits.{most_parts};
 ghost use Rattle.xm_container.specs.Box.{IsSpelledContainer};
 ghost use Rattle.xm_container.specs.Entries.{AreEntries};
-ghost use Rattle.xm_container.specs.Gives.{Gives, GivesAt, IsRead, IsReadAt};
-ghost use Rattle.xm_container.specs.Reading.{as_config, as_image, assigned, before, before_of, conf_at, config_fault, image_entries_at, image_entry_at, container_fields, id_at, image_at, image_fault, length_at, magic_at, number_at, signed, system_in, image_table_at, told, unpacked, version_at, TellsDigests};
+ghost use Rattle.xm_container.specs.Gives.{Fails};
+ghost use Rattle.xm_container.specs.Reading.{as_config, as_image, assigned, conf_at, config_fault, image_entries_at, image_entry_at, container_fields, id_at, image_at, image_fault, length_at, system_in, image_table_at, unpacked, version_in, box_faults};
 
 use crate::entries::Entries;
 use crate::fault::BoxFault;
 use crate::image::Image;
 use crate::law::{packed_is_unpacked, unpacked_is_packed};
 use crate::numbers::{extra, missing};
-use bin_config::{XmcFault, read_xmc};
+use bin_config::{Version, XmcFault, read_version};
 use loaded_system::System;
-use md5::{DIGEST_LEN, Digest, Md5};
+use sealed_files::{stated_version, unsealed};
 use std::alloc::Global;
 use xef_images::{Xef, XefFault, read_xef};
 use xm_base::Cursor;
@@ -27,83 +31,14 @@ use xm_conf::Conf;
 /// The bytes of name, version and length.
 const LEAD: usize = 10;
 
-/// The name of the format.
-#[tactic(auto, unfolding(crate::specs::Reading::magic_at))]
-fn magic(cursor: &mut Cursor<'_>) -> Result<(), BoxFault>
-    ensures { IsRead (λ _. cursor.new) result (magic_at cursor.old) }
-{
-    if cursor.take(4)? != b"XMPK".as_slice() {
-        return Err(BoxFault::Magic);
-    }
-    Ok(())
-}
-
-/// The version.
-#[tactic(auto, unfolding(crate::specs::Reading::version_at))]
-fn version(cursor: &mut Cursor<'_>) -> Result<(), BoxFault>
-    ensures { IsRead (λ _. cursor.new) result (version_at cursor.old) }
-{
-    let found = cursor.u16()?;
-    if found != 1 {
-        return Err(BoxFault::Version { found });
-    }
-    Ok(())
-}
-
-/// The length that stands in the head.
-#[tactic(auto, unfolding(crate::specs::Reading::told))]
-fn told(bytes: &[u8]) -> Result<u32, BoxFault>
-    ensures { IsRead (λ length. length) result (told bytes.now) }
-{
-    let mut cursor = Cursor::new(bytes);
-    magic(&mut cursor)?;
-    version(&mut cursor)?;
-    Ok(cursor.u32()?)
-}
-
-/// How many bytes stand before the digest, in a file of so many bytes whose head says so many.
-#[tactic(auto, unfolding(crate::specs::Reading::before_of))]
-fn before_of(size: usize, told: usize) -> Result<usize, BoxFault>
-    ensures value { result ≡ before_of size told }
-    ensures within { IfOk result (λ count. count + 16 ≡ size) }
-{
-    if size < told {
-        return Err(BoxFault::Short { at: size });
-    }
-    if told < size {
-        return Err(BoxFault::Trailing { at: told });
-    }
-    if size < DIGEST_LEN {
-        return Err(BoxFault::Short { at: size });
-    }
-    Ok(size - DIGEST_LEN)
-}
-
-/// How many bytes stand before the digest.
-#[tactic(auto, unfolding(crate::specs::Reading::before))]
-fn before(bytes: &[u8]) -> Result<usize, BoxFault>
-    ensures value { IsRead (λ count. count) result (before bytes.now) }
-    ensures within { IfOk result (λ count. count + 16 ≡ length bytes.now) }
-{
-    let told = told(bytes)?;
-    before_of(bytes.len(), told as usize)
-}
+/// The number of the latest version.
+const LATEST: u16 = 2;
 
 /// The bytes before the digest, where it is theirs.
-#[tactic(auto, unfolding(crate::specs::Reading::signed))]
-fn signed(bytes: &[u8]) -> Result<&[u8], BoxFault>
-    ensures { IsRead (λ front. front.now) result (signed bytes.now) }
+fn unsealed_box(bytes: &[u8]) -> Result<&[u8], BoxFault>
+    ensures { IsRead (λ front. front.now) result (unsealed box_faults (codes "XMPK") 2 bytes.now) }
 {
-    let count = before(bytes)?;
-    let (front, stored) = bytes.split_at(count);
-    let Ok(stored) = <[u8; DIGEST_LEN]>::try_from(stored) else {
-        unreachable!();
-    };
-    let found = Md5::digest(front);
-    if stored != found {
-        return Err(BoxFault::Digest { stored, found });
-    }
-    Ok(front)
+    Ok(unsealed(bytes, *b"XMPK", LATEST)?)
 }
 
 /// The fault of a configuration as that of its container.
@@ -121,12 +56,12 @@ fn config_fault(fault: XmcFault) -> BoxFault
     }
 }
 
-/// The configuration that these bytes are.
+/// The configuration that these bytes are in the container's version.
 #[tactic(auto, using(crate::proofs::FaultLemmas::config_fails))]
-fn config(alloc: Global, bytes: &[u8]) -> Result<Conf, BoxFault>
-    ensures { Gives (λ conf. conf) result (as_config (read_of bytes.now)) }
+fn config(alloc: Global, version: Version, bytes: &[u8]) -> Result<Conf, BoxFault>
+    ensures { Gives Fails (λ conf. conf) result (as_config (read_as version bytes.now)) }
 {
-    match read_xmc(alloc, bytes) {
+    match read_version(alloc, version, bytes) {
         Ok(conf) => Ok(conf),
         Err(fault) => Err(config_fault(fault)),
     }
@@ -168,7 +103,7 @@ fn image_fault(id: u8, fault: XefFault) -> BoxFault
 /// The image that these bytes are.
 #[tactic(auto, using(crate::proofs::FaultLemmas::image_fails))]
 fn xef_of(alloc: Global, id: u8, bytes: &[u8]) -> Result<Xef, BoxFault>
-    ensures { Gives (λ image. image) result (as_image id (xef bytes.now)) }
+    ensures { Gives Fails (λ image. image) result (as_image id (xef bytes.now)) }
 {
     match read_xef(alloc, bytes) {
         Ok(image) => Ok(image),
@@ -188,15 +123,15 @@ fn conf_length(cursor: &mut Cursor<'_>) -> Result<u32, BoxFault>
     }
 }
 
-/// The configuration.
+/// The configuration, which is of the container's version.
 #[tactic(auto, unfolding(crate::specs::Reading::conf_at))]
-fn conf(alloc: Global, cursor: &mut Cursor<'_>) -> Result<Conf, BoxFault>
+fn conf(alloc: Global, version: Version, cursor: &mut Cursor<'_>) -> Result<Conf, BoxFault>
     requires { cursor.old.at ≡ 0 }
-    ensures { GivesAt (λ conf. conf) result cursor.new (conf_at cursor.old) }
+    ensures { GivesAt Fails (λ conf. conf) result cursor.new (conf_at version cursor.old) }
 {
     let count = conf_length(cursor)?;
     let bytes = cursor.take(count as usize)?;
-    config(alloc, bytes)
+    config(alloc, version, bytes)
 }
 
 /// The number of an image's partition, which is not below the floor.
@@ -215,7 +150,7 @@ fn id(cursor: &mut Cursor<'_>, floor: u16) -> Result<u8, BoxFault>
 /// An image, by its length and its bytes.
 #[tactic(auto, unfolding(crate::specs::Reading::image_at))]
 fn image(alloc: Global, cursor: &mut Cursor<'_>, id: u8) -> Result<Xef, BoxFault>
-    ensures { GivesAt (λ image. image) result cursor.new (image_at id cursor.old) }
+    ensures { GivesAt Fails (λ image. image) result cursor.new (image_at id cursor.old) }
 {
     let count = cursor.u32()?;
     let bytes = cursor.take(count as usize)?;
@@ -225,7 +160,7 @@ fn image(alloc: Global, cursor: &mut Cursor<'_>, id: u8) -> Result<Xef, BoxFault
 /// An image with the number of its partition.
 #[tactic(auto, unfolding(crate::specs::Reading::image_entry_at))]
 fn entry(alloc: Global, cursor: &mut Cursor<'_>, floor: u16) -> Result<Image, BoxFault>
-    ensures { GivesAt (λ entry. entry) result cursor.new (image_entry_at floor cursor.old) }
+    ensures { GivesAt Fails (λ entry. entry) result cursor.new (image_entry_at floor cursor.old) }
 {
     let id = id(cursor, floor)?;
     let xef = image(alloc, cursor, id)?;
@@ -234,7 +169,7 @@ fn entry(alloc: Global, cursor: &mut Cursor<'_>, floor: u16) -> Result<Image, Bo
 
 /// So many images, each with a number above that of the one before it.
 fn entries(alloc: Global, cursor: &mut Cursor<'_>, count: u8) -> Result<Entries, BoxFault>
-    ensures exact { GivesAt (λ entries. entries) result cursor.new (image_entries_at count 0 cursor.old) }
+    ensures exact { GivesAt Fails (λ entries. entries) result cursor.new (image_entries_at count 0 cursor.old) }
     ensures entries { IfOk result AreEntries }
 {
     let mut ids = Vec::new(alloc);
@@ -252,7 +187,7 @@ fn entries(alloc: Global, cursor: &mut Cursor<'_>, count: u8) -> Result<Entries,
 /// The images after their number.
 #[tactic(auto, unfolding(crate::specs::Reading::image_table_at))]
 fn table(alloc: Global, cursor: &mut Cursor<'_>) -> Result<Entries, BoxFault>
-    ensures exact { GivesAt (λ entries. entries) result cursor.new (image_table_at cursor.old) }
+    ensures exact { GivesAt Fails (λ entries. entries) result cursor.new (image_table_at cursor.old) }
     ensures entries { IfOk result AreEntries }
 {
     let count = cursor.u8()?;
@@ -261,12 +196,12 @@ fn table(alloc: Global, cursor: &mut Cursor<'_>) -> Result<Entries, BoxFault>
 
 /// The configuration and the images of the bytes before the digest.
 #[tactic(auto, unfolding(crate::specs::Reading::container_fields))]
-fn fields(alloc: Global, bytes: &[u8]) -> Result<(Conf, Entries), BoxFault>
-    ensures exact { Gives (λ fields. (fields.0, fields.1)) result (container_fields bytes.now) }
+fn fields(alloc: Global, version: Version, bytes: &[u8]) -> Result<(Conf, Entries), BoxFault>
+    ensures exact { Gives Fails (λ fields. (fields.0, fields.1)) result (container_fields version bytes.now) }
     ensures entries { IfOk result (λ fields. AreEntries fields.1) }
 {
     let mut cursor = Cursor::new(bytes);
-    let conf = conf(alloc, &mut cursor)?;
+    let conf = conf(alloc, version, &mut cursor)?;
     let entries = table(alloc, &mut cursor)?;
     if cursor.left() > 0 {
         return Err(BoxFault::Trailing { at: cursor.at() });
@@ -301,40 +236,60 @@ fn assigned(conf: Conf, entries: Entries) -> Result<System, BoxFault>
 #[tactic(auto, unfolding(xm_conf::specs::Description::described))]
 fn count_of(conf: &Conf) -> usize
     ensures value { result ≡ length conf.now.parts }
-    ensures few { result ≤ 16 }
+    ensures few { result ≤ most_parts }
 {
     conf.raw().parts.len()
+}
+
+/// The number of the version of the bytes before the digest.
+fn found_version(bytes: &[u8]) -> Result<u16, BoxFault>
+    ensures { IsRead (λ found. found) result (stated_version box_faults (codes "XMPK") 2 bytes.now) }
+{
+    Ok(stated_version(bytes, *b"XMPK", LATEST)?)
+}
+
+/// The version of the bytes before the digest.
+#[tactic(auto, unfolding(crate::specs::Reading::version_in))]
+fn version_in(bytes: &[u8]) -> Result<Version, BoxFault>
+    ensures { IsRead (λ version. version) result (version_in bytes.now) }
+{
+    let found = found_version(bytes)?;
+    match Version::numbered(found) {
+        Some(version) => Ok(version),
+        None => Err(BoxFault::Version { found }),
+    }
 }
 
 /// The system of the bytes before the digest.
 #[tactic(auto, unfolding(crate::specs::Reading::system_in))]
 fn system(alloc: Global, bytes: &[u8]) -> Result<System, BoxFault>
-    ensures { Gives (λ system. system) result (system_in bytes.now) }
+    ensures { Gives Fails (λ system. system) result (system_in bytes.now) }
 {
-    let (conf, entries) = fields(alloc, bytes)?;
+    let version = version_in(bytes)?;
+    let (conf, entries) = fields(alloc, version, bytes)?;
     assigned(conf, entries)
 }
 
 /// The system of a container.
 #[tactic(auto, unfolding(crate::specs::Reading::unpacked))]
 fn whole(alloc: Global, bytes: &[u8]) -> Result<System, BoxFault>
-    ensures exact { Gives (λ system. system) result (unpacked bytes.now) }
-    ensures digest { TellsDigests bytes.now result }
+    ensures exact { Gives Fails (λ system. system) result (unpacked bytes.now) }
+    ensures digest { ReportsDigests box_faults (codes "XMPK") 2 bytes.now result }
 {
-    let front = signed(bytes)?;
+    let front = unsealed_box(bytes)?;
     system(alloc, front)
 }
 
 /// Reads a container: the system that it spells, or its first fault.
 pub fn unpack(alloc: Global, bytes: &[u8]) -> Result<System, BoxFault>
-    // What is unpacked is the system whose container the bytes are.
-    ensures found { IfOk result (IsSpelledContainer bytes.now) }
+    // What is unpacked is the system whose container the bytes are, in one of the versions.
+    ensures found { IfOk result (λ system. (v : AVersion) × IsSpelledContainer v bytes.now system) }
     // The system whose container the bytes are is unpacked, unless out of memory.
-    ensures only { (system : Meaning) → IsSpelledContainer bytes.now system → Gives (λ found. found) result (Ok system) }
+    ensures only { (v : AVersion) (system : Meaning) → IsSpelledContainer v bytes.now system → Gives Fails (λ found. found) result (Ok system) }
     // A fault is the first one.
-    ensures exact { Gives (λ found. found) result (unpacked bytes.now) }
+    ensures exact { Gives Fails (λ found. found) result (unpacked bytes.now) }
     // Two digests are reported exactly where they differ.
-    ensures digest { TellsDigests bytes.now result }
+    ensures digest { ReportsDigests box_faults (codes "XMPK") 2 bytes.now result }
 {
     packed_is_unpacked();
     unpacked_is_packed();

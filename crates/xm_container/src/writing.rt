@@ -10,13 +10,15 @@ ghost use Rattle.xm_container.specs.Pack.{Packs, partition_numbers, image_of, in
 ghost use Rattle.xm_container.specs.Reading.{unpacked};
 ghost use Rattle.xm_conf.specs.Description.{described};
 ghost use Rattle.xm_conf.specs.Fits.{Fits};
+ghost use Rattle.xm_conf.specs.Limits.{most_parts};
+ghost use Rattle.bin_config.specs.declared.version.Version.TheVariants.{Two};
 
 use crate::fault::PackFault;
 use crate::image::Image;
 use crate::law::packed_is_unpacked;
 use crate::numbers::{extra, missing};
 use crate::put::{put_half, put_sized, put_word};
-use bin_config::write_xmc;
+use bin_config::{Version, write_xmc};
 use loaded_system::{Outside, outside_of};
 use md5::{Digest, Md5};
 use std::alloc::Global;
@@ -64,7 +66,7 @@ fn image_at(images: &[Image], id: usize, parts: usize) -> &Xef
 
 /// The first segment of the images that lies inside no area of its partition.
 fn first_outside(parts: &[Part], images: &[Image]) -> Option<Outside>
-    requires few { length parts.now ≤ 16 }
+    requires few { length parts.now ≤ most_parts }
     requires complete { missing_of (length parts.now) (partition_numbers images.now) ≡ None }
     ensures value { result ≡ first_outside_of parts.now (in_order images.now 0 (length parts.now)) }
     ensures images { IsNone result → All IsImage (in_order images.now 0 (length parts.now)) }
@@ -98,7 +100,7 @@ fn put_entries(
     parts: usize,
     images: &[Image],
 ) -> Result<(), Memory>
-    requires few { parts ≤ 16 }
+    requires few { parts ≤ most_parts }
     requires complete { missing_of parts (partition_numbers images.now) ≡ None }
     ensures { OnOk result (out.new.items ≡ out.old.items ++ entries_text 0 (in_order images.now 0 parts)) }
 {
@@ -111,9 +113,9 @@ fn put_entries(
 /// The fields of a container.
 fn fields(alloc: Global, conf: &Conf, parts: usize, images: &[Image]) -> Result<Vec<u8>, Memory>
     requires parts { parts ≡ length conf.now.parts }
-    requires few { parts ≤ 16 }
+    requires few { parts ≤ most_parts }
     requires complete { missing_of parts (partition_numbers images.now) ≡ None }
-    ensures value { IfOk result (λ fields. fields.items ≡ fields_text (system_of conf.now images.now)) }
+    ensures value { IfOk result (λ fields. fields.items ≡ fields_text Two (system_of conf.now images.now)) }
     ensures ranges { OnOk result (HasConfRanges conf.now) }
 {
     let xmc = write_xmc(alloc, conf)?;
@@ -128,11 +130,11 @@ fn fields(alloc: Global, conf: &Conf, parts: usize, images: &[Image]) -> Result<
 #[tactic(auto, unfolding(crate::specs::Box::front_text))]
 fn front(alloc: Global, total: u32, fields: &[u8]) -> Result<Vec<u8>, Memory>
     requires { total ≡ 26 + length fields.now }
-    ensures { IfOk result (λ front. front.items ≡ front_text fields.now) }
+    ensures { IfOk result (λ front. front.items ≡ front_text Two fields.now) }
 {
     let mut front = Vec::new(alloc);
     front.extend_from_slice(b"XMPK")?;
-    put_half(&mut front, 1)?;
+    put_half(&mut front, Version::Two.number())?;
     put_word(&mut front, total)?;
     front.extend_from_slice(fields)?;
     Ok(front)
@@ -155,7 +157,7 @@ fn sealed(alloc: Global, fields: &[u8]) -> Result<Vec<u8>, PackFault>
     Ok(bytes)
 }
 
-/// The container of a configuration and an image for each of its partitions, in any order. Refused in this order: an
+/// The container, of version 2, of a configuration and an image for each of its partitions, in any order. Refused in this order: an
 /// image whose number is no partition's, the smallest; a partition without an image, the smallest; a segment that
 /// lies inside no area of its partition, the first one of the smallest partition; more bytes than `FILE_BYTES`. Of two
 /// images of one number the first one counts.
@@ -188,7 +190,7 @@ pub fn pack(alloc: Global, conf: &Conf, images: &[Image]) -> Result<Vec<u8>, Pac
 #[tactic(auto, unfolding(xm_conf::specs::Description::described))]
 fn parts(conf: &Conf) -> &[Part]
     ensures value { result.now ≡ conf.now.parts }
-    ensures few { length result.now ≤ 16 }
+    ensures few { length result.now ≤ most_parts }
     ensures fits { Fits (described conf.now) }
 {
     &conf.raw().parts

@@ -1,11 +1,9 @@
 use Rattle.std.proofs.Common.{rules, arith}
-use Rattle.bin_config.specs.Reading as reading
 use Rattle.bin_config.proofs.ReadLemmas.{given_spelled}
 use Rattle.bin_config.proofs.reading.read_xmc.Goals as goal
 
 pub returns-clause-exact : goal.returns-clause-exact
-unfolding reading.read_of
 returns-clause-exact c = search rules
 
 pub returns-clause-spelled : goal.returns-clause-spelled
-returns-clause-spelled c = given_spelled c.read_is_spelled.ensures.law c.args.bytes.now c.unbroken.result (λ i. omega (arith, c.type_inv.bytes i)) (returns-clause-exact c)
+returns-clause-spelled c = given_spelled c.read_is_spelled.ensures.law c.args.bytes.now c.read_within.result (λ i. omega (arith, c.type_inv.bytes i)) (returns-clause-exact c)

@@ -6,4 +6,4 @@ pub returns-clause-found : goal.returns-clause-found
 returns-clause-found c = found_spelled c.unpacked_is_packed.ensures.law c.args.bytes.now c.whole.result (λ i. omega (arith, c.type_inv.bytes i)) c.whole.ensures.exact
 
 pub returns-clause-only : goal.returns-clause-only
-returns-clause-only c = λ system spelled. only_spelled c.packed_is_unpacked.ensures.law c.args.bytes.now system c.whole.result spelled c.whole.ensures.exact
+returns-clause-only c = λ v system spelled. only_spelled c.packed_is_unpacked.ensures.law v c.args.bytes.now system c.whole.result spelled c.whole.ensures.exact

@@ -1,0 +1,14 @@
+use Rattle.std.proofs.Common.{codes}
+use Rattle.std.proofs.lemmas.Result.{err_from_is_err_and}
+use Rattle.sealed_files.specs.Known.{head_faults}
+use Rattle.sealed_files.specs.LiftedLemmas.{refused_so, unsealed_so}
+use Rattle.xm_container.specs.Reading.{box_fault}
+use Rattle.xm_container.proofs.reading.unsealed_box.Goals as goal
+
+pub returns-in_err-unsealed : goal.returns-in_err-unsealed
+returns-in_err-unsealed c =
+    let p = err_from_is_err_and c.from_residual.result c.from_residual.ensures.1 in
+    rw (p.1, p.2) (refused_so box_fault head_faults (codes "XMPK") 2 c.args.bytes.now c.in_err-unsealed.field-0.0 c.in_err-unsealed.ensures.value)
+
+pub returns : goal.returns
+returns c = unsealed_so box_fault head_faults (codes "XMPK") 2 c.args.bytes.now c.in_ok-unsealed.field-0.now c.in_ok-unsealed.ensures.value
