@@ -8,7 +8,8 @@ use Rattle.xm_conf.specs.Configuration.{Plan}
 use Rattle.xm_conf.specs.Description.{described, ids_of, event_numbered, monitor_of}
 use Rattle.xm_conf.specs.Fits.{Fits, HasIds, HasSome, InFrame, InTurn, IsTime}
 use Rattle.xm_conf.specs.Laws.{IsBrokenUnlessFits}
-use Rattle.xm_conf.specs.Rules.{page, addresses, most_memory, longest, has_some, plan_counts, part_counts, dest_counts, chan_counts, list_counts, rule_1, plan_misplaced, rule_2, part_names, rule_3, is_paged, is_region, unsized_region, rule_4, overlaps, rule_5, rule_6, unsized_area, unsized_areas, rule_7, has_area, outside_area, outside_areas, rule_8, part_stretches, stretches, rule_9, part_size, rule_10, is_time, in_frame, late_slot, frame_broken, rule_11, early_slot, early_slots, rule_12, stray_slot, stray_slots, rule_13, no_console, rule_14, is_kind, unfit_chan, rule_15, port_at, stray_end, stray_dest, stray_ends, rule_16, wrong_end, wrong_dest, wrong_ends, rule_17, same_end, chan_ends, rule_18, same_event, answer_broken, monitor_broken, rule_19, unfit_need, rule_20, memory_rules, plan_rules, chan_rules, all_broken, first_broken}
+use Rattle.xm_conf.specs.Limits.{most_parts}
+use Rattle.xm_conf.specs.Rules.{page, addresses, most_memory, longest, has_some, plan_counts, part_counts, dest_counts, chan_counts, list_counts, rule_1, plan_misplaced, rule_2, part_names, rule_3, is_paged, is_region, unsized_region, rule_4, overlaps, rule_5, rule_6, unsized_area, unsized_areas, rule_7, has_area, outside_area, outside_areas, rule_8, part_stretches, stretches, rule_9, part_size, rule_10, is_time, in_frame, late_slot, frame_broken, rule_11, early_slot, early_slots, rule_12, stray_slot, stray_slots, rule_13, no_console, rule_14, is_kind, unfit_chan, rule_15, port_at, stray_end, stray_dest, stray_ends, rule_16, wrong_end, wrong_dest, wrong_ends, rule_17, same_end, chan_ends, rule_18, same_event, answer_broken, monitor_broken, rule_19, unfit_need, rule_20, is_link, unfit_link, rule_21, same_link, rule_22, memory_rules, plan_rules, chan_rules, link_rules, all_broken, first_broken}
 use Rattle.xm_conf.specs.declared.plan.Slot.{Slot}
 use Rattle.generated_system.specs.Generated.{all_chans, all_parts, area_start, chan_of, generated_conf, conf_with, drawn, numbered, generated_part, generated_plan, port_name, slot_drawn, generated_slot, generated_slots, generated_way}
 
@@ -17,12 +18,12 @@ unfoldable even_slots : List Slot
 even_slots = numbered (λ i. slot_drawn i 0) 16
 
 -- with these slots no rule is broken
-even_unbroken : first_broken (described (conf_with even_slots)) ≡ None
-unfolding digits even_slots slot_drawn conf_with generated_plan all_parts all_chans generated_part chan_of port_name generated_way area_start described ids_of event_numbered monitor_of page addresses most_memory longest has_some plan_counts part_counts dest_counts chan_counts list_counts rule_1 plan_misplaced rule_2 part_names rule_3 is_paged is_region unsized_region rule_4 overlaps rule_5 rule_6 unsized_area unsized_areas rule_7 has_area outside_area outside_areas rule_8 part_stretches stretches rule_9 part_size rule_10 is_time in_frame late_slot frame_broken rule_11 early_slot early_slots rule_12 stray_slot stray_slots rule_13 no_console rule_14 is_kind unfit_chan rule_15 port_at stray_end stray_dest stray_ends rule_16 wrong_end wrong_dest wrong_ends rule_17 same_end chan_ends rule_18 same_event answer_broken monitor_broken rule_19 unfit_need rule_20 memory_rules plan_rules chan_rules all_broken first_broken
+even_unbroken : first_broken most_parts (described (conf_with even_slots)) ≡ None
+unfolding digits even_slots slot_drawn conf_with generated_plan all_parts all_chans generated_part chan_of port_name generated_way area_start described ids_of event_numbered monitor_of page addresses most_memory longest has_some plan_counts part_counts dest_counts chan_counts list_counts rule_1 plan_misplaced rule_2 part_names rule_3 is_paged is_region unsized_region rule_4 overlaps rule_5 rule_6 unsized_area unsized_areas rule_7 has_area outside_area outside_areas rule_8 part_stretches stretches rule_9 part_size rule_10 is_time in_frame late_slot frame_broken rule_11 early_slot early_slots rule_12 stray_slot stray_slots rule_13 no_console rule_14 is_kind unfit_chan rule_15 port_at stray_end stray_dest stray_ends rule_16 wrong_end wrong_dest wrong_ends rule_17 same_end chan_ends rule_18 same_event answer_broken monitor_broken rule_19 unfit_need rule_20 is_link unfit_link rule_21 same_link rule_22 memory_rules plan_rules chan_rules link_rules all_broken first_broken
 even_unbroken = refl
 
 even_fits : IsBrokenUnlessFits → Fits (described (conf_with even_slots))
-even_fits law = (law (described (conf_with even_slots))).0 even_unbroken
+even_fits law = (law most_parts (described (conf_with even_slots))).0 even_unbroken
 
 -- the ids are the same, whatever the durations
 same_ids : (number : ℕ) → ids_of (generated_conf number) ≡ ids_of (conf_with even_slots)
@@ -96,6 +97,7 @@ generated_fits law number =
         ports = even.counts.ports;
         chans = even.counts.chans;
         dests = even.counts.dests;
+        links = even.counts.links;
       };
       ids = subst (λ ids. HasIds ids) (sym (same_ids number)) even.ids;
       names = record { uarts = even.names.uarts; parts = even.names.parts; ports = even.names.ports };
@@ -117,4 +119,6 @@ generated_fits law number =
       ends_differ = even.ends_differ;
       answers = even.answers;
       needs = even.needs;
+      links_suit = even.links_suit;
+      links_differ = even.links_differ;
     }

@@ -6,6 +6,7 @@ use Rattle.std.specs.Int.{to_be_bytes, w32}
 use Rattle.std.specs.List.{list_all}
 use Rattle.std.proofs.lemmas.Bool.{and_parts}
 use Rattle.bin_config.specs.Xmc.{action, area_record, belongings, body, chan, end, head, identity, monitor, part_record, plan_record, port_record, region_record, slot_record, text_field, xmc}
+use Rattle.bin_config.specs.declared.version.Version.TheVariants.{Two}
 use Rattle.xm_base.specs.declared.limits.TheConstants.{FILE_BYTES}
 use Rattle.xm_conf.specs.NameLemmas.{Decides-nat_le}
 use Rattle.xef_images.specs.Image.{Image, xef_length}
@@ -15,7 +16,7 @@ use Rattle.xm_container.specs.Box.{box_length, entries_text, image_entry_text, f
 use Rattle.generated_system.specs.Generated.{all_chans, all_images, all_parts, area_start, image_bytes, chan_of, generated_conf, conf_with, first_word, generated, generated_image, generated_part, generated_plan, port_name, program_of, receiving_code, sending_code, slot_drawn, generated_slots, generated_way}
 
 -- the binary configuration is as long whatever the durations are
-length-xmc : (number : ℕ) → length (xmc (generated_conf number)) ≡ 994
+length-xmc : (number : ℕ) → length (xmc Two (generated_conf number)) ≡ 995
 unfolding digits xmc head body text_field region_record slot_record plan_record action monitor area_record port_record identity belongings part_record end chan generated_conf conf_with generated_plan generated_slots slot_drawn all_parts all_chans generated_part chan_of port_name generated_way area_start
 length-xmc number = refl
 
@@ -52,13 +53,13 @@ unfolding all_images
 length-all_images = refl
 
 -- the container is not too long
-pub fields_short : (number : ℕ) → box_length (fields_text (generated number)) ≤ FILE_BYTES
+pub fields_short : (number : ℕ) → box_length (fields_text Two (generated number)) ≤ FILE_BYTES
 unfolding fields_text sized_text generated
 fields_short number =
     omega (
       arith,
-      length-append (to_be_bytes w32 (length (xmc (generated_conf number))) ++ xmc (generated_conf number)) (length all_images ∷ entries_text 0 all_images),
-      length-append (to_be_bytes w32 (length (xmc (generated_conf number)))) (xmc (generated_conf number)),
+      length-append (to_be_bytes w32 (length (xmc Two (generated_conf number))) ++ xmc Two (generated_conf number)) (length all_images ∷ entries_text 0 all_images),
+      length-append (to_be_bytes w32 (length (xmc Two (generated_conf number)))) (xmc Two (generated_conf number)),
       length-xmc number,
       length-entries 0 all_images all_short,
       length-all_images,

@@ -1,6 +1,7 @@
 -- A generated system is packed, and unpacked again.
 use Rattle.std.proofs.Common.{◌≡◌, ℕ, ◌≤◌, true, List, length, None, Result, Ok, Err, refl, ap, subst, ◌∙◌}
 use Rattle.std.specs.Prelude.{nat_le, Vec}
+use Rattle.bin_config.specs.declared.version.Version.TheVariants.{Two}
 use Rattle.xm_base.specs.declared.limits.TheConstants.{FILE_BYTES}
 use Rattle.xm_conf.specs.Configuration.{Conf}
 use Rattle.xm_conf.specs.NameLemmas.{Decides-nat_le}
@@ -43,7 +44,7 @@ unfolding generated_conf conf_with
 parts_are number = refl
 
 -- what is not too long is sealed
-sealed_is : (fields : List ℕ) → box_length fields ≤ FILE_BYTES → sealed fields ≡ Ok (sealed_text fields)
+sealed_is : (fields : List ℕ) → box_length fields ≤ FILE_BYTES → sealed fields ≡ Ok (sealed_text Two fields)
 unfolding sealed
 sealed_is fields short =
     let fits : nat_le (box_length fields) FILE_BYTES ≡ true = (Decides-nat_le (box_length fields) FILE_BYTES).1 short in
@@ -56,12 +57,12 @@ system_is number =
     ap (λ n. record { conf = generated_conf number; images = in_order all_given 0 n }) (length-parts number)
     ∙ ap (λ images. record { conf = generated_conf number; images = images }) in_order_is
 
-packed_so : (number : ℕ) → packed (generated_conf number) all_given ≡ Ok (box_text (generated number))
+packed_so : (number : ℕ) → packed (generated_conf number) all_given ≡ Ok (box_text Two (generated number))
 unfolding packed box_text
 packed_so number =
-    rw (system_is number, length-parts number, none_extra, none_missing, in_order_is, parts_are number, none_outside) (sealed_is (fields_text (generated number)) (fields_short number))
+    rw (system_is number, length-parts number, none_extra, none_missing, in_order_is, parts_are number, none_outside) (sealed_is (fields_text Two (generated number)) (fields_short number))
 
-pub packed_is : (number : ℕ) (conf : Conf) (images : List Image) → conf ≡ generated_conf number → images ≡ all_given → packed conf images ≡ Ok (box_text (generated number))
+pub packed_is : (number : ℕ) (conf : Conf) (images : List Image) → conf ≡ generated_conf number → images ≡ all_given → packed conf images ≡ Ok (box_text Two (generated number))
 packed_is number conf images conf_is images_are = ap (λ c. packed c images) conf_is ∙ ap (packed (generated_conf number)) images_are ∙ packed_so number
 
 pub system_so : (number : ℕ) (conf : Conf) (images : List Image) → conf ≡ generated_conf number → images ≡ all_given → system_of conf images ≡ generated number

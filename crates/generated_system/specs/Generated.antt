@@ -82,7 +82,7 @@ chan_of j = record {
 unfoldable pub all_chans : List Chan
 all_chans = numbered chan_of 8
 
--- the configuration with these slots: a region of 4 MiB, no UART, and one plan
+-- the configuration with these slots: a region of 4 MiB, no UART, one plan, and no link
 unfoldable pub conf_with : List Slot → Conf
 conf_with slots = record {
   name = codes "gen";
@@ -92,6 +92,7 @@ conf_with slots = record {
   plans = generated_plan slots ∷ [];
   parts = all_parts;
   chans = all_chans;
+  links = [];
 }
 
 unfoldable pub generated_conf : ℕ → Conf

@@ -48,5 +48,6 @@ fn raw(alloc: Global, number: u32) -> Result<RawConf, Memory>
         plans: Vec::from_array(alloc, [plan])?,
         parts: parts(alloc)?,
         chans: channels(alloc)?,
+        links: Vec::new(alloc),
     })
 }

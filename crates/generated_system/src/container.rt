@@ -1,6 +1,7 @@
 //! The container of a generated system.
 
 ghost use Rattle.std.specs.Prelude.{◌≡◌, IfOk, Ok};
+ghost use Rattle.bin_config.specs.declared.version.Version.TheVariants.{Two};
 ghost use Rattle.loaded_system.specs.System.{System as Meaning};
 ghost use Rattle.xm_container.specs.Box.{box_text};
 ghost use Rattle.xm_container.specs.Reading.{unpacked};
@@ -14,7 +15,7 @@ use xm_container::{BoxFault, PackFault, System, pack, unpack};
 
 /// The container of the system that is generated out of a number.
 pub fn container_of(alloc: Global, number: u32) -> Result<Vec<u8>, Memory>
-    ensures text { IfOk result (λ bytes. bytes.items ≡ box_text (generated number)) }
+    ensures text { IfOk result (λ bytes. bytes.items ≡ box_text Two (generated number)) }
     ensures read { IfOk result (λ bytes. unpacked bytes.items ≡ Ok (generated number)) }
 {
     let conf = configuration(alloc, number)?;

@@ -5,6 +5,7 @@ use Rattle.std.specs.Prelude.{All, AllPairs, Err, Ok, OnErr, OnOk, Result, remov
 use Rattle.std.specs.FinMap.{empty, get}
 use Rattle.std.proofs.lemmas.List.{drop-drop, drop-take, get_or-map, get_or-set_other, get_or-set_same, length-map, length-take-le, take-take, take_at, drop_at}
 use Rattle.std.proofs.lemmas.Slice.{take-put_mid_below}
+use Rattle.xm_conf.specs.Limits.{most_parts}
 use Rattle.guest_bus.specs.Memory.{Area, Memory, bytes_at}
 use Rattle.guest_bus.specs.Whole.{IsMemoryOf}
 use Rattle.guest_memory.specs.Flat.{AllBytes, AreFlat, AreTables, Follow, IsPartOf, IsSpace, IsMemoryTable, SameAround, Table, areas_of_tables, listed, maps_in, memories_in, memory_in, memory_of_part, bytes_of_part}
@@ -57,7 +58,7 @@ maps-set (first ∷ others) bytes new (suc p) below sized counted =
     ∙ ap (λ (maps : List Memory). memory_in first (take (areas_size first) bytes) ∷ maps) (maps-set others (drop (areas_size first) bytes) new p (omega (arith, below)) rest counted)
 
 -- bytes that lie so are memories
-pub memories_whole : (areas : List (List Area)) (bytes : List ℕ) (selected : ℕ) → selected < length areas → length areas ≤ 16 → All ArePlaced areas → length bytes ≡ whole_size areas → AllBytes bytes
+pub memories_whole : (areas : List (List Area)) (bytes : List ℕ) (selected : ℕ) → selected < length areas → length areas ≤ most_parts → All ArePlaced areas → length bytes ≡ whole_size areas → AllBytes bytes
     → AreMemories (record { areas = areas; maps = maps_in areas bytes; selected = selected })
 memories_whole areas bytes selected below few placed sized small = record {
   counted = length-maps_in areas bytes;

@@ -7,6 +7,7 @@ use Rattle.std.proofs.lemmas.Bool.{cases_lt}
 use Rattle.std.proofs.lemmas.Bool.Decides.{nat_tests}
 use Rattle.std.proofs.lemmas.List.{drop-replicate, get_or-replicate, length-replicate, take-replicate}
 use Rattle.std.proofs.lemmas.Option.{slice_get-get_or}
+use Rattle.xm_conf.specs.Limits.{most_parts}
 use Rattle.guest_bus.specs.Memory.{Area, Memory, holds_address, is_readable, with_bytes}
 use Rattle.guest_bus.specs.MemoryLemmas.{get-with_bytes_above, get-with_bytes_below, get-with_bytes_within, same_memory}
 use Rattle.guest_memory.specs.Flat.{AllBytes, AreFlat, AreTables, Table, areas_of_tables, maps_in, memories_in, memory_in}
@@ -89,7 +90,7 @@ maps_in-zeros (first ∷ others) =
 
 -- new memories of partitions, with the first selected
 pub kept_new : (tables : List Table) (areas : List (List Area)) (n : ℕ) (bytes : List ℕ) → areas_of_tables tables ≡ areas → AreTables 0 tables → n ≡ whole_size areas → n < 4294967296 → bytes ≡ replicate n 0
-    → 0 < length areas → length areas ≤ 16 → All ArePlaced areas → AreFlat tables bytes 0
+    → 0 < length areas → length areas ≤ most_parts → All ArePlaced areas → AreFlat tables bytes 0
 kept_new tables areas n bytes same rows sized few is some most placed = record {
   memories = memories_whole (areas_of_tables tables) bytes 0 (rw same some) (rw same most) (rw same placed) whole small;
   rows = rows;

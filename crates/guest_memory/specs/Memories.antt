@@ -1,6 +1,7 @@
 -- The memories of all partitions, and where an access to one of them is refused.
 use Rattle.std.specs.Prelude.{◌≡◌, ◌≢◌, ℕ, zero, suc, ◌+◌, ◌-◌, ◌%◌, ◌^◌, ◌<◌, ◌≤◌, ◌⊎◌, Bool, false, if◌then◌else◌, nat_lt, List, [], ◌∷◌, length, take, drop, slice_get, slice_index_or, slice_set, remove, All, AllPairs, Option, None, Some, Result, Ok, Err}
 use Rattle.std.specs.FinMap.{empty, get}
+use Rattle.xm_conf.specs.Limits.{most_parts}
 use Rattle.guest_bus.specs.Memory.{Area, Memory, Others, bytes_at, is_readable, is_writable}
 use Rattle.guest_bus.specs.Whole.{IsMemoryOf}
 use Rattle.guest_memory.specs.declared.access.Access.{Access}
@@ -74,7 +75,7 @@ pub record ArePlaced (areas : List Area) : Type 0 where
 pub record AreMemories (memories : Memories) : Type 0 where
   pub counted : length memories.maps ≡ length memories.areas
   pub selected : memories.selected < length memories.areas
-  pub few : length memories.areas ≤ 16
+  pub few : length memories.areas ≤ most_parts
   pub placed : All ArePlaced memories.areas
   pub whole : (p : ℕ) → p < length memories.areas → IsMemoryOf (areas_at p memories) (map_at p memories)
 

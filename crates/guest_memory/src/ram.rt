@@ -9,6 +9,7 @@ ghost use Rattle.guest_memory.specs.Flat.{AreTables, Follow, IsMemoryTable, area
 ghost use Rattle.guest_memory.specs.Memories.{AreMemories, ArePlaced, HasAreas, HasBytes, SameElsewhere, answer_by, areas_at, first_refused, map_at, others_of, place_at, areas_size, whole_size, with_map, with_selected};
 ghost use Rattle.guest_memory.specs.Words.{LieIn};
 ghost use Rattle.xm_conf.specs.Fits.{HasSome};
+ghost use Rattle.xm_conf.specs.Limits.{most_parts};
 
 use crate::access::Access;
 use crate::bytes::{part, raw};
@@ -288,7 +289,7 @@ impl HasWords for Ram {
 #[tactic(auto, unfolding(xm_conf::specs::Description::described))]
 fn parts_of(conf: &Conf) -> &[Part]
     ensures value { result.now ≡ conf.now.parts }
-    ensures counted { HasSome result.now 16 }
+    ensures counted { HasSome result.now most_parts }
     ensures placed { All ArePlaced (map memory_areas result.now) }
     ensures few { whole_size (map memory_areas result.now) < 4294967296 }
 {

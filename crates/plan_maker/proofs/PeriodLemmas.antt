@@ -6,6 +6,7 @@ use Rattle.std.proofs.Math.Nat.{dvd-mul_left, dvd-mul_right, max-eq_left, max-eq
 use Rattle.std.proofs.lemmas.Bool.Decides.{nat_tests}
 use Rattle.std.proofs.lemmas.List.{at_drop_all, at_drop_more}
 use Rattle.std.proofs.lemmas.Nat.Gcd.{dvd_of_mod-eq-zero, dvd_refl, dvd_trans, mod-eq-zero_of_dvd}
+use Rattle.xm_conf.specs.Limits.{most_parts}
 use Rattle.xm_conf.specs.Along.{each_from}
 use Rattle.xm_conf.specs.Configuration.{Conf, Part}
 use Rattle.xm_conf.specs.Description.{described}
@@ -180,7 +181,7 @@ pub common_ends : (so_far : ℕ) (rs : List Requirement) (i : ℕ) (whole : Resu
 common_ends so_far rs i whole past sofar = sym (at_drop_all (λ (rest : List Requirement). common_from so_far rest) rs i past) ∙ sofar
 
 -- a configuration has at most so many partitions
-pub parts_few : (conf : Conf) → Fits (described conf) → length conf.parts ≤ 16
+pub parts_few : (conf : Conf) → Fits (described conf) → length conf.parts ≤ most_parts
 unfolding described
 parts_few conf fits = fits.counts.parts.few
 
@@ -189,9 +190,9 @@ pub conf_possible : (conf : Conf) → Fits (described conf) → ArePossible 0 (r
 unfolding described requirements
 conf_possible conf fits = requirements_possible 0 conf.parts (each_from_all (λ part. IfSome part.need IsNeed) conf.parts fits.needs)
 
-pub conf_few : (conf : Conf) → Fits (described conf) → length (requirements conf) ≤ 16
+pub conf_few : (conf : Conf) → Fits (described conf) → length (requirements conf) ≤ most_parts
 unfolding requirements
 conf_few conf fits =
     let few : length (each_from required_by 0 conf.parts) ≤ length conf.parts = requirements_few 0 conf.parts in
-    let parts : length conf.parts ≤ 16 = parts_few conf fits in
+    let parts : length conf.parts ≤ most_parts = parts_few conf fits in
     omega (arith, few, parts)

@@ -1,6 +1,7 @@
 //! The plan that is made from the requirements of a configuration.
 
 ghost use Rattle.std.specs.Prelude.{◌≡◌, ◌+◌, ◌++◌, ◌<◌, ◌≤◌, All, IfErr, IfOk, Ok, length, vec_capacity, vec_len};
+ghost use Rattle.xm_conf.specs.Limits.{most_parts};
 ghost use Rattle.xm_conf.specs.Along.{added_by_each};
 ghost use Rattle.xm_conf.specs.Description.{described};
 ghost use Rattle.xm_conf.specs.Fits.{Fits};
@@ -46,7 +47,7 @@ fn made(alloc: Global, conf: &Conf) -> Result<Plan, PlanFault>
 #[tactic(auto, using(crate::proofs::PlanLemmas::planned_none, crate::proofs::PlanLemmas::planned_long, crate::proofs::PlanLemmas::planned_period, crate::proofs::PlanLemmas::period_short))]
 fn planned(alloc: Global, requirements: &[Requirement]) -> Result<Plan, PlanFault>
     requires possible { ArePossible 0 requirements.now }
-    requires few { length requirements.now ≤ 16 }
+    requires few { length requirements.now ≤ most_parts }
     ensures { GivesPlan result (planned requirements.now) }
 {
     if requirements.is_empty() {
@@ -62,7 +63,7 @@ fn planned(alloc: Global, requirements: &[Requirement]) -> Result<Plan, PlanFaul
 #[tactic(auto, using(crate::proofs::PlanLemmas::plan_overload, crate::proofs::PlanLemmas::plan_enough))]
 fn plan_in(alloc: Global, requirements: &[Requirement], frame: u32) -> Result<Plan, PlanFault>
     requires possible { ArePossible 0 requirements.now }
-    requires few { length requirements.now ≤ 16 }
+    requires few { length requirements.now ≤ most_parts }
     requires short { frame ≤ 1000000 }
     ensures { GivesPlan result (plan_in requirements.now frame) }
 {
@@ -119,7 +120,7 @@ fn frame_slots(alloc: Global, requirements: &[Requirement], frame: u32) -> Resul
 fn requirements(alloc: Global, conf: &Conf) -> Result<Vec<Requirement>, Memory>
     ensures value { IfOk result (λ found. found.items ≡ requirements conf.now) }
     ensures possible { ArePossible 0 (requirements conf.now) }
-    ensures few { length (requirements conf.now) ≤ 16 }
+    ensures few { length (requirements conf.now) ≤ most_parts }
 {
     required_of(alloc, parts_of(conf))
 }
@@ -127,7 +128,7 @@ fn requirements(alloc: Global, conf: &Conf) -> Result<Vec<Requirement>, Memory>
 /// The partitions of a configuration.
 fn parts_of(conf: &Conf) -> &[Part]
     ensures value { result.now ≡ conf.now.parts }
-    ensures few { length result.now ≤ 16 }
+    ensures few { length result.now ≤ most_parts }
     ensures fits { Fits (described conf.now) }
 {
     &conf.raw().parts
@@ -135,7 +136,7 @@ fn parts_of(conf: &Conf) -> &[Part]
 
 /// The requirements of those of the partitions that have one.
 fn required_of(alloc: Global, parts: &[Part]) -> Result<Vec<Requirement>, Memory>
-    requires { length parts.now ≤ 16 }
+    requires { length parts.now ≤ most_parts }
     ensures { IfOk result (λ found. found.items ≡ added_by_each required_by parts.now) }
 {
     let mut found = Vec::with_capacity(alloc, parts.len())?;

@@ -1,5 +1,6 @@
 //! The common period of requirements, and what they demand of it.
 
+ghost use Rattle.xm_conf.specs.Limits.{most_parts};
 ghost use Rattle.std.specs.Prelude.{◌≡◌, ◌+◌, ◌-◌, ◌<◌, ◌≤◌, All, IfOk, length};
 ghost use Rattle.plan_maker.specs.Needed.{IsPossible, common_period, demand, demanded, first_divided, least_multiple, longest_common};
 
@@ -65,7 +66,7 @@ fn first_divided(step: u32, divisor: u32) -> u32
 #[tactic(auto, unfolding(crate::specs::Needed::demand))]
 pub(crate) fn demand(period: u32, requirements: &[Requirement]) -> u32
     requires possible { All IsPossible requirements.now }
-    requires few { length requirements.now ≤ 16 }
+    requires few { length requirements.now ≤ most_parts }
     requires short { period ≤ 1000000 }
     ensures { result ≡ demand period requirements.now }
 {

@@ -127,6 +127,7 @@ fn conf(alloc: Global) -> Result<Option<Conf>, AllocError>
         plans: Vec::from_array(alloc, [plan])?,
         parts: Vec::from_array(alloc, parts)?,
         chans: chans(alloc)?,
+        links: Vec::new(alloc),
     };
     Ok(Conf::new(raw).ok())
 }

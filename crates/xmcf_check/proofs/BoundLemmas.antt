@@ -5,6 +5,7 @@ use Rattle.std.proofs.lemmas.List.Elements.{All-nil, All-cons, All-weaker}
 use Rattle.std.proofs.lemmas.Bool.Decides.{nat_tests}
 use Rattle.xm_conf.specs.Along.{added_by_each, each_from, unless}
 use Rattle.xm_conf.specs.Configuration.{Plan, Part, Conf}
+use Rattle.xm_conf.specs.Limits.{most_parts}
 use Rattle.xm_conf.specs.Rules as rules
 use Rattle.xm_conf.specs.declared.item.Item.{Item}
 use Rattle.xm_conf.specs.declared.item.Item.TheVariants as item
@@ -16,7 +17,7 @@ pub record IsBounded (conf : Conf) : Type 0 where
   pub uarts : length conf.uarts ≤ 8
   pub plans : length conf.plans ≤ 8
   pub slots : All (λ plan. length plan.slots ≤ 64) conf.plans
-  pub parts : length conf.parts ≤ 16
+  pub parts : length conf.parts ≤ most_parts
   pub ports : All (λ part. length part.ports ≤ 32) conf.parts
 
 -- elements that add nothing below a limit are no more
@@ -58,29 +59,29 @@ unfolding rules.plan_counts
 plan_slots n plan none = past_none 64 (item.Slot n) plan.slots (back_none _ _ none)
 
 -- a partition's place
-part_below : (n : ℕ) (part : Part) → rules.part_counts n part ≡ [] → n < 16
+part_below : (n : ℕ) (part : Part) → rules.part_counts most_parts n part ≡ [] → n < most_parts
 unfolding rules.part_counts
-part_below n part none = place_none n 16 (item.Part n) (front_none _ _ (front_none _ _ (front_none _ _ none)))
+part_below n part none = place_none n most_parts (item.Part n) (front_none _ _ (front_none _ _ (front_none _ _ none)))
 
 -- a partition's ports
-part_ports : (n : ℕ) (part : Part) → rules.part_counts n part ≡ [] → length part.ports ≤ 32
+part_ports : (n : ℕ) (part : Part) → rules.part_counts most_parts n part ≡ [] → length part.ports ≤ 32
 unfolding rules.part_counts
 part_ports n part none = past_none 32 (item.Port n) part.ports (back_none _ _ none)
 
 -- a configuration that keeps its counts
-pub bounded : (conf : Conf) → rules.rule_1 conf ≡ [] → IsBounded conf
+pub bounded : (conf : Conf) → rules.rule_1 most_parts conf ≡ [] → IsBounded conf
 unfolding rules.rule_1 rules.list_counts
 bounded conf none =
     let lists : unless (rules.has_some conf) (rules.alone 1 item.Whole) ++ rules.past_limit 8 item.Region conf.regions ++ rules.past_limit 8 item.Uart conf.uarts ≡ [] =
-    front_none _ _ (front_none _ _ (front_none _ _ none)) in
-    let plans : added_by_each rules.plan_counts conf.plans ≡ [] = back_none (rules.list_counts conf) _ (front_none _ _ (front_none _ _ none)) in
-    let parts : added_by_each rules.part_counts conf.parts ≡ [] = back_none _ (added_by_each rules.part_counts conf.parts) (front_none _ _ none) in
+    front_none _ _ (front_none _ _ (front_none _ _ (front_none _ _ none))) in
+    let plans : added_by_each rules.plan_counts conf.plans ≡ [] = back_none (rules.list_counts conf) _ (front_none _ _ (front_none _ _ (front_none _ _ none))) in
+    let parts : added_by_each (rules.part_counts most_parts) conf.parts ≡ [] = back_none _ (added_by_each (rules.part_counts most_parts) conf.parts) (front_none _ _ (front_none _ _ none)) in
     record {
       uarts = past_none 8 item.Uart conf.uarts (back_none _ _ lists);
       plans = omega (arith, few_from rules.plan_counts 8 plan_below 0 conf.plans (omega arith) plans);
       slots = all_from rules.plan_counts (λ plan. length plan.slots ≤ 64) plan_slots 0 conf.plans plans;
-      parts = omega (arith, few_from rules.part_counts 16 part_below 0 conf.parts (omega arith) parts);
-      ports = all_from rules.part_counts (λ part. length part.ports ≤ 32) part_ports 0 conf.parts parts;
+      parts = omega (arith, few_from (rules.part_counts most_parts) most_parts part_below 0 conf.parts (omega arith) parts);
+      ports = all_from (rules.part_counts most_parts) (λ part. length part.ports ≤ 32) part_ports 0 conf.parts parts;
     }
 
 -- no more partitions and ports than fields hold

@@ -8,13 +8,14 @@ use Rattle.std.proofs.lemmas.Bool.Decides.{nat_tests}
 use Rattle.xm_base.specs.Options.{on}
 use Rattle.xm_conf.specs.Along.{added_by_each, along, unless}
 use Rattle.xm_conf.specs.Configuration.{Plan, Part, Chan, Conf}
+use Rattle.xm_conf.specs.Limits.{most_parts, most_links}
 use Rattle.xm_conf.specs.Rules as rules
 use Rattle.xm_conf.specs.declared.plan.Slot.{Slot}
 use Rattle.xm_conf.specs.declared.channel.ChanKind.{ChanKind}
 use Rattle.xm_conf.specs.declared.channel.ChanKind.TheVariants as chan_kind
 use Rattle.xm_conf.specs.declared.channel.End.{End}
 use Rattle.xm_conf.specs.declared.item.Item.TheVariants as item
-use Rattle.xmcf_check.specs.Capped.{capped, capped_slot, capped_plan, capped_end, capped_kind, capped_chan, capped_part, capped_conf}
+use Rattle.xmcf_check.specs.Capped.{capped, capped_slot, capped_plan, capped_end, capped_kind, capped_chan, capped_link, capped_part, capped_conf}
 use Rattle.xmcf_check.proofs.ListLemmas.{both, each-made, along-made, repeated-made, slice_get-on, sum_by-made}
 
 -- a number is below a limit that a field holds exactly where the capped one is
@@ -69,7 +70,7 @@ unfolding rules.plan_counts capped_plan
 plan_counts-capped n plan = rw (length-map plan.slots capped_slot) refl
 
 -- the counts of a partition
-part_counts-capped : (n : ℕ) (part : Part) → rules.part_counts n (capped_part part) ≡ rules.part_counts n part
+part_counts-capped : (n : ℕ) (part : Part) → rules.part_counts most_parts n (capped_part part) ≡ rules.part_counts most_parts n part
 unfolding rules.part_counts capped_part
 part_counts-capped n part = refl
 
@@ -85,13 +86,15 @@ unfolding rules.chan_counts capped_chan
 chan_counts-capped n chan = ap (λ more. unless (nat_lt n 64) (rules.alone 1 (item.Chan n)) ++ more) (dest_counts-capped n chan.kind chan.dests)
 
 -- rule 1
-pub rule_1-capped : (conf : Conf) → rules.rule_1 (capped_conf conf) ≡ rules.rule_1 conf
+pub rule_1-capped : (conf : Conf) → rules.rule_1 most_parts (capped_conf conf) ≡ rules.rule_1 most_parts conf
 unfolding rules.rule_1 capped_conf
 rule_1-capped conf =
     both
+    (both
     (both (both (list_counts-capped conf) (each-made rules.plan_counts rules.plan_counts capped_plan plan_counts-capped conf.plans))
-    (each-made rules.part_counts rules.part_counts capped_part part_counts-capped conf.parts))
-    (each-made rules.chan_counts rules.chan_counts capped_chan chan_counts-capped conf.chans)
+    (each-made (rules.part_counts most_parts) (rules.part_counts most_parts) capped_part part_counts-capped conf.parts))
+    (each-made rules.chan_counts rules.chan_counts capped_chan chan_counts-capped conf.chans))
+    (ap (λ count. unless (nat_le count most_links) (rules.alone 1 (item.Link most_links))) (length-map conf.links capped_link))
 
 -- the names of a partition and its ports
 part_names-capped : (before : List Part) (part : Part) → rules.part_names (map capped_part before) (capped_part part) ≡ rules.part_names before part

@@ -62,6 +62,7 @@ paired (element.Sampling size refresh) = record { uart = refl; plan = refl; slot
 paired (element.Queuing size most) = record { uart = refl; plan = refl; slot = refl; part = refl }
 paired (element.Source part name) = record { uart = refl; plan = refl; slot = refl; part = refl }
 paired (element.Destination part name) = record { uart = refl; plan = refl; slot = refl; part = refl }
+paired (element.Ipvi id source dest) = record { uart = refl; plan = refl; slot = refl; part = refl }
 
 -- Lists.
 

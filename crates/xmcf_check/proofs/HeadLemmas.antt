@@ -5,6 +5,7 @@ use Rattle.std.specs.Str.{bytes_eq}
 use Rattle.xm_conf.specs.Along.{head_of, added_by_each, each_from, along, along_from, unless}
 use Rattle.xm_conf.specs.Configuration.{Plan, Part, Chan, Conf}
 use Rattle.xm_conf.specs.Description.{HealthAnswer, Monitor}
+use Rattle.xm_conf.specs.Limits.{most_parts, most_links}
 use Rattle.xm_conf.specs.Rules as rules
 use Rattle.xm_conf.specs.declared.channel.ChanKind.{ChanKind}
 use Rattle.xm_conf.specs.declared.channel.ChanKind.TheVariants as chan_kind
@@ -59,7 +60,7 @@ plan_counts-begins n plan =
     (begins-unless 1 1 _ (rules.alone 1 (item.Slot n 64)) (omega arith) (omega arith))
 
 -- the counts of a partition
-part_counts-begins : (n : ℕ) (part : Part) → Begins 1 1 (rules.part_counts n part)
+part_counts-begins : (n : ℕ) (part : Part) → Begins 1 1 (rules.part_counts most_parts n part)
 unfolding rules.part_counts
 part_counts-begins n part =
     begins-append _ (rules.past_limit 32 (item.Port n) part.ports)
@@ -83,19 +84,21 @@ chan_counts-begins n chan =
     (dest_counts-begins n chan.kind chan.dests)
 
 -- rule 1
-pub rule_1-begins : (conf : Conf) → Begins 1 1 (rules.rule_1 conf)
+pub rule_1-begins : (conf : Conf) → Begins 1 1 (rules.rule_1 most_parts conf)
 unfolding rules.rule_1 rules.list_counts
 rule_1-begins conf =
-    begins-append _ (added_by_each rules.chan_counts conf.chans)
-    (begins-append _ (added_by_each rules.part_counts conf.parts)
+    begins-append _ (rules.past_limit most_links item.Link conf.links)
+    (begins-append _ (added_by_each rules.chan_counts conf.chans)
+    (begins-append _ (added_by_each (rules.part_counts most_parts) conf.parts)
     (begins-append (rules.list_counts conf) (added_by_each rules.plan_counts conf.plans)
     (begins-append _ (rules.past_limit 8 item.Uart conf.uarts)
     (begins-append _ (rules.past_limit 8 item.Region conf.regions) (begins-unless 1 1 _ (rules.alone 1 item.Whole) (omega arith) (omega arith))
     (begins-unless 1 1 _ (rules.alone 1 (item.Region 8)) (omega arith) (omega arith)))
     (begins-unless 1 1 _ (rules.alone 1 (item.Uart 8)) (omega arith) (omega arith)))
     (begins-each rules.plan_counts plan_counts-begins 0 conf.plans))
-    (begins-each rules.part_counts part_counts-begins 0 conf.parts))
-    (begins-each rules.chan_counts chan_counts-begins 0 conf.chans)
+    (begins-each (rules.part_counts most_parts) part_counts-begins 0 conf.parts))
+    (begins-each rules.chan_counts chan_counts-begins 0 conf.chans))
+    (begins-unless 1 1 _ (rules.alone 1 (item.Link most_links)) (omega arith) (omega arith))
 
 -- an item that breaks a rule from 3 to 18, where a test fails
 begins-told : (t : Bool) (rule : ℕ) (first second : Item) → 3 ≤ rule → rule ≤ 18 → Begins 3 18 (unless t (rules.broken rule first second))
@@ -193,27 +196,36 @@ middle-begins conf =
     (chan_rules-begins conf)
 
 -- an answer
-answer-begins : (plans p : ℕ) (before : List HealthAnswer) (answer : HealthAnswer) → Begins 19 20 (rules.answer_broken plans p before answer)
+answer-begins : (plans p : ℕ) (before : List HealthAnswer) (answer : HealthAnswer) → Begins 19 22 (rules.answer_broken plans p before answer)
 unfolding rules.answer_broken
 answer-begins plans p before answer =
     begins-append _ (unless (rules.has_plan plans answer.action) (rules.alone 19 (item.Event p (length before))))
     (begins-append _ (rules.repeated 19 (item.Event p) rules.same_event before answer)
-    (begins-unless 19 20 _ (rules.alone 19 (item.Event p (length before))) (omega arith) (omega arith))
-    (begins-beside 19 20 19 _ _ (omega arith) (omega arith)))
-    (begins-unless 19 20 _ (rules.alone 19 (item.Event p (length before))) (omega arith) (omega arith))
+    (begins-unless 19 22 _ (rules.alone 19 (item.Event p (length before))) (omega arith) (omega arith))
+    (begins-beside 19 22 19 _ _ (omega arith) (omega arith)))
+    (begins-unless 19 22 _ (rules.alone 19 (item.Event p (length before))) (omega arith) (omega arith))
 
 -- rule 19
-pub rule_19-begins : (plans : ℕ) (monitors : List Monitor) → Begins 19 20 (rules.rule_19 plans monitors)
+pub rule_19-begins : (plans : ℕ) (monitors : List Monitor) → Begins 19 22 (rules.rule_19 plans monitors)
 unfolding rules.rule_19 rules.monitor_broken
 rule_19-begins plans monitors =
     begins-each (rules.monitor_broken plans)
     (λ p monitor. begins-append _ (along (rules.answer_broken plans p) monitor.answers)
-    (begins-unless 19 20 _ (rules.alone 19 (item.Part p)) (omega arith) (omega arith))
+    (begins-unless 19 22 _ (rules.alone 19 (item.Part p)) (omega arith) (omega arith))
     (begins-along (rules.answer_broken plans p) (answer-begins plans p) [] monitor.answers))
     0 monitors
 
 -- rule 20
-pub rule_20-begins : (conf : Conf) → Begins 19 20 (rules.rule_20 conf)
+rule_20-begins : (conf : Conf) → Begins 19 22 (rules.rule_20 conf)
 unfolding rules.rule_20 rules.unfit_need
 rule_20-begins conf =
-    begins-each rules.unfit_need (λ n part. begins-unless 19 20 _ (rules.alone 20 (item.Part n)) (omega arith) (omega arith)) 0 conf.parts
+    begins-each rules.unfit_need (λ n part. begins-unless 19 22 _ (rules.alone 20 (item.Part n)) (omega arith) (omega arith)) 0 conf.parts
+
+-- rules 20 to 22
+pub last-begins : (conf : Conf) → Begins 19 22 (rules.rule_20 conf ++ rules.link_rules conf)
+unfolding rules.link_rules rules.rule_21 rules.unfit_link rules.rule_22
+last-begins conf =
+    begins-append (rules.rule_20 conf) (rules.rule_21 conf ++ rules.rule_22 conf) (rule_20-begins conf)
+    (begins-append (rules.rule_21 conf) (rules.rule_22 conf)
+    (begins-each (rules.unfit_link (length conf.parts)) (λ n link. begins-unless 19 22 _ (rules.alone 21 (item.Link n)) (omega arith) (omega arith)) 0 conf.links)
+    (begins-along (rules.repeated 22 item.Link rules.same_link) (λ before link. begins-beside 19 22 22 _ _ (omega arith) (omega arith)) [] conf.links))

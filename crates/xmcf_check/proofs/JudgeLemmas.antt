@@ -7,6 +7,7 @@ use Rattle.std.proofs.lemmas.Bool.Decides.{nat_tests}
 use Rattle.xm_conf.specs.Along.{head_of, added_by_each, each_from}
 use Rattle.xm_conf.specs.Configuration.{Plan, Conf}
 use Rattle.xm_conf.specs.Description.{PlanIds, Ids, HealthAnswer, Description, ids_of, plan_ids, monitor_of, described}
+use Rattle.xm_conf.specs.Limits.{most_parts}
 use Rattle.xm_conf.specs.Rules as rules
 use Rattle.xm_conf.specs.declared.item.Item.{Item}
 use Rattle.xm_conf.specs.declared.item.Item.TheVariants as item
@@ -19,9 +20,10 @@ use Rattle.xmcf_check.proofs.ListLemmas.{both, front_none, back_none, back_first
 use Rattle.xmcf_check.proofs.BoundLemmas.{IsBounded, bounded, few_of}
 use Rattle.xmcf_check.proofs.CappedLemmas.{rule_1-capped, rule_3-capped, memory_rules-capped, plan_rules-capped, rule_20-capped}
 use Rattle.xmcf_check.proofs.CappedChanLemmas.{chan_rules-capped}
-use Rattle.xmcf_check.proofs.HeadLemmas.{Begins, rule_1-begins, middle-begins, rule_19-begins, rule_20-begins}
+use Rattle.xmcf_check.proofs.HeadLemmas.{Begins, rule_1-begins, middle-begins, rule_19-begins, last-begins}
 use Rattle.xmcf_check.proofs.KeptLemmas.{conf_kept}
-use Rattle.xmcf_check.proofs.OrderLemmas.{middle, first_broken-parts, IsFrom, order}
+use Rattle.xmcf_check.proofs.LinkLemmas.{link_rules-capped}
+use Rattle.xmcf_check.proofs.OrderLemmas.{middle, last, first_broken-parts, IsFrom, order}
 use Rattle.xmcf_check.proofs.TableLemmas.{tables_none, answers_told}
 
 -- the places themselves are in order
@@ -65,18 +67,24 @@ middle-capped conf bound =
     ∙ back_first (rules.rule_3 conf ++ rules.memory_rules conf ++ rules.plan_rules conf) (rules.chan_rules (capped_conf conf)) (rules.chan_rules conf)
     (chan_rules-capped conf (few_of conf bound))
 
+-- the first of the rules from 20 on
+last-capped : (conf : Conf) → IsBounded conf → head_of (last (capped_conf conf)) ≡ head_of (last conf)
+last-capped conf bound =
+    ap (λ front. head_of (front ++ rules.link_rules (capped_conf conf))) (rule_20-capped conf)
+    ∙ back_first (rules.rule_20 conf) (rules.link_rules (capped_conf conf)) (rules.link_rules conf) (link_rules-capped conf (few_of conf bound).parts_few)
+
 -- what partitions' tables of health events break
 abbrev tables_broken : Conf → Option Broken
 tables_broken conf = head_of (rules.rule_19 (length conf.plans) (map monitor_of (map capped_part conf.parts)))
 
 -- the first rule that a configuration with capped numbers breaks, of the rules before
-front-parts : (conf : Conf) → rules.first_broken (described conf) ≡ first_there (head_of (rules.rule_1 conf)) (first_there (head_of (middle conf))
-    (first_there (head_of (rules.rule_19 (length conf.plans) (map monitor_of conf.parts))) (head_of (rules.rule_20 conf))))
+front-parts : (conf : Conf) → rules.first_broken most_parts (described conf) ≡ first_there (head_of (rules.rule_1 most_parts conf)) (first_there (head_of (middle conf))
+    (first_there (head_of (rules.rule_19 (length conf.plans) (map monitor_of conf.parts))) (head_of (last conf))))
 unfolding described
 front-parts conf =
     first_broken-parts (described conf)
-    ∙ ap (λ ids. first_there (head_of (rules.rule_1 conf)) (first_there (head_of ids) (first_there (head_of (middle conf))
-    (first_there (head_of (rules.rule_19 (length conf.plans) (map monitor_of conf.parts))) (head_of (rules.rule_20 conf))))))
+    ∙ ap (λ ids. first_there (head_of (rules.rule_1 most_parts conf)) (first_there (head_of ids) (first_there (head_of (middle conf))
+    (first_there (head_of (rules.rule_19 (length conf.plans) (map monitor_of conf.parts))) (head_of (last conf))))))
     (rule_2-ids_of conf)
 
 -- rule 19 of a configuration whose numbers are capped
@@ -85,36 +93,36 @@ unfolding capped_conf
 tables-capped conf = ap (λ n. head_of (rules.rule_19 n (map monitor_of (map capped_part conf.parts)))) (length-map conf.plans capped_plan)
 
 -- the first rule that a configuration with capped numbers breaks
-capped-parts : (conf : Conf) → rules.first_broken (described (capped_conf conf))
-    ≡ first_there (head_of (rules.rule_1 conf)) (first_there (head_of (middle conf)) (first_there (tables_broken conf) (head_of (rules.rule_20 conf))))
+capped-parts : (conf : Conf) → rules.first_broken most_parts (described (capped_conf conf))
+    ≡ first_there (head_of (rules.rule_1 most_parts conf)) (first_there (head_of (middle conf)) (first_there (tables_broken conf) (head_of (last conf))))
 capped-parts conf =
     front-parts (capped_conf conf)
     ∙ ap (λ counts. first_there (head_of counts) (first_there (head_of (middle (capped_conf conf)))
-    (first_there (head_of (rules.rule_19 (length (capped_conf conf).plans) (map monitor_of (capped_conf conf).parts))) (head_of (rules.rule_20 (capped_conf conf))))))
+    (first_there (head_of (rules.rule_19 (length (capped_conf conf).plans) (map monitor_of (capped_conf conf).parts))) (head_of (last (capped_conf conf))))))
     (rule_1-capped conf)
-    ∙ ap (λ tables. first_there (head_of (rules.rule_1 conf)) (first_there (head_of (middle (capped_conf conf)))
-    (first_there tables (head_of (rules.rule_20 (capped_conf conf))))))
+    ∙ ap (λ tables. first_there (head_of (rules.rule_1 most_parts conf)) (first_there (head_of (middle (capped_conf conf)))
+    (first_there tables (head_of (last (capped_conf conf))))))
     (tables-capped conf)
-    ∙ ap (λ needs. first_there (head_of (rules.rule_1 conf)) (first_there (head_of (middle (capped_conf conf))) (first_there (tables_broken conf) (head_of needs))))
-    (rule_20-capped conf)
-    ∙ first_same (rules.rule_1 conf) _ _
-    (λ none. ap (λ others. first_there others (first_there (tables_broken conf) (head_of (rules.rule_20 conf)))) (middle-capped conf (bounded conf none)))
+    ∙ first_same (rules.rule_1 most_parts conf) _ _
+    (λ none.
+    ap (λ others. first_there others (first_there (tables_broken conf) (head_of (last (capped_conf conf))))) (middle-capped conf (bounded conf none))
+    ∙ ap (λ more. first_there (head_of (middle conf)) (first_there (tables_broken conf) more)) (last-capped conf (bounded conf none)))
 
 -- what is reported of a description's parts
 told_parts : (d : Description) → All (λ monitor. monitor.logged < 4096) d.monitors → map (λ part. part.hm) d.conf.parts ≡ map health_table_of d.monitors
-    → first_told (length d.conf.plans) d.ids (map (λ monitor. monitor.answers) d.monitors) (rules.first_broken (described (capped_conf d.conf))) ≡ rules.first_broken d
+    → first_told (length d.conf.plans) d.ids (map (λ monitor. monitor.answers) d.monitors) (rules.first_broken most_parts (described (capped_conf d.conf))) ≡ rules.first_broken most_parts d
 unfolding first_told
 told_parts d small tables =
     ap (λ found. told_among (head_of (rules.rule_2 d.ids)) (head_of (added_by_each (answers_broken (length d.conf.plans)) (map (λ monitor. monitor.answers) d.monitors))) found)
     (capped-parts d.conf)
-    ∙ order (head_of (rules.rule_1 d.conf)) (head_of (rules.rule_2 d.ids)) (head_of (middle d.conf))
-    (head_of (added_by_each (answers_broken (length d.conf.plans)) (map (λ monitor. monitor.answers) d.monitors))) (tables_broken d.conf) (head_of (rules.rule_20 d.conf))
+    ∙ order (head_of (rules.rule_1 most_parts d.conf)) (head_of (rules.rule_2 d.ids)) (head_of (middle d.conf))
+    (head_of (added_by_each (answers_broken (length d.conf.plans)) (map (λ monitor. monitor.answers) d.monitors))) (tables_broken d.conf) (head_of (last d.conf))
     (rule_1-begins d.conf).first (middle-begins d.conf).first
-    (first_from 19 20 (tables_broken d.conf) (head_of (rules.rule_20 d.conf))
-    (rule_19-begins (length d.conf.plans) (map monitor_of (map capped_part d.conf.parts))).first (rule_20-begins d.conf).first)
+    (first_from 19 22 (tables_broken d.conf) (head_of (last d.conf))
+    (rule_19-begins (length d.conf.plans) (map monitor_of (map capped_part d.conf.parts))).first (last-begins d.conf).first)
     (λ none. ap head_of (tables_none (length d.conf.plans) d.monitors d.conf.parts small tables (no_head _ none)))
-    ∙ ap (λ answers. first_there (head_of (rules.rule_1 d.conf)) (first_there (head_of (rules.rule_2 d.ids)) (first_there (head_of (middle d.conf))
-    (first_there (head_of answers) (head_of (rules.rule_20 d.conf))))))
+    ∙ ap (λ answers. first_there (head_of (rules.rule_1 most_parts d.conf)) (first_there (head_of (rules.rule_2 d.ids)) (first_there (head_of (middle d.conf))
+    (first_there (head_of answers) (head_of (last d.conf))))))
     (answers_told (length d.conf.plans) d.monitors small)
     ∙ sym (first_broken-parts d)
 
@@ -125,25 +133,25 @@ plans-capped conf = length-map conf.plans capped_plan
 
 -- what is reported of what is gathered is the description's first broken rule
 pub told_first : (raw : Conf) (ids : Ids) (answers : List (List HealthAnswer)) (d : Description) → Gathers (gathered_of raw ids answers) d
-    → first_told (length raw.plans) ids answers (rules.first_broken (described raw)) ≡ rules.first_broken d
+    → first_told (length raw.plans) ids answers (rules.first_broken most_parts (described raw)) ≡ rules.first_broken most_parts d
 told_first raw ids answers d gathers =
-    ap (λ r. first_told (length r.plans) ids answers (rules.first_broken (described r))) gathers.conf
-    ∙ ap (λ n. first_told n ids answers (rules.first_broken (described (capped_conf d.conf)))) (plans-capped d.conf)
-    ∙ ap (λ i. first_told (length d.conf.plans) i answers (rules.first_broken (described (capped_conf d.conf)))) gathers.ids
-    ∙ ap (λ a. first_told (length d.conf.plans) d.ids a (rules.first_broken (described (capped_conf d.conf)))) gathers.answers
+    ap (λ r. first_told (length r.plans) ids answers (rules.first_broken most_parts (described r))) gathers.conf
+    ∙ ap (λ n. first_told n ids answers (rules.first_broken most_parts (described (capped_conf d.conf)))) (plans-capped d.conf)
+    ∙ ap (λ i. first_told (length d.conf.plans) i answers (rules.first_broken most_parts (described (capped_conf d.conf)))) gathers.ids
+    ∙ ap (λ a. first_told (length d.conf.plans) d.ids a (rules.first_broken most_parts (described (capped_conf d.conf)))) gathers.answers
     ∙ told_parts d gathers.logged gathers.tables
 
 -- a description that breaks no rule keeps its numbers
-pub none_kept : (d : Description) → rules.first_broken d ≡ None → capped_conf d.conf ≡ d.conf
+pub none_kept : (d : Description) → rules.first_broken most_parts d ≡ None → capped_conf d.conf ≡ d.conf
 unfolding rules.first_broken rules.all_broken
 none_kept d none =
     let all = no_head _ none in
-    let chans = front_none _ _ (front_none _ _ all) in
+    let chans = front_none _ _ (front_none _ _ (front_none _ _ all)) in
     let plans = front_none _ _ chans in
-    let counts : rules.rule_1 d.conf ≡ [] = front_none _ _ (front_none _ _ (front_none _ _ (front_none _ _ plans))) in
+    let counts : rules.rule_1 most_parts d.conf ≡ [] = front_none _ _ (front_none _ _ (front_none _ _ (front_none _ _ plans))) in
     let bound = bounded d.conf counts in
     let uarts : length d.conf.uarts ≤ 255 = omega (arith, bound.uarts) in
-    conf_kept d.conf uarts (few_of d.conf bound) (back_none _ (rules.plan_rules d.conf) plans) (back_none _ (rules.chan_rules d.conf) chans)
+    conf_kept d.conf uarts (few_of d.conf bound) (back_none _ (rules.plan_rules d.conf) plans) (back_none _ (rules.chan_rules d.conf) chans) (back_none _ (rules.link_rules d.conf) all)
 
 -- where rule 1 is not what is told, it holds
 counts_hold : (counts : List Broken) (rest : Option Broken) → Begins 1 1 counts → is_within 1 (first_there (head_of counts) rest) ≡ false → counts ≡ []
@@ -166,11 +174,11 @@ few_slots (i ∷ ids) (plan ∷ plans) same few =
 
 -- where rule 1 is not what is found, there are few ids and answers
 pub few_told : (raw : Conf) (ids : Ids) (answers : List (List HealthAnswer)) (lists : ℕ) (found : Option Broken) → lists ≡ length answers
-    → HasSizes (gathered_of raw ids answers) → found ≡ rules.first_broken (described raw) → is_within 1 found ≡ false → HasFew ids lists
+    → HasSizes (gathered_of raw ids answers) → found ≡ rules.first_broken most_parts (described raw) → is_within 1 found ≡ false → HasFew ids lists
 few_told raw ids answers lists found all sizes is past =
-    let parts : found ≡ first_there (head_of (rules.rule_1 raw)) (first_there (head_of (middle raw))
-    (first_there (head_of (rules.rule_19 (length raw.plans) (map monitor_of raw.parts))) (head_of (rules.rule_20 raw)))) = is ∙ front-parts raw in
-    let counts : rules.rule_1 raw ≡ [] = counts_hold (rules.rule_1 raw) _ (rule_1-begins raw) (ap (is_within 1) (sym parts) ∙ past) in
+    let parts : found ≡ first_there (head_of (rules.rule_1 most_parts raw)) (first_there (head_of (middle raw))
+    (first_there (head_of (rules.rule_19 (length raw.plans) (map monitor_of raw.parts))) (head_of (last raw)))) = is ∙ front-parts raw in
+    let counts : rules.rule_1 most_parts raw ≡ [] = counts_hold (rules.rule_1 most_parts raw) _ (rule_1-begins raw) (ap (is_within 1) (sym parts) ∙ past) in
     let bound = bounded raw counts in
     let plans : length ids.plans ≡ length raw.plans =
     sym (length-map ids.plans (λ plan. length plan.slots)) ∙ ap length sizes.slots ∙ length-map raw.plans (λ plan. length plan.slots) in
@@ -197,8 +205,8 @@ told_some plans ids answers b none = at (nat_le b.rule 1) (head_of (rules.rule_2
 
 -- what is reported of what is gathered is the description's first broken rule
 pub told_is : (raw : Conf) (ids : Ids) (answers : List (List HealthAnswer)) (plans : ℕ) (found told : Option Broken) → plans ≡ length raw.plans
-    → found ≡ rules.first_broken (described raw) → told ≡ first_told plans ids answers found
-    → (d : Description) → Gathers (gathered_of raw ids answers) d → told ≡ rules.first_broken d
+    → found ≡ rules.first_broken most_parts (described raw) → told ≡ first_told plans ids answers found
+    → (d : Description) → Gathers (gathered_of raw ids answers) d → told ≡ rules.first_broken most_parts d
 told_is raw ids answers plans found told count is value d gathers =
     value
     ∙ ap (λ n. first_told n ids answers found) count

@@ -11,17 +11,12 @@ use Rattle.xm_conf.specs.declared.channel.ChanKind.{ChanKind}
 use Rattle.xm_conf.specs.declared.channel.ChanKind.TheVariants as chan_kind
 use Rattle.xm_conf.specs.declared.channel.End.{End}
 use Rattle.xm_conf.specs.declared.item.Item.TheVariants as item
-use Rattle.xmcf_check.specs.Capped.{capped, capped_slot, capped_plan, capped_end, capped_kind, capped_chan, capped_part, capped_conf}
-use Rattle.xmcf_check.proofs.ListLemmas.{front_none, back_none}
+use Rattle.xm_conf.specs.declared.link.Link.{Link}
+use Rattle.xmcf_check.specs.Capped.{capped, capped_slot, capped_plan, capped_end, capped_kind, capped_chan, capped_link, capped_part, capped_conf}
+use Rattle.xmcf_check.proofs.LinkLemmas.{links_kept}
+use Rattle.xmcf_check.proofs.ListLemmas.{front_none, back_none, made_kept}
 use Rattle.xmcf_check.proofs.CappedLemmas.{capped-kept}
 use Rattle.xmcf_check.proofs.CappedChanLemmas.{AreFew, unless_none, and_first, and_second, ends_kept}
-
--- elements that add nothing are those that are made of them
-made_kept : {X Y : Type 0} (f : ℕ → X → List Y) (g : X → X) → ((n : ℕ) (x : X) → f n x ≡ [] → g x ≡ x) → (n : ℕ) (xs : List X)
-    → each_from f n xs ≡ [] → map g xs ≡ xs
-made_kept f g keeps n [] none = refl
-made_kept f g keeps n (x ∷ xs) none =
-    ap (λ y. y ∷ map g xs) (keeps n x (front_none _ _ none)) ∙ ap (λ ys. x ∷ ys) (made_kept f g keeps (n + 1) xs (back_none _ _ none))
 
 -- a slot whose partition exists
 slot_kept : (parts p n : ℕ) (slot : Slot) → parts ≤ 255 → rules.stray_slot parts p n slot ≡ [] → capped_slot slot ≡ slot
@@ -91,9 +86,9 @@ chans_kept parts c (chan ∷ chans) few fit none =
     ap (λ y. y ∷ map capped_chan chans) (chan_kept parts c chan few (front_none _ _ fit) (front_none _ _ none))
     ∙ ap (λ ys. chan ∷ ys) (chans_kept parts (c + 1) chans few (back_none _ _ fit) (back_none _ _ none))
 
--- a configuration with other plans, partitions and channels
-abbrev conf_with : Conf → List Plan → List Part → List Chan → Conf
-conf_with conf plans parts chans =
+-- a configuration with other plans, partitions, channels and links
+abbrev conf_with : Conf → List Plan → List Part → List Chan → List Link → Conf
+conf_with conf plans parts chans links =
     record {
       name = conf.name;
       regions = conf.regions;
@@ -102,16 +97,19 @@ conf_with conf plans parts chans =
       plans = plans;
       parts = parts;
       chans = chans;
+      links = links;
     }
 
 -- a configuration whose numbers break no rule
-pub conf_kept : (conf : Conf) → length conf.uarts ≤ 255 → AreFew conf.parts → rules.plan_rules conf ≡ [] → rules.chan_rules conf ≡ [] → capped_conf conf ≡ conf
-unfolding rules.plan_rules rules.chan_rules rules.rule_13 rules.rule_14 rules.rule_15 rules.rule_16 capped_conf
-conf_kept conf uarts few plan chan =
-    ap (λ plans. conf_with conf plans (map capped_part conf.parts) (map capped_chan conf.chans))
+pub conf_kept : (conf : Conf) → length conf.uarts ≤ 255 → AreFew conf.parts → rules.plan_rules conf ≡ [] → rules.chan_rules conf ≡ [] → rules.link_rules conf ≡ []
+    → capped_conf conf ≡ conf
+unfolding rules.plan_rules rules.chan_rules rules.link_rules rules.rule_13 rules.rule_14 rules.rule_15 rules.rule_16 capped_conf
+conf_kept conf uarts few plan chan link =
+    ap (λ plans. conf_with conf plans (map capped_part conf.parts) (map capped_chan conf.chans) (map capped_link conf.links))
     (made_kept (rules.stray_slots (length conf.parts)) capped_plan (λ p plan. plan_kept (length conf.parts) p plan few.parts_few) 0 conf.plans
     (back_none (rules.rule_11 conf ++ rules.rule_12 conf) _ (front_none _ _ plan)))
-    ∙ ap (λ parts. conf_with conf conf.plans parts (map capped_chan conf.chans))
+    ∙ ap (λ parts. conf_with conf conf.plans parts (map capped_chan conf.chans) (map capped_link conf.links))
     (made_kept (rules.no_console (length conf.uarts)) capped_part (λ n part. part_kept (length conf.uarts) n part uarts) 0 conf.parts (back_none _ _ plan))
-    ∙ ap (λ chans. conf_with conf conf.plans conf.parts chans)
+    ∙ ap (λ chans. conf_with conf conf.plans conf.parts chans (map capped_link conf.links))
     (chans_kept conf.parts 0 conf.chans few (front_none _ _ (front_none _ _ (front_none _ _ chan))) (back_none _ _ (front_none _ _ (front_none _ _ chan))))
+    ∙ ap (λ links. conf_with conf conf.plans conf.parts conf.chans links) (links_kept conf few.parts_few (front_none (rules.rule_21 conf) (rules.rule_22 conf) link))

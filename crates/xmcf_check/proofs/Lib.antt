@@ -9,6 +9,7 @@ pub mod HeadLemmas
 pub mod IdLemmas
 pub mod JudgeLemmas
 pub mod KeptLemmas
+pub mod LinkLemmas
 pub mod ListLemmas
 pub mod NumberLemmas
 pub mod OnceLemmas

@@ -40,6 +40,13 @@ pub each-made : {X Y Z : Type 0} (f : ℕ → Y → List Z) (h : ℕ → X → L
     → (xs : List X) → added_by_each f (map g xs) ≡ added_by_each h xs
 each-made f h g same xs = each_from-made f h g same 0 xs
 
+-- elements that add nothing are those that are made of them
+pub made_kept : {X Y : Type 0} (f : ℕ → X → List Y) (g : X → X) → ((n : ℕ) (x : X) → f n x ≡ [] → g x ≡ x) → (n : ℕ) (xs : List X)
+    → each_from f n xs ≡ [] → map g xs ≡ xs
+made_kept f g keeps n [] none = refl
+made_kept f g keeps n (x ∷ xs) none =
+    ap (λ y. y ∷ map g xs) (keeps n x (front_none _ _ none)) ∙ ap (λ ys. x ∷ ys) (made_kept f g keeps (n + 1) xs (back_none _ _ none))
+
 -- a list with one element more, made of another
 pub map-push : {X Y : Type 0} (g : X → Y) (xs : List X) (x : X) → map g (xs ++ x ∷ []) ≡ map g xs ++ g x ∷ []
 map-push g [] x = refl

@@ -5,6 +5,7 @@ use Rattle.std.proofs.lemmas.Bool.Decides.{nat_tests}
 use Rattle.xm_conf.specs.Along.{head_of}
 use Rattle.xm_conf.specs.Configuration.{Conf}
 use Rattle.xm_conf.specs.Description.{Description}
+use Rattle.xm_conf.specs.Limits.{most_parts}
 use Rattle.xm_conf.specs.Rules as rules
 use Rattle.xm_conf.specs.declared.item.Broken.{Broken}
 use Rattle.xmcf_check.specs.Told.{first_there, told_among}
@@ -13,34 +14,38 @@ use Rattle.xmcf_check.specs.Told.{first_there, told_among}
 abbrev pub middle : Conf → List Broken
 middle conf = rules.rule_3 conf ++ rules.memory_rules conf ++ rules.plan_rules conf ++ rules.chan_rules conf
 
+-- what breaks the rules from 20 on
+abbrev pub last : Conf → List Broken
+last conf = rules.rule_20 conf ++ rules.link_rules conf
+
 -- the first of lists one after another
-first-eight : {X : Type 0} (a b c1 c2 c3 c4 d e : List X) → head_of (a ++ b ++ c1 ++ c2 ++ c3 ++ c4 ++ d ++ e)
-    ≡ first_there (head_of a) (first_there (head_of b) (first_there (head_of (c1 ++ c2 ++ c3 ++ c4)) (first_there (head_of d) (head_of e))))
-first-eight [] [] [] [] [] [] [] e = refl
-first-eight [] [] [] [] [] [] (x ∷ d) e = refl
-first-eight [] [] [] [] [] (x ∷ c4) d e = refl
-first-eight [] [] [] [] (x ∷ c3) c4 d e = refl
-first-eight [] [] [] (x ∷ c2) c3 c4 d e = refl
-first-eight [] [] (x ∷ c1) c2 c3 c4 d e = refl
-first-eight [] (x ∷ b) c1 c2 c3 c4 d e = refl
-first-eight (x ∷ a) b c1 c2 c3 c4 d e = refl
+first-nine : {X : Type 0} (a b c1 c2 c3 c4 d e1 e2 : List X) → head_of (a ++ b ++ c1 ++ c2 ++ c3 ++ c4 ++ d ++ e1 ++ e2)
+    ≡ first_there (head_of a) (first_there (head_of b) (first_there (head_of (c1 ++ c2 ++ c3 ++ c4)) (first_there (head_of d) (head_of (e1 ++ e2)))))
+first-nine [] [] [] [] [] [] [] e1 e2 = refl
+first-nine [] [] [] [] [] [] (x ∷ d) e1 e2 = refl
+first-nine [] [] [] [] [] (x ∷ c4) d e1 e2 = refl
+first-nine [] [] [] [] (x ∷ c3) c4 d e1 e2 = refl
+first-nine [] [] [] (x ∷ c2) c3 c4 d e1 e2 = refl
+first-nine [] [] (x ∷ c1) c2 c3 c4 d e1 e2 = refl
+first-nine [] (x ∷ b) c1 c2 c3 c4 d e1 e2 = refl
+first-nine (x ∷ a) b c1 c2 c3 c4 d e1 e2 = refl
 
 -- the first rule that is broken, part by part
-pub first_broken-parts : (d : Description) → rules.first_broken d
-    ≡ first_there (head_of (rules.rule_1 d.conf))
+pub first_broken-parts : (d : Description) → rules.first_broken most_parts d
+    ≡ first_there (head_of (rules.rule_1 most_parts d.conf))
     (first_there (head_of (rules.rule_2 d.ids)) (first_there (head_of (middle d.conf))
-    (first_there (head_of (rules.rule_19 (length d.conf.plans) d.monitors)) (head_of (rules.rule_20 d.conf)))))
+    (first_there (head_of (rules.rule_19 (length d.conf.plans) d.monitors)) (head_of (last d.conf)))))
 unfolding rules.first_broken rules.all_broken
 first_broken-parts d =
-    first-eight (rules.rule_1 d.conf) (rules.rule_2 d.ids) (rules.rule_3 d.conf) (rules.memory_rules d.conf) (rules.plan_rules d.conf)
-    (rules.chan_rules d.conf) (rules.rule_19 (length d.conf.plans) d.monitors) (rules.rule_20 d.conf)
+    first-nine (rules.rule_1 most_parts d.conf) (rules.rule_2 d.ids) (rules.rule_3 d.conf) (rules.memory_rules d.conf) (rules.plan_rules d.conf)
+    (rules.chan_rules d.conf) (rules.rule_19 (length d.conf.plans) d.monitors) (rules.rule_20 d.conf) (rules.link_rules d.conf)
 
 -- a broken rule, where there is one, has a number from one to another
 abbrev pub IsFrom : ℕ → ℕ → Option Broken → Type 0
 IsFrom low high found = IfSome found (λ b. (low ≤ b.rule) × (b.rule ≤ high))
 
 -- what is found after the answers, where a table's action breaks a rule only if an answer does
-order_last : (id answer table need : Option Broken) → IsFrom 19 20 (first_there table need) → (answer ≡ None → table ≡ None)
+order_last : (id answer table need : Option Broken) → IsFrom 19 22 (first_there table need) → (answer ≡ None → table ≡ None)
     → told_among id answer (first_there table need) ≡ first_there id (first_there answer need)
 unfolding told_among
 order_last id answer None None from none = refl
@@ -57,7 +62,7 @@ order_last id (Some a) (Some b) need from none =
     rw (past_first, past_middle) refl
 
 -- what is found in the order of the rules
-pub order : (count id other answer table need : Option Broken) → IsFrom 1 1 count → IsFrom 3 18 other → IsFrom 19 20 (first_there table need)
+pub order : (count id other answer table need : Option Broken) → IsFrom 1 1 count → IsFrom 3 18 other → IsFrom 19 22 (first_there table need)
     → (answer ≡ None → table ≡ None)
     → told_among id answer (first_there count (first_there other (first_there table need))) ≡ first_there count (first_there id (first_there other (first_there answer need)))
 unfolding told_among

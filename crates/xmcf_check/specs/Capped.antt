@@ -6,6 +6,7 @@ use Rattle.xm_conf.specs.declared.plan.Slot.{Slot}
 use Rattle.xm_conf.specs.declared.channel.ChanKind.{ChanKind}
 use Rattle.xm_conf.specs.declared.channel.ChanKind.TheVariants as chan_kind
 use Rattle.xm_conf.specs.declared.channel.End.{End}
+use Rattle.xm_conf.specs.declared.link.Link.{Link}
 
 -- a number, or the greatest that a field holds where it is greater
 unfoldable pub capped : ℕ → ℕ → ℕ
@@ -33,6 +34,10 @@ unfoldable pub capped_chan : Chan → Chan
 capped_chan chan =
     record { kind = capped_kind chan.kind; length = capped 65535 chan.length; source = capped_end chan.source; dests = map capped_end chan.dests }
 
+-- a link whose numbers fields hold
+unfoldable pub capped_link : Link → Link
+capped_link link = record { number = capped 255 link.number; source = capped 255 link.source; dest = capped 255 link.dest }
+
 -- a partition whose console's number a field holds
 unfoldable pub capped_part : Part → Part
 capped_part part =
@@ -58,4 +63,5 @@ capped_conf conf =
       plans = map capped_plan conf.plans;
       parts = map capped_part conf.parts;
       chans = map capped_chan conf.chans;
+      links = map capped_link conf.links;
     }

@@ -8,6 +8,7 @@ use Rattle.xm_conf.specs.Configuration.{Plan, Part, Chan, Conf}
 use Rattle.xm_conf.specs.Description.{PlanIds, Ids, HealthAnswer, Monitor, Description}
 use Rattle.xm_conf.specs.Health.{default_action, event_row, events}
 use Rattle.xm_conf.specs.declared.channel.End.{End}
+use Rattle.xm_conf.specs.declared.link.Link.{Link}
 use Rattle.xm_conf.specs.declared.health.Action.{Action}
 use Rattle.xm_conf.specs.declared.health.Event.{Event}
 use Rattle.xm_conf.specs.declared.part.HmTable.{HmTable}
@@ -17,7 +18,7 @@ use Rattle.xmcf_reader.specs.declared.draft.Element.{Element}
 use Rattle.xmcf_reader.specs.declared.draft.Element.TheVariants as element
 use Rattle.xmcf_reader.specs.declared.draft.Entry.{Entry}
 use Rattle.xmcf_reader.specs.Drafts.{behind_root}
-use Rattle.xmcf_check.specs.Elements.{element_area, carried_of, element_frame, element_answer, mask_of, element_need, element_own, part_id_of, plan_id_of, element_port, processor_of, region_of, element_size, slot_id_of, element_slot, uart_id_of, uart_of}
+use Rattle.xmcf_check.specs.Elements.{element_area, carried_of, element_frame, element_answer, link_element, mask_of, element_need, element_own, part_id_of, plan_id_of, element_port, processor_of, region_of, element_size, slot_id_of, element_slot, uart_id_of, uart_of}
 use Rattle.xmcf_check.specs.declared.elements.Carried.{Carried}
 use Rattle.xmcf_check.specs.declared.elements.Given.{Given}
 use Rattle.xmcf_check.specs.declared.elements.Own.{Own}
@@ -245,11 +246,17 @@ chans_by ports entries = added_by_each (described_chan ports entries) entries
 unfoldable pub chans_of : List Entry → List Chan
 chans_of entries = chans_by (port_names (parts_of entries)) entries
 
+-- Links.
+
+-- the links
+unfoldable pub described_links : List Entry → List Link
+described_links entries = among link_element entries
+
 -- The whole.
 
 -- the configuration that a draft describes
 unfoldable pub described_conf : List Entry → Conf
-described_conf entries = record { name = system_name entries; regions = regions_of entries; hv_size = hv_size_of entries; uarts = uarts_of entries; plans = plans_of entries; parts = parts_of entries; chans = chans_of entries }
+described_conf entries = record { name = system_name entries; regions = regions_of entries; hv_size = hv_size_of entries; uarts = uarts_of entries; plans = plans_of entries; parts = parts_of entries; chans = chans_of entries; links = described_links entries }
 
 -- what a draft describes
 unfoldable pub description_of : List Entry → Description

@@ -2,6 +2,7 @@
 use Rattle.std.specs.Prelude.{ℕ, List, Option, None, Some}
 use Rattle.xmcf_reader.specs.declared.draft.Element.{Element}
 use Rattle.xmcf_reader.specs.declared.draft.Element.TheVariants as element
+use Rattle.xm_conf.specs.declared.link.Link.{Link}
 use Rattle.xm_conf.specs.declared.part.Area.{Area}
 use Rattle.xm_conf.specs.declared.part.Need.{Need}
 use Rattle.xm_conf.specs.declared.plan.Slot.{Slot}
@@ -98,6 +99,11 @@ abbrev pub carried_of : Element → Option Carried
 carried_of (element.Sampling size refresh) = Some record { kind = kind.Sampling refresh; size = size }
 carried_of (element.Queuing size most) = Some record { kind = kind.Queuing most; size = size }
 carried_of _ = None
+
+-- a link
+abbrev pub link_element : Element → Option Link
+link_element (element.Ipvi id source dest) = Some record { number = id; source = source; dest = dest }
+link_element _ = None
 
 -- what a channel carries, with its numbers capped
 unfoldable pub capped_carried : Carried → Carried

@@ -4,6 +4,7 @@ use Rattle.std.specs.List.{find}
 use Rattle.xm_conf.specs.Configuration.{Conf}
 use Rattle.xm_conf.specs.Description.{Ids, HealthAnswer, Monitor, Description}
 use Rattle.xm_conf.specs.Health.{default_action, event_row, events}
+use Rattle.xm_conf.specs.Limits.{most_parts}
 use Rattle.xm_conf.specs.Rules.{first_broken}
 use Rattle.xm_conf.specs.declared.health.Event.{Event}
 use Rattle.xm_conf.specs.declared.health.Action.{Action}
@@ -47,5 +48,5 @@ pub record Gathers (g : Gathered) (d : Description) : Type 0 where
 
 -- what is reported of a description: its configuration, which breaks no rule, or the first rule that is broken
 abbrev pub Judges : Result Conf Broken → Description → Type 0
-Judges (Ok conf) d = (first_broken d ≡ None) × (conf ≡ d.conf)
-Judges (Err broken) d = first_broken d ≡ Some broken
+Judges (Ok conf) d = (first_broken most_parts d ≡ None) × (conf ≡ d.conf)
+Judges (Err broken) d = first_broken most_parts d ≡ Some broken

@@ -40,6 +40,8 @@ is_of sort.Source (element.Source part name) = true
 is_of sort.Source _ = false
 is_of sort.Dest (element.Destination part name) = true
 is_of sort.Dest _ = false
+is_of sort.Link (element.Ipvi id source dest) = true
+is_of sort.Link _ = false
 
 -- whether an entry belongs to an owner: to none, to its parent, or to its parent's parent
 abbrev pub belongs : List Entry → Owner → Entry → Bool
@@ -108,3 +110,4 @@ place_of entries (item.Port p n) = place_nth n (grandchild_items entries sort.Po
 place_of entries (item.Event p n) = place_nth n (flat_map (event_items entries (number_nth entries sort.Part p)) events)
 place_of entries (item.Chan n) = place_nth n (items entries sort.Chan owner.Nobody)
 place_of entries (item.End c n) = end_place entries (number_nth entries sort.Chan c) n
+place_of entries (item.Link n) = place_nth n (items entries sort.Link owner.Nobody)

@@ -2,6 +2,7 @@
 use Rattle.std.specs.Prelude.{ℕ, ◌≤◌, if◌then◌else◌, Bool, false, nat_le, List, length, All, Option, Some, None}
 use Rattle.xm_conf.specs.Along.{head_of, added_by_each}
 use Rattle.xm_conf.specs.Description.{Ids, HealthAnswer}
+use Rattle.xm_conf.specs.Limits.{most_parts}
 use Rattle.xm_conf.specs.Rules.{rule_2}
 use Rattle.xm_conf.specs.declared.item.Broken.{Broken}
 use Rattle.xmcf_check.specs.Answered.{answers_broken}
@@ -29,5 +30,5 @@ pub record HasFew (ids : Ids) (lists : ℕ) : Type 0 where
   pub uarts : length ids.uarts ≤ 8
   pub plans : length ids.plans ≤ 8
   pub slots : All (λ plan. length plan.slots ≤ 64) ids.plans
-  pub parts : length ids.parts ≤ 16
-  pub answers : lists ≤ 16
+  pub parts : length ids.parts ≤ most_parts
+  pub answers : lists ≤ most_parts

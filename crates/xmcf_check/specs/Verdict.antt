@@ -2,6 +2,7 @@
 use Rattle.std.specs.Prelude.{◌≡◌, ⊤, List, Option, Some, None, Result, Ok, Err}
 use Rattle.xm_base.specs.Options.{on}
 use Rattle.xm_conf.specs.Configuration.{Conf}
+use Rattle.xm_conf.specs.Limits.{most_parts}
 use Rattle.xm_conf.specs.Rules.{first_broken}
 use Rattle.xm_conf.specs.declared.item.Broken.{Broken}
 use Rattle.xmcf_reader.specs.declared.draft.Entry.{Entry}
@@ -16,7 +17,7 @@ broken_with_places entries broken = fault.Rule broken.rule (place_of entries bro
 
 -- the first rule that a draft breaks, with the places of its two items
 unfoldable pub verdict_of : List Entry → Option CheckFault
-verdict_of entries = on (broken_with_places entries) (first_broken (description_of entries))
+verdict_of entries = on (broken_with_places entries) (first_broken most_parts (description_of entries))
 
 -- a configuration is the one that the draft describes, and no rule is broken; a broken rule is the first
 abbrev pub IsVerdict : Result Conf CheckFault → List Entry → Type 0

@@ -2,6 +2,7 @@
 
 ghost use Rattle.std.specs.Prelude.{◌≡◌, ◌<◌, ◌≤◌, IfSome, length, map};
 ghost use Rattle.std.specs.List.{position_from};
+ghost use Rattle.xm_conf.specs.Limits.{most_parts};
 ghost use Rattle.xm_conf.specs.Along.{along, added_by_each, head_of};
 ghost use Rattle.xm_conf.specs.Rules as rules;
 ghost use Rattle.xm_conf.specs.declared.item.Item.TheVariants as item;
@@ -98,7 +99,7 @@ fn answers_broken(plans: usize, p: u8, answers: &[Answer]) -> Option<Broken>
 /// The first answer of a partition that may not stand.
 #[tactic(auto, using(xm_conf::specs::AlongLemmas::each_loop))]
 fn lists_broken(plans: usize, answers: &[Vec<Answer>]) -> Option<Broken>
-    requires { length answers.now ≤ 16 }
+    requires { length answers.now ≤ most_parts }
     ensures { result ≡ head_of (added_by_each (λ p list. answers_broken plans p list.items) answers.now) }
 {
     for (p, list) in answers.iter().enumerate() {
@@ -112,7 +113,7 @@ fn lists_broken(plans: usize, answers: &[Vec<Answer>]) -> Option<Broken>
 
 /// The first answer that may not stand.
 pub(crate) fn rule_19(plans: usize, answers: &[Vec<Answer>]) -> Option<Broken>
-    requires { length answers.now ≤ 16 }
+    requires { length answers.now ≤ most_parts }
     ensures { result ≡ head_of (added_by_each (answers_broken plans) (map (λ list. list.items) answers.now)) }
 {
     lists_broken(plans, answers)

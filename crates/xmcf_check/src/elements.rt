@@ -2,10 +2,10 @@
 
 ghost use Rattle.std.specs.Prelude.{◌≡◌};
 ghost use Rattle.xm_base.specs.Options.{on};
-ghost use Rattle.xmcf_check.specs.Capped.{capped, capped_slot};
-ghost use Rattle.xmcf_check.specs.Elements.{element_area, capped_carried, carried_of, element_frame, element_answer, mask_of, element_need, element_own, part_id_of, plan_id_of, element_port, processor_of, region_of, element_size, slot_id_of, element_slot, uart_id_of, uart_of};
+ghost use Rattle.xmcf_check.specs.Capped.{capped, capped_link, capped_slot};
+ghost use Rattle.xmcf_check.specs.Elements.{element_area, capped_carried, carried_of, element_frame, element_answer, link_element, mask_of, element_need, element_own, part_id_of, plan_id_of, element_port, processor_of, region_of, element_size, slot_id_of, element_slot, uart_id_of, uart_of};
 
-use xm_conf::{Action, Area, ChanKind, Event, Name, Need, Port, Region, Slot};
+use xm_conf::{Action, Area, ChanKind, Event, Link, Name, Need, Port, Region, Slot};
 use xmcf_reader::Element;
 
 /// An answer to a health event, and whether the event is logged.
@@ -269,6 +269,21 @@ pub(crate) fn carried_of(element: &Element) -> Option<Carried>
         Element::Queuing { length, most } => Some(Carried {
             kind: ChanKind::Queuing { most: byte(*most) },
             size: half_word(*length),
+        }),
+        _ => None,
+    }
+}
+
+/// A link, with its numbers capped.
+#[tactic(auto, unfolding(crate::specs::Capped::capped_link))]
+pub(crate) fn link_of(element: &Element) -> Option<Link>
+    ensures { result ≡ on capped_link (link_element element.now) }
+{
+    match element {
+        Element::Ipvi { id, source, dest } => Some(Link {
+            number: byte(*id),
+            source: byte(*source),
+            dest: byte(*dest),
         }),
         _ => None,
     }

@@ -16,7 +16,7 @@ ghost use Rattle.xmcf_check.specs.Described.{described_conf, description_of};
 use crate::gathered::Gathered;
 use crate::gathering::channels::chans;
 use crate::gathering::id_lists::ids;
-use crate::gathering::lists::{hv_size, regions, system_name, uarts};
+use crate::gathering::lists::{hv_size, links, regions, system_name, uarts};
 use crate::gathering::monitors::monitors;
 use crate::gathering::partitions::parts;
 use crate::gathering::plans::plans;
@@ -41,6 +41,7 @@ fn raw(alloc: Global, entries: &[Entry]) -> Result<RawConf, Memory>
         plans: plans(alloc, entries)?,
         parts,
         chans,
+        links: links(alloc, entries)?,
     })
 }
 

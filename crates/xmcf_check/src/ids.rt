@@ -1,6 +1,7 @@
 //! Ids are 0, 1, 2 and so on in their order.
 
 ghost use Rattle.std.specs.Prelude.{◌≡◌, ◌≤◌, All, length};
+ghost use Rattle.xm_conf.specs.Limits.{most_parts};
 ghost use Rattle.xm_conf.specs.Along.{added_by_each, head_of};
 ghost use Rattle.xm_conf.specs.Rules as rules;
 ghost use Rattle.xm_conf.specs.declared.item.Item.TheVariants as item;
@@ -59,7 +60,7 @@ fn slots_misplaced(p: u8, ids: &[u32]) -> Option<Broken>
 
 /// The first partition whose id is not its place.
 fn parts_misplaced(ids: &[u32]) -> Option<Broken>
-    requires { length ids.now ≤ 16 }
+    requires { length ids.now ≤ most_parts }
     ensures { result ≡ head_of (added_by_each (rules.misplaced item.Part) ids.now) }
 {
     match misplaced(ids) {
@@ -103,7 +104,7 @@ pub(crate) fn rule_2(ids: &Ids) -> Option<Broken>
     requires uarts { length ids.now.uarts ≤ 8 }
     requires plans { length ids.now.plans ≤ 8 }
     requires slots { All (λ plan. length plan.slots ≤ 64) ids.now.plans }
-    requires parts { length ids.now.parts ≤ 16 }
+    requires parts { length ids.now.parts ≤ most_parts }
     ensures { result ≡ head_of (rules.rule_2 ids.now) }
 {
     let broken = unless(ids.processor == 0, 2, Item::Whole);

@@ -2,6 +2,7 @@
 
 ghost use Rattle.std.specs.Prelude.{◌≡◌, false, IfErr, IfOk, None, Some, length, map};
 ghost use Rattle.xm_conf.specs.Description.{Description, described};
+ghost use Rattle.xm_conf.specs.Limits.{most_parts};
 ghost use Rattle.xm_conf.specs.Rules.{first_broken};
 ghost use Rattle.xmcf_check.specs.Judged.{Gathers, HasSizes, Judges, gathered_of};
 ghost use Rattle.xmcf_check.specs.Told.{HasFew, first_told, is_within};
@@ -52,8 +53,8 @@ fn first_told(
 /// The configuration, where its ids and answers to health events aside it breaks no rule, or the first that it breaks.
 fn configured(raw: RawConf) -> Result<Conf, Broken>
     ensures kept { IfOk result (λ conf. conf ≡ raw) }
-    ensures none { IfOk result (λ conf. first_broken (described raw) ≡ None) }
-    ensures broken { IfErr result (λ broken. first_broken (described raw) ≡ Some broken) }
+    ensures none { IfOk result (λ conf. first_broken most_parts (described raw) ≡ None) }
+    ensures broken { IfErr result (λ broken. first_broken most_parts (described raw) ≡ Some broken) }
 {
     broken_unless_fits();
     Conf::new(raw)

@@ -184,6 +184,7 @@ fn place_among(entries: &[Entry], item: Item) -> usize
             let chan = number_nth(entries, Sort::Chan, usize::from(c));
             end_place(entries, chan, usize::from(n))
         }
+        Item::Link(n) => nth(entries, Sort::Link, Owner::Nobody, usize::from(n)),
     }
 }
 

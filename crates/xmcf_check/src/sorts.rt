@@ -22,6 +22,7 @@ pub(crate) enum Sort {
     Chan,
     Source,
     Dest,
+    Link,
 }
 
 /// To which entry an item belongs, by its number.
@@ -51,6 +52,7 @@ pub(crate) fn is_of(sort: Sort, element: &Element) -> bool
         Sort::Chan => matches!(element, Element::Sampling { .. } | Element::Queuing { .. }),
         Sort::Source => matches!(element, Element::Source { .. }),
         Sort::Dest => matches!(element, Element::Destination { .. }),
+        Sort::Link => matches!(element, Element::Ipvi { .. }),
     }
 }
 

@@ -5,7 +5,7 @@ use Rattle.std.specs.List.{AllByRecursion}
 use Rattle.xm_conf.specs.Name.{is_name, name_from_bytes}
 use Rattle.xmcf_reader.specs.Draft.{lacks_attribute}
 use Rattle.xmcf_reader.specs.Drafts.{word_of}
-use Rattle.xmcf_reader.specs.Elements.{Pair, attribute_text, or_empty, attribute_text_of, default, built, system, region_element, processor, plan_element, slot_element, uart, hypervisor_area, partition, system_given, console_given, area_element, is_read_only, need_element, event, event_given, action_given, logged_given, trace, port_element, sampling, refresh, queuing, source, destination}
+use Rattle.xmcf_reader.specs.Elements.{Pair, attribute_text, or_empty, attribute_text_of, default, built, system, region_element, processor, plan_element, slot_element, uart, hypervisor_area, partition, system_given, console_given, area_element, is_read_only, need_element, event, event_given, action_given, logged_given, trace, port_element, sampling, refresh, queuing, source, destination, ipvi}
 use Rattle.xmcf_reader.specs.Table.{attributes, must, may}
 use Rattle.xmcf_reader.specs.Values.{on_value, number, address, size, time, flags, access, log, kind_named, way_named, has_form}
 use Rattle.xmcf_reader.specs.Words.{word_number}
@@ -218,9 +218,16 @@ destination_built given all =
     on_gives _ (number (attribute_text_of word.PartitionId given)) _ (number_given given word.PartitionId all.0) (λ part.
     on_gives _ (name_from_bytes (attribute_text_of word.PortName given)) _ (name_given given word.PortName all.1.0) (λ name. refl))
 
+ipvi_built : (given : List Pair) → FulfilAll given word.Ipvi → IsOf word.Ipvi (ipvi given)
+unfolding ipvi
+ipvi_built given all =
+    on_gives _ (number (attribute_text_of word.Id given)) _ (number_given given word.Id all.0) (λ id.
+    on_gives _ (number (attribute_text_of word.SourceId given)) _ (number_given given word.SourceId all.1.0) (λ source.
+    on_gives _ (number (attribute_text_of word.DestinationId given)) _ (number_given given word.DestinationId all.1.1.0) (λ dest. refl)))
+
 -- whether a name is an element's
 abbrev pub is_element : Word → Bool
-is_element word = nat_lt (word_number word) 28
+is_element word = nat_lt (word_number word) 29
 
 -- a start tag that lacks no attribute, whose values have their forms, gives its element
 pub built_is : (word : Word) (given : List Pair) → is_element word ≡ true → FulfilAll given word → IsOf word (built word given)
@@ -253,4 +260,5 @@ built_is word.SamplingChannel given is all = sampling_built given all
 built_is word.QueuingChannel given is all = queuing_built given all
 built_is word.Source given is all = source_built given all
 built_is word.Destination given is all = destination_built given all
+built_is word.Ipvi given is all = ipvi_built given all
 built_is other given is all = cc

@@ -66,10 +66,10 @@ all_words =
     word.SystemDescription ∷ word.HwDescription ∷ word.MemoryLayout ∷ word.Region ∷ word.ProcessorTable ∷ word.Processor ∷ word.CyclicPlanTable ∷
     word.Plan ∷ word.Slot ∷ word.Devices ∷ word.Uart ∷ word.XmHypervisor ∷ word.PhysicalMemoryArea ∷ word.PartitionTable ∷ word.Partition ∷
     word.PhysicalMemoryAreas ∷ word.Area ∷ word.TemporalRequirements ∷ word.HealthMonitor ∷ word.Event ∷ word.Trace ∷ word.PortTable ∷ word.Port ∷
-    word.Channels ∷ word.SamplingChannel ∷ word.QueuingChannel ∷ word.Source ∷ word.Destination ∷ word.Version ∷ word.Name ∷ word.Xmlns ∷
+    word.Channels ∷ word.SamplingChannel ∷ word.QueuingChannel ∷ word.Source ∷ word.Destination ∷ word.Ipvi ∷ word.Version ∷ word.Name ∷ word.Xmlns ∷
     word.Kind ∷ word.Start ∷ word.Size ∷ word.Id ∷ word.Frequency ∷ word.MajorFrame ∷ word.Duration ∷ word.PartitionId ∷ word.BaudRate ∷
     word.Console ∷ word.Flags ∷ word.Period ∷ word.Action ∷ word.Log ∷ word.Bitmask ∷ word.Device ∷ word.Direction ∷ word.MaxMessageLength ∷
-    word.RefreshPeriod ∷ word.MaxNoMessages ∷ word.PortName ∷ []
+    word.RefreshPeriod ∷ word.MaxNoMessages ∷ word.PortName ∷ word.SourceId ∷ word.DestinationId ∷ []
 
 -- each name stands at its number
 numbered : (one : Word) → slice_get all_words (word_number one) ≡ Some one

@@ -106,7 +106,7 @@ sound_equaled (Equaled attribute) tag open_elements entries h = h
 
 -- the names of the table's elements are elements
 all_elements : AllByRecursion (λ word. is_element word ≡ true) elements
-all_elements = (refl, (refl, (refl, (refl, (refl, (refl, (refl, (refl, (refl, (refl, (refl, (refl, (refl, (refl, (refl, (refl, (refl, (refl, (refl, (refl, (refl, (refl, (refl, (refl, (refl, (refl, (refl, (refl, tt))))))))))))))))))))))))))))
+all_elements = (refl, (refl, (refl, (refl, (refl, (refl, (refl, (refl, (refl, (refl, (refl, (refl, (refl, (refl, (refl, (refl, (refl, (refl, (refl, (refl, (refl, (refl, (refl, (refl, (refl, (refl, (refl, (refl, (refl, tt)))))))))))))))))))))))))))))
 
 -- what bytes name is an element
 pub named_element : (name : List ℕ) (word : Word) → element_named name ≡ Some word → is_element word ≡ true

@@ -42,6 +42,7 @@ word_of (element.Sampling length refresh) = word.SamplingChannel
 word_of (element.Queuing length most) = word.QueuingChannel
 word_of (element.Source part name) = word.Source
 word_of (element.Destination part name) = word.Destination
+word_of (element.Ipvi id source dest) = word.Ipvi
 
 -- the entry has this number
 abbrev pub StandsAt : List Entry → ℕ → Entry → Type 0

@@ -152,6 +152,13 @@ source given = on_value (number (attribute_text_of word.PartitionId given)) (λ 
 unfoldable pub destination : List Pair → Option Element
 destination given = on_value (number (attribute_text_of word.PartitionId given)) (λ part. on_value (name_from_bytes (attribute_text_of word.PortName given)) (λ name. Some (element.Destination part name)))
 
+-- a link
+unfoldable pub ipvi : List Pair → Option Element
+ipvi given =
+    on_value (number (attribute_text_of word.Id given)) (λ id.
+    on_value (number (attribute_text_of word.SourceId given)) (λ source.
+    on_value (number (attribute_text_of word.DestinationId given)) (λ dest. Some (element.Ipvi id source dest))))
+
 -- the element with its values
 unfoldable pub built : Word → List Pair → Option Element
 built word.SystemDescription given = system given
@@ -182,4 +189,5 @@ built word.SamplingChannel given = sampling given
 built word.QueuingChannel given = queuing given
 built word.Source given = source given
 built word.Destination given = destination given
+built word.Ipvi given = ipvi given
 built attribute given = None

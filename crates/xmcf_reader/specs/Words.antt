@@ -35,6 +35,7 @@ word_text word.SamplingChannel = codes "SamplingChannel"
 word_text word.QueuingChannel = codes "QueuingChannel"
 word_text word.Source = codes "Source"
 word_text word.Destination = codes "Destination"
+word_text word.Ipvi = codes "Ipvi"
 word_text word.Version = codes "version"
 word_text word.Name = codes "name"
 word_text word.Xmlns = codes "xmlns"
@@ -59,6 +60,8 @@ word_text word.MaxMessageLength = codes "maxMessageLength"
 word_text word.RefreshPeriod = codes "refreshPeriod"
 word_text word.MaxNoMessages = codes "maxNoMessages"
 word_text word.PortName = codes "portName"
+word_text word.SourceId = codes "sourceId"
+word_text word.DestinationId = codes "destinationId"
 
 -- each has a number of its own
 abbrev pub word_number : Word → ℕ
@@ -90,30 +93,33 @@ word_number word.SamplingChannel = 24
 word_number word.QueuingChannel = 25
 word_number word.Source = 26
 word_number word.Destination = 27
-word_number word.Version = 28
-word_number word.Name = 29
-word_number word.Xmlns = 30
-word_number word.Kind = 31
-word_number word.Start = 32
-word_number word.Size = 33
-word_number word.Id = 34
-word_number word.Frequency = 35
-word_number word.MajorFrame = 36
-word_number word.Duration = 37
-word_number word.PartitionId = 38
-word_number word.BaudRate = 39
-word_number word.Console = 40
-word_number word.Flags = 41
-word_number word.Period = 42
-word_number word.Action = 43
-word_number word.Log = 44
-word_number word.Bitmask = 45
-word_number word.Device = 46
-word_number word.Direction = 47
-word_number word.MaxMessageLength = 48
-word_number word.RefreshPeriod = 49
-word_number word.MaxNoMessages = 50
-word_number word.PortName = 51
+word_number word.Ipvi = 28
+word_number word.Version = 29
+word_number word.Name = 30
+word_number word.Xmlns = 31
+word_number word.Kind = 32
+word_number word.Start = 33
+word_number word.Size = 34
+word_number word.Id = 35
+word_number word.Frequency = 36
+word_number word.MajorFrame = 37
+word_number word.Duration = 38
+word_number word.PartitionId = 39
+word_number word.BaudRate = 40
+word_number word.Console = 41
+word_number word.Flags = 42
+word_number word.Period = 43
+word_number word.Action = 44
+word_number word.Log = 45
+word_number word.Bitmask = 46
+word_number word.Device = 47
+word_number word.Direction = 48
+word_number word.MaxMessageLength = 49
+word_number word.RefreshPeriod = 50
+word_number word.MaxNoMessages = 51
+word_number word.PortName = 52
+word_number word.SourceId = 53
+word_number word.DestinationId = 54
 
 -- both are the same name
 abbrev pub is_word : Word → Word → Bool
@@ -127,7 +133,7 @@ elements =
     word.XmHypervisor ∷ word.PhysicalMemoryArea ∷ word.PartitionTable ∷ word.Partition ∷
     word.PhysicalMemoryAreas ∷ word.Area ∷ word.TemporalRequirements ∷ word.HealthMonitor ∷ word.Event ∷
     word.Trace ∷ word.PortTable ∷ word.Port ∷ word.Channels ∷ word.SamplingChannel ∷ word.QueuingChannel ∷
-    word.Source ∷ word.Destination ∷ []
+    word.Source ∷ word.Destination ∷ word.Ipvi ∷ []
 
 -- the element that bytes name, where they name one
 unfoldable pub element_named : List ℕ → Option Word

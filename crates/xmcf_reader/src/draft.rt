@@ -99,7 +99,7 @@ pub enum Element {
         kind: Kind,
         way: Way,
     },
-    /// The channels.
+    /// The channels and links.
     Channels,
     /// A sampling channel; a refresh period of 0 is forever.
     Sampling {
@@ -120,6 +120,12 @@ pub enum Element {
     Destination {
         part: u32,
         name: Name,
+    },
+    /// A link.
+    Ipvi {
+        id: u32,
+        source: u32,
+        dest: u32,
     },
 }
 

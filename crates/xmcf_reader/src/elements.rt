@@ -302,6 +302,17 @@ fn destination(given: &[Pair<'_>]) -> Option<Element>
     Some(Element::Destination { part, name })
 }
 
+/// A link.
+#[tactic(auto, unfolding(crate::specs::Elements::ipvi))]
+fn ipvi(given: &[Pair<'_>]) -> Option<Element>
+    ensures { result ≡ elements.ipvi (pairs_of given.now) }
+{
+    let id = number(text_of(Word::Id, given))?;
+    let source = number(text_of(Word::SourceId, given))?;
+    let dest = number(text_of(Word::DestinationId, given))?;
+    Some(Element::Ipvi { id, source, dest })
+}
+
 /// The element with its values.
 #[tactic(auto, unfolding(crate::specs::Elements::built))]
 pub(crate) fn built(word: Word, given: &[Pair<'_>]) -> Option<Element>
@@ -336,6 +347,7 @@ pub(crate) fn built(word: Word, given: &[Pair<'_>]) -> Option<Element>
         Word::QueuingChannel => queuing(given),
         Word::Source => source(given),
         Word::Destination => destination(given),
+        Word::Ipvi => ipvi(given),
         _ => None,
     }
 }

@@ -328,6 +328,23 @@ pub(crate) fn attributes(element: Word) -> &'static [Attribute]
                 needed: true,
             },
         ],
+        Word::Ipvi => &[
+            Attribute {
+                word: Word::Id,
+                form: Form::Number,
+                needed: true,
+            },
+            Attribute {
+                word: Word::SourceId,
+                form: Form::Number,
+                needed: true,
+            },
+            Attribute {
+                word: Word::DestinationId,
+                form: Form::Number,
+                needed: true,
+            },
+        ],
         _ => &[],
     }
 }
@@ -442,6 +459,10 @@ pub(crate) fn children(element: Word) -> &'static [Child]
             },
             Child {
                 word: Word::QueuingChannel,
+                often: Often::Any,
+            },
+            Child {
+                word: Word::Ipvi,
                 often: Often::Any,
             },
         ],

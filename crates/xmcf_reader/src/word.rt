@@ -63,6 +63,8 @@ pub enum Word {
     Source,
     /// The element `Destination`.
     Destination,
+    /// The element `Ipvi`.
+    Ipvi,
     /// The attribute `version`.
     Version,
     /// The attribute `name`.
@@ -111,10 +113,14 @@ pub enum Word {
     MaxNoMessages,
     /// The attribute `portName`.
     PortName,
+    /// The attribute `sourceId`.
+    SourceId,
+    /// The attribute `destinationId`.
+    DestinationId,
 }
 
 /// All elements, in the order of their table.
-const ELEMENTS: [Word; 28] = [
+const ELEMENTS: [Word; 29] = [
     Word::SystemDescription,
     Word::HwDescription,
     Word::MemoryLayout,
@@ -143,6 +149,7 @@ const ELEMENTS: [Word; 28] = [
     Word::QueuingChannel,
     Word::Source,
     Word::Destination,
+    Word::Ipvi,
 ];
 
 impl Word {
@@ -179,6 +186,7 @@ impl Word {
             Word::QueuingChannel => "QueuingChannel",
             Word::Source => "Source",
             Word::Destination => "Destination",
+            Word::Ipvi => "Ipvi",
             Word::Version => "version",
             Word::Name => "name",
             Word::Xmlns => "xmlns",
@@ -203,6 +211,8 @@ impl Word {
             Word::RefreshPeriod => "refreshPeriod",
             Word::MaxNoMessages => "maxNoMessages",
             Word::PortName => "portName",
+            Word::SourceId => "sourceId",
+            Word::DestinationId => "destinationId",
         }
     }
 

@@ -26,6 +26,7 @@ pub(super) fn configured(
         plans: plans(alloc, rows)?,
         parts: parts(rt, alloc)?,
         chans: Vec::new(alloc),
+        links: Vec::new(alloc),
     };
     match Conf::new(raw) {
         Ok(conf) => Ok(conf),

@@ -1,13 +1,15 @@
-//! What stands alone: the names, the regions, the sizes and the ids.
+//! What stands alone: the names, the regions, the sizes, the links and the ids.
 
 ghost use Rattle.std.specs.Prelude.{◌≡◌, IfOk, unwrap_or};
 ghost use Rattle.xmcf_reader.specs.Drafts.{IsDraft};
 ghost use Rattle.xmcf_check.specs.Described.{among, first_among, hv_size_of, regions_of, system_name, uarts_of};
-ghost use Rattle.xmcf_check.specs.Elements.{part_id_of, processor_of, element_size, uart_id_of};
+ghost use Rattle.xm_base.specs.Options.{on};
+ghost use Rattle.xmcf_check.specs.Capped.{capped_link};
+ghost use Rattle.xmcf_check.specs.Elements.{link_element, part_id_of, processor_of, element_size, uart_id_of};
 
-use crate::elements::{part_id_of, processor_of, region_of, size_of, uart_id_of, uart_of};
+use crate::elements::{link_of, part_id_of, processor_of, region_of, size_of, uart_id_of, uart_of};
 use std::alloc::{AllocError, Global};
-use xm_conf::{Name, Region};
+use xm_conf::{Link, Name, Region};
 use xmcf_reader::{Element, Entry};
 
 /// The system's name.
@@ -60,6 +62,16 @@ pub(super) fn uarts(alloc: Global, entries: &[Entry]) -> Result<Vec<Name>, Alloc
     entries
         .iter()
         .filter_map(|entry| uart_of(&entry.what))
+        .collect(alloc)
+}
+
+/// The links, with their numbers capped.
+pub(super) fn links(alloc: Global, entries: &[Entry]) -> Result<Vec<Link>, AllocError>
+    ensures { IfOk result (λ links. links.items ≡ among (λ element. on capped_link (link_element element)) entries.now) }
+{
+    entries
+        .iter()
+        .filter_map(|entry| link_of(&entry.what))
         .collect(alloc)
 }
 

@@ -1,4 +1,5 @@
 use Rattle.std.proofs.Common.{ap, ◌∙◌, Ok}
+use Rattle.bin_config.specs.declared.version.Version.TheVariants.{Two}
 use Rattle.loaded_system.specs.System.{System}
 use Rattle.xm_container.specs.Box.{box_text}
 use Rattle.generated_system.specs.Generated.{generated}
@@ -18,5 +19,5 @@ returns-in-Ok-clause-read c =
 
 pub starved-requires : goal.starved-requires
 starved-requires c =
-    only_memory c.pack.result c.in-Err.fault _ (box_text (generated c.args.number)) c.in-Err.is c.pack.ensures.exact
+    only_memory c.pack.result c.in-Err.fault _ (box_text Two (generated c.args.number)) c.in-Err.is c.pack.ensures.exact
     (packed_is c.args.number c.in_ok-conf.conf c.deref.result.now c.in_ok-conf.ensures (c.deref.ensures.value ∙ c.in_ok-images.ensures))

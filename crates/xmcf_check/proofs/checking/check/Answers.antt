@@ -1,3 +1,4 @@
+use Rattle.xm_conf.specs.Limits.{most_parts}
 use Rattle.xmcf_check.specs.Described.{description_of}
 use Rattle.xmcf_check.proofs.GathersLemmas.{gathers}
 use Rattle.xmcf_check.proofs.VerdictLemmas.{verdict-some, verdict-none}
@@ -18,7 +19,7 @@ pub returns-in-Ok-clause-fits : goal.returns-in-Ok-clause-fits
 returns-in-Ok-clause-fits c =
     let told = c.in_ok-gathered.ensures in
     let is = c.in-Ok.ensures (description_of c.args.draft.now) (gathers c.in_ok-gathered.gathered c.args.draft.now told.conf told.ids told.answers) in
-    (c.broken_unless_fits.ensures.law (description_of c.args.draft.now)).0 is.0
+    (c.broken_unless_fits.ensures.law most_parts (description_of c.args.draft.now)).0 is.0
 
 pub returns-in-Err-clause-verdict : goal.returns-in-Err-clause-verdict
 returns-in-Err-clause-verdict c =

@@ -1,6 +1,7 @@
 use Rattle.std.proofs.Common.{List, ◌<◌, ◌≤◌, length, map, ap, ◌∙◌, arith}
 use Rattle.std.proofs.lemmas.List.{length-map}
 use Rattle.xm_conf.specs.Configuration.{Part}
+use Rattle.xm_conf.specs.Limits.{most_parts}
 use Rattle.guest_memory.specs.Loading.{memory_areas, zeros_in}
 use Rattle.guest_memory.specs.Memories.{Memories}
 use Rattle.guest_memory.proofs.NearLemmas.{near_selected, parts_counted}
@@ -14,7 +15,7 @@ fresh parts = record { areas = map memory_areas parts; maps = map zeros_in (map 
 pub invariant_of-result : goal.invariant_of-result
 invariant_of-result c =
     let some : 0 < length (map memory_areas c.parts_of.result.now) = omega (arith, length-map c.parts_of.result.now memory_areas, c.parts_of.ensures.counted.some) in
-    let few : length (map memory_areas c.parts_of.result.now) ≤ 16 = omega (arith, length-map c.parts_of.result.now memory_areas, c.parts_of.ensures.counted.few) in
+    let few : length (map memory_areas c.parts_of.result.now) ≤ most_parts = omega (arith, length-map c.parts_of.result.now memory_areas, c.parts_of.ensures.counted.few) in
     let counted : 0 < length c.in_ok-made.made.0.items = parts_counted c.in_ok-made.made.0.items 0 (rw c.in_ok-made.ensures.areas some) in
     record {
       kept = kept_new c.in_ok-made.made.0.items (map memory_areas c.parts_of.result.now) c.in_ok-made.made.1 c.in_ok-bytes.bytes.items c.in_ok-made.ensures.areas c.in_ok-made.ensures.tables c.in_ok-made.ensures.size
