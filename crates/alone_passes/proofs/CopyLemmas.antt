@@ -9,8 +9,8 @@ use Rattle.xm_conf.specs.View.{channel_of}
 use Rattle.xm_ports.specs.Channels.{Content, cleared, put, first_taken}
 use Rattle.machine_model.specs.Lists.{each, is_number, table, then_some}
 use Rattle.machine_model.specs.Machine.{Machine}
-use Rattle.machine_model.specs.Told.{OwnPuts, OwnStill, OwnTakes, OwnTraffic}
-use Rattle.machine_model.specs.Traffic.{Puts, Still, Takes, Traffic, after_own, after_traffic, content_if, copies_after, copies_of, puts_at, takes_at, told_as}
+use Rattle.machine_model.specs.Told.{OwnPuts, OwnSignals, OwnStill, OwnTakes, OwnTraffic}
+use Rattle.machine_model.specs.Traffic.{Puts, Still, Takes, Traffic, after_own, after_traffic, content_if, copies_after, copies_of, heard_of_own, puts_at, takes_at, told_as}
 use Rattle.machine_model.specs.LocalTick.{has_name}
 use Rattle.machine_model.specs.View.{PortChannel, if_named, name_of, named, part_of, port_channel, view_of, with_its_name, with_name}
 
@@ -129,21 +129,38 @@ take_copied conf p time q channels r None is (Some d) its =
     by true same x = absurd (let e : None ≡ Some d = sym is ∙ ap (named conf p) (eqb-true q r same) ∙ its in cc)
     by false other x = refl
 
+still_copied : (conf : Conf) (p : ℕ) (channels : List Content) (r : ℕ)
+    → content_if (each (λ c content. content) channels) (named conf p r) ≡ on (λ x. x) (content_if channels (named conf p r))
+still_copied conf p channels r = ap (λ (xs : List Content). content_if xs (named conf p r)) (each_id channels) ∙ sym (on_id (content_if channels (named conf p r)))
+
 own_copied : (conf : Conf) (p time : ℕ) (own : OwnTraffic) (channels : List Content) (r : ℕ)
-    → copied conf p time (told_as (named conf p) own) channels r ≡ on (after_own time own r) (content_if channels (named conf p r))
-own_copied conf p time OwnStill channels r =
-    ap (λ (xs : List Content). content_if xs (named conf p r)) (each_id channels) ∙ sym (on_id (content_if channels (named conf p r)))
+    → copied conf p time (told_as conf p own) channels r ≡ on (after_own time (heard_of_own own) r) (content_if channels (named conf p r))
+own_copied conf p time OwnStill channels r = still_copied conf p channels r
 own_copied conf p time (OwnPuts q bytes) channels r = put_copied conf p time q bytes channels r (named conf p q) refl (named conf p r) refl
 own_copied conf p time (OwnTakes q) channels r = take_copied conf p time q channels r (named conf p q) refl (named conf p r) refl
+own_copied conf p time (OwnSignals number) channels r = still_copied conf p channels r
 
--- the copies that a partition has of the channels, after traffic under its own names
+-- the copies that a partition has of the channels, after traffic of its own
 pub own_copies : (conf : Conf) (p ports time : ℕ) (own : OwnTraffic) (channels : List Content)
-    → copies_of conf p ports (each (after_traffic time (told_as (named conf p) own)) channels) ≡ copies_after time own (copies_of conf p ports channels)
+    → copies_of conf p ports (each (after_traffic time (told_as conf p own)) channels) ≡ copies_after time (heard_of_own own) (copies_of conf p ports channels)
 unfolding copies_of copies_after
 own_copies conf p ports time own channels =
-    same_tables (copied conf p time (told_as (named conf p) own) channels) (λ r. on (after_own time own r) (content_if channels (named conf p r))) ports
+    same_tables (copied conf p time (told_as conf p own) channels) (λ r. on (after_own time (heard_of_own own) r) (content_if channels (named conf p r))) ports
     (λ r. own_copied conf p time own channels r)
-    ∙ sym (each_table (λ r copy. on (after_own time own r) copy) (λ r. content_if channels (named conf p r)) ports)
+    ∙ sym (each_table (λ r copy. on (after_own time (heard_of_own own) r) copy) (λ r. content_if channels (named conf p r)) ports)
+
+-- none, and a signal, do nothing to them
+each_kept : (xs : List (Option Content)) → each (λ q copy. on (λ (content : Content). content) copy) xs ≡ xs
+each_kept [] = refl
+each_kept (x ∷ xs) = rw (each_kept xs, on_id x) refl
+
+pub still_kept : (contents : List (Option Content)) (time : ℕ) → copies_after time OwnStill contents ≡ contents
+unfolding copies_after
+still_kept contents time = each_kept contents
+
+pub signal_kept : (contents : List (Option Content)) (time number : ℕ) → copies_after time (OwnSignals number) contents ≡ contents
+unfolding copies_after
+signal_kept contents time number = each_kept contents
 
 -- and after all channels were emptied
 cleared_if : (channels : List Content) (n : Option ℕ) → content_if (map cleared channels) n ≡ on cleared (content_if channels n)

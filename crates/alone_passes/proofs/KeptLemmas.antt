@@ -15,11 +15,11 @@ use Rattle.machine_model.specs.Cue.{Cue}
 use Rattle.machine_model.specs.Facts.{AreFacts, HasFacts, IsClocked, IsTimed, KeepsClocked, begun}
 use Rattle.machine_model.specs.Health.{Worked}
 use Rattle.machine_model.specs.Machine.{Machine, SlotTurn, after, booted_part, happened, happened_by, is_halt, local, local_in, next_clock, step, turn_of}
-use Rattle.machine_model.specs.Partition.{PartitionState, is_halted, reset}
+use Rattle.machine_model.specs.Partition.{PartitionState, is_halted, link_signal, reset}
 use Rattle.machine_model.specs.Structures.{flag}
-use Rattle.machine_model.specs.Told.{OwnPuts, OwnStill, OwnTakes, OwnTraffic}
-use Rattle.machine_model.specs.Traffic.{Puts, Still, Takes, Traffic, after_message, after_traffic, heard_as, heard_from, hearing, interrupted, told_as}
-use Rattle.machine_model.specs.View.{PartitionView, System, name_of, named, view_of}
+use Rattle.machine_model.specs.Told.{OwnPuts, OwnSignals, OwnStill, OwnTakes, OwnTraffic}
+use Rattle.machine_model.specs.Traffic.{Puts, Signals, Still, Takes, Traffic, after_message, after_traffic, heard_as, heard_from, hearing, interrupted, puts_at, takes_at}
+use Rattle.machine_model.specs.View.{PartitionView, System, named, view_of}
 use Rattle.machine_model.specs.Whole.{AllHalted, AllReset, NoEvent, WholeEvent, event_of, ticks_after}
 use Rattle.slot_runs.specs.Passes.{part_at, traded, traffic_in, with_part, with_traffic}
 use Rattle.virt_traps.specs.Virtual.{raised}
@@ -69,6 +69,7 @@ unfolding after_message
 hearing_alike view OwnStill ps = itself ps
 hearing_alike view (OwnPuts q bytes) ps = interrupted_alike (heard_from q view.part.ports ps.made view.channels) ps
 hearing_alike view (OwnTakes q) ps = itself ps
+hearing_alike view (OwnSignals number) ps = interrupted_alike (Some (link_signal number)) ps
 
 -- another partition of a machine that stands for one of this one, of which the facts say the same
 record IsBefore (q : ℕ) (g : Machine) (ps : PartitionState) : Type 0 where
@@ -113,20 +114,21 @@ stay_put p x g h is q ps differs there =
 
 -- traffic
 stay_heard : (p : ℕ) (t : Traffic) (g : Machine) → OthersStay p g (with_traffic t g)
-stay_heard p t g q ps differs there = by (slice_get g.parts q) refl (sym (get_each (λ k x. hearing (view_of g.system k) (heard_as (name_of g.system.conf k) t) x) g.parts q) ∙ there)
+stay_heard p t g q ps differs there = by (slice_get g.parts q) refl (sym (get_each (λ k x. hearing (view_of g.system k) (heard_as g.system.conf k t) x) g.parts q) ∙ there)
   where
-    by : (o : Option PartitionState) → slice_get g.parts q ≡ o → on (λ x. hearing (view_of g.system q) (heard_as (name_of g.system.conf q) t) x) o ≡ Some ps → IsBefore q g ps
+    by : (o : Option PartitionState) → slice_get g.parts q ≡ o → on (λ x. hearing (view_of g.system q) (heard_as g.system.conf q t) x) o ≡ Some ps → IsBefore q g ps
     by None is found = absurd cc
     by (Some x) is found = record {
       before = x;
       there = is;
-      alike = subst (IsAlike x) (same_Some (hearing (view_of g.system q) (heard_as (name_of g.system.conf q) t) x) ps found) (hearing_alike (view_of g.system q) (heard_as (name_of g.system.conf q) t) x);
+      alike = subst (IsAlike x) (same_Some (hearing (view_of g.system q) (heard_as g.system.conf q t) x) ps found) (hearing_alike (view_of g.system q) (heard_as g.system.conf q t) x);
     }
 
 stay_traded : (p : ℕ) (t : Traffic) (g : Machine) → OthersStay p g (traded t g)
 stay_traded p Still g = stay_same p g g refl
 stay_traded p (Puts c bytes) g = stay_heard p (Puts c bytes) g
 stay_traded p (Takes c) g = stay_heard p (Takes c) g
+stay_traded p (Signals source number) g = stay_heard p (Signals source number) g
 
 stay_met : (p : ℕ) (e : WholeEvent) (g : Machine) → OthersStay p g (event_met p e g)
 stay_met p NoEvent g = stay_same p g g refl
@@ -167,6 +169,7 @@ side_traded : (t : Traffic) (g : Machine) → IsSide g (traded t g)
 side_traded Still g = side_itself g
 side_traded (Puts c bytes) g = record { system = refl; parts = each_length _ g.parts; channels = each_length (after_traffic g.time (Puts c bytes)) g.channels; clock = refl; time = refl; ticks = refl }
 side_traded (Takes c) g = record { system = refl; parts = each_length _ g.parts; channels = each_length (after_traffic g.time (Takes c)) g.channels; clock = refl; time = refl; ticks = refl }
+side_traded (Signals source number) g = record { system = refl; parts = each_length _ g.parts; channels = each_length (after_traffic g.time (Signals source number)) g.channels; clock = refl; time = refl; ticks = refl }
 
 side_met : (p : ℕ) (e : WholeEvent) (g : Machine) → IsSide g (event_met p e g)
 side_met p NoEvent g = side_itself g
@@ -178,6 +181,7 @@ traded_halted : (t : Traffic) (g : Machine) → (traded t g).halted ≡ g.halted
 traded_halted Still g = refl
 traded_halted (Puts c bytes) g = refl
 traded_halted (Takes c) g = refl
+traded_halted (Signals source number) g = refl
 
 met_halted : (p : ℕ) (e : WholeEvent) (g : Machine) → g.halted ≡ false → (event_met p e g).halted ≡ is_halt e
 met_halted p NoEvent g runs = runs
@@ -307,17 +311,33 @@ kept_by law p e g h runs side stay halts =
     none : (n : ℕ) → n + 0 + 1 ≡ n + 1
     none n = omega arith
 
+-- the same of traffic of others
+stay_told : (p : ℕ) (own : OwnTraffic) (g : Machine) → OthersStay p g (told_traffic p own g)
+stay_told p OwnStill g = stay_same p g g refl
+stay_told p (OwnPuts q bytes) g = stay_traded p (puts_at (named g.system.conf p q) bytes) g
+stay_told p (OwnTakes q) g = stay_traded p (takes_at (named g.system.conf p q)) g
+stay_told p (OwnSignals number) g = stay_put p (hearing (view_of g.system p) (OwnSignals number) (part_at p g)) g (told_traffic p (OwnSignals number) g) refl
+
+side_told : (p : ℕ) (own : OwnTraffic) (g : Machine) → IsSide g (told_traffic p own g)
+side_told p OwnStill g = side_itself g
+side_told p (OwnPuts q bytes) g = side_traded (puts_at (named g.system.conf p q) bytes) g
+side_told p (OwnTakes q) g = side_traded (takes_at (named g.system.conf p q)) g
+side_told p (OwnSignals number) g = side_put p (hearing (view_of g.system p) (OwnSignals number) (part_at p g)) g
+
+told_halted : (p : ℕ) (own : OwnTraffic) (g : Machine) → (told_traffic p own g).halted ≡ g.halted
+told_halted p OwnStill g = refl
+told_halted p (OwnPuts q bytes) g = traded_halted (puts_at (named g.system.conf p q) bytes) g
+told_halted p (OwnTakes q) g = traded_halted (takes_at (named g.system.conf p q)) g
+told_halted p (OwnSignals number) g = refl
+
 -- a tick in the slot of another partition, or in a gap
 away_kept : KeepsClocked → (g : Machine) (p : ℕ) (cue : Cue) → g.halted ≡ false → IsKeptBy p cue.whole g (away_passed p cue g)
 away_kept law g p cue runs =
     kept_by law p cue.whole g g4 runs
-    (side_then g g3 g4 (side_then g g2 g3 (side_then g g1 g2 (side_traded t g) (side_put p _ g1)) (side_met p cue.whole g2)) (side_put p _ g3))
-    (stay_then p g g3 g4 (stay_then p g g2 g3 (stay_then p g g1 g2 (stay_traded p t g) (stay_put p _ g1 g2 refl)) (stay_met p cue.whole g2)) (stay_put p _ g3 g4 refl))
-    (met_halted p cue.whole g2 (traded_halted t g ∙ runs))
+    (side_then g g3 g4 (side_then g g2 g3 (side_then g g1 g2 (side_told p cue.traffic g) (side_put p _ g1)) (side_met p cue.whole g2)) (side_put p _ g3))
+    (stay_then p g g3 g4 (stay_then p g g2 g3 (stay_then p g g1 g2 (stay_told p cue.traffic g) (stay_put p _ g1 g2 refl)) (stay_met p cue.whole g2)) (stay_put p _ g3 g4 refl))
+    (met_halted p cue.whole g2 (told_halted p cue.traffic g ∙ runs))
   where
-    t : Traffic
-    t = told_as (named g.system.conf p) cue.traffic
-
     g1 : Machine
     g1 = told_traffic p cue.traffic g
 

@@ -9,18 +9,19 @@ use Rattle.xm_conf.specs.Configuration.{Conf}
 use Rattle.xm_ports.specs.Channels.{Content, cleared}
 use Rattle.machine_model.specs.Alone.{Alone}
 use Rattle.machine_model.specs.Laws.{part}
+use Rattle.machine_model.specs.LinkLemmas.{own_signal}
 use Rattle.machine_model.specs.Lists.{each}
 use Rattle.machine_model.specs.Machine.{Machine, booted_part, copies, obeyed_told}
-use Rattle.machine_model.specs.Partition.{PartitionState, applies, is_halted, order_told, ordered_told, reset}
-use Rattle.machine_model.specs.Told.{OwnPuts, OwnStill, OwnTakes, OwnTraffic}
-use Rattle.machine_model.specs.Traffic.{Puts, Still, Takes, Traffic, after_message, after_traffic, copies_after, copies_of, heard_as, heard_from, hearing, interrupted, own_puts_at, own_takes_at, puts_at, takes_at, told_as}
+use Rattle.machine_model.specs.Partition.{PartitionState, applies, is_halted, link_signal, order_told, ordered_told, reset}
+use Rattle.machine_model.specs.Told.{OwnPuts, OwnSignals, OwnStill, OwnTakes, OwnTraffic}
+use Rattle.machine_model.specs.Traffic.{Puts, Signals, Still, Takes, Traffic, after_message, after_traffic, copies_after, copies_of, heard_as, heard_from, heard_of_own, hearing, interrupted, own_puts_at, own_takes_at, puts_at, takes_at, told_as}
 use Rattle.machine_model.specs.View.{PartitionView, name_of, named, part_of, view_of}
 use Rattle.machine_model.specs.Whole.{AllHalted, AllReset, NoEvent, WholeEvent, after_event, content_after, ticks_after, time_after}
 use Rattle.slot_runs.specs.Passes.{part_at, traded, with_part, with_traffic}
 use Rattle.virt_traps.specs.Virtual.{raised}
 use Rattle.alone_passes.specs.Laws.{IsOwnChannel}
-use Rattle.alone_passes.specs.Passes.{event_met, part_in, tick_past}
-use Rattle.alone_passes.proofs.CopyLemmas.{cleared_copies, each_id, named_name, on_id, on_same, own_copies}
+use Rattle.alone_passes.specs.Passes.{event_met, part_in, told_traffic, tick_past}
+use Rattle.alone_passes.proofs.CopyLemmas.{cleared_copies, each_id, named_name, on_id, on_same, own_copies, signal_kept}
 
 -- a partition alone, of its parts
 abbrev pub alone_of : PartitionState → List (Option Content) → ℕ → ℕ → Alone
@@ -47,7 +48,7 @@ each_length f (x ∷ xs) = ap suc (each_length (λ k. f (suc k)) xs)
 
 -- traffic of the system, as partition p hears it
 abbrev heard_state : Machine → Traffic → ℕ → PartitionState → PartitionState
-heard_state g t q ps = hearing (view_of g.system q) (heard_as (name_of g.system.conf q) t) ps
+heard_state g t q ps = hearing (view_of g.system q) (heard_as g.system.conf q t) ps
 
 abbrev traded_part : Machine → Traffic → ℕ → Alone
 traded_part g t p =
@@ -68,14 +69,15 @@ part_after_traffic : (g : Machine) (p : ℕ) (t : Traffic) → p < length g.part
 part_after_traffic g p Still below = part_still g p
 part_after_traffic g p (Puts c bytes) below = part_trafficked g p (Puts c bytes) below
 part_after_traffic g p (Takes c) below = part_trafficked g p (Takes c) below
+part_after_traffic g p (Signals source number) below = part_trafficked g p (Signals source number) below
 
 -- what a partition hears of traffic under its own name
 puts_heard : (conf : Conf) (p q : ℕ) (bytes : List ℕ) (c : ℕ) → named conf p q ≡ Some c
-    → heard_as (name_of conf p) (puts_at (named conf p q) bytes) ≡ OwnPuts q bytes
+    → heard_as conf p (puts_at (named conf p q) bytes) ≡ OwnPuts q bytes
 puts_heard conf p q bytes c is =
-    ap (λ o. heard_as (name_of conf p) (puts_at o bytes)) is ∙ ap (λ o. own_puts_at o bytes) (named_name conf p q c is)
+    ap (λ o. heard_as conf p (puts_at o bytes)) is ∙ ap (λ o. own_puts_at o bytes) (named_name conf p q c is)
 
-takes_heard : (view : PartitionView) (conf : Conf) (p : ℕ) (o : Option ℕ) (ps : PartitionState) → hearing view (heard_as (name_of conf p) (takes_at o)) ps ≡ ps
+takes_heard : (view : PartitionView) (conf : Conf) (p : ℕ) (o : Option ℕ) (ps : PartitionState) → hearing view (heard_as conf p (takes_at o)) ps ≡ ps
 takes_heard view conf p None ps = refl
 takes_heard view conf p (Some c) ps = by (name_of conf p c)
   where
@@ -83,33 +85,62 @@ takes_heard view conf p (Some c) ps = by (name_of conf p c)
     by None = refl
     by (Some q) = refl
 
+-- what it hears of traffic of its own
 own_heard : (view : PartitionView) (conf : Conf) (p : ℕ) (own : OwnTraffic) (ps : PartitionState) → IsOwnChannel conf p own
-    → hearing view (heard_as (name_of conf p) (told_as (named conf p) own)) ps ≡ hearing view own ps
+    → hearing view (heard_as conf p (told_as conf p own)) ps ≡ hearing view (heard_of_own own) ps
 own_heard view conf p OwnStill ps is = refl
 own_heard view conf p (OwnPuts q bytes) ps is = ap (λ heard. hearing view heard ps) (puts_heard conf p q bytes is.0 is.1)
 own_heard view conf p (OwnTakes q) ps is = takes_heard view conf p (named conf p q) ps
+own_heard view conf p (OwnSignals number) ps is = ap (λ heard. hearing view heard ps) (own_signal conf p number)
 
--- traffic under the partition's own names
+-- traffic of its own
 pub part_traded : (g : Machine) (p : ℕ) (own : OwnTraffic) → p < length g.parts → IsOwnChannel g.system.conf p own
-    → part_in (traded (told_as (named g.system.conf p) own) g) p ≡ alone_of (hearing (view_of g.system p) own (part_at p g)) (copies_after g.time own (copies g p)) g.ticks g.time
+    → part_in (traded (told_as g.system.conf p own) g) p
+    ≡ alone_of (hearing (view_of g.system p) (heard_of_own own) (part_at p g)) (copies_after g.time (heard_of_own own) (copies g p)) g.ticks g.time
 unfolding copies
 part_traded g p own below is =
-    part_after_traffic g p (told_as (named g.system.conf p) own) below
-    ∙ ap (λ (s : PartitionState). alone_of s (copies_of g.system.conf p (length (part_of g.system.conf p).ports) (each (after_traffic g.time (told_as (named g.system.conf p) own)) g.channels)) g.ticks g.time)
+    part_after_traffic g p (told_as g.system.conf p own) below
+    ∙ ap (λ (s : PartitionState). alone_of s (copies_of g.system.conf p (length (part_of g.system.conf p).ports) (each (after_traffic g.time (told_as g.system.conf p own)) g.channels)) g.ticks g.time)
     (own_heard (view_of g.system p) g.system.conf p own (part_at p g) is)
-    ∙ ap (λ (contents : List (Option Content)). alone_of (hearing (view_of g.system p) own (part_at p g)) contents g.ticks g.time)
+    ∙ ap (λ (contents : List (Option Content)). alone_of (hearing (view_of g.system p) (heard_of_own own) (part_at p g)) contents g.ticks g.time)
     (own_copies g.system.conf p (length (part_of g.system.conf p).ports) g.time own g.channels)
+
+-- traffic of others that it is told of
+pub part_told : (g : Machine) (p : ℕ) (own : OwnTraffic) → p < length g.parts → IsOwnChannel g.system.conf p own
+    → part_in (told_traffic p own g) p ≡ alone_of (hearing (view_of g.system p) own (part_at p g)) (copies_after g.time own (copies g p)) g.ticks g.time
+part_told g p OwnStill below is = part_traded g p OwnStill below is
+part_told g p (OwnPuts q bytes) below is = part_traded g p (OwnPuts q bytes) below is
+part_told g p (OwnTakes q) below is = part_traded g p (OwnTakes q) below is
+part_told g p (OwnSignals number) below is =
+    part_put p (hearing (view_of g.system p) (OwnSignals number) (part_at p g)) g below
+    ∙ ap (λ (contents : List (Option Content)). alone_of (hearing (view_of g.system p) (OwnSignals number) (part_at p g)) contents g.ticks g.time)
+    (sym (signal_kept (copies g p) g.time number))
 
 -- what is the same after traffic
 pub traded_system : (t : Traffic) (g : Machine) → (traded t g).system ≡ g.system
 traded_system Still g = refl
 traded_system (Puts c bytes) g = refl
 traded_system (Takes c) g = refl
+traded_system (Signals source number) g = refl
 
 pub traded_length : (t : Traffic) (g : Machine) → length (traded t g).parts ≡ length g.parts
 traded_length Still g = refl
 traded_length (Puts c bytes) g = each_length (heard_state g (Puts c bytes)) g.parts
 traded_length (Takes c) g = each_length (heard_state g (Takes c)) g.parts
+traded_length (Signals source number) g = each_length (heard_state g (Signals source number)) g.parts
+
+-- and after that of others
+pub told_system : (p : ℕ) (own : OwnTraffic) (g : Machine) → (told_traffic p own g).system ≡ g.system
+told_system p OwnStill g = refl
+told_system p (OwnPuts q bytes) g = traded_system (puts_at (named g.system.conf p q) bytes) g
+told_system p (OwnTakes q) g = traded_system (takes_at (named g.system.conf p q)) g
+told_system p (OwnSignals number) g = refl
+
+pub told_length : (p : ℕ) (own : OwnTraffic) (g : Machine) → length (told_traffic p own g).parts ≡ length g.parts
+told_length p OwnStill g = refl
+told_length p (OwnPuts q bytes) g = traded_length (puts_at (named g.system.conf p q) bytes) g
+told_length p (OwnTakes q) g = traded_length (takes_at (named g.system.conf p q)) g
+told_length p (OwnSignals number) g = length-set g.parts p (hearing (view_of g.system p) (OwnSignals number) (part_at p g))
 
 -- a hypervisor event
 kept_copies : (contents : List (Option Content)) → contents ≡ map (on (λ content. content)) contents
@@ -172,6 +203,7 @@ unfolding after_message
 heard_state_is view OwnStill ps = refl
 heard_state_is view (OwnPuts q bytes) ps = heard_alike (heard_from q view.part.ports ps.made view.channels) ps
 heard_state_is view (OwnTakes q) ps = refl
+heard_state_is view (OwnSignals number) ps = heard_alike (Some (link_signal number)) ps
 
 pub told_alike : (view : PartitionView) (own : OwnTraffic) (order : Option Order) (ps : PartitionState) → obeyed_told order (hearing view own ps) ≡ obeyed_told order ps
 unfolding ordered_told

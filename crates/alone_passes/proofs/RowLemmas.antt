@@ -20,6 +20,7 @@ queue_rows = record {
   sample = λ view copies q refresh message held is holds. put_by _ (Some (samples refresh q)) _ (Some (Sampling held)) is holds;
   first = λ view copies q one later holds. ap (λ (o : Option Content). not (is_empty_copy o)) holds;
   empty = λ view copies q holds. ap (λ (o : Option Content). not (is_empty_copy o)) holds;
+  signal = λ view copies number. refl;
 }
 
 both : (a b : Bool) → a ≡ true → b ≡ true → (a && b) ≡ true

@@ -21,9 +21,9 @@ use Rattle.machine_model.specs.LocalTick.{LocalTick, bounded, local_tick, worked
 use Rattle.machine_model.specs.Machine.{Machine, SlotTurn, act_of, answer_to, booted_part, copies, happened, happened_by, if_its_turn, is_turn_of, local, local_in, local_of, sight, sight_for, sight_in, sight_of_state, start, step, system_traffic, taken_by, tick_of, turn_of, with_room}
 use Rattle.machine_model.specs.Observed.{CurrentPlan, HealthCounts, HealthEntryOf, Observation, PartitionStatus, PlanStatus, Question, SystemStatus, TraceCounts, TraceEntryOf, asks}
 use Rattle.machine_model.specs.Partition.{PartitionState, takes_turns}
-use Rattle.machine_model.specs.Told.{Act, AllHalted, AllReset, NoEvent, NotKept, OwnPuts, OwnStill, OwnTakes, OwnTraffic, Sight, Unseen, WholeEvent, Words}
+use Rattle.machine_model.specs.Told.{Act, AllHalted, AllReset, NoEvent, NotKept, OwnPuts, OwnSignals, OwnStill, OwnTakes, OwnTraffic, Sight, Unseen, WholeEvent, Words}
 use Rattle.machine_model.specs.Traffic.{heard_as, traffic_of}
-use Rattle.machine_model.specs.View.{PartitionView, PortChannel, System, name_of, view_of}
+use Rattle.machine_model.specs.View.{PartitionView, PortChannel, System, view_of}
 use Rattle.machine_model.specs.Whole.{event_of}
 use Rattle.slot_runs.specs.Passes.{part_at}
 use Rattle.alone_passes.specs.Passes.{part_in}
@@ -62,6 +62,7 @@ allowed_taken view contents (OwnTakes name) allowed = ap not (by (slice_index_or
     by : (copy : Option Content) → ((content : Content) → copy ≡ Some content → IsSome (first_message content)) → is_empty_copy copy ≡ false
     by None waits = refl
     by (Some content) waits = one_waits content (waits content refl)
+allowed_taken view contents (OwnSignals number) allowed = refl
 
 unless_own_taken : (view : PartitionView) (contents : List (Option Content)) (b : Bool) (own : OwnTraffic) → takes_traffic view contents own ≡ true → takes_traffic view contents (unless_own b own) ≡ true
 unless_own_taken view contents true own taken = refl
@@ -108,7 +109,7 @@ same_event AllHalted = refl
 abbrev told_by : Machine → ℕ → Option SlotTurn → Cue
 told_by g p o = record {
   mine = slot_of o p;
-  traffic = unless_own (is_some (if_its_turn (is_turn_of o p) (local_in g o))) (heard_as (name_of g.system.conf p) (system_traffic g.system.conf o (traffic_of (act_of (local_in g o)))));
+  traffic = unless_own (is_some (if_its_turn (is_turn_of o p) (local_in g o))) (heard_as g.system.conf p (system_traffic g.system.conf o (traffic_of (act_of (local_in g o)))));
   order = (cue g p).order;
   whole = event_of (act_of (local_in g o));
   seen = sight_in g p o (slice_get g.parts p);
@@ -129,14 +130,14 @@ away_sight g p (Some turn) None other = refl
 away_sight g p (Some turn) (Some ps) other = ap (λ (b : Bool). if b then sight_of_state g p turn.first ps else Unseen) other
 
 heard_taken : (g : Machine) (p : ℕ) → HearsWhatIsAllowed → IsSound g
-    → takes_traffic (view_of g.system p) (copies g p) (heard_as (name_of g.system.conf p) (happened g).traffic) ≡ true
+    → takes_traffic (view_of g.system p) (copies g p) (heard_as g.system.conf p (happened g).traffic) ≡ true
 heard_taken g p hears sound =
-    allowed_taken (view_of g.system p) (copies g p) (heard_as (name_of g.system.conf p) (happened g).traffic) (hears g p sound.fits)
+    allowed_taken (view_of g.system p) (copies g p) (heard_as g.system.conf p (happened g).traffic) (hears g p sound.fits)
 
 cue_traffic_taken : (g : Machine) (p : ℕ) → HearsWhatIsAllowed → IsSound g → takes_traffic (view_of g.system p) (copies g p) (cue g p).traffic ≡ true
 unfolding cue cue_in
 cue_traffic_taken g p hears sound =
-    unless_own_taken (view_of g.system p) (copies g p) (is_some (tick_of (happened g) p)) (heard_as (name_of g.system.conf p) (happened g).traffic) (heard_taken g p hears sound)
+    unless_own_taken (view_of g.system p) (copies g p) (is_some (tick_of (happened g) p)) (heard_as g.system.conf p (happened g).traffic) (heard_taken g p hears sound)
 
 away_taken : (g : Machine) (p : ℕ) → HearsWhatIsAllowed → IsSound g → is_turn_of (turn_of g) p ≡ false → takes_cue (view_of g.system p) (part_in g p) (cue g p) ≡ true
 away_taken g p hears sound other =
@@ -148,7 +149,7 @@ away_taken g p hears sound other =
 -- in a tick of its slot
 record IsInSlot (g : Machine) (p : ℕ) (first : Bool) (ps : PartitionState) (tick : Option LocalTick) : Type 0 where
   mine : (cue g p).mine ≡ Mine first
-  traffic : (cue g p).traffic ≡ unless_own (is_some tick) (heard_as (name_of g.system.conf p) (system_traffic g.system.conf (Some (record { part = p; first = first })) (traffic_of (act_of tick))))
+  traffic : (cue g p).traffic ≡ unless_own (is_some tick) (heard_as g.system.conf p (system_traffic g.system.conf (Some (record { part = p; first = first })) (traffic_of (act_of tick))))
   whole : (cue g p).whole ≡ event_of (act_of tick)
   seen : (cue g p).seen ≡ sight_of_state g p first ps
 
@@ -173,8 +174,8 @@ in_slot g p first ps tick turn there is =
     record {
       mine = ap (λ (c : Cue). c.mine) told ∙ own_slot p first;
       traffic = ap (λ (c : Cue). c.traffic) told ∙ ap (λ (b : Bool). unless_own (is_some (if_its_turn b (local_in g (Some (record { part = p; first = first })))))
-          (heard_as (name_of g.system.conf p) (system_traffic g.system.conf (Some (record { part = p; first = first })) (traffic_of (act_of (local_in g (Some (record { part = p; first = first })))))))) (itself p)
-          ∙ ap (λ (t : Option LocalTick). unless_own (is_some t) (heard_as (name_of g.system.conf p) (system_traffic g.system.conf (Some (record { part = p; first = first })) (traffic_of (act_of t))))) done;
+          (heard_as g.system.conf p (system_traffic g.system.conf (Some (record { part = p; first = first })) (traffic_of (act_of (local_in g (Some (record { part = p; first = first })))))))) (itself p)
+          ∙ ap (λ (t : Option LocalTick). unless_own (is_some t) (heard_as g.system.conf p (system_traffic g.system.conf (Some (record { part = p; first = first })) (traffic_of (act_of t))))) done;
       whole = ap (λ (c : Cue). c.whole) told ∙ ap (λ (t : Option LocalTick). event_of (act_of t)) done;
       seen = ap (λ (c : Cue). c.seen) told ∙ ap (sight_in g p (Some (record { part = p; first = first }))) there ∙ own_sight g p first ps;
     }

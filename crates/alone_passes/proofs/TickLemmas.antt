@@ -16,16 +16,15 @@ use Rattle.machine_model.specs.LocalTick.{LocalTick, bounded, has_name, local_ti
 use Rattle.machine_model.specs.Machine.{Machine, after_tick, copies, obeyed, obeyed_told}
 use Rattle.machine_model.specs.Partition.{PartitionState, rested, takes_turns}
 use Rattle.machine_model.specs.Told as told
-use Rattle.machine_model.specs.Told.{Act, OwnPuts, OwnStill, OwnTakes, OwnTraffic, Sight, Told, line_of}
-use Rattle.machine_model.specs.Lists.{each}
-use Rattle.machine_model.specs.Traffic.{after_own, copies_after, hearing, told_as, traffic_of}
+use Rattle.machine_model.specs.Told.{Act, OwnPuts, OwnSignals, OwnStill, OwnTakes, OwnTraffic, Sight, Told, line_of}
+use Rattle.machine_model.specs.Traffic.{copies_after, heard_of_own, hearing, traffic_of}
 use Rattle.machine_model.specs.View.{PartitionView, System, named, view_of}
 use Rattle.machine_model.specs.Whole.{NoEvent, WholeEvent, after_event, content_after, event_lines, event_of, ticks_after, time_after}
 use Rattle.slot_runs.specs.Passes.{part_at, traded, traffic_in, with_part}
 use Rattle.alone_passes.specs.Laws.{AwayTicks, IsOwnChannel, RestingTicksAlone, WorkingTicks}
 use Rattle.alone_passes.specs.Passes.{away_passed, event_met, obeyed_by, part_in, rested_in, tick_past, told_traffic, work_passed}
-use Rattle.alone_passes.proofs.CopyLemmas.{its_channel, on_id}
-use Rattle.alone_passes.proofs.PartLemmas.{alone_of, met_length, part_is, part_met, part_past, part_put, part_traded, told_alike, traded_length, traded_system}
+use Rattle.alone_passes.proofs.CopyLemmas.{its_channel, still_kept}
+use Rattle.alone_passes.proofs.PartLemmas.{alone_of, met_length, part_is, part_met, part_past, part_put, part_told, part_traded, told_alike, told_length, told_system, traded_length, traded_system}
 
 -- a partition's view has its number
 view_id : (g : Machine) (p : ℕ) → (view_of g.system p).id ≡ p
@@ -119,16 +118,15 @@ away_part : (g : Machine) (p : ℕ) (cue : Cue) → p < length g.parts → IsOwn
 unfolding part
 away_part g p cue below called =
     let view : PartitionView = view_of g.system p in
-    let t = told_as (named g.system.conf p) cue.traffic in
     let g1 : Machine = told_traffic p cue.traffic g in
     let g2 : Machine = obeyed_by p cue g1 in
     let g3 : Machine = event_met p cue.whole g2 in
     let g4 : Machine = rested_in p g3 in
-    let sees1 : view_of g1.system p ≡ view = ap (λ (s : System). view_of s p) (traded_system t g) in
-    let below1 : p < length g1.parts = subst (λ (n : ℕ). p < n) (sym (traded_length t g)) below in
+    let sees1 : view_of g1.system p ≡ view = ap (λ (s : System). view_of s p) (told_system p cue.traffic g) in
+    let below1 : p < length g1.parts = subst (λ (n : ℕ). p < n) (sym (told_length p cue.traffic g)) below in
     let below2 : p < length g2.parts = subst (λ (n : ℕ). p < n) (sym (length-set g1.parts p (obeyed (view_of g1.system p) cue.order (part_at p g1)))) below1 in
     let below3 : p < length g3.parts = subst (λ (n : ℕ). p < n) (sym (met_length p cue.whole g2)) below2 in
-    let is1 = part_traded g p cue.traffic below called in
+    let is1 = part_told g p cue.traffic below called in
     let is2 = then_obeyed g1 p cue.order _ _ _ _ view below1 sees1 is1 in
     let is3 = then_met g2 p cue.whole _ _ _ _ view below2 sees1 is2 in
     let is4 = then_rested g3 p _ _ _ _ below3 is3 in
@@ -137,7 +135,7 @@ away_part g p cue below called =
 away_told : (g : Machine) (p : ℕ) (cue : Cue) → p < length g.parts → IsOwnChannel g.system.conf p cue.traffic
     → obeyed_told cue.order (part_at p g) ≡ obeyed_told cue.order (part_at p (told_traffic p cue.traffic g))
 away_told g p cue below called =
-    sym (ap (obeyed_told cue.order) (state_of (told_traffic p cue.traffic g) p _ _ _ _ (part_traded g p cue.traffic below called)) ∙ told_alike (view_of g.system p) cue.traffic cue.order (part_at p g))
+    sym (ap (obeyed_told cue.order) (state_of (told_traffic p cue.traffic g) p _ _ _ _ (part_told g p cue.traffic below called)) ∙ told_alike (view_of g.system p) cue.traffic cue.order (part_at p g))
 
 pub away_ticks : AwayTicks
 unfolding part
@@ -150,15 +148,6 @@ away_ticks g p cue below away called =
           ∙ ap (λ (tale : List Told). map (line_of g.ticks p) tale ++ event_lines g.ticks cue.whole p) (away_told g p cue below called);
       said = rests_said (view_of g.system p) (part_in g p) cue none;
     }
-
--- traffic that there is none of
-still_kept : (contents : List (Option Content)) (time : ℕ) → copies_after time OwnStill contents ≡ contents
-unfolding copies_after
-still_kept contents time = each_kept contents
-  where
-    each_kept : (xs : List (Option Content)) → each (λ q copy. on (after_own time OwnStill q) copy) xs ≡ xs
-    each_kept [] = refl
-    each_kept (x ∷ xs) = rw (each_kept xs, on_id x) refl
 
 -- a tick in a slot of a partition that takes no turns
 resting_part : (g : Machine) (p : ℕ) → p < length g.parts
@@ -187,7 +176,8 @@ resting_ticks g p first cue below own still unordered quiet rests =
 -- with a local tick
 abbrev worked_alone : PartitionView → Alone → LocalTick → WholeEvent → Alone
 worked_alone view a tick e =
-    alone_of (after_event view e (hearing view (traffic_of tick.act) tick.after)) (map (on (content_after e)) (copies_after a.time (traffic_of tick.act) a.copies)) (ticks_after e a.ticks) (time_after e a.time)
+    alone_of (after_event view e (hearing view (heard_of_own (traffic_of tick.act)) tick.after))
+    (map (on (content_after e)) (copies_after a.time (heard_of_own (traffic_of tick.act)) a.copies)) (ticks_after e a.ticks) (time_after e a.time)
 
 step_works : (view : PartitionView) (a : Alone) (cue : Cue) (tick : LocalTick) → alone_local view a cue ≡ Some tick → cue.order ≡ None → alone_step view a cue ≡ worked_alone view a tick cue.whole
 unfolding alone_step alone_after after_tick
@@ -221,6 +211,7 @@ called_if g p (told.Trades (OwnPuts q bytes)) is = at (has_name (slice_index_or 
     at true has same = its_channel g p q has
     at false has same = absurd cc
 called_if g p (told.Trades (OwnTakes q)) is = tt
+called_if g p (told.Trades (OwnSignals number)) is = tt
 called_if g p (told.Upon id order) is = tt
 called_if g p (told.Plans change) is = tt
 called_if g p (told.UponAll event) is = tt
@@ -241,7 +232,7 @@ working_part g p work below bounds =
     let below2 : p < length g2.parts = subst (λ (n : ℕ). p < n) (sym (traded_length t g1)) below1 in
     let sees2 : view_of g2.system p ≡ view = ap (λ (s : System). view_of s p) (traded_system t g1) in
     let is1 = part_put p work.after g below in
-    let is2 = part_traded g1 p own below1 (called_if g p work.act bounds) ∙ traded_so g1 p own view work.after (copies g p) g.ticks g.time is1 in
+    let is2 = part_traded g1 p own below1 (called_if g p work.act bounds) ∙ traded_so g1 p (heard_of_own own) view work.after (copies g p) g.ticks g.time is1 in
     let is3 = then_met g2 p e _ _ _ _ view below2 sees2 is2 in
     then_past g3 p e _ _ _ _ is3
   where

@@ -8,7 +8,7 @@ use Rattle.machine_model.specs.Health.{Worked}
 use Rattle.machine_model.specs.LocalTick.{bounded, said_in, worked}
 use Rattle.machine_model.specs.Machine.{Machine, copies, obeyed_told}
 use Rattle.machine_model.specs.Partition.{takes_turns}
-use Rattle.machine_model.specs.Told.{OwnPuts, OwnStill, OwnTakes, OwnTraffic, line_of}
+use Rattle.machine_model.specs.Told.{OwnPuts, OwnSignals, OwnStill, OwnTakes, OwnTraffic, line_of}
 use Rattle.machine_model.specs.View.{named, view_of}
 use Rattle.machine_model.specs.Whole.{NoEvent, event_lines, event_of}
 use Rattle.slot_runs.specs.Passes.{part_at}
@@ -20,6 +20,7 @@ abbrev pub IsOwnChannel : Conf → ℕ → OwnTraffic → Type 0
 IsOwnChannel conf p OwnStill = Unit {0}
 IsOwnChannel conf p (OwnPuts name bytes) = (c : ℕ) × (named conf p name ≡ Some c)
 IsOwnChannel conf p (OwnTakes name) = Unit {0}
+IsOwnChannel conf p (OwnSignals number) = Unit {0}
 
 -- a tick leaves of partition p's part what the partition alone makes of it under this cue, with these lines and console bytes
 pub record IsTickAlone (p : ℕ) (cue : Cue) (old new : Machine) (told : List ReportLine) (bytes : List ℕ) : Type 0 where

@@ -8,8 +8,8 @@ use Rattle.machine_model.specs.Health.{Worked}
 use Rattle.machine_model.specs.Laws.{part}
 use Rattle.machine_model.specs.Machine.{Machine, obeyed}
 use Rattle.machine_model.specs.Partition.{reset, rested}
-use Rattle.machine_model.specs.Told.{OwnTraffic}
-use Rattle.machine_model.specs.Traffic.{told_as}
+use Rattle.machine_model.specs.Told.{OwnPuts, OwnSignals, OwnStill, OwnTakes, OwnTraffic}
+use Rattle.machine_model.specs.Traffic.{hearing, puts_at, takes_at}
 use Rattle.machine_model.specs.View.{named, view_of}
 use Rattle.machine_model.specs.Whole.{AllHalted, AllReset, NoEvent, WholeEvent, event_of}
 use Rattle.slot_runs.specs.Passes.{part_at, traded, traffic_in, with_part}
@@ -18,9 +18,12 @@ use Rattle.slot_runs.specs.Passes.{part_at, traded, traffic_in, with_part}
 abbrev pub part_in : Machine → ℕ → Alone
 part_in g p = part g p (part_at p g)
 
--- the machine after traffic of others on channels that go by partition p's names
+-- the machine after traffic of others on channels that go by partition p's names, or after a signal to the partition
 abbrev pub told_traffic : ℕ → OwnTraffic → Machine → Machine
-told_traffic p own g = traded (told_as (named g.system.conf p) own) g
+told_traffic p OwnStill g = g
+told_traffic p (OwnPuts name bytes) g = traded (puts_at (named g.system.conf p name) bytes) g
+told_traffic p (OwnTakes name) g = traded (takes_at (named g.system.conf p name)) g
+told_traffic p (OwnSignals number) g = with_part p (hearing (view_of g.system p) (OwnSignals number) (part_at p g)) g
 
 -- the machine after a hypervisor event, as partition p meets it: it is reset, and all channels are empty
 abbrev pub event_met : ℕ → WholeEvent → Machine → Machine

@@ -12,7 +12,7 @@ use Rattle.machine_model.specs.LocalTick.{LocalTick}
 use Rattle.machine_model.specs.Machine.{act_of}
 use Rattle.machine_model.specs.Observed.{CurrentPlan, HealthCounts, HealthEntryOf, Observation, PartitionStatus, PlanStatus, Question, SystemStatus, TraceCounts, TraceEntryOf, asks}
 use Rattle.machine_model.specs.Partition.{areas_of, takes_turns}
-use Rattle.machine_model.specs.Told.{AllHalted, AllReset, NoEvent, NotKept, OwnPuts, OwnStill, OwnTakes, OwnTraffic, Sight, Unseen, WholeEvent, Words}
+use Rattle.machine_model.specs.Told.{AllHalted, AllReset, NoEvent, NotKept, OwnPuts, OwnSignals, OwnStill, OwnTakes, OwnTraffic, Sight, Unseen, WholeEvent, Words}
 use Rattle.machine_model.specs.View.{PartitionView, PortChannel}
 use Rattle.machine_model.specs.Whole.{event_of}
 
@@ -39,11 +39,13 @@ abbrev pub is_empty_copy : Option Content → Bool
 is_empty_copy None = false
 is_empty_copy (Some content) = is_empty content
 
--- whether the traffic of others can be: a queue that gets a message is not full, and one that gives a message is not empty
+-- whether the traffic of others can be: a queue that gets a message is not full, and one that gives a message is not empty;
+-- a signal always can
 abbrev pub takes_traffic : PartitionView → List (Option Content) → OwnTraffic → Bool
 takes_traffic view copies OwnStill = true
 takes_traffic view copies (OwnPuts name bytes) = not (is_full_copy (slice_index_or view.channels name None) (slice_index_or copies name None))
 takes_traffic view copies (OwnTakes name) = not (is_empty_copy (slice_index_or copies name None))
+takes_traffic view copies (OwnSignals number) = true
 
 -- the observing call that the partition makes in the tick, where it makes one
 abbrev pub asked_in : CueSlot → PartitionView → Alone → Option Observation

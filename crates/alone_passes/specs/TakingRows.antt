@@ -8,7 +8,7 @@ use Rattle.machine_model.specs.Cue.{Away, Mine}
 use Rattle.machine_model.specs.LocalTick.{LocalTick}
 use Rattle.machine_model.specs.Observed.{HealthEntryOf, HealthCounts, Observation, SystemStatus, TraceEntryOf, asks}
 use Rattle.machine_model.specs.Partition.{takes_turns}
-use Rattle.machine_model.specs.Told.{AllHalted, AllReset, NoEvent, Nothing, NotKept, OwnPuts, OwnTakes, Unseen, UponAll, WholeEvent, Words}
+use Rattle.machine_model.specs.Told.{AllHalted, AllReset, NoEvent, Nothing, NotKept, OwnPuts, OwnSignals, OwnTakes, Unseen, UponAll, WholeEvent, Words}
 use Rattle.machine_model.specs.View.{PartitionView, PortChannel}
 use Rattle.alone_passes.specs.Taking.{asked_in, may_write, takes_event, takes_sight, takes_traffic}
 
@@ -19,7 +19,7 @@ queue_of_two name = record { shape = record { kind = kind.Queuing 2; length = 4 
 abbrev pub samples : ℕ → ℕ → PortChannel
 samples refresh name = record { shape = record { kind = kind.Sampling refresh; length = 4 }; name = name }
 
--- a queue of two takes a message after one, and not after two; it gives one of one, and none of none
+-- a queue of two takes a message after one, and not after two; it gives one of one, and none of none; a signal can always be
 pub record QueueRows : Type 0 where
   pub room : (view : PartitionView) (copies : List (Option Content)) (q : ℕ) (message one : List ℕ) → slice_index_or view.channels q None ≡ Some (queue_of_two q)
       → slice_index_or copies q None ≡ Some (Queuing (one ∷ [])) → takes_traffic view copies (OwnPuts q message) ≡ true
@@ -31,6 +31,7 @@ pub record QueueRows : Type 0 where
       → slice_index_or copies q None ≡ Some (Queuing (one ∷ later)) → takes_traffic view copies (OwnTakes q) ≡ true
   pub empty : (view : PartitionView) (copies : List (Option Content)) (q : ℕ)
       → slice_index_or copies q None ≡ Some (Queuing []) → takes_traffic view copies (OwnTakes q) ≡ false
+  pub signal : (view : PartitionView) (copies : List (Option Content)) (number : ℕ) → takes_traffic view copies (OwnSignals number) ≡ true
 
 -- a call for the status of the system at an address, which writes 8 bytes, and for an entry of each log and a count
 abbrev pub status_call : ℕ → Observation

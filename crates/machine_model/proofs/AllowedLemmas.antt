@@ -14,14 +14,15 @@ use Rattle.xm_traces.specs.Ring.{entry_at}
 use Rattle.machine_model.specs.Allowed.{AllowsTraffic, AnswersCalls, HearsWhatIsAllowed, IsAnswerTo, IsForEntry, TakesMore}
 use Rattle.machine_model.specs.Facts.{IsComplete}
 use Rattle.machine_model.specs.Laws.{HasLength}
+use Rattle.machine_model.specs.Lists.{is_number}
 use Rattle.machine_model.specs.LocalTick.{goes_on, with_interrupts}
 use Rattle.machine_model.specs.Machine.{Machine, answer_to, booted_part, copies, happened, shown_entry, shown_of}
 use Rattle.machine_model.specs.Observed.{CurrentPlan, HealthCounts, HealthEntryOf, Observation, PartitionStatus, PlanStatus, Question, SystemStatus, TraceCounts, TraceEntryOf, about_other, about_system, asked_by, asks, if_call, observed_by, observing, unless_delivered}
 use Rattle.machine_model.specs.Partition.{PartitionState, areas_of}
 use Rattle.machine_model.specs.Structures.{counts_bytes, health_bytes, partition_status, trace_bytes}
 use Rattle.machine_model.specs.Told.{NotKept, Sight, Unseen, Words}
-use Rattle.machine_model.specs.Traffic.{Puts, Still, Takes, Traffic, content_if, heard_as, own_puts_at, own_takes_at}
-use Rattle.machine_model.specs.View.{PartitionView, PortChannel, name_of, view_of}
+use Rattle.machine_model.specs.Traffic.{Puts, Signals, Still, Takes, Traffic, content_if, heard_as, own_puts_at, own_signals_at, own_takes_at}
+use Rattle.machine_model.specs.View.{PartitionView, PortChannel, linked, name_of, view_of}
 use Rattle.machine_model.proofs.NameLemmas.{name_is, name_named}
 use Rattle.machine_model.proofs.ObservingLemmas.{asks_by_flag, asks_other, by_number, shows_its_size}
 use Rattle.machine_model.proofs.ShapeFactLemmas.{FitsChannels, copy_there, its_channel_is, tick_traffic, view_channel}
@@ -49,7 +50,7 @@ unfolding FitsChannels
 take_allowed g p c q fits is content held = fits content (channel_holds g p q c content is held)
 
 -- traffic of the system, as a partition hears it
-heard_allowed : (g : Machine) (p : ℕ) (t : Traffic) → FitsChannels g.system.conf g.channels t → AllowsTraffic (view_of g.system p) (copies g p) (heard_as (name_of g.system.conf p) t)
+heard_allowed : (g : Machine) (p : ℕ) (t : Traffic) → FitsChannels g.system.conf g.channels t → AllowsTraffic (view_of g.system p) (copies g p) (heard_as g.system.conf p t)
 unfolding AllowsTraffic
 heard_allowed g p Still fits = tt
 heard_allowed g p (Puts c bytes) fits = by (name_of g.system.conf p c) refl
@@ -62,6 +63,11 @@ heard_allowed g p (Takes c) fits = by (name_of g.system.conf p c) refl
     by : (o : Option ℕ) → name_of g.system.conf p c ≡ o → AllowsTraffic (view_of g.system p) (copies g p) (own_takes_at o)
     by None is = tt
     by (Some q) is = take_allowed g p c q fits is
+heard_allowed g p (Signals source number) fits = at (is_number (linked g.system.conf source number) p)
+  where
+    at : (b : Bool) → AllowsTraffic (view_of g.system p) (copies g p) (own_signals_at b number)
+    at true = tt
+    at false = tt
 
 pub hears_what_is_allowed : HearsWhatIsAllowed
 hears_what_is_allowed g p fits = heard_allowed g p (happened g).traffic (tick_traffic g fits)

@@ -19,13 +19,14 @@ use Rattle.guest_bus.specs.Words.{allows, bytes_of, words_at}
 use Rattle.virt_traps.specs.SaveArea.{is_usable, registers_from, saved, with_registers}
 use Rattle.virt_traps.specs.Settled.{after_trap, made_again, settled}
 use Rattle.virt_traps.specs.Virtual.{interrupt_cleared, due, no_traps, raised}
-use Rattle.xm_conf.specs.View.{channel_of, has_end, is_port, sees}
+use Rattle.xm_conf.specs.View.{channel_of, has_end, is_link_of, is_port, link_of, sees}
 use Rattle.xm_ports.specs.Channels.{cleared as channel_cleared, put, shapes_of, first_taken}
 use Rattle.xm_ports.specs.Ports.{agrees, created_over, granted, is_called, no_ports, port_with}
 use Rattle.xm_traces.specs.Ring.{entry_at, noted, nothing_kept}
 use Rattle.machine_model.specs.Caller.{with_answer, with_written}
 use Rattle.machine_model.specs.Health.{answered_by, entered, event_handled, interrupt_delivered, self_ordered, trap_delivered, undelivered}
 use Rattle.machine_model.specs.Hypercalls.{served}
+use Rattle.machine_model.specs.LinkCalls.{raise_ipvi}
 use Rattle.machine_model.specs.Lines.{end_lines, lines_of, order_lines, step_console, step_lines, step_said}
 use Rattle.machine_model.specs.LocalTick.{called, clocked, executed_in_tick, local_tick, with_interrupts, worked}
 use Rattle.machine_model.specs.LogCalls.{hm_read, hm_status, raise_event, trace_event, trace_read, trace_status}
@@ -38,7 +39,7 @@ use Rattle.machine_model.specs.ProcessorCalls.{clear_irqmask, flush_regwin, iret
 use Rattle.machine_model.specs.Structures.{counts_bytes, health_bytes, partition_status, plan_status, queuing_status, sampling_status, system_status, trace_bytes}
 use Rattle.machine_model.specs.TimeCalls.{get_plan_status, get_time, set_timer, switch_sched_plan}
 use Rattle.machine_model.specs.Traffic.{after_message, copies_of}
-use Rattle.machine_model.specs.View.{name_of, named, part_of, port_channel, view_of}
+use Rattle.machine_model.specs.View.{linked, name_of, named, part_of, port_channel, view_of}
 
 -- the plan clock and the slots
 unfoldable pub planning : Unit {0}
@@ -70,9 +71,9 @@ unfoldable pub keeping_time : Unit {0}
 unfolding looked_at no_clocks
 keeping_time = tt
 
--- channels and ports
+-- channels, ports and links
 unfoldable pub keeping_channels : Unit {0}
-unfolding after_message channel_cleared channel_of copies_of agrees created_over first_taken granted has_end is_called is_port name_of named no_ports part_of port_channel port_with put sees shapes_of view_of
+unfolding after_message channel_cleared channel_of copies_of agrees created_over first_taken granted has_end is_called is_link_of is_port link_of linked name_of named no_ports part_of port_channel port_with put sees shapes_of view_of
 keeping_channels = tt
 
 -- health events and logs
@@ -82,7 +83,7 @@ monitoring = tt
 
 -- hypercalls
 unfoldable pub serving : Unit {0}
-unfolding clear_irqmask counts_bytes create_queuing_port create_sampling_port flush_regwin get_partition_status get_plan_status get_queuing_port_status get_sampling_port_status get_self get_system_status get_time halt_partition halt_system health_bytes hm_read hm_status idle_self iret made_port partition_status plan_status queuing_status raise_event read_input read_sampling_message receive_queuing_message reset_partition reset_system resume_partition sampling_status send_queuing_message served set_irqmask set_psr set_tbr set_timer shutdown_partition suspend_partition switch_sched_plan system_status trace_bytes trace_event trace_read trace_status with_answer with_written write_console write_sampling_message
+unfolding clear_irqmask counts_bytes create_queuing_port create_sampling_port flush_regwin get_partition_status get_plan_status get_queuing_port_status get_sampling_port_status get_self get_system_status get_time halt_partition halt_system health_bytes hm_read hm_status idle_self iret made_port partition_status plan_status queuing_status raise_event raise_ipvi read_input read_sampling_message receive_queuing_message reset_partition reset_system resume_partition sampling_status send_queuing_message served set_irqmask set_psr set_tbr set_timer shutdown_partition suspend_partition switch_sched_plan system_status trace_bytes trace_event trace_read trace_status with_answer with_written write_console write_sampling_message
 serving = tt
 
 -- partitions and the whole machine

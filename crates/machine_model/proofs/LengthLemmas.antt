@@ -12,7 +12,7 @@ use Rattle.machine_model.specs.Machine.{Machine, SlotTurn, act_of, answer_to, co
 use Rattle.machine_model.specs.Observed.{Observation, asks}
 use Rattle.machine_model.specs.Partition.{PartitionState, areas_of, takes_turns}
 use Rattle.machine_model.specs.Told as told
-use Rattle.machine_model.specs.Told.{Act, OwnPuts, OwnStill, OwnTakes, Sight, Unseen, Words}
+use Rattle.machine_model.specs.Told.{Act, OwnPuts, OwnSignals, OwnStill, OwnTakes, Sight, Unseen, Words}
 use Rattle.machine_model.specs.Traffic.{puts_at, takes_at, told_as, traffic_of}
 use Rattle.machine_model.specs.View.{PartitionView, named, view_of}
 use Rattle.machine_model.proofs.ObservingLemmas.{answer_has, size_few, size_of}
@@ -31,7 +31,7 @@ putting_short g p q bytes fits putting =
 
 -- the traffic of an act
 act_short : (g : Machine) (p : ℕ) (act : Act) → Fits (described g.system.conf) → IsWithin (view_of g.system p) (copies g p) act
-    → PutsAtMost 4096 (told_as (named g.system.conf p) (traffic_of act))
+    → PutsAtMost 4096 (told_as g.system.conf p (traffic_of act))
 act_short g p told.Nothing fits within = tt
 act_short g p (told.Trades OwnStill) fits within = tt
 act_short g p (told.Trades (OwnPuts q bytes)) fits within = by (named g.system.conf p q)
@@ -44,18 +44,19 @@ act_short g p (told.Trades (OwnTakes q)) fits within = by (named g.system.conf p
     by : (o : Option ℕ) → PutsAtMost 4096 (takes_at o)
     by None = tt
     by (Some c) = tt
+act_short g p (told.Trades (OwnSignals number)) fits within = tt
 act_short g p (told.Upon id order) fits within = tt
 act_short g p (told.Plans change) fits within = tt
 act_short g p (told.UponAll event) fits within = tt
 
 -- the traffic of a tick
 taken_short : (g : Machine) (p : ℕ) (first : Bool) (o : Option PartitionState) → Fits (described g.system.conf)
-    → PutsAtMost 4096 (told_as (named g.system.conf p) (traffic_of (act_of (taken_by g p first o))))
+    → PutsAtMost 4096 (told_as g.system.conf p (traffic_of (act_of (taken_by g p first o))))
 unfolding local_of
 taken_short g p first None fits = tt
 taken_short g p first (Some ps) fits = at (takes_turns ps.state)
   where
-    at : (b : Bool) → PutsAtMost 4096 (told_as (named g.system.conf p) (traffic_of (act_of (if b then Some (local_of g p first ps) else None))))
+    at : (b : Bool) → PutsAtMost 4096 (told_as g.system.conf p (traffic_of (act_of (if b then Some (local_of g p first ps) else None))))
     at true = act_short g p (local_of g p first ps).act fits (local_within g.system p ps (copies g p) g.ticks g.time first (sight_of_state g p first ps))
     at false = tt
 

@@ -25,6 +25,7 @@ pub mod PortCallRowLemmas
 pub mod EventRowLemmas
 pub mod ObservedRowLemmas
 pub mod WholeRowLemmas
+pub mod LinkRowLemmas
 pub mod CoreFileRowLemmas
 pub mod ScriptLemmas
 pub mod WithinLemmas

@@ -15,7 +15,7 @@ asking_rows = record {
   trace_status = λ memory. (refl, (refl, refl, refl));
   hm_read = λ memory. (refl, (refl, refl, refl));
   hm_status = λ memory. (refl, (refl, refl, refl));
-  no_other = λ memory. (refl, refl, refl, refl);
+  no_other = λ memory. (refl, refl, refl, refl, refl);
 }
 
 pub answer_rows : AnswerRows

@@ -26,8 +26,8 @@ use Rattle.machine_model.specs.Lists.{each, table}
 use Rattle.machine_model.specs.Machine.{Machine, SlotTurn, act_of, after, channel_after, copies, happened, happened_by, local, local_in, local_of, run, sight_of_state, start, step, system_traffic, taken_by, turn_of}
 use Rattle.machine_model.specs.Partition.{PartitionState, takes_turns}
 use Rattle.machine_model.specs.Told as told
-use Rattle.machine_model.specs.Told.{Act, OwnPuts, OwnStill, OwnTakes}
-use Rattle.machine_model.specs.Traffic.{Puts, Still, Takes, Traffic, after_traffic, content_if, copies_of, puts_at, takes_at, told_as, traffic_of}
+use Rattle.machine_model.specs.Told.{Act, OwnPuts, OwnSignals, OwnStill, OwnTakes}
+use Rattle.machine_model.specs.Traffic.{Puts, Signals, Still, Takes, Traffic, after_traffic, content_if, copies_of, puts_at, takes_at, told_as, traffic_of}
 use Rattle.machine_model.specs.View.{PortChannel, System, name_of, named, no_part, part_of, port_channel, view_of, with_its_name, with_name}
 use Rattle.machine_model.specs.Whole.{AllHalted, AllReset, NoEvent, WholeEvent, content_after}
 use Rattle.machine_model.proofs.WithinLemmas.{HasRoom, IsPutting, IsTaking, IsWithin, local_within}
@@ -195,6 +195,7 @@ FitsChannels conf channels Still = Unit {0}
 FitsChannels conf channels (Puts c bytes) =
     (chan : Chan) (content : Content) → slice_get conf.chans c ≡ Some chan → slice_get channels c ≡ Some content → IsMessage chan.length bytes × TakesMore chan.kind content
 FitsChannels conf channels (Takes c) = (content : Content) → slice_get channels c ≡ Some content → IsSome (first_message content)
+FitsChannels conf channels (Signals source number) = Unit {0}
 
 -- what holds of each element of a list holds of one that is there
 pub all_at : {X : Type 0} (P : X → Type 0) (xs : List X) (k : ℕ) (x : X) → slice_get xs k ≡ Some x → All P xs → P x
@@ -244,7 +245,7 @@ take_fits g p q c taking named_so content there =
 
 -- the traffic of an act under the system's numbers
 act_fits : (g : Machine) (p : ℕ) (act : Act) → Fits (described g.system.conf) → IsWithin (view_of g.system p) (copies g p) act
-    → FitsChannels g.system.conf g.channels (told_as (named g.system.conf p) (traffic_of act))
+    → FitsChannels g.system.conf g.channels (told_as g.system.conf p (traffic_of act))
 unfolding FitsChannels
 act_fits g p told.Nothing fits within = tt
 act_fits g p (told.Trades OwnStill) fits within = tt
@@ -254,18 +255,19 @@ act_fits g p (told.Trades (OwnPuts q bytes)) fits within =
 act_fits g p (told.Trades (OwnTakes q)) fits within =
     let its = has_name_named g.system.conf p q (view_has g.system p q within.named) in
     subst (λ (o : Option ℕ). FitsChannels g.system.conf g.channels (takes_at o)) (sym its.1) (take_fits g p q its.0 within its.1)
+act_fits g p (told.Trades (OwnSignals number)) fits within = tt
 act_fits g p (told.Upon id order) fits within = tt
 act_fits g p (told.Plans change) fits within = tt
 act_fits g p (told.UponAll event) fits within = tt
 
 -- the traffic of a tick
 taken_traffic : (g : Machine) (p : ℕ) (first : Bool) (o : Option PartitionState) → Fits (described g.system.conf)
-    → FitsChannels g.system.conf g.channels (told_as (named g.system.conf p) (traffic_of (act_of (taken_by g p first o))))
+    → FitsChannels g.system.conf g.channels (told_as g.system.conf p (traffic_of (act_of (taken_by g p first o))))
 unfolding FitsChannels local_of
 taken_traffic g p first None fits = tt
 taken_traffic g p first (Some ps) fits = at (takes_turns ps.state)
   where
-    at : (b : Bool) → FitsChannels g.system.conf g.channels (told_as (named g.system.conf p) (traffic_of (act_of (if b then Some (local_of g p first ps) else None))))
+    at : (b : Bool) → FitsChannels g.system.conf g.channels (told_as g.system.conf p (traffic_of (act_of (if b then Some (local_of g p first ps) else None))))
     at true = act_fits g p (local_of g p first ps).act fits (local_within g.system p ps (copies g p) g.ticks g.time first (sight_of_state g p first ps))
     at false = tt
 
@@ -296,6 +298,7 @@ traffic_suits conf channels time (Takes d) c chan content fits chan_there there 
     at : (b : Bool) → SuitsKind chan.kind chan.length (if b then first_taken content else content)
     at true = taken_suits chan.kind chan.length content suits
     at false = suits
+traffic_suits conf channels time (Signals source number) c chan content fits chan_there there suits = suits
 
 event_suits : (e : WholeEvent) (of : ChanKind) (room : ℕ) (content : Content) → SuitsKind of room content → SuitsKind of room (content_after e content)
 event_suits NoEvent of room content suits = suits

@@ -12,8 +12,8 @@ use Rattle.machine_model.specs.LocalTick.{LocalTick, bounded, local_tick, worked
 use Rattle.machine_model.specs.Machine.{Machine, SlotTurn, act_of, after, after_tick, channel_after, copies, happened, happened_by, if_its_turn, is_turn_of, local, local_in, local_of, order_upon, part_after, sight, sight_in, sight_of_state, step, step_unless, system_traffic, taken_by, tick_of, turn_of, worked_in}
 use Rattle.machine_model.specs.Partition.{PartitionState, takes_turns}
 use Rattle.machine_model.specs.Told.{Act, Sight}
-use Rattle.machine_model.specs.Traffic.{copies_after, copies_of, heard_as, traffic_of}
-use Rattle.machine_model.specs.View.{name_of, part_of, view_of}
+use Rattle.machine_model.specs.Traffic.{copies_after, copies_of, heard_as, heard_of_own, traffic_of}
+use Rattle.machine_model.specs.View.{part_of, view_of}
 use Rattle.machine_model.specs.Whole.{content_after, ticks_after, time_after}
 use Rattle.machine_model.proofs.ListLemmas.{get_each}
 use Rattle.machine_model.proofs.TrafficLemmas.{copies_same, own_traffic}
@@ -75,9 +75,9 @@ acts g p first (Some ps) tick is = at (takes_turns ps.state) is
     )
     at false is = absurd cc
 
--- a partition's own traffic, told under the system's numbers, is the same under its own names
+-- a partition's own traffic, told under the system's numbers, is under its own names what it hears of it
 own_same : (g : Machine) (p : ℕ) (o : Option SlotTurn) (tick : LocalTick) → is_turn_of o p ≡ true → local_in g o ≡ Some tick
-    → heard_as (name_of g.system.conf p) (system_traffic g.system.conf o (traffic_of tick.act)) ≡ traffic_of tick.act
+    → heard_as g.system.conf p (system_traffic g.system.conf o (traffic_of tick.act)) ≡ heard_of_own (traffic_of tick.act)
 own_same g p None tick its is = absurd cc
 own_same g p (Some turn) tick its is =
     let same : turn.part ≡ p = eqb-true turn.part p its in
@@ -87,14 +87,14 @@ own_same g p (Some turn) tick its is =
 
 -- the traffic of a tick as partition p meets it: its own where it had its local tick, else what it is told of others
 traffic_in : (g : Machine) (p : ℕ) (o : Option SlotTurn) (b : Bool) (l : Option LocalTick) → is_turn_of o p ≡ b → local_in g o ≡ l
-    → heard_as (name_of g.system.conf p) (system_traffic g.system.conf o (traffic_of (act_of l)))
-    ≡ alone_traffic (if_its_turn b l) (unless_own (is_some (if_its_turn b l)) (heard_as (name_of g.system.conf p) (system_traffic g.system.conf o (traffic_of (act_of l)))))
+    → heard_as g.system.conf p (system_traffic g.system.conf o (traffic_of (act_of l)))
+    ≡ alone_traffic (if_its_turn b l) (unless_own (is_some (if_its_turn b l)) (heard_as g.system.conf p (system_traffic g.system.conf o (traffic_of (act_of l)))))
 traffic_in g p o true None its is = refl
 traffic_in g p o true (Some tick) its is = own_same g p o tick its is
 traffic_in g p o false l its is = refl
 
 pub traffic_is : (g : Machine) (p : ℕ)
-    → heard_as (name_of g.system.conf p) (happened g).traffic ≡ alone_traffic (tick_of (happened g) p) (cue g p).traffic
+    → heard_as g.system.conf p (happened g).traffic ≡ alone_traffic (tick_of (happened g) p) (cue g p).traffic
 unfolding cue cue_in tick_of happened happened_by local
 traffic_is g p = traffic_in g p (turn_of g) (is_turn_of (turn_of g) p) (local_in g (turn_of g)) refl refl
 

@@ -6,12 +6,13 @@ use Rattle.std.proofs.lemmas.Option.{same_Some}
 use Rattle.xm_base.specs.Options.{on}
 use Rattle.xm_conf.specs.Configuration.{Conf}
 use Rattle.xm_ports.specs.Channels.{Content, put, first_taken}
-use Rattle.machine_model.specs.Lists.{each}
+use Rattle.machine_model.specs.LinkLemmas.{own_signal}
+use Rattle.machine_model.specs.Lists.{each, is_number}
 use Rattle.machine_model.specs.LocalTick.{bounded, has_name}
 use Rattle.machine_model.specs.Told as told
-use Rattle.machine_model.specs.Told.{Act, OwnPuts, OwnStill, OwnTakes}
-use Rattle.machine_model.specs.Traffic.{Puts, Still, Takes, Traffic, after_own, after_traffic, content_if, copies_after, copies_of, heard_as, own_puts_at, own_takes_at, told_as, traffic_of}
-use Rattle.machine_model.specs.View.{System, name_of, named, part_of, port_channel, view_of}
+use Rattle.machine_model.specs.Told.{Act, OwnPuts, OwnSignals, OwnStill, OwnTakes}
+use Rattle.machine_model.specs.Traffic.{Puts, Signals, Still, Takes, Traffic, after_own, after_traffic, content_if, copies_after, copies_of, heard_as, heard_of_own, own_puts_at, own_signals_at, own_takes_at, told_as, traffic_of}
+use Rattle.machine_model.specs.View.{System, has_number, linked, name_of, named, part_of, port_channel, view_of}
 use Rattle.machine_model.specs.Whole.{WholeEvent, content_after}
 use Rattle.machine_model.proofs.ListLemmas.{each_table, get_each, map_table, same_tables, table_or_none}
 use Rattle.machine_model.proofs.NameLemmas.{has_name_named, name_is, named_is}
@@ -56,12 +57,18 @@ take_same conf p q c named_c time d (Some name) is content =
     (λ same. let e : Some name ≡ Some q = sym is ∙ ap (name_of conf p) (eqb-true d c same) ∙ named_c in
     let f : name ≡ q = same_Some name q e in rw f (grind (arith)))
 
+-- a signal does nothing to a copy, whoever it is for
+signal_same : (b : Bool) (time number q : ℕ) (content : Content) → after_own time (own_signals_at b number) q content ≡ content
+signal_same true time number q content = refl
+signal_same false time number q content = refl
+
 -- traffic does to a channel what it does to a copy of it under its name
 traffic_same : (conf : Conf) (p q c time : ℕ) (traffic : Traffic) (content : Content) → name_of conf p c ≡ Some q
-    → after_own time (heard_as (name_of conf p) traffic) q content ≡ after_traffic time traffic c content
+    → after_own time (heard_as conf p traffic) q content ≡ after_traffic time traffic c content
 traffic_same conf p q c time Still content is = refl
 traffic_same conf p q c time (Puts d bytes) content is = put_same conf p q c is time d bytes (name_of conf p d) refl content
 traffic_same conf p q c time (Takes d) content is = take_same conf p q c is time d (name_of conf p d) refl content
+traffic_same conf p q c time (Signals source number) content is = signal_same (is_number (linked conf source number) p) time number q content
 
 -- what a tick leaves of a channel, as a function of its number
 abbrev channel_after_of : ℕ → WholeEvent → Traffic → ℕ → Content → Content
@@ -74,28 +81,28 @@ copied_by f g channels c (Some content) is same = get_each f channels c ∙ ap (
 
 copy_same : (conf : Conf) (p q time : ℕ) (event : WholeEvent) (traffic : Traffic) (channels : List Content) (o : Option ℕ) → named conf p q ≡ o
     → content_if (each (channel_after_of time event traffic) channels) o
-    ≡ on (content_after event) (on (after_own time (heard_as (name_of conf p) traffic) q) (content_if channels o))
+    ≡ on (content_after event) (on (after_own time (heard_as conf p traffic) q) (content_if channels o))
 copy_same conf p q time event traffic channels None is = refl
 copy_same conf p q time event traffic channels (Some c) is =
-    copied_by (channel_after_of time event traffic) (λ content. content_after event (after_own time (heard_as (name_of conf p) traffic) q content)) channels c (slice_get channels c) refl
+    copied_by (channel_after_of time event traffic) (λ content. content_after event (after_own time (heard_as conf p traffic) q content)) channels c (slice_get channels c) refl
     (λ content. ap (content_after event) (sym (traffic_same conf p q c time traffic content (named_is conf p q c is))))
     ∙ twice (slice_get channels c)
   where
-    twice : (o : Option Content) → on (λ content. content_after event (after_own time (heard_as (name_of conf p) traffic) q content)) o
-        ≡ on (content_after event) (on (after_own time (heard_as (name_of conf p) traffic) q) o)
+    twice : (o : Option Content) → on (λ content. content_after event (after_own time (heard_as conf p traffic) q content)) o
+        ≡ on (content_after event) (on (after_own time (heard_as conf p traffic) q) o)
     twice None = refl
     twice (Some content) = refl
 
 -- the copies that a partition has of the channels after a tick are what the tick leaves of its copies
 pub copies_same : (conf : Conf) (p ports time : ℕ) (event : WholeEvent) (traffic : Traffic) (channels : List Content)
     → copies_of conf p ports (each (channel_after_of time event traffic) channels)
-    ≡ map (on (content_after event)) (copies_after time (heard_as (name_of conf p) traffic) (copies_of conf p ports channels))
+    ≡ map (on (content_after event)) (copies_after time (heard_as conf p traffic) (copies_of conf p ports channels))
 unfolding copies_of copies_after
 copies_same conf p ports time event traffic channels =
-    same_tables _ (λ q. on (content_after event) (on (after_own time (heard_as (name_of conf p) traffic) q) (content_if channels (named conf p q)))) ports
+    same_tables _ (λ q. on (content_after event) (on (after_own time (heard_as conf p traffic) q) (content_if channels (named conf p q)))) ports
     (λ q. copy_same conf p q time event traffic channels (named conf p q) refl)
-    ∙ sym (map_table (on (content_after event)) (λ q. on (after_own time (heard_as (name_of conf p) traffic) q) (content_if channels (named conf p q))) ports)
-    ∙ ap (map (on (content_after event))) (sym (each_table (λ q copy. on (after_own time (heard_as (name_of conf p) traffic) q) copy) (λ q. content_if channels (named conf p q)) ports))
+    ∙ sym (map_table (on (content_after event)) (λ q. on (after_own time (heard_as conf p traffic) q) (content_if channels (named conf p q))) ports)
+    ∙ ap (map (on (content_after event))) (sym (each_table (λ q copy. on (after_own time (heard_as conf p traffic) q) copy) (λ q. content_if channels (named conf p q)) ports))
 
 -- traffic on a channel that a partition has, told under the system's number and back
 there_and_back : (conf : Conf) (p : ℕ) → (q : ℕ) → has_name (port_channel conf p q) q ≡ true → (c : ℕ) × (named conf p q ≡ Some c) × (name_of conf p c ≡ Some q)
@@ -107,15 +114,16 @@ unfolding view_of
 view_has system p q has =
     table_or_none (λ channel. has_name channel q ≡ true) (port_channel system.conf p) (length (part_of system.conf p).ports) q has (λ none. absurd cc)
 
--- a partition's own traffic is the same under its own names once it was told under the system's numbers
+-- a partition's own traffic, once it was told under the system's numbers, is under its own names what it hears of it
 pub own_traffic : (system : System) (p : ℕ) (act : Act)
-    → heard_as (name_of system.conf p) (told_as (named system.conf p) (traffic_of (bounded (view_of system p) act))) ≡ traffic_of (bounded (view_of system p) act)
+    → heard_as system.conf p (told_as system.conf p (traffic_of (bounded (view_of system p) act))) ≡ heard_of_own (traffic_of (bounded (view_of system p) act))
 own_traffic system p told.Nothing = refl
 own_traffic system p (told.Trades OwnStill) = refl
 own_traffic system p (told.Trades (OwnPuts q bytes)) = at (has_name (slice_index_or (view_of system p).channels q None) q) refl
   where
     at : (b : Bool) → has_name (slice_index_or (view_of system p).channels q None) q ≡ b
-        → heard_as (name_of system.conf p) (told_as (named system.conf p) (traffic_of (if b then told.Trades (OwnPuts q bytes) else told.Nothing))) ≡ traffic_of (if b then told.Trades (OwnPuts q bytes) else told.Nothing)
+        → heard_as system.conf p (told_as system.conf p (traffic_of (if b then told.Trades (OwnPuts q bytes) else told.Nothing)))
+        ≡ heard_of_own (traffic_of (if b then told.Trades (OwnPuts q bytes) else told.Nothing))
     at true has =
         let found = has_name_named system.conf p q (view_has system p q has) in
         rw (found.1, found.2) refl
@@ -123,14 +131,22 @@ own_traffic system p (told.Trades (OwnPuts q bytes)) = at (has_name (slice_index
 own_traffic system p (told.Trades (OwnTakes q)) = at (has_name (slice_index_or (view_of system p).channels q None) q) refl
   where
     at : (b : Bool) → has_name (slice_index_or (view_of system p).channels q None) q ≡ b
-        → heard_as (name_of system.conf p) (told_as (named system.conf p) (traffic_of (if b then told.Trades (OwnTakes q) else told.Nothing))) ≡ traffic_of (if b then told.Trades (OwnTakes q) else told.Nothing)
+        → heard_as system.conf p (told_as system.conf p (traffic_of (if b then told.Trades (OwnTakes q) else told.Nothing)))
+        ≡ heard_of_own (traffic_of (if b then told.Trades (OwnTakes q) else told.Nothing))
     at true has =
         let found = has_name_named system.conf p q (view_has system p q has) in
         rw (found.1, found.2) refl
     at false not_its = refl
+own_traffic system p (told.Trades (OwnSignals number)) = at (has_number (view_of system p).links number)
+  where
+    at : (b : Bool) → heard_as system.conf p (told_as system.conf p (traffic_of (if b then told.Trades (OwnSignals number) else told.Nothing)))
+        ≡ heard_of_own (traffic_of (if b then told.Trades (OwnSignals number) else told.Nothing))
+    at true = own_signal system.conf p number
+    at false = refl
 own_traffic system p (told.Upon id order) = at (id == (view_of system p).id)
   where
-    at : (b : Bool) → heard_as (name_of system.conf p) (told_as (named system.conf p) (traffic_of (if b then told.Nothing else told.Upon id order))) ≡ traffic_of (if b then told.Nothing else told.Upon id order)
+    at : (b : Bool) → heard_as system.conf p (told_as system.conf p (traffic_of (if b then told.Nothing else told.Upon id order)))
+        ≡ heard_of_own (traffic_of (if b then told.Nothing else told.Upon id order))
     at true = refl
     at false = refl
 own_traffic system p (told.Plans change) = refl

@@ -1,6 +1,6 @@
--- What a partition's work does beyond it is on channels of its own and on others.
+-- What a partition's work does beyond it is on channels and links of its own and on others.
 use Rattle.std.proofs.Common.{◌≡◌, ℕ, zero, suc, ◌<◌, ◌+◌, Bool, true, false, List, [], ◌∷◌, length, Option, None, Some, Result, Ok, Err, refl, sym, ap, ◌∙◌, arith, subst}
-use Rattle.std.specs.Prelude.{slice_get, slice_index_or, if◌then◌else◌, ◌==◌, ◌||◌, ◌≤◌, nat_lt, IsSome}
+use Rattle.std.specs.Prelude.{slice_get, slice_index_or, if◌then◌else◌, ◌==◌, ◌||◌, ◌≤◌, nat_lt, not, IsSome}
 use Rattle.std.proofs.lemmas.Bool.Decides.{nat_tests}
 use Rattle.std.proofs.lemmas.Option.{same_Some}
 use Rattle.guest_bus.specs.MemoryLemmas.{length-bytes_at}
@@ -33,6 +33,7 @@ use Rattle.machine_model.specs.Caller.{Acts, Caller, Meets, Served, Test, Upshot
 use Rattle.machine_model.specs.Health.{answered_by, by_interrupt, done_to_all, event_handled, interrupt_delivered, quiet, self_ordered, undelivered}
 use Rattle.machine_model.specs.Hypercalls.{served}
 use Rattle.machine_model.specs.Laws.{ActsWithinBounds}
+use Rattle.machine_model.specs.LinkCalls.{raise_ipvi}
 use Rattle.machine_model.specs.Lists.{and_then, is_number, table}
 use Rattle.machine_model.specs.LocalTick.{bounded, by_act, by_turn, by_upshot, called, clocked, delivered_or_executed, executed_in_tick, goes_on, has_name, local_tick, turned_state, with_interrupts, worked, worked_if}
 use Rattle.machine_model.specs.LogCalls.{hm_read, hm_status, raise_event, trace_event, trace_read, trace_status}
@@ -43,8 +44,8 @@ use Rattle.machine_model.specs.ProcessorCalls.{by_flush, by_return, clear_irqmas
 use Rattle.machine_model.specs.Structures.{queuing_status, sampling_status}
 use Rattle.machine_model.specs.TimeCalls.{get_plan_status, get_time, set_timer, switch_sched_plan}
 use Rattle.machine_model.specs.Told as told
-use Rattle.machine_model.specs.Told.{Act, Asked, Maintenance, OwnPuts, OwnStill, OwnTakes, Sight}
-use Rattle.machine_model.specs.View.{PartitionView, PortChannel, System, name_from, name_of, part_of, port_channel, view_of, with_its_name, with_name}
+use Rattle.machine_model.specs.Told.{Act, Asked, Maintenance, OwnPuts, OwnSignals, OwnStill, OwnTakes, Sight}
+use Rattle.machine_model.specs.View.{PartitionView, PortChannel, System, has_number, name_from, name_of, part_of, port_channel, view_of, with_its_name, with_name}
 use Rattle.machine_model.proofs.NameLemmas.{name_is, number_of as same_number}
 
 -- a name in a list of channels is that of the channel there
@@ -156,12 +157,13 @@ same_room kind.Queuing kind.Queuing of content is has_room = has_room
 not_full : (port : MadePort) → is_full port ≡ false → HasRoom kind.Queuing port.shape.kind port.content
 not_full port free = grind (arith, nat_tests)
 
--- an act on a channel names it so, a plan that is asked for is one that the partition sees, and maintenance is started by its table
+-- an act on a channel names it so, a signal is over a link from the partition, a plan that is asked for is one that the partition sees, and maintenance is started by its table
 abbrev pub IsWithin : PartitionView → List (Option Content) → Act → Type 0
 IsWithin view contents told.Nothing = Unit {0}
 IsWithin view contents (told.Trades OwnStill) = Unit {0}
 IsWithin view contents (told.Trades (OwnPuts name bytes)) = IsPutting view contents name bytes
 IsWithin view contents (told.Trades (OwnTakes name)) = IsTaking view contents name
+IsWithin view contents (told.Trades (OwnSignals number)) = has_number view.links number ≡ true
 IsWithin view contents (told.Upon id order) = Unit {0}
 IsWithin view contents (told.Plans (Asked plan)) = nat_lt plan view.sees.plans ≡ true
 IsWithin view contents (told.Plans Maintenance) = HasMaintenance view
@@ -464,6 +466,16 @@ flush_regwin_stays : (caller : Caller) → AreNames caller.view.channels → Sta
 unfolding flush_regwin
 flush_regwin_stays caller names = record { within = let moved = flushed 8 (areas_of caller.view) (move_made caller.state.core caller.state.memory) in flush_within caller.view caller.contents moved.answer (record caller.state { core = moved.core; memory = moved.memory }) caller }
 
+-- a signal over a link that was looked for
+link_test : (view : PartitionView) (contents : List (Option Content)) (has : Bool) (code : ℕ) (caller : Caller) (comes : Served)
+    → (has ≡ true → ComesWithin view contents comes.upshot) → ComesWithin view contents (tested (refused_if (not has) code ∷ []) caller comes).upshot
+link_test view contents true code caller comes within = within refl
+link_test view contents false code caller comes within = tt
+
+raise_ipvi_stays : (caller : Caller) → AreNames caller.view.channels → Stays caller.view caller.contents (raise_ipvi caller)
+unfolding raise_ipvi
+raise_ipvi_stays caller names = record { within = link_test caller.view caller.contents (has_number caller.view.links (a_of caller)) invalid_parameter caller (acting (told.Trades (OwnSignals (a_of caller))) 0 caller.state) (λ has. has) }
+
 -- the call with a number, or a later one
 choice_stays : (view : PartitionView) (contents : List (Option Content)) (b : Bool) (one other : Served) → Stays view contents one → Stays view contents other → Stays view contents (if b then one else other)
 choice_stays view contents true one other stays further = stays
@@ -509,7 +521,8 @@ served_stays caller names =
     (choice_stays caller.view caller.contents (number_of caller == 35) _ _ (set_psr_stays caller names)
     (choice_stays caller.view caller.contents (number_of caller == 36) _ _ (set_tbr_stays caller names)
     (choice_stays caller.view caller.contents (number_of caller == 37) _ _ (flush_regwin_stays caller names)
-    (record { within = tt })))))))))))))))))))))))))))))))))))))
+    (choice_stays caller.view caller.contents (number_of caller == 38) _ _ (raise_ipvi_stays caller names)
+    (record { within = tt }))))))))))))))))))))))))))))))))))))))
 
 -- an act is as it is bounded
 abbrev IsBounded : PartitionView → Act → Type 0
@@ -521,6 +534,7 @@ act_bounded view contents told.Nothing ps within = refl
 act_bounded view contents (told.Trades OwnStill) ps within = refl
 act_bounded view contents (told.Trades (OwnPuts name bytes)) ps within = ap (λ b. if b then told.Trades (OwnPuts name bytes) else told.Nothing) within.named
 act_bounded view contents (told.Trades (OwnTakes name)) ps within = ap (λ b. if b then told.Trades (OwnTakes name) else told.Nothing) within.named
+act_bounded view contents (told.Trades (OwnSignals number)) ps within = ap (λ b. if b then told.Trades (OwnSignals number) else told.Nothing) within
 act_bounded view contents (told.Upon id order) ps within = at (id == view.id) refl
   where
     at : (b : Bool) → (id == view.id) ≡ b → IsBounded view (if b then self_ordered view order ps else record (quiet ps) { act = told.Upon id order }).act

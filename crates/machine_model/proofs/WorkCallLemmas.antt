@@ -25,6 +25,7 @@ use Rattle.xm_traces.specs.declared.entry.TraceEntry.{TraceEntry}
 use Rattle.machine_model.specs.Caller.{Caller, Served, Test, a_of, answering, b_of, c_of, d_of, e_of, invalid_parameter, is_neither, no_action, not_available, number_of, refused_if, room, tested, text, with_answer, with_written}
 use Rattle.machine_model.specs.Facts.{AreEnds, AreLast, HaveEight, IsChannelEnd}
 use Rattle.machine_model.specs.Hypercalls.{served}
+use Rattle.machine_model.specs.LinkCalls.{raise_ipvi}
 use Rattle.machine_model.specs.LogCalls.{hm_read, hm_status, raise_event, trace_entry, trace_event, trace_read, trace_status, tracing}
 use Rattle.machine_model.specs.Partition.{PartitionState, areas_of}
 use Rattle.machine_model.specs.PartitionCalls.{get_partition_status, get_self, get_system_status, halt_partition, halt_system, idle_self, reset_partition, reset_system, resume_partition, shutdown_partition, suspend_partition}
@@ -365,6 +366,10 @@ flush_regwin_leaves : (caller : Caller) → Leaves caller (flush_regwin caller)
 unfolding flush_regwin with_answer with_written
 flush_regwin_leaves caller = let moved = flushed 8 (areas_of caller.view) (move_made caller.state.core caller.state.memory) in let ps : PartitionState = record caller.state { core = moved.core; memory = moved.memory } in keeps caller (by_flush moved.answer ps caller) (flush_keeps moved.answer ps caller refl)
 
+raise_ipvi_leaves : (caller : Caller) → Leaves caller (raise_ipvi caller)
+unfolding raise_ipvi with_answer with_written
+raise_ipvi_leaves caller = keeps caller (raise_ipvi caller) (grind (arith))
+
 -- the call with a number, or a later one
 choice_leaves : (caller : Caller) (b : Bool) (one other : Served) → Leaves caller one → Leaves caller other → Leaves caller (if b then one else other)
 choice_leaves caller true one other leaves further = leaves
@@ -410,7 +415,8 @@ served_leaves caller =
     (choice_leaves caller (number_of caller == 35) _ _ (set_psr_leaves caller)
     (choice_leaves caller (number_of caller == 36) _ _ (set_tbr_leaves caller)
     (choice_leaves caller (number_of caller == 37) _ _ (flush_regwin_leaves caller)
-    (keeps caller _ refl)))))))))))))))))))))))))))))))))))))
+    (choice_leaves caller (number_of caller == 38) _ _ (raise_ipvi_leaves caller)
+    (keeps caller _ refl))))))))))))))))))))))))))))))))))))))
 
 -- a call goes on so
 pub served_goes : (caller : Caller) → Goes caller.view 1 0 0 caller.state (served caller).after

@@ -39,12 +39,12 @@ use Rattle.machine_model.specs.Laws.{HasLoads}
 use Rattle.machine_model.specs.Lists.{table}
 use Rattle.machine_model.specs.LocalTick.{LocalTick, bounded, by_act, by_turn, by_upshot, called, clocked, delivered_or_executed, executed_in_tick, goes_on, local_tick, turned_state, with_interrupts, worked, worked_if}
 use Rattle.machine_model.specs.Machine.{Machine, SlotTurn, act_of, after, after_tick, booted_part, copies, happened, happened_by, if_its_turn, is_halt, is_turn_of, local, local_in, local_of, obeyed, order_upon, part_after, rested_unless, run, sight_of_state, start, step, system_traffic, taken_by, tick_of, turn_of, worked_in}
-use Rattle.machine_model.specs.Partition.{PartitionState, applies, areas_of, booted, carried_out, disarmed, execution_looked_at, hardware_looked_at, is_halted, ordered, reset, rested, takes_turns}
+use Rattle.machine_model.specs.Partition.{PartitionState, applies, areas_of, booted, carried_out, disarmed, execution_looked_at, hardware_looked_at, is_halted, link_signal, ordered, reset, rested, takes_turns}
 use Rattle.machine_model.specs.Structures.{flag}
 use Rattle.machine_model.specs.Told as told
-use Rattle.machine_model.specs.Told.{Act, OwnPuts, OwnStill, OwnTakes, OwnTraffic, Sight}
-use Rattle.machine_model.specs.Traffic.{after_message, heard_as, heard_from, hearing, interrupted, traffic_of}
-use Rattle.machine_model.specs.View.{PartitionView, System, name_of, view_of}
+use Rattle.machine_model.specs.Told.{Act, OwnPuts, OwnSignals, OwnStill, OwnTakes, OwnTraffic, Sight}
+use Rattle.machine_model.specs.Traffic.{after_message, heard_as, heard_from, heard_of_own, hearing, interrupted, traffic_of}
+use Rattle.machine_model.specs.View.{PartitionView, System, view_of}
 use Rattle.machine_model.specs.Whole.{AllHalted, AllReset, NoEvent, WholeEvent, after_event, event_of, ticks_after}
 use Rattle.machine_model.proofs.WorkCallLemmas.{Goes, same_goes, served_goes}
 use Rattle.machine_model.proofs.ListLemmas.{get_each}
@@ -339,6 +339,7 @@ unfolding after_message
 hearing_goes view OwnStill ps = same_goes view 0 0 0 ps ps refl
 hearing_goes view (OwnPuts q bytes) ps = heard_goes view (heard_from q view.part.ports ps.made view.channels) ps
 hearing_goes view (OwnTakes q) ps = same_goes view 0 0 0 ps ps refl
+hearing_goes view (OwnSignals number) ps = heard_goes view (Some (link_signal number)) ps
 
 obeyed_goes : (view : PartitionView) (o : Option Order) (ps : PartitionState) → Goes view 0 0 0 ps (obeyed view o ps)
 obeyed_goes view None ps = same_goes view 0 0 0 ps ps refl
@@ -420,12 +421,12 @@ work_ticks view time traffic o e before after act awake works quiet_after = reco
 -- what a tick leaves of a partition, by the local tick of the machine and the one of this partition
 abbrev left_by : Machine → ℕ → Option SlotTurn → Option LocalTick → Option LocalTick → PartitionState → PartitionState
 left_by g p turn tick its ps =
-    after_tick (view_of g.system p) g.time (is_some its) (heard_as (name_of g.system.conf p) (system_traffic g.system.conf turn (traffic_of (act_of tick)))) (order_upon (act_of tick) p)
+    after_tick (view_of g.system p) g.time (is_some its) (heard_as g.system.conf p (system_traffic g.system.conf turn (traffic_of (act_of tick)))) (order_upon (act_of tick) p)
     (event_of (act_of tick)) (worked_in its ps)
 
 -- a tick that reaches nothing leaves a partition as its work did
 nothing_follows : (g : Machine) (p : ℕ) (turn : Option SlotTurn) (act : Act) (ps : PartitionState) → act ≡ told.Nothing
-    → after_tick (view_of g.system p) g.time true (heard_as (name_of g.system.conf p) (system_traffic g.system.conf turn (traffic_of act))) (order_upon act p) (event_of act) ps ≡ ps
+    → after_tick (view_of g.system p) g.time true (heard_as g.system.conf p (system_traffic g.system.conf turn (traffic_of act))) (order_upon act p) (event_of act) ps ≡ ps
 unfolding after_tick
 nothing_follows g p None act ps is = rw is refl
 nothing_follows g p (Some turn) act ps is = rw is refl
@@ -489,7 +490,7 @@ alone_rests view a cue none =
     subst (λ (tick : Option LocalTick). Ticks view a.state (alone_after view a cue tick).state) (sym none) (rest_ticks view a.time cue.traffic cue.order cue.whole a.state)
 
 -- an act that is nothing has nothing to follow
-nothing_after : (view : PartitionView) (time : ℕ) (act : Act) (ps : PartitionState) → act ≡ told.Nothing → after_tick view time true (traffic_of act) None (event_of act) ps ≡ ps
+nothing_after : (view : PartitionView) (time : ℕ) (act : Act) (ps : PartitionState) → act ≡ told.Nothing → after_tick view time true (heard_of_own (traffic_of act)) None (event_of act) ps ≡ ps
 unfolding after_tick
 nothing_after view time act ps is = rw is refl
 
@@ -499,9 +500,9 @@ alone_works : (view : PartitionView) (a : Alone) (cue : Cue) (first : Bool) → 
 unfolding alone_after alone_step local_tick
 alone_works view a cue first turns unordered is event =
     subst (λ (tick : Option LocalTick). Ticks view a.state (alone_after view a cue tick).state) (sym is)
-    (subst (λ (o : Option Order). Ticks view a.state (after_tick view a.time true (traffic_of tick.act) o cue.whole tick.after)) (sym unordered)
-    (subst (λ (e : WholeEvent). Ticks view a.state (after_tick view a.time true (traffic_of tick.act) None e tick.after)) (sym event)
-    (work_ticks view a.time (traffic_of tick.act) None (event_of tick.act) a.state tick.after tick.act (awake a.state.state turns)
+    (subst (λ (o : Option Order). Ticks view a.state (after_tick view a.time true (heard_of_own (traffic_of tick.act)) o cue.whole tick.after)) (sym unordered)
+    (subst (λ (e : WholeEvent). Ticks view a.state (after_tick view a.time true (heard_of_own (traffic_of tick.act)) None e tick.after)) (sym event)
+    (work_ticks view a.time (heard_of_own (traffic_of tick.act)) None (event_of tick.act) a.state tick.after tick.act (awake a.state.state turns)
     (bounded_works (work_works view a.copies a.time first cue.seen a.state)) (nothing_after view a.time tick.act tick.after))))
   where
     tick : LocalTick

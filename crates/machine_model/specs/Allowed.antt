@@ -9,9 +9,9 @@ use Rattle.machine_model.specs.Facts.{HasFacts, IsComplete}
 use Rattle.machine_model.specs.Machine.{Machine, answer_to, copies, happened}
 use Rattle.machine_model.specs.Observed.{CurrentPlan, HealthCounts, HealthEntryOf, Observation, PartitionStatus, PlanStatus, Question, SystemStatus, TraceCounts, TraceEntryOf, asks}
 use Rattle.machine_model.specs.Partition.{PartitionState}
-use Rattle.machine_model.specs.Told.{NotKept, OwnPuts, OwnStill, OwnTakes, OwnTraffic, Sight, Unseen, Words}
+use Rattle.machine_model.specs.Told.{NotKept, OwnPuts, OwnSignals, OwnStill, OwnTakes, OwnTraffic, Sight, Unseen, Words}
 use Rattle.machine_model.specs.Traffic.{heard_as}
-use Rattle.machine_model.specs.View.{PartitionView, PortChannel, name_of, view_of}
+use Rattle.machine_model.specs.View.{PartitionView, PortChannel, view_of}
 
 -- a channel of a kind takes one more message: a sampling channel always does, and a queue in which fewer wait than its most
 unfoldable pub TakesMore : ChanKind → Content → Type 0
@@ -26,11 +26,12 @@ AllowsTraffic view contents (OwnPuts name bytes) =
     (channel : PortChannel) (content : Content) → slice_index_or view.channels name None ≡ Some channel → slice_index_or contents name None ≡ Some content
     → TakesMore channel.shape.kind content
 AllowsTraffic view contents (OwnTakes name) = (content : Content) → slice_index_or contents name None ≡ Some content → IsSome (first_message content)
+AllowsTraffic view contents (OwnSignals number) = Unit {0}
 
 -- under a configuration that meets the rules such is the traffic of a tick as each partition hears it
 abbrev pub HearsWhatIsAllowed : Type 0
 HearsWhatIsAllowed =
-    (g : Machine) (p : ℕ) → Fits (described g.system.conf) → AllowsTraffic (view_of g.system p) (copies g p) (heard_as (name_of g.system.conf p) (happened g).traffic)
+    (g : Machine) (p : ℕ) → Fits (described g.system.conf) → AllowsTraffic (view_of g.system p) (copies g p) (heard_as g.system.conf p (happened g).traffic)
 
 -- a question asks for an entry of a log
 abbrev pub IsForEntry : Question → Type 0

@@ -10,7 +10,7 @@ use Rattle.machine_model.specs.LocalTick.{LocalTick, local_tick}
 use Rattle.machine_model.specs.Machine.{after_tick, obeyed_told, worked_in}
 use Rattle.machine_model.specs.Partition.{PartitionState, booted, takes_turns}
 use Rattle.machine_model.specs.Told.{OwnTraffic, Sight, line_of}
-use Rattle.machine_model.specs.Traffic.{copies_after, traffic_of}
+use Rattle.machine_model.specs.Traffic.{copies_after, heard_of_own, traffic_of}
 use Rattle.machine_model.specs.View.{PartitionView, PortChannel}
 use Rattle.machine_model.specs.Whole.{content_after, event_lines, ticks_after, time_after}
 
@@ -39,10 +39,10 @@ alone_local_in (Mine first) view a seen =
 unfoldable pub alone_local : PartitionView → Alone → Cue → Option LocalTick
 alone_local view a cue = alone_local_in cue.mine view a cue.seen
 
--- the traffic of a tick: its own where it did its own work, else that of others
+-- the traffic of a tick: what it hears of its own where it did its own work, else that of others
 abbrev pub alone_traffic : Option LocalTick → OwnTraffic → OwnTraffic
 alone_traffic None others = others
-alone_traffic (Some tick) others = traffic_of tick.act
+alone_traffic (Some tick) others = heard_of_own (traffic_of tick.act)
 
 -- one partition after its work and all that it was told
 unfoldable pub alone_after : PartitionView → Alone → Cue → Option LocalTick → Alone

@@ -4,7 +4,6 @@ use Rattle.xm_base.specs.declared.partition.Order.{Order}
 use Rattle.machine_model.specs.Machine.{Happened, Machine, SlotTurn, happened, order_upon, sight, step, tick_of}
 use Rattle.machine_model.specs.Told.{OwnStill, OwnTraffic, Sight}
 use Rattle.machine_model.specs.Traffic.{heard_as}
-use Rattle.machine_model.specs.View.{name_of}
 use Rattle.machine_model.specs.Whole.{WholeEvent}
 
 -- whether a tick is in a slot of the partition, and then whether the slot begins with it
@@ -12,8 +11,8 @@ pub data CueSlot : Type 0 where
   Away : CueSlot
   Mine : (first : Bool) → CueSlot
 
--- what a partition is told in a tick: whether the slot is its own, what others put into its channels or took from them, an order
--- that another gave it, the hypervisor event, and what an observing call of a system partition is shown.
+-- what a partition is told in a tick: whether the slot is its own, what others put into its channels or took from them, or which
+-- link signalled it, an order that another gave it, the hypervisor event, and what an observing call of a system partition is shown.
 -- There is nothing here of another partition's memory, registers, lines, image or state, nor of the plan
 pub record Cue : Type 0 where
   pub mine : CueSlot
@@ -35,7 +34,7 @@ unless_own false traffic = traffic
 unfoldable pub cue_in : Machine → Happened → ℕ → Cue
 cue_in g h p = record {
   mine = slot_of h.turn p;
-  traffic = unless_own (is_some (tick_of h p)) (heard_as (name_of g.system.conf p) h.traffic);
+  traffic = unless_own (is_some (tick_of h p)) (heard_as g.system.conf p h.traffic);
   order = order_upon h.act p;
   whole = h.event;
   seen = sight g p;

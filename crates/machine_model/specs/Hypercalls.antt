@@ -1,6 +1,7 @@
 -- The hypercalls: what each number calls.
 use Rattle.std.specs.Prelude.{ℕ, ◌==◌, if◌then◌else◌}
 use Rattle.machine_model.specs.Caller.{Caller, Served, answering, number_of, unknown_call}
+use Rattle.machine_model.specs.LinkCalls.{raise_ipvi}
 use Rattle.machine_model.specs.LogCalls.{hm_read, hm_status, raise_event, trace_event, trace_read, trace_status}
 use Rattle.machine_model.specs.PartitionCalls.{get_partition_status, get_self, get_system_status, halt_partition, halt_system, idle_self, reset_partition, reset_system, resume_partition, shutdown_partition, suspend_partition}
 use Rattle.machine_model.specs.PortCalls.{create_queuing_port, create_sampling_port, get_queuing_port_status, get_sampling_port_status, read_sampling_message, receive_queuing_message, send_queuing_message, write_sampling_message}
@@ -47,6 +48,7 @@ call_numbered number caller =
     else if number == 35 then set_psr caller
     else if number == 36 then set_tbr caller
     else if number == 37 then flush_regwin caller
+    else if number == 38 then raise_ipvi caller
     else answering unknown_call caller.state
 
 -- the call that a partition makes

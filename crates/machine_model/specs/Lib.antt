@@ -8,11 +8,13 @@ pub mod Structures
 pub mod PartitionCalls
 pub mod TimeCalls
 pub mod PortCalls
+pub mod LinkCalls
 pub mod LogCalls
 pub mod ProcessorCalls
 pub mod Hypercalls
 pub mod LocalTick
 pub mod Traffic
+pub mod LinkLemmas
 pub mod Whole
 pub mod Observed
 pub mod Machine
@@ -42,4 +44,5 @@ pub mod PortCallRows
 pub mod EventRows
 pub mod ObservedRows
 pub mod WholeRows
+pub mod LinkRows
 pub mod CoreFileRows

@@ -16,8 +16,8 @@ use Rattle.machine_model.specs.Health.{Worked, event_handled, interrupt_delivere
 use Rattle.machine_model.specs.Hypercalls.{served}
 use Rattle.machine_model.specs.Partition.{PartitionState, areas_of, execution_looked_at, hardware_looked_at, raised_if, slot_start}
 use Rattle.machine_model.specs.Told as told
-use Rattle.machine_model.specs.Told.{Act, Nothing, OwnPuts, OwnStill, OwnTakes, OwnTraffic, Plans, Sight, Told, Trades, Upon, UponAll, line_of}
-use Rattle.machine_model.specs.View.{PartitionView, PortChannel}
+use Rattle.machine_model.specs.Told.{Act, Nothing, OwnPuts, OwnSignals, OwnStill, OwnTakes, OwnTraffic, Plans, Sight, Told, Trades, Upon, UponAll, line_of}
+use Rattle.machine_model.specs.View.{PartitionView, PortChannel, has_number}
 
 -- the interrupts that a tick brings: the start of a slot, then the hardware timer, then the execution timer
 unfoldable pub with_interrupts : ℕ → Bool → PartitionState → PartitionState
@@ -122,21 +122,17 @@ abbrev pub has_name : Option PortChannel → ℕ → Bool
 has_name None name = false
 has_name (Some channel) name = channel.name == name
 
--- the channel that traffic is on, where there is any
-abbrev pub traffic_name : OwnTraffic → Option ℕ
-traffic_name OwnStill = None
-traffic_name (OwnPuts name bytes) = Some name
-traffic_name (OwnTakes name) = Some name
+-- whether traffic is on a channel that the partition has under this name, or over a link of this number that goes from it
+abbrev pub is_its : PartitionView → OwnTraffic → Bool
+is_its view OwnStill = true
+is_its view (OwnPuts name bytes) = has_name (slice_index_or view.channels name None) name
+is_its view (OwnTakes name) = has_name (slice_index_or view.channels name None) name
+is_its view (OwnSignals number) = has_number view.links number
 
--- whether traffic is on a channel that the partition has under this name
-abbrev pub is_its : PartitionView → Option ℕ → Bool
-is_its view None = true
-is_its view (Some name) = has_name (slice_index_or view.channels name None) name
-
--- only channels of the partition are acted on, and only other partitions get orders
+-- only channels and links of the partition are acted on, and only other partitions get orders
 abbrev pub bounded : PartitionView → Act → Act
 bounded view Nothing = Nothing
-bounded view (Trades traffic) = if is_its view (traffic_name traffic) then Trades traffic else Nothing
+bounded view (Trades traffic) = if is_its view traffic then Trades traffic else Nothing
 bounded view (Upon id an_order) = if id == view.id then Nothing else Upon id an_order
 bounded view (Plans change) = Plans change
 bounded view (UponAll event) = UponAll event

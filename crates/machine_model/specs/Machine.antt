@@ -15,7 +15,7 @@ use Rattle.machine_model.specs.Structures.{counts_bytes, health_bytes, partition
 use Rattle.machine_model.specs.Told as told
 use Rattle.machine_model.specs.Told.{Act, Asked, Directed, Maintenance, NotKept, OwnTraffic, PlanChange, Sight, Told, Unseen, Words, line_of, reach_of}
 use Rattle.machine_model.specs.Traffic.{Still, Traffic, after_traffic, copies_of, heard_as, hearing, told_as, traffic_of}
-use Rattle.machine_model.specs.View.{PartitionView, System, name_of, named, part_of, view_of}
+use Rattle.machine_model.specs.View.{PartitionView, System, part_of, view_of}
 use Rattle.machine_model.specs.Whole.{AllHalted, AllReset, NoEvent, WholeEvent, after_event, content_after, event_of, ticks_after, time_after, whole_resets_after}
 
 -- the state of the machine: what runs, the partitions, what the channels hold, the plan clock, the hardware clock,
@@ -144,7 +144,7 @@ act_of (Some tick) = tick.act
 -- traffic under the channels' numbers in the system, of the partition whose turn it is
 abbrev pub system_traffic : Conf → Option SlotTurn → OwnTraffic → Traffic
 system_traffic conf None traffic = Still
-system_traffic conf (Some turn) traffic = told_as (named conf turn.part) traffic
+system_traffic conf (Some turn) traffic = told_as conf turn.part traffic
 
 -- an order on partition p
 abbrev pub order_for : Option Directed → ℕ → Option Order
@@ -202,7 +202,7 @@ abbrev pub rested_unless : Bool → ℕ → PartitionState → PartitionState
 rested_unless true time ps = ps
 rested_unless false time ps = rested time ps
 
--- what a tick leaves of a partition after its own work: it hears of a message, obeys an order, meets a hypervisor event, and rests where it did no work
+-- what a tick leaves of a partition after its own work: it hears of a message or a signal, obeys an order, meets a hypervisor event, and rests where it did no work
 unfoldable pub after_tick : PartitionView → ℕ → Bool → OwnTraffic → Option Order → WholeEvent → PartitionState → PartitionState
 after_tick view time worked traffic order event ps =
     rested_unless worked time (after_event view event (obeyed view order (hearing view traffic ps)))
@@ -210,7 +210,7 @@ after_tick view time worked traffic order event ps =
 -- what a tick leaves of partition p
 unfoldable pub part_after : Machine → Happened → ℕ → PartitionState → PartitionState
 part_after g h p ps =
-    after_tick (view_of g.system p) g.time (is_some (tick_of h p)) (heard_as (name_of g.system.conf p) h.traffic) (order_upon h.act p) h.event
+    after_tick (view_of g.system p) g.time (is_some (tick_of h p)) (heard_as g.system.conf p h.traffic) (order_upon h.act p) h.event
     (worked_in (tick_of h p) ps)
 
 -- what a tick leaves of channel c

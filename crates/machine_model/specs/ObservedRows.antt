@@ -47,7 +47,7 @@ pub record AskingRows : Type 0 where
   pub hm_read : (memory : Memory) → AsksFor (28 ∷ 3 ∷ 7 ∷ 9 ∷ []) (HealthEntryOf 3 7) 9 20 memory × AsksOfOther 28 memory
   pub hm_status : (memory : Memory) → AsksFor (29 ∷ 3 ∷ 7 ∷ []) (HealthCounts 3) 7 8 memory × AsksOfOther 29 memory
   pub no_other : (memory : Memory) →
-      AsksNothing true (12 ∷ 1 ∷ 7 ∷ []) memory × AsksNothing true (24 ∷ 3 ∷ 7 ∷ []) memory × AsksNothing true (27 ∷ 3 ∷ 7 ∷ []) memory × AsksNothing true (38 ∷ 3 ∷ 7 ∷ []) memory
+      AsksNothing true (12 ∷ 1 ∷ 7 ∷ []) memory × AsksNothing true (24 ∷ 3 ∷ 7 ∷ []) memory × AsksNothing true (27 ∷ 3 ∷ 7 ∷ []) memory × AsksNothing true (38 ∷ 3 ∷ 7 ∷ []) memory × AsksNothing true (39 ∷ 3 ∷ 7 ∷ []) memory
 
 -- two partitions, the second of which has a state of its own and entries, after 258 resets of the hypervisor, under plan 1 with plan 2 asked for
 abbrev pub observed_machine : Memory → Memory → Machine

@@ -90,7 +90,7 @@ Idles = (memory : Memory) → Calls (caller false) memory
 -- a number that is no call's answers -2
 abbrev pub UnknownCall : Type 0
 UnknownCall = (memory : Memory) → Calls (caller false) memory
-    → Leaves (λ g. g.parts) (asking (38 ∷ []) memory) 1 (after_request (2 ^ 32 - 2) (38 ∷ []) memory ∷ [])
+    → Leaves (λ g. g.parts) (asking (39 ∷ []) memory) 1 (after_request (2 ^ 32 - 2) (39 ∷ []) memory ∷ [])
     × Leaves (λ g. g.parts) (asking (0 ∷ []) memory) 1 (after_request (2 ^ 32 - 2) (0 ∷ []) memory ∷ [])
 
 -- a partition in the window of a trap that it took at 0x40000010, which returns from it

@@ -54,6 +54,10 @@ queuing_port = 4
 abbrev pub slot_start : ℕ
 slot_start = 5
 
+-- a signal over a link of a number
+abbrev pub link_signal : ℕ → ℕ
+link_signal number = 8 + number
+
 -- the areas of a partition's memory
 unfoldable pub areas_of : PartitionView → List Area
 areas_of view = part_areas view.part

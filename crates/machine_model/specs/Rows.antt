@@ -83,7 +83,7 @@ halves = record { frame = 4; slots = slot 0 2 0 ∷ slot 2 2 1 ∷ [] }
 
 -- a configuration of these plans, partitions and channels
 abbrev pub small_conf : List Plan → List Part → List Chan → Conf
-small_conf plans parts chans = record { name = []; regions = []; hv_size = 0; uarts = []; plans = plans; parts = parts; chans = chans }
+small_conf plans parts chans = record { name = []; regions = []; hv_size = 0; uarts = []; plans = plans; parts = parts; chans = chans; links = [] }
 
 -- the registers with these values in the outs from a register on
 abbrev pub with_outs : ℕ → List ℕ → Registers → Registers

@@ -36,6 +36,7 @@ view_for is_system = record {
   image = no_image;
   inputs = [];
   channels = [];
+  links = [];
   sees = seen_by is_system;
 }
 

@@ -21,11 +21,13 @@ line_of n p (Health event word action) = HealthLine n p event word action
 line_of n p (Trace bits load) = TraceLine n p bits load
 line_of n p (Moved to) = MovedLine n p to
 
--- traffic of a partition on channels that go by its own names: none, a message that is put, or the first one that is taken
+-- traffic of a partition on channels that go by its own names, and over links: none, a message that is put, the first one that is taken, or a signal
+-- over a link of this number, from the partition where the traffic is its own, and to it where others did it
 pub data OwnTraffic : Type 0 where
   OwnStill : OwnTraffic
   OwnPuts : (name : ℕ) (bytes : List ℕ) → OwnTraffic
   OwnTakes : (name : ℕ) → OwnTraffic
+  OwnSignals : (number : ℕ) → OwnTraffic
 
 -- what is done to the plan: one is asked for, or the maintenance plan comes next
 pub data PlanChange : Type 0 where
@@ -38,7 +40,7 @@ pub data WholeEvent : Type 0 where
   AllReset : (mode : Mode) → WholeEvent
   AllHalted : WholeEvent
 
--- how a tick reaches beyond its partition: not at all, by traffic on its channels, by an order on a partition, by the plan, or by an event
+-- how a tick reaches beyond its partition: not at all, by traffic on its channels and links, by an order on a partition, by the plan, or by an event
 -- of all partitions
 pub data Act : Type 0 where
   Nothing : Act

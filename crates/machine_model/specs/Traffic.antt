@@ -1,4 +1,5 @@
--- Traffic on channels: what a message that is put or taken does to a channel, and to the partitions at its ends.
+-- Traffic on channels and links: what a message that is put or taken does to a channel, and to the partitions at its ends, and what a signal does to the
+-- partition at its link's end.
 use Rattle.std.specs.Prelude.{ℕ, ◌==◌, ◌&&◌, Bool, true, false, if◌then◌else◌, List, [], ◌∷◌, Option, Some, None, slice_get}
 use Rattle.xm_conf.specs.Configuration.{Conf}
 use Rattle.xm_conf.specs.declared.channel.ChanKind.{ChanKind}
@@ -9,16 +10,18 @@ use Rattle.xm_conf.specs.declared.port.Way.TheVariants as way
 use Rattle.xm_ports.specs.Channels.{Content, put, first_taken}
 use Rattle.virt_traps.specs.Virtual.{raised}
 use Rattle.xm_base.specs.Options.{on}
-use Rattle.machine_model.specs.Lists.{each, table}
-use Rattle.machine_model.specs.Partition.{PartitionState, is_halted, queuing_port, sampling_port}
-use Rattle.machine_model.specs.Told.{Act, OwnPuts, OwnStill, OwnTakes, OwnTraffic, reach_of}
-use Rattle.machine_model.specs.View.{PartitionView, PortChannel, named}
+use Rattle.machine_model.specs.Lists.{each, is_number, table}
+use Rattle.machine_model.specs.Partition.{PartitionState, is_halted, link_signal, queuing_port, sampling_port}
+use Rattle.machine_model.specs.Told.{Act, OwnPuts, OwnSignals, OwnStill, OwnTakes, OwnTraffic, reach_of}
+use Rattle.machine_model.specs.View.{PartitionView, PortChannel, linked, name_of, named}
 
--- traffic on channels that go by their numbers in the system: none, a message that is put, or the first one that is taken
+-- traffic on channels that go by their numbers in the system, and over links: none, a message that is put, the first one that is taken, or a signal over
+-- the link of this number that goes from a partition
 pub data Traffic : Type 0 where
   Still : Traffic
   Puts : (channel : ℕ) (bytes : List ℕ) → Traffic
   Takes : (channel : ℕ) → Traffic
+  Signals : (source : ℕ) (number : ℕ) → Traffic
 
 -- the traffic of an act
 abbrev pub traffic_of : Act → OwnTraffic
@@ -33,12 +36,14 @@ abbrev pub takes_at : Option ℕ → Traffic
 takes_at None = Still
 takes_at (Some channel) = Takes channel
 
-abbrev pub told_as : (ℕ → Option ℕ) → OwnTraffic → Traffic
-told_as named OwnStill = Still
-told_as named (OwnPuts name bytes) = puts_at (named name) bytes
-told_as named (OwnTakes name) = takes_at (named name)
+abbrev pub told_as : Conf → ℕ → OwnTraffic → Traffic
+told_as conf p OwnStill = Still
+told_as conf p (OwnPuts name bytes) = puts_at (named conf p name) bytes
+told_as conf p (OwnTakes name) = takes_at (named conf p name)
+told_as conf p (OwnSignals number) = Signals p number
 
--- traffic of the system under a partition's names; none where the partition has no name for the channel
+-- traffic of the system under a partition's names; none where the partition has no name for the channel, and none where a signal goes to another
+-- one
 abbrev pub own_puts_at : Option ℕ → List ℕ → OwnTraffic
 own_puts_at None bytes = OwnStill
 own_puts_at (Some name) bytes = OwnPuts name bytes
@@ -47,22 +52,36 @@ abbrev pub own_takes_at : Option ℕ → OwnTraffic
 own_takes_at None = OwnStill
 own_takes_at (Some name) = OwnTakes name
 
-abbrev pub heard_as : (ℕ → Option ℕ) → Traffic → OwnTraffic
-heard_as name_of Still = OwnStill
-heard_as name_of (Puts channel bytes) = own_puts_at (name_of channel) bytes
-heard_as name_of (Takes channel) = own_takes_at (name_of channel)
+abbrev pub own_signals_at : Bool → ℕ → OwnTraffic
+own_signals_at false number = OwnStill
+own_signals_at true number = OwnSignals number
+
+abbrev pub heard_as : Conf → ℕ → Traffic → OwnTraffic
+heard_as conf p Still = OwnStill
+heard_as conf p (Puts channel bytes) = own_puts_at (name_of conf p channel) bytes
+heard_as conf p (Takes channel) = own_takes_at (name_of conf p channel)
+heard_as conf p (Signals source number) = own_signals_at (is_number (linked conf source number) p) number
+
+-- what a partition hears of its own traffic: its messages, but not its signals, which go to others
+abbrev pub heard_of_own : OwnTraffic → OwnTraffic
+heard_of_own OwnStill = OwnStill
+heard_of_own (OwnPuts name bytes) = OwnPuts name bytes
+heard_of_own (OwnTakes name) = OwnTakes name
+heard_of_own (OwnSignals number) = OwnStill
 
 -- what traffic leaves of channel c
 abbrev pub after_traffic : ℕ → Traffic → ℕ → Content → Content
 after_traffic time Still c content = content
 after_traffic time (Puts channel bytes) c content = if channel == c then put time bytes content else content
 after_traffic time (Takes channel) c content = if channel == c then first_taken content else content
+after_traffic time (Signals source number) c content = content
 
 -- what it leaves of a partition's copy of the channel that the partition calls q
 abbrev pub after_own : ℕ → OwnTraffic → ℕ → Content → Content
 after_own time OwnStill q content = content
 after_own time (OwnPuts name bytes) q content = if name == q then put time bytes content else content
 after_own time (OwnTakes name) q content = if name == q then first_taken content else content
+after_own time (OwnSignals number) q content = content
 
 -- what a partition has of the channels: a copy of each under its own name
 abbrev pub content_if : List Content → Option ℕ → Option Content
@@ -108,7 +127,8 @@ abbrev pub interrupted : Option ℕ → PartitionState → PartitionState
 interrupted None ps = ps
 interrupted (Some n) ps = if is_halted ps.state then ps else record ps { traps = raised n ps.traps }
 
--- a partition after traffic under its own names: a message raises the interrupt of its kind where a made destination port hears it
+-- a partition after traffic under its own names: a message raises the interrupt of its kind where a made destination port hears it, and a signal the
+-- one of its link's number
 unfoldable pub after_message : PartitionView → ℕ → PartitionState → PartitionState
 after_message view q ps = interrupted (heard_from q view.part.ports ps.made view.channels) ps
 
@@ -116,3 +136,4 @@ abbrev pub hearing : PartitionView → OwnTraffic → PartitionState → Partiti
 hearing view OwnStill ps = ps
 hearing view (OwnPuts q bytes) ps = after_message view q ps
 hearing view (OwnTakes q) ps = ps
+hearing view (OwnSignals number) ps = interrupted (Some (link_signal number)) ps

@@ -1,8 +1,9 @@
 -- What runs, and what a partition has of its own in it.
-use Rattle.std.specs.Prelude.{ℕ, zero, suc, false, if◌then◌else◌, List, [], length, Option, Some, None, slice_get, slice_index_or}
+use Rattle.std.specs.Prelude.{ℕ, zero, suc, ◌==◌, ◌||◌, Bool, false, if◌then◌else◌, List, [], ◌∷◌, length, Option, Some, None, slice_get, slice_index_or}
 use Rattle.xm_conf.specs.Configuration.{Chan, Conf, Part}
-use Rattle.xm_conf.specs.View.{channel_of, sees}
+use Rattle.xm_conf.specs.View.{channel_of, link_of, sees}
 use Rattle.xm_conf.specs.declared.conf.Seen.{Seen}
+use Rattle.xm_conf.specs.declared.link.Link.{Link}
 use Rattle.xef_images.specs.Image.{Image}
 use Rattle.xm_ports.specs.Channels.{Shape, shape_of}
 use Rattle.machine_model.specs.Lists.{is_number, table, then_some}
@@ -19,13 +20,14 @@ pub record PortChannel : Type 0 where
   pub name : ℕ
 
 -- what a partition has of its own: its number, its entry of the configuration, its image and its input words,
--- the channel of each of its ports, and the two counts that a system partition sees
+-- the channel of each of its ports, the numbers of the links that go from it, and the two counts that a system partition sees
 pub record PartitionView : Type 0 where
   pub id : ℕ
   pub part : Part
   pub image : Image
   pub inputs : List ℕ
   pub channels : List (Option PortChannel)
+  pub links : List ℕ
   pub sees : Seen
 
 -- the entry of a partition that is not there
@@ -83,6 +85,25 @@ with_its_name conf p (Some c) = with_name (slice_get conf.chans c) (name_of conf
 unfoldable pub port_channel : Conf → ℕ → ℕ → Option PortChannel
 port_channel conf p r = with_its_name conf p (channel_of conf p r)
 
+-- the numbers of the links that go from partition p
+abbrev pub numbers_of : ℕ → List Link → List ℕ
+numbers_of p [] = []
+numbers_of p (link ∷ links) = if link.source == p then link.number ∷ numbers_of p links else numbers_of p links
+
+-- whether a number is one of these
+abbrev pub has_number : List ℕ → ℕ → Bool
+has_number [] number = false
+has_number (one ∷ others) number = one == number || has_number others number
+
+-- a partition that a link goes to, unless it is the one that the link goes from
+abbrev pub unless_itself : ℕ → Option ℕ → Option ℕ
+unless_itself p None = None
+unless_itself p (Some dest) = if dest == p then None else Some dest
+
+-- the other partition to which partition p's link of this number goes
+unfoldable pub linked : Conf → ℕ → ℕ → Option ℕ
+linked conf p number = unless_itself p (link_of conf p number)
+
 -- what partition p has of its own
 unfoldable pub view_of : System → ℕ → PartitionView
 view_of system p = record {
@@ -91,5 +112,6 @@ view_of system p = record {
   image = slice_index_or system.images p no_image;
   inputs = slice_index_or system.inputs p [];
   channels = table (port_channel system.conf p) (length (part_of system.conf p).ports);
+  links = numbers_of p system.conf.links;
   sees = sees system.conf p;
 }

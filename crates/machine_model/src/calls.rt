@@ -2,6 +2,7 @@
 
 ghost use Rattle.machine_model.specs.CoreFileRows.{CoreFileRows};
 ghost use Rattle.machine_model.specs.EventRows.{ActionRows, DeliveryRows, RaisedRows, TrapsHaveEvents, UndoneRows};
+ghost use Rattle.machine_model.specs.LinkRows.{LinkCallRows, LinkRows, SignalIsDelivered, SignalRows, SignalsHalted, SignalsNotBack, SignalsOther};
 ghost use Rattle.machine_model.specs.LogCallRows.{LogCallRows};
 ghost use Rattle.machine_model.specs.ObservedRows.{AnswerRows, AskingRows, PlanStatusRows, RoomRows, SeesPlan, SilentRows};
 ghost use Rattle.machine_model.specs.PartitionCallRows.{PartitionCallRows};
@@ -33,6 +34,17 @@ pub fn log_calls()
 /// Calls 30 to 37, on interrupts, the console, input words and the virtual processor.
 pub fn processor_calls()
     ensures rows { ProcessorCallRows }
+{}
+
+/// Call 38, on links, and its signals: the call's result, who hears of a signal, and the interrupt that comes with it.
+pub fn link_calls()
+    ensures rows { LinkCallRows }
+    ensures signals { SignalRows }
+    ensures links { LinkRows }
+    ensures heard { SignalsOther }
+    ensures halted { SignalsHalted }
+    ensures refused { SignalsNotBack }
+    ensures delivered { SignalIsDelivered }
 {}
 
 /// Health events: what each action does, deliveries that fail, and calls that end in an event.

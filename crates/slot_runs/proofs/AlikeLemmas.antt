@@ -20,7 +20,7 @@ use Rattle.machine_model.specs.Partition.{PartitionState, applies, areas_of, har
 use Rattle.machine_model.specs.Structures.{counts_bytes, health_bytes, partition_status, trace_bytes}
 use Rattle.machine_model.specs.Told.{Sight, Unseen, Words, line_of}
 use Rattle.machine_model.specs.Traffic.{heard_as}
-use Rattle.machine_model.specs.View.{PartitionView, name_of, view_of}
+use Rattle.machine_model.specs.View.{PartitionView, view_of}
 use Rattle.machine_model.specs.Whole.{event_lines, ticks_after, time_after, whole_lines, whole_resets_after}
 use Rattle.slot_runs.specs.Late.{GoAlike, HaltsRested, OthersGoAlike, RestedGoAlike, with_parts}
 use Rattle.slot_runs.proofs.CalmLemmas.{lines_as, step_as}
@@ -183,9 +183,9 @@ unfolding part_after
 part_alike before g h k ps later other = at (tick_of h k)
   where
     at : (tick : Option LocalTick)
-        → after_tick (view_of g.system k) g.time (is_some tick) (heard_as (name_of g.system.conf k) h.traffic) (order_upon h.act k) h.event (worked_in tick (rested before ps))
-        ≡ after_tick (view_of g.system k) g.time (is_some tick) (heard_as (name_of g.system.conf k) h.traffic) (order_upon h.act k) h.event (worked_in tick ps)
-    at None = rests_before (view_of g.system k) before g.time (heard_as (name_of g.system.conf k) h.traffic) (order_upon h.act k) h.event ps later other
+        → after_tick (view_of g.system k) g.time (is_some tick) (heard_as g.system.conf k h.traffic) (order_upon h.act k) h.event (worked_in tick (rested before ps))
+        ≡ after_tick (view_of g.system k) g.time (is_some tick) (heard_as g.system.conf k h.traffic) (order_upon h.act k) h.event (worked_in tick ps)
+    at None = rests_before (view_of g.system k) before g.time (heard_as g.system.conf k h.traffic) (order_upon h.act k) h.event ps later other
     at (Some tick) = refl
 
 -- it does not see the other partitions

@@ -10,8 +10,8 @@ use Rattle.xm_base.specs.declared.partition.State.{State}
 use Rattle.xm_base.specs.declared.partition.State.TheVariants.{Ready, Suspended}
 use Rattle.machine_model.specs.LocalTick.{with_interrupts}
 use Rattle.machine_model.specs.Machine.{after_tick, obeyed}
-use Rattle.machine_model.specs.Partition.{PartitionState, applies, carried_out, execution_looked_at, hardware_looked_at, hardware_timer, is_halted, ordered, reset, rested, shutdown, slot_start}
-use Rattle.machine_model.specs.Told.{OwnPuts, OwnStill, OwnTakes, OwnTraffic}
+use Rattle.machine_model.specs.Partition.{PartitionState, applies, carried_out, execution_looked_at, hardware_looked_at, hardware_timer, is_halted, link_signal, ordered, reset, rested, shutdown, slot_start}
+use Rattle.machine_model.specs.Told.{OwnPuts, OwnSignals, OwnStill, OwnTakes, OwnTraffic}
 use Rattle.machine_model.specs.Traffic.{after_message, heard_from, hearing, interrupted}
 use Rattle.machine_model.specs.View.{PartitionView}
 use Rattle.machine_model.specs.Whole.{AllHalted, AllReset, NoEvent, WholeEvent, after_event}
@@ -84,6 +84,9 @@ looked_hearing view before (OwnTakes q) a b is = is
 looked_hearing view before (OwnPuts q bytes) a b (inl same) = inl (ap (after_message view q) same)
 looked_hearing view before (OwnPuts q bytes) a b (inr (looked, runs)) =
     inr (ap (after_message view q) looked ∙ message_looked view before q b runs, ap is_halted (message_state view q b) ∙ runs)
+looked_hearing view before (OwnSignals number) a b (inl same) = inl (ap (interrupted (Some (link_signal number))) same)
+looked_hearing view before (OwnSignals number) a b (inr (looked, runs)) =
+    inr (ap (interrupted (Some (link_signal number))) looked ∙ interrupted_looked before (Some (link_signal number)) b runs, ap is_halted (interrupted_state (Some (link_signal number)) b) ∙ runs)
 
 -- a state that is given before or after a look
 state_looked : (before : ℕ) (state : State) (ps : PartitionState) → record (hardware_looked_at before ps) { state = state } ≡ hardware_looked_at before (record ps { state = state })

@@ -12,8 +12,8 @@ use Rattle.machine_model.specs.LocalTick.{LocalTick, bounded, seen_outside}
 use Rattle.machine_model.specs.Machine.{Happened, Machine, SlotTurn, after, after_tick, booted_part, channel_after, clock_after, happened, happened_by, if_its_turn, is_halt, local, next_clock, obeyed, obeyed_told, order_for, order_upon, part_after, rested_unless, run, tick_of, turn_of, worked_in}
 use Rattle.machine_model.specs.Partition.{PartitionState, ordered, reset, rested, resets_after}
 use Rattle.machine_model.specs.Told.{Act, Directed, line_of, reach_of}
-use Rattle.machine_model.specs.Traffic.{Puts, Still, Takes, Traffic, after_traffic, heard_as, hearing, told_as, traffic_of}
-use Rattle.machine_model.specs.View.{name_of, named, view_of}
+use Rattle.machine_model.specs.Traffic.{Puts, Signals, Still, Takes, Traffic, after_traffic, heard_as, hearing, told_as, traffic_of}
+use Rattle.machine_model.specs.View.{view_of}
 use Rattle.machine_model.specs.Whole.{AllHalted, AllReset, NoEvent, WholeEvent, after_event, content_after, event_lines, event_of, ticks_after, time_after, whole_lines, whole_resets_after}
 use Rattle.slot_runs.specs.PassLaws.{AllRest, IsInPasses, OthersRest, OthersRestLater, PassedNext, TickInPasses}
 use Rattle.slot_runs.specs.Passes.{evented, obeyed_in, obeyed_lines, rest_but, tick_ended, traded, traffic_in, with_part, with_traffic, worked_lines, worked_through}
@@ -39,14 +39,15 @@ with_event event g = record g {
 traded_is : (traffic : Traffic) (g : Machine) → traded traffic g ≡ with_traffic traffic g
 traded_is Still g =
     ap (λ (parts : List PartitionState). record g { parts = parts })
-    (sym (each_same (λ q ps. hearing (view_of g.system q) (heard_as (name_of g.system.conf q) Still) ps) g.parts (λ k ps there. refl)))
+    (sym (each_same (λ q ps. hearing (view_of g.system q) (heard_as g.system.conf q Still) ps) g.parts (λ k ps there. refl)))
     ∙ ap (λ (channels : List Content). record g {
-      parts = each (λ q ps. hearing (view_of g.system q) (heard_as (name_of g.system.conf q) Still) ps) g.parts;
+      parts = each (λ q ps. hearing (view_of g.system q) (heard_as g.system.conf q Still) ps) g.parts;
       channels = channels;
     })
     (sym (each_same (after_traffic g.time Still) g.channels (λ k content there. refl)))
 traded_is (Puts channel bytes) g = refl
 traded_is (Takes channel) g = refl
+traded_is (Signals source number) g = refl
 
 -- so is an order
 obeyed_is : (directed : Option Directed) (g : Machine) → obeyed_in directed g ≡ with_orders directed g
@@ -122,14 +123,14 @@ happened_is g p first work turn works within =
       turn = Some (record { part = p; first = first });
       local = Some (tick_for g p work);
       act = act;
-      traffic = told_as (named g.system.conf p) (traffic_of act);
+      traffic = told_as g.system.conf p (traffic_of act);
       event = event_of act;
     }) within
 
 -- what traffic, an order and an event leave of a partition
 abbrev reached : Machine → Happened → ℕ → PartitionState → PartitionState
 reached g h q ps =
-    after_event (view_of g.system q) h.event (obeyed (view_of g.system q) (order_upon h.act q) (hearing (view_of g.system q) (heard_as (name_of g.system.conf q) h.traffic) ps))
+    after_event (view_of g.system q) h.event (obeyed (view_of g.system q) (order_upon h.act q) (hearing (view_of g.system q) (heard_as g.system.conf q h.traffic) ps))
 
 -- what such a tick leaves of a partition
 part_is : (g : Machine) (p : ℕ) (first : Bool) (work : Worked) (q : ℕ) (ps : PartitionState)
@@ -152,12 +153,12 @@ parts_are g p first work =
     ap (λ (parts : List PartitionState). each (λ q (ps : PartitionState). if p == q then ps else rested g.time ps)
     (each (λ q ps. after_event (view_of g.system q) (event_of work.act) ps)
     (each (λ q ps. obeyed (view_of g.system q) (order_upon work.act q) ps)
-    (each (λ q ps. hearing (view_of g.system q) (heard_as (name_of g.system.conf q) (traffic_in g p work.act)) ps) parts))))
+    (each (λ q ps. hearing (view_of g.system q) (heard_as g.system.conf q (traffic_in g p work.act)) ps) parts))))
     (sym (each_set g.parts p work.after))
     ∙ each_five (λ q (ps : PartitionState). if p == q then ps else rested g.time ps)
     (λ q ps. after_event (view_of g.system q) (event_of work.act) ps)
     (λ q ps. obeyed (view_of g.system q) (order_upon work.act q) ps)
-    (λ q ps. hearing (view_of g.system q) (heard_as (name_of g.system.conf q) (traffic_in g p work.act)) ps)
+    (λ q ps. hearing (view_of g.system q) (heard_as g.system.conf q (traffic_in g p work.act)) ps)
     (λ q (ps : PartitionState). if p == q then work.after else ps) g.parts
     ∙ each_alike (λ q ps. if p == q then reached g (did g p first work) q (if p == q then work.after else ps) else rested g.time (reached g (did g p first work) q (if p == q then work.after else ps)))
     (part_after g (did g p first work)) g.parts (part_is g p first work)

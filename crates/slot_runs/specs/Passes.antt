@@ -9,8 +9,8 @@ use Rattle.machine_model.specs.Lists.{all_of, each, is_number}
 use Rattle.machine_model.specs.Machine.{Machine, booted_part, clock_after}
 use Rattle.machine_model.specs.Partition.{PartitionState, ordered, ordered_told, reset, rested, resets_after}
 use Rattle.machine_model.specs.Told.{Act, AllHalted, AllReset, Directed, NoEvent, WholeEvent, line_of, reach_of}
-use Rattle.machine_model.specs.Traffic.{Puts, Still, Takes, Traffic, after_traffic, heard_as, hearing, told_as, traffic_of}
-use Rattle.machine_model.specs.View.{name_of, named, view_of}
+use Rattle.machine_model.specs.Traffic.{Puts, Signals, Still, Takes, Traffic, after_traffic, heard_as, hearing, told_as, traffic_of}
+use Rattle.machine_model.specs.View.{named, view_of}
 use Rattle.machine_model.specs.Whole.{event_lines, event_of, ticks_after, time_after, whole_lines}
 
 -- the state of a partition; where there is none, one that boots
@@ -21,10 +21,10 @@ part_at p g = slice_index_or g.parts p (booted_part g.system p)
 abbrev pub with_part : ℕ → PartitionState → Machine → Machine
 with_part p ps g = record g { parts = slice_set g.parts p ps }
 
--- the machine after traffic: what the channel holds, and the interrupt at each partition that hears of a message
+-- the machine after traffic: what the channel holds, and the interrupt at each partition that hears of a message or a signal
 abbrev pub with_traffic : Traffic → Machine → Machine
 with_traffic traffic g = record g {
-  parts = each (λ q ps. hearing (view_of g.system q) (heard_as (name_of g.system.conf q) traffic) ps) g.parts;
+  parts = each (λ q ps. hearing (view_of g.system q) (heard_as g.system.conf q traffic) ps) g.parts;
   channels = each (after_traffic g.time traffic) g.channels;
 }
 
@@ -33,6 +33,7 @@ abbrev pub traded : Traffic → Machine → Machine
 traded Still g = g
 traded (Puts channel bytes) g = with_traffic (Puts channel bytes) g
 traded (Takes channel) g = with_traffic (Takes channel) g
+traded (Signals source number) g = with_traffic (Signals source number) g
 
 -- the machine after an order on a partition
 abbrev pub obeyed_in : Option Directed → Machine → Machine
@@ -69,7 +70,7 @@ tick_ended act g = record g {
 
 -- the traffic of a partition's act under the system's numbers
 abbrev pub traffic_in : Machine → ℕ → Act → Traffic
-traffic_in g p act = told_as (named g.system.conf p) (traffic_of act)
+traffic_in g p act = told_as g.system.conf p (traffic_of act)
 
 -- the machine after a tick of a partition that came to this work
 abbrev pub worked_through : ℕ → Worked → Machine → Machine
