@@ -27,8 +27,9 @@ use Rattle.xm_ports.specs.declared.ports.CreateFault.{CreateFault}
 use Rattle.machine_model.specs.Caller.{Acts, Caller, Meets, Served, Test, Upshot, a_of, acting, answering, b_of, c_of, d_of, invalid_mode, invalid_parameter, is_neither, mode_numbered, no_permission, not_allowed, not_available, number_of, refused_if, room, shown, system_only, target, tested, text, with_written}
 use Rattle.machine_model.specs.Health.{answered_by, by_interrupt, event_handled, interrupt_delivered, quiet, self_ordered, undelivered, done_to_all}
 use Rattle.machine_model.specs.Hypercalls.{served}
+use Rattle.machine_model.specs.LinkCalls.{raise_ipvi}
 use Rattle.machine_model.specs.Lists.{and_then}
-use Rattle.machine_model.specs.LocalTick.{bounded, by_act, by_turn, by_upshot, called, clocked, delivered_or_executed, executed_in_tick, goes_on, is_its, traffic_name, turned_state, with_interrupts, worked, worked_if}
+use Rattle.machine_model.specs.LocalTick.{bounded, by_act, by_turn, by_upshot, called, clocked, delivered_or_executed, executed_in_tick, goes_on, is_its, turned_state, with_interrupts, worked, worked_if}
 use Rattle.machine_model.specs.LogCalls.{hm_read, hm_status, raise_event, trace_event, trace_read, trace_status}
 use Rattle.machine_model.specs.Partition.{PartitionState, areas_of}
 use Rattle.machine_model.specs.PartitionCalls.{get_partition_status, get_self, get_system_status, halt_partition, halt_system, idle_self, ordering, reset_partition, reset_system, resume_partition, shutdown_partition, suspend_partition}
@@ -37,8 +38,8 @@ use Rattle.machine_model.specs.ProcessorCalls.{by_flush, by_return, clear_irqmas
 use Rattle.machine_model.specs.Structures.{queuing_status, sampling_status}
 use Rattle.machine_model.specs.TimeCalls.{get_plan_status, get_time, is_no_plan, set_timer, switch_sched_plan}
 use Rattle.machine_model.specs.Told as told
-use Rattle.machine_model.specs.Told.{Act, AllHalted, AllReset, Asked, OwnPuts, OwnStill, OwnTakes, OwnTraffic, Plans, Sight, Trades, UponAll}
-use Rattle.machine_model.specs.View.{PartitionView, PortChannel}
+use Rattle.machine_model.specs.Told.{Act, AllHalted, AllReset, Asked, OwnPuts, OwnSignals, OwnStill, OwnTakes, OwnTraffic, Plans, Sight, Trades, UponAll}
+use Rattle.machine_model.specs.View.{PartitionView, PortChannel, has_number}
 use Rattle.xm_flows.specs.Rights.{ActsByRight, HasPortOn, IsByRight, ReceivesFrom, reaches_all}
 
 -- what a call comes to is by right; an event is a question of the health table
@@ -336,6 +337,16 @@ flush_regwin_right : (caller : Caller) → Comes caller.view (flush_regwin calle
 unfolding flush_regwin
 flush_regwin_right caller = record { rightly = let moved = flushed 8 (areas_of caller.view) (move_made caller.state.core caller.state.memory) in flush_right moved.answer (record caller.state { core = moved.core; memory = moved.memory }) caller }
 
+-- a signal over a link that was looked for
+link_right : (has : Bool) (code : ℕ) (caller : Caller) (comes : Served) → (has ≡ true → ComesByRight caller.view comes.upshot)
+    → ComesByRight caller.view (tested (refused_if (not has) code ∷ []) caller comes).upshot
+link_right true code caller comes right = right refl
+link_right false code caller comes right = tt
+
+raise_ipvi_right : (caller : Caller) → Comes caller.view (raise_ipvi caller)
+unfolding raise_ipvi
+raise_ipvi_right caller = record { rightly = link_right (has_number caller.view.links (a_of caller)) invalid_parameter caller (acting (Trades (OwnSignals (a_of caller))) 0 caller.state) (λ has. has) }
+
 -- the call with a number, or a later one
 choice_right : (view : PartitionView) (b : Bool) (one other : Served) → Comes view one → Comes view other → Comes view (if b then one else other)
 choice_right view true one other right further = right
@@ -381,7 +392,8 @@ served_right caller =
     (choice_right caller.view (number_of caller == 35) _ _ (set_psr_right caller)
     (choice_right caller.view (number_of caller == 36) _ _ (set_tbr_right caller)
     (choice_right caller.view (number_of caller == 37) _ _ (flush_regwin_right caller)
-    (record { rightly = tt })))))))))))))))))))))))))))))))))))))
+    (choice_right caller.view (number_of caller == 38) _ _ (raise_ipvi_right caller)
+    (record { rightly = tt }))))))))))))))))))))))))))))))))))))))
 
 -- an act on oneself is done inside, and another one reaches beyond
 act_right : (view : PartitionView) (act : Act) (ps : PartitionState) → IsByRight view act → IsByRight view (by_act act view ps).act
@@ -465,7 +477,7 @@ acts_by_right view ps contents time first seen =
 -- an act as the rest of the system meets it is by right, too
 pub bounded_right : (view : PartitionView) (act : Act) → IsByRight view act → IsByRight view (bounded view act)
 bounded_right view told.Nothing right = tt
-bounded_right view (told.Trades traffic) right = at (is_its view (traffic_name traffic))
+bounded_right view (told.Trades traffic) right = at (is_its view traffic)
   where
     at : (b : Bool) → IsByRight view (if b then told.Trades traffic else told.Nothing)
     at true = right

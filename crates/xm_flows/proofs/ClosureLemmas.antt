@@ -1,18 +1,20 @@
--- The rounds over the channels end with the least set that keeps the rule of each.
+-- The rounds over the channels and links end with the least set that keeps the rule of each.
 use Rattle.std.proofs.Common.{◌≡◌, ℕ, zero, suc, ◌<◌, ◌≤◌, ◌+◌, Bool, true, false, List, [], ◌∷◌, length, refl, sym, ap, ◌∙◌, arith, subst, inl, inr}
 use Rattle.std.specs.Prelude.{◌⊎◌, ◌||◌, ◌&&◌, ◌↔◌, nat_lt, if◌then◌else◌, slice_get, slice_index_or, All, IsSome}
 use Rattle.std.proofs.lemmas.Bool.Decides.{nat_tests}
 use Rattle.std.proofs.lemmas.List.Elements.{All-cons, All-head, All-nil, All-tail, All-weaker}
 use Rattle.xm_conf.specs.Configuration.{Chan, Conf, Part}
 use Rattle.xm_conf.specs.Description.{described}
-use Rattle.xm_conf.specs.Fits.{Fits, HasPorts}
+use Rattle.xm_conf.specs.Fits.{Fits, HasPorts, IsLink}
 use Rattle.xm_conf.specs.Rules.{port_at, port_of}
 use Rattle.xm_conf.specs.declared.channel.ChanKind.{ChanKind}
 use Rattle.xm_conf.specs.declared.channel.ChanKind.TheVariants as kind
 use Rattle.xm_conf.specs.declared.channel.End.{End}
+use Rattle.xm_conf.specs.declared.link.Link.{Link}
+use Rattle.xm_conf.specs.Limits.{most_parts}
 use Rattle.machine_model.specs.View.{no_part, part_of}
-use Rattle.xm_flows.specs.Groups.{HasItsPeers, HasNoSystem, IsClosed, IsGroupOf, KeepsRule, KeepsIn, Members, has_dest_in, is_in}
-use Rattle.xm_flows.specs.Masks.{HasLowEnds, IsClosureOf, has_no_system, members_of, widened, widened_by, with_ends, with_member}
+use Rattle.xm_flows.specs.Groups.{HasItsPeers, HasNoSystem, IsClosed, IsGroupOf, KeepsLink, KeepsRule, KeepsIn, KeepsRules, Members, has_dest_in, is_in}
+use Rattle.xm_flows.specs.Masks.{AreAllLow, HasLowEnds, HasLowSource, IsClosureOf, has_no_system, members_of, widened, widened_all, widened_by, widened_by_link, widened_by_links, with_ends, with_member}
 use Rattle.xm_flows.proofs.MaskLemmas.{mask_grows, member_cases, member_kept, member_set, none_member}
 
 -- one set is part of another
@@ -149,8 +151,8 @@ channel_widens : (the_kind : ChanKind) (source : End) (dests : List End) (mask :
 channel_widens (kind.Sampling refresh) source dests mask low lows = sampling_widens refresh source dests mask low
 channel_widens (kind.Queuing most) source dests mask low lows = queue_widens most source dests mask low lows
 
--- What a round adds.
-pub round_widens : (chans : List Chan) (mask : ℕ) → All HasLowEnds chans → Widens (λ set. All (KeepsRule set) chans) mask (widened chans mask)
+-- What the channels add to a round.
+round_widens : (chans : List Chan) (mask : ℕ) → All HasLowEnds chans → Widens (λ set. All (KeepsRule set) chans) mask (widened chans mask)
 round_widens [] mask low = record {
   has = λ q is. is;
   grows = omega arith;
@@ -175,18 +177,86 @@ round_widens (chan ∷ chans) mask low =
           (subst (λ (m : ℕ). All (KeepsRule (members_of m)) chans) stays (further.done (same ∙ sym stays)));
     }
 
+-- What a link adds.
+link_widens : (link : Link) (mask : ℕ) → link.source < 32 → Widens (λ set. KeepsLink set link) mask (widened_by_link link mask)
+link_widens link mask low = by (members_of mask link.dest) refl
+  where
+    by : (b : Bool) → members_of mask link.dest ≡ b → Widens (λ set. KeepsLink set link) mask (if b then with_member mask link.source else mask)
+    by true reached = record {
+      has = λ q is. member_kept mask link.source q low is;
+      grows = mask_grows mask link.source;
+      forced = λ other keeps part. added mask link.source low other part (keeps (part link.dest reached));
+      done = λ same reached_so. ap (λ m. members_of m link.source) (sym same) ∙ member_set mask link.source low;
+    }
+    by false apart = record {
+      has = λ q is. is;
+      grows = omega arith;
+      forced = λ other keeps part. part;
+      done = λ same reached. absurd cc;
+    }
+
+-- What the links add to a round.
+links_widen : (joins : List Link) (mask : ℕ) → All HasLowSource joins → Widens (λ set. All (KeepsLink set) joins) mask (widened_by_links joins mask)
+links_widen [] mask low = record {
+  has = λ q is. is;
+  grows = omega arith;
+  forced = λ other keeps part. part;
+  done = λ same. All-nil (KeepsLink (members_of mask));
+}
+links_widen (link ∷ joins) mask low =
+    let end = All-head HasLowSource link joins low in
+    let next = widened_by_link link mask in
+    let first = link_widens link mask end.source in
+    let further = links_widen joins next (All-tail HasLowSource link joins low) in
+    let grows : mask ≤ next = first.grows in
+    let grows_on : next ≤ widened_by_links joins next = further.grows in
+    record {
+      has = λ q is. further.has q (first.has q is);
+      grows = omega (arith, grows, grows_on);
+      forced = λ other keeps part.
+          further.forced other (All-tail (KeepsLink other) link joins keeps) (first.forced other (All-head (KeepsLink other) link joins keeps) part);
+      done = λ same.
+          let stays : next ≡ mask = omega (arith, grows, grows_on, same) in
+          All-cons (KeepsLink (members_of mask)) link joins (first.done stays)
+          (subst (λ (m : ℕ). All (KeepsLink (members_of m)) joins) stays (further.done (same ∙ sym stays)));
+    }
+
+-- all is low
+pub low : {chans : List Chan} {joins : List Link} → All HasLowEnds chans → All HasLowSource joins → AreAllLow chans joins
+low ends sources = record { channels = ends; links = sources }
+
+-- What a round adds.
+pub all_widens : (chans : List Chan) (joins : List Link) (mask : ℕ) → AreAllLow chans joins → Widens (λ set. KeepsRules set chans joins) mask (widened_all chans joins mask)
+all_widens chans joins mask low =
+    let next = widened chans mask in
+    let first = round_widens chans mask low.channels in
+    let further = links_widen joins next low.links in
+    let grows : mask ≤ next = first.grows in
+    let grows_on : next ≤ widened_by_links joins next = further.grows in
+    record {
+      has = λ q is. further.has q (first.has q is);
+      grows = omega (arith, grows, grows_on);
+      forced = λ other keeps part. further.forced other keeps.links (first.forced other keeps.channels part);
+      done = λ same.
+          let stays : next ≡ mask = omega (arith, grows, grows_on, same) in
+          record {
+            channels = first.done stays;
+            links = subst (λ (m : ℕ). All (KeepsLink (members_of m)) joins) stays (further.done (same ∙ sym stays));
+          };
+    }
+
 -- where the rounds stand: what the next one leaves, and that what there is was there or has to be
-pub record IsRound (chans : List Chan) (mask members wider : ℕ) : Type 0 where
-  pub next : wider ≡ widened chans members
+pub record IsRound (chans : List Chan) (joins : List Link) (mask members wider : ℕ) : Type 0 where
+  pub next : wider ≡ widened_all chans joins members
   pub has : IsPartOf (members_of mask) (members_of members)
-  pub least : (other : Members) → All (KeepsRule other) chans → IsPartOf (members_of mask) other → IsPartOf (members_of members) other
+  pub least : (other : Members) → KeepsRules other chans joins → IsPartOf (members_of mask) other → IsPartOf (members_of members) other
 
-pub first_round : (chans : List Chan) (mask wider : ℕ) → wider ≡ widened chans mask → IsRound chans mask mask wider
-first_round chans mask wider next = record { next = next; has = λ q is. is; least = λ other keeps part. part }
+pub first_round : (chans : List Chan) (joins : List Link) (mask wider : ℕ) → wider ≡ widened_all chans joins mask → IsRound chans joins mask mask wider
+first_round chans joins mask wider next = record { next = next; has = λ q is. is; least = λ other keeps part. part }
 
-pub next_round : (chans : List Chan) (mask members wider next : ℕ) → All HasLowEnds chans → IsRound chans mask members wider → next ≡ widened chans wider → IsRound chans mask wider next
-next_round chans mask members wider next low round is =
-    let widens : Widens (λ set. All (KeepsRule set) chans) members wider = subst (Widens (λ set. All (KeepsRule set) chans) members) (sym round.next) (round_widens chans members low) in
+pub next_round : (chans : List Chan) (joins : List Link) (mask members wider next : ℕ) → AreAllLow chans joins → IsRound chans joins mask members wider → next ≡ widened_all chans joins wider → IsRound chans joins mask wider next
+next_round chans joins mask members wider next low round is =
+    let widens : Widens (λ set. KeepsRules set chans joins) members wider = subst (Widens (λ set. KeepsRules set chans joins) members) (sym round.next) (all_widens chans joins members low) in
     record {
       next = is;
       has = λ q before. widens.has q (round.has q before);
@@ -194,16 +264,16 @@ next_round chans mask members wider next low round is =
     }
 
 -- a round that adds something raises the number
-pub rounds_rise : (chans : List Chan) (mask members wider : ℕ) → All HasLowEnds chans → IsRound chans mask members wider → members ≤ wider
-rounds_rise chans mask members wider low round =
-    let grows : members ≤ widened chans members = (round_widens chans members low).grows in
-    let next : wider ≡ widened chans members = round.next in
+pub rounds_rise : (chans : List Chan) (joins : List Link) (mask members wider : ℕ) → AreAllLow chans joins → IsRound chans joins mask members wider → members ≤ wider
+rounds_rise chans joins mask members wider low round =
+    let grows : members ≤ widened_all chans joins members = (all_widens chans joins members low).grows in
+    let next : wider ≡ widened_all chans joins members = round.next in
     omega (arith, grows, next)
 
-pub last_round : (chans : List Chan) (mask members wider : ℕ) → All HasLowEnds chans → IsRound chans mask members wider → wider ≡ members → IsClosureOf chans mask members
-last_round chans mask members wider low round same = record {
+pub last_round : (chans : List Chan) (joins : List Link) (mask members wider : ℕ) → AreAllLow chans joins → IsRound chans joins mask members wider → wider ≡ members → IsClosureOf chans joins mask members
+last_round chans joins mask members wider low round same = record {
   has = round.has;
-  kept = (round_widens chans members low).done (sym round.next ∙ same);
+  kept = (all_widens chans joins members low).done (sym round.next ∙ same);
   least = round.least;
 }
 
@@ -225,7 +295,7 @@ ends_there parts chan ports = (
 pub low_ends : (conf : Conf) → Fits (described conf) → All HasLowEnds conf.chans
 unfolding described
 low_ends conf fits =
-    let few : length conf.parts ≤ 16 = fits.counts.parts.few in
+    let few : length conf.parts ≤ most_parts = fits.counts.parts.few in
     All-weaker (HasPorts conf.parts) HasLowEnds
     (λ chan ports.
     let there = ends_there conf.parts chan ports in
@@ -236,19 +306,30 @@ low_ends conf fits =
     })
     conf.chans fits.ends_exist
 
+-- so is the partition of a link
+pub low_sources : (conf : Conf) → Fits (described conf) → All HasLowSource conf.links
+unfolding described
+low_sources conf fits =
+    let few : length conf.parts ≤ most_parts = fits.counts.parts.few in
+    All-weaker (IsLink (length conf.parts)) HasLowSource
+    (λ link is. let below : link.source < length conf.parts = is.source in record { source = omega (arith, few, below) }) conf.links fits.links_suit
+
+pub all_low : (conf : Conf) → Fits (described conf) → AreAllLow conf.chans conf.links
+all_low conf fits = record { channels = low_ends conf fits; links = low_sources conf fits }
+
 pub low_part : (conf : Conf) (p : ℕ) → Fits (described conf) → p < length conf.parts → p < 32
 unfolding described
-low_part conf p fits below = let few : length conf.parts ≤ 16 = fits.counts.parts.few in omega (arith, few, below)
+low_part conf p fits below = let few : length conf.parts ≤ most_parts = fits.counts.parts.few in omega (arith, few, below)
 
 pub few_parts : (conf : Conf) → Fits (described conf) → length conf.parts ≤ 32
 unfolding described
-few_parts conf fits = let few : length conf.parts ≤ 16 = fits.counts.parts.few in omega (arith, few)
+few_parts conf fits = let few : length conf.parts ≤ most_parts = fits.counts.parts.few in omega (arith, few)
 
-pub is_group : (conf : Conf) (p members : ℕ) → p < 32 → IsClosureOf conf.chans (with_member 0 p) members → IsGroupOf conf p (members_of members)
+pub is_group : (conf : Conf) (p members : ℕ) → p < 32 → IsClosureOf conf.chans conf.links (with_member 0 p) members → IsGroupOf conf p (members_of members)
 is_group conf p members low closure = record {
   has = closure.has p (member_set 0 p low);
-  peers = record { channels = closure.kept };
-  least = λ other peers its q is. closure.least other peers.channels (added 0 p low other (λ r fails. absurd (none_member r fails)) its) q is;
+  peers = closure.kept;
+  least = λ other peers its q is. closure.least other peers (added 0 p low other (λ r fails. absurd (none_member r fails)) its) q is;
 }
 
 -- all partitions together have their peers
@@ -266,6 +347,9 @@ all_peers conf fits = record {
       let there = ends_there conf.parts chan ports in
       all_kept (length conf.parts) chan.kind chan.source chan.dests there.0 there.1)
       conf.chans fits.ends_exist;
+  links =
+      All-weaker (IsLink (length conf.parts)) (KeepsLink (λ q. nat_lt q (length conf.parts)))
+      (λ link is its. let below : link.source < length conf.parts = is.source in grind (arith, nat_tests)) conf.links fits.links_suit;
 }
 
 -- so each member of a group is a partition that there is

@@ -1,4 +1,4 @@
--- What a partition outside of a closed set does on its channels, no member meets.
+-- What a partition outside of a closed set does on its channels and links, no member meets.
 use Rattle.std.proofs.Common.{◌≡◌, ℕ, zero, suc, ◌<◌, true, false, List, [], ◌∷◌, length, Option, None, Some, refl, sym, ap, ◌∙◌, subst}
 use Rattle.std.specs.Prelude.{slice_get, slice_index_or, ◌||◌, is_some, All, IfSome, IsSome}
 use Rattle.std.specs.List.{list_any}
@@ -17,12 +17,13 @@ use Rattle.xm_conf.specs.declared.port.Port.{Port}
 use Rattle.xm_conf.specs.declared.port.Way.TheVariants as way
 use Rattle.machine_model.specs.Lists.{table}
 use Rattle.machine_model.specs.Told as told
-use Rattle.machine_model.specs.Told.{Act, OwnPuts, OwnStill, OwnTakes, OwnTraffic}
+use Rattle.machine_model.specs.Told.{Act, OwnPuts, OwnSignals, OwnStill, OwnTakes}
 use Rattle.machine_model.specs.Traffic.{heard_as, own_puts_at, own_takes_at, puts_at, takes_at, told_as, traffic_of}
 use Rattle.machine_model.specs.View.{PortChannel, System, name_of, named, no_part, part_of, port_channel, view_of, with_its_name, with_name}
-use Rattle.xm_flows.specs.Groups.{HasItsPeers, KeepsRule, KeepsIn, Members, has_dest_in, has_end_in, is_in}
+use Rattle.xm_flows.specs.Groups.{HasItsPeers, KeepsLink, KeepsRule, KeepsIn, Members, has_dest_in, has_end_in, is_in}
 use Rattle.xm_flows.specs.Rights.{HasPortOn, IsByRight, ReceivesFrom}
 use Rattle.xm_flows.proofs.EndLemmas.{either_true, end_is, its_channel, name_is, named_is}
+use Rattle.xm_flows.proofs.LinkLemmas.{its_source, no_signal}
 use Rattle.xm_flows.proofs.PairLemmas.{end_in}
 
 -- what holds of each element of a list holds of one that is there
@@ -179,22 +180,31 @@ take_unnamed system members fits peers p q name c member stranger receives is = 
     absurd cc)
 
 -- so a member hears nothing of the traffic of a partition that is no member
-puts_unheard : (conf : Conf) (p : ℕ) (bytes : List ℕ) (o : Option ℕ) → ((c : ℕ) → o ≡ Some c → name_of conf p c ≡ None) → heard_as (name_of conf p) (puts_at o bytes) ≡ OwnStill
+puts_unheard : (conf : Conf) (p : ℕ) (bytes : List ℕ) (o : Option ℕ) → ((c : ℕ) → o ≡ Some c → name_of conf p c ≡ None) → heard_as conf p (puts_at o bytes) ≡ OwnStill
 puts_unheard conf p bytes None none = refl
 puts_unheard conf p bytes (Some c) none = ap (λ o. own_puts_at o bytes) (none c refl)
 
-takes_unheard : (conf : Conf) (p : ℕ) (o : Option ℕ) → ((c : ℕ) → o ≡ Some c → name_of conf p c ≡ None) → heard_as (name_of conf p) (takes_at o) ≡ OwnStill
+takes_unheard : (conf : Conf) (p : ℕ) (o : Option ℕ) → ((c : ℕ) → o ≡ Some c → name_of conf p c ≡ None) → heard_as conf p (takes_at o) ≡ OwnStill
 takes_unheard conf p None none = refl
 takes_unheard conf p (Some c) none = ap own_takes_at (none c refl)
 
 pub unheard : (system : System) (members : Members) → Fits (described system.conf) → HasItsPeers system.conf members → (p q : ℕ) → members p ≡ true → members q ≡ false
-    → (act : Act) → IsByRight (view_of system q) act → heard_as (name_of system.conf p) (told_as (named system.conf q) (traffic_of act)) ≡ OwnStill
+    → (act : Act) → IsByRight (view_of system q) act → heard_as system.conf p (told_as system.conf q (traffic_of act)) ≡ OwnStill
 unheard system members fits peers p q member stranger told.Nothing right = refl
 unheard system members fits peers p q member stranger (told.Trades OwnStill) right = refl
 unheard system members fits peers p q member stranger (told.Trades (OwnPuts name bytes)) right =
     puts_unheard system.conf p bytes (named system.conf q name) (λ c is. put_unnamed system members fits peers p q name c member stranger right is)
 unheard system members fits peers p q member stranger (told.Trades (OwnTakes name)) right =
     takes_unheard system.conf p (named system.conf q name) (λ c is. take_unnamed system members fits peers p q name c member stranger right is)
+unheard system members fits peers p q member stranger (told.Trades (OwnSignals number)) right =
+    no_signal system.conf p q number (λ is.
+    let its = its_source system.conf p q number is in
+    let source : members its.link.source ≡ true =
+    all_at (KeepsLink members) system.conf.links its.place its.link its.there peers.links (ap members its.dest_is ∙ member)
+    in
+    let holds : members q ≡ true = ap members (sym its.source_is) ∙ source in
+    let fails : true ≡ false = sym holds ∙ stranger in
+    cc)
 unheard system members fits peers p q member stranger (told.Upon id order) right = refl
 unheard system members fits peers p q member stranger (told.Plans change) right = refl
 unheard system members fits peers p q member stranger (told.UponAll event) right = refl

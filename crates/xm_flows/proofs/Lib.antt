@@ -1,5 +1,6 @@
 pub mod ActLemmas
 pub mod EndLemmas
+pub mod LinkLemmas
 pub mod PairLemmas
 pub mod HeardLemmas
 pub mod TurnLemmas

@@ -1,4 +1,4 @@
--- The channels of two configurations that are the same for a set of partitions: they belong together by their ends at members.
+-- The channels and links of two configurations that are the same for a set of partitions: they belong together by their ends at members.
 use Rattle.std.proofs.Common.{◌≡◌, ℕ, zero, suc, Bool, true, false, cond, List, [], ◌∷◌, length, Option, None, Some, refl, sym, ap, ◌∙◌, subst}
 use Rattle.std.specs.Prelude.{slice_get, ◌||◌, if◌then◌else◌, filter}
 use Rattle.std.specs.List.{list_any}
@@ -9,12 +9,13 @@ use Rattle.xm_conf.specs.Fits.{Fits}
 use Rattle.xm_conf.specs.View.{channel_of, has_end, is_port}
 use Rattle.xm_conf.specs.declared.channel.End.{End}
 use Rattle.machine_model.specs.Lists.{is_number, then_some}
-use Rattle.machine_model.specs.Told.{OwnPuts, OwnStill, OwnTakes, OwnTraffic}
+use Rattle.machine_model.specs.Told.{OwnPuts, OwnSignals, OwnStill, OwnTakes, OwnTraffic}
 use Rattle.machine_model.specs.Traffic.{heard_as, own_puts_at, own_takes_at, puts_at, takes_at, told_as}
 use Rattle.machine_model.specs.View.{if_named, name_from, name_of, named, part_of}
-use Rattle.xm_flows.specs.Alike.{HasChannelsOf, chan_among}
+use Rattle.xm_flows.specs.Alike.{HasChannelsOf, HasLinksOf, chan_among}
 use Rattle.xm_flows.specs.Groups.{Members, has_dest_in, has_end_in, is_in}
 use Rattle.xm_flows.proofs.EndLemmas.{channel_is, either_true, end_is, is_its_channel, its_channel}
+use Rattle.xm_flows.proofs.LinkLemmas.{signals_alike}
 
 -- a port of a member is among the destinations of members where it is among all
 any_among : (members : Members) (p r : ℕ) (ends : List End) → members p ≡ true → list_any (is_port p r) (filter (is_in members) ends) ≡ list_any (is_port p r) ends
@@ -71,12 +72,14 @@ pub record Pair (members : Members) (one other : Conf) (c d : ℕ) : Type 0 wher
   pub there_too : slice_get other.chans d ≡ Some counterpart
   pub same : chan_among members chan ≡ chan_among members counterpart
 
--- two configurations that meet the rules have the same channels for a set of partitions, whose members have as many ports in both
+-- two configurations that meet the rules have the same channels and links for a set of partitions, whose members have as many ports in both
 pub record HaveSameChannels (members : Members) (one other : Conf) : Type 0 where
   pub fits_one : Fits (described one)
   pub fits_other : Fits (described other)
   pub channels : HasChannelsOf members other one
   pub channels_back : HasChannelsOf members one other
+  pub links : HasLinksOf members other one
+  pub links_back : HasLinksOf members one other
   pub ports : (p : ℕ) → members p ≡ true → length (part_of one p).ports ≡ length (part_of other p).ports
 
 -- the channel of a member's port is that of the same port in the other configuration
@@ -102,6 +105,8 @@ back members one other same = record {
   fits_other = same.fits_one;
   channels = same.channels_back;
   channels_back = same.channels;
+  links = same.links_back;
+  links_back = same.links;
   ports = λ p member. sym (same.ports p member);
 }
 
@@ -159,23 +164,25 @@ named_pair members one other same p q member = if_named_pair members one other s
 
 -- a member's traffic, as another member meets it, is the same in both
 puts_alike : (members : Members) (one other : Conf) → HaveSameChannels members one other → (p : ℕ) → members p ≡ true → (bytes : List ℕ) (o o' : Option ℕ) → ArePaired members one other o o'
-    → heard_as (name_of one p) (puts_at o bytes) ≡ heard_as (name_of other p) (puts_at o' bytes)
+    → heard_as one p (puts_at o bytes) ≡ heard_as other p (puts_at o' bytes)
 puts_alike members one other same p member bytes None None paired = refl
 puts_alike members one other same p member bytes None (Some d) paired = absurd paired
 puts_alike members one other same p member bytes (Some c) None paired = absurd paired
 puts_alike members one other same p member bytes (Some c) (Some d) paired = ap (λ o. own_puts_at o bytes) (same_name members one other same c d paired p member)
 
 takes_alike : (members : Members) (one other : Conf) → HaveSameChannels members one other → (p : ℕ) → members p ≡ true → (o o' : Option ℕ) → ArePaired members one other o o'
-    → heard_as (name_of one p) (takes_at o) ≡ heard_as (name_of other p) (takes_at o')
+    → heard_as one p (takes_at o) ≡ heard_as other p (takes_at o')
 takes_alike members one other same p member None None paired = refl
 takes_alike members one other same p member None (Some d) paired = absurd paired
 takes_alike members one other same p member (Some c) None paired = absurd paired
 takes_alike members one other same p member (Some c) (Some d) paired = ap own_takes_at (same_name members one other same c d paired p member)
 
 pub heard_alike : (members : Members) (one other : Conf) → HaveSameChannels members one other → (p q : ℕ) → members p ≡ true → members q ≡ true → (traffic : OwnTraffic)
-    → heard_as (name_of one p) (told_as (named one q) traffic) ≡ heard_as (name_of other p) (told_as (named other q) traffic)
+    → heard_as one p (told_as one q traffic) ≡ heard_as other p (told_as other q traffic)
 heard_alike members one other same p q member member_too OwnStill = refl
 heard_alike members one other same p q member member_too (OwnPuts name bytes) =
     puts_alike members one other same p member bytes (named one q name) (named other q name) (named_pair members one other same q name member_too)
 heard_alike members one other same p q member member_too (OwnTakes name) =
     takes_alike members one other same p member (named one q name) (named other q name) (named_pair members one other same q name member_too)
+heard_alike members one other same p q member member_too (OwnSignals number) =
+    signals_alike members one other same.fits_one same.fits_other same.links same.links_back p q number member

@@ -1,6 +1,6 @@
 -- As many rounds as there are partitions reach every member of a group: a round that adds nothing is the last, and each other one adds a partition.
 use Rattle.std.proofs.Common.{◌≡◌, ℕ, zero, suc, ◌<◌, ◌≤◌, ◌+◌, Bool, true, false, List, length, refl, sym, ap, ◌∙◌, arith}
-use Rattle.std.specs.Prelude.{◌==◌, nat_lt, All}
+use Rattle.std.specs.Prelude.{◌==◌, nat_lt}
 use Rattle.std.specs.Int.{bit_at}
 use Rattle.std.proofs.lemmas.Bool.{eqb-true}
 use Rattle.std.proofs.lemmas.Bool.Decides.{nat_tests}
@@ -8,10 +8,12 @@ use Rattle.std.proofs.lemmas.Nat.Bits.{bit_at-lt, same_from_bits}
 use Rattle.xm_conf.specs.Configuration.{Chan, Conf}
 use Rattle.xm_conf.specs.Description.{described}
 use Rattle.xm_conf.specs.Fits.{Fits}
+use Rattle.xm_conf.specs.declared.link.Link.{Link}
 use Rattle.xm_flows.specs.declared.answer.Group.{Group}
-use Rattle.xm_flows.specs.Groups.{KeepsRule, Members}
-use Rattle.xm_flows.specs.Masks.{HasLowEnds, IsClosureOf, after_rounds, group_mask, members_of, widened, with_member}
-use Rattle.xm_flows.proofs.ClosureLemmas.{IsPartOf, added, all_peers, low_ends, round_widens}
+use Rattle.xm_flows.specs.Groups.{KeepsRules, Members}
+use Rattle.xm_flows.specs.Laws.{RoundsFindGroups}
+use Rattle.xm_flows.specs.Masks.{AreAllLow, IsClosureOf, after_rounds, group_mask, group_of, members_of, widened_all, with_member}
+use Rattle.xm_flows.proofs.ClosureLemmas.{IsPartOf, added, all_low, all_peers, all_widens, closed_is, group_within, is_group, low_part, plain_is}
 use Rattle.xm_flows.proofs.MaskLemmas.{none_member}
 
 -- how many a test counts
@@ -91,9 +93,9 @@ unfolding members_of
 same_masks a b same = same_from_bits a b (λ i. same_bits (bit_at a i) (bit_at b i) (bit_at-lt a i) (bit_at-lt b i) (same i))
 
 -- after a round that adds nothing no round does
-all_rounds : (count : ℕ) (chans : List Chan) (mask : ℕ) → widened chans mask ≡ mask → after_rounds count chans mask ≡ mask
-all_rounds zero chans mask same = refl
-all_rounds (suc count) chans mask same = ap (after_rounds count chans) same ∙ all_rounds count chans mask same
+all_rounds : (count : ℕ) (chans : List Chan) (joins : List Link) (mask : ℕ) → widened_all chans joins mask ≡ mask → after_rounds count chans joins mask ≡ mask
+all_rounds zero chans joins mask same = refl
+all_rounds (suc count) chans joins mask same = ap (after_rounds count chans joins) same ∙ all_rounds count chans joins mask same
 
 -- a mask has partitions below a number alone
 abbrev IsBelow : ℕ → ℕ → Type 0
@@ -110,92 +112,110 @@ same_count parts one other below below_too part same = same_masks one other (λ 
         (λ its. absurd (let inside : q < parts = below_too q its in let past : parts ≤ q = grind (arith, nat_tests) in omega (arith, inside, past)))
 
 -- what a round leaves is below the number where the ends of channels are
-abbrev KeepsBelow : ℕ → List Chan → Type 0
-KeepsBelow parts chans = All (KeepsRule (λ q. nat_lt q parts)) chans
+abbrev KeepsBelow : ℕ → List Chan → List Link → Type 0
+KeepsBelow parts chans joins = KeepsRules (λ q. nat_lt q parts) chans joins
 
-round_below : (parts : ℕ) (chans : List Chan) (mask : ℕ) → All HasLowEnds chans → KeepsBelow parts chans → IsBelow parts mask → IsBelow parts (widened chans mask)
-round_below parts chans mask low keeps below q is =
+round_below : (parts : ℕ) (chans : List Chan) (joins : List Link) (mask : ℕ) → AreAllLow chans joins → KeepsBelow parts chans joins → IsBelow parts mask → IsBelow parts (widened_all chans joins mask)
+round_below parts chans joins mask low keeps below q is =
     let inside : nat_lt q parts ≡ true =
-    (round_widens chans mask low).forced (λ r. nat_lt r parts) keeps (λ r its. let at : r < parts = below r its in grind (arith, nat_tests)) q is
+    (all_widens chans joins mask low).forced (λ r. nat_lt r parts) keeps (λ r its. let at : r < parts = below r its in grind (arith, nat_tests)) q is
     in
     grind (arith, nat_tests)
 
 -- where a round has as many partitions as before, no round adds any
-ended : (count parts : ℕ) (chans : List Chan) (mask : ℕ) → All HasLowEnds chans → KeepsBelow parts chans → IsBelow parts mask
-    → count_in (members_of mask) parts ≡ count_in (members_of (widened chans mask)) parts → widened chans (after_rounds count chans mask) ≡ after_rounds count chans mask
-ended count parts chans mask low keeps below as_many =
-    let same : mask ≡ widened chans mask =
-    same_count parts mask (widened chans mask) below (round_below parts chans mask low keeps below) (round_widens chans mask low).has as_many
+ended : (count parts : ℕ) (chans : List Chan) (joins : List Link) (mask : ℕ) → AreAllLow chans joins → KeepsBelow parts chans joins → IsBelow parts mask
+    → count_in (members_of mask) parts ≡ count_in (members_of (widened_all chans joins mask)) parts → widened_all chans joins (after_rounds count chans joins mask) ≡ after_rounds count chans joins mask
+ended count parts chans joins mask low keeps below as_many =
+    let same : mask ≡ widened_all chans joins mask =
+    same_count parts mask (widened_all chans joins mask) below (round_below parts chans joins mask low keeps below) (all_widens chans joins mask low).has as_many
     in
-    let rounds : after_rounds count chans mask ≡ mask = all_rounds count chans mask (sym same) in
-    ap (widened chans) rounds ∙ sym same ∙ sym rounds
+    let rounds : after_rounds count chans joins mask ≡ mask = all_rounds count chans joins mask (sym same) in
+    ap (widened_all chans joins) rounds ∙ sym same ∙ sym rounds
 
 -- else it has more
-rises : (parts : ℕ) (chans : List Chan) (mask : ℕ) → All HasLowEnds chans → (count_in (members_of mask) parts == count_in (members_of (widened chans mask)) parts) ≡ false
-    → count_in (members_of mask) parts < count_in (members_of (widened chans mask)) parts
-rises parts chans mask low other =
-    let least : count_in (members_of mask) parts ≤ count_in (members_of (widened chans mask)) parts =
-    count_part (members_of mask) (members_of (widened chans mask)) (round_widens chans mask low).has parts
+rises : (parts : ℕ) (chans : List Chan) (joins : List Link) (mask : ℕ) → AreAllLow chans joins → (count_in (members_of mask) parts == count_in (members_of (widened_all chans joins mask)) parts) ≡ false
+    → count_in (members_of mask) parts < count_in (members_of (widened_all chans joins mask)) parts
+rises parts chans joins mask low other =
+    let least : count_in (members_of mask) parts ≤ count_in (members_of (widened_all chans joins mask)) parts =
+    count_part (members_of mask) (members_of (widened_all chans joins mask)) (all_widens chans joins mask low).has parts
     in
     grind (arith, nat_tests)
 
 -- so the rounds come to an end
-rounds_end : (count parts : ℕ) (chans : List Chan) (mask : ℕ) → All HasLowEnds chans → KeepsBelow parts chans → IsBelow parts mask → parts ≤ count_in (members_of mask) parts + count
-    → widened chans (after_rounds count chans mask) ≡ after_rounds count chans mask
-rounds_end zero parts chans mask low keeps below left = by (count_in (members_of mask) parts == count_in (members_of (widened chans mask)) parts) refl
+rounds_end : (count parts : ℕ) (chans : List Chan) (joins : List Link) (mask : ℕ) → AreAllLow chans joins → KeepsBelow parts chans joins → IsBelow parts mask → parts ≤ count_in (members_of mask) parts + count
+    → widened_all chans joins (after_rounds count chans joins mask) ≡ after_rounds count chans joins mask
+rounds_end zero parts chans joins mask low keeps below left = by (count_in (members_of mask) parts == count_in (members_of (widened_all chans joins mask)) parts) refl
   where
-    by : (b : Bool) → (count_in (members_of mask) parts == count_in (members_of (widened chans mask)) parts) ≡ b → widened chans mask ≡ mask
-    by true is = ended 0 parts chans mask low keeps below (eqb-true (count_in (members_of mask) parts) (count_in (members_of (widened chans mask)) parts) is)
+    by : (b : Bool) → (count_in (members_of mask) parts == count_in (members_of (widened_all chans joins mask)) parts) ≡ b → widened_all chans joins mask ≡ mask
+    by true is = ended 0 parts chans joins mask low keeps below (eqb-true (count_in (members_of mask) parts) (count_in (members_of (widened_all chans joins mask)) parts) is)
     by false is =
-        let more : count_in (members_of mask) parts < count_in (members_of (widened chans mask)) parts = rises parts chans mask low is in
-        let most : count_in (members_of (widened chans mask)) parts ≤ parts = count_most (members_of (widened chans mask)) parts in
+        let more : count_in (members_of mask) parts < count_in (members_of (widened_all chans joins mask)) parts = rises parts chans joins mask low is in
+        let most : count_in (members_of (widened_all chans joins mask)) parts ≤ parts = count_most (members_of (widened_all chans joins mask)) parts in
         absurd (omega (arith, more, most, left))
-rounds_end (suc count) parts chans mask low keeps below left =
-    by (count_in (members_of mask) parts == count_in (members_of (widened chans mask)) parts) refl
-    (rounds_end count parts chans (widened chans mask) low keeps (round_below parts chans mask low keeps below))
+rounds_end (suc count) parts chans joins mask low keeps below left =
+    by (count_in (members_of mask) parts == count_in (members_of (widened_all chans joins mask)) parts) refl
+    (rounds_end count parts chans joins (widened_all chans joins mask) low keeps (round_below parts chans joins mask low keeps below))
   where
-    by : (b : Bool) → (count_in (members_of mask) parts == count_in (members_of (widened chans mask)) parts) ≡ b
-        → (parts ≤ count_in (members_of (widened chans mask)) parts + count → widened chans (after_rounds count chans (widened chans mask)) ≡ after_rounds count chans (widened chans mask))
-        → widened chans (after_rounds count chans (widened chans mask)) ≡ after_rounds count chans (widened chans mask)
-    by true is further = ended (suc count) parts chans mask low keeps below (eqb-true (count_in (members_of mask) parts) (count_in (members_of (widened chans mask)) parts) is)
+    by : (b : Bool) → (count_in (members_of mask) parts == count_in (members_of (widened_all chans joins mask)) parts) ≡ b
+        → (parts ≤ count_in (members_of (widened_all chans joins mask)) parts + count → widened_all chans joins (after_rounds count chans joins (widened_all chans joins mask)) ≡ after_rounds count chans joins (widened_all chans joins mask))
+        → widened_all chans joins (after_rounds count chans joins (widened_all chans joins mask)) ≡ after_rounds count chans joins (widened_all chans joins mask)
+    by true is further = ended (suc count) parts chans joins mask low keeps below (eqb-true (count_in (members_of mask) parts) (count_in (members_of (widened_all chans joins mask)) parts) is)
     by false is further =
-        let more : count_in (members_of mask) parts < count_in (members_of (widened chans mask)) parts = rises parts chans mask low is in
+        let more : count_in (members_of mask) parts < count_in (members_of (widened_all chans joins mask)) parts = rises parts chans joins mask low is in
         further (omega (arith, more, left))
 
 -- what the rounds leave has what was there, and is part of each set that has it and keeps the rules
-rounds_have : (count : ℕ) (chans : List Chan) (mask : ℕ) → All HasLowEnds chans → IsPartOf (members_of mask) (members_of (after_rounds count chans mask))
-rounds_have zero chans mask low q is = is
-rounds_have (suc count) chans mask low q is = rounds_have count chans (widened chans mask) low q ((round_widens chans mask low).has q is)
+rounds_have : (count : ℕ) (chans : List Chan) (joins : List Link) (mask : ℕ) → AreAllLow chans joins → IsPartOf (members_of mask) (members_of (after_rounds count chans joins mask))
+rounds_have zero chans joins mask low q is = is
+rounds_have (suc count) chans joins mask low q is = rounds_have count chans joins (widened_all chans joins mask) low q ((all_widens chans joins mask low).has q is)
 
-rounds_forced : (count : ℕ) (chans : List Chan) (mask : ℕ) → All HasLowEnds chans → (other : Members) → All (KeepsRule other) chans → IsPartOf (members_of mask) other
-    → IsPartOf (members_of (after_rounds count chans mask)) other
-rounds_forced zero chans mask low other keeps part q is = part q is
-rounds_forced (suc count) chans mask low other keeps part q is = rounds_forced count chans (widened chans mask) low other keeps ((round_widens chans mask low).forced other keeps part) q is
+rounds_forced : (count : ℕ) (chans : List Chan) (joins : List Link) (mask : ℕ) → AreAllLow chans joins → (other : Members) → KeepsRules other chans joins → IsPartOf (members_of mask) other
+    → IsPartOf (members_of (after_rounds count chans joins mask)) other
+rounds_forced zero chans joins mask low other keeps part q is = part q is
+rounds_forced (suc count) chans joins mask low other keeps part q is = rounds_forced count chans joins (widened_all chans joins mask) low other keeps ((all_widens chans joins mask low).forced other keeps part) q is
 
-rounds_closure : (parts : ℕ) (chans : List Chan) (mask : ℕ) → All HasLowEnds chans → KeepsBelow parts chans → IsBelow parts mask → IsClosureOf chans mask (after_rounds parts chans mask)
-rounds_closure parts chans mask low keeps below = record {
-  has = rounds_have parts chans mask low;
-  kept = (round_widens chans (after_rounds parts chans mask) low).done (rounds_end parts parts chans mask low keeps below (omega arith));
-  least = λ other others part. rounds_forced parts chans mask low other others part;
+rounds_closure : (parts : ℕ) (chans : List Chan) (joins : List Link) (mask : ℕ) → AreAllLow chans joins → KeepsBelow parts chans joins → IsBelow parts mask → IsClosureOf chans joins mask (after_rounds parts chans joins mask)
+rounds_closure parts chans joins mask low keeps below = record {
+  has = rounds_have parts chans joins mask low;
+  kept = (all_widens chans joins (after_rounds parts chans joins mask) low).done (rounds_end parts parts chans joins mask low keeps below (omega arith));
+  least = λ other others part. rounds_forced parts chans joins mask low other others part;
 }
 
 -- there is one such set
-one_closure : (chans : List Chan) (mask one other : ℕ) → IsClosureOf chans mask one → IsClosureOf chans mask other → one ≡ other
-one_closure chans mask one other is is_too =
+one_closure : (chans : List Chan) (joins : List Link) (mask one other : ℕ) → IsClosureOf chans joins mask one → IsClosureOf chans joins mask other → one ≡ other
+one_closure chans joins mask one other is is_too =
     same_masks one other (λ q. same_truth (members_of one q) (members_of other q)
     (is.least (members_of other) is_too.kept is_too.has q)
     (is_too.least (members_of one) is.kept is.has q))
 
-pub group_mask_is : (conf : Conf) (p members : ℕ) → Fits (described conf) → p < length conf.parts → p < 32 → IsClosureOf conf.chans (with_member 0 p) members → members ≡ group_mask conf p
+-- a partition alone is below the number of partitions
+one_below : (parts p : ℕ) → p < parts → p < 32 → IsBelow parts (with_member 0 p)
+one_below parts p below low q is =
+    let inside : nat_lt q parts ≡ true = added 0 p low (λ r. nat_lt r parts) (λ r fails. absurd (none_member r fails)) (grind (arith, nat_tests)) q is in
+    grind (arith, nat_tests)
+
+-- what the rounds leave of a partition's bit
+group_closure : (conf : Conf) (p : ℕ) → Fits (described conf) → p < length conf.parts → p < 32 → IsClosureOf conf.chans conf.links (with_member 0 p) (group_mask conf p)
 unfolding group_mask
+group_closure conf p fits below low =
+    rounds_closure (length conf.parts) conf.chans conf.links (with_member 0 p) (all_low conf fits) (all_peers conf fits) (one_below (length conf.parts) p below low)
+
+pub group_mask_is : (conf : Conf) (p members : ℕ) → Fits (described conf) → p < length conf.parts → p < 32 → IsClosureOf conf.chans conf.links (with_member 0 p) members → members ≡ group_mask conf p
 group_mask_is conf p members fits below low closure =
-    one_closure conf.chans (with_member 0 p) members (after_rounds (length conf.parts) conf.chans (with_member 0 p)) closure
-    (rounds_closure (length conf.parts) conf.chans (with_member 0 p) (low_ends conf fits) (all_peers conf fits).channels
-    (λ q is.
-    let inside : nat_lt q (length conf.parts) ≡ true =
-    added 0 p low (λ r. nat_lt r (length conf.parts)) (λ r fails. absurd (none_member r fails)) (grind (arith, nat_tests)) q is
-    in
-    grind (arith, nat_tests)))
+    one_closure conf.chans conf.links (with_member 0 p) members (group_mask conf p) closure (group_closure conf p fits below low)
+
+-- so what is found is the group
+pub rounds_find : RoundsFindGroups
+unfolding group_of
+rounds_find conf p fits below =
+    let group = is_group conf p (group_mask conf p) (low_part conf p fits below) (group_closure conf p fits below (low_part conf p fits below)) in
+    let plain = plain_is conf (group_mask conf p) in
+    let closed = closed_is conf p (members_of (group_mask conf p)) group in
+    record {
+      members = group;
+      within = group_within conf p (members_of (group_mask conf p)) fits below group;
+      closed = (λ is. closed.0 (plain.0 is), λ is. plain.1 (closed.1 is));
+    }
 
 -- what is found of a group, by its parts
 abbrev pub group_with : ℕ → Bool → Group

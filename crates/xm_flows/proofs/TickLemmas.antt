@@ -19,7 +19,7 @@ use Rattle.machine_model.specs.Machine.{Machine, SlotTurn, act_of, after, clock_
 use Rattle.machine_model.specs.Partition.{PartitionState, takes_turns}
 use Rattle.machine_model.specs.Told.{Directed, OwnStill, OwnTraffic, Sight, Unseen, WholeEvent, reach_of}
 use Rattle.machine_model.specs.Traffic.{heard_as, traffic_of}
-use Rattle.machine_model.specs.View.{System, name_of, part_of, view_of}
+use Rattle.machine_model.specs.View.{System, part_of, view_of}
 use Rattle.machine_model.specs.Whole.{event_of, ticks_after, time_after}
 use Rattle.xm_flows.specs.Groups.{HasItsPeers, Members}
 use Rattle.xm_flows.specs.Laws.{AreClosedAlike}
@@ -55,7 +55,7 @@ pub step_halted : (g : Machine) → g.halted ≡ true → step g ≡ g
 unfolding step
 step_halted g halts = ap (λ b. step_unless b g) halts
 
--- the channels of the two systems
+-- the channels and links of the two systems
 pub same_channels : (members : Members) (one other : System) → AreClosedAlike members one other → HaveSameChannels members one.conf other.conf
 unfolding view_of
 same_channels members one other alike = record {
@@ -63,6 +63,8 @@ same_channels members one other alike = record {
   fits_other = alike.fits_other;
   channels = alike.same.channels;
   channels_back = alike.same.channels_back;
+  links = alike.same.links;
+  links_back = alike.same.links_back;
   ports = λ p member. ap (λ view. length view.part.ports) (alike.same.views p member);
 }
 
@@ -147,7 +149,7 @@ same_cue mine mine' traffic traffic' order order' whole whole' seen seen' a b c 
 
 -- the traffic of others that a partition is told, by the turn and the local tick
 abbrev traffic_told : Conf → ℕ → Option SlotTurn → Option LocalTick → OwnTraffic
-traffic_told conf p o tick = unless_own (is_some (if_its_turn (is_turn_of o p) tick)) (heard_as (name_of conf p) (system_traffic conf o (traffic_of (act_of tick))))
+traffic_told conf p o tick = unless_own (is_some (if_its_turn (is_turn_of o p) tick)) (heard_as conf p (system_traffic conf o (traffic_of (act_of tick))))
 
 -- a cue, by the turn, the local tick and what is shown
 cue_is : (g : Machine) (p : ℕ) → cue g p ≡ cue_of (slot_of (turn_of g) p) (traffic_told g.system.conf p (turn_of g) (local g)) (order_upon (act_of (local g)) p) (event_of (act_of (local g))) (sight g p)
@@ -211,7 +213,7 @@ away_slot p None fails = refl
 away_slot p (Some turn) fails = rw fails refl
 
 strange_traffic : ActsByRight → (members : Members) (g : Machine) → Fits (described g.system.conf) → HasItsPeers g.system.conf members → (p : ℕ) → members p ≡ true → (o : Option SlotTurn)
-    → member_turn members o ≡ None → heard_as (name_of g.system.conf p) (system_traffic g.system.conf o (traffic_of (act_of (local_in g o)))) ≡ OwnStill
+    → member_turn members o ≡ None → heard_as g.system.conf p (system_traffic g.system.conf o (traffic_of (act_of (local_in g o)))) ≡ OwnStill
 strange_traffic rights members g fits peers p member None fails = refl
 strange_traffic rights members g fits peers p member (Some turn) fails =
     unheard g.system members fits peers p turn.part member (stranger_turn members turn turn fails)
@@ -221,7 +223,7 @@ nothing_told : ActsByRight → (members : Members) (g : Machine) → Fits (descr
     → member_turn members (turn_of g) ≡ None → traffic_told g.system.conf p (turn_of g) (local g) ≡ OwnStill
 unfolding local
 nothing_told rights members g fits peers p member fails =
-    ap (λ b. unless_own (is_some (if_its_turn b (local_in g (turn_of g)))) (heard_as (name_of g.system.conf p) (system_traffic g.system.conf (turn_of g) (traffic_of (act_of (local_in g (turn_of g)))))))
+    ap (λ b. unless_own (is_some (if_its_turn b (local_in g (turn_of g)))) (heard_as g.system.conf p (system_traffic g.system.conf (turn_of g) (traffic_of (act_of (local_in g (turn_of g)))))))
     (away members p member (turn_of g) fails)
     ∙ strange_traffic rights members g fits peers p member (turn_of g) fails
 

@@ -1,10 +1,11 @@
--- Sets of partitions into which no channel brings anything from outside, and the least of them that has a partition.
+-- Sets of partitions into which no channel and no link brings anything from outside, and the least of them that has a partition.
 use Rattle.std.specs.Prelude.{◌≡◌, ℕ, ◌||◌, Bool, true, false, List, All}
 use Rattle.std.specs.List.{list_any}
 use Rattle.xm_conf.specs.Configuration.{Chan, Conf}
 use Rattle.xm_conf.specs.declared.channel.ChanKind.{ChanKind}
 use Rattle.xm_conf.specs.declared.channel.ChanKind.TheVariants as kind
 use Rattle.xm_conf.specs.declared.channel.End.{End}
+use Rattle.xm_conf.specs.declared.link.Link.{Link}
 use Rattle.machine_model.specs.View.{part_of}
 
 -- a set of partitions, by their numbers
@@ -34,9 +35,18 @@ KeepsIn members (kind.Queuing most) source dests =
 abbrev pub KeepsRule : Members → Chan → Type 0
 KeepsRule members chan = KeepsIn members chan.kind chan.source chan.dests
 
--- each partition that by a channel can change what a member meets is a member, too: a rule for each kind of thing that connects partitions
-pub record HasItsPeers (conf : Conf) (members : Members) : Type 0 where
-  pub channels : All (KeepsRule members) conf.chans
+-- what is asked of a link: where it goes to a member it comes from one
+abbrev pub KeepsLink : Members → Link → Type 0
+KeepsLink members link = members link.dest ≡ true → members link.source ≡ true
+
+-- the rules of these channels and links are kept
+pub record KeepsRules (members : Members) (chans : List Chan) (joins : List Link) : Type 0 where
+  pub channels : All (KeepsRule members) chans
+  pub links : All (KeepsLink members) joins
+
+-- each partition that by a channel or a link can change what a member meets is a member, too: a rule for each kind of thing that connects partitions
+abbrev pub HasItsPeers : Conf → Members → Type 0
+HasItsPeers conf members = KeepsRules members conf.chans conf.links
 
 -- no member is a system partition
 abbrev pub HasNoSystem : Conf → Members → Type 0

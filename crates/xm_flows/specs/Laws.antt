@@ -1,15 +1,17 @@
 -- The laws on groups: two runs of systems that are the same for a closed set are the same for it, and its messages are derived.
-use Rattle.std.specs.Prelude.{◌≡◌, ℕ, ◌<◌, true, length, Some, slice_get}
-use Rattle.xm_conf.specs.Configuration.{Chan}
+use Rattle.std.specs.Prelude.{◌≡◌, ◌↔◌, ℕ, ◌<◌, true, length, Some, slice_get}
+use Rattle.xm_conf.specs.Configuration.{Chan, Conf}
 use Rattle.xm_conf.specs.Description.{described}
 use Rattle.xm_conf.specs.Fits.{Fits}
 use Rattle.machine_model.specs.Lines.{lines, own, said}
 use Rattle.machine_model.specs.Machine.{Machine, run, start}
 use Rattle.machine_model.specs.View.{System}
 use Rattle.xm_flows.specs.Alike.{AreSameFor}
-use Rattle.xm_flows.specs.Groups.{IsClosed, Members, has_end_in}
+use Rattle.xm_flows.specs.Groups.{IsClosed, IsGroupOf, Members, has_end_in}
+use Rattle.xm_flows.specs.Masks.{group_of, members_of}
 use Rattle.xm_flows.specs.Rights.{IsUnsteered}
 use Rattle.xm_flows.specs.Steering.{no_steering, steering}
+use Rattle.xm_flows.specs.declared.answer.Group.{Group}
 
 -- a channel with an end at a member holds the same in two machines; channels are one where they have one source
 abbrev pub HoldTheSame : Members → Machine → Machine → Type 0
@@ -61,3 +63,13 @@ NoneSteers = (members : Members) (system : System) (count : ℕ) → IsUnsteered
 abbrev pub UnsteeredRunsAlike : Type 0
 UnsteeredRunsAlike = (members : Members) (one other : System) (count : ℕ) →
     AreClosedAlike members one other → IsUnsteered one.conf → IsUnsteered other.conf → RunAlike members one other count
+
+-- what is found of a partition's group: the members are the group, of partitions that there are, and it is covered exactly where they are a closed set
+pub record IsFound (conf : Conf) (p : ℕ) (found : Group) : Type 0 where
+  pub members : IsGroupOf conf p (members_of found.members)
+  pub within : (q : ℕ) → members_of found.members q ≡ true → q < length conf.parts
+  pub closed : (found.covered ≡ true) ↔ IsClosed conf (members_of found.members)
+
+-- what the rounds find is so, of each partition of a configuration that meets the rules
+abbrev pub RoundsFindGroups : Type 0
+RoundsFindGroups = (conf : Conf) (p : ℕ) → Fits (described conf) → p < length conf.parts → IsFound conf p (group_of conf p)

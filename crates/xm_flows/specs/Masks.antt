@@ -1,12 +1,14 @@
--- Sets of partitions as the bits of a word, and how the group of a partition is found: a round adds what the channels ask for, until one adds nothing.
+-- Sets of partitions as the bits of a word, and how the group of a partition is found: a round adds what the channels and links
+-- ask for, until one adds nothing.
 use Rattle.std.specs.Prelude.{◌≡◌, ℕ, zero, suc, ◌+◌, ◌*◌, ◌%◌, ◌^◌, ◌<◌, ◌==◌, ◌&&◌, ◌||◌, Bool, true, false, if◌then◌else◌, List, [], ◌∷◌, length, All, bit_or}
 use Rattle.std.specs.Int.{bit_at}
 use Rattle.xm_conf.specs.Configuration.{Chan, Conf, Part}
 use Rattle.xm_conf.specs.declared.channel.ChanKind.{ChanKind}
 use Rattle.xm_conf.specs.declared.channel.ChanKind.TheVariants as kind
 use Rattle.xm_conf.specs.declared.channel.End.{End}
+use Rattle.xm_conf.specs.declared.link.Link.{Link}
 use Rattle.xm_flows.specs.declared.answer.Group.{Group}
-use Rattle.xm_flows.specs.Groups.{KeepsRule, Members, has_dest_in, is_in}
+use Rattle.xm_flows.specs.Groups.{KeepsRules, Members, has_dest_in, is_in}
 
 -- the partitions whose bits are set
 unfoldable pub members_of : ℕ → Members
@@ -27,26 +29,48 @@ widened_by (kind.Sampling refresh) source dests mask = if has_dest_in (members_o
 widened_by (kind.Queuing most) source dests mask =
     if is_in (members_of mask) source || has_dest_in (members_of mask) dests then with_ends (with_member mask source.part) dests else mask
 
--- what a round over the channels leaves
+-- what is left of a round that has gone over the channels
 abbrev pub widened : List Chan → ℕ → ℕ
 widened [] mask = mask
 widened (chan ∷ chans) mask = widened chans (widened_by chan.kind chan.source chan.dests mask)
 
+-- what its rule adds for a link
+abbrev pub widened_by_link : Link → ℕ → ℕ
+widened_by_link link mask = if members_of mask link.dest then with_member mask link.source else mask
+
+-- what is left of a round that has gone over the links
+abbrev pub widened_by_links : List Link → ℕ → ℕ
+widened_by_links [] mask = mask
+widened_by_links (link ∷ joins) mask = widened_by_links joins (widened_by_link link mask)
+
+-- what a round leaves: over the channels, and then over the links
+abbrev pub widened_all : List Chan → List Link → ℕ → ℕ
+widened_all chans joins mask = widened_by_links joins (widened chans mask)
+
 -- what so many rounds leave
-abbrev pub after_rounds : ℕ → List Chan → ℕ → ℕ
-after_rounds zero chans mask = mask
-after_rounds (suc count) chans mask = after_rounds count chans (widened chans mask)
+abbrev pub after_rounds : ℕ → List Chan → List Link → ℕ → ℕ
+after_rounds zero chans joins mask = mask
+after_rounds (suc count) chans joins mask = after_rounds count chans joins (widened_all chans joins mask)
 
 -- the partitions of a channel's ends have bits in a word
 pub record HasLowEnds (chan : Chan) : Type 0 where
   pub source : chan.source.part < 32
   pub dests : All (λ end. end.part < 32) chan.dests
 
--- the mask has the partitions of another one, keeps the rule of each channel, and is part of every set that does both
-pub record IsClosureOf (chans : List Chan) (before after : ℕ) : Type 0 where
+-- so does the partition that a link comes from
+pub record HasLowSource (link : Link) : Type 0 where
+  pub source : link.source < 32
+
+-- all that channels and links add has bits in a word
+pub record AreAllLow (chans : List Chan) (joins : List Link) : Type 0 where
+  pub channels : All HasLowEnds chans
+  pub links : All HasLowSource joins
+
+-- the mask has the partitions of another one, keeps the rules of channels and links, and is part of every set that does both
+pub record IsClosureOf (chans : List Chan) (joins : List Link) (before after : ℕ) : Type 0 where
   pub has : (p : ℕ) → members_of before p ≡ true → members_of after p ≡ true
-  pub kept : All (KeepsRule (members_of after)) chans
-  pub least : (other : Members) → All (KeepsRule other) chans → ((p : ℕ) → members_of before p ≡ true → other p ≡ true) → (p : ℕ) → members_of after p ≡ true → other p ≡ true
+  pub kept : KeepsRules (members_of after) chans joins
+  pub least : (other : Members) → KeepsRules other chans joins → ((p : ℕ) → members_of before p ≡ true → other p ≡ true) → (p : ℕ) → members_of after p ≡ true → other p ≡ true
 
 -- whether none of these partitions, of which the first has a number, is a system partition and in the mask
 abbrev pub has_no_system : ℕ → ℕ → List Part → Bool
@@ -55,7 +79,7 @@ has_no_system mask p (part ∷ parts) = if part.system && members_of mask p then
 
 -- the group of partition p, as a mask: as many rounds as there are partitions reach every member
 unfoldable pub group_mask : Conf → ℕ → ℕ
-group_mask conf p = after_rounds (length conf.parts) conf.chans (with_member 0 p)
+group_mask conf p = after_rounds (length conf.parts) conf.chans conf.links (with_member 0 p)
 
 -- what is found of the group of partition p
 unfoldable pub group_of : Conf → ℕ → Group

@@ -1,4 +1,4 @@
--- By what right a partition reaches beyond itself: its ports, the system flag, and its health table.
+-- By what right a partition reaches beyond itself: its ports, its links, the system flag, and its health table.
 use Rattle.std.specs.Prelude.{◌≡◌, ◌==◌, ◌⊎◌, ℕ, Bool, true, false, List, All, Option, Some, None, slice_get, slice_index_or}
 use Rattle.health_monitor.specs.Monitor.{action_in}
 use Rattle.xm_conf.specs.Configuration.{Conf}
@@ -13,8 +13,8 @@ use Rattle.xm_ports.specs.Channels.{Content}
 use Rattle.machine_model.specs.LocalTick.{worked}
 use Rattle.machine_model.specs.Partition.{PartitionState}
 use Rattle.machine_model.specs.Told as told
-use Rattle.machine_model.specs.Told.{Act, OwnPuts, OwnStill, OwnTakes, Sight}
-use Rattle.machine_model.specs.View.{PartitionView, PortChannel}
+use Rattle.machine_model.specs.Told.{Act, OwnPuts, OwnSignals, OwnStill, OwnTakes, Sight}
+use Rattle.machine_model.specs.View.{PartitionView, PortChannel, has_number}
 
 -- whether an action reaches all partitions: a reset or a halt of the hypervisor, or the maintenance plan
 abbrev pub reaches_all : Action → Bool
@@ -54,13 +54,15 @@ pub record HasActionOnAll (view : PartitionView) : Type 0 where
 abbrev pub MaySteer : PartitionView → Type 0
 MaySteer view = (view.part.system ≡ true) ⊎ HasActionOnAll view
 
--- the right to an act: a message is put by a source port, taken from a queue by a destination port, and all else reaches others only from a partition
+-- the right to an act: a message is put by a source port, taken from a queue by a destination port, a signal goes over a link that
+-- comes from the partition, and all else reaches others only from a partition
 -- that may steer them
 abbrev pub IsByRight : PartitionView → Act → Type 0
 IsByRight view told.Nothing = Unit {0}
 IsByRight view (told.Trades OwnStill) = Unit {0}
 IsByRight view (told.Trades (OwnPuts name bytes)) = HasPortOn view way.Source name
 IsByRight view (told.Trades (OwnTakes name)) = ReceivesFrom view name
+IsByRight view (told.Trades (OwnSignals number)) = has_number view.links number ≡ true
 IsByRight view (told.Upon id order) = (id == view.id) ≡ false → MaySteer view
 IsByRight view (told.Plans change) = MaySteer view
 IsByRight view (told.UponAll event) = MaySteer view

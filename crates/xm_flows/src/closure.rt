@@ -4,12 +4,12 @@ ghost use Rattle.std.specs.Prelude.{◌≡◌, ◌↔◌, ◌<◌, ◌≤◌, �
 ghost use Rattle.xm_conf.specs.Description.{described};
 ghost use Rattle.xm_conf.specs.Fits.{Fits};
 ghost use Rattle.xm_flows.specs.Groups.{HasNoSystem, IsClosed, IsGroupOf};
-ghost use Rattle.xm_flows.specs.Masks.{HasLowEnds, IsClosureOf, group_of, members_of, widened as widened_over, widened_by as widened_by_channel};
+ghost use Rattle.xm_flows.specs.Masks.{HasLowEnds, HasLowSource, IsClosureOf, group_of, members_of, widened as widened_over, widened_all as widened_over_all, widened_by as widened_by_channel, widened_by_link as widened_by_its_link, widened_by_links as widened_over_links};
 
 use crate::answer::Group;
 use crate::mask::{has_dest, has_no_system, is_member, with_ends, with_member};
 use xm_base::PartId;
-use xm_conf::{Chan, ChanKind, Conf, Part};
+use xm_conf::{Chan, ChanKind, Conf, Link, Part};
 
 /// The mask with what the rule of its kind asks for a channel.
 fn widened_by(mask: u32, chan: &Chan) -> u32
@@ -34,7 +34,7 @@ fn widened_by(mask: u32, chan: &Chan) -> u32
     }
 }
 
-/// The mask after a round over the channels.
+/// The mask after the channels of a round.
 fn widened(mask: u32, chans: &[Chan]) -> u32
     requires { All HasLowEnds chans.now }
     ensures { result ≡ widened_over chans.now mask }
@@ -46,16 +46,50 @@ fn widened(mask: u32, chans: &[Chan]) -> u32
     wider
 }
 
+/// The mask with the partition that a link to a member comes from.
+fn widened_by_link(mask: u32, link: &Link) -> u32
+    requires { HasLowSource link.now }
+    ensures { result ≡ widened_by_its_link link.now mask }
+{
+    if is_member(mask, link.dest) {
+        with_member(mask, link.source)
+    } else {
+        mask
+    }
+}
+
+/// The mask after the links of a round.
+fn widened_by_links(mask: u32, links: &[Link]) -> u32
+    requires { All HasLowSource links.now }
+    ensures { result ≡ widened_over_links links.now mask }
+{
+    let mut wider = mask;
+    for link in links {
+        wider = widened_by_link(wider, link);
+    }
+    wider
+}
+
+/// The mask after a round over the channels and the links.
+fn widened_all(mask: u32, chans: &[Chan], links: &[Link]) -> u32
+    requires ends { All HasLowEnds chans.now }
+    requires sources { All HasLowSource links.now }
+    ensures { result ≡ widened_over_all chans.now links.now mask }
+{
+    widened_by_links(widened(mask, chans), links)
+}
+
 /// The mask after the round that adds nothing more.
-fn closed(mask: u32, chans: &[Chan]) -> u32
-    requires { All HasLowEnds chans.now }
-    ensures { IsClosureOf chans.now mask result }
+fn closed(mask: u32, chans: &[Chan], links: &[Link]) -> u32
+    requires ends { All HasLowEnds chans.now }
+    requires sources { All HasLowSource links.now }
+    ensures { IsClosureOf chans.now links.now mask result }
 {
     let mut members = mask;
-    let mut wider = widened(members, chans);
+    let mut wider = widened_all(members, chans, links);
     while wider != members {
         members = wider;
-        wider = widened(members, chans);
+        wider = widened_all(members, chans, links);
     }
     members
 }
@@ -69,6 +103,14 @@ fn chans_of(conf: &Conf) -> &[Chan]
     &conf.raw().chans
 }
 
+/// The links of a configuration.
+fn links_of(conf: &Conf) -> &[Link]
+    ensures value { result.now ≡ conf.now.links }
+    ensures low { All HasLowSource result.now }
+{
+    &conf.raw().links
+}
+
 /// The partitions of a configuration.
 fn parts_of(conf: &Conf) -> &[Part]
     ensures value { result.now ≡ conf.now.parts }
@@ -77,8 +119,8 @@ fn parts_of(conf: &Conf) -> &[Part]
     &conf.raw().parts
 }
 
-/// The group of a partition: the least set that has it and from which, whatever a channel joins to a member, no partition is left out that
-/// could change by it what the member meets.
+/// The group of a partition: the least set that has it and from which, whatever a channel or a link joins to a member, no partition is left
+/// out that could change by it what the member meets.
 pub fn group(conf: &Conf, p: PartId) -> Group
     requires { p < length conf.now.parts }
     ensures value { result ≡ group_of conf.now p }
@@ -88,7 +130,8 @@ pub fn group(conf: &Conf, p: PartId) -> Group
     ensures closed { IsTrue result.covered ↔ IsClosed conf.now (members_of result.members) }
 {
     let chans = chans_of(conf);
-    let members = closed(with_member(0, p), chans);
+    let links = links_of(conf);
+    let members = closed(with_member(0, p), chans, links);
     let covered = has_no_system(members, parts_of(conf));
     Group { members, covered }
 }

@@ -8,4 +8,4 @@ mod mask;
 
 pub use answer::Group;
 pub use closure::group;
-pub use law::{acts_by_right, closed_runs};
+pub use law::{acts_by_right, closed_runs, rounds_find_groups};

@@ -1,5 +1,6 @@
 use Rattle.std.proofs.Common.{◌≡◌, ℕ, Bool, sym, ap, ◌∙◌, subst, List}
 use Rattle.xm_conf.specs.Configuration.{Chan}
+use Rattle.xm_conf.specs.declared.link.Link.{Link}
 use Rattle.xm_flows.specs.Masks.{IsClosureOf, group_of, has_no_system, members_of}
 use Rattle.xm_flows.proofs.ClosureLemmas.{closed_is, group_within, is_group, low_part, plain_is}
 use Rattle.xm_flows.proofs.RoundLemmas.{group_mask_is, group_with}
@@ -11,8 +12,9 @@ with_member-requires c = low_part c.args.conf.now c.args.p c.chans_of-chans.ensu
 pub returns-clause-members : goal.returns-clause-members
 returns-clause-members c =
     is_group c.args.conf.now c.args.p c.closed-members.result (low_part c.args.conf.now c.args.p c.chans_of-chans.ensures.fits c.requires)
-    (subst (λ (mask : ℕ). IsClosureOf c.args.conf.now.chans mask c.closed-members.result) c.with_member.ensures
-    (subst (λ (chans : List Chan). IsClosureOf chans c.with_member.result c.closed-members.result) c.chans_of-chans.ensures.value c.closed-members.ensures))
+    (subst (λ (mask : ℕ). IsClosureOf c.args.conf.now.chans c.args.conf.now.links mask c.closed-members.result) c.with_member.ensures
+    (subst (λ (joins : List Link). IsClosureOf c.args.conf.now.chans joins c.with_member.result c.closed-members.result) c.links_of-links.ensures.value
+    (subst (λ (chans : List Chan). IsClosureOf chans c.links_of-links.result.now c.with_member.result c.closed-members.result) c.chans_of-chans.ensures.value c.closed-members.ensures)))
 
 pub returns-clause-within : goal.returns-clause-within
 returns-clause-within c =
@@ -36,8 +38,9 @@ pub returns-clause-value : goal.returns-clause-value
 unfolding group_of
 returns-clause-value c =
     let closure =
-    subst (λ (mask : ℕ). IsClosureOf c.args.conf.now.chans mask c.closed-members.result) c.with_member.ensures
-    (subst (λ (chans : List Chan). IsClosureOf chans c.with_member.result c.closed-members.result) c.chans_of-chans.ensures.value c.closed-members.ensures)
+    subst (λ (mask : ℕ). IsClosureOf c.args.conf.now.chans c.args.conf.now.links mask c.closed-members.result) c.with_member.ensures
+    (subst (λ (joins : List Link). IsClosureOf c.args.conf.now.chans joins c.with_member.result c.closed-members.result) c.links_of-links.ensures.value
+    (subst (λ (chans : List Chan). IsClosureOf chans c.links_of-links.result.now c.with_member.result c.closed-members.result) c.chans_of-chans.ensures.value c.closed-members.ensures))
     in
     let mask = group_mask_is c.args.conf.now c.args.p c.closed-members.result c.chans_of-chans.ensures.fits c.requires (low_part c.args.conf.now c.args.p c.chans_of-chans.ensures.fits c.requires) closure in
     let covered = c.has_no_system-covered.ensures ∙ ap (has_no_system c.closed-members.result 0) c.parts_of.ensures.value in
