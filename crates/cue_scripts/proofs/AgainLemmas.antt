@@ -8,13 +8,13 @@ use Rattle.xm_base.specs.declared.partition.Mode.TheVariants as mode
 use Rattle.xm_base.specs.declared.partition.Order.{Order}
 use Rattle.xm_base.specs.declared.partition.Order.TheVariants as upon
 use Rattle.xm_conf.specs.Configuration.{Conf}
-use Rattle.xef_images.specs.FieldLemmas.{wide8, wide16, wide32}
-use Rattle.xef_images.specs.Steps.{◌>>=◌}
+use Rattle.sealed_files.specs.FieldLemmas.{wide8, wide16, wide32}
+use Rattle.sealed_files.specs.Steps.{◌>>=◌}
 use Rattle.machine_model.specs.Cue.{Away, Cue, Mine, CueSlot}
-use Rattle.machine_model.specs.Told.{AllHalted, AllReset, NoEvent, NotKept, OwnPuts, OwnStill, OwnTakes, OwnTraffic, Sight, Unseen, WholeEvent, Words}
-use Rattle.cue_scripts.specs.Script.{CanHear, CanSee, IsOrder, gives_queue, is_length, is_shown, most_heard}
+use Rattle.machine_model.specs.Told.{AllHalted, AllReset, NoEvent, NotKept, OwnPuts, OwnSignals, OwnStill, OwnTakes, OwnTraffic, Sight, Unseen, WholeEvent, Words}
+use Rattle.cue_scripts.specs.Script.{CanHear, CanSee, IsOrder, gives_queue, is_length, is_shown, most_heard, signals}
 use Rattle.cue_scripts.specs.Spelling.{event_byte, order_text, reset_byte, sight_text, slot_byte, traffic_text}
-use Rattle.cue_scripts.specs.Reading.{bytes_at, event_at, event_of_byte, is_event, is_heard, is_sight, listed_at, message_at, number_at, order_at, order_of_kind, put_message_at, reset_at, cue_sight_at, sight_of_kind, cue_slot_at, slot_of_byte, take_at, traffic_at, traffic_of_kind, shown_words_at}
+use Rattle.cue_scripts.specs.Reading.{bytes_at, event_at, event_of_byte, is_event, is_heard, is_sight, listed_at, message_at, number_at, order_at, order_of_kind, put_message_at, reset_at, cue_sight_at, sight_of_kind, signal_at, cue_slot_at, slot_of_byte, take_at, traffic_at, traffic_of_kind, shown_words_at}
 use Rattle.cue_scripts.specs.declared.fault.ScriptFault.{ScriptFault}
 use Rattle.cue_scripts.proofs.FieldLemmas.{Reads, bytes_again, listed_again, number_again, one_byte}
 use Rattle.cue_scripts.proofs.ScriptLemmas.{few_shown}
@@ -52,7 +52,7 @@ some_most (Some most) count e = refl
 -- traffic
 pub traffic_again : (conf : Conf) (p : ℕ) (mine : CueSlot) (place : Place) (traffic : OwnTraffic) (rest : List ℕ) → CanHear conf p traffic → InOwn mine (traffic ≡ OwnStill) → ahead place ≡ traffic_text traffic ++ rest
     → Reads (traffic_at conf p mine place) traffic rest
-unfolding traffic_at put_message_at message_at take_at traffic_text
+unfolding traffic_at put_message_at message_at take_at signal_at traffic_text
 traffic_again conf p mine place OwnStill rest can still stands =
     let k = leads (is_heard 3 mine) (traffic_of_kind conf p) place 0 rest (omega arith) refl stands in
     record { after = k.after; is = k.is; ahead = k.ahead }
@@ -70,6 +70,11 @@ traffic_again conf p Away place (OwnTakes name) rest can still stands =
     let n = leads (gives_queue conf p) (λ name later. Ok (OwnTakes name, later)) k.after name rest can.0 can.1 k.ahead in
     record { after = n.after; is = k.is ∙ n.is; ahead = n.ahead }
 traffic_again conf p (Mine first) place (OwnTakes name) rest can still stands = absurd cc
+traffic_again conf p Away place (OwnSignals number) rest can still stands =
+    let k = leads (is_heard 3 Away) (traffic_of_kind conf p) place 3 (number ∷ rest) (omega arith) refl stands in
+    let n = leads (signals conf p) (λ number later. Ok (OwnSignals number, later)) k.after number rest (let small : number < 8 = can.0 in omega (arith, small)) can.1 k.ahead in
+    record { after = n.after; is = k.is ∙ n.is; ahead = n.ahead }
+traffic_again conf p (Mine first) place (OwnSignals number) rest can still stands = absurd cc
 
 -- a reset, after its kind
 reset_again : (mode : Mode) (place : Place) (status : ℕ) (rest : List ℕ) → status < 2 ^ 32 → ahead place ≡ to_be_bytes w32 status ++ rest → Reads (reset_at mode place) (Some (upon.Reset mode status)) rest

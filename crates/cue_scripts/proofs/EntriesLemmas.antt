@@ -5,7 +5,7 @@ use Rattle.std.proofs.Math.Dec.{eqb-suc-zero}
 use Rattle.std.proofs.lemmas.List.{append-nil}
 use Rattle.xm_base.specs.Cursor.{Place}
 use Rattle.xm_conf.specs.Configuration.{Conf}
-use Rattle.xef_images.specs.Steps.{◌>>=◌}
+use Rattle.sealed_files.specs.Steps.{◌>>=◌}
 use Rattle.cue_scripts.specs.Entries.{Entry, cue_count, plain_cue_of}
 use Rattle.cue_scripts.specs.Gives.{Fails}
 use Rattle.cue_scripts.specs.Reading.{ScriptRead, script_entries_at, script_entry_at}

@@ -6,9 +6,9 @@ use Rattle.std.proofs.lemmas.List.{take_at, drop_at, take-append-drop, drop-drop
 use Rattle.std.proofs.lemmas.Nat.{from_be_bytes-to_be_bytes_8}
 use Rattle.xm_base.specs.Bytes.{AreBytes, spelled_8}
 use Rattle.xm_base.specs.Cursor.{Place, ahead, left, next, past}
-use Rattle.xef_images.specs.FieldLemmas.{AreBytes-drop, AreBytes-take, IsWide, Takes, wide8}
-use Rattle.xef_images.specs.Steps.{◌>>=◌}
-use Rattle.xef_images.specs.StepLemmas.{stepped, ok_is, went_on}
+use Rattle.sealed_files.specs.FieldLemmas.{AreBytes-drop, AreBytes-take, IsWide, Takes, wide8}
+use Rattle.sealed_files.specs.Steps.{◌>>=◌}
+use Rattle.sealed_files.specs.StepLemmas.{stepped, ok_is, went_on}
 use Rattle.cue_scripts.specs.Reading.{unless, bytes_at, number_at, listed_at}
 use Rattle.cue_scripts.specs.declared.fault.ScriptFault.{ScriptFault}
 use Rattle.cue_scripts.specs.declared.fault.ScriptFault.TheVariants.{Short, Field}

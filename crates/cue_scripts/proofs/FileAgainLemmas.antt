@@ -7,10 +7,10 @@ use Rattle.std.proofs.lemmas.Bool.{eq-eqb}
 use Rattle.std.proofs.lemmas.List.{append-nil, length-append, length-replicate}
 use Rattle.xm_base.specs.Cursor.{Place, ahead, left, cursor_start}
 use Rattle.xm_conf.specs.Configuration.{Conf}
-use Rattle.xef_images.specs.FieldLemmas.{wide8, wide16}
+use Rattle.sealed_files.specs.FieldLemmas.{wide8, wide16}
 use Rattle.xef_images.specs.ImageLemmas.{Decides-nat_le}
-use Rattle.xef_images.specs.StepLemmas.{ok_is}
-use Rattle.xef_images.specs.Steps.{◌>>=◌}
+use Rattle.sealed_files.specs.StepLemmas.{ok_is}
+use Rattle.sealed_files.specs.Steps.{◌>>=◌}
 use Rattle.machine_model.specs.Cue.{Cue}
 use Rattle.machine_model.specs.Told.{AllHalted}
 use Rattle.cue_scripts.specs.Entries.{Alike, AreLongest, Entry, Other, cue_count, expanded, plain_cue_of, bare_cue, runs}

@@ -10,10 +10,10 @@ use Rattle.std.proofs.lemmas.Slice.Eq.{bytes_eq-Decides}
 use Rattle.xm_base.specs.Bytes.{AreBytes}
 use Rattle.xm_base.specs.Cursor.{Place, ahead, left, cursor_start}
 use Rattle.xm_conf.specs.Configuration.{Conf}
-use Rattle.xef_images.specs.FieldLemmas.{Takes, takes_both, wide8, wide16}
+use Rattle.sealed_files.specs.FieldLemmas.{Takes, takes_both, wide8, wide16}
 use Rattle.xef_images.specs.ImageLemmas.{Decides-nat_le}
-use Rattle.xef_images.specs.StepLemmas.{stepped, ok_is}
-use Rattle.xef_images.specs.Steps.{◌>>=◌}
+use Rattle.sealed_files.specs.StepLemmas.{stepped, ok_is}
+use Rattle.sealed_files.specs.Steps.{◌>>=◌}
 use Rattle.machine_model.specs.Cue.{Cue}
 use Rattle.cue_scripts.specs.Entries.{Entry, expanded, runs}
 use Rattle.cue_scripts.specs.Script.{IsScript}

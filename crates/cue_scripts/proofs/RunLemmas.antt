@@ -3,7 +3,7 @@ use Rattle.std.proofs.Common.{◌≡◌, ◌≢◌, ℕ, zero, suc, ◌≤◌, B
 use Rattle.std.specs.Prelude.{replicate, ◌&&◌, is_none, if◌then◌else◌}
 use Rattle.xm_base.specs.declared.partition.Order.{Order}
 use Rattle.machine_model.specs.Cue.{Away, Cue, Mine, CueSlot}
-use Rattle.machine_model.specs.Told.{AllHalted, AllReset, NoEvent, NotKept, OwnPuts, OwnStill, OwnTakes, OwnTraffic, Sight, Unseen, WholeEvent, Words}
+use Rattle.machine_model.specs.Told.{AllHalted, AllReset, NoEvent, NotKept, OwnPuts, OwnSignals, OwnStill, OwnTakes, OwnTraffic, Sight, Unseen, WholeEvent, Words}
 use Rattle.cue_scripts.specs.Entries.{Alike, AreLongest, Entry, Other, cue_before, expanded, is_bare, is_no_event, is_still, is_unseen, longer, bare_cue, plain_kind, running_in, runs}
 
 -- five parts with nothing but whose running slot it is
@@ -13,6 +13,7 @@ bare_parts : (own : Bool) (mine : CueSlot) (traffic : OwnTraffic) (order : Optio
 unfolding bare_cue
 bare_parts own mine (OwnPuts name bytes) order whole seen e = absurd cc
 bare_parts own mine (OwnTakes name) order whole seen e = absurd cc
+bare_parts own mine (OwnSignals number) order whole seen e = absurd cc
 bare_parts own mine OwnStill (Some order) whole seen e = absurd cc
 bare_parts own mine OwnStill None (AllReset mode) seen e = absurd cc
 bare_parts own mine OwnStill None AllHalted seen e = absurd cc

@@ -6,7 +6,7 @@ use Rattle.std.proofs.lemmas.Bool.{eqb-true}
 use Rattle.std.proofs.lemmas.List.{length-append}
 use Rattle.xm_conf.specs.Configuration.{Conf}
 use Rattle.machine_model.specs.Cue.{Away, Cue, Mine, CueSlot}
-use Rattle.machine_model.specs.Told.{AllHalted, NoEvent, NotKept, OwnPuts, OwnStill, OwnTakes, OwnTraffic, Sight, Unseen, Words}
+use Rattle.machine_model.specs.Told.{AllHalted, NoEvent, NotKept, OwnPuts, OwnSignals, OwnStill, OwnTakes, OwnTraffic, Sight, Unseen, Words}
 use Rattle.cue_scripts.specs.Entries.{Alike, AreLongest, Entry, Other, cue_count, cues_of, expanded, plain_cue_of, bare_cue}
 use Rattle.cue_scripts.specs.Kept.{HasCueRanges, HasEntryRanges, HasSightRange, HasTrafficRange, AreKeptEntries}
 use Rattle.cue_scripts.specs.Script.{CanHear, CanSee, HaltsLast, IsCue, IsScript, is_shown, is_system_partition}
@@ -49,6 +49,7 @@ hears : (conf : Conf) (p : ℕ) (traffic : OwnTraffic) → CanHear conf p traffi
 hears conf p OwnStill can = tt
 hears conf p (OwnPuts name bytes) can = can.short
 hears conf p (OwnTakes name) can = tt
+hears conf p (OwnSignals number) can = tt
 
 sees : (system : Bool) (mine : CueSlot) (seen : Sight) → CanSee system mine seen → HasSightRange seen
 sees system mine Unseen can = tt

@@ -1,7 +1,8 @@
 -- What is read of a cue stands there, and others may tell it.
-use Rattle.std.proofs.Common.{◌≡◌, ℕ, zero, suc, ◌^◌, ◌<◌, ◌≤◌, Bool, true, false, List, [], ◌∷◌, ◌++◌, length, Option, Some, None, Result, Ok, Err, refl, sym, ap, subst, ◌∙◌, arith}
-use Rattle.std.specs.Prelude.{nat_le, ◌&&◌, ◌==◌, is_some, is_none, if◌then◌else◌}
-use Rattle.std.specs.Int.{w8, w16, w32, to_be_bytes}
+use Rattle.std.proofs.Common.{◌≡◌, ℕ, zero, suc, ◌^◌, ◌<◌, ◌≤◌, Bool, true, false, List, [], ◌∷◌, ◌++◌, length, Option, Some, None, Result, Ok, refl, sym, ap, subst, ◌∙◌, arith}
+use Rattle.std.specs.Prelude.{nat_le, nat_lt, ◌&&◌, ◌==◌, is_some, is_none, if◌then◌else◌}
+use Rattle.std.specs.List.{list_any}
+use Rattle.std.specs.Int.{w16, w32, to_be_bytes}
 use Rattle.std.proofs.lemmas.Bool.{eqb-false, eqb-true}
 use Rattle.std.proofs.lemmas.Bool.Decides.{nat_tests}
 use Rattle.xm_base.specs.Bytes.{AreBytes}
@@ -10,16 +11,15 @@ use Rattle.xm_base.specs.declared.partition.Mode.{Mode}
 use Rattle.xm_base.specs.declared.partition.Mode.TheVariants as mode
 use Rattle.xm_base.specs.declared.partition.Order.{Order}
 use Rattle.xm_conf.specs.Configuration.{Conf}
-use Rattle.xef_images.specs.FieldLemmas.{Takes, takes_both, wide16, wide32}
-use Rattle.xef_images.specs.StepLemmas.{stepped, ok_is}
-use Rattle.xef_images.specs.Steps.{◌>>=◌}
+use Rattle.sealed_files.specs.FieldLemmas.{Takes, takes_both, wide16, wide32}
+use Rattle.sealed_files.specs.StepLemmas.{stepped, ok_is}
+use Rattle.sealed_files.specs.Steps.{◌>>=◌}
 use Rattle.machine_model.specs.Cue.{Away, Cue, Mine, CueSlot}
-use Rattle.machine_model.specs.Told.{AllHalted, AllReset, NoEvent, NotKept, OwnPuts, OwnStill, OwnTakes, OwnTraffic, Sight, Unseen, WholeEvent, Words}
+use Rattle.machine_model.specs.Told.{AllHalted, AllReset, NoEvent, NotKept, OwnPuts, OwnSignals, OwnStill, OwnTakes, OwnTraffic, Sight, Unseen, WholeEvent, Words}
 use Rattle.cue_scripts.specs.Entries.{is_away}
-use Rattle.cue_scripts.specs.Script.{CanHear, CanSee, IsOrder, gives_queue, is_length, is_shown, most_heard}
+use Rattle.cue_scripts.specs.Script.{CanHear, CanSee, IsOrder, gives_queue, is_length, is_shown, most_heard, signals}
 use Rattle.cue_scripts.specs.Spelling.{event_byte, order_text, reset_byte, sight_text, slot_byte, traffic_text}
-use Rattle.cue_scripts.specs.Reading.{bytes_at, event_at, event_of_byte, is_event, is_heard, is_sight, listed_at, message_at, number_at, order_at, order_of_kind, put_message_at, reset_at, cue_sight_at, sight_of_kind, signal_at, cue_slot_at, slot_of_byte, take_at, traffic_at, traffic_of_kind, shown_words_at}
-use Rattle.cue_scripts.specs.declared.fault.ScriptFault.TheVariants.{Field}
+use Rattle.cue_scripts.specs.Reading.{bytes_at, event_at, event_of_byte, is_event, is_heard, is_sight, listed_at, message_at, order_at, order_of_kind, put_message_at, reset_at, cue_sight_at, sight_of_kind, signal_at, cue_slot_at, slot_of_byte, take_at, traffic_at, traffic_of_kind, shown_words_at}
 use Rattle.cue_scripts.proofs.FieldLemmas.{AreBytes-front, begins, bytes_take, listed_takes, number_takes}
 
 -- a number is this one
@@ -87,10 +87,23 @@ take_takes conf p place behind traffic after kind e =
       (n.small, n.passes),
     )
 
--- no signal is read
-pub no_signal : (place : Place) (traffic : OwnTraffic) (after : Place) → signal_at place ≡ Ok (traffic, after) → ⊥
-unfolding signal_at
-no_signal place traffic after e =
-    let s = stepped (number_at w8 place) (λ number. Err (Field place.at)) (traffic, after) e in
-    let led = s.led in
-    absurd cc
+-- a link's number is a small one
+small_signal : (conf : Conf) (p number : ℕ) → signals conf p number ≡ true → number < 8
+unfolding signals
+small_signal conf p number is = by (nat_lt number 8) (list_any (λ link. link.dest == p && link.number == number) conf.links) refl is
+  where
+    by : (a b : Bool) → nat_lt number 8 ≡ a → (a && b) ≡ true → number < 8
+    by true b small both = grind (arith, nat_tests, small)
+    by false b small both = absurd cc
+
+-- a signal that is read after its kind stands there
+pub signal_takes : (conf : Conf) (p : ℕ) (place behind : Place) (traffic : OwnTraffic) (after : Place) → Takes place (3 ∷ []) behind → signal_at conf p behind ≡ Ok (traffic, after)
+    → Takes place (traffic_text traffic) after × CanHear conf p traffic
+unfolding signal_at traffic_text
+signal_takes conf p place behind traffic after kind e =
+    let n = begins (signals conf p) (λ number later. Ok (OwnSignals number, later)) behind (traffic, after) kind.rest e in
+    let P : OwnTraffic × Place → Type 0 = λ x. Takes place (traffic_text x.0) x.1 × CanHear conf p x.0 in
+    subst P {x = (OwnSignals n.kind, n.behind)} (ok_is (OwnSignals n.kind, n.behind) (traffic, after) n.led) (
+      takes_both place (3 ∷ []) behind (n.kind ∷ []) n.behind kind n.first,
+      (small_signal conf p n.kind n.passes, n.passes),
+    )

@@ -11,9 +11,9 @@ use Rattle.xm_base.specs.declared.partition.Mode.TheVariants as mode
 use Rattle.xm_base.specs.declared.partition.Order.{Order}
 use Rattle.xm_base.specs.declared.partition.Order.TheVariants as upon
 use Rattle.xm_conf.specs.Configuration.{Conf}
-use Rattle.xef_images.specs.FieldLemmas.{Takes, takes_both, wide32}
-use Rattle.xef_images.specs.StepLemmas.{stepped, ok_is}
-use Rattle.xef_images.specs.Steps.{◌>>=◌}
+use Rattle.sealed_files.specs.FieldLemmas.{Takes, takes_both, wide32}
+use Rattle.sealed_files.specs.StepLemmas.{stepped, ok_is}
+use Rattle.sealed_files.specs.Steps.{◌>>=◌}
 use Rattle.machine_model.specs.Cue.{Away, Cue, Mine, CueSlot}
 use Rattle.machine_model.specs.Told.{AllHalted, AllReset, NoEvent, NotKept, OwnStill, OwnTraffic, Sight, Unseen, WholeEvent, Words}
 use Rattle.cue_scripts.specs.Entries.{is_away}
@@ -21,7 +21,7 @@ use Rattle.cue_scripts.specs.Script.{CanHear, CanSee, IsOrder, is_shown}
 use Rattle.cue_scripts.specs.Spelling.{event_byte, order_text, reset_byte, sight_text, traffic_text}
 use Rattle.cue_scripts.specs.Reading.{bytes_at, event_at, event_of_byte, is_event, is_heard, is_sight, number_at, order_at, order_of_kind, put_message_at, reset_at, signal_at, take_at, cue_sight_at, sight_of_kind, traffic_at, traffic_of_kind, shown_words_at}
 use Rattle.cue_scripts.proofs.FieldLemmas.{AreBytes-front, begins, bytes_take, number_takes}
-use Rattle.cue_scripts.proofs.TakeLemmas.{is_this, no_signal, put_takes, take_takes, two}
+use Rattle.cue_scripts.proofs.TakeLemmas.{is_this, put_takes, signal_takes, take_takes, two}
 
 -- what holds in a slot of the partition's own alone
 abbrev pub InOwn : CueSlot → Type 0 → Type 0
@@ -40,6 +40,15 @@ in_own : (mine : CueSlot) (P : Type 0) → P → InOwn mine P
 in_own Away P holds = tt
 in_own (Mine first) P holds = holds
 
+-- of what is heard up to 3 it is the one that is left
+three : (mine : CueSlot) (n : ℕ) → is_heard 3 mine n ≡ true → (n == 0) ≡ false → (n == 1) ≡ false → (n == 2) ≡ false → n ≡ 3
+three Away n heard f0 f1 f2 =
+    let few : nat_le n 3 ≡ true = rw f0 at heard in
+    grind (arith, nat_tests, few, f0, f1, f2)
+three (Mine first) n heard f0 f1 f2 =
+    let none = rw f0 at heard in
+    absurd cc
+
 -- traffic that is read stands there
 pub traffic_takes : (conf : Conf) (p : ℕ) (mine : CueSlot) (place : Place) (traffic : OwnTraffic) (after : Place) → AreBytes (ahead place) → traffic_at conf p mine place ≡ Ok (traffic, after)
     → Takes place (traffic_text traffic) after × CanHear conf p traffic × InOwn mine (traffic ≡ OwnStill)
@@ -50,7 +59,7 @@ traffic_takes conf p mine place traffic after each e =
   where
     at : (kind : ℕ) (behind : Place) → is_heard 3 mine kind ≡ true → Takes place (kind ∷ []) behind
         → (a b c : Bool) → (kind == 0) ≡ a → (kind == 1) ≡ b → (kind == 2) ≡ c
-        → (if a then Ok (OwnStill, behind) else if b then put_message_at conf p behind else if c then take_at conf p behind else signal_at behind) ≡ Ok (traffic, after)
+        → (if a then Ok (OwnStill, behind) else if b then put_message_at conf p behind else if c then take_at conf p behind else signal_at conf p behind) ≡ Ok (traffic, after)
         → Takes place (traffic_text traffic) after × CanHear conf p traffic × InOwn mine (traffic ≡ OwnStill)
     at kind behind passes first true b c fa fb fc led =
         let P : OwnTraffic × Place → Type 0 = λ x. Takes place (traffic_text x.0) x.1 × CanHear conf p x.0 × InOwn mine (x.0 ≡ OwnStill) in
@@ -61,7 +70,9 @@ traffic_takes conf p mine place traffic after each e =
     at kind behind passes first false false true fa fb fc led =
         let t = take_takes conf p place behind traffic after (rw (is_this kind 2 fc) at first) led in
         (t.0, t.1, not_own 3 mine kind _ fa passes)
-    at kind behind passes first false false false fa fb fc led = absurd (no_signal behind traffic after led)
+    at kind behind passes first false false false fa fb fc led =
+        let t = signal_takes conf p place behind traffic after (rw (three mine kind passes fa fb fc) at first) led in
+        (t.0, t.1, not_own 3 mine kind _ fa passes)
 
 -- a reset that is read after its kind stands there
 reset_takes : (mode : Mode) (place behind : Place) (order : Option Order) (after : Place) → Takes place (reset_byte mode ∷ []) behind → reset_at mode behind ≡ Ok (order, after)

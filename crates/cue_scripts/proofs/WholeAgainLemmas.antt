@@ -10,9 +10,9 @@ use Rattle.std.proofs.lemmas.List.{append-nil}
 use Rattle.std.proofs.lemmas.List.Concat.{flat_map-cons}
 use Rattle.xm_base.specs.Cursor.{Place, ahead, left, cursor_start}
 use Rattle.xm_conf.specs.Configuration.{Conf}
-use Rattle.xef_images.specs.FieldLemmas.{wide16, wide32}
+use Rattle.sealed_files.specs.FieldLemmas.{wide16, wide32}
 use Rattle.xef_images.specs.ImageLemmas.{Decides-nat_le}
-use Rattle.xef_images.specs.Steps.{◌>>=◌}
+use Rattle.sealed_files.specs.Steps.{◌>>=◌}
 use Rattle.machine_model.specs.Cue.{Away, Cue, Mine, CueSlot}
 use Rattle.machine_model.specs.Told.{AllHalted, OwnStill, OwnTraffic}
 use Rattle.xm_base.specs.declared.partition.Order.{Order}

@@ -1,7 +1,7 @@
 -- The entries of a script: cues that are alike stand together, so that four thousand million of them take five bytes.
 use Rattle.std.specs.Prelude.{◌≡◌, ◌≢◌, ℕ, suc, ◌≤◌, Bool, true, false, ◌&&◌, if◌then◌else◌, List, [], ◌∷◌, ◌++◌, replicate, Option, Some, None, is_none}
 use Rattle.machine_model.specs.Cue.{Away, Cue, Mine, CueSlot}
-use Rattle.machine_model.specs.Told.{AllHalted, AllReset, NoEvent, NotKept, OwnPuts, OwnStill, OwnTakes, OwnTraffic, Sight, Unseen, WholeEvent, Words}
+use Rattle.machine_model.specs.Told.{AllHalted, AllReset, NoEvent, NotKept, OwnPuts, OwnSignals, OwnStill, OwnTakes, OwnTraffic, Sight, Unseen, WholeEvent, Words}
 
 -- an entry: so many cues with nothing but whose slot it is, which began before where it is the partition's own; or one other cue
 pub data Entry : Type 0 where
@@ -17,16 +17,21 @@ running_slot false = Away
 unfoldable pub bare_cue : Bool → Cue
 bare_cue own = record { mine = running_slot own; traffic = OwnStill; order = None; whole = NoEvent; seen = Unseen }
 
+-- the cue with nothing but that a slot of the partition's own begins
+abbrev pub first_cue : Cue
+first_cue = record { mine = Mine true; traffic = OwnStill; order = None; whole = NoEvent; seen = Unseen }
+
 -- whether the slot is not the partition's own
 abbrev pub is_away : CueSlot → Bool
 is_away Away = true
 is_away (Mine first) = false
 
--- whether nothing was put or taken
+-- whether nothing was put or taken, and nothing signalled
 abbrev pub is_still : OwnTraffic → Bool
 is_still OwnStill = true
 is_still (OwnPuts name bytes) = false
 is_still (OwnTakes name) = false
+is_still (OwnSignals number) = false
 
 -- whether nothing was done to the whole system
 abbrev pub is_no_event : WholeEvent → Bool

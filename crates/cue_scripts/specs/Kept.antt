@@ -2,7 +2,7 @@
 use Rattle.std.specs.Prelude.{ℕ, ◌<◌, ◌≤◌, ◌^◌, List, length, None}
 use Rattle.std.specs.List.{AllByRecursion}
 use Rattle.machine_model.specs.Cue.{Cue}
-use Rattle.machine_model.specs.Told.{NotKept, OwnPuts, OwnStill, OwnTakes, OwnTraffic, Sight, Unseen, Words}
+use Rattle.machine_model.specs.Told.{NotKept, OwnPuts, OwnSignals, OwnStill, OwnTakes, OwnTraffic, Sight, Unseen, Words}
 use Rattle.cue_scripts.specs.Entries.{Alike, AreLongest, Entry, Other, expanded}
 
 -- two bytes can tell the length of a message
@@ -10,6 +10,7 @@ abbrev pub HasTrafficRange : OwnTraffic → Type 0
 HasTrafficRange OwnStill = Unit {0}
 HasTrafficRange (OwnPuts name bytes) = length bytes < 2 ^ 16
 HasTrafficRange (OwnTakes name) = Unit {0}
+HasTrafficRange (OwnSignals number) = Unit {0}
 
 -- a byte can tell how many bytes were shown
 abbrev pub HasSightRange : Sight → Type 0

@@ -8,11 +8,11 @@ use Rattle.xm_base.specs.declared.partition.Mode.TheVariants as mode
 use Rattle.xm_base.specs.declared.partition.Order.{Order}
 use Rattle.xm_base.specs.declared.partition.Order.TheVariants as order
 use Rattle.xm_conf.specs.Configuration.{Conf}
-use Rattle.xef_images.specs.Steps.{◌>>=◌}
+use Rattle.sealed_files.specs.Steps.{◌>>=◌}
 use Rattle.machine_model.specs.Cue.{Away, Cue, Mine, CueSlot}
-use Rattle.machine_model.specs.Told.{AllHalted, AllReset, NoEvent, NotKept, OwnPuts, OwnStill, OwnTakes, OwnTraffic, Sight, Unseen, WholeEvent, Words}
+use Rattle.machine_model.specs.Told.{AllHalted, AllReset, NoEvent, NotKept, OwnPuts, OwnSignals, OwnStill, OwnTakes, OwnTraffic, Sight, Unseen, WholeEvent, Words}
 use Rattle.cue_scripts.specs.Entries.{Alike, Entry, Other, cue_count, expanded, is_away, plain_cue_of, plain_kind}
-use Rattle.cue_scripts.specs.Script.{gives_queue, is_length, is_shown, is_system_partition, most_heard}
+use Rattle.cue_scripts.specs.Script.{gives_queue, is_length, is_shown, is_system_partition, most_heard, signals}
 use Rattle.cue_scripts.specs.Spelling.{alike_byte}
 use Rattle.cue_scripts.specs.declared.fault.ScriptFault.{ScriptFault}
 use Rattle.cue_scripts.specs.declared.fault.ScriptFault.TheVariants as fault
@@ -86,9 +86,11 @@ take_at conf p place = do
   name ← listed_at w8 (gives_queue conf p) place
   Ok (OwnTakes name.0, name.1)
 
--- a signal: there are no links over which one comes
-unfoldable pub signal_at : Place → ScriptRead OwnTraffic
-signal_at place = number_at w8 place >>= λ number. Err (fault.Field place.at)
+-- a signal over a link of a number that goes to partition p
+unfoldable pub signal_at : Conf → ℕ → Place → ScriptRead OwnTraffic
+signal_at conf p place = do
+  number ← listed_at w8 (signals conf p) place
+  Ok (OwnSignals number.0, number.1)
 
 -- traffic of a kind
 abbrev pub traffic_of_kind : Conf → ℕ → ℕ → Place → ScriptRead OwnTraffic
@@ -96,9 +98,9 @@ traffic_of_kind conf p kind place =
     if kind == 0 then Ok (OwnStill, place)
     else if kind == 1 then put_message_at conf p place
     else if kind == 2 then take_at conf p place
-    else signal_at place
+    else signal_at conf p place
 
--- what others did to a channel of partition p
+-- what others did to a channel of partition p, or over a link to it
 unfoldable pub traffic_at : Conf → ℕ → CueSlot → Place → ScriptRead OwnTraffic
 traffic_at conf p mine place = do
   kind ← listed_at w8 (is_heard 3 mine) place

@@ -1,5 +1,5 @@
 -- What others may tell a partition, cue by cue.
-use Rattle.std.specs.Prelude.{◌≡◌, ◌≢◌, ℕ, ◌<◌, ◌≤◌, ◌^◌, ◌==◌, ◌&&◌, ◌⊎◌, Bool, true, false, if◌then◌else◌, nat_le, List, [], ◌∷◌, length, slice_get, Option, Some, None}
+use Rattle.std.specs.Prelude.{◌≡◌, ◌≢◌, ℕ, ◌<◌, ◌≤◌, ◌^◌, ◌==◌, ◌&&◌, ◌⊎◌, Bool, true, false, if◌then◌else◌, nat_le, nat_lt, List, [], ◌∷◌, length, slice_get, Option, Some, None}
 use Rattle.std.specs.List.{AllByRecursion, list_any}
 use Rattle.xm_base.specs.Bytes.{AreBytes}
 use Rattle.xm_base.specs.declared.partition.Order.{Order}
@@ -8,7 +8,7 @@ use Rattle.xm_conf.specs.Configuration.{Chan, Conf}
 use Rattle.xm_conf.specs.declared.channel.ChanKind.{ChanKind}
 use Rattle.xm_conf.specs.declared.channel.ChanKind.TheVariants as kind
 use Rattle.machine_model.specs.Cue.{Away, Cue, Mine, CueSlot}
-use Rattle.machine_model.specs.Told.{AllHalted, NotKept, OwnPuts, OwnStill, OwnTakes, OwnTraffic, Sight, Unseen, Words}
+use Rattle.machine_model.specs.Told.{AllHalted, NotKept, OwnPuts, OwnSignals, OwnStill, OwnTakes, OwnTraffic, Sight, Unseen, Words}
 use Rattle.machine_model.specs.View.{named, part_of}
 use Rattle.cue_scripts.specs.Entries.{is_away}
 
@@ -44,6 +44,10 @@ gives_in p (Some chan) = is_queue chan.kind && chan.source.part == p
 unfoldable pub gives_queue : Conf → ℕ → ℕ → Bool
 gives_queue conf p q = gives_in p (chan_called conf p q)
 
+-- whether a partition may be signalled over a link of this number: it is one of a link that goes to partition p
+unfoldable pub signals : Conf → ℕ → ℕ → Bool
+signals conf p number = nat_lt number 8 && list_any (λ link. link.dest == p && link.number == number) conf.links
+
 -- whether partition p is a system partition
 unfoldable pub is_system_partition : Conf → ℕ → Bool
 is_system_partition conf p = (part_of conf p).system
@@ -60,11 +64,12 @@ pub record IsHeardMessage (most : Option ℕ) (name : ℕ) (bytes : List ℕ) : 
   pub short : length bytes < 2 ^ 16
   pub spelled : AreBytes bytes
 
--- what others may do to the channels of partition p, under p's names
+-- what others may do to the channels of partition p, under p's names, and over links to it
 abbrev pub CanHear : Conf → ℕ → OwnTraffic → Type 0
 CanHear conf p OwnStill = Unit {0}
 CanHear conf p (OwnPuts name bytes) = IsHeardMessage (most_heard conf p name) name bytes
 CanHear conf p (OwnTakes name) = (name < 256) × (gives_queue conf p name ≡ true)
+CanHear conf p (OwnSignals number) = (number < 8) × (signals conf p number ≡ true)
 
 -- an order's status is a word
 abbrev pub IsOrder : Option Order → Type 0

@@ -8,7 +8,7 @@ use Rattle.xm_base.specs.declared.partition.Order.{Order}
 use Rattle.xm_base.specs.declared.partition.Order.TheVariants as order
 use Rattle.xm_conf.specs.Configuration.{Conf}
 use Rattle.machine_model.specs.Cue.{Away, Cue, Mine, CueSlot}
-use Rattle.machine_model.specs.Told.{AllHalted, AllReset, NoEvent, NotKept, OwnPuts, OwnStill, OwnTakes, OwnTraffic, Sight, Unseen, WholeEvent, Words}
+use Rattle.machine_model.specs.Told.{AllHalted, AllReset, NoEvent, NotKept, OwnPuts, OwnSignals, OwnStill, OwnTakes, OwnTraffic, Sight, Unseen, WholeEvent, Words}
 use Rattle.cue_scripts.specs.Entries.{Alike, Entry, Other, runs}
 use Rattle.cue_scripts.specs.Script.{IsScript}
 
@@ -18,11 +18,12 @@ slot_byte Away = 0
 slot_byte (Mine false) = 1
 slot_byte (Mine true) = 2
 
--- traffic: its kind, the partition's name for the channel, and a message after its length
+-- traffic: its kind, the partition's name for the channel, and a message after its length; or the number of a link
 unfoldable pub traffic_text : OwnTraffic → List ℕ
 traffic_text OwnStill = 0 ∷ []
 traffic_text (OwnPuts name bytes) = 1 ∷ name ∷ to_be_bytes w16 (length bytes) ++ bytes
 traffic_text (OwnTakes name) = 2 ∷ name ∷ []
+traffic_text (OwnSignals number) = 3 ∷ number ∷ []
 
 -- the byte of a reset
 abbrev pub reset_byte : Mode → ℕ

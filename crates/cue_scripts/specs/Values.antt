@@ -2,8 +2,8 @@
 use Rattle.std.specs.Prelude.{List, map}
 use Rattle.xm_base.specs.declared.partition.Mode.TheVariants as mode
 use Rattle.machine_model.specs.Cue.{Away, Cue, Mine, CueSlot}
-use Rattle.machine_model.specs.Told.{AllHalted, AllReset, NoEvent, NotKept, OwnPuts, OwnStill, OwnTakes, OwnTraffic, Sight, Unseen, WholeEvent, Words}
-use Rattle.cue_scripts.specs.Entries.{Alike, Entry, Other}
+use Rattle.machine_model.specs.Told.{AllHalted, AllReset, NoEvent, NotKept, OwnPuts, OwnSignals, OwnStill, OwnTakes, OwnTraffic, Sight, Unseen, WholeEvent, Words}
+use Rattle.cue_scripts.specs.Entries.{Alike, Entry, Other, first_cue}
 use Rattle.cue_scripts.specs.declared.cue.ScriptCue as code_cue
 use Rattle.cue_scripts.specs.declared.cue.ScriptSlot.{ScriptSlot}
 use Rattle.cue_scripts.specs.declared.cue.ScriptSlot.TheVariants as slot
@@ -26,6 +26,7 @@ abbrev pub script_traffic_value : ScriptTraffic → OwnTraffic
 script_traffic_value traffic.Nothing = OwnStill
 script_traffic_value (traffic.Put chan bytes) = OwnPuts chan bytes.items
 script_traffic_value (traffic.Take chan) = OwnTakes chan
+script_traffic_value (traffic.Signal number) = OwnSignals number
 
 -- the hypervisor event
 abbrev pub event_value : ScriptEvent → WholeEvent
@@ -53,7 +54,8 @@ script_cue_value cue = record {
 -- an entry
 abbrev pub entry_value : ScriptEntry → Entry
 entry_value (entry.Alike own count) = Alike own count
-entry_value (entry.Other cue) = Other (script_cue_value cue)
+entry_value entry.First = Other first_cue
+entry_value (entry.Other cue) = Other (script_cue_value cue.value)
 
 -- entries
 abbrev pub entry_values : List ScriptEntry → List Entry

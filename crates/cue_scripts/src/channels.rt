@@ -1,14 +1,14 @@
-//! What others may do to the channels of a partition.
+//! What others may do to the channels of a partition, and over links to it.
 
-ghost use Rattle.std.specs.Prelude.{◌≡◌, ◌==◌, ◌<◌, ◌≤◌, IfSome, length, option_map, slice_get};
+ghost use Rattle.std.specs.Prelude.{◌≡◌, ◌==◌, ◌&&◌, ◌<◌, ◌≤◌, IfSome, length, option_map, slice_get};
 ghost use Rattle.std.specs.List.{list_any};
 ghost use Rattle.machine_model.specs.Lists.{is_number};
 ghost use Rattle.machine_model.specs.View.{name_of, named, part_of};
 ghost use Rattle.xm_conf.specs.View.{channel_of};
-ghost use Rattle.cue_scripts.specs.Script.{chan_called, gives_in, gives_queue, heard_in, is_queue, is_system_partition, most_heard};
+ghost use Rattle.cue_scripts.specs.Script.{chan_called, gives_in, gives_queue, heard_in, is_queue, is_system_partition, most_heard, signals};
 
 use xm_base::PartId;
-use xm_conf::{Chan, ChanKind, Conf, End, Part};
+use xm_conf::{Chan, ChanKind, Conf, End, LINK_NUMBERS, Link, Part};
 
 /// How many bytes a message has at most that others put into the channel which partition `p` calls `q`, where `p` is a destination of it.
 #[tactic(auto, unfolding(crate::specs::Script::most_heard))]
@@ -132,6 +132,23 @@ fn name_of(conf: &Conf, p: PartId, chan: u8) -> Option<u8>
         port += 1;
     }
     None
+}
+
+/// Whether a partition may be signalled over a link of a number.
+#[tactic(auto, unfolding(crate::specs::Script::signals))]
+pub(crate) fn signals(conf: &Conf, p: PartId, number: u8) -> bool
+    ensures { result ≡ signals conf.now p number }
+{
+    number < LINK_NUMBERS && any_goes(&conf.raw().links, p, number)
+}
+
+/// Whether one of these links has a number and goes to a partition.
+fn any_goes(links: &[Link], p: PartId, number: u8) -> bool
+    ensures { result ≡ list_any (λ link. link.dest == p && link.number == number) links.now }
+{
+    links
+        .iter()
+        .any(|link| link.dest == p && link.number == number)
 }
 
 /// How many ports a partition has.

@@ -1,10 +1,11 @@
 //! What a partition is told in a tick, as a script keeps it.
 
-ghost use Rattle.std.specs.Prelude.{◌≡◌};
-ghost use Rattle.cue_scripts.specs.Entries.{cue_count, is_no_event, is_still, is_unseen, plain_cue_of, plain_kind, running_in};
+ghost use Rattle.std.specs.Prelude.{◌≡◌, IfOk};
+ghost use Rattle.cue_scripts.specs.Entries.{Other, cue_count, is_no_event, is_still, is_unseen, plain_cue_of, plain_kind, running_in};
 ghost use Rattle.cue_scripts.specs.Values.{script_cue_value, entry_value, event_value, script_sight_value, script_slot_value, script_traffic_value};
 
-use xm_base::Order;
+use std::alloc::Global;
+use xm_base::{Memory, Order};
 
 /// Whose slot a tick is in, as the partition sees it.
 #[derive(Clone, Copy, Debug, PartialEq, Eq)]
@@ -15,7 +16,7 @@ pub enum ScriptSlot {
     Mine { first: bool },
 }
 
-/// What others did to a channel of the partition, which goes by the partition's name for it: its lowest port on the channel.
+/// What others did to a channel of the partition, which goes by the partition's name for it: its lowest port on the channel; or over a link to it.
 #[derive(Debug, Drop)]
 pub enum ScriptTraffic {
     /// Nothing.
@@ -24,6 +25,8 @@ pub enum ScriptTraffic {
     Put { chan: u8, bytes: Vec<u8> },
     /// The first message was taken.
     Take { chan: u8 },
+    /// It was signalled over a link of this number that goes to it.
+    Signal { number: u8 },
 }
 
 /// What was done to the whole system.
@@ -66,8 +69,10 @@ pub struct ScriptCue {
 pub enum ScriptEntry {
     /// So many cues with nothing but whose slot it is: the partition's own, which began before, or not.
     Alike { own: bool, count: u32 },
-    /// Another cue.
-    Other(ScriptCue),
+    /// A cue with nothing but that a slot of the partition's own begins.
+    First,
+    /// Another cue. Most entries have none, and have no room for one.
+    Other(Box<ScriptCue>),
 }
 
 impl ScriptEntry {
@@ -77,7 +82,7 @@ impl ScriptEntry {
     {
         match self {
             ScriptEntry::Alike { count, .. } => *count,
-            ScriptEntry::Other(_) => 1,
+            ScriptEntry::First | ScriptEntry::Other(_) => 1,
         }
     }
 
@@ -87,8 +92,24 @@ impl ScriptEntry {
     {
         match self {
             ScriptEntry::Alike { own, .. } => Some(*own),
-            ScriptEntry::Other(_) => None,
+            ScriptEntry::First | ScriptEntry::Other(_) => None,
         }
+    }
+}
+
+/// The entry of a cue that is not plain.
+pub(crate) fn entry_of(alloc: Global, cue: ScriptCue) -> Result<ScriptEntry, Memory>
+    ensures { IfOk result (λ entry. entry_value entry ≡ Other (script_cue_value cue)) }
+{
+    match cue {
+        ScriptCue {
+            mine: ScriptSlot::Mine { first: true },
+            traffic: ScriptTraffic::Nothing,
+            order: None,
+            whole: ScriptEvent::Nothing,
+            seen: ScriptSight::Nothing,
+        } => Ok(ScriptEntry::First),
+        other => Ok(ScriptEntry::Other(Box::new(alloc, other)?)),
     }
 }
 
@@ -108,13 +129,15 @@ pub(crate) fn plain_kind(cue: &ScriptCue) -> Option<bool>
     }
 }
 
-/// Whether nothing was put or taken.
+/// Whether nothing was put or taken, and nothing signalled.
 fn is_still(traffic: &ScriptTraffic) -> bool
     ensures { result ≡ is_still (script_traffic_value traffic.now) }
 {
     match traffic {
         ScriptTraffic::Nothing => true,
-        ScriptTraffic::Put { .. } | ScriptTraffic::Take { .. } => false,
+        ScriptTraffic::Put { .. } | ScriptTraffic::Take { .. } | ScriptTraffic::Signal { .. } => {
+            false
+        }
     }
 }
 

@@ -10,9 +10,10 @@ ghost use Rattle.cue_scripts.specs.Script.{is_length, is_shown, most_heard};
 ghost use Rattle.cue_scripts.specs.Spelling.{IsSpelledScript, alike_byte};
 ghost use Rattle.cue_scripts.specs.Values.{script_cue_value, entry_value, entry_values, event_value, script_sight_value, script_slot_value, script_traffic_value};
 
-use crate::channels::{gives_queue, is_system, most_heard};
+use crate::channels::{gives_queue, is_system, most_heard, signals};
 use crate::cue::{
-    ScriptCue, ScriptEntry, ScriptEvent, ScriptSight, ScriptSlot, ScriptTraffic, plain_kind,
+    ScriptCue, ScriptEntry, ScriptEvent, ScriptSight, ScriptSlot, ScriptTraffic, entry_of,
+    plain_kind,
 };
 use crate::fault::ScriptFault;
 use crate::script::Script;
@@ -176,14 +177,18 @@ fn take(conf: &Conf, p: PartId, cursor: &mut Cursor<'_>) -> Result<ScriptTraffic
     }
 }
 
-/// A signal: there are no links over which one comes.
+/// A signal over a link that goes to the partition.
 #[tactic(auto, unfolding(crate::specs::Reading::signal_at))]
-fn signal(cursor: &mut Cursor<'_>) -> Result<ScriptTraffic, ScriptFault>
-    ensures { GivesAt (λ traffic. script_traffic_value traffic) result cursor.new (reading.signal_at cursor.old) }
+fn signal(conf: &Conf, p: PartId, cursor: &mut Cursor<'_>) -> Result<ScriptTraffic, ScriptFault>
+    ensures { GivesAt (λ traffic. script_traffic_value traffic) result cursor.new (reading.signal_at conf.now p cursor.old) }
 {
     let at = cursor.at();
-    let _ = cursor.u8()?;
-    Err(ScriptFault::Field { at })
+    let number = cursor.u8()?;
+    if signals(conf, p, number) {
+        Ok(ScriptTraffic::Signal { number })
+    } else {
+        Err(ScriptFault::Field { at })
+    }
 }
 
 /// Traffic of a kind.
@@ -201,11 +206,11 @@ fn traffic_of_kind(
         0 => Ok(ScriptTraffic::Nothing),
         1 => put(alloc, conf, p, cursor),
         2 => take(conf, p, cursor),
-        _ => signal(cursor),
+        _ => signal(conf, p, cursor),
     }
 }
 
-/// What others did to a channel of the partition.
+/// What others did to a channel of the partition, or over a link to it.
 #[tactic(auto, unfolding(crate::specs::Reading::traffic_at))]
 fn traffic(
     alloc: Global,
@@ -398,7 +403,7 @@ fn other(
     if plain_kind(&cue).is_some() {
         return Err(ScriptFault::Field { at });
     }
-    Ok(ScriptEntry::Other(cue))
+    Ok(entry_of(alloc, cue)?)
 }
 
 /// An entry of plain cues, where so many cues are left.

@@ -29,7 +29,7 @@ fn traffic_length(traffic: &ScriptTraffic) -> u64
     match traffic {
         ScriptTraffic::Nothing => 1,
         ScriptTraffic::Put { bytes, .. } => 4 + bytes.len() as u64,
-        ScriptTraffic::Take { .. } => 2,
+        ScriptTraffic::Take { .. } | ScriptTraffic::Signal { .. } => 2,
     }
 }
 

@@ -141,6 +141,7 @@ fn conf(alloc: Global) -> Result<Option<Conf>, AllocError>
         plans: Vec::from_array(alloc, [plan])?,
         parts: Vec::from_array(alloc, parts)?,
         chans: Vec::from_array(alloc, chans)?,
+        links: Vec::new(alloc),
     };
     Ok(Conf::new(raw).ok())
 }

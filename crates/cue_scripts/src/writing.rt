@@ -2,7 +2,7 @@
 
 ghost use Rattle.std.specs.Prelude.{◌≡◌, ◌++◌, All, IfOk, OnOk};
 ghost use Rattle.std.specs.List.{flat_map};
-ghost use Rattle.cue_scripts.specs.Entries.{Alike, Other};
+ghost use Rattle.cue_scripts.specs.Entries.{Alike, Other, first_cue};
 ghost use Rattle.cue_scripts.specs.Kept.{HasCueRanges, HasEntryRanges, HasSightRange, HasTrafficRange};
 ghost use Rattle.cue_scripts.specs.Spelling.{cue_text, entry_text, event_byte, script_head_text, order_text, reset_byte, script_text, sight_text, slot_byte, traffic_text};
 ghost use Rattle.cue_scripts.specs.Values.{script_cue_value, entry_value, event_value, script_sight_value, script_slot_value, script_traffic_value};
@@ -50,6 +50,15 @@ pub(crate) fn put_head(out: &mut Vec<u8>, p: PartId, count: u32) -> Result<(), M
     put_double(out, u64::from(count))
 }
 
+/// Puts the entry of a cue with nothing but that a slot of the partition's own begins.
+#[tactic(auto, unfolding(crate::specs::Spelling::cue_text, crate::specs::Spelling::entry_text, crate::specs::Spelling::order_text, crate::specs::Spelling::sight_text, crate::specs::Spelling::traffic_text))]
+fn put_first(out: &mut Vec<u8>) -> Result<(), Memory>
+    ensures { OnOk result (out.new.items ≡ out.old.items ++ entry_text (Other first_cue)) }
+{
+    out.extend_from_slice(&[OTHER, 2, 0, 0, 0, 0])?;
+    Ok(())
+}
+
 /// Puts entries, one after the other.
 fn put_entries(out: &mut Vec<u8>, entries: &[ScriptEntry]) -> Result<(), Memory>
     requires { All (λ entry. HasEntryRanges (entry_value entry)) entries.now }
@@ -68,6 +77,7 @@ fn put_entry(out: &mut Vec<u8>, entry: &ScriptEntry) -> Result<(), Memory>
 {
     match entry {
         ScriptEntry::Alike { own, count } => put_alike(out, *own, *count),
+        ScriptEntry::First => put_first(out),
         ScriptEntry::Other(cue) => put_other(out, cue),
     }
 }
@@ -129,6 +139,7 @@ fn put_traffic(out: &mut Vec<u8>, traffic: &ScriptTraffic) -> Result<(), Memory>
             out.extend_from_slice(bytes)?;
         }
         ScriptTraffic::Take { chan } => out.extend_from_slice(&[2, *chan])?,
+        ScriptTraffic::Signal { number } => out.extend_from_slice(&[3, *number])?,
     }
     Ok(())
 }

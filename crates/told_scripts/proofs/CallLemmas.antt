@@ -18,6 +18,7 @@ use Rattle.xm_ports.specs.Ports.{created_over, are_same_kind, is_made}
 use Rattle.xm_ports.specs.declared.ports.CreateFault.{CreateFault}
 use Rattle.machine_model.specs.Caller.{Acts, Caller, Meets, Served, Test, Upshot, a_of, acting, answering, b_of, caller_bytes, c_of, d_of, invalid_parameter, not_allowed, not_available, number_of, refused_if, room, tested, text, with_written}
 use Rattle.machine_model.specs.Hypercalls.{served}
+use Rattle.machine_model.specs.LinkCalls.{raise_ipvi}
 use Rattle.machine_model.specs.Lists.{and_then}
 use Rattle.machine_model.specs.LogCalls.{hm_read, hm_status, raise_event, trace_event, trace_read, trace_status}
 use Rattle.machine_model.specs.Partition.{PartitionState, areas_of}
@@ -27,8 +28,8 @@ use Rattle.machine_model.specs.ProcessorCalls.{by_flush, by_return, clear_irqmas
 use Rattle.machine_model.specs.Structures.{queuing_status, sampling_status}
 use Rattle.machine_model.specs.TimeCalls.{get_plan_status, get_time, set_timer, switch_sched_plan}
 use Rattle.machine_model.specs.Told as told
-use Rattle.machine_model.specs.Told.{Act, OwnPuts, OwnStill, OwnTakes}
-use Rattle.machine_model.specs.View.{PartitionView, PortChannel}
+use Rattle.machine_model.specs.Told.{Act, OwnPuts, OwnSignals, OwnStill, OwnTakes}
+use Rattle.machine_model.specs.View.{PartitionView, PortChannel, has_number}
 
 -- a partition's port of a way, on the channel that it calls by a name
 pub record IsPort (view : PartitionView) (the_way : Way) (name : ℕ) : Type 0 where
@@ -56,6 +57,7 @@ IsAt view told.Nothing = Unit {0}
 IsAt view (told.Trades OwnStill) = Unit {0}
 IsAt view (told.Trades (OwnPuts name bytes)) = IsPut view name bytes
 IsAt view (told.Trades (OwnTakes name)) = IsTake view name
+IsAt view (told.Trades (OwnSignals number)) = Unit {0}
 IsAt view (told.Upon id order) = Unit {0}
 IsAt view (told.Plans change) = Unit {0}
 IsAt view (told.UponAll event) = Unit {0}
@@ -370,6 +372,13 @@ flush_regwin_stays : (caller : Caller) → Stays caller.view (flush_regwin calle
 unfolding flush_regwin
 flush_regwin_stays caller = record { within = let moved = flushed 8 (areas_of caller.view) (move_made caller.state.core caller.state.memory) in flush_within caller.view moved.answer (record caller.state { core = moved.core; memory = moved.memory }) caller }
 
+raise_ipvi_stays : (caller : Caller) → Stays caller.view (raise_ipvi caller)
+unfolding raise_ipvi
+raise_ipvi_stays caller = record {
+  within = tested_within caller.view (refused_if (not (has_number caller.view.links (a_of caller))) invalid_parameter ∷ []) caller
+      (acting (told.Trades (OwnSignals (a_of caller))) 0 caller.state) tt;
+}
+
 -- the call with a number, or a later one
 choice_stays : (view : PartitionView) (b : Bool) (one other : Served) → Stays view one → Stays view other → Stays view (if b then one else other)
 choice_stays view true one other stays further = stays
@@ -415,4 +424,5 @@ served_stays caller =
     (choice_stays caller.view (number_of caller == 35) _ _ (set_psr_stays caller)
     (choice_stays caller.view (number_of caller == 36) _ _ (set_tbr_stays caller)
     (choice_stays caller.view (number_of caller == 37) _ _ (flush_regwin_stays caller)
-    (record { within = tt })))))))))))))))))))))))))))))))))))))
+    (choice_stays caller.view (number_of caller == 38) _ _ (raise_ipvi_stays caller)
+    (record { within = tt }))))))))))))))))))))))))))))))))))))))

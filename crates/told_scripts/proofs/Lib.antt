@@ -1,4 +1,5 @@
 pub mod CallLemmas
 pub mod EndLemmas
+pub mod LinkLemmas
 pub mod TellLemmas
 pub mod WorkLemmas

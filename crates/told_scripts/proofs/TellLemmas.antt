@@ -21,7 +21,7 @@ use Rattle.machine_model.specs.Observed.{CurrentPlan, HealthCounts, HealthEntryO
 use Rattle.machine_model.specs.Partition.{PartitionState, areas_of, takes_turns}
 use Rattle.machine_model.specs.Structures.{counts_bytes, health_bytes, partition_status, plan_status, system_status, trace_bytes}
 use Rattle.machine_model.specs.Told as told
-use Rattle.machine_model.specs.Told.{Act, AllHalted, NotKept, OwnPuts, OwnStill, OwnTakes, OwnTraffic, Sight, Unseen, Upon, Words, reach_of}
+use Rattle.machine_model.specs.Told.{Act, AllHalted, NotKept, OwnPuts, OwnSignals, OwnStill, OwnTakes, OwnTraffic, Sight, Unseen, Upon, Words}
 use Rattle.machine_model.specs.Traffic.{heard_as, own_puts_at, own_takes_at, puts_at, takes_at, told_as, traffic_of}
 use Rattle.machine_model.specs.View.{PartitionView, System, name_of, named, part_of, view_of}
 use Rattle.cue_scripts.specs.Entries.{is_away}
@@ -29,55 +29,57 @@ use Rattle.cue_scripts.specs.Script.{CanHear, CanSee, HaltsLast, HearsNothing, I
 use Rattle.told_scripts.specs.Telling.{HasMessageBytes, HasNumbers, HasShownBytes, TellsBootedScripts, TellsCues, TellsScripts}
 use Rattle.told_scripts.proofs.CallLemmas.{IsAt, IsPut, IsTake}
 use Rattle.told_scripts.proofs.EndLemmas.{put_heard, take_heard}
+use Rattle.told_scripts.proofs.LinkLemmas.{signal_heard}
 use Rattle.told_scripts.proofs.WorkLemmas.{local_at}
 
 -- what others do on channels, as a partition hears it, by whose turn it is
 abbrev heard_in_turn : Machine → ℕ → Option SlotTurn → OwnTraffic
 heard_in_turn g p o =
-    unless_own (is_some (if_its_turn (is_turn_of o p) (local_in g o))) (heard_as (name_of g.system.conf p) (system_traffic g.system.conf o (traffic_of (act_of (local_in g o)))))
+    unless_own (is_some (if_its_turn (is_turn_of o p) (local_in g o))) (heard_as g.system.conf p (system_traffic g.system.conf o (traffic_of (act_of (local_in g o)))))
 
 traffic_is : (g : Machine) (p : ℕ) → (cue g p).traffic ≡ heard_in_turn g p (turn_of g)
 unfolding cue cue_in happened happened_by local tick_of
 traffic_is g p = refl
 
 -- in its own turn nothing
-own_still : (conf : Conf) (p other : ℕ) (tick : Option LocalTick) → unless_own (is_some tick) (heard_as (name_of conf p) (told_as (named conf other) (traffic_of (act_of tick)))) ≡ OwnStill
+own_still : (conf : Conf) (p other : ℕ) (tick : Option LocalTick) → unless_own (is_some tick) (heard_as conf p (told_as conf other (traffic_of (act_of tick)))) ≡ OwnStill
 own_still conf p other None = refl
 own_still conf p other (Some tick) = refl
 
 -- an act of another partition
 put_told : (system : System) (p other name : ℕ) (bytes : List ℕ) → Fits (described system.conf) → IsPut (view_of system other) name bytes → (other == p) ≡ false
-    → HasMessageBytes (heard_as (name_of system.conf p) (told_as (named system.conf other) (OwnPuts name bytes)))
-    → CanHear system.conf p (heard_as (name_of system.conf p) (told_as (named system.conf other) (OwnPuts name bytes)))
+    → HasMessageBytes (heard_as system.conf p (told_as system.conf other (OwnPuts name bytes)))
+    → CanHear system.conf p (heard_as system.conf p (told_as system.conf other (OwnPuts name bytes)))
 put_told system p other name bytes fits put differ = by (named system.conf other name) refl
   where
     at : (c : ℕ) → named system.conf other name ≡ Some c → (o : Option ℕ) → name_of system.conf p c ≡ o → HasMessageBytes (own_puts_at o bytes) → CanHear system.conf p (own_puts_at o bytes)
     at c named_other None is each = tt
     at c named_other (Some q) is each = put_heard system p other c q name bytes fits put named_other differ is each
 
-    by : (o : Option ℕ) → named system.conf other name ≡ o → HasMessageBytes (heard_as (name_of system.conf p) (puts_at o bytes)) → CanHear system.conf p (heard_as (name_of system.conf p) (puts_at o bytes))
+    by : (o : Option ℕ) → named system.conf other name ≡ o → HasMessageBytes (heard_as system.conf p (puts_at o bytes)) → CanHear system.conf p (heard_as system.conf p (puts_at o bytes))
     by None is each = tt
     by (Some c) is each = at c is (name_of system.conf p c) refl each
 
 take_told : (system : System) (p other name : ℕ) → Fits (described system.conf) → IsTake (view_of system other) name → (other == p) ≡ false
-    → CanHear system.conf p (heard_as (name_of system.conf p) (told_as (named system.conf other) (OwnTakes name)))
+    → CanHear system.conf p (heard_as system.conf p (told_as system.conf other (OwnTakes name)))
 take_told system p other name fits take differ = by (named system.conf other name) refl
   where
     at : (c : ℕ) → named system.conf other name ≡ Some c → (o : Option ℕ) → name_of system.conf p c ≡ o → CanHear system.conf p (own_takes_at o)
     at c named_other None is = tt
     at c named_other (Some q) is = take_heard system p other c q name fits take named_other differ is
 
-    by : (o : Option ℕ) → named system.conf other name ≡ o → CanHear system.conf p (heard_as (name_of system.conf p) (takes_at o))
+    by : (o : Option ℕ) → named system.conf other name ≡ o → CanHear system.conf p (heard_as system.conf p (takes_at o))
     by None is = tt
     by (Some c) is = at c is (name_of system.conf p c) refl
 
 act_told : (system : System) (p other : ℕ) (act : Act) → Fits (described system.conf) → IsAt (view_of system other) act → (other == p) ≡ false
-    → HasMessageBytes (heard_as (name_of system.conf p) (told_as (named system.conf other) (traffic_of act)))
-    → CanHear system.conf p (heard_as (name_of system.conf p) (told_as (named system.conf other) (traffic_of act)))
+    → HasMessageBytes (heard_as system.conf p (told_as system.conf other (traffic_of act)))
+    → CanHear system.conf p (heard_as system.conf p (told_as system.conf other (traffic_of act)))
 act_told system p other told.Nothing fits is differ each = tt
 act_told system p other (told.Trades OwnStill) fits is differ each = tt
 act_told system p other (told.Trades (OwnPuts name bytes)) fits is differ each = put_told system p other name bytes fits is differ each
 act_told system p other (told.Trades (OwnTakes name)) fits is differ each = take_told system p other name fits is differ
+act_told system p other (told.Trades (OwnSignals number)) fits is differ each = signal_heard system.conf p other number fits
 act_told system p other (told.Upon id order) fits is differ each = tt
 act_told system p other (told.Plans change) fits is differ each = tt
 act_told system p other (told.UponAll event) fits is differ each = tt
@@ -100,8 +102,8 @@ turn_told g p None fits each = tt
 turn_told g p (Some turn) fits each = at (turn.part == p) refl each
   where
     at : (b : Bool) → (turn.part == p) ≡ b
-        → HasMessageBytes (unless_own (is_some (if_its_turn b (tick_in g turn))) (heard_as (name_of g.system.conf p) (told_as (named g.system.conf turn.part) (traffic_of (act_of (tick_in g turn))))))
-        → CanHear g.system.conf p (unless_own (is_some (if_its_turn b (tick_in g turn))) (heard_as (name_of g.system.conf p) (told_as (named g.system.conf turn.part) (traffic_of (act_of (tick_in g turn))))))
+        → HasMessageBytes (unless_own (is_some (if_its_turn b (tick_in g turn))) (heard_as g.system.conf p (told_as g.system.conf turn.part (traffic_of (act_of (tick_in g turn))))))
+        → CanHear g.system.conf p (unless_own (is_some (if_its_turn b (tick_in g turn))) (heard_as g.system.conf p (told_as g.system.conf turn.part (traffic_of (act_of (tick_in g turn))))))
     at true its has = subst (CanHear g.system.conf p) (sym (own_still g.system.conf p turn.part (tick_in g turn))) tt
     at false differ has = act_told g.system p turn.part (act_of (tick_in g turn)) fits (taken_at g turn.part turn.first (slice_get g.parts turn.part)) differ has
 
@@ -141,7 +143,7 @@ alone_in_turn never g p (Some turn) = at (turn.part == p) refl
   where
     at : (b : Bool) → (turn.part == p) ≡ b
         → HearsNothing (if b then Mine turn.first else Away)
-        (unless_own (is_some (if_its_turn b (tick_in g turn))) (heard_as (name_of g.system.conf p) (told_as (named g.system.conf turn.part) (traffic_of (act_of (tick_in g turn))))))
+        (unless_own (is_some (if_its_turn b (tick_in g turn))) (heard_as g.system.conf p (told_as g.system.conf turn.part (traffic_of (act_of (tick_in g turn))))))
         (order_upon (act_of (tick_in g turn)) p)
     at true its = (
       own_still g.system.conf p turn.part (tick_in g turn),

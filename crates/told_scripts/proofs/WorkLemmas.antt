@@ -16,7 +16,7 @@ use Rattle.xm_ports.specs.Channels.{Content}
 use Rattle.machine_model.specs.Caller.{Acts, Caller, Meets, Upshot}
 use Rattle.machine_model.specs.Health.{answered_by, by_interrupt, done_to_all, event_handled, interrupt_delivered, quiet, self_ordered, undelivered}
 use Rattle.machine_model.specs.Hypercalls.{served}
-use Rattle.machine_model.specs.LocalTick.{bounded, by_act, by_turn, by_upshot, called, clocked, delivered_or_executed, executed_in_tick, goes_on, is_its, local_tick, traffic_name, turned_state, with_interrupts, worked, worked_if}
+use Rattle.machine_model.specs.LocalTick.{bounded, by_act, by_turn, by_upshot, called, clocked, delivered_or_executed, executed_in_tick, goes_on, is_its, local_tick, turned_state, with_interrupts, worked, worked_if}
 use Rattle.machine_model.specs.Partition.{PartitionState, areas_of}
 use Rattle.machine_model.specs.Told as told
 use Rattle.machine_model.specs.Told.{Act, OwnTraffic, Sight}
@@ -105,7 +105,7 @@ upon_at view false act is = is
 
 bounded_at : (view : PartitionView) (act : Act) → IsAt view act → IsAt view (bounded view act)
 bounded_at view told.Nothing is = tt
-bounded_at view (told.Trades traffic) is = if_at view (is_its view (traffic_name traffic)) traffic is
+bounded_at view (told.Trades traffic) is = if_at view (is_its view traffic) traffic is
 bounded_at view (told.Upon id order) is = upon_at view (id == view.id) (told.Upon id order) tt
 bounded_at view (told.Plans change) is = tt
 bounded_at view (told.UponAll event) is = tt

@@ -6,7 +6,7 @@ use Rattle.xm_conf.specs.Description.{described}
 use Rattle.xm_conf.specs.Fits.{Fits}
 use Rattle.machine_model.specs.Cue.{Cue, cue, script}
 use Rattle.machine_model.specs.Machine.{Machine, start}
-use Rattle.machine_model.specs.Told.{NotKept, OwnPuts, OwnStill, OwnTakes, OwnTraffic, Sight, Unseen, Words}
+use Rattle.machine_model.specs.Told.{NotKept, OwnPuts, OwnSignals, OwnStill, OwnTakes, OwnTraffic, Sight, Unseen, Words}
 use Rattle.machine_model.specs.View.{System}
 use Rattle.alone_passes.specs.TellingLaws.{IsSound}
 use Rattle.cue_scripts.specs.Script.{IsCue, IsOrder, IsScript}
@@ -16,6 +16,7 @@ abbrev pub HasMessageBytes : OwnTraffic → Type 0
 HasMessageBytes OwnStill = Unit {0}
 HasMessageBytes (OwnPuts name bytes) = AreBytes bytes
 HasMessageBytes (OwnTakes name) = Unit {0}
+HasMessageBytes (OwnSignals number) = Unit {0}
 
 -- what is shown is bytes
 abbrev pub HasShownBytes : Sight → Type 0

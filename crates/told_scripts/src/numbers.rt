@@ -22,7 +22,7 @@ fn has_message_bytes(traffic: &ScriptTraffic)
     ensures bytes { HasMessageBytes (script_traffic_value traffic.now) }
 {
     match traffic {
-        ScriptTraffic::Nothing | ScriptTraffic::Take { .. } => {}
+        ScriptTraffic::Nothing | ScriptTraffic::Take { .. } | ScriptTraffic::Signal { .. } => {}
         ScriptTraffic::Put { bytes, .. } => are_bytes(bytes),
     }
 }
