@@ -1,7 +1,7 @@
 -- Calls that are shown nothing, and numbers that are no call's.
-use Rattle.std.proofs.Common.{◌≡◌, ℕ, ◌≤◌, ◌≢◌, Bool, true, false, refl, sym, ap, ◌∙◌, arith, subst}
+use Rattle.std.proofs.Common.{◌≡◌, ℕ, ◌≤◌, ◌<◌, ◌≢◌, Bool, true, false, refl, sym, ap, ◌∙◌, arith, subst}
 use Rattle.std.proofs.lemmas.Bool.Decides.{nat_tests}
-use Rattle.std.specs.Prelude.{◌==◌, ◌+◌, ◌%◌, if◌then◌else◌, None}
+use Rattle.std.specs.Prelude.{◌==◌, if◌then◌else◌, None}
 use Rattle.machine_model.specs.Caller.{Caller, Served, a_of, answering, b_of, c_of, unknown_call}
 use Rattle.machine_model.specs.Hypercalls.{call_numbered}
 use Rattle.machine_model.specs.Observed.{observing}
@@ -36,11 +36,11 @@ unseen site sys new n s answer is nothing = subst (λ (sight : Sight). IsServed 
 
 -- a number of no call
 abbrev pub IsUnknown : ℕ → Type 0
-IsUnknown n = (k : ℕ) → 1 ≤ k → k ≤ 37 → n ≢ k
+IsUnknown n = (k : ℕ) → 1 ≤ k → k ≤ 38 → n ≢ k
 
--- such a number, less 1 as a word, is 37 or more
-pub is_unknown : (n : ℕ) → 37 ≤ (n + 4294967295) % 4294967296 → IsUnknown n
-is_unknown n above k from to same = omega (arith, above, from, to, same)
+-- such a number is 0, or above those of all calls
+pub is_unknown : (n : ℕ) → (1 ≤ n → 38 < n) → IsUnknown n
+is_unknown n above k from to same = (let over : 38 < n = above (omega (arith, from, same)) in omega (arith, over, to, same))
 
 -- it is none of these
 differs : (n k : ℕ) → n ≢ k → (n == k) ≡ false
@@ -50,12 +50,12 @@ differs n k other = grind (arith, nat_tests)
 pub unknown_unseen : (n : ℕ) → IsUnknown n → ObservesNothing n
 unknown_unseen n unknown view a b c = rw (other 8 (omega arith) (omega arith), other 11 (omega arith) (omega arith), other 14 (omega arith) (omega arith), other 15 (omega arith) (omega arith), other 25 (omega arith) (omega arith), other 26 (omega arith) (omega arith), other 28 (omega arith) (omega arith), other 29 (omega arith) (omega arith)) refl
   where
-    other : (k : ℕ) → 1 ≤ k → k ≤ 37 → (n == k) ≡ false
+    other : (k : ℕ) → 1 ≤ k → k ≤ 38 → (n == k) ≡ false
     other k from to = differs n k (unknown k from to)
 
 -- and answers so
 pub unknown_answers : (n : ℕ) (caller : Caller) → IsUnknown n → call_numbered n caller ≡ answering unknown_call caller.state
-unknown_answers n caller unknown = rw (other 1 (omega arith) (omega arith), other 2 (omega arith) (omega arith), other 3 (omega arith) (omega arith), other 4 (omega arith) (omega arith), other 5 (omega arith) (omega arith), other 6 (omega arith) (omega arith), other 7 (omega arith) (omega arith), other 8 (omega arith) (omega arith), other 9 (omega arith) (omega arith), other 10 (omega arith) (omega arith), other 11 (omega arith) (omega arith), other 12 (omega arith) (omega arith), other 13 (omega arith) (omega arith), other 14 (omega arith) (omega arith), other 15 (omega arith) (omega arith), other 16 (omega arith) (omega arith), other 17 (omega arith) (omega arith), other 18 (omega arith) (omega arith), other 19 (omega arith) (omega arith), other 20 (omega arith) (omega arith), other 21 (omega arith) (omega arith), other 22 (omega arith) (omega arith), other 23 (omega arith) (omega arith), other 24 (omega arith) (omega arith), other 25 (omega arith) (omega arith), other 26 (omega arith) (omega arith), other 27 (omega arith) (omega arith), other 28 (omega arith) (omega arith), other 29 (omega arith) (omega arith), other 30 (omega arith) (omega arith), other 31 (omega arith) (omega arith), other 32 (omega arith) (omega arith), other 33 (omega arith) (omega arith), other 34 (omega arith) (omega arith), other 35 (omega arith) (omega arith), other 36 (omega arith) (omega arith), other 37 (omega arith) (omega arith)) refl
+unknown_answers n caller unknown = rw (other 1 (omega arith) (omega arith), other 2 (omega arith) (omega arith), other 3 (omega arith) (omega arith), other 4 (omega arith) (omega arith), other 5 (omega arith) (omega arith), other 6 (omega arith) (omega arith), other 7 (omega arith) (omega arith), other 8 (omega arith) (omega arith), other 9 (omega arith) (omega arith), other 10 (omega arith) (omega arith), other 11 (omega arith) (omega arith), other 12 (omega arith) (omega arith), other 13 (omega arith) (omega arith), other 14 (omega arith) (omega arith), other 15 (omega arith) (omega arith), other 16 (omega arith) (omega arith), other 17 (omega arith) (omega arith), other 18 (omega arith) (omega arith), other 19 (omega arith) (omega arith), other 20 (omega arith) (omega arith), other 21 (omega arith) (omega arith), other 22 (omega arith) (omega arith), other 23 (omega arith) (omega arith), other 24 (omega arith) (omega arith), other 25 (omega arith) (omega arith), other 26 (omega arith) (omega arith), other 27 (omega arith) (omega arith), other 28 (omega arith) (omega arith), other 29 (omega arith) (omega arith), other 30 (omega arith) (omega arith), other 31 (omega arith) (omega arith), other 32 (omega arith) (omega arith), other 33 (omega arith) (omega arith), other 34 (omega arith) (omega arith), other 35 (omega arith) (omega arith), other 36 (omega arith) (omega arith), other 37 (omega arith) (omega arith), other 38 (omega arith) (omega arith)) refl
   where
-    other : (k : ℕ) → 1 ≤ k → k ≤ 37 → (n == k) ≡ false
+    other : (k : ℕ) → 1 ≤ k → k ≤ 38 → (n == k) ≡ false
     other k from to = differs n k (unknown k from to)

@@ -18,7 +18,8 @@ use control_calls::{
 };
 use port_calls::{
     create_queuing_port, create_sampling_port, get_queuing_port_status, get_sampling_port_status,
-    read_sampling_message, receive_queuing_message, send_queuing_message, write_sampling_message,
+    raise_ipvi, read_sampling_message, receive_queuing_message, send_queuing_message,
+    write_sampling_message,
 };
 use whole_system::answering::{UNKNOWN_CALL, answer, argument};
 use whole_system::{CallSite, Served, Sys};
@@ -26,7 +27,7 @@ use xm_base::PartId;
 
 /// Serves the hypercall of partition `p`, whose trap instruction stood at `pc`, with `npc` after it: its number stands in %o0, its
 /// arguments in %o1 to %o5, and its result comes to %o0. It changes its caller, the channels of the caller's ports, and of other partitions
-/// only that those that hear of a message get its interrupt.
+/// only that those that hear of a message or of a signal get its interrupt.
 #[inline(always)]
 #[tactic(auto, unfolding(whole_system::specs::Serving::caller_of, whole_system::specs::Serving::caller_at, machine_model::specs::Hypercalls::served))]
 pub fn serve(sys: &mut Sys, p: PartId, pc: u32, npc: u32) -> Served
@@ -63,10 +64,10 @@ fn serve_site(sys: &mut Sys, site: CallSite) -> Served
 // Whether a call has this number.
 fn is_call(number: u32) -> bool
     ensures from { OnTrue result (1 ≤ number) }
-    ensures to { OnTrue result (number ≤ 37) }
-    ensures none { result ≡ false → 37 ≤ (number + 4294967295) % 4294967296 }
+    ensures to { OnTrue result (number ≤ 38) }
+    ensures none { result ≡ false → 1 ≤ number → 38 < number }
 {
-    number.wrapping_sub(1) < 37
+    number.wrapping_sub(1) < 38
 }
 
 // Serves the call of a number.
@@ -75,7 +76,7 @@ fn serve_numbered(sys: &mut Sys, site: CallSite, number: u32) -> Served
     requires caller { IsCaller site sys.old }
     requires number { register_at (caller_of site sys.old).state.core 8 ≡ number }
     requires from { 1 ≤ number }
-    requires to { number ≤ 37 }
+    requires to { number ≤ 38 }
     requires pc { site.pc % 4 ≡ 0 }
     requires npc { site.npc % 4 ≡ 0 }
     requires traces { (part_at site.part sys.old.machine).traces.next < 4294967295 }
@@ -93,8 +94,10 @@ fn serve_numbered(sys: &mut Sys, site: CallSite, number: u32) -> Served
         serve_port_call(sys, site, number)
     } else if number < 30 {
         serve_log_call(sys, site, number)
-    } else {
+    } else if number < 38 {
         serve_processor_call(sys, site, number)
+    } else {
+        raise_ipvi(sys, site)
     }
 }
 

@@ -5,3 +5,4 @@ pub mod PortMakingLemmas
 pub mod PortStatusLemmas
 pub mod ReadingLemmas
 pub mod TradeLemmas
+pub mod LinkCallLemmas

@@ -1,5 +1,5 @@
--- A message that is put or taken, as the code does it and as the machine has it.
-use Rattle.std.proofs.Common.{◌≡◌, ℕ, zero, suc, ◌+◌, ◌<◌, ◌≤◌, ◌≢◌, Bool, true, false, List, [], ◌∷◌, length, Option, None, Some, refl, sym, ap, ◌∙◌, arith, subst}
+-- A message that is put or taken, and a signal, as the code does them and as the machine has them.
+use Rattle.std.proofs.Common.{◌≡◌, ℕ, zero, suc, ◌+◌, ◌<◌, ◌≤◌, ◌≢◌, Bool, true, false, List, [], ◌∷◌, length, get_or, set, Option, None, Some, refl, sym, ap, ◌∙◌, arith, subst}
 use Rattle.std.specs.Prelude.{◌==◌, ◌&&◌, if◌then◌else◌, option_map, slice_get, unwrap_or, IsSomeAnd, OnSome}
 use Rattle.std.proofs.lemmas.Bool.{eqb-true}
 use Rattle.std.proofs.lemmas.Bool.Decides.{nat_tests}
@@ -12,13 +12,14 @@ use Rattle.xm_conf.specs.declared.channel.ChanKind.TheVariants as chan_kind
 use Rattle.xm_ports.specs.Channels.{ChannelTable, Content, HasQueue, HasSampling, IsQueuing, IsSampling, Queuing, Shape, changed, content_at, first_message, put, shape_of, shapes_of, first_taken, with_content}
 use Rattle.xm_ports.specs.Ports.{is_made}
 use Rattle.machine_model.specs.Lists.{each, is_number, table, then_some}
-use Rattle.machine_model.specs.Machine.{Machine}
-use Rattle.machine_model.specs.Partition.{PartitionState}
-use Rattle.machine_model.specs.Traffic.{Puts, Takes, after_message, after_traffic, first_heard, heard_as, heard_from, hearing, hears, interrupt_of, interrupted, is_destination, own_puts_at, own_takes_at}
-use Rattle.machine_model.specs.View.{PortChannel, name_from, name_of, part_of, port_channel, view_of, with_its_name, with_name}
+use Rattle.machine_model.specs.Machine.{Machine, booted_part}
+use Rattle.machine_model.specs.Partition.{PartitionState, link_signal}
+use Rattle.machine_model.specs.Told.{OwnSignals}
+use Rattle.machine_model.specs.Traffic.{Puts, Signals, Takes, after_message, after_traffic, first_heard, heard_as, heard_from, hearing, hears, interrupt_of, interrupted, is_destination, own_puts_at, own_signals_at, own_takes_at}
+use Rattle.machine_model.specs.View.{PortChannel, linked, name_from, name_of, part_of, port_channel, view_of, with_its_name, with_name}
 use Rattle.slot_runs.specs.Passes.{with_traffic}
 use Rattle.port_calls.specs.MadePorts.{table_in}
-use Rattle.whole_system.specs.State.{SysState, with_machine}
+use Rattle.whole_system.specs.State.{SysState, part_at, with_machine, with_part}
 use Rattle.port_calls.specs.Traffic.{Brings, heard_at, hears_from, hears_in, is_on, notified}
 
 -- a number that an option has
@@ -204,7 +205,7 @@ nameless conf chan n q ps none = rw (no_port conf q chan ps.made (part_of conf q
 
 -- each partition hears as the machine has it
 hears_as : (g : Machine) (chan n : ℕ) (bytes : List ℕ) (q : ℕ) (ps : PartitionState) → Brings g.system.conf chan n
-    → heard_at g.system.conf chan n q ps ≡ hearing (view_of g.system q) (heard_as (name_of g.system.conf q) (Puts chan bytes)) ps
+    → heard_at g.system.conf chan n q ps ≡ hearing (view_of g.system q) (heard_as g.system.conf q (Puts chan bytes)) ps
 hears_as g chan n bytes q ps brings = at (name_of g.system.conf q chan) refl
   where
     at : (o : Option ℕ) → name_of g.system.conf q chan ≡ o → heard_at g.system.conf chan n q ps ≡ hearing (view_of g.system q) (own_puts_at o bytes) ps
@@ -212,7 +213,7 @@ hears_as g chan n bytes q ps brings = at (name_of g.system.conf q chan) refl
     at (Some m) is = by_name g chan n q ps m is brings
 
 -- nothing is heard of a message that is taken
-takes_unheard : (g : Machine) (chan q : ℕ) (ps : PartitionState) → ps ≡ hearing (view_of g.system q) (heard_as (name_of g.system.conf q) (Takes chan)) ps
+takes_unheard : (g : Machine) (chan q : ℕ) (ps : PartitionState) → ps ≡ hearing (view_of g.system q) (heard_as g.system.conf q (Takes chan)) ps
 takes_unheard g chan q ps = at (name_of g.system.conf q chan)
   where
     at : (o : Option ℕ) → ps ≡ hearing (view_of g.system q) (own_takes_at o) ps
@@ -230,14 +231,14 @@ pub put_trades : (g : Machine) (chan n : ℕ) (bytes : List ℕ) → Brings g.sy
 put_trades g chan n bytes brings =
     ap (λ (contents : List Content). notified chan n (record g { channels = contents })) (put_pass g.time chan bytes g.channels)
     ∙ ap (λ (parts : List PartitionState). record g { parts = parts; channels = each (after_traffic g.time (Puts chan bytes)) g.channels })
-    (each_alike (heard_at g.system.conf chan n) (λ q ps. hearing (view_of g.system q) (heard_as (name_of g.system.conf q) (Puts chan bytes)) ps) g.parts (λ q ps. hears_as g chan n bytes q ps brings))
+    (each_alike (heard_at g.system.conf chan n) (λ q ps. hearing (view_of g.system q) (heard_as g.system.conf q (Puts chan bytes)) ps) g.parts (λ q ps. hears_as g chan n bytes q ps brings))
 
 -- the machine after a message that is taken
 pub take_trades : (g : Machine) (chan : ℕ) → record g { channels = changed first_taken chan g.channels } ≡ with_traffic (Takes chan) g
 take_trades g chan =
     ap (λ (contents : List Content). record g { channels = contents }) (taken_pass g.time chan g.channels)
     ∙ ap (λ (parts : List PartitionState). record g { parts = parts; channels = each (after_traffic g.time (Takes chan)) g.channels })
-    (each_same (λ q ps. hearing (view_of g.system q) (heard_as (name_of g.system.conf q) (Takes chan)) ps) g.parts (λ q ps. takes_unheard g chan q ps))
+    (each_same (λ q ps. hearing (view_of g.system q) (heard_as g.system.conf q (Takes chan)) ps) g.parts (λ q ps. takes_unheard g chan q ps))
 
 -- the system after a message that is put
 pub put_done : (old new : SysState) (before after : ChannelTable) (chan n : ℕ) (bytes : List ℕ) → before.contents ≡ old.machine.channels → before.shapes ≡ old.shapes → after ≡ with_content (put old.machine.time bytes) chan before → Brings old.machine.system.conf chan n
@@ -249,6 +250,33 @@ put_done old new before after chan n bytes contents shapes after_is brings new_i
     ∙ ap (λ (held : List Content). with_machine (notified chan n (record old.machine { channels = changed (put old.machine.time bytes) chan held })) (record { machine = old.machine; shapes = before.shapes })) contents
     ∙ ap (λ (s : List Shape). with_machine (notified chan n (record old.machine { channels = changed (put old.machine.time bytes) chan old.machine.channels })) (record { machine = old.machine; shapes = s })) shapes
     ∙ ap (λ (g : Machine). with_machine g old) (put_trades old.machine chan n bytes brings)
+
+-- one element that is put is one that is changed
+put_changed : {X : Type 0} (f : X → X) (xs : List X) (n : ℕ) (d : X) → n < length xs → set xs n (f (get_or xs n d)) ≡ changed f n xs
+put_changed f [] n d below = absurd (omega (arith, below))
+put_changed f (x ∷ xs) zero d below = refl
+put_changed f (x ∷ xs) (suc n) d below = ap (λ rest. x ∷ rest) (put_changed f xs n d (omega (arith, below)))
+
+-- the machine after a signal over a link to a partition
+pub signal_trades : (g : Machine) (p number dest : ℕ) → linked g.system.conf p number ≡ Some dest → dest < length g.parts
+    → with_part dest (hearing (view_of g.system dest) (OwnSignals number) (part_at dest g)) g ≡ with_traffic (Signals p number) g
+signal_trades g p number dest is below =
+    ap (λ (parts : List PartitionState). record g { parts = parts })
+    (put_changed raised_so g.parts dest (booted_part g.system dest) below
+    ∙ changed_pass raised_so (λ q. dest == q) dest g.parts (grind (arith)) (λ k differs. grind (arith, nat_tests))
+    ∙ each_alike (λ q ps. if dest == q then raised_so ps else ps) (λ q ps. hearing (view_of g.system q) (heard_as g.system.conf q (Signals p number)) ps) g.parts (λ q ps. heard q ps))
+    ∙ ap (λ (contents : List Content). record g { parts = each (λ q ps. hearing (view_of g.system q) (heard_as g.system.conf q (Signals p number)) ps) g.parts; channels = contents })
+    (each_same (after_traffic g.time (Signals p number)) g.channels (λ c content. refl))
+  where
+    raised_so : PartitionState → PartitionState
+    raised_so ps = interrupted (Some (link_signal number)) ps
+
+    by : (q : ℕ) (ps : PartitionState) (b : Bool) → (if b then raised_so ps else ps) ≡ hearing (view_of g.system q) (own_signals_at b number) ps
+    by q ps true = refl
+    by q ps false = refl
+
+    heard : (q : ℕ) (ps : PartitionState) → (if dest == q then raised_so ps else ps) ≡ hearing (view_of g.system q) (heard_as g.system.conf q (Signals p number)) ps
+    heard q ps = by q ps (dest == q) ∙ ap (λ o. hearing (view_of g.system q) (own_signals_at (is_number o q) number) ps) (sym is)
 
 -- the interrupt of a kind of channel
 of_sampling : (kind : ChanKind) → IsSampling kind → interrupt_of kind ≡ 3

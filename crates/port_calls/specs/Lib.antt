@@ -2,3 +2,4 @@ pub mod MadePorts
 pub mod Messages
 pub mod PortNames
 pub mod Traffic
+pub mod Links

@@ -151,7 +151,7 @@ fn put(sys: &mut Sys, port: MadePort, bytes: &[u8])
 
 /// Sets the result of a call.
 #[tactic(auto, unfolding(whole_system::specs::Serving::caller_of, machine_model::specs::Caller::with_answer))]
-fn set_result(sys: &mut Sys, site: CallSite, value: u32)
+pub(crate) fn set_result(sys: &mut Sys, site: CallSite, value: u32)
     requires { IsCaller site sys.old }
     ensures { sys.new ≡ with_machine (with_part site.part (with_answer value (caller_of site sys.old).state) sys.old.machine) sys.old }
 {

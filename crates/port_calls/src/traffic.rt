@@ -1,10 +1,11 @@
-//! Messages that are put into channels and taken from them, and the partitions that hear of them.
+//! Messages that are put into channels and taken from them, signals over links, and the partitions that hear of them.
 
 ghost use Rattle.std.specs.Prelude.{◌≡◌, ◌↔◌, ◌<◌, ◌≤◌, IsErr, IsSomeAnd, OnErr, OnOk, Some, length};
 ghost use Rattle.xm_ports.specs.Channels.{FitsChannel, HasQueue, HasSampling, IsFull, content_at, first_message, shapes_of};
 ghost use Rattle.slot_runs.specs.Passes.{with_traffic};
-ghost use Rattle.machine_model.specs.Traffic.{Puts, Takes, interrupted, is_destination};
-ghost use Rattle.machine_model.specs.View.{part_of};
+ghost use Rattle.machine_model.specs.Told.{OwnSignals};
+ghost use Rattle.machine_model.specs.Traffic.{Puts, Takes, hearing, interrupted, is_destination};
+ghost use Rattle.machine_model.specs.View.{part_of, view_of};
 ghost use Rattle.port_calls.specs.MadePorts.{table_in};
 ghost use Rattle.whole_system.specs.State.{part_at, with_machine, with_part};
 ghost use Rattle.port_calls.specs.Traffic.{heard_at, hears_from, hears_in, is_on, notified};
@@ -22,6 +23,9 @@ const SAMPLING_PORT: u8 = 3;
 
 /// The interrupt that a message in a queue brings.
 const QUEUING_PORT: u8 = 4;
+
+/// The interrupt that a signal over a link of number 0 brings. Those of the other numbers follow it.
+const LINK_SIGNAL: u8 = 8;
 
 /// Writes a message to a sampling channel. The partitions that hear it are interrupted.
 pub fn put_sampling(sys: &mut Sys, chan: u8, bytes: &[u8])
@@ -61,6 +65,15 @@ pub fn drop_first(sys: &mut Sys, chan: u8)
 {
     let mut message = [0; MESSAGE_BYTES];
     sys.channels_mut().receive(chan, &mut message);
+}
+
+/// Signals over a link of a number to a partition: the link's interrupt is pending there, unless the partition has halted.
+pub fn signal(sys: &mut Sys, dest: PartId, number: u8)
+    requires there { dest < length sys.old.machine.parts }
+    requires number { number < 8 }
+    ensures { sys.new ≡ with_machine (with_part dest (hearing (view_of sys.old.machine.system dest) (OwnSignals number) (part_at dest sys.old.machine)) sys.old.machine) sys.old }
+{
+    raise_at(sys, dest, LINK_SIGNAL + number);
 }
 
 /// Makes an interrupt pending at each partition that hears what is put into a channel.

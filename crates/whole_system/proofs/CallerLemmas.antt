@@ -131,7 +131,7 @@ untraded_act (act.Whole whole.Maintenance) = refl
 untraded_act (act.Event event word) = refl
 
 -- and none under any names of channels
-pub still_act : (conf : Conf) (p : ℕ) (act : Act) → told_as (named conf p) (own_traffic (upshot_of act)) ≡ Still
+pub still_act : (conf : Conf) (p : ℕ) (act : Act) → told_as conf p (own_traffic (upshot_of act)) ≡ Still
 still_act conf p act.Nothing = refl
 still_act conf p (act.Upon id order) = refl
 still_act conf p (act.Ask plan) = refl

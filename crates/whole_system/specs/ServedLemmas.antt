@@ -32,7 +32,7 @@ served_after : (p : ℕ) (sight : Sight) (s : Served) (answer : code.Served) (ol
 served_after p sight s answer old mid new ps changed served =
     subst (λ (m : SysState). IsServed p sight s answer m new → IsServed p sight s answer old new) (sym changed)
     (λ later. record {
-      state = later.state ∙ ap (λ (parts : List PartitionState). with_machine (traded (traffic_by answer.note s.after.memory) (record old.machine { parts = parts })) old) (set-set old.machine.parts p ps s.after);
+      state = later.state ∙ ap (λ (parts : List PartitionState). with_machine (traded (traffic_by p answer.note s.after.memory) (record old.machine { parts = parts })) old) (set-set old.machine.parts p ps s.after);
       told = later.told;
       upshot = later.upshot;
       traffic = later.traffic;

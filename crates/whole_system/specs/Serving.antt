@@ -9,8 +9,8 @@ use Rattle.machine_model.specs.Observed.{observed_by}
 use Rattle.machine_model.specs.Partition.{areas_of}
 use Rattle.machine_model.specs.Told as told
 use Rattle.machine_model.specs.Told.{Act, OwnStill, OwnTraffic, Sight, Told}
-use Rattle.machine_model.specs.Traffic.{Puts, Still, Takes, Traffic, told_as, traffic_of}
-use Rattle.machine_model.specs.View.{named, view_of}
+use Rattle.machine_model.specs.Traffic.{Puts, Signals, Still, Takes, Traffic, told_as, traffic_of}
+use Rattle.machine_model.specs.View.{view_of}
 use Rattle.slot_runs.specs.Passes.{part_at, traded, with_part}
 use Rattle.whole_system.specs.State.{SysState, areas_in, with_machine}
 use Rattle.whole_system.specs.declared.call_site.CallSite.{CallSite}
@@ -65,16 +65,18 @@ told_by (note.Put chan at size) memory = []
 told_by (note.Take chan) memory = []
 told_by (note.Saw at size) memory = []
 told_by note.NotKept memory = []
+told_by (note.Signal number) memory = []
 
--- the traffic that a note reports
-abbrev pub traffic_by : Note → Memory → Traffic
-traffic_by note.Nothing memory = Still
-traffic_by (note.Console at size) memory = Still
-traffic_by (note.Trace entry) memory = Still
-traffic_by (note.Put chan at size) memory = Puts chan (bytes_at memory at size)
-traffic_by (note.Take chan) memory = Takes chan
-traffic_by (note.Saw at size) memory = Still
-traffic_by note.NotKept memory = Still
+-- the traffic that a note of partition p tells
+abbrev pub traffic_by : ℕ → Note → Memory → Traffic
+traffic_by p note.Nothing memory = Still
+traffic_by p (note.Console at size) memory = Still
+traffic_by p (note.Trace entry) memory = Still
+traffic_by p (note.Put chan at size) memory = Puts chan (bytes_at memory at size)
+traffic_by p (note.Take chan) memory = Takes chan
+traffic_by p (note.Saw at size) memory = Still
+traffic_by p note.NotKept memory = Still
+traffic_by p (note.Signal number) memory = Signals p number
 
 -- what a note reports of what the call was shown
 abbrev pub sight_by : Note → Memory → Sight
@@ -85,6 +87,7 @@ sight_by (note.Put chan at size) memory = told.Unseen
 sight_by (note.Take chan) memory = told.Unseen
 sight_by (note.Saw at size) memory = told.Words (bytes_at memory at size)
 sight_by note.NotKept memory = told.NotKept
+sight_by (note.Signal number) memory = told.Unseen
 
 -- the bytes that a note names may be read; those for the console are not too many
 abbrev pub CanBeTold : Note → List Area → Type 0
@@ -95,6 +98,7 @@ CanBeTold (note.Put chan at size) areas = all_from (is_readable areas) at size �
 CanBeTold (note.Take chan) areas = Unit {0}
 CanBeTold (note.Saw at size) areas = all_from (is_readable areas) at size ≡ true
 CanBeTold note.NotKept areas = Unit {0}
+CanBeTold (note.Signal number) areas = Unit {0}
 
 -- the upshot that is told
 abbrev pub upshot_of : code_act.Act → Upshot
@@ -131,10 +135,10 @@ own_traffic (Meets event word) = OwnStill
 
 -- a call of partition p that was shown this came to what is stated: what it leaves of the caller and of the channels, what it tells, and how it reaches beyond the caller
 pub record IsServed (p : ℕ) (sight : Sight) (s : Served) (answer : code.Served) (old new : SysState) : Type 0 where
-  pub state : new ≡ with_machine (traded (traffic_by answer.note s.after.memory) (with_part p s.after old.machine)) old
+  pub state : new ≡ with_machine (traded (traffic_by p answer.note s.after.memory) (with_part p s.after old.machine)) old
   pub told : s.told ≡ told_by answer.note s.after.memory
   pub upshot : untraded s.upshot ≡ upshot_of answer.act
-  pub traffic : told_as (named old.machine.system.conf p) (own_traffic s.upshot) ≡ traffic_by answer.note s.after.memory
+  pub traffic : told_as old.machine.system.conf p (own_traffic s.upshot) ≡ traffic_by p answer.note s.after.memory
   pub seen : sight ≡ sight_by answer.note s.after.memory
   pub readable : CanBeTold answer.note (areas_in p old.machine)
   pub one : IsUponOne answer.act old

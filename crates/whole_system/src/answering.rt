@@ -7,6 +7,7 @@ ghost use Rattle.machine_model.specs.Told.{Unseen, Words};
 ghost use Rattle.whole_system.specs.Serving.{IsCaller, IsServed, IsUponOne, MayRead, caller_of, upshot_of};
 ghost use Rattle.whole_system.specs.Shown.{seen_when};
 ghost use Rattle.whole_system.specs.State.{with_machine, with_part};
+ghost use Rattle.xm_conf.specs.Limits.{most_parts};
 
 use crate::call_site::CallSite;
 use crate::served::{Act, Note, Served};
@@ -95,7 +96,7 @@ pub fn target(sys: &Sys, site: CallSite, id: u32) -> Option<u32>
     requires { IsCaller site sys.now }
     ensures value { result ≡ target (caller_of site sys.now) id }
     ensures there { IfNone result (id < length sys.now.machine.parts) }
-    ensures few { IfNone result (id < 16) }
+    ensures few { IfNone result (id < most_parts) }
 {
     let count = u32::from(sys.count());
     if id == u32::from(site.part) {

@@ -22,6 +22,8 @@ pub enum Note {
     Saw { at: u32, size: u32 },
     /// The caller was told that an entry of another partition is not kept.
     NotKept,
+    /// The caller signalled over its link of this number.
+    Signal { number: u8 },
 }
 
 /// How a hypercall reaches beyond the state of its caller. It is told, and not done.

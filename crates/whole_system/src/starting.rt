@@ -4,6 +4,7 @@ ghost use Rattle.std.specs.Prelude.{◌≡◌, ◌≤◌, IfOk, map, length};
 ghost use Rattle.guest_memory.specs.Loading.{memory_areas, zeros_in};
 ghost use Rattle.loaded_system.specs.System.{IsSystem};
 ghost use Rattle.whole_system.specs.State.{booted_own, loaded_all};
+ghost use Rattle.xm_conf.specs.Limits.{most_parts};
 
 use crate::own_state::PartState;
 use guest_memory::Ram;
@@ -49,7 +50,7 @@ pub(crate) fn boot_parts(alloc: Global, system: &System) -> Result<Vec<PartState
 #[tactic(auto, unfolding(xm_conf::specs::Description::described))]
 pub(crate) fn count(system: &System) -> u8
     ensures value { result ≡ length system.now.conf.parts }
-    ensures few { result ≤ 16 }
+    ensures few { result ≤ most_parts }
     ensures system { IsSystem system.now }
 {
     system.conf().raw().parts.len() as u8

@@ -21,6 +21,7 @@ ghost use Rattle.whole_system.specs.State.{any_timed, areas_in, memory_of, part_
 ghost use Rattle.whole_system.specs.Lending.{LendsChannels, LendsPart, LendsPlanClock};
 ghost use Rattle.virt_traps.specs.Stepping.{stepped};
 ghost use Rattle.whole_system.specs.Stepping.{IsGone, behind_flush, behind_return, delivered_to, flushed_in, returned_in, with_turned};
+ghost use Rattle.xm_conf.specs.Limits.{most_parts};
 
 use crate::gone::Gone;
 use crate::inputs::Inputs;
@@ -217,7 +218,7 @@ impl Sys {
     pub fn count(&self) -> u8
         ensures value { result ≡ length self.now.machine.parts }
         ensures parts { length self.now.machine.parts ≡ length self.now.machine.system.conf.parts }
-        ensures few { result ≤ 16 }
+        ensures few { result ≤ most_parts }
     {
         count(&self.system)
     }
