@@ -18,7 +18,7 @@ use Rattle.machine_model.specs.Partition.{PartitionState}
 use Rattle.machine_model.specs.Told as told
 use Rattle.machine_model.specs.Told.{NoEvent, NotKept, OwnStill, OwnTraffic, Sight, Told, Unseen, Words, line_of}
 use Rattle.machine_model.specs.Traffic.{told_as, traffic_of}
-use Rattle.machine_model.specs.View.{PartitionView, named, view_of}
+use Rattle.machine_model.specs.View.{PartitionView, view_of}
 use Rattle.machine_model.specs.Whole.{event_of}
 use Rattle.slot_runs.specs.Passes.{part_at, traded, traffic_in, with_part}
 use Rattle.alone_passes.specs.Taking.{asks_entry, takes_sight}
@@ -75,7 +75,7 @@ observed_done p caller x old new mild after_is new_is =
       state = new_is
           ∙ ap (λ (y : PartitionState). with_machine (with_part p (clocked y) old.machine) old) (sym after_is)
           ∙ ap (λ (y : PartitionState). with_machine (with_part p y old.machine) old) (sym f.after)
-          ∙ sym (ap (λ (own : OwnTraffic). with_machine (traded (told_as (named old.machine.system.conf p) own) (with_part p w.after old.machine)) old) f.traffic);
+          ∙ sym (ap (λ (own : OwnTraffic). with_machine (traded (told_as old.machine.system.conf p own) (with_part p w.after old.machine)) old) f.traffic);
       lines = ap (map (line_of old.machine.ticks p)) none;
       event = f.event;
       readable = tt;

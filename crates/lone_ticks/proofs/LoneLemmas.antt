@@ -17,7 +17,7 @@ use Rattle.machine_model.specs.LocalTick.{LocalTick, local_tick}
 use Rattle.machine_model.specs.Machine.{Machine, act_of, copies, is_halt, obeyed, obeyed_told}
 use Rattle.machine_model.specs.Partition.{PartitionState, reset, takes_turns}
 use Rattle.machine_model.specs.Structures.{flag}
-use Rattle.machine_model.specs.Told.{NotKept, OwnPuts, OwnStill, OwnTakes, OwnTraffic, Sight, Told, Unseen, Words, line_of}
+use Rattle.machine_model.specs.Told.{NotKept, OwnPuts, OwnSignals, OwnStill, OwnTakes, OwnTraffic, Sight, Told, Unseen, Words, line_of}
 use Rattle.machine_model.specs.View.{PartitionView, System, named, view_of}
 use Rattle.machine_model.specs.Whole.{AllHalted, AllReset, NoEvent, WholeEvent, event_lines, event_of}
 use Rattle.slot_runs.specs.Passes.{part_at, traded, with_part}
@@ -33,7 +33,7 @@ use Rattle.system_ticks.specs.declared.cue.Mine as code_mine
 use Rattle.system_ticks.specs.declared.cue.Mine.TheVariants as its
 use Rattle.lone_ticks.specs.LoneWork.{IsLoneTick, IsLoneTicked, traffic_done}
 use Rattle.system_ticks.specs.Machine.{IsMachine}
-use Rattle.lone_ticks.proofs.PutLemmas.{is_traded}
+use Rattle.lone_ticks.proofs.PutLemmas.{is_told}
 use Rattle.system_ticks.specs.KeptLemmas.{facts_at}
 
 -- what a message of others is on is a channel that the partition has
@@ -52,6 +52,7 @@ called_by conf p (OwnPuts q bytes) can =
     let some = length_some (heard_in p (numbered_chan conf (named conf p q))) (length bytes) can.fits in
     heard_there conf p (named conf p q) some.0 some.1
 called_by conf p (OwnTakes q) can = tt
+called_by conf p (OwnSignals number) can = tt
 
 -- the system after all passes of a tick in the slot of another partition, or in a gap
 pub away_state : (p : ℕ) (cue : Cue) (old s1 s2 s3 s4 : SysState) → s1 ≡ with_machine (traffic_done true old.machine p cue.traffic) old
@@ -74,7 +75,7 @@ away_told p cue old s1 s2 had between got none e1 e2 first last =
     ∙ ap (λ (s : SysState). between ++ event_lines s.machine.ticks cue.whole p) e2
     ∙ ap (λ (lines : List ReportLine). lines ++ event_lines s1.machine.ticks cue.whole p) (first ∙ ap (λ (lines : List ReportLine). lines ++ map (line_of s1.machine.ticks p) (obeyed_told cue.order (part_at p s1.machine))) none)
     ∙ ap (λ (s : SysState). map (line_of s.machine.ticks p) (obeyed_told cue.order (part_at p s.machine)) ++ event_lines s.machine.ticks cue.whole p) e1
-    ∙ ap (λ (n : ℕ). map (line_of n p) (obeyed_told cue.order (part_at p (told_traffic p cue.traffic old.machine))) ++ event_lines n cue.whole p) (is_traded _ old.machine).ticks
+    ∙ ap (λ (n : ℕ). map (line_of n p) (obeyed_told cue.order (part_at p (told_traffic p cue.traffic old.machine))) ++ event_lines n cue.whole p) (is_told p cue.traffic old.machine).ticks
 
 -- a tick in the slot of another partition, or in a gap, that was done
 pub away_done : AwayTicks → TakesAway → PassesKeep → (p : ℕ) (cue : Cue) (old new : SysState) (got : List ReportLine) → p < length old.machine.parts → old.machine.halted ≡ false
@@ -137,7 +138,7 @@ its_away view a cue mine away = subst (λ (slot : CueSlot). IsItsOwn slot view a
 
 -- there are as many partitions after each pass
 done_length : (b : Bool) (g : Machine) (p : ℕ) (own : OwnTraffic) → length (traffic_done b g p own).parts ≡ length g.parts
-done_length true g p own = (is_traded _ g).parts
+done_length true g p own = (is_told p own g).parts
 done_length false g p own = refl
 
 pub heard_below : (b : Bool) (p : ℕ) (own : OwnTraffic) (old new : SysState) → p < length old.machine.parts → new ≡ with_machine (traffic_done b old.machine p own) old → p < length new.machine.parts

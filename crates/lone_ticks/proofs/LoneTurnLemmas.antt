@@ -23,11 +23,11 @@ use Rattle.machine_model.specs.Laws.{ActsWithinBounds, part}
 use Rattle.machine_model.specs.LocalTick.{LocalTick, bounded, local_tick, worked}
 use Rattle.machine_model.specs.Machine.{Machine, act_of as act_in, booted_part, copies, is_halt}
 use Rattle.machine_model.specs.Observed.{asks}
-use Rattle.machine_model.specs.Partition.{PartitionState, is_halted, takes_turns}
+use Rattle.machine_model.specs.Partition.{PartitionState, is_halted, link_signal, takes_turns}
 use Rattle.machine_model.specs.Structures.{flag}
-use Rattle.machine_model.specs.Told.{OwnPuts, OwnStill, OwnTakes, OwnTraffic, Sight, Told, line_of}
-use Rattle.machine_model.specs.Traffic.{Puts, Still, Takes, Traffic, after_message, heard_as, heard_from, hearing, interrupted}
-use Rattle.machine_model.specs.View.{PartitionView, System, name_of, view_of}
+use Rattle.machine_model.specs.Told.{OwnPuts, OwnSignals, OwnStill, OwnTakes, OwnTraffic, Sight, Told, line_of}
+use Rattle.machine_model.specs.Traffic.{Puts, Signals, Still, Takes, Traffic, after_message, heard_as, heard_from, hearing, interrupted}
+use Rattle.machine_model.specs.View.{PartitionView, System, view_of}
 use Rattle.machine_model.specs.Whole.{AllHalted, AllReset, NoEvent, WholeEvent, event_lines, event_of}
 use Rattle.slot_runs.specs.Passes.{part_at, traded, traffic_in, with_part}
 use Rattle.virt_traps.specs.Virtual.{raised}
@@ -65,15 +65,19 @@ unfolding after_message
 hearing_memory view OwnStill ps = refl
 hearing_memory view (OwnPuts q bytes) ps = interrupted_memory (heard_from q view.part.ports ps.made view.channels) ps
 hearing_memory view (OwnTakes q) ps = refl
+hearing_memory view (OwnSignals number) ps = interrupted_memory (Some (link_signal number)) ps
 
 traded_memory : (t : Traffic) (p : ℕ) (x : PartitionState) (g : Machine) → p < length g.parts → memory_of p (traded t (with_part p x g)) ≡ x.memory
 traded_memory Still p x g below = ap (λ (ps : PartitionState). ps.memory) (get_or-set_same g.parts p x (booted_part g.system p) below)
 traded_memory (Puts channel bytes) p x g below =
-    ap (λ (ps : PartitionState). ps.memory) (at_each_set (λ q ps. hearing (view_of g.system q) (heard_as (name_of g.system.conf q) (Puts channel bytes)) ps) g.parts p x (booted_part g.system p) below)
-    ∙ hearing_memory (view_of g.system p) (heard_as (name_of g.system.conf p) (Puts channel bytes)) x
+    ap (λ (ps : PartitionState). ps.memory) (at_each_set (λ q ps. hearing (view_of g.system q) (heard_as g.system.conf q (Puts channel bytes)) ps) g.parts p x (booted_part g.system p) below)
+    ∙ hearing_memory (view_of g.system p) (heard_as g.system.conf p (Puts channel bytes)) x
 traded_memory (Takes channel) p x g below =
-    ap (λ (ps : PartitionState). ps.memory) (at_each_set (λ q ps. hearing (view_of g.system q) (heard_as (name_of g.system.conf q) (Takes channel)) ps) g.parts p x (booted_part g.system p) below)
-    ∙ hearing_memory (view_of g.system p) (heard_as (name_of g.system.conf p) (Takes channel)) x
+    ap (λ (ps : PartitionState). ps.memory) (at_each_set (λ q ps. hearing (view_of g.system q) (heard_as g.system.conf q (Takes channel)) ps) g.parts p x (booted_part g.system p) below)
+    ∙ hearing_memory (view_of g.system p) (heard_as g.system.conf p (Takes channel)) x
+traded_memory (Signals source number) p x g below =
+    ap (λ (ps : PartitionState). ps.memory) (at_each_set (λ q ps. hearing (view_of g.system q) (heard_as g.system.conf q (Signals source number)) ps) g.parts p x (booted_part g.system p) below)
+    ∙ hearing_memory (view_of g.system p) (heard_as g.system.conf p (Signals source number)) x
 
 -- what the end of a tick needs of a machine whose partition did its work
 pub record CanEnd (p : ℕ) (sys : SysState) : Type 0 where
@@ -173,6 +177,7 @@ console_stands p w (note.Put chan at size) reach g below alone same = refl
 console_stands p w (note.Take chan) reach g below alone same = refl
 console_stands p w (note.Saw at size) reach g below alone same = refl
 console_stands p w note.NotKept reach g below alone same = refl
+console_stands p w (note.Signal number) reach g below alone same = refl
 
 -- a tick in which a partition took its turn
 pub record IsTurn (p : ℕ) (first : Bool) (cue : Cue) (old : SysState) : Type 0 where

@@ -5,10 +5,12 @@ use Rattle.whole_system.specs.State.{SysState, with_machine}
 use Rattle.whole_system.specs.StateLemmas.{part_set}
 use Rattle.machine_model.specs.Machine.{Machine, booted_part}
 use Rattle.machine_model.specs.Partition.{PartitionState}
-use Rattle.machine_model.specs.Traffic.{Puts, Still, Takes, Traffic, heard_as, hearing}
-use Rattle.machine_model.specs.View.{name_of, view_of}
+use Rattle.machine_model.specs.Told.{OwnPuts, OwnSignals, OwnStill, OwnTakes, OwnTraffic}
+use Rattle.machine_model.specs.Traffic.{Puts, Signals, Still, Takes, Traffic, heard_as, hearing, puts_at, takes_at}
+use Rattle.machine_model.specs.View.{named, view_of}
 use Rattle.slot_runs.specs.Passes.{part_at, traded, with_part}
 use Rattle.system_ticks.specs.ListLemmas.{each_length}
+use Rattle.alone_passes.specs.Passes.{told_traffic}
 
 -- a partition that stays as it is
 pub put_back : (p : ℕ) (sys : SysState) → with_machine (with_part p (part_at p sys.machine) sys.machine) sys ≡ sys
@@ -40,12 +42,27 @@ is_traded (Puts channel bytes) g = record {
   clock = refl;
   time = refl;
   ticks = refl;
-  parts = each_length (λ q ps. hearing (view_of g.system q) (heard_as (name_of g.system.conf q) (Puts channel bytes)) ps) g.parts;
+  parts = each_length (λ q ps. hearing (view_of g.system q) (heard_as g.system.conf q (Puts channel bytes)) ps) g.parts;
 }
 is_traded (Takes channel) g = record {
   system = refl;
   clock = refl;
   time = refl;
   ticks = refl;
-  parts = each_length (λ q ps. hearing (view_of g.system q) (heard_as (name_of g.system.conf q) (Takes channel)) ps) g.parts;
+  parts = each_length (λ q ps. hearing (view_of g.system q) (heard_as g.system.conf q (Takes channel)) ps) g.parts;
 }
+is_traded (Signals source number) g = record {
+  system = refl;
+  clock = refl;
+  time = refl;
+  ticks = refl;
+  parts = each_length (λ q ps. hearing (view_of g.system q) (heard_as g.system.conf q (Signals source number)) ps) g.parts;
+}
+
+-- so does traffic of others that a partition is told of
+pub is_told : (p : ℕ) (own : OwnTraffic) (g : Machine) → IsTraded g (told_traffic p own g)
+is_told p OwnStill g = is_traded Still g
+is_told p (OwnPuts q bytes) g = is_traded (puts_at (named g.system.conf p q) bytes) g
+is_told p (OwnTakes q) g = is_traded (takes_at (named g.system.conf p q)) g
+is_told p (OwnSignals number) g =
+    record { system = refl; clock = refl; time = refl; ticks = refl; parts = length-set g.parts p (hearing (view_of g.system p) (OwnSignals number) (part_at p g)) }

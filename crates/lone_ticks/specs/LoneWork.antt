@@ -12,14 +12,14 @@ use Rattle.machine_model.specs.Machine.{Machine}
 use Rattle.machine_model.specs.Observed.{Observation}
 use Rattle.machine_model.specs.Partition.{PartitionState, is_halted}
 use Rattle.machine_model.specs.Told.{NotKept, OwnTraffic, Sight, Unseen, Words, line_of}
-use Rattle.machine_model.specs.Traffic.{Puts, Takes, told_as}
-use Rattle.machine_model.specs.View.{named, view_of}
+use Rattle.machine_model.specs.Traffic.{Puts, Takes}
+use Rattle.machine_model.specs.View.{view_of}
 use Rattle.machine_model.specs.Whole.{event_of}
 use Rattle.slot_runs.specs.Passes.{part_at, traded, traffic_in, with_part, with_traffic}
 use Rattle.whole_system.specs.Serving.{CanBeTold}
 use Rattle.whole_system.specs.State.{SysState, areas_in, memory_of, with_machine}
 use Rattle.whole_system.specs.declared.served.Note.{Note}
-use Rattle.alone_passes.specs.Passes.{part_in}
+use Rattle.alone_passes.specs.Passes.{part_in, told_traffic}
 use Rattle.alone_passes.specs.Step.{IsLone}
 use Rattle.alone_passes.specs.Taking.{is_empty_copy, asks_entry, is_queue_full, takes_cue, takes_sight}
 use Rattle.system_ticks.specs.Work.{TellsAlone, act_beyond, console_told}
@@ -28,7 +28,7 @@ use Rattle.lone_ticks.specs.declared.work.LoneWork.{LoneWork}
 
 -- the machine after the traffic of others under partition p's names, where it can be
 abbrev pub traffic_done : Bool → Machine → ℕ → OwnTraffic → Machine
-traffic_done true g p own = traded (told_as (named g.system.conf p) own) g
+traffic_done true g p own = told_traffic p own g
 traffic_done false g p own = g
 
 -- a channel of the configuration may get these bytes as a message

@@ -1,9 +1,9 @@
-//! What others do to the channels of one partition.
+//! What others do to the channels of one partition, and which links signal it.
 
 ghost use Rattle.std.specs.Prelude.{◌≡◌, ◌<◌, IsSome, Some, length, slice_get, true};
 ghost use Rattle.cue_scripts.specs.Script.{CanHear, IsHeardMessage, gives_queue, most_heard};
 ghost use Rattle.machine_model.specs.Machine.{copies};
-ghost use Rattle.machine_model.specs.Told.{OwnPuts, OwnTakes};
+ghost use Rattle.machine_model.specs.Told.{OwnPuts, OwnSignals, OwnTakes};
 ghost use Rattle.machine_model.specs.View.{view_of};
 ghost use Rattle.whole_system.specs.State.{with_machine};
 ghost use Rattle.xm_base.specs.Options.{on};
@@ -13,14 +13,14 @@ ghost use Rattle.alone_passes.specs.Taking.{takes_traffic};
 ghost use Rattle.xm_ports.specs.Channels.{IsQueuing, IsSampling, shapes_of};
 
 use hypercalls::Sys;
-use port_calls::{drop_first, put_sampling, send};
+use port_calls::{drop_first, put_sampling, send, signal};
 use system_ticks::Traffic;
 use xm_base::PartId;
 use xm_conf::ChanKind;
 use xm_ports::Full;
 
-/// What others did to a channel of partition `p`, which goes by the partition's name for it. Whether it can be done: a queue that gets a
-/// message is not full, and one that gives a message is not empty. Where it cannot, nothing is.
+/// What others did to a channel of partition `p`, which goes by the partition's name for it, or over a link to it. Whether it can be done: a
+/// queue that gets a message is not full, and one that gives a message is not empty. Where it cannot, nothing is.
 pub(crate) fn hear(sys: &mut Sys, p: PartId, traffic: Traffic<'_>) -> bool
     requires partition { p < length sys.old.machine.parts }
     requires shapes { sys.old.shapes ≡ shapes_of sys.old.machine.system.conf }
@@ -32,6 +32,7 @@ pub(crate) fn hear(sys: &mut Sys, p: PartId, traffic: Traffic<'_>) -> bool
         Traffic::Nothing => true,
         Traffic::Put { chan, bytes } => hear_put(sys, p, chan, bytes),
         Traffic::Take { chan } => hear_take(sys, p, chan),
+        Traffic::Signal { number } => hear_signal(sys, p, number),
     }
 }
 
@@ -61,6 +62,17 @@ fn hear_take(sys: &mut Sys, p: PartId, name: u8) -> bool
         Some(chan) => take(sys, chan),
         None => true,
     }
+}
+
+// A signal over a link to the partition.
+fn hear_signal(sys: &mut Sys, p: PartId, number: u8) -> bool
+    requires partition { p < length sys.old.machine.parts }
+    requires number { number < 8 }
+    ensures taken { result ≡ takes_traffic (view_of sys.old.machine.system p) (copies sys.old.machine p) (OwnSignals number) }
+    ensures heard { sys.new ≡ with_machine (traffic_done result sys.old.machine p (OwnSignals number)) sys.old }
+{
+    signal(sys, p, number);
+    true
 }
 
 // A message is put into a channel, unless that is a full queue.

@@ -15,11 +15,11 @@ use Rattle.machine_model.specs.Lists.{each}
 use Rattle.machine_model.specs.LocalTick.{by_upshot, called, clocked}
 use Rattle.machine_model.specs.Machine.{Machine, booted_part, sight_for}
 use Rattle.machine_model.specs.Observed.{Observation, observed_by}
-use Rattle.machine_model.specs.Partition.{PartitionState, is_halted}
+use Rattle.machine_model.specs.Partition.{PartitionState, is_halted, link_signal}
 use Rattle.machine_model.specs.Told as told
-use Rattle.machine_model.specs.Told.{OwnPuts, OwnStill, OwnTakes, OwnTraffic, Sight, Told, Trades, Words, line_of}
-use Rattle.machine_model.specs.Traffic.{Puts, Still, Takes, Traffic, after_message, after_traffic, heard_as, heard_from, hearing, interrupted, told_as, traffic_of}
-use Rattle.machine_model.specs.View.{PartitionView, name_of, named, view_of}
+use Rattle.machine_model.specs.Told.{OwnPuts, OwnSignals, OwnStill, OwnTakes, OwnTraffic, Sight, Told, Trades, Words, line_of}
+use Rattle.machine_model.specs.Traffic.{Puts, Signals, Still, Takes, Traffic, after_message, after_traffic, heard_as, heard_from, hearing, interrupted, told_as, traffic_of}
+use Rattle.machine_model.specs.View.{PartitionView, view_of}
 use Rattle.slot_runs.specs.Passes.{part_at, traded, with_part}
 use Rattle.virt_traps.specs.Virtual.{raised}
 use Rattle.xm_report.specs.Report.{ReportLine}
@@ -35,6 +35,7 @@ use Rattle.system_ticks.proofs.ServedLemmas.{kept_parts, served_keeps}
 use Rattle.system_ticks.proofs.ReachLemmas.{no_traffic, one_before, plain_act}
 use Rattle.system_ticks.proofs.WorkLemmas.{done_then, put_back, put_there}
 use Rattle.system_ticks.specs.ListLemmas.{at_each_set, each_length, set_each_set}
+use Rattle.xm_conf.specs.Configuration.{Conf}
 
 -- an interrupt that becomes pending, and a tick that is counted
 counted_interrupted : (heard : Option ℕ) (ps : PartitionState) → clocked (interrupted heard ps) ≡ interrupted heard (clocked ps)
@@ -52,6 +53,7 @@ unfolding after_message clocked
 counted_hearing view OwnStill ps = refl
 counted_hearing view (OwnPuts q bytes) ps = counted_interrupted (heard_from q view.part.ports ps.made view.channels) ps
 counted_hearing view (OwnTakes q) ps = refl
+counted_hearing view (OwnSignals number) ps = counted_interrupted (Some (link_signal number)) ps
 
 -- traffic that is heard keeps the health log and the clock
 kept_interrupted : (heard : Option ℕ) (ps : PartitionState) → kept_parts (interrupted heard ps) ≡ kept_parts ps
@@ -67,17 +69,18 @@ unfolding after_message
 kept_hearing view OwnStill ps = refl
 kept_hearing view (OwnPuts q bytes) ps = kept_interrupted (heard_from q view.part.ports ps.made view.channels) ps
 kept_hearing view (OwnTakes q) ps = refl
+kept_hearing view (OwnSignals number) ps = kept_interrupted (Some (link_signal number)) ps
 
 -- what a partition makes of traffic
 abbrev heard_in : Machine → Traffic → ℕ → PartitionState → PartitionState
-heard_in g traffic q ps = hearing (view_of g.system q) (heard_as (name_of g.system.conf q) traffic) ps
+heard_in g traffic q ps = hearing (view_of g.system q) (heard_as g.system.conf q traffic) ps
 
 -- a tick that is counted after traffic
 counted_traffic : (traffic : Traffic) (p : ℕ) (x : PartitionState) (g : Machine) → p < length g.parts
     → set (each (heard_in g traffic) (set g.parts p x)) p (clocked (get_or (each (heard_in g traffic) (set g.parts p x)) p (booted_part g.system p))) ≡ each (heard_in g traffic) (set g.parts p (clocked x))
 counted_traffic traffic p x g below =
     ap (λ (ps : PartitionState). set (each (heard_in g traffic) (set g.parts p x)) p (clocked ps)) (at_each_set (heard_in g traffic) g.parts p x (booted_part g.system p) below)
-    ∙ ap (λ (ps : PartitionState). set (each (heard_in g traffic) (set g.parts p x)) p ps) (counted_hearing (view_of g.system p) (heard_as (name_of g.system.conf p) traffic) x)
+    ∙ ap (λ (ps : PartitionState). set (each (heard_in g traffic) (set g.parts p x)) p ps) (counted_hearing (view_of g.system p) (heard_as g.system.conf p traffic) x)
     ∙ set_each_set (heard_in g traffic) g.parts p x (clocked x)
 
 counted_traded : (traffic : Traffic) (p : ℕ) (x : PartitionState) (g : Machine) → p < length g.parts
@@ -89,28 +92,35 @@ counted_traded (Puts channel bytes) p x g below =
     ap (λ (parts : List PartitionState). record g { parts = parts; channels = each (after_traffic g.time (Puts channel bytes)) g.channels }) (counted_traffic (Puts channel bytes) p x g below)
 counted_traded (Takes channel) p x g below =
     ap (λ (parts : List PartitionState). record g { parts = parts; channels = each (after_traffic g.time (Takes channel)) g.channels }) (counted_traffic (Takes channel) p x g below)
+counted_traded (Signals source number) p x g below =
+    ap (λ (parts : List PartitionState). record g { parts = parts; channels = each (after_traffic g.time (Signals source number)) g.channels }) (counted_traffic (Signals source number) p x g below)
 
 -- traffic keeps the number of ticks
 pub traded_ticks : (traffic : Traffic) (g : Machine) → (traded traffic g).ticks ≡ g.ticks
 traded_ticks Still g = refl
 traded_ticks (Puts channel bytes) g = refl
 traded_ticks (Takes channel) g = refl
+traded_ticks (Signals source number) g = refl
 
 -- and how many partitions there are
 pub traded_length : (traffic : Traffic) (g : Machine) → length (traded traffic g).parts ≡ length g.parts
 traded_length Still g = refl
 traded_length (Puts channel bytes) g = each_length (heard_in g (Puts channel bytes)) g.parts
 traded_length (Takes channel) g = each_length (heard_in g (Takes channel)) g.parts
+traded_length (Signals source number) g = each_length (heard_in g (Signals source number)) g.parts
 
 -- a partition after traffic has the health log and the clock that it was given
 traded_kept : (traffic : Traffic) (p : ℕ) (x : PartitionState) (g : Machine) → p < length g.parts → kept_parts (part_at p (traded traffic (with_part p x g))) ≡ kept_parts x
 traded_kept Still p x g below = ap kept_parts (get_or-set_same g.parts p x (booted_part g.system p) below)
 traded_kept (Puts channel bytes) p x g below =
     ap kept_parts (at_each_set (heard_in g (Puts channel bytes)) g.parts p x (booted_part g.system p) below)
-    ∙ kept_hearing (view_of g.system p) (heard_as (name_of g.system.conf p) (Puts channel bytes)) x
+    ∙ kept_hearing (view_of g.system p) (heard_as g.system.conf p (Puts channel bytes)) x
 traded_kept (Takes channel) p x g below =
     ap kept_parts (at_each_set (heard_in g (Takes channel)) g.parts p x (booted_part g.system p) below)
-    ∙ kept_hearing (view_of g.system p) (heard_as (name_of g.system.conf p) (Takes channel)) x
+    ∙ kept_hearing (view_of g.system p) (heard_as g.system.conf p (Takes channel)) x
+traded_kept (Signals source number) p x g below =
+    ap kept_parts (at_each_set (heard_in g (Signals source number)) g.parts p x (booted_part g.system p) below)
+    ∙ kept_hearing (view_of g.system p) (heard_as g.system.conf p (Signals source number)) x
 
 -- what a call leaves, with its tick counted
 counted : (p : ℕ) (s : Served) (traffic : Traffic) (old one two : SysState) → p < length old.machine.parts
@@ -131,6 +141,7 @@ told_apart (note.Put chan at size) memory = refl
 told_apart (note.Take chan) memory = refl
 told_apart (note.Saw at size) memory = refl
 told_apart note.NotKept memory = refl
+told_apart (note.Signal number) memory = refl
 
 -- where it reports nothing, no memory shows bytes for the console
 console_none : (a_note : Note) (memory other : Memory) → told_by a_note memory ≡ [] → console_told a_note other ≡ console_told a_note memory
@@ -141,6 +152,7 @@ console_none (note.Put chan at size) memory other none = refl
 console_none (note.Take chan) memory other none = refl
 console_none (note.Saw at size) memory other none = refl
 console_none note.NotKept memory other none = refl
+console_none (note.Signal number) memory other none = refl
 
 -- the bytes for the console are the same after what follows the call
 console_same : (s : Served) (a_note : Note) (view : PartitionView) (time : ℕ) → s.told ≡ told_by a_note s.after.memory → (s.told ≡ []) ⊎ (s.upshot ≡ Acts told.Nothing)
@@ -187,10 +199,10 @@ module _ (p : ℕ) (sight : Sight) (s : Served) (answer : code.Served) (reach : 
   plain_call c plain own_still =
       let view = view_of old.machine.system p in
       let w = by_upshot s.upshot view old.machine.time (clocked s.after) in
-      let still : traffic_by answer.note s.after.memory ≡ Still =
-      sym c.serves.traffic ∙ ap (λ (own : OwnTraffic). told_as (named old.machine.system.conf p) own) own_still in
+      let still : traffic_by p answer.note s.after.memory ≡ Still =
+      sym c.serves.traffic ∙ ap (λ (own : OwnTraffic). told_as old.machine.system.conf p own) own_still in
       let two_is : two ≡ with_machine (with_part p (clocked s.after) old.machine) old =
-      counted p s (traffic_by answer.note s.after.memory) old one two c.below c.serves.state c.counts
+      counted p s (traffic_by p answer.note s.after.memory) old one two c.below c.serves.state c.counts
       ∙ ap (λ (t : Traffic). with_machine (traded t (with_part p (clocked s.after) old.machine)) old) still in
       let upshot_is : upshot_of answer.act ≡ s.upshot = sym c.serves.upshot ∙ plain in
       let follows = subst (λ (u : Upshot). IsPartDone p (following u p two).after (following u p two).told two new between got) upshot_is c.follows in
@@ -220,14 +232,14 @@ module _ (p : ℕ) (sight : Sight) (s : Served) (answer : code.Served) (reach : 
   unfolding clocked
   trading_call own c trades =
       let view = view_of old.machine.system p in
-      let traffic = traffic_by answer.note s.after.memory in
+      let traffic = traffic_by p answer.note s.after.memory in
       let two_is : two ≡ with_machine (traded traffic (with_part p (clocked s.after) old.machine)) old = counted p s traffic old one two c.below c.serves.state c.counts in
       let upshot_is : upshot_of answer.act ≡ Acts told.Nothing = sym c.serves.upshot ∙ ap untraded trades in
       let follows : IsPartDone p (part_at p two.machine) [] two new between got =
       subst (λ (u : Upshot). IsPartDone p (following u p two).after (following u p two).told two new between got) upshot_is c.follows in
       let act_is : told.Nothing ≡ act_beyond reach = sym (ap (λ (u : Upshot). (following u p two).act) upshot_is) ∙ c.act in
-      let traffic_is : told_as (named old.machine.system.conf p) own ≡ traffic =
-      sym (ap (λ (u : Upshot). told_as (named old.machine.system.conf p) (own_traffic u)) trades) ∙ c.serves.traffic in
+      let traffic_is : told_as old.machine.system.conf p own ≡ traffic =
+      sym (ap (λ (u : Upshot). told_as old.machine.system.conf p (own_traffic u)) trades) ∙ c.serves.traffic in
       let ticks : two.machine.ticks ≡ old.machine.ticks =
       ap (λ (sys : SysState). sys.machine.ticks) two_is ∙ traded_ticks traffic (with_part p (clocked s.after) old.machine) in
       let traces = c.traces ∙ ap (λ (n : ℕ). map (line_of n p) (trace_told answer.note)) ticks in
@@ -293,25 +305,25 @@ call_quiet p pc npc answer old one two had below empty serves counts note_is act
     (silent p (part_at p two.machine) two two had (sym (put_back p two))) refl tt
 
 -- a call that put a message does nothing else
-put_alone : (names : ℕ → Option ℕ) (upshot u : Upshot) (chan : ℕ) (bytes : List ℕ) (reach : Beyond) (view : PartitionView) (time : ℕ) (ps : PartitionState)
-    → told_as names (own_traffic upshot) ≡ Puts chan bytes → untraded upshot ≡ u → (by_upshot u view time ps).act ≡ act_beyond reach → act_beyond reach ≡ told.Nothing
-put_alone names (Acts told.Nothing) u chan bytes reach view time ps puts is act = absurd cc
-put_alone names (Acts (Trades own)) u chan bytes reach view time ps puts is act = sym act ∙ ap (λ (upshot : Upshot). (by_upshot upshot view time ps).act) (sym is)
-put_alone names (Acts (told.Upon id order)) u chan bytes reach view time ps puts is act = absurd cc
-put_alone names (Acts (told.Plans change)) u chan bytes reach view time ps puts is act = absurd cc
-put_alone names (Acts (told.UponAll event)) u chan bytes reach view time ps puts is act = absurd cc
-put_alone names (Meets event word) u chan bytes reach view time ps puts is act = absurd cc
+put_alone : (conf : Conf) (p : ℕ) (upshot u : Upshot) (chan : ℕ) (bytes : List ℕ) (reach : Beyond) (view : PartitionView) (time : ℕ) (ps : PartitionState)
+    → told_as conf p (own_traffic upshot) ≡ Puts chan bytes → untraded upshot ≡ u → (by_upshot u view time ps).act ≡ act_beyond reach → act_beyond reach ≡ told.Nothing
+put_alone conf p (Acts told.Nothing) u chan bytes reach view time ps puts is act = absurd cc
+put_alone conf p (Acts (Trades own)) u chan bytes reach view time ps puts is act = sym act ∙ ap (λ (upshot : Upshot). (by_upshot upshot view time ps).act) (sym is)
+put_alone conf p (Acts (told.Upon id order)) u chan bytes reach view time ps puts is act = absurd cc
+put_alone conf p (Acts (told.Plans change)) u chan bytes reach view time ps puts is act = absurd cc
+put_alone conf p (Acts (told.UponAll event)) u chan bytes reach view time ps puts is act = absurd cc
+put_alone conf p (Meets event word) u chan bytes reach view time ps puts is act = absurd cc
 
 -- nor does what follows it change the memory
-put_memory : (names : ℕ → Option ℕ) (u : Upshot) (chan : ℕ) (bytes : List ℕ) (view : PartitionView) (time : ℕ) (ps : PartitionState)
-    → told_as names (own_traffic u) ≡ Puts chan bytes → (by_upshot u view time (clocked ps)).after.memory ≡ ps.memory
+put_memory : (conf : Conf) (p : ℕ) (u : Upshot) (chan : ℕ) (bytes : List ℕ) (view : PartitionView) (time : ℕ) (ps : PartitionState)
+    → told_as conf p (own_traffic u) ≡ Puts chan bytes → (by_upshot u view time (clocked ps)).after.memory ≡ ps.memory
 unfolding clocked
-put_memory names (Acts told.Nothing) chan bytes view time ps puts = refl
-put_memory names (Acts (Trades own)) chan bytes view time ps puts = refl
-put_memory names (Acts (told.Upon id order)) chan bytes view time ps puts = absurd cc
-put_memory names (Acts (told.Plans change)) chan bytes view time ps puts = refl
-put_memory names (Acts (told.UponAll event)) chan bytes view time ps puts = refl
-put_memory names (Meets event word) chan bytes view time ps puts = absurd cc
+put_memory conf p (Acts told.Nothing) chan bytes view time ps puts = refl
+put_memory conf p (Acts (Trades own)) chan bytes view time ps puts = refl
+put_memory conf p (Acts (told.Upon id order)) chan bytes view time ps puts = absurd cc
+put_memory conf p (Acts (told.Plans change)) chan bytes view time ps puts = refl
+put_memory conf p (Acts (told.UponAll event)) chan bytes view time ps puts = refl
+put_memory conf p (Meets event word) chan bytes view time ps puts = absurd cc
 
 -- one that was shown bytes does nothing, or asks for a plan
 mild_alone : (upshot u : Upshot) (reach : Beyond) (view : PartitionView) (time : ℕ) (ps : PartitionState) → Mild upshot → untraded upshot ≡ u
@@ -342,19 +354,20 @@ same_traffic (Acts (told.UponAll event)) view time ps = refl
 same_traffic (Meets event word) view time ps = handled_still view time event word None ps
 
 -- the bytes that a note names of a message, and those that were shown, are still there
-bytes_same : (names : ℕ → Option ℕ) (a_note : Note) (seen : Sight) (s : Served) (view : PartitionView) (time : ℕ) → ((bytes : List ℕ) → seen ≡ Words bytes → Mild s.upshot)
-    → told_as names (own_traffic s.upshot) ≡ traffic_by a_note s.after.memory → seen ≡ sight_by a_note s.after.memory
-    → (traffic_by a_note s.after.memory ≡ traffic_by a_note (by_upshot s.upshot view time (clocked s.after)).after.memory)
+bytes_same : (conf : Conf) (p : ℕ) (a_note : Note) (seen : Sight) (s : Served) (view : PartitionView) (time : ℕ) → ((bytes : List ℕ) → seen ≡ Words bytes → Mild s.upshot)
+    → told_as conf p (own_traffic s.upshot) ≡ traffic_by p a_note s.after.memory → seen ≡ sight_by a_note s.after.memory
+    → (traffic_by p a_note s.after.memory ≡ traffic_by p a_note (by_upshot s.upshot view time (clocked s.after)).after.memory)
     × (sight_by a_note s.after.memory ≡ sight_by a_note (by_upshot s.upshot view time (clocked s.after)).after.memory)
-bytes_same names note.Nothing seen s view time mild trades shows = (refl, refl)
-bytes_same names (note.Console at size) seen s view time mild trades shows = (refl, refl)
-bytes_same names (note.Trace entry) seen s view time mild trades shows = (refl, refl)
-bytes_same names (note.Put chan at size) seen s view time mild trades shows =
-    (ap (traffic_by (note.Put chan at size)) (sym (put_memory names s.upshot chan _ view time s.after trades)), refl)
-bytes_same names (note.Take chan) seen s view time mild trades shows = (refl, refl)
-bytes_same names (note.Saw at size) seen s view time mild trades shows =
+bytes_same conf p note.Nothing seen s view time mild trades shows = (refl, refl)
+bytes_same conf p (note.Console at size) seen s view time mild trades shows = (refl, refl)
+bytes_same conf p (note.Trace entry) seen s view time mild trades shows = (refl, refl)
+bytes_same conf p (note.Put chan at size) seen s view time mild trades shows =
+    (ap (traffic_by p (note.Put chan at size)) (sym (put_memory conf p s.upshot chan _ view time s.after trades)), refl)
+bytes_same conf p (note.Take chan) seen s view time mild trades shows = (refl, refl)
+bytes_same conf p (note.Saw at size) seen s view time mild trades shows =
     (refl, ap (sight_by (note.Saw at size)) (sym (mild_memory s.upshot view time s.after (mild _ shows))))
-bytes_same names note.NotKept seen s view time mild trades shows = (refl, refl)
+bytes_same conf p note.NotKept seen s view time mild trades shows = (refl, refl)
+bytes_same conf p (note.Signal number) seen s view time mild trades shows = (refl, refl)
 
 -- a call that was shown bytes observed
 saw_mild : (p pc npc : ℕ) (old : SysState) (bytes : List ℕ) → (caller_at p pc npc old).sight ≡ Words bytes → Mild (served (caller_at p pc npc old)).upshot
@@ -371,25 +384,26 @@ pub call_noted : (p pc npc : ℕ) (answer : code.Served) (old one : SysState) �
 unfolding called caller_at
 call_noted p pc npc answer old one serves =
     let caller = caller_at p pc npc old in
-    let same = bytes_same (named old.machine.system.conf p) answer.note caller.sight (served caller) caller.view caller.time (saw_mild p pc npc old) serves.traffic serves.seen in
+    let same = bytes_same old.machine.system.conf p answer.note caller.sight (served caller) caller.view caller.time (saw_mild p pc npc old) serves.traffic serves.seen in
     record {
-      traffic = ap (told_as (named old.machine.system.conf p)) (same_traffic (served caller).upshot caller.view caller.time (clocked (served caller).after)) ∙ serves.traffic ∙ same.0;
+      traffic = ap (told_as old.machine.system.conf p) (same_traffic (served caller).upshot caller.view caller.time (clocked (served caller).after)) ∙ serves.traffic ∙ same.0;
       seen = serves.seen ∙ same.1;
     }
 
 -- where what follows a call of this upshot reaches, by its note
-reach_told : (names : ℕ → Option ℕ) (seen : Sight) (a_note : Note) (s : Served) (u : Upshot) (reach : Beyond) (view : PartitionView) (time : ℕ) (ps : PartitionState) → s.told ≡ told_by a_note s.after.memory → (s.told ≡ []) ⊎ (s.upshot ≡ Acts told.Nothing)
-    → told_as names (own_traffic s.upshot) ≡ traffic_by a_note s.after.memory → seen ≡ sight_by a_note s.after.memory → ((bytes : List ℕ) → seen ≡ Words bytes → Mild s.upshot)
+reach_told : (conf : Conf) (p : ℕ) (seen : Sight) (a_note : Note) (s : Served) (u : Upshot) (reach : Beyond) (view : PartitionView) (time : ℕ) (ps : PartitionState) → s.told ≡ told_by a_note s.after.memory → (s.told ≡ []) ⊎ (s.upshot ≡ Acts told.Nothing)
+    → told_as conf p (own_traffic s.upshot) ≡ traffic_by p a_note s.after.memory → seen ≡ sight_by a_note s.after.memory → ((bytes : List ℕ) → seen ≡ Words bytes → Mild s.upshot)
     → untraded s.upshot ≡ u → (by_upshot u view time ps).act ≡ act_beyond reach → TellsAlone a_note reach
-reach_told names seen note.Nothing s u reach view time ps told_is acts trades shows mild is act = tt
-reach_told names seen (note.Console at size) s u reach view time ps told_is (inl none) trades shows mild is act = absurd cc
-reach_told names seen (note.Console at size) s u reach view time ps told_is (inr nothing) trades shows mild is act =
+reach_told conf p seen note.Nothing s u reach view time ps told_is acts trades shows mild is act = tt
+reach_told conf p seen (note.Console at size) s u reach view time ps told_is (inl none) trades shows mild is act = absurd cc
+reach_told conf p seen (note.Console at size) s u reach view time ps told_is (inr nothing) trades shows mild is act =
     sym act ∙ ap (λ (upshot : Upshot). (by_upshot upshot view time ps).act) (sym is ∙ ap untraded nothing)
-reach_told names seen (note.Trace entry) s u reach view time ps told_is acts trades shows mild is act = tt
-reach_told names seen (note.Put chan at size) s u reach view time ps told_is acts trades shows mild is act = put_alone names s.upshot u chan _ reach view time ps trades is act
-reach_told names seen (note.Take chan) s u reach view time ps told_is acts trades shows mild is act = tt
-reach_told names seen (note.Saw at size) s u reach view time ps told_is acts trades shows mild is act = mild_alone s.upshot u reach view time ps (mild _ shows) is act
-reach_told names seen note.NotKept s u reach view time ps told_is acts trades shows mild is act = tt
+reach_told conf p seen (note.Trace entry) s u reach view time ps told_is acts trades shows mild is act = tt
+reach_told conf p seen (note.Put chan at size) s u reach view time ps told_is acts trades shows mild is act = put_alone conf p s.upshot u chan _ reach view time ps trades is act
+reach_told conf p seen (note.Take chan) s u reach view time ps told_is acts trades shows mild is act = tt
+reach_told conf p seen (note.Saw at size) s u reach view time ps told_is acts trades shows mild is act = mild_alone s.upshot u reach view time ps (mild _ shows) is act
+reach_told conf p seen note.NotKept s u reach view time ps told_is acts trades shows mild is act = tt
+reach_told conf p seen (note.Signal number) s u reach view time ps told_is acts trades shows mild is act = tt
 
 -- a call that tells bytes for the console reaches nothing
 pub call_alone : (p pc npc : ℕ) (answer : code.Served) (reach : Beyond) (old one two : SysState)
@@ -397,7 +411,7 @@ pub call_alone : (p pc npc : ℕ) (answer : code.Served) (reach : Beyond) (old o
     → (by_upshot (upshot_of answer.act) (view_of two.machine.system p) two.machine.time (part_at p two.machine)).act ≡ act_beyond reach → TellsAlone answer.note reach
 call_alone p pc npc answer reach old one two serves act =
     let caller = caller_at p pc npc old in
-    reach_told (named old.machine.system.conf p) caller.sight answer.note (served caller) (upshot_of answer.act) reach (view_of two.machine.system p) two.machine.time (part_at p two.machine) serves.told
+    reach_told old.machine.system.conf p caller.sight answer.note (served caller) (upshot_of answer.act) reach (view_of two.machine.system p) two.machine.time (part_at p two.machine) serves.told
     (served_keeps caller).acts serves.traffic serves.seen (saw_mild p pc npc old) serves.upshot act
 
 -- a call keeps the health log and the execution clock of its partition
@@ -407,7 +421,7 @@ unfolding caller_at
 call_keeps p pc npc answer old one below serves =
     let caller = caller_at p pc npc old in
     ap (λ (sys : SysState). kept_parts (part_at p sys.machine)) serves.state
-    ∙ traded_kept (traffic_by answer.note (served caller).after.memory) p (served caller).after old.machine below
+    ∙ traded_kept (traffic_by p answer.note (served caller).after.memory) p (served caller).after old.machine below
     ∙ (served_keeps caller).same
 
 -- and how many partitions there are
@@ -416,5 +430,5 @@ pub call_counts : (p pc npc : ℕ) (answer : code.Served) (old one : SysState)
 call_counts p pc npc answer old one serves =
     let caller = caller_at p pc npc old in
     ap (λ (sys : SysState). length sys.machine.parts) serves.state
-    ∙ traded_length (traffic_by answer.note (served caller).after.memory) (with_part p (served caller).after old.machine)
+    ∙ traded_length (traffic_by p answer.note (served caller).after.memory) (with_part p (served caller).after old.machine)
     ∙ length-set old.machine.parts p (served caller).after

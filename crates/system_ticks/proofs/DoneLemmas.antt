@@ -19,12 +19,12 @@ use Rattle.machine_model.specs.Lists.{is_number}
 use Rattle.machine_model.specs.LocalTick.{bounded, local_tick, with_interrupts, worked, worked_if}
 use Rattle.machine_model.specs.Machine as machine
 use Rattle.machine_model.specs.Machine.{Machine, SlotTurn, booted_part, copies, run, sight, turn_of}
-use Rattle.machine_model.specs.Partition.{PartitionState, is_halted, rested}
+use Rattle.machine_model.specs.Partition.{PartitionState, is_halted, link_signal, rested}
 use Rattle.machine_model.specs.Told as told
-use Rattle.machine_model.specs.Told.{Act, Directed, OwnPuts, OwnStill, OwnTakes, OwnTraffic, Told, line_of, reach_of}
-use Rattle.machine_model.specs.Traffic.{Puts, Still, Takes, Traffic, after_message, heard_as, heard_from, hearing, interrupted}
+use Rattle.machine_model.specs.Told.{Act, Directed, OwnPuts, OwnSignals, OwnStill, OwnTakes, OwnTraffic, Told, line_of, reach_of}
+use Rattle.machine_model.specs.Traffic.{Puts, Signals, Still, Takes, Traffic, after_message, heard_as, heard_from, hearing, interrupted}
 use Rattle.guest_memory.specs.Loading.{memory_areas}
-use Rattle.machine_model.specs.View.{PartitionView, System, name_of, part_of, view_of}
+use Rattle.machine_model.specs.View.{PartitionView, System, part_of, view_of}
 use Rattle.slot_runs.specs.Calm.{GoneCalm, turn_after}
 use Rattle.slot_runs.specs.Meeting.{HasGone, first_after, gone_on}
 use Rattle.slot_runs.specs.NextLaws.{IsNextTick, IsTickOf, MetTick, next_work}
@@ -33,8 +33,8 @@ use Rattle.slot_runs.specs.Passes.{rest_but, traded, traffic_in, with_part, work
 use Rattle.slot_runs.specs.SpanLaws.{IsAwake, its_areas, met}
 use Rattle.slot_runs.specs.Undisturbed.{IsUndisturbed, UndisturbedNext, gone_parts, next_instruction}
 use Rattle.system_ticks.specs.Kept.{kept_by, kept_tick}
-use Rattle.system_ticks.specs.Quiet.{AreQuiet, ends_in, ends_stretch}
-use Rattle.system_ticks.specs.Span.{AreDoneFrom}
+use Rattle.system_ticks.specs.Quiet.{AreQuiet, ends_in}
+use Rattle.system_ticks.specs.Span.{AreDoneFrom, ends_so}
 use Rattle.system_ticks.specs.Work.{ReachIsUponOne, IsTickWorked, TellsAlone, act_beyond, console_told, ended_by, ending_lines}
 use Rattle.system_ticks.specs.declared.beyond.Beyond.{Beyond}
 use Rattle.system_ticks.specs.declared.beyond.Beyond.TheVariants as beyond
@@ -44,30 +44,35 @@ use Rattle.system_ticks.proofs.SlotLemmas.{at_next, its_before, within_bounds}
 use Rattle.system_ticks.proofs.TickLemmas.{tick_lines, tick_state}
 use Rattle.system_ticks.specs.ListLemmas.{each_at}
 
--- hearing of a message leaves the memory
+-- an interrupt leaves the memory
+interrupted_memory : (heard : Option ℕ) (ps : PartitionState) → (interrupted heard ps).memory ≡ ps.memory
+interrupted_memory None ps = refl
+interrupted_memory (Some n) ps = either (is_halted ps.state)
+  where
+    either : (b : Bool) → (if b then ps else record ps { traps = raised n ps.traps }).memory ≡ ps.memory
+    either true = refl
+    either false = refl
+
+-- hearing of a message or of a signal leaves the memory
 hearing_memory : (view : PartitionView) (own : OwnTraffic) (ps : PartitionState) → (hearing view own ps).memory ≡ ps.memory
 unfolding after_message
 hearing_memory view OwnStill ps = refl
-hearing_memory view (OwnPuts q bytes) ps = at (heard_from q view.part.ports ps.made view.channels) (is_halted ps.state)
-  where
-    either : (b : Bool) (n : ℕ) → (if b then ps else record ps { traps = raised n ps.traps }).memory ≡ ps.memory
-    either true n = refl
-    either false n = refl
-
-    at : (heard : Option ℕ) (b : Bool) → (interrupted heard ps).memory ≡ ps.memory
-    at None b = refl
-    at (Some n) b = either (is_halted ps.state) n
+hearing_memory view (OwnPuts q bytes) ps = interrupted_memory (heard_from q view.part.ports ps.made view.channels) ps
 hearing_memory view (OwnTakes q) ps = refl
+hearing_memory view (OwnSignals number) ps = interrupted_memory (Some (link_signal number)) ps
 
 -- traffic and the rest of all others leave the memory of a partition
 traded_memory : (traffic : Traffic) (p : ℕ) (g : Machine) → memory_of p (traded traffic g) ≡ memory_of p g
 traded_memory Still p g = refl
 traded_memory (Puts channel bytes) p g =
-    each_at (λ (ps : PartitionState). ps.memory) (λ q ps. hearing (view_of g.system q) (heard_as (name_of g.system.conf q) (Puts channel bytes)) ps) g.parts p (booted_part g.system p)
-    (λ ps. hearing_memory (view_of g.system p) (heard_as (name_of g.system.conf p) (Puts channel bytes)) ps)
+    each_at (λ (ps : PartitionState). ps.memory) (λ q ps. hearing (view_of g.system q) (heard_as g.system.conf q (Puts channel bytes)) ps) g.parts p (booted_part g.system p)
+    (λ ps. hearing_memory (view_of g.system p) (heard_as g.system.conf p (Puts channel bytes)) ps)
 traded_memory (Takes channel) p g =
-    each_at (λ (ps : PartitionState). ps.memory) (λ q ps. hearing (view_of g.system q) (heard_as (name_of g.system.conf q) (Takes channel)) ps) g.parts p (booted_part g.system p)
-    (λ ps. hearing_memory (view_of g.system p) (heard_as (name_of g.system.conf p) (Takes channel)) ps)
+    each_at (λ (ps : PartitionState). ps.memory) (λ q ps. hearing (view_of g.system q) (heard_as g.system.conf q (Takes channel)) ps) g.parts p (booted_part g.system p)
+    (λ ps. hearing_memory (view_of g.system p) (heard_as g.system.conf p (Takes channel)) ps)
+traded_memory (Signals source number) p g =
+    each_at (λ (ps : PartitionState). ps.memory) (λ q ps. hearing (view_of g.system q) (heard_as g.system.conf q (Signals source number)) ps) g.parts p (booted_part g.system p)
+    (λ ps. hearing_memory (view_of g.system p) (heard_as g.system.conf p (Signals source number)) ps)
 
 rest_memory : (p time : ℕ) (g : Machine) → memory_of p (rest_but (Some p) time g) ≡ memory_of p g
 rest_memory p time g =
@@ -94,6 +99,7 @@ told_after (note.Put chan at size) reach p traffic after m below alone = refl
 told_after (note.Take chan) reach p traffic after m below alone = refl
 told_after (note.Saw at size) reach p traffic after m below alone = refl
 told_after note.NotKept reach p traffic after m below alone = refl
+told_after (note.Signal number) reach p traffic after m below alone = refl
 
 -- nor does one that asks for a plan
 asking_memory : (plan p : ℕ) (traffic : Traffic) (after : PartitionState) (m : Machine) → p < length m.parts
@@ -120,6 +126,7 @@ kept_after (note.Saw at size) reach turn p traffic after m below (inr (plan, ask
     ap (kept_by turn true (note.Saw at size) reach)
     (ap (λ (act : Act). memory_of p (ended_by act p (traded traffic (with_part p after m)))) asks ∙ asking_memory plan p traffic after m below)
 kept_after note.NotKept reach turn p traffic after m below alone = refl
+kept_after (note.Signal number) reach turn p traffic after m below alone = refl
 
 -- an order is on a partition that there is
 beyond_one : (reach : Beyond) (m : Machine) → ReachIsUponOne reach m → IfSome (reach_of (act_beyond reach)).directed (λ directed. directed.id < length m.parts)
@@ -141,7 +148,7 @@ passed_done : RunsKeepNumbers → (g m : Machine) (p done most : ℕ) (first : B
     → run g (suc done) ≡ worked_through p work m → lines g (suc done) ≡ worked_lines p work m
     → turn_after done (turn_of g) ≡ Some (record { part = p; first = first }) → IsTickOf m p first work → bounded (view_of m.system p) work.act ≡ work.act
     → IsNoted m p work a_note → IsTickWorked p work a_note reach (with_machine m old) mid got → TellsAlone a_note reach
-    → new ≡ with_machine (ended_by (act_beyond reach) p mid.machine) mid → all ≡ got ++ ending_lines (act_beyond reach) mid.machine → length all ≤ 24
+    → new ≡ with_machine (ended_by (act_beyond reach) p mid.machine) mid → all ≡ got ++ ending_lines (act_beyond reach) mid.machine → length all ≤ 40
     → AreDoneFrom (record { ticks = done + 1; part = p; worked = true; note = a_note; reach = reach }) most g old new all
 passed_done keeps g m p done most first work a_note reach old mid new got all m_is runs ticks silent quiet below fewer state its_lines turns tick bounds noted worked alone ended told_lines few =
     let one : done + 1 ≡ suc done = omega arith in
@@ -153,8 +160,9 @@ passed_done keeps g m p done most first work a_note reach old mid new got all m_
     ap (λ (x : SysState). console_told a_note (memory_of p x.machine)) ended
     ∙ ap (λ (x : SysState). console_told a_note (memory_of p (ended_by (act_beyond reach) p x.machine))) worked.state
     ∙ told_after a_note reach p (traffic_in m p work.act) work.after m below alone in
-    let its_end : ends_in (run g done) ≡ ends_stretch (act_beyond reach) =
-    ap ends_in (sym m_is) ∙ acts_so m work.act (ap machine.act_of tick.local ∙ bounds) ∙ same_end work.act ∙ ap ends_stretch worked.act in
+    let its_end : ends_in (run g done) ≡ ends_so a_note reach =
+    ap ends_in (sym m_is) ∙ acts_so m work.act (ap machine.act_of tick.local ∙ bounds)
+    ∙ same_end m.system.conf p work.act a_note reach work.after.memory noted.traffic worked.act in
     let its_kept : kept_tick (run g done) ≡ kept_by (turn_after done (turn_of g)) true a_note reach (memory_of p new.machine) =
     ap kept_tick (sym m_is) ∙ worked_kept m p first work a_note reach tick bounds worked.act noted
     ∙ ap (λ t. kept_by t true a_note reach work.after.memory) (sym turns)
@@ -177,7 +185,7 @@ passed_done keeps g m p done most first work a_note reach old mid new got all m_
           (same_areas (run g (done + 1)) m (many.system ∙ sym before.system ∙ sym (ap (λ (x : Machine). x.system) m_is)) worked.readable);
       kept = subst (λ (n : ℕ). kept_tick (run g n) ≡ kept_by (turn_after n (turn_of g)) true a_note reach (memory_of p new.machine)) (less done) its_kept;
       quiet = quiet;
-      ends = subst (λ (n : ℕ). ends_in (run g n) ≡ ends_stretch (act_beyond reach)) (less done) its_end;
+      ends = subst (λ (n : ℕ). ends_in (run g n) ≡ ends_so a_note reach) (less done) its_end;
     }
   where
     less : (n : ℕ) → n ≡ n + 1 - 1
@@ -192,7 +200,7 @@ pub next_done : RunsKeepNumbers → ActsWithinBounds → GoneCalm → Undisturbe
     → IsUndisturbed g p first ps done → HasGone done (view_of g.system p) (met g first ps) → p < length g.parts → done < most
     → IsNoted (run g done) p (next_instruction (run g done) p (gone_on done (its_areas g p) (met g first ps))) a_note
     → IsTickWorked p (next_instruction (run g done) p (gone_on done (its_areas g p) (met g first ps))) a_note reach (with_machine (run g done) old) mid got → TellsAlone a_note reach
-    → new ≡ with_machine (ended_by (act_beyond reach) p mid.machine) mid → all ≡ got ++ ending_lines (act_beyond reach) mid.machine → length all ≤ 24
+    → new ≡ with_machine (ended_by (act_beyond reach) p mid.machine) mid → all ≡ got ++ ending_lines (act_beyond reach) mid.machine → length all ≤ 40
     → AreDoneFrom (record { ticks = done + 1; part = p; worked = true; note = a_note; reach = reach }) most g old new all
 next_done keeps bounds calms undisturbed passes g p first ps done most a_note reach old mid new got all is gone below fewer noted worked alone ended told_lines few =
     let next : IsNextTick g done (gone_parts done g p first ps) p (first_after done first) (next_instruction (run g done) p (gone_on done (its_areas g p) (met g first ps))) =
@@ -229,7 +237,7 @@ pub met_done : RunsKeepNumbers → ActsWithinBounds → MetTick → TickInPasses
     → (g : Machine) (p : ℕ) (first : Bool) (ps : PartitionState) (most : ℕ) (a_note : Note) (reach : Beyond) (old mid new : SysState) (got all : List ReportLine)
     → g.halted ≡ false → IsAwake g p first ps → p < length g.parts → 0 < most
     → IsNoted g p (next_work g p (met g first ps)) a_note → IsTickWorked p (next_work g p (met g first ps)) a_note reach (with_machine g old) mid got → TellsAlone a_note reach
-    → new ≡ with_machine (ended_by (act_beyond reach) p mid.machine) mid → all ≡ got ++ ending_lines (act_beyond reach) mid.machine → length all ≤ 24
+    → new ≡ with_machine (ended_by (act_beyond reach) p mid.machine) mid → all ≡ got ++ ending_lines (act_beyond reach) mid.machine → length all ≤ 40
     → AreDoneFrom (record { ticks = 0 + 1; part = p; worked = true; note = a_note; reach = reach }) most g old new all
 met_done keeps bounds meets passes g p first ps most a_note reach old mid new got all runs is below some noted worked alone ended told_lines few =
     let passed : IsInPasses g p (next_work g p (met g first ps)) =

@@ -56,7 +56,7 @@ calm_kept g done works memory calm =
 
 -- the traffic of the work of a partition, and what it was shown, are what its note tells
 pub record IsNoted (m : Machine) (p : ℕ) (work : Worked) (a_note : Note) : Type 0 where
-  pub traffic : traffic_in m p work.act ≡ traffic_by a_note work.after.memory
+  pub traffic : traffic_in m p work.act ≡ traffic_by p a_note work.after.memory
   pub seen : sight m p ≡ sight_by a_note work.after.memory
 
 -- the order and the event of an act, but for its traffic
@@ -79,7 +79,7 @@ pub worked_kept : (m : Machine) (p : ℕ) (first : Bool) (work : Worked) (a_note
     → bounded (view_of m.system p) work.act ≡ work.act → without_traffic work.act ≡ act_beyond reach → IsNoted m p work a_note
     → kept_tick m ≡ kept_by (Some (record { part = p; first = first })) true a_note reach work.after.memory
 worked_kept m p first work a_note reach tick bounds acts noted =
-    kept_as m turn true work.act (traffic_by a_note work.after.memory) (sight_by a_note work.after.memory) tick.turn (ap is_some tick.local)
+    kept_as m turn true work.act (traffic_by p a_note work.after.memory) (sight_by a_note work.after.memory) tick.turn (ap is_some tick.local)
     (ap machine.act_of tick.local ∙ bounds) noted.traffic noted.seen
     ∙ ap (λ (o : Option Directed). with_both o (event_of work.act)) (same_order work.act ∙ ap (λ (a : Act). (reach_of a).directed) acts)
     ∙ ap (λ (e : WholeEvent). with_both (reach_of (act_beyond reach)).directed e) (same_event work.act ∙ ap event_of acts)
@@ -88,4 +88,4 @@ worked_kept m p first work a_note reach tick bounds acts noted =
     turn = Some (record { part = p; first = first })
 
     with_both : Option Directed → WholeEvent → KeptTick
-    with_both o e = record { turn = turn; worked = true; traffic = traffic_by a_note work.after.memory; order = o; event = e; seen = sight_by a_note work.after.memory }
+    with_both o e = record { turn = turn; worked = true; traffic = traffic_by p a_note work.after.memory; order = o; event = e; seen = sight_by a_note work.after.memory }

@@ -29,6 +29,7 @@ with_bytes turn worked (note.Put chan at size) reach memory = refl
 with_bytes turn worked (note.Take chan) reach memory = refl
 with_bytes turn worked (note.Saw at size) reach memory = refl
 with_bytes turn worked note.NotKept reach memory = refl
+with_bytes turn worked (note.Signal number) reach memory = refl
 
 -- what is kept in another form
 pub kept_so : (one other : Option SlotTurn) (worked : Bool) (a_note : Note) (reach : Beyond) (bytes : List ℕ) (memory : Memory) → one ≡ other → bytes ≡ bytes_noted a_note memory
@@ -39,14 +40,15 @@ kept_so one other worked a_note reach bytes memory turn_is bytes_are =
     ∙ with_bytes other worked a_note reach memory
 
 -- they are few
-few_bytes : (a_note : Note) (memory : Memory) → PutsAtMost 4096 (traffic_by a_note memory) → ShowsAtMost 24 (sight_by a_note memory) → length (bytes_noted a_note memory) ≤ 4096
-few_bytes note.Nothing memory puts shows = omega arith
-few_bytes (note.Console at size) memory puts shows = omega arith
-few_bytes (note.Trace entry) memory puts shows = omega arith
-few_bytes (note.Put chan at size) memory puts shows = puts
-few_bytes (note.Take chan) memory puts shows = omega arith
-few_bytes (note.Saw at size) memory puts shows = omega (arith, shows)
-few_bytes note.NotKept memory puts shows = omega arith
+few_bytes : (p : ℕ) (a_note : Note) (memory : Memory) → PutsAtMost 4096 (traffic_by p a_note memory) → ShowsAtMost 24 (sight_by a_note memory) → length (bytes_noted a_note memory) ≤ 4096
+few_bytes p note.Nothing memory puts shows = omega arith
+few_bytes p (note.Console at size) memory puts shows = omega arith
+few_bytes p (note.Trace entry) memory puts shows = omega arith
+few_bytes p (note.Put chan at size) memory puts shows = puts
+few_bytes p (note.Take chan) memory puts shows = omega arith
+few_bytes p (note.Saw at size) memory puts shows = omega (arith, shows)
+few_bytes p note.NotKept memory puts shows = omega arith
+few_bytes p (note.Signal number) memory puts shows = omega arith
 
 -- bytes that are few are as many as were asked for
 pub as_many : (memory : Memory) (at size most : ℕ) → length (bytes_at memory at size) ≤ most → size ≤ most
@@ -71,6 +73,6 @@ pub few_noted : PutsFewBytes → ShowsFewBytes → KeepsFacts → KeepsTimed →
 few_noted puts shows facts timed numbers clocked span most old new got is done room =
     let m : Machine = run old.machine (span.ticks - 1) in
     let before : IsMachine (with_machine m old) = kept_ticks facts timed numbers clocked old (with_machine m old) (span.ticks - 1) most is refl (omega (arith, done.within)) room in
-    few_bytes span.note (memory_of span.part new.machine)
+    few_bytes _ span.note (memory_of span.part new.machine)
     (subst (PutsAtMost 4096) (sym (traffic_kept m) ∙ ap (λ (k : KeptTick). k.traffic) done.kept) (puts m before.fits))
     (subst (ShowsAtMost 24) (ap (λ (k : KeptTick). k.seen) done.kept) (seen_kept m (λ p. shows m p before.counted.facts)))

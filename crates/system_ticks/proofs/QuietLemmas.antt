@@ -1,6 +1,6 @@
 -- Ticks of which none but the last may have an act that ends a stretch.
-use Rattle.std.proofs.Common.{◌≡◌, ℕ, zero, suc, ◌+◌, ◌<◌, ◌≤◌, Bool, true, false, List, Option, None, Some, refl, ap, subst, arith}
-use Rattle.std.specs.Prelude.{◌-◌, IfSome}
+use Rattle.std.proofs.Common.{◌≡◌, ℕ, zero, suc, ◌+◌, ◌<◌, ◌≤◌, Bool, true, false, List, Option, None, Some, refl, ap, subst, ◌∙◌, arith}
+use Rattle.std.specs.Prelude.{◌-◌, if◌then◌else◌, IfSome}
 use Rattle.guest_bus.specs.Memory.{Area, Memory}
 use Rattle.sparc_step.specs.Execution.{Turned}
 use Rattle.sparc_step.specs.Registers.{Registers}
@@ -10,16 +10,23 @@ use Rattle.machine_model.specs.Machine as machine
 use Rattle.machine_model.specs.Machine.{Machine, local, run}
 use Rattle.machine_model.specs.Partition.{PartitionState, areas_of}
 use Rattle.machine_model.specs.Told as told
-use Rattle.machine_model.specs.Told.{Act}
-use Rattle.machine_model.specs.View.{PartitionView, view_of}
+use Rattle.machine_model.specs.Told.{Act, OwnPuts, OwnSignals, OwnStill, OwnTakes, OwnTraffic}
+use Rattle.machine_model.specs.Traffic.{Puts, Signals, Still, Takes, Traffic, puts_at, takes_at, told_as, traffic_of}
+use Rattle.machine_model.specs.View.{PartitionView, named, view_of}
 use Rattle.slot_runs.specs.Calm.{GoneCalm, IsCalm}
 use Rattle.slot_runs.specs.Meeting.{HasGone}
 use Rattle.slot_runs.specs.SpanLaws.{met}
 use Rattle.slot_runs.specs.Spans.{IsSpan}
 use Rattle.virt_traps.specs.Stepping.{stepped, then_settled}
 use Rattle.slot_runs.specs.Undisturbed.{IsUndisturbed}
-use Rattle.whole_system.specs.Serving.{without_traffic}
-use Rattle.system_ticks.specs.Quiet.{AreQuiet, ends_in, ends_stretch}
+use Rattle.whole_system.specs.Serving.{traffic_by, without_traffic}
+use Rattle.whole_system.specs.declared.served.Note.{Note}
+use Rattle.whole_system.specs.declared.served.Note.TheVariants as note
+use Rattle.xm_conf.specs.Configuration.{Conf}
+use Rattle.system_ticks.specs.Quiet.{AreQuiet, ends_in, ends_stretch, is_signal}
+use Rattle.system_ticks.specs.Span.{ends_so, notes_signal}
+use Rattle.system_ticks.specs.Work.{act_beyond}
+use Rattle.system_ticks.specs.declared.beyond.Beyond.{Beyond}
 
 -- a tick with this act
 pub acts_so : (g : Machine) (act : Act) → machine.act_of (local g) ≡ act → ends_in g ≡ ends_stretch act
@@ -30,13 +37,58 @@ acts_so g act is = ap ends_stretch is
 pub calm_goes : (g : Machine) (k : ℕ) (works : Bool) → IsCalm g k works → ends_in (run g k) ≡ false
 calm_goes g k works calm = acts_so (run g k) told.Nothing calm.act
 
--- traffic ends no stretch
-pub same_end : (act : Act) → ends_stretch act ≡ ends_stretch (without_traffic act)
-same_end told.Nothing = refl
-same_end (told.Trades traffic) = refl
-same_end (told.Upon id order) = refl
-same_end (told.Plans change) = refl
-same_end (told.UponAll event) = refl
+-- whether traffic under the system's numbers is a signal
+signals_in : Traffic → Bool
+signals_in Still = false
+signals_in (Puts channel bytes) = false
+signals_in (Takes channel) = false
+signals_in (Signals source number) = true
+
+own_signals_in : (conf : Conf) (p : ℕ) (own : OwnTraffic) → is_signal own ≡ signals_in (told_as conf p own)
+unfolding signals_in
+own_signals_in conf p OwnStill = refl
+own_signals_in conf p (OwnPuts name bytes) = by (named conf p name)
+  where
+    by : (o : Option ℕ) → false ≡ signals_in (puts_at o bytes)
+    by None = refl
+    by (Some channel) = refl
+own_signals_in conf p (OwnTakes name) = by (named conf p name)
+  where
+    by : (o : Option ℕ) → false ≡ signals_in (takes_at o)
+    by None = refl
+    by (Some channel) = refl
+own_signals_in conf p (OwnSignals number) = refl
+
+noted_signals_in : (p : ℕ) (a_note : Note) (memory : Memory) → signals_in (traffic_by p a_note memory) ≡ notes_signal a_note
+unfolding signals_in
+noted_signals_in p note.Nothing memory = refl
+noted_signals_in p (note.Console at size) memory = refl
+noted_signals_in p (note.Trace entry) memory = refl
+noted_signals_in p (note.Put chan at size) memory = refl
+noted_signals_in p (note.Take chan) memory = refl
+noted_signals_in p (note.Saw at size) memory = refl
+noted_signals_in p note.NotKept memory = refl
+noted_signals_in p (note.Signal number) memory = refl
+
+-- of traffic a signal alone ends a stretch
+traffic_apart : (act : Act) → ends_stretch act ≡ (if is_signal (traffic_of act) then true else ends_stretch (without_traffic act))
+traffic_apart told.Nothing = refl
+traffic_apart (told.Trades own) = by (is_signal own)
+  where
+    by : (b : Bool) → b ≡ (if b then true else false)
+    by true = refl
+    by false = refl
+traffic_apart (told.Upon id order) = refl
+traffic_apart (told.Plans change) = refl
+traffic_apart (told.UponAll event) = refl
+
+-- so what ends a stretch is told by the note and by what reaches beyond the partition
+pub same_end : (conf : Conf) (p : ℕ) (act : Act) (a_note : Note) (reach : Beyond) (memory : Memory) → told_as conf p (traffic_of act) ≡ traffic_by p a_note memory
+    → without_traffic act ≡ act_beyond reach → ends_stretch act ≡ ends_so a_note reach
+same_end conf p act a_note reach memory traffic is =
+    traffic_apart act
+    ∙ ap (λ (b : Bool). if b then true else ends_stretch (without_traffic act)) (own_signals_in conf p (traffic_of act) ∙ ap signals_in traffic ∙ noted_signals_in p a_note memory)
+    ∙ ap (λ (a : Act). if notes_signal a_note then true else ends_stretch a) is
 
 -- a partition that went in a step went in the one before
 went_before : (turn : Turn) (areas : List Area) (t : Turned) → t.turn ≡ turn → (then_settled turn areas t).turn ≡ Went → t.turn ≡ Went

@@ -14,7 +14,7 @@ use Rattle.machine_model.specs.Partition.{PartitionState, areas_of, ordered, ord
 use Rattle.machine_model.specs.Told as told
 use Rattle.machine_model.specs.Told.{OwnStill, OwnTraffic, line_of}
 use Rattle.machine_model.specs.Traffic.{Still, Traffic, told_as, traffic_of}
-use Rattle.machine_model.specs.View.{PartitionView, System, named, view_of}
+use Rattle.machine_model.specs.View.{PartitionView, System, view_of}
 use Rattle.slot_runs.specs.Passes.{part_at, traded, traffic_in, with_part}
 use Rattle.virt_traps.specs.Delivery.{Delivered, delivered}
 use Rattle.virt_traps.specs.declared.windows.StackFault.{StackFault}
@@ -48,7 +48,7 @@ plain_act (beyond.Whole whole.Maintenance) = refl
 
 -- an act that reaches so has no traffic in the system
 pub no_traffic : (p : ℕ) (work : Worked) (reach : Beyond) (old : SysState) → work.act ≡ act_beyond reach → traffic_in old.machine p work.act ≡ Still
-no_traffic p work reach old is = ap (λ (traffic : OwnTraffic). told_as (named old.machine.system.conf p) traffic) (ap traffic_of is ∙ still_act reach)
+no_traffic p work reach old is = ap (λ (traffic : OwnTraffic). told_as old.machine.system.conf p traffic) (ap traffic_of is ∙ still_act reach)
 
 -- an order is on a partition that there was
 pub one_before : (reach : Beyond) (g h : Machine) → length g.parts ≡ length h.parts → ReachIsUponOne reach g → ReachIsUponOne reach h

@@ -1,6 +1,6 @@
 -- What each call keeps: the health log and the execution clock; one that reports something does nothing else.
 use Rattle.std.proofs.Common.{◌≡◌, ◌⊎◌, inl, inr, ℕ, Bool, true, false, List, [], ◌∷◌, Option, None, Some, Result, Ok, Err, refl, arith}
-use Rattle.std.specs.Prelude.{◌==◌, ◌||◌, if◌then◌else◌, bit_and, nat_lt}
+use Rattle.std.specs.Prelude.{◌==◌, ◌||◌, not, if◌then◌else◌, bit_and, nat_lt}
 use Rattle.health_monitor.specs.declared.entry.HealthEntry.{HealthEntry}
 use Rattle.virt_clocks.specs.Clocks.{armed, with_timer}
 use Rattle.virt_clocks.specs.declared.timer.Clock.{Clock}
@@ -18,8 +18,9 @@ use Rattle.xm_ports.specs.Channels.{HeldSample, first_message, sample_of}
 use Rattle.xm_ports.specs.Ports.{created_over}
 use Rattle.xm_ports.specs.declared.ports.CreateFault.{CreateFault}
 use Rattle.xm_traces.specs.Ring.{Kept}
-use Rattle.machine_model.specs.Caller.{Acts, Caller, Served, Test, a_of, answering, b_of, caller_bytes, c_of, d_of, e_of, invalid_parameter, is_neither, no_action, not_available, number_of, refused_if, room, tested, text, with_answer, with_written}
+use Rattle.machine_model.specs.Caller.{Acts, Caller, Served, Test, a_of, acting, answering, b_of, caller_bytes, c_of, d_of, e_of, invalid_parameter, is_neither, no_action, not_available, number_of, refused_if, room, tested, text, with_answer, with_written}
 use Rattle.machine_model.specs.Hypercalls.{served}
+use Rattle.machine_model.specs.LinkCalls.{raise_ipvi}
 use Rattle.machine_model.specs.LogCalls.{hm_read, hm_status, raise_event, trace_event, trace_read, trace_status, tracing}
 use Rattle.machine_model.specs.Partition.{PartitionState, areas_of}
 use Rattle.machine_model.specs.PartitionCalls.{get_partition_status, get_self, get_system_status, halt_partition, halt_system, idle_self, reset_partition, reset_system, resume_partition, shutdown_partition, suspend_partition}
@@ -27,7 +28,8 @@ use Rattle.machine_model.specs.PortCalls.{MadePort, by_created, create_queuing_p
 use Rattle.machine_model.specs.ProcessorCalls.{by_flush, by_return, clear_irqmask, flush_regwin, flushed, input_read, iret, printed, read_input, set_irqmask, set_psr, set_tbr, write_console}
 use Rattle.machine_model.specs.Structures.{queuing_status, sampling_status}
 use Rattle.machine_model.specs.TimeCalls.{clock_numbered, get_plan_status, get_time, is_negative, joined, set_timer, switch_sched_plan, with_timer_set}
-use Rattle.machine_model.specs.Told.{Nothing}
+use Rattle.machine_model.specs.Told.{Nothing, OwnSignals, Trades}
+use Rattle.machine_model.specs.View.{has_number}
 
 -- what a call keeps of its partition
 pub record KeptParts : Type 0 where
@@ -284,6 +286,12 @@ flush_regwin_keeps caller =
     let moved = flushed 8 (areas_of caller.view) (move_made caller.state.core caller.state.memory) in
     flush_keeps moved.answer (record caller.state { core = moved.core; memory = moved.memory }) caller refl
 
+raise_ipvi_keeps : (caller : Caller) → Keeps caller (raise_ipvi caller)
+unfolding raise_ipvi with_answer with_written
+raise_ipvi_keeps caller =
+    tested_keeps (refused_if (not (has_number caller.view.links (a_of caller))) invalid_parameter ∷ []) caller (acting (Trades (OwnSignals (a_of caller))) 0 caller.state)
+    (tells_nothing caller _ refl refl)
+
 -- the call with a number, or a later one
 choice_keeps : (caller : Caller) (b : Bool) (one other : Served) → Keeps caller one → Keeps caller other → Keeps caller (if b then one else other)
 choice_keeps caller true one other keeps further = keeps
@@ -330,4 +338,5 @@ served_keeps caller =
     (choice_keeps caller (number_of caller == 35) _ _ (set_psr_keeps caller)
     (choice_keeps caller (number_of caller == 36) _ _ (set_tbr_keeps caller)
     (choice_keeps caller (number_of caller == 37) _ _ (flush_regwin_keeps caller)
-    (tells_nothing caller _ refl refl)))))))))))))))))))))))))))))))))))))
+    (choice_keeps caller (number_of caller == 38) _ _ (raise_ipvi_keeps caller)
+    (tells_nothing caller _ refl refl))))))))))))))))))))))))))))))))))))))

@@ -15,7 +15,7 @@ use Rattle.machine_model.specs.Lists.{is_number}
 use Rattle.machine_model.specs.LocalTick.{with_interrupts}
 use Rattle.machine_model.specs.Machine.{Machine, booted_part, run}
 use Rattle.machine_model.specs.Partition.{PartitionState, rested}
-use Rattle.machine_model.specs.Traffic.{Puts, Still, Takes, Traffic}
+use Rattle.machine_model.specs.Traffic.{Puts, Signals, Still, Takes, Traffic}
 use Rattle.machine_model.specs.View.{System, view_of}
 use Rattle.slot_runs.specs.Calm.{IdleCalm, IsCalm, RestingCalm}
 use Rattle.slot_runs.specs.GoingOn.{LeftAreSpan}
@@ -41,7 +41,7 @@ abbrev pub quiet_span : ℕ → ℕ → Bool → Beyond → Span
 quiet_span ticks p worked reach = record { ticks = ticks; part = p; worked = worked; note = note.Nothing; reach = reach }
 
 -- lines of which there is at most one are few
-few_lines : (had all : List ReportLine) → had ≡ [] → length all ≤ length had + 1 → length all ≤ 24
+few_lines : (had all : List ReportLine) → had ≡ [] → length all ≤ length had + 1 → length all ≤ 40
 few_lines had all none most = omega (arith, ap length none, most)
 
 -- each of so many ticks reaches beyond no partition, and nobody is shown anything
@@ -51,7 +51,7 @@ AreCalm ticks g works = (k : ℕ) → k < ticks → IsCalm g k works
 -- ticks that leave these partitions, and tell at most that a plan starts
 quiet_done : RunsKeepNumbers → (g : Machine) (ticks most p : ℕ) (works : Bool) (parts : List PartitionState) (old new : SysState) (all : List ReportLine)
     → 0 < ticks → ticks ≤ most → p < length g.parts → IsQuietSpan g (ticks - 1) parts → AreCalm ticks g works
-    → new ≡ with_machine (after_span (ticks - 1) parts g) old → all ≡ plan_line (ticks - 1) g → length all ≤ 24 → AreDoneFrom (quiet_span ticks p works beyond.Nothing) most g old new all
+    → new ≡ with_machine (after_span (ticks - 1) parts g) old → all ≡ plan_line (ticks - 1) g → length all ≤ 40 → AreDoneFrom (quiet_span ticks p works beyond.Nothing) most g old new all
 quiet_done keeps g ticks most p works parts old new all some within below quiet calms new_is all_is few =
     let calm : IsCalm g (ticks - 1) works = calms (ticks - 1) (omega (arith, some)) in
     let one : suc (ticks - 1) ≡ ticks = omega (arith, some) in
@@ -198,6 +198,7 @@ traded_frame : (traffic : Traffic) (g : Machine) → IsInFrame g.system.conf g.c
 traded_frame Still g frame = frame
 traded_frame (Puts channel bytes) g frame = frame
 traded_frame (Takes channel) g frame = frame
+traded_frame (Signals source number) g frame = frame
 
 pub worked_frame : (p : ℕ) (work : Worked) (a_note : Note) (reach : Beyond) (mid after : SysState) (got : List ReportLine) → IsTickWorked p work a_note reach mid after got
     → IsInFrame mid.machine.system.conf mid.machine.clock mid.machine.time → IsInFrame after.machine.system.conf after.machine.clock after.machine.time

@@ -11,8 +11,7 @@ use Rattle.machine_model.specs.Lists.{all_of}
 use Rattle.machine_model.specs.Machine.{Machine, clock_after}
 use Rattle.machine_model.specs.Partition.{PartitionState}
 use Rattle.machine_model.specs.Told.{Act, Nothing, OwnTraffic, Plans, Trades, Upon, UponAll, line_of, reach_of}
-use Rattle.machine_model.specs.Traffic.{Puts, Still, Takes, Traffic, told_as}
-use Rattle.machine_model.specs.View.{named}
+use Rattle.machine_model.specs.Traffic.{Puts, Signals, Still, Takes, Traffic, told_as}
 use Rattle.machine_model.specs.Whole.{event_lines, event_of, whole_lines}
 use Rattle.slot_runs.specs.Passes.{evented, obeyed_in, obeyed_lines, rest_but, tick_ended, traded, traffic_in, with_part, worked_lines, worked_through}
 use Rattle.system_ticks.specs.Work.{IsTickWorked, act_beyond, console_told, ended_by, ending_lines}
@@ -40,6 +39,7 @@ traded_time : (traffic : Traffic) (g : Machine) → (traded traffic g).time ≡ 
 traded_time Still g = refl
 traded_time (Puts channel bytes) g = refl
 traded_time (Takes channel) g = refl
+traded_time (Signals source number) g = refl
 
 -- the machine after the work of a partition and its traffic
 abbrev pub after_work : ℕ → Worked → Machine → Machine
@@ -76,10 +76,13 @@ traded_ending own (Puts channel bytes) p after g =
 traded_ending own (Takes channel) p after g =
     ap (λ (lines : List ReportLine). lines ++ plan_of (Trades own) g)
     (none_told g.parts ∙ sym (none_told (traded (Takes channel) (with_part p after g)).parts))
+traded_ending own (Signals source number) p after g =
+    ap (λ (lines : List ReportLine). lines ++ plan_of (Trades own) g)
+    (none_told g.parts ∙ sym (none_told (traded (Signals source number) (with_part p after g)).parts))
 
 ending_is : (act : Act) (p : ℕ) (after : PartitionState) (g : Machine) → own_ending act p after g ≡ ending_lines act (traded (traffic_in g p act) (with_part p after g))
 ending_is Nothing p after g = set_ending Nothing p after g
-ending_is (Trades own) p after g = traded_ending own (told_as (named g.system.conf p) own) p after g
+ending_is (Trades own) p after g = traded_ending own (told_as g.system.conf p own) p after g
 ending_is (Upon id order) p after g = set_ending (Upon id order) p after g
 ending_is (Plans change) p after g = set_ending (Plans change) p after g
 ending_is (UponAll event) p after g = set_ending (UponAll event) p after g

@@ -19,7 +19,7 @@ use Rattle.machine_model.specs.Machine.{Machine, booted_part, copies, run, sight
 use Rattle.machine_model.specs.Partition.{PartitionState, areas_of}
 use Rattle.machine_model.specs.Told.{Act}
 use Rattle.machine_model.specs.Traffic.{told_as}
-use Rattle.machine_model.specs.View.{System, named, view_of}
+use Rattle.machine_model.specs.View.{System, view_of}
 use Rattle.slot_runs.specs.Calm.{GoneCalm}
 use Rattle.slot_runs.specs.Meeting.{first_after, gone_on}
 use Rattle.slot_runs.specs.NextLaws.{IsNextTick, MetTick, next_work}
@@ -52,7 +52,7 @@ pub trap_done : OthersRest → GoneCalm → UndisturbedNext → PassedNext → A
     → (g : Machine) (p : ℕ) (first : Bool) (ps : PartitionState) (went most pc type : ℕ) (reach : Beyond) (old mid after new : SysState) (got all : List ReportLine) (span : Span)
     → HasTurned (Trap type) g p first ps went most pc old → mid ≡ with_machine (machine_underway p went old.machine) old
     → IsTickWorked p (event_handled (view_of mid.machine.system p) mid.machine.time (event_of_type type) pc (Some type) (clocked (part_at p mid.machine))) note.Nothing reach mid after got
-    → new ≡ with_machine (ended_by (act_beyond reach) p after.machine) after → all ≡ got ++ ending_lines (act_beyond reach) after.machine → length all ≤ 24
+    → new ≡ with_machine (ended_by (act_beyond reach) p after.machine) after → all ≡ got ++ ending_lines (act_beyond reach) after.machine → length all ≤ 40
     → span ≡ quiet_span (went + 1) p true reach → AreDoneFrom span most g old new all
 trap_done others calms nexts passes bounds keeps g p first ps went most pc type reach old mid after new got all span has mid_is worked ended told_lines few span_is =
     let s : PartitionState = gone_to went g p first ps in
@@ -66,7 +66,7 @@ trap_done others calms nexts passes bounds keeps g p first ps went most pc type 
     let next : IsNextTick g went (gone_parts went g p first ps) p (first_after went first) (next_instruction (run g went) p s) = nexts g p first ps went has.is has.gone in
     let noted : IsNoted (run g went) p (next_instruction (run g went) p s) note.Nothing = record {
       traffic = ap (λ (w : Worked). traffic_in (run g went) p w.act) (sym work)
-          ∙ ap (told_as (named (run g went).system.conf p)) (handled_still (view_of mid.machine.system p) mid.machine.time (event_of_type type) pc (Some type) (clocked (part_at p mid.machine)));
+          ∙ ap (told_as (run g went).system.conf p) (handled_still (view_of mid.machine.system p) mid.machine.time (event_of_type type) pc (Some type) (clocked (part_at p mid.machine)));
       seen = trap_sight (run g went) p type (first_after went first) (its_before went ps s) s (at_next g p first ps went (next_instruction (run g went) p s) has.is next) came;
     } in
     subst (λ (x : Span). AreDoneFrom x most g old new all) (sym span_is)
@@ -81,7 +81,7 @@ pub call_done : OthersRest → GoneCalm → UndisturbedNext → PassedNext → A
     → HasTurned Call g p first ps went most pc old → mid ≡ with_machine (machine_underway p went old.machine) old
     → IsTickWorked p (called (caller_at p pc (part_at p mid.machine).core.pc mid)) a_note reach mid after got → TellsAlone a_note reach
     → IsToldBy p (caller_at p pc (part_at p mid.machine).core.pc mid).sight (called (caller_at p pc (part_at p mid.machine).core.pc mid)) a_note mid
-    → new ≡ with_machine (ended_by (act_beyond reach) p after.machine) after → all ≡ got ++ ending_lines (act_beyond reach) after.machine → length all ≤ 24
+    → new ≡ with_machine (ended_by (act_beyond reach) p after.machine) after → all ≡ got ++ ending_lines (act_beyond reach) after.machine → length all ≤ 40
     → AreDoneFrom (record { ticks = went + 1; part = p; worked = true; note = a_note; reach = reach }) most g old new all
 call_done others calms nexts passes bounds keeps g p first ps went most pc a_note reach old mid after new got all has mid_is worked alone tells ended told_lines few =
     let s : PartitionState = gone_to went g p first ps in
@@ -96,7 +96,7 @@ call_done others calms nexts passes bounds keeps g p first ps went most pc a_not
     let turned_is = ap (λ (x : System). turned_to x p s) (sym same) in
     let work = call_work (run g went) p pc (first_after went first) (its_before went ps s) s (turned_to g.system p s) old mid below its_mid at came turned_is has.at in
     let noted : IsNoted (run g went) p (next_instruction (run g went) p s) a_note = record {
-      traffic = subst (λ (w : Worked). traffic_in (run g went) p w.act ≡ traffic_by a_note w.after.memory) work
+      traffic = subst (λ (w : Worked). traffic_in (run g went) p w.act ≡ traffic_by p a_note w.after.memory) work
           (sym (ap (λ (x : SysState). traffic_in x.machine p (called (caller_at p pc (part_at p mid.machine).core.pc mid)).act) its_mid) ∙ tells.traffic);
       seen = call_sight (run g went) p pc (part_at p mid.machine).core.pc (first_after went first) (its_before went ps s) s (turned_to g.system p s) old mid below its_mid at came turned_is
           ∙ tells.seen ∙ ap (λ (w : Worked). sight_by a_note w.after.memory) work;
@@ -111,7 +111,7 @@ pub deliver_done : MetTick → TickInPasses → ActsWithinBounds → RunsKeepNum
     → (g : Machine) (p : ℕ) (first : Bool) (ps : PartitionState) (most n : ℕ) (old after new : SysState) (got all : List ReportLine) (span : Span)
     → HasMetInterrupts g p first ps most old → 0 < most → (part_at p old.machine).traps.enabled ≡ true → due (part_at p old.machine).traps ≡ Some n
     → IsTickWorked p (interrupt_delivered (view_of old.machine.system p) old.machine.time n (clocked (part_at p old.machine))) note.Nothing beyond.Nothing old after got
-    → new ≡ with_machine (ended_by (act_beyond beyond.Nothing) p after.machine) after → all ≡ got ++ ending_lines (act_beyond beyond.Nothing) after.machine → length all ≤ 24
+    → new ≡ with_machine (ended_by (act_beyond beyond.Nothing) p after.machine) after → all ≡ got ++ ending_lines (act_beyond beyond.Nothing) after.machine → length all ≤ 40
     → span ≡ quiet_span 1 p true beyond.Nothing → AreDoneFrom span most g old new all
 deliver_done meets passes bounds keeps g p first ps most n old after new got all span is some enabled waits worked ended told_lines few span_is =
     let part : part_at p old.machine ≡ met g first ps = ap (λ (x : SysState). part_at p x.machine) is.met ∙ get_or-set_same g.parts p (met g first ps) (booted_part g.system p) is.there in

@@ -1,7 +1,7 @@
 -- What a cue is as a value: the bytes that it lends stand in a list.
 use Rattle.xm_base.specs.declared.partition.Mode.TheVariants as mode
 use Rattle.machine_model.specs.Cue.{Away, Cue, Mine as mine_of, CueSlot}
-use Rattle.machine_model.specs.Told.{AllHalted, AllReset, NoEvent, NotKept, OwnPuts, OwnStill, OwnTakes, OwnTraffic, Sight, Unseen, WholeEvent, Words}
+use Rattle.machine_model.specs.Told.{AllHalted, AllReset, NoEvent, NotKept, OwnPuts, OwnSignals, OwnStill, OwnTakes, OwnTraffic, Sight, Unseen, WholeEvent, Words}
 use Rattle.system_ticks.specs.declared.cue.Cue as code
 use Rattle.system_ticks.specs.declared.cue.Mine.{Mine}
 use Rattle.system_ticks.specs.declared.cue.Mine.TheVariants as mine
@@ -22,6 +22,7 @@ abbrev pub traffic_value : code_traffic.Traffic → OwnTraffic
 traffic_value traffic.Nothing = OwnStill
 traffic_value (traffic.Put chan bytes) = OwnPuts chan bytes.now
 traffic_value (traffic.Take chan) = OwnTakes chan
+traffic_value (traffic.Signal number) = OwnSignals number
 
 -- the hypervisor event
 abbrev pub whole_value : WholeCue → WholeEvent

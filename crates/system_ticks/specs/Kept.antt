@@ -5,8 +5,7 @@ use Rattle.xm_conf.specs.Configuration.{Conf}
 use Rattle.machine_model.specs.Cue.{Cue, cue, slot_of, unless_own}
 use Rattle.machine_model.specs.Machine.{Happened, Machine, SlotTurn, happened, is_turn_of, order_for, sight, step, turn_of}
 use Rattle.machine_model.specs.Told.{Directed, NoEvent, NotKept, Sight, Unseen, WholeEvent, Words, reach_of}
-use Rattle.machine_model.specs.Traffic.{Puts, Still, Takes, Traffic, heard_as}
-use Rattle.machine_model.specs.View.{name_of}
+use Rattle.machine_model.specs.Traffic.{Puts, Signals, Still, Takes, Traffic, heard_as}
 use Rattle.machine_model.specs.Whole.{event_of}
 use Rattle.whole_system.specs.Serving.{sight_by, traffic_by}
 use Rattle.whole_system.specs.declared.served.Note.{Note}
@@ -47,12 +46,17 @@ kept_in h seen = record {
 unfoldable pub kept_tick : Machine → KeptTick
 kept_tick g = kept_in (happened g) (shown_to g (turn_of g))
 
+-- whose slot it was; in a gap there is no traffic
+abbrev pub slot_partition : Option SlotTurn → ℕ
+slot_partition None = 0
+slot_partition (Some turn) = turn.part
+
 -- what is kept of a tick by its slot, whether a partition worked, what its call noted and how it reached beyond, over the memory that the tick leaves
 abbrev pub kept_by : Option SlotTurn → Bool → Note → Beyond → Memory → KeptTick
 kept_by turn worked a_note reach memory = record {
   turn = turn;
   worked = worked;
-  traffic = traffic_by a_note memory;
+  traffic = traffic_by (slot_partition turn) a_note memory;
   order = (reach_of (act_beyond reach)).directed;
   event = event_of (act_beyond reach);
   seen = sight_by a_note memory;
@@ -67,16 +71,18 @@ bytes_noted (note.Put chan at size) memory = bytes_at memory at size
 bytes_noted (note.Take chan) memory = []
 bytes_noted (note.Saw at size) memory = bytes_at memory at size
 bytes_noted note.NotKept memory = []
+bytes_noted (note.Signal number) memory = []
 
--- the traffic that a note reports with these bytes
-abbrev pub traffic_with : Note → List ℕ → Traffic
-traffic_with note.Nothing bytes = Still
-traffic_with (note.Console at size) bytes = Still
-traffic_with (note.Trace entry) bytes = Still
-traffic_with (note.Put chan at size) bytes = Puts chan bytes
-traffic_with (note.Take chan) bytes = Takes chan
-traffic_with (note.Saw at size) bytes = Still
-traffic_with note.NotKept bytes = Still
+-- the traffic that a note of a partition tells with these bytes
+abbrev pub traffic_with : ℕ → Note → List ℕ → Traffic
+traffic_with source note.Nothing bytes = Still
+traffic_with source (note.Console at size) bytes = Still
+traffic_with source (note.Trace entry) bytes = Still
+traffic_with source (note.Put chan at size) bytes = Puts chan bytes
+traffic_with source (note.Take chan) bytes = Takes chan
+traffic_with source (note.Saw at size) bytes = Still
+traffic_with source note.NotKept bytes = Still
+traffic_with source (note.Signal number) bytes = Signals source number
 
 -- what a note reports with these bytes of what was shown
 abbrev pub sight_with : Note → List ℕ → Sight
@@ -87,13 +93,14 @@ sight_with (note.Put chan at size) bytes = Unseen
 sight_with (note.Take chan) bytes = Unseen
 sight_with (note.Saw at size) bytes = Words bytes
 sight_with note.NotKept bytes = NotKept
+sight_with (note.Signal number) bytes = Unseen
 
 -- what is kept of a tick, with the bytes that its note named
 abbrev pub kept_with : Option SlotTurn → Bool → Note → Beyond → List ℕ → KeptTick
 kept_with turn worked a_note reach bytes = record {
   turn = turn;
   worked = worked;
-  traffic = traffic_with a_note bytes;
+  traffic = traffic_with (slot_partition turn) a_note bytes;
   order = (reach_of (act_beyond reach)).directed;
   event = event_of (act_beyond reach);
   seen = sight_with a_note bytes;
@@ -104,7 +111,7 @@ kept_with turn worked a_note reach bytes = record {
 unfoldable pub kept_cue : Conf → KeptTick → ℕ → Cue
 kept_cue conf kept p = record {
   mine = slot_of kept.turn p;
-  traffic = unless_own (is_turn_of kept.turn p && kept.worked) (heard_as (name_of conf p) kept.traffic);
+  traffic = unless_own (is_turn_of kept.turn p && kept.worked) (heard_as conf p kept.traffic);
   order = order_for kept.order p;
   whole = kept.event;
   seen = if is_turn_of kept.turn p then kept.seen else Unseen;

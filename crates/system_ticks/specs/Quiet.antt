@@ -1,12 +1,19 @@
 -- Which acts end a stretch of ticks, and ticks without one.
 use Rattle.std.specs.Prelude.{◌≡◌, ℕ, ◌+◌, ◌<◌, Bool, true, false}
 use Rattle.machine_model.specs.Machine.{Machine, act_of, local, run}
-use Rattle.machine_model.specs.Told.{Act, Nothing, Plans, Trades, Upon, UponAll}
+use Rattle.machine_model.specs.Told.{Act, Nothing, OwnPuts, OwnSignals, OwnStill, OwnTakes, OwnTraffic, Plans, Trades, Upon, UponAll}
+
+-- whether traffic is a signal
+abbrev pub is_signal : OwnTraffic → Bool
+is_signal OwnStill = false
+is_signal (OwnPuts name bytes) = false
+is_signal (OwnTakes name) = false
+is_signal (OwnSignals number) = true
 
 -- whether an act ends a stretch: it is neither none nor a message that is put or taken
 abbrev pub ends_stretch : Act → Bool
 ends_stretch Nothing = false
-ends_stretch (Trades traffic) = false
+ends_stretch (Trades traffic) = is_signal traffic
 ends_stretch (Upon id order) = true
 ends_stretch (Plans change) = true
 ends_stretch (UponAll event) = true

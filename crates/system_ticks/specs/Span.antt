@@ -1,5 +1,5 @@
 -- What ticks of one slot or gap come to.
-use Rattle.std.specs.Prelude.{◌≡◌, ℕ, zero, suc, ◌+◌, ◌-◌, ◌<◌, ◌≤◌, Bool, false, List, [], ◌++◌, length, map, None, Some}
+use Rattle.std.specs.Prelude.{◌≡◌, ℕ, zero, suc, ◌+◌, ◌-◌, ◌<◌, ◌≤◌, Bool, false, true, if◌then◌else◌, List, [], ◌++◌, length, map, None, Some}
 use Rattle.cyclic_plans.specs.PlanClock.{AsksPlan, IsInFrame}
 use Rattle.cyclic_plans.specs.Slots.{frame_of}
 use Rattle.sparc_step.specs.declared.outcome.Turn.{Turn}
@@ -11,6 +11,8 @@ use Rattle.xm_ports.specs.Channels.{shapes_of}
 use Rattle.xm_report.specs.Report.{ReportLine}
 use Rattle.whole_system.specs.Serving.{CanBeTold}
 use Rattle.whole_system.specs.State.{SysState, areas_in, memory_of, with_machine}
+use Rattle.whole_system.specs.declared.served.Note.{Note}
+use Rattle.whole_system.specs.declared.served.Note.TheVariants as note
 use Rattle.machine_model.specs.Facts.{AreEnds}
 use Rattle.machine_model.specs.Lines.{lines}
 use Rattle.machine_model.specs.LocalTick.{turned_state, with_interrupts}
@@ -27,6 +29,7 @@ use Rattle.slot_runs.specs.Undisturbed.{IsUndisturbed}
 use Rattle.system_ticks.specs.Kept.{kept_by, kept_tick}
 use Rattle.system_ticks.specs.Quiet.{AreQuiet, ends_in, ends_stretch}
 use Rattle.system_ticks.specs.Work.{act_beyond, console_told}
+use Rattle.system_ticks.specs.declared.beyond.Beyond.{Beyond}
 use Rattle.system_ticks.specs.declared.slot.Span.{Span}
 
 -- the line of bytes for the console of the last of the ticks of a span
@@ -39,6 +42,21 @@ IsLastKept span old new =
     kept_tick (run old (span.ticks - 1))
     ≡ kept_by (turn_after (span.ticks - 1) (turn_of old)) span.worked span.note span.reach (memory_of span.part new)
 
+-- whether a note reports of a signal
+abbrev pub notes_signal : Note → Bool
+notes_signal note.Nothing = false
+notes_signal (note.Console at size) = false
+notes_signal (note.Trace entry) = false
+notes_signal (note.Put chan at size) = false
+notes_signal (note.Take chan) = false
+notes_signal (note.Saw at size) = false
+notes_signal note.NotKept = false
+notes_signal (note.Signal number) = true
+
+-- whether an act ends a stretch that is told by this note and reaches so beyond its partition
+abbrev pub ends_so : Note → Beyond → Bool
+ends_so a_note reach = if notes_signal a_note then true else ends_stretch (act_beyond reach)
+
 -- ticks of the machine were done, in the last of which the hypervisor may have halted; only the last has lines, which are these, but for
 -- one of bytes for the console, and only the last may have an act that ends a stretch
 pub record IsSpanDone (span : Span) (most : ℕ) (old new : SysState) (got : List ReportLine) : Type 0 where
@@ -48,12 +66,12 @@ pub record IsSpanDone (span : Span) (most : ℕ) (old new : SysState) (got : Lis
   pub state : new ≡ with_machine (run old.machine span.ticks) old
   pub silent : lines old.machine (span.ticks - 1) ≡ []
   pub lines : lines old.machine span.ticks ≡ console_lines span old.machine new.machine ++ got
-  pub few : length got ≤ 24
+  pub few : length got ≤ 40
   pub part : span.part < length new.machine.parts
   pub readable : CanBeTold span.note (areas_in span.part new.machine)
   pub kept : IsLastKept span old.machine new.machine
   pub quiet : AreQuiet span.ticks old.machine
-  pub ends : ends_in (run old.machine (span.ticks - 1)) ≡ ends_stretch (act_beyond span.reach)
+  pub ends : ends_in (run old.machine (span.ticks - 1)) ≡ ends_so span.note span.reach
 
 -- the same, of a machine that stands before the system's
 pub record AreDoneFrom (span : Span) (most : ℕ) (g : Machine) (old new : SysState) (got : List ReportLine) : Type 0 where
@@ -63,12 +81,12 @@ pub record AreDoneFrom (span : Span) (most : ℕ) (g : Machine) (old new : SysSt
   pub state : new ≡ with_machine (run g span.ticks) old
   pub silent : lines g (span.ticks - 1) ≡ []
   pub lines : lines g span.ticks ≡ console_lines span g new.machine ++ got
-  pub few : length got ≤ 24
+  pub few : length got ≤ 40
   pub part : span.part < length new.machine.parts
   pub readable : CanBeTold span.note (areas_in span.part new.machine)
   pub kept : IsLastKept span g new.machine
   pub quiet : AreQuiet span.ticks g
-  pub ends : ends_in (run g (span.ticks - 1)) ≡ ends_stretch (act_beyond span.reach)
+  pub ends : ends_in (run g (span.ticks - 1)) ≡ ends_so span.note span.reach
 
 -- what ticks of a slot of partition p need, so many at most
 pub record CanTake (p most : ℕ) (sys : SysState) : Type 0 where

@@ -42,6 +42,7 @@ console_told (note.Put chan at size) memory = []
 console_told (note.Take chan) memory = []
 console_told (note.Saw at size) memory = []
 console_told note.NotKept memory = []
+console_told (note.Signal number) memory = []
 
 -- a part of the work of partition p: it leaves this of the partition, and adds the lines of what it tells
 pub record IsPartDone (p : ℕ) (after : PartitionState) (tale : List Told) (old new : SysState) (had got : List ReportLine) : Type 0 where
@@ -58,7 +59,7 @@ pub record IsTickWorked (p : ℕ) (work : Worked) (a_note : Note) (reach : Beyon
 
 -- the traffic of a call of partition p, and what it was shown, are what its note tells
 pub record IsToldBy (p : ℕ) (shown : Sight) (work : Worked) (a_note : Note) (old : SysState) : Type 0 where
-  pub traffic : traffic_in old.machine p work.act ≡ traffic_by a_note work.after.memory
+  pub traffic : traffic_in old.machine p work.act ≡ traffic_by p a_note work.after.memory
   pub seen : shown ≡ sight_by a_note work.after.memory
 
 -- the end of a tick of partition p: its order, a hypervisor event, the rest of all others, and the clocks
@@ -89,6 +90,7 @@ trace_told (note.Put chan at size) = []
 trace_told (note.Take chan) = []
 trace_told (note.Saw at size) = []
 trace_told note.NotKept = []
+trace_told (note.Signal number) = []
 
 -- the note of a call, and how it reaches beyond its partition, where none is told that reports nothing and does not
 abbrev pub note_in : Option (Note × Beyond) → Note
@@ -112,3 +114,4 @@ TellsAlone (note.Put chan at size) reach = act_beyond reach ≡ told.Nothing
 TellsAlone (note.Take chan) reach = Unit {0}
 TellsAlone (note.Saw at size) reach = AsksAtMost reach
 TellsAlone note.NotKept reach = Unit {0}
+TellsAlone (note.Signal number) reach = Unit {0}

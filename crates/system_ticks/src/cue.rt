@@ -5,8 +5,8 @@ ghost use Rattle.machine_model.specs.Cue.{slot_of};
 ghost use Rattle.machine_model.specs.Lists.{is_number};
 ghost use Rattle.machine_model.specs.Machine.{is_turn_of, order_for, turn_here};
 ghost use Rattle.machine_model.specs.Told.{reach_of};
-ghost use Rattle.machine_model.specs.Traffic.{heard_as, own_puts_at, own_takes_at};
-ghost use Rattle.machine_model.specs.View.{name_of, part_of};
+ghost use Rattle.machine_model.specs.Traffic.{heard_as, own_puts_at, own_signals_at, own_takes_at};
+ghost use Rattle.machine_model.specs.View.{linked, name_of, part_of};
 ghost use Rattle.machine_model.specs.Whole.{event_of};
 ghost use Rattle.xm_conf.specs.View.{channel_of};
 ghost use Rattle.system_ticks.specs.CueValues.{sight_value, slot_value, traffic_value, whole_value};
@@ -29,7 +29,7 @@ pub enum Mine {
     Mine { first: bool },
 }
 
-/// What others did to a channel of the partition, which goes by the partition's name for it: its lowest port on the channel.
+/// What others did to a channel of the partition, which goes by the partition's name for it: its lowest port on the channel; or over a link to it.
 #[derive(Clone, Copy, Debug, PartialEq, Eq)]
 pub enum Traffic<'a> {
     /// Nothing.
@@ -38,6 +38,8 @@ pub enum Traffic<'a> {
     Put { chan: u8, bytes: &'a [u8] },
     /// The first message was taken.
     Take { chan: u8 },
+    /// It was signalled over a link of this number that goes to it.
+    Signal { number: u8 },
 }
 
 /// What was done to the whole system.
@@ -101,14 +103,22 @@ pub(crate) fn mine_of(slot: Option<Here>, p: PartId) -> Mine
     }
 }
 
-/// The traffic that a note reports with these bytes, as partition `p` hears of it: on a channel of its own, under its name for it.
-pub(crate) fn traffic_heard<'a>(conf: &Conf, p: PartId, note: Note, bytes: &'a [u8]) -> Traffic<'a>
+/// The traffic that a note of partition `source` tells with these bytes, as partition `p` hears of it: on a channel of its own, under its name for
+/// it, or over a link to it.
+pub(crate) fn traffic_heard<'a>(
+    conf: &Conf,
+    p: PartId,
+    source: PartId,
+    note: Note,
+    bytes: &'a [u8],
+) -> Traffic<'a>
     requires { p < length conf.now.parts }
-    ensures { traffic_value result ≡ heard_as (name_of conf.now p) (traffic_with note bytes.now) }
+    ensures { traffic_value result ≡ heard_as conf.now p (traffic_with source note bytes.now) }
 {
     match note {
         Note::Put { chan, .. } => put_heard(name_of(conf, p, chan), bytes),
         Note::Take { chan } => take_heard(name_of(conf, p, chan)),
+        Note::Signal { number } => signal_heard(is_linked(conf, source, number, p), number),
         Note::Nothing | Note::Console { .. } | Note::Trace(_) | Note::Saw { .. } | Note::NotKept =>
             Traffic::Nothing,
     }
@@ -131,6 +141,17 @@ fn take_heard(name: Option<u8>) -> Traffic<'static>
     match name {
         Some(chan) => Traffic::Take { chan },
         None => Traffic::Nothing,
+    }
+}
+
+// A signal, where its link goes to the partition.
+fn signal_heard(reaches: bool, number: u8) -> Traffic<'static>
+    ensures { traffic_value result ≡ own_signals_at reaches number }
+{
+    if reaches {
+        Traffic::Signal { number }
+    } else {
+        Traffic::Nothing
     }
 }
 
@@ -169,7 +190,8 @@ pub(crate) fn sight_of(note: Note, bytes: &[u8]) -> Sight<'_>
         | Note::Console { .. }
         | Note::Trace(_)
         | Note::Put { .. }
-        | Note::Take { .. } => Sight::Nothing,
+        | Note::Take { .. }
+        | Note::Signal { .. } => Sight::Nothing,
     }
 }
 
@@ -204,6 +226,17 @@ fn configured(conf: &Conf, p: PartId) -> &Part
     ensures few { length result.now.ports ≤ 32 }
 {
     &conf.raw().parts[usize::from(p)]
+}
+
+// Whether a partition's link of a number goes to partition `p`, which is another one.
+#[tactic(auto, unfolding(machine_model::specs::View::linked))]
+fn is_linked(conf: &Conf, source: PartId, number: u8, p: PartId) -> bool
+    ensures { result ≡ is_number (linked conf.now source number) p }
+{
+    match conf.link_of(source, number) {
+        Some(dest) => dest != source && dest == p,
+        None => false,
+    }
 }
 
 // Whether a port is on a channel.

@@ -33,7 +33,7 @@ pub(crate) fn end_tick(sys: &mut Sys, lines: &mut Lines, p: PartId, reach: Beyon
     requires room { length lines.old ≤ 4 }
     ensures state { sys.new ≡ with_machine (ended_by (act_beyond reach) p sys.old.machine) sys.old }
     ensures lines { lines.new ≡ lines.old ++ ending_lines (act_beyond reach) sys.old.machine }
-    ensures few { length lines.new ≤ 24 }
+    ensures few { length lines.new ≤ 40 }
 {
     match reach {
         Beyond::Nothing => end_plainly(sys, lines, p),
@@ -53,7 +53,7 @@ fn end_beyond(sys: &mut Sys, lines: &mut Lines, p: PartId, reach: Beyond)
     requires room { length lines.old ≤ 4 }
     ensures state { sys.new ≡ with_machine (ended_by (act_beyond reach) p sys.old.machine) sys.old }
     ensures lines { lines.new ≡ lines.old ++ ending_lines (act_beyond reach) sys.old.machine }
-    ensures few { length lines.new ≤ 24 }
+    ensures few { length lines.new ≤ 40 }
 {
     match reach {
         Beyond::Nothing => end_plainly(sys, lines, p),
@@ -75,7 +75,7 @@ fn end_plainly(sys: &mut Sys, lines: &mut Lines, p: PartId)
     requires time { sys.old.machine.time + 1 < 2 ^ 64 }
     requires ticks { sys.old.machine.ticks + 1 < 2 ^ 64 }
     requires frame { IsInFrame sys.old.machine.system.conf sys.old.machine.clock sys.old.machine.time }
-    requires room { length lines.old < 24 }
+    requires room { length lines.old < 40 }
     ensures state { sys.new ≡ with_machine (ended_by Nothing p sys.old.machine) sys.old }
     ensures lines { lines.new ≡ lines.old ++ ending_lines Nothing sys.old.machine }
     ensures few { length lines.new ≤ length lines.old + 1 }
@@ -92,7 +92,7 @@ pub(crate) fn end_ticks(sys: &mut Sys, lines: &mut Lines, ticks: u64)
     requires time { sys.old.machine.time + ticks < 2 ^ 64 }
     requires ticks { sys.old.machine.ticks + ticks < 2 ^ 64 }
     requires frame { IsInFrame sys.old.machine.system.conf sys.old.machine.clock (sys.old.machine.time + ticks - 1) }
-    requires room { length lines.old < 24 }
+    requires room { length lines.old < 40 }
     ensures state { sys.new ≡ with_machine (after_span (ticks - 1) sys.old.machine.parts sys.old.machine) sys.old }
     ensures lines { lines.new ≡ lines.old ++ plan_line (ticks - 1) sys.old.machine }
     ensures few { length lines.new ≤ length lines.old + 1 }
@@ -111,7 +111,7 @@ fn end_by_event(sys: &mut Sys, lines: &mut Lines, p: PartId, event: Whole)
     requires room { length lines.old ≤ 4 }
     ensures state { sys.new ≡ with_machine (ended_by (done_to_all event) p sys.old.machine) sys.old }
     ensures lines { lines.new ≡ lines.old ++ ending_lines (done_to_all event) sys.old.machine }
-    ensures few { length lines.new ≤ length lines.old + 18 }
+    ensures few { length lines.new ≤ length lines.old + 34 }
 {
     match event {
         Whole::Nothing => end_plainly(sys, lines, p),
@@ -125,7 +125,7 @@ fn end_by_event(sys: &mut Sys, lines: &mut Lines, p: PartId, event: Whole)
 fn end_in_maintenance(sys: &mut Sys, lines: &mut Lines, p: PartId)
     requires time { sys.old.machine.time + 1 < 2 ^ 64 }
     requires ticks { sys.old.machine.ticks + 1 < 2 ^ 64 }
-    requires room { length lines.old < 24 }
+    requires room { length lines.old < 40 }
     ensures state { sys.new ≡ with_machine (ended_by (Plans Maintenance) p sys.old.machine) sys.old }
     ensures lines { lines.new ≡ lines.old ++ ending_lines (Plans Maintenance) sys.old.machine }
     ensures few { length lines.new ≤ length lines.old + 1 }
@@ -145,7 +145,7 @@ fn end_by_reset(sys: &mut Sys, lines: &mut Lines, p: PartId, mode: Mode)
     requires room { length lines.old ≤ 4 }
     ensures state { sys.new ≡ with_machine (ended_by (UponAll (AllReset mode)) p sys.old.machine) sys.old }
     ensures lines { lines.new ≡ lines.old ++ ending_lines (UponAll (AllReset mode)) sys.old.machine }
-    ensures few { length lines.new ≤ length lines.old + 18 }
+    ensures few { length lines.new ≤ length lines.old + 34 }
 {
     tell_reset(lines, sys.ticks(), sys.count(), mode);
     reset_all(sys, mode);
@@ -160,7 +160,7 @@ fn end_by_reset(sys: &mut Sys, lines: &mut Lines, p: PartId, mode: Mode)
 
 // The hypervisor halts, and the clocks stand.
 fn end_by_halt(sys: &mut Sys, lines: &mut Lines, p: PartId)
-    requires room { length lines.old < 24 }
+    requires room { length lines.old < 40 }
     ensures state { sys.new ≡ with_machine (ended_by (UponAll AllHalted) p sys.old.machine) sys.old }
     ensures lines { lines.new ≡ lines.old ++ ending_lines (UponAll AllHalted) sys.old.machine }
     ensures few { length lines.new ≤ length lines.old + 1 }
@@ -176,7 +176,7 @@ fn end_by_halt(sys: &mut Sys, lines: &mut Lines, p: PartId)
 
 // Tells the plan that comes, where it is another than this one.
 fn tell_plan(sys: &Sys, lines: &mut Lines, old: u8)
-    requires { length lines.old < 24 }
+    requires { length lines.old < 40 }
     ensures value { lines.new ≡ lines.old ++ plan_lines sys.now.machine.ticks old sys.now.machine.clock.plan }
     ensures few { length lines.new ≤ length lines.old + 1 }
 {
@@ -192,9 +192,9 @@ fn tell_plan(sys: &Sys, lines: &mut Lines, old: u8)
 // Tells a reset of all: its own line, and one of each partition.
 fn tell_reset(lines: &mut Lines, n: u64, count: u8, mode: Mode)
     requires room { length lines.old ≤ 4 }
-    requires few { count ≤ 16 }
+    requires few { count ≤ 32 }
     ensures value { lines.new ≡ lines.old ++ reset_lines n count mode }
-    ensures few { length lines.new ≤ length lines.old + 17 }
+    ensures few { length lines.new ≤ length lines.old + 33 }
 {
     let to = reset_move(mode);
     lines.push(Line::Whole { n, to });

@@ -73,7 +73,7 @@ fn is_logged_by(sys: &Sys, p: PartId, event: Event) -> bool
 fn enter(sys: &mut Sys, lines: &mut Lines, p: PartId, event: Event, word: u32, action: Action)
     requires partition { p < length sys.old.machine.parts }
     requires log { (part_at p sys.old.machine).health.next < 4294967294 }
-    requires room { length lines.old < 24 }
+    requires room { length lines.old < 40 }
     ensures done { IsPartDone p (entered_if (is_logged (view_of sys.old.machine.system p).part.hm event) sys.old.machine.time event word action (part_at p sys.old.machine)) (entered_told (is_logged (view_of sys.old.machine.system p).part.hm event) event word action) sys.old sys.new lines.old lines.new }
     ensures few { length lines.new ≤ length lines.old + 1 }
     ensures log { (part_at p sys.new.machine).health.next < 4294967295 }
@@ -88,7 +88,7 @@ fn enter(sys: &mut Sys, lines: &mut Lines, p: PartId, event: Event, word: u32, a
 fn log(sys: &mut Sys, lines: &mut Lines, p: PartId, event: Event, word: u32, action: Action)
     requires partition { p < length sys.old.machine.parts }
     requires log { (part_at p sys.old.machine).health.next < 4294967295 }
-    requires room { length lines.old < 24 }
+    requires room { length lines.old < 40 }
     ensures done { IsPartDone p (entered sys.old.machine.time event word action (part_at p sys.old.machine)) (Health event word action ∷ []) sys.old sys.new lines.old lines.new }
     ensures few { length lines.new ≤ length lines.old + 1 }
     ensures log { (part_at p sys.new.machine).health.next ≡ (part_at p sys.old.machine).health.next + 1 }

@@ -8,7 +8,7 @@ ghost use Rattle.slot_runs.specs.Meeting.{first_after};
 ghost use Rattle.whole_system.specs.Serving.{CanBeTold};
 ghost use Rattle.whole_system.specs.State.{areas_in, memory_of};
 ghost use Rattle.system_ticks.specs.CueValues.{cue_value};
-ghost use Rattle.system_ticks.specs.Kept.{bytes_noted, kept_by, kept_cue, no_kept};
+ghost use Rattle.system_ticks.specs.Kept.{bytes_noted, kept_by, kept_cue, no_kept, slot_partition};
 ghost use Rattle.system_ticks.specs.Machine.{IsMachine};
 ghost use Rattle.system_ticks.specs.Place.{IsAt, IsPlace};
 ghost use Rattle.system_ticks.specs.Span.{IsSpanDone};
@@ -127,7 +127,7 @@ impl Kept {
             traffic: if own && self.span.worked {
                 Traffic::Nothing
             } else {
-                traffic_heard(conf, p, self.span.note, bytes)
+                traffic_heard(conf, p, source_of(self.slot), self.span.note, bytes)
             },
             order: order_for(self.span.reach, p),
             whole: whole_of(self.span.reach),
@@ -137,6 +137,16 @@ impl Kept {
                 Sight::Nothing
             },
         }
+    }
+}
+
+// Whose slot it is; in a gap, any.
+fn source_of(slot: Option<Here>) -> PartId
+    ensures { result ≡ slot_partition (turn_here slot) }
+{
+    match slot {
+        Some(slot) => slot.part,
+        None => 0,
     }
 }
 
@@ -180,8 +190,12 @@ fn read_noted(sys: &Sys, p: PartId, note: Note, bytes: &mut [u8]) -> usize
     match note {
         Note::Put { at, size, .. } => read_first(sys, p, at, size, bytes),
         Note::Saw { at, size } => read_first(sys, p, at, size, bytes),
-        Note::Nothing | Note::Console { .. } | Note::Trace(_) | Note::Take { .. } | Note::NotKept =>
-            0,
+        Note::Nothing
+        | Note::Console { .. }
+        | Note::Trace(_)
+        | Note::Take { .. }
+        | Note::NotKept
+        | Note::Signal { .. } => 0,
     }
 }
 

@@ -11,7 +11,7 @@ use xm_report::Line;
 
 /// How many lines a tick has at most, but for that of bytes that go to a console: four of a partition's work, one of an order, one of a
 /// hypervisor event and one of each partition that it resets, and that of a plan.
-const TICK_LINES: usize = 24;
+const TICK_LINES: usize = 40;
 
 /// The lines of one tick in their order, but for that of bytes that go to a console. All room for them is taken when they are made.
 #[derive(Debug, Drop)]
@@ -28,7 +28,7 @@ impl Model for Lines {
 
     ghost view = { λ lines. map line_value lines.lines.items };
 
-    ghost invariant = { λ lines. All IsShort (map line_value lines.lines.items) × All IsOtherLine (map line_value lines.lines.items) × (24 ≤ vec_capacity lines.lines) };
+    ghost invariant = { λ lines. All IsShort (map line_value lines.lines.items) × All IsOtherLine (map line_value lines.lines.items) × (40 ≤ vec_capacity lines.lines) };
 }
 
 impl Lines {
@@ -50,7 +50,7 @@ impl Lines {
 
     /// One line more.
     pub fn push(&mut self, line: Line<'static>)
-        requires room { length self.old < 24 }
+        requires room { length self.old < 40 }
         requires short { IsShort (line_value line) }
         requires other { IsOtherLine (line_value line) }
         ensures value { self.new ≡ self.old ++ line_value line.entry ∷ [] }

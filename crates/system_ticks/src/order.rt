@@ -24,7 +24,7 @@ const SHUTDOWN: u8 = 2;
 #[tactic(auto, unfolding(machine_model::specs::Partition::ordered, machine_model::specs::Partition::ordered_told))]
 pub fn obey(sys: &mut Sys, lines: &mut Lines, p: PartId, order: Order)
     requires partition { p < length sys.old.machine.parts }
-    requires room { length lines.old < 24 }
+    requires room { length lines.old < 40 }
     ensures done { IsPartDone p (ordered (view_of sys.old.machine.system p) order (part_at p sys.old.machine)) (ordered_told order (part_at p sys.old.machine)) sys.old sys.new lines.old lines.new }
     ensures few { length lines.new ≤ length lines.old + 1 }
 {
@@ -48,7 +48,7 @@ fn applies(order: Order, state: State) -> bool
 
 // Tells an order that applies; one to shut down changes no state.
 fn tell(lines: &mut Lines, n: u64, p: PartId, order: Order)
-    requires { length lines.old < 24 }
+    requires { length lines.old < 40 }
     ensures value { lines.new ≡ lines.old ++ map (line_of n p) (order_told order) }
     ensures few { length lines.new ≤ length lines.old + 1 }
 {

@@ -236,7 +236,7 @@ fn pass(sys: &mut Sys, lines: &mut Lines, span: &mut Span, p: PartId, ticks: u64
     requires time { sys.old.machine.time + ticks < 2 ^ 64 }
     requires ticks { sys.old.machine.ticks + ticks < 2 ^ 64 }
     requires frame { IsInFrame sys.old.machine.system.conf sys.old.machine.clock (sys.old.machine.time + ticks - 1) }
-    requires room { length lines.old < 24 }
+    requires room { length lines.old < 40 }
     ensures state { sys.new ≡ with_machine (after_span (ticks - 1) (rest_but (Some p) (sys.old.machine.time + ticks - 1) sys.old.machine).parts sys.old.machine) sys.old }
     ensures lines { lines.new ≡ lines.old ++ plan_line (ticks - 1) sys.old.machine }
     ensures few { length lines.new ≤ length lines.old + 1 }
@@ -377,7 +377,7 @@ fn pass_call(sys: &mut Sys, lines: &mut Lines, span: &mut Span, p: PartId, ticks
     requires room { length lines.old ≤ 4 }
     ensures state { sys.new ≡ with_machine (ended_by (act_beyond Beyond.Nothing) p sys.old.machine) sys.old }
     ensures lines { lines.new ≡ lines.old ++ ending_lines (act_beyond Beyond.Nothing) sys.old.machine }
-    ensures few { length lines.new ≤ 24 }
+    ensures few { length lines.new ≤ 40 }
     ensures span { span.new ≡ record { ticks = ticks; part = p; worked = true; note = Note.Nothing; reach = Beyond.Nothing } }
 {
     end_tick(sys, lines, p, Beyond::Nothing);
@@ -402,7 +402,7 @@ fn end_call(
     requires room { length lines.old ≤ 4 }
     ensures state { sys.new ≡ with_machine (ended_by (act_beyond reach) p sys.old.machine) sys.old }
     ensures lines { lines.new ≡ lines.old ++ ending_lines (act_beyond reach) sys.old.machine }
-    ensures few { length lines.new ≤ 24 }
+    ensures few { length lines.new ≤ 40 }
     ensures span { span.new ≡ record { ticks = ticks; part = p; worked = true; note = note; reach = reach } }
 {
     end_tick(sys, lines, p, reach);

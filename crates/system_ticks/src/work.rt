@@ -149,7 +149,7 @@ fn serve_call(sys: &mut Sys, p: PartId, pc: u32) -> Served
 
 // Tells the entry that a call made in its partition's traces, where it made one.
 fn tell_trace(lines: &mut Lines, n: u64, p: PartId, note: Note)
-    requires { length lines.old < 24 }
+    requires { length lines.old < 40 }
     ensures value { lines.new ≡ lines.old ++ map (line_of n p) (trace_told note) }
     ensures few { length lines.new ≤ length lines.old + 1 }
 {

@@ -9,7 +9,6 @@ use Rattle.machine_model.specs.Machine.{Happened, Machine, SlotTurn, happened, h
 use Rattle.machine_model.specs.Partition.{PartitionState}
 use Rattle.machine_model.specs.Told.{Sight, Unseen}
 use Rattle.machine_model.specs.Traffic.{heard_as}
-use Rattle.machine_model.specs.View.{name_of}
 use Rattle.system_ticks.specs.Kept.{kept_cue, kept_in, kept_tick, shown_to}
 
 -- whether the tick of a partition is there
@@ -41,7 +40,7 @@ seen_as g p (Some turn) is = at (turn.part == p) refl
 -- a cue of what happened
 cue_as : (conf : Conf) (h : Happened) (p : ℕ) (seen shown : Sight) → (if is_turn_of h.turn p then seen else Unseen) ≡ shown
     → kept_cue conf (kept_in h seen) p
-    ≡ record { mine = slot_of h.turn p; traffic = unless_own (is_some (tick_of h p)) (heard_as (name_of conf p) h.traffic); order = order_upon h.act p; whole = h.event; seen = shown }
+    ≡ record { mine = slot_of h.turn p; traffic = unless_own (is_some (tick_of h p)) (heard_as conf p h.traffic); order = order_upon h.act p; whole = h.event; seen = shown }
 unfolding kept_cue kept_in
 cue_as conf h p seen shown is = rw (works h p, is) refl
 

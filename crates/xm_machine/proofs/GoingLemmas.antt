@@ -14,11 +14,9 @@ use Rattle.slot_runs.specs.RunLemmas.{lines_add, run_add}
 use Rattle.xm_machine.proofs.FrontLemmas.{front_of_all}
 use Rattle.system_ticks.specs.KeptLemmas.{run_halted, step_halted, ticks_exact, ticks_least}
 use Rattle.xm_machine.specs.Outcome.{HasWriteCause, IsTick}
-use Rattle.system_ticks.specs.Quiet.{ends_stretch}
-use Rattle.system_ticks.specs.Span.{IsSpanDone, console_lines}
+use Rattle.system_ticks.specs.Span.{IsSpanDone, console_lines, ends_so}
 use Rattle.xm_machine.specs.Steps.{AreCut, AreRun, IsStep, IsStepCut, Tells}
 use Rattle.xm_machine.specs.Stretch.{AreStepped, IsStretchCut, Steps, stepped_by}
-use Rattle.system_ticks.specs.Work.{act_beyond}
 use Rattle.system_ticks.specs.declared.slot.Span.{Span}
 
 -- the lines of a run, and of more ticks
@@ -58,7 +56,7 @@ halted_tick g had halts = record {
 
 -- ticks of a span were done, and what they told was put out
 pub step_told : (told : ℕ) (ends : Bool) (span : Span) (most : ℕ) (old new : SysState) (after : List ReportLine) (had got : Option (List ℕ)) → IsSpanDone span most old new after
-    → ends ≡ ends_stretch (act_beyond span.reach) → Tells (Ok told) (console_lines span old.machine new.machine ++ after) had got
+    → ends ≡ ends_so span.note span.reach → Tells (Ok told) (console_lines span old.machine new.machine ++ after) had got
     → AreStepped (record { ticks = span.ticks; lines = told; ends = ends }) most old.machine new.machine had got
 step_told told ends span most old new after had got done ends_is tells = record {
   step = record {
@@ -99,13 +97,13 @@ step_cut span most old new after had got done cut =
 
 -- and both
 pub step_so : (told : Result ℕ WriteFault) (ends : Bool) (span : Span) (most : ℕ) (old new : SysState) (after : List ReportLine) (had got : Option (List ℕ)) → IsSpanDone span most old new after
-    → ends ≡ ends_stretch (act_beyond span.reach) → Tells told (console_lines span old.machine new.machine ++ after) had got
+    → ends ≡ ends_so span.note span.reach → Tells told (console_lines span old.machine new.machine ++ after) had got
     → Steps (stepped_by told span.ticks ends) most old.machine new.machine had got
 step_so (Ok lines) ends span most old new after had got done is tells = step_told lines ends span most old new after had got done is tells
 step_so (Err fault) ends span most old new after had got done is tells = step_cut span most old new after had got done tells
 
 -- they told few lines, and the sink's count has the cause that it has
-pub few_so : (told : Result ℕ WriteFault) (ticks : ℕ) (ends : Bool) → IfOk told (λ lines. lines ≤ 25) → IfOk (stepped_by told ticks ends) (λ s. s.lines ≤ 25)
+pub few_so : (told : Result ℕ WriteFault) (ticks : ℕ) (ends : Bool) → IfOk told (λ lines. lines ≤ 41) → IfOk (stepped_by told ticks ends) (λ s. s.lines ≤ 41)
 few_so (Ok lines) ticks ends few = few
 few_so (Err fault) ticks ends few = tt
 
@@ -117,7 +115,7 @@ cause_so (Err fault) ticks ends before now cause = cause
 pub record Goes (told ticks : ℕ) (old new : Machine) (had got : Option (List ℕ)) : Type 0 where
   pub done : ℕ
   pub within : done ≤ ticks
-  pub few : told ≤ 25 * done
+  pub few : told ≤ 41 * done
   pub are : AreRun done told old new had got
 
 -- it begins
@@ -176,7 +174,7 @@ cut_on g mid new told done more had before got are then =
         )
 
 -- it goes on
-pub goes_on : (g mid new : Machine) (told count most ticks : ℕ) (had before got : Option (List ℕ)) → (goes : Goes told ticks g mid had before) → (step : IsStep count most mid new before got) → count ≤ 25 * step.done → goes.done + most ≤ ticks → Goes (told + count) ticks g new had got
+pub goes_on : (g mid new : Machine) (told count most ticks : ℕ) (had before got : Option (List ℕ)) → (goes : Goes told ticks g mid had before) → (step : IsStep count most mid new before got) → count ≤ 41 * step.done → goes.done + most ≤ ticks → Goes (told + count) ticks g new had got
 goes_on g mid new told count most ticks had before got goes step few room = record {
   done = goes.done + step.done;
   within = omega (arith, step.within, room);

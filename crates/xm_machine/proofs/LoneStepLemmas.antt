@@ -1,5 +1,5 @@
 -- One tick of one partition of a machine without the others, told.
-use Rattle.std.proofs.Common.{◌≡◌, ℕ, ◌≤◌, List, ◌++◌, length, map, Option, Some, None, refl, sym, ap, subst, ◌∙◌}
+use Rattle.std.proofs.Common.{◌≡◌, ℕ, ◌≤◌, List, ◌++◌, length, map, Option, Some, None, refl, sym, ap, subst, ◌∙◌, arith}
 use Rattle.std.specs.Prelude.{IfSome, Result, Ok, Err}
 use Rattle.xm_report.specs.Report.{ReportLine}
 use Rattle.xm_report.specs.declared.output.WriteFault.{WriteFault}
@@ -88,6 +88,6 @@ pub can_be_told : (o : Option Note) (p : ℕ) (cue : Cue) (old new : Machine) (l
 can_be_told (Some a_note) p cue old new lines ticked = ticked.readable
 can_be_told None p cue old new lines untaken = tt
 
-pub are_few : (o : Option Note) (p : ℕ) (cue : Cue) (old new : Machine) (lines : List ReportLine) → IsLoneTick o p cue old new lines → IfSome o (λ a_note. length lines ≤ 24)
-are_few (Some a_note) p cue old new lines ticked = ticked.few
+pub are_few : (o : Option Note) (p : ℕ) (cue : Cue) (old new : Machine) (lines : List ReportLine) → IsLoneTick o p cue old new lines → IfSome o (λ a_note. length lines ≤ 40)
+are_few (Some a_note) p cue old new lines ticked = let few : length lines ≤ 24 = ticked.few in omega (arith, few)
 are_few None p cue old new lines untaken = tt

@@ -74,7 +74,7 @@ quiet_on g mid done more is all quiet k below = ⊎_elim (λ less. all k less) l
 -- a stretch is on its way: so many of its ticks were done, and whether it ends with the last of them
 pub record GoesStretch (ticks told : ℕ) (ends : Bool) (most : ℕ) (old new : Meaning) (had got : Option (List ℕ)) : Type 0 where
   pub within : ticks ≤ most
-  pub few : told ≤ 25 * ticks
+  pub few : told ≤ 41 * ticks
   pub are : AreRun ticks told old.state new.state had got
   pub quiet : AreQuiet ticks old.state
   pub last : 0 < ticks → ends_in (run old.state (ticks - 1)) ≡ ends
@@ -113,7 +113,7 @@ stretch_counted ticks told_lines ends most old mid had before goes runs =
 -- it goes on
 pub stretch_on : (ticks told_lines : ℕ) (ends : Bool) (most : ℕ) (stepped : Stepped) (old mid new : Meaning) (had before got : Option (List ℕ))
     → GoesStretch ticks told_lines ends most old mid had before → ends ≡ false
-    → AreStepped stepped (most - ticks) mid.state new.state before got → stepped.lines ≤ 25 → new.kept ≡ kept_after mid.state stepped.ticks mid.kept
+    → AreStepped stepped (most - ticks) mid.state new.state before got → stepped.lines ≤ 41 → new.kept ≡ kept_after mid.state stepped.ticks mid.kept
     → GoesStretch (ticks + stepped.ticks) (told_lines + stepped.lines) stepped.ends most old new had got
 stretch_on ticks told_lines ends most stepped old mid new had before got goes more are few kept =
     let state : mid.state ≡ run old.state ticks = goes.are.state in

@@ -323,7 +323,7 @@ impl Machine {
         requires most { self.old.state.ticks + most ≤ TICKS }
         ensures step { Steps result most self.old.state self.new.state (O.got out.old) (O.got out.new) }
         ensures kept { KeepsStepped result most self.old self.new }
-        ensures few { IfOk result (λ stepped. stepped.lines ≤ 25) }
+        ensures few { IfOk result (λ stepped. stepped.lines ≤ 41) }
         ensures cause { HasWriteCause result (O.faults out.old) (O.faults out.new) }
         ensures heard { IsRunHeard self.old.state self.new.state (⟦<Board as ViewBoard>⟧.board_view board.old) (⟦<Board as ViewBoard>⟧.board_view board.new) }
         ensures counters { IsCounted self.new.state }
@@ -347,7 +347,7 @@ impl Machine {
         requires most { self.old.state.ticks + most ≤ TICKS }
         ensures step { Steps result most self.old.state self.new.state (O.got out.old) (O.got out.new) }
         ensures kept { KeepsStepped result most self.old self.new }
-        ensures few { IfOk result (λ stepped. stepped.lines ≤ 25) }
+        ensures few { IfOk result (λ stepped. stepped.lines ≤ 41) }
         ensures cause { HasWriteCause result (O.faults out.old) (O.faults out.new) }
         ensures heard { IsRunHeard self.old.state self.new.state (⟦<Board as ViewBoard>⟧.board_view board.old) (⟦<Board as ViewBoard>⟧.board_view board.new) }
         ensures counters { IsCounted self.new.state }
@@ -361,7 +361,7 @@ impl Machine {
         let span = self.kept.run(&mut self.sys, &mut self.lines, place, most);
         let last = begun + span.ticks - 1;
         let ticks = span.ticks;
-        let ends = ends_stretch(span.reach);
+        let ends = ends_stretch(span.note, span.reach);
         stepped_by(
             tell(
                 &self.sys,
@@ -390,7 +390,7 @@ impl Machine {
         ensures steps { Steps result (left_of most self.old.state) self.old.state self.new.state (O.got out.old) (O.got out.new) }
         ensures whole { AreAllOfStretch result (left_of most self.old.state) }
         ensures kept { KeepsStepped result (left_of most self.old.state) self.old self.new }
-        ensures few { IfOk result (λ stepped. stepped.lines ≤ 25 * stepped.ticks) }
+        ensures few { IfOk result (λ stepped. stepped.lines ≤ 41 * stepped.ticks) }
         ensures cause { HasWriteCause result (O.faults out.old) (O.faults out.new) }
         ensures heard { IsRunHeard self.old.state self.new.state (⟦<Board as ViewBoard>⟧.board_view board.old) (⟦<Board as ViewBoard>⟧.board_view board.new) }
         ensures counters { IsCounted self.new.state }
@@ -423,7 +423,7 @@ impl Machine {
         requires most { ticks ≤ TICKS }
         ensures run { RunsTicks result ticks self.old.state self.new.state (O.got out.old) (O.got out.new) }
         ensures kept { KeepsTicks result ticks self.old self.new }
-        ensures few { IfOk result (λ told. told ≤ 25 * ticks) }
+        ensures few { IfOk result (λ told. told ≤ 41 * ticks) }
         ensures cause { HasWriteCause result (O.faults out.old) (O.faults out.new) }
         ensures heard { IsRunHeard self.old.state self.new.state (⟦<Board as ViewBoard>⟧.board_view board.old) (⟦<Board as ViewBoard>⟧.board_view board.new) }
         ensures counters { IsCounted self.new.state }
@@ -441,7 +441,7 @@ impl Machine {
     // The lines of the end, and how many they are.
     fn end<O: Sink>(&self, out: &mut O) -> Result<u64, WriteFault>
         ensures told { Tells result (end_lines self.now.state) (O.got out.old) (O.got out.new) }
-        ensures few { IfOk result (λ ended. ended ≤ 17) }
+        ensures few { IfOk result (λ ended. ended ≤ 33) }
         ensures cause { HasWriteCause result (O.faults out.old) (O.faults out.new) }
     {
         let ended = end_parts(&self.sys, out)?;

@@ -40,9 +40,9 @@ pub(crate) fn tell<O: Sink>(
 ) -> Result<u64, WriteFault>
     requires partition { p < length sys.now.machine.parts }
     requires readable { CanBeTold note (areas_in p sys.now.machine) }
-    requires few { length lines.now ≤ 24 }
+    requires few { length lines.now ≤ 40 }
     ensures told { Tells result (map (told.line_of n p) (console_told note (memory_of p sys.now.machine)) ++ lines.now) (O.got out.old) (O.got out.new) }
-    ensures few { IfOk result (λ count. count ≤ 25) }
+    ensures few { IfOk result (λ count. count ≤ 41) }
     ensures cause { HasWriteCause result (O.faults out.old) (O.faults out.new) }
     ensures heard { IsHeard (lines_to sys.now.machine (map (told.line_of n p) (console_told note (memory_of p sys.now.machine)) ++ lines.now)) (⟦<Board as ViewBoard>⟧.board_view board.old) (⟦<Board as ViewBoard>⟧.board_view board.new) }
 {
@@ -64,7 +64,7 @@ pub(crate) fn tell_alone<O: Sink>(
 ) -> Result<(), AloneFault>
     requires partition { p < length sys.now.machine.parts }
     requires readable { IfSome done (λ note. CanBeTold note (areas_in p sys.now.machine)) }
-    requires few { IfSome done (λ note. length lines.now ≤ 24) }
+    requires few { IfSome done (λ note. length lines.now ≤ 40) }
     ensures told { IsToldAlone done n p sys.now.machine lines.now result (O.got out.old) (O.got out.new) (O.faults out.old) (O.faults out.new) (⟦<Board as ViewBoard>⟧.board_view board.old) (⟦<Board as ViewBoard>⟧.board_view board.new) }
 {
     match done {
@@ -164,7 +164,7 @@ fn put_all<O: Sink>(out: &mut O, lines: &[Line<'_>]) -> Result<u64, WriteFault>
 /// Puts out how each partition stands at the end, and answers how many lines that was.
 pub(crate) fn end_parts<O: Sink>(sys: &Sys, out: &mut O) -> Result<u64, WriteFault>
     ensures told { Tells result (all_of (λ p ps. end_line p ps ∷ []) sys.now.machine.parts) (O.got out.old) (O.got out.new) }
-    ensures few { IfOk result (λ told. told ≤ 16) }
+    ensures few { IfOk result (λ told. told ≤ 32) }
     ensures cause { HasWriteCause result (O.faults out.old) (O.faults out.new) }
 {
     let mut p = 0;

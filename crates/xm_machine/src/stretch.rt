@@ -4,9 +4,11 @@ ghost use Rattle.std.specs.Prelude.{◌≡◌};
 ghost use Rattle.machine_model.specs.Health.{done_to_all};
 ghost use Rattle.system_ticks.specs.Quiet.{ends_stretch};
 ghost use Rattle.xm_machine.specs.Stretch.{stepped_by};
+ghost use Rattle.system_ticks.specs.Span.{ends_so, notes_signal};
 ghost use Rattle.system_ticks.specs.Work.{act_beyond};
 
 use health_monitor::Whole;
+use hypercalls::Note;
 use system_ticks::Beyond;
 use xm_report::WriteFault;
 
@@ -35,8 +37,35 @@ pub(crate) fn stepped_by(
     }
 }
 
-/// Whether an act that reaches beyond its partition so ends a stretch.
-pub(crate) fn ends_stretch(reach: Beyond) -> bool
+/// Whether an act that is told by this note and reaches so beyond its partition ends a stretch.
+pub(crate) fn ends_stretch(note: Note, reach: Beyond) -> bool
+    ensures { result ≡ ends_so note reach }
+{
+    if is_signal(note) {
+        true
+    } else {
+        reaches(reach)
+    }
+}
+
+// Whether a note reports of a signal.
+fn is_signal(note: Note) -> bool
+    ensures { result ≡ notes_signal note }
+{
+    match note {
+        Note::Signal { .. } => true,
+        Note::Nothing
+        | Note::Console { .. }
+        | Note::Trace(_)
+        | Note::Put { .. }
+        | Note::Take { .. }
+        | Note::Saw { .. }
+        | Note::NotKept => false,
+    }
+}
+
+// Whether more than a message reaches beyond the partition.
+fn reaches(reach: Beyond) -> bool
     ensures { result ≡ ends_stretch (act_beyond reach) }
 {
     match reach {
