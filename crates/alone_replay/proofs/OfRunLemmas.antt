@@ -1,18 +1,24 @@
 -- A replay by the script of a run may begin, and shows the partition's part of the run.
-use Rattle.std.proofs.Common.{◌≡◌, ℕ, ◌%◌, ◌<◌, ◌≤◌, Bool, true, false, nat_eq, nat_le, if◌then◌else◌, List, [], ◌∷◌, ◌++◌, length, replicate, slice_set, IfOk, Option, Some, None, Result, Ok, Err, refl, sym, ap, ◌∙◌, subst, arith}
+use Rattle.std.proofs.Common.{◌≡◌, ℕ, ◌%◌, ◌<◌, ◌≤◌, Bool, true, false, nat_eq, nat_le, if◌then◌else◌, List, [], ◌∷◌, ◌++◌, length, replicate, slice_set, codes, IfOk, Option, Some, None, Result, Ok, Err, refl, sym, ap, ◌∙◌, subst, arith}
 use Rattle.std.specs.Prelude.{slice_index_or}
 use Rattle.std.proofs.lemmas.Bool.Decides.{nat_tests}
 use Rattle.std.proofs.lemmas.List.{get_or-set_same, length-replicate}
 use Rattle.xm_base.specs.Cursor.{Place, cursor_start as begin}
-use Rattle.xef_images.specs.Steps.{◌>>=◌}
+use Rattle.sealed_files.specs.Fields.{field_bytes}
+use Rattle.sealed_files.specs.Heads.{unsealed}
+use Rattle.sealed_files.specs.Steps.{◌>>=◌, unless}
 use Rattle.xm_conf.specs.Configuration.{Conf}
 use Rattle.xm_conf.specs.Description.{described}
+use Rattle.xm_conf.specs.FitLemmas.{fits_within}
 use Rattle.xm_conf.specs.Fits.{Fits}
 use Rattle.xm_conf.specs.Laws.{IsBrokenUnlessFits}
 use Rattle.xm_conf.specs.Rules.{first_broken}
 use Rattle.xm_conf.specs.declared.item.Broken.{Broken}
+use Rattle.bin_config.specs.RangeLemmas.{parts_few}
 use Rattle.bin_config.specs.Reading as bin
+use Rattle.bin_config.specs.Version.{parts_in_version}
 use Rattle.bin_config.specs.declared.fault.XmcFault.{XmcFault}
+use Rattle.bin_config.specs.declared.version.Version.{Version}
 use Rattle.cue_scripts.specs.Laws.{WrittenScriptIsRead}
 use Rattle.cue_scripts.specs.Reading.{script_read as read_script}
 use Rattle.cue_scripts.specs.Script.{IsScript}
@@ -33,7 +39,7 @@ use Rattle.xm_alone.specs.Replay.{cue_lines, replay_lines, replayed}
 use Rattle.loaded_system.specs.Inside.{first_outside}
 use Rattle.xm_container.specs.Entries.{Entries}
 use Rattle.xm_container.specs.Numbers.{extra, missing}
-use Rattle.xm_container.specs.Reading.{as_config, assigned, bytes_at, conf_at, container_fields, length_at, signed, system_in, image_table_at, unless, unless_some, unpacked}
+use Rattle.xm_container.specs.Reading.{as_config, assigned, box_faults, box_short, conf_at, container_fields, length_at, system_in, image_table_at, unless_some, unpacked, version_in}
 use Rattle.xm_container.specs.declared.fault.BoxFault.{BoxFault}
 use Rattle.alone_replay.specs.OfRun.{RunIsReplayed}
 use Rattle.alone_replay.specs.Ready.{NoPartition, fitting, inputs_given, replay_of, with_container, with_input, with_script, with_system}
@@ -54,13 +60,15 @@ last_has Q (Err fault) f gives = tt
 abbrev Meets : Conf → Type 0
 Meets conf = Fits (described conf)
 
-unbroken_meets : IsBrokenUnlessFits → (conf : Conf) (o : Option Broken) → first_broken (described conf) ≡ o → IfOk (bin.unbroken conf o) Meets
-unbroken_meets law conf None none = (law (described conf)).0 none
-unbroken_meets law conf (Some broken) some = tt
+unbroken_meets : IsBrokenUnlessFits → (v : Version) (conf : Conf) (o : Option Broken) → first_broken (parts_in_version v) (described conf) ≡ o → IfOk (bin.unbroken conf o) Meets
+unbroken_meets law v conf None none = fits_within (parts_in_version v) (described conf) (parts_few v) ((law (parts_in_version v) (described conf)).0 none)
+unbroken_meets law v conf (Some broken) some = tt
 
-read_meets : IsBrokenUnlessFits → (bytes : List ℕ) → IfOk (bin.read_of bytes) Meets
-unfolding bin.read_of
-read_meets law bytes = last_has Meets (bin.conf_fields bytes) (λ conf. bin.unbroken conf (first_broken (described conf))) (λ conf. unbroken_meets law conf (first_broken (described conf)) refl)
+read_meets : IsBrokenUnlessFits → (want : Option Version) (bytes : List ℕ) → IfOk (bin.read_within want bytes) Meets
+unfolding bin.read_within
+read_meets law want bytes =
+    last_has Meets (bin.head_at want (begin bytes)) _ (λ head. last_has Meets (bin.fields_at head.0 head.1) _ (λ conf.
+    unbroken_meets law head.0 conf (first_broken (parts_in_version head.0) (described conf)) refl))
 
 as_config_meets : (r : Result Conf XmcFault) → IfOk r Meets → IfOk (as_config r) Meets
 as_config_meets (Ok conf) meets = meets
@@ -70,20 +78,20 @@ as_config_meets (Err fault) meets = tt
 abbrev ConfMeets : {T : Type 0} → Conf × T → Type 0
 ConfMeets read = Meets read.0
 
-conf_meets : IsBrokenUnlessFits → (place : Place) → IfOk (conf_at place) ConfMeets
+conf_meets : IsBrokenUnlessFits → (v : Version) (place : Place) → IfOk (conf_at v place) ConfMeets
 unfolding conf_at
-conf_meets law place =
-    last_has ConfMeets (length_at place) _ (λ count. last_has ConfMeets (bytes_at count.0 count.1) _ (λ bytes.
-    then_has Meets ConfMeets (as_config (bin.read_of bytes.0)) _ (as_config_meets (bin.read_of bytes.0) (read_meets law bytes.0)) (λ conf meets. meets)))
+conf_meets law v place =
+    last_has ConfMeets (length_at place) _ (λ count. last_has ConfMeets (field_bytes box_short count.0 count.1) _ (λ bytes.
+    then_has Meets ConfMeets (as_config (bin.read_as v bytes.0)) _ (as_config_meets (bin.read_as v bytes.0) (read_meets law (Some v) bytes.0)) (λ conf meets. meets)))
 
 unless_meets : {T : Type 0} (test : Bool) (fault : BoxFault) (value : Conf × T) → Meets value.0 → IfOk (unless test fault value) ConfMeets
 unless_meets true fault value meets = meets
 unless_meets false fault value meets = tt
 
-fields_meet : IsBrokenUnlessFits → (bytes : List ℕ) → IfOk (container_fields bytes) ConfMeets
+fields_meet : IsBrokenUnlessFits → (v : Version) (bytes : List ℕ) → IfOk (container_fields v bytes) ConfMeets
 unfolding container_fields
-fields_meet law bytes =
-    then_has ConfMeets ConfMeets (conf_at (begin bytes)) _ (conf_meets law (begin bytes)) (λ conf meets. last_has ConfMeets (image_table_at conf.1) _ (λ entries. unless_meets _ _ (conf.0, entries.0) meets))
+fields_meet law v bytes =
+    then_has ConfMeets ConfMeets (conf_at v (begin bytes)) _ (conf_meets law v (begin bytes)) (λ conf meets. last_has ConfMeets (image_table_at conf.1) _ (λ entries. unless_meets _ _ (conf.0, entries.0) meets))
 
 -- of a system that was read
 abbrev SystemMeets : loaded.System → Type 0
@@ -101,13 +109,14 @@ assigned_meets conf entries meets =
 unpacked_meets : IsBrokenUnlessFits → (bytes : List ℕ) → IfOk (unpacked bytes) SystemMeets
 unfolding unpacked system_in
 unpacked_meets law bytes =
-    last_has SystemMeets (signed bytes) system_in (λ front. then_has ConfMeets SystemMeets (container_fields front) _ (fields_meet law front) (λ fields meets. assigned_meets fields.0 fields.1 meets))
+    last_has SystemMeets (unsealed box_faults (codes "XMPK") 2 bytes) system_in (λ front. last_has SystemMeets (version_in front) _ (λ v.
+    then_has ConfMeets SystemMeets (container_fields v front) _ (fields_meet law v front) (λ fields meets. assigned_meets fields.0 fields.1 meets)))
 
 system_fits : IsBrokenUnlessFits → (bytes : List ℕ) (system : loaded.System) → unpacked bytes ≡ Ok system → Fits (described system.conf)
 system_fits law bytes system unpacks = subst (λ (r : Result loaded.System BoxFault). IfOk r SystemMeets) unpacks (unpacked_meets law bytes)
 
 -- so it has few partitions
-few_parts : (conf : Conf) → Fits (described conf) → length conf.parts ≤ 16
+few_parts : (conf : Conf) → Fits (described conf) → length conf.parts ≤ 32
 unfolding described
 few_parts conf fits = fits.counts.parts.few
 

@@ -1,6 +1,7 @@
 -- The machine of a generated system starts with the system's channels and keeps them, its run reaches its end, and two lines tell of it.
 use Rattle.std.proofs.Common.{◌≡◌, ℕ, false, List, [], length, None, Result, Ok, Err, refl, sym, ap, ◌∙◌, arith}
 use Rattle.std.specs.Prelude.{replicate}
+use Rattle.bin_config.specs.declared.version.Version.TheVariants.{Two}
 use Rattle.loaded_system.specs.System as loaded_system
 use Rattle.machine_model.specs.Facts.{BootsComplete, RunsKeepNumbers}
 use Rattle.machine_model.specs.Lines.{report}
@@ -74,7 +75,7 @@ reports_same system ticks = refl
 
 -- what is reported of the machine that has run is told of the number
 pub told_so : (number container : ℕ) (ran : Ran) (system : loaded_system.System) (inputs : List (List ℕ)) (g : Machine) → system ≡ generated number → inputs ≡ replicate 16 []
-    → container ≡ length (box_text (generated number)) → IsWholeRun ran run_length (start (with_inputs system inputs)) g None None
+    → container ≡ length (box_text Two (generated number)) → IsWholeRun ran run_length (start (with_inputs system inputs)) g None None
     → told_of number container ran.lines g ≡ generated_text number
 unfolding generated_text told_of_run
 told_so number container ran system inputs g is words long whole =

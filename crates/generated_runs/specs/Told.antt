@@ -1,5 +1,6 @@
 -- What is reported of the run of a generated system.
 use Rattle.std.specs.Prelude.{ℕ, ◌≤◌, All, List, [], ◌++◌, length, codes, decimal, replicate, sum_by}
+use Rattle.bin_config.specs.declared.version.Version.TheVariants.{Two}
 use Rattle.xm_ports.specs.Channels.{Content, messages_of}
 use Rattle.xm_container.specs.Box.{box_text}
 use Rattle.loaded_system.specs.System as loaded_system
@@ -45,7 +46,7 @@ without_inputs system = with_inputs system (replicate 16 [])
 -- what is reported of a run of so many ticks of a system
 unfoldable pub told_of_run : ℕ → ℕ → loaded_system.System → List ℕ
 told_of_run number ticks system =
-    told_of number (length (box_text system)) (length (report (without_inputs system) ticks)) (run (start (without_inputs system)) ticks)
+    told_of number (length (box_text Two system)) (length (report (without_inputs system) ticks)) (run (start (without_inputs system)) ticks)
 
 -- what is reported of the system that is generated out of a number
 unfoldable pub generated_text : ℕ → List ℕ

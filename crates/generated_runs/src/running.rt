@@ -1,6 +1,7 @@
 //! The run of a generated system.
 
 ghost use Rattle.std.specs.Prelude.{◌≡◌, false, IfOk, None, Ok, length};
+ghost use Rattle.bin_config.specs.declared.version.Version.TheVariants.{Two};
 ghost use Rattle.generated_runs.specs.Told.{generated_text, run_length, told_of};
 ghost use Rattle.generated_system.specs.Generated.{generated_conf, generated};
 ghost use Rattle.xm_container.specs.Box.{box_text};
@@ -33,7 +34,7 @@ pub fn run_lines(alloc: Global, number: u32) -> Result<Vec<u8>, Memory>
 
 // The two lines of the run of a number's container.
 fn run_container(alloc: Global, number: u32, container: &[u8]) -> Result<Vec<u8>, Memory>
-    requires text { container.now ≡ box_text (generated number) }
+    requires text { container.now ≡ box_text Two (generated number) }
     requires read { unpacked container.now ≡ Ok (generated number) }
     ensures { IfOk result (λ text. text.items ≡ generated_text number) }
 {

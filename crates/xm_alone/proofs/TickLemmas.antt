@@ -4,29 +4,36 @@ use Rattle.machine_model.specs.Cue.{Cue, cue, cue_in, script, script_unless, unl
 use Rattle.machine_model.specs.Lengths.{PutsAtMost, ShowsAtMost}
 use Rattle.loaded_system.specs.System.{System}
 use Rattle.machine_model.specs.Facts.{BootsComplete}
+use Rattle.machine_model.specs.Lists.{is_number}
 use Rattle.machine_model.specs.Machine.{Machine, happened, sight, start}
-use Rattle.machine_model.specs.View.{System as Booted}
+use Rattle.machine_model.specs.View.{System as Booted, linked, name_of}
 use Rattle.whole_system.specs.State.{with_inputs}
 use Rattle.machine_model.specs.Told.{NotKept, OwnTraffic, Sight, Unseen, Words}
-use Rattle.machine_model.specs.Traffic.{Puts, Still, Takes, Traffic, heard_as, own_puts_at, own_takes_at}
+use Rattle.machine_model.specs.Traffic.{Puts, Signals, Still, Takes, Traffic, heard_as, own_puts_at, own_signals_at, own_takes_at}
 use Rattle.cue_scripts.specs.Kept.{HasCueRanges, HasSightRange, HasTrafficRange}
 use Rattle.cue_scripts.specs.Values.{script_cue_value}
 use Rattle.cue_scripts.specs.declared.cue.ScriptCue.{ScriptCue}
 use Rattle.xm_machine.specs.Cues.{last_or}
+use Rattle.xm_conf.specs.Configuration.{Conf}
 
 -- a message of at most 4096 bytes has a length of two bytes, under whichever name
-few_heard : (name_of : ℕ → Option ℕ) (traffic : Traffic) → PutsAtMost 4096 traffic → HasTrafficRange (heard_as name_of traffic)
-few_heard name_of Still few = tt
-few_heard name_of (Puts channel bytes) few = put (name_of channel)
+few_heard : (conf : Conf) (p : ℕ) (traffic : Traffic) → PutsAtMost 4096 traffic → HasTrafficRange (heard_as conf p traffic)
+few_heard conf p Still few = tt
+few_heard conf p (Puts channel bytes) few = put (name_of conf p channel)
   where
     put : (name : Option ℕ) → HasTrafficRange (own_puts_at name bytes)
     put None = tt
     put (Some name) = omega (arith, few)
-few_heard name_of (Takes channel) few = taken (name_of channel)
+few_heard conf p (Takes channel) few = taken (name_of conf p channel)
   where
     taken : (name : Option ℕ) → HasTrafficRange (own_takes_at name)
     taken None = tt
     taken (Some name) = tt
+few_heard conf p (Signals source number) few = signalled (is_number (linked conf source number) p)
+  where
+    signalled : (reaches : Bool) → HasTrafficRange (own_signals_at reaches number)
+    signalled true = tt
+    signalled false = tt
 
 few_told : (own : Bool) (traffic : OwnTraffic) → HasTrafficRange traffic → HasTrafficRange (unless_own own traffic)
 few_told true traffic few = tt
@@ -40,7 +47,7 @@ few_seen (Words bytes) few = omega (arith, few)
 -- the lengths in what a partition is told in a tick are in the ranges of their fields
 pub few_cued : (g : Machine) (p : ℕ) → PutsAtMost 4096 (happened g).traffic → ShowsAtMost 24 (sight g p) → HasCueRanges (cue g p)
 unfolding cue cue_in
-few_cued g p puts shows = record { traffic = few_told _ _ (few_heard _ (happened g).traffic puts); seen = few_seen (sight g p) shows }
+few_cued g p puts shows = record { traffic = few_told _ _ (few_heard _ _ (happened g).traffic puts); seen = few_seen (sight g p) shows }
 
 -- the script of one tick
 pub script_one : (g : Machine) (p : ℕ) → g.halted ≡ false → script g p 1 ≡ cue g p ∷ []

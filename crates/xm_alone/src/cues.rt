@@ -1,6 +1,7 @@
 //! The cues of a script, one after the other, lent to a machine.
 
 ghost use Rattle.std.specs.Prelude.{◌≡◌, ◌++◌, [], MatchOption};
+ghost use Rattle.cue_scripts.specs.Entries.{first_cue};
 ghost use Rattle.cue_scripts.specs.Values as kept;
 ghost use Rattle.xm_alone.specs.Cues.{ComesNext, HasNext, cues_left, next_left};
 ghost use Rattle.system_ticks.specs.CueValues.{cue_value, sight_value, slot_value, traffic_value, whole_value};
@@ -54,6 +55,13 @@ impl<'a> Cues<'a> {
                     left: *count,
                     entries: later,
                 },
+                ScriptEntry::First => {
+                    let others = Cues {
+                        entries: later,
+                        ..rest
+                    };
+                    return Some((Next::Other(begun()), others));
+                }
                 ScriptEntry::Other(cue) => {
                     let others = Cues {
                         entries: later,
@@ -88,6 +96,19 @@ impl<'a> Cues<'a> {
     }
 }
 
+/// A cue with nothing but that a slot of the partition's own begins.
+fn begun() -> Cue<'static>
+    ensures { cue_value result ≡ first_cue }
+{
+    Cue {
+        mine: Mine::Mine { first: true },
+        traffic: Traffic::Nothing,
+        order: None,
+        whole: WholeCue::Nothing,
+        seen: Sight::Nothing,
+    }
+}
+
 /// A cue that is kept, lent.
 fn lent(cue: &ScriptCue) -> Cue<'_>
     ensures { cue_value result ≡ kept.script_cue_value cue.now }
@@ -119,6 +140,7 @@ fn traffic_of(traffic: &ScriptTraffic) -> Traffic<'_>
         ScriptTraffic::Nothing => Traffic::Nothing,
         ScriptTraffic::Put { chan, bytes } => Traffic::Put { chan: *chan, bytes },
         ScriptTraffic::Take { chan } => Traffic::Take { chan: *chan },
+        ScriptTraffic::Signal { number } => Traffic::Signal { number: *number },
     }
 }
 

@@ -43,6 +43,7 @@ fn kept_traffic(alloc: Global, traffic: Traffic<'_>) -> Result<ScriptTraffic, Me
             bytes: Vec::from_slice(alloc, bytes)?,
         }),
         Traffic::Take { chan } => Ok(ScriptTraffic::Take { chan }),
+        Traffic::Signal { number } => Ok(ScriptTraffic::Signal { number }),
     }
 }
 
