@@ -9,7 +9,7 @@ use Rattle.loaded_system.specs.System.{System}
 use Rattle.machine_model.specs.Machine.{Machine}
 use Rattle.machine_model.specs.View.{System as Booted}
 use Rattle.whole_system.specs.State.{with_inputs}
-use Rattle.xm_words.specs.Words.{Command, PartFile, RunOption, Bare, Parse, BuildImage, ReadImage, Pack, ListContainer, CheckContainer, MakePlan, CheckPlan, TellGroups, Generate, Run, Replay, ReplayFiles, cores_in, replay_core, replay_input, scripts_in, span_in}
+use Rattle.xm_words.specs.Words.{Command, PartFile, RunOption, Bare, Parse, Upgrade, BuildImage, ReadImage, Pack, ListContainer, CheckContainer, MakePlan, CheckPlan, TellGroups, Generate, Run, Replay, ReplayFiles, cores_in, replay_core, replay_input, scripts_in, span_in}
 use Rattle.alone_replay.specs.Ready.{Replay as Readied, Unready, replay_of}
 use Rattle.file_commands.specs.Denial.{Denial}
 use Rattle.file_commands.specs.Ending.{length_text, ticks_text}
@@ -18,7 +18,7 @@ use Rattle.file_maker.specs.Imaging.{container_lines_of, container_verdict_of, i
 use Rattle.file_commands.specs.Inputs.{no_inputs}
 use Rattle.file_commands.specs.Outcome.{Output, bare_outcome, content, core_outputs, first_long, input_bytes, inputs_of, later_of, file_made, name_if_any, outcome_of, output_of, packed_to, played, outcome_of_run, ran_for, ran_scripted, ran_with, ran_within, command_refused, replay_outcome_by, replay_outcome, replay_output, run_by, run_outcome, script_before, script_denial, script_output, scripts_for, ticks_asked, text_reported, unless_denied, unless_long, outcome_of_contents}
 use Rattle.file_commands.specs.Packing.{container_of, file_names}
-use Rattle.file_maker.specs.Parsing.{xmc_of}
+use Rattle.file_maker.specs.Parsing.{upgraded_of, xmc_of}
 use Rattle.file_maker.specs.Planning.{plan_lines_of, verdicts_of}
 use Rattle.file_commands.specs.Work.{file_in}
 use Rattle.file_commands.specs.OutputLemmas.{output-named}
@@ -148,6 +148,7 @@ later-named command contents = at command (first_long (inputs_of command) conten
     at command (Some file) = inr refl
     at (Bare image ticks) None = bare-later image ticks (content 0 contents)
     at (Parse description out) None = inr (made-later description out (xmc_of (content 0 contents)))
+    at (Upgrade configuration out) None = inr (made-later configuration out (upgraded_of (content 0 contents)))
     at (BuildImage program out) None = inr (made-later program out (xef_of (content 0 contents)))
     at (ReadImage image) None = inr (told-later image (image_lines_of (content 0 contents)))
     at (Pack configuration out images) None = inr (packed-later out (container_of configuration (content 0 contents) images (drop 1 contents)))

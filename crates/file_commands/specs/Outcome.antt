@@ -21,7 +21,7 @@ use Rattle.loaded_system.specs.System.{System}
 use Rattle.xm_container.specs.Reading.{unpacked}
 use Rattle.xm_container.specs.Texts.{box_fault_text}
 use Rattle.xm_container.specs.declared.fault.BoxFault.{BoxFault}
-use Rattle.xm_words.specs.Words.{Command, PartFile, RunOption, Bare, Parse, BuildImage, ReadImage, Pack, ListContainer, CheckContainer, MakePlan, CheckPlan, TellGroups, Generate, Run, Replay, ReplayFiles, cores_in, inputs_in, replay_core, replay_input, span_in, scripts_in}
+use Rattle.xm_words.specs.Words.{Command, PartFile, RunOption, Bare, Parse, Upgrade, BuildImage, ReadImage, Pack, ListContainer, CheckContainer, MakePlan, CheckPlan, TellGroups, Generate, Run, Replay, ReplayFiles, cores_in, inputs_in, replay_core, replay_input, span_in, scripts_in}
 use Rattle.xm_words.specs.declared.commands.Span.{Span}
 use Rattle.xm_words.specs.declared.commands.Span.TheVariants.{Frames, Ticks}
 use Rattle.file_commands.specs.Denial.{Denial}
@@ -30,7 +30,7 @@ use Rattle.file_maker.specs.Grouping.{groups_of}
 use Rattle.file_maker.specs.Imaging.{container_lines_of, container_verdict_of, image_lines_of, xef_of}
 use Rattle.file_commands.specs.Inputs.{inputs_for, no_inputs}
 use Rattle.file_commands.specs.Packing.{container_of, denial, file_names}
-use Rattle.file_maker.specs.Parsing.{xmc_of}
+use Rattle.file_maker.specs.Parsing.{upgraded_of, xmc_of}
 use Rattle.file_maker.specs.Planning.{plan_lines_of, verdicts_of}
 
 -- a file that is written
@@ -69,6 +69,7 @@ name_if_any (Some file) = file ∷ []
 abbrev pub inputs_of : Command → List (List ℕ)
 inputs_of (Bare image ticks) = image ∷ []
 inputs_of (Parse description output) = description ∷ []
+inputs_of (Upgrade configuration output) = configuration ∷ []
 inputs_of (BuildImage program output) = program ∷ []
 inputs_of (ReadImage image) = image ∷ []
 inputs_of (Pack configuration output images) = configuration ∷ file_names images
@@ -85,6 +86,7 @@ inputs_of (Replay container part script further) = container ∷ script ∷ name
 abbrev pub output_of : Command → Option (List ℕ)
 output_of (Bare image ticks) = None
 output_of (Parse description output) = Some output
+output_of (Upgrade configuration output) = Some output
 output_of (BuildImage program output) = Some output
 output_of (ReadImage image) = None
 output_of (Pack configuration output images) = Some output
@@ -101,6 +103,7 @@ output_of (Replay container part script further) = None
 abbrev pub later_of : Command → List (List ℕ)
 later_of (Bare image ticks) = []
 later_of (Parse description output) = []
+later_of (Upgrade configuration output) = []
 later_of (BuildImage program output) = []
 later_of (ReadImage image) = []
 later_of (Pack configuration output images) = []
@@ -274,6 +277,7 @@ content n contents = slice_index_or contents n []
 abbrev pub outcome_of_contents : Command → List (List ℕ) → Outcome
 outcome_of_contents (Bare image ticks) contents = bare_outcome image ticks (content 0 contents)
 outcome_of_contents (Parse description output) contents = file_made description output (xmc_of (content 0 contents))
+outcome_of_contents (Upgrade configuration output) contents = file_made configuration output (upgraded_of (content 0 contents))
 outcome_of_contents (BuildImage program output) contents = file_made program output (xef_of (content 0 contents))
 outcome_of_contents (ReadImage image) contents = text_reported image (image_lines_of (content 0 contents))
 outcome_of_contents (Pack configuration output images) contents = packed_to output (container_of configuration (content 0 contents) images (drop 1 contents))

@@ -1,7 +1,7 @@
 -- The calls of the store for files, and the file that a command writes before its report: it is the one that its words name.
 use Rattle.std.proofs.Common.{◌≡◌, ℕ, Bool, true, false, nat_lt, ◌==◌, ◌||◌, if◌then◌else◌, List, [], ◌∷◌, length, drop, Option, Some, None, Result, Ok, Err, refl, ap}
 use Rattle.xm_base.specs.declared.limits.TheConstants.{IMAGE_BYTES, TICKS}
-use Rattle.xm_words.specs.Words.{Command, PartFile, RunOption, Bare, Parse, BuildImage, ReadImage, Pack, ListContainer, CheckContainer, MakePlan, CheckPlan, TellGroups, Generate, Run, Replay, ReplayFiles, cores_in, replay_core, replay_input, scripts_in, span_in}
+use Rattle.xm_words.specs.Words.{Command, PartFile, RunOption, Bare, Parse, Upgrade, BuildImage, ReadImage, Pack, ListContainer, CheckContainer, MakePlan, CheckPlan, TellGroups, Generate, Run, Replay, ReplayFiles, cores_in, replay_core, replay_input, scripts_in, span_in}
 use Rattle.xm_container.specs.Reading.{unpacked}
 use Rattle.xm_container.specs.declared.fault.BoxFault.{BoxFault}
 use Rattle.loaded_system.specs.Bare.{bare_system}
@@ -12,7 +12,7 @@ use Rattle.file_maker.specs.Grouping.{groups_of}
 use Rattle.file_maker.specs.Imaging.{container_lines_of, container_verdict_of, image_lines_of, xef_of}
 use Rattle.file_commands.specs.Inputs.{no_inputs}
 use Rattle.file_commands.specs.Packing.{container_of}
-use Rattle.file_maker.specs.Parsing.{xmc_of}
+use Rattle.file_maker.specs.Parsing.{upgraded_of, xmc_of}
 use Rattle.file_maker.specs.Planning.{plan_lines_of, verdicts_of}
 use Rattle.alone_replay.specs.Ready.{Replay as Readied, Unready, replay_of}
 use Rattle.file_commands.specs.Denial.{Denial}
@@ -114,6 +114,7 @@ output-named command contents output is = at command (first_long (inputs_of comm
     at command (Some file) e = absurd (cc)
     at (Bare image ticks) None e = absurd (bare-output image ticks (content 0 contents) output e)
     at (Parse description out) None e = made-output description out (xmc_of (content 0 contents)) output e
+    at (Upgrade configuration out) None e = made-output configuration out (upgraded_of (content 0 contents)) output e
     at (BuildImage program out) None e = made-output program out (xef_of (content 0 contents)) output e
     at (ReadImage image) None e = absurd (told-output image (image_lines_of (content 0 contents)) output e)
     at (Pack configuration out images) None e = packed-output out (container_of configuration (content 0 contents) images (drop 1 contents)) output e

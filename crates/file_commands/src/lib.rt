@@ -10,6 +10,7 @@ mod parsing;
 mod reading;
 mod status;
 mod telling;
+mod upgrading;
 
 pub use complaint::complain;
 pub use delivery::{report, unmade};
@@ -22,3 +23,4 @@ pub use reading::{
 };
 pub use status::Status;
 pub use telling::tell;
+pub use upgrading::upgrade;

@@ -1,7 +1,6 @@
 //! A configuration and the images of its partitions are packed into a container.
 
 ghost use Rattle.std.specs.Prelude.{◌≡◌, ◌∷◌, drop, map};
-ghost use Rattle.bin_config.specs.Texts.{xmc_fault_text};
 ghost use Rattle.xef_images.specs.Reading.{xef};
 ghost use Rattle.xm_container.specs.Pack.{packed};
 ghost use Rattle.xm_container.specs.Texts.{pack_fault_text};
@@ -16,8 +15,8 @@ ghost use Rattle.xm_words.specs.Words.{Pack};
 use crate::delivery::{put, unmade};
 use crate::ending::{Ending, Refusal};
 use crate::reading::{first_long, read_files, split_contents};
-use bin_config::{XmcFault, read_xmc};
-use file_maker::{Unmade, no_image};
+use bin_config::read_xmc;
+use file_maker::{Unmade, no_configuration, no_image};
 use std::alloc::Global;
 use xef_images::{Xef, read_xef};
 use xm_conf::Conf;
@@ -155,20 +154,6 @@ fn read_image<'a>(alloc: Global, named: PartFile<'a>, bytes: &[u8]) -> Result<Xe
     match read_xef(alloc, bytes) {
         Ok(xef) => Ok(xef),
         Err(fault) => Err(unmade(named.file, no_image(alloc, fault))),
-    }
-}
-
-// What is said of a file that is no configuration.
-fn no_configuration(alloc: Global, fault: XmcFault) -> Unmade
-    ensures text { IsRefusalText result (xmc_fault_text fault) }
-    ensures memory { fault ≡ XmcFault.Memory → result ≡ Unmade.Memory }
-{
-    match fault {
-        XmcFault::Memory => Unmade::Memory,
-        _ => match format!(in alloc; "{fault}") {
-            Ok(text) => Unmade::Refused { text },
-            Err(_) => Unmade::Memory,
-        },
     }
 }
 

@@ -1,7 +1,11 @@
 -- What the text of a system description comes to.
 use Rattle.std.specs.Prelude.{ℕ, List, Option, Some, None, Result, Ok, Err}
 use Rattle.xm_conf.specs.Configuration.{Conf}
+use Rattle.bin_config.specs.Reading.{read_of}
+use Rattle.bin_config.specs.Texts.{xmc_fault_text}
 use Rattle.bin_config.specs.Xmc.{xmc}
+use Rattle.bin_config.specs.declared.fault.XmcFault.{XmcFault}
+use Rattle.bin_config.specs.declared.version.Version.TheVariants.{Two}
 use Rattle.xmcf_reader.specs.Faults.{draft_of, xmcf_fault}
 use Rattle.xmcf_reader.specs.Texts.{read_fault_text}
 use Rattle.xmcf_reader.specs.declared.draft.Entry.{Entry}
@@ -32,4 +36,13 @@ of_conf make (Err text) = Err text
 
 -- the binary configuration that a text describes, or the text of its first fault
 unfoldable pub xmc_of : List ℕ → Result (List ℕ) (List ℕ)
-xmc_of text = of_conf (λ conf. Ok (xmc conf)) (conf_of text)
+xmc_of text = of_conf (λ conf. Ok (xmc Two conf)) (conf_of text)
+
+-- a configuration that was read, in version 2, or the text of its fault
+abbrev pub upgraded : Result Conf XmcFault → Result (List ℕ) (List ℕ)
+upgraded (Ok conf) = Ok (xmc Two conf)
+upgraded (Err fault) = Err (xmc_fault_text fault)
+
+-- the binary configuration that bytes of either version are, in version 2, or the text of their first fault
+unfoldable pub upgraded_of : List ℕ → Result (List ℕ) (List ℕ)
+upgraded_of bytes = upgraded (read_of bytes)

@@ -1,6 +1,10 @@
--- What is said of a text that makes no configuration.
+-- What is said of a text or a file that makes no configuration.
 use Rattle.std.proofs.Common.{◌≡◌, ◌⊎◌, ⊎_elim, ℕ, List, Option, Some, Result, Err, refl, sym, ap, ◌∙◌}
 use Rattle.xm_conf.specs.Configuration.{Conf}
+use Rattle.bin_config.specs.Gives as binary
+use Rattle.bin_config.specs.Texts.{xmc_fault_text}
+use Rattle.bin_config.specs.declared.fault.XmcFault.{XmcFault}
+use Rattle.bin_config.specs.declared.fault.XmcFault.TheVariants as xmc
 use Rattle.xmcf_reader.specs.Faults.{xmcf_fault}
 use Rattle.xmcf_reader.specs.Texts.{read_fault_text}
 use Rattle.xmcf_reader.specs.declared.draft.Entry.{Entry}
@@ -11,7 +15,7 @@ use Rattle.xmcf_check.specs.Verdict.{IsVerdict, verdict_of}
 use Rattle.xmcf_check.specs.declared.fault.CheckFault.{CheckFault}
 use Rattle.xmcf_check.specs.declared.fault.CheckFault.TheVariants as check
 use Rattle.file_maker.specs.Makes.{IsRefusalText, IsUnmade}
-use Rattle.file_maker.specs.Parsing.{conf_by_reading, conf_by_verdict, conf_of, of_conf}
+use Rattle.file_maker.specs.Parsing.{conf_by_reading, conf_by_verdict, conf_of, of_conf, upgraded}
 use Rattle.file_maker.specs.declared.unmade.Unmade.{Unmade}
 use Rattle.file_maker.specs.declared.unmade.Unmade.TheVariants.{Refused, Memory}
 
@@ -40,3 +44,13 @@ pub unread_makes : (fault : ReadFault) (text : List ℕ) (why : Unmade) → (fau
 unfolding conf_of
 unread_makes fault text why cause told memory =
     ⊎_elim (λ starved. starved_makes why _ (memory starved)) (λ found. told_makes why _ _ (ap (λ (v : Option ReadFault). conf_by_reading v text) found) told) cause
+
+-- a fault of a binary configuration
+pub configuration_unmade : (fault : XmcFault) (read : Result Conf XmcFault) (why : Unmade) → binary.Fails fault read → IsRefusalText why (xmc_fault_text fault) → (fault ≡ xmc.Memory → why ≡ Memory) → IsUnmade why (upgraded read)
+configuration_unmade xmc.Memory read why fails told memory = starved_makes why _ (memory refl)
+configuration_unmade xmc.Magic read why fails told memory = told_makes why _ _ (ap upgraded fails) told
+configuration_unmade (xmc.Version found) read why fails told memory = told_makes why _ _ (ap upgraded fails) told
+configuration_unmade (xmc.Short at) read why fails told memory = told_makes why _ _ (ap upgraded fails) told
+configuration_unmade (xmc.Trailing at) read why fails told memory = told_makes why _ _ (ap upgraded fails) told
+configuration_unmade (xmc.Field at) read why fails told memory = told_makes why _ _ (ap upgraded fails) told
+configuration_unmade (xmc.NotFit rule) read why fails told memory = told_makes why _ _ (ap upgraded fails) told

@@ -2,6 +2,7 @@
 
 ghost use Rattle.std.specs.Prelude.{◌≡◌, ◌++◌, ◌<◌, ◌≤◌, ◌&&◌, ◌^◌, [], IfOk, OnOk, length, not, ◌+◌, ◌*◌};
 ghost use Rattle.xm_conf.specs.Along.{added_by_each};
+ghost use Rattle.xm_conf.specs.Limits.{most_parts};
 ghost use Rattle.xm_report.specs.Report.{HasRoom};
 ghost use Rattle.xm_flows.specs.Masks.{group_of, members_of};
 ghost use Rattle.file_maker.specs.Grouping.{comma_unless, covered_text, group_line, group_line_in, groups_for, groups_of, id_text, ids_below, joined_by_commas, members_text};
@@ -40,7 +41,7 @@ fn groups_for(alloc: Global, conf: &Conf) -> Result<Vec<u8>, Unmade>
 // The lines of the partitions of a configuration, where there is memory for them.
 fn put_groups(alloc: Global, conf: &Conf, parts: &[Part]) -> Result<Vec<u8>, Memory>
     requires same { parts.now ≡ conf.now.parts }
-    requires few { length parts.now ≤ 16 }
+    requires few { length parts.now ≤ most_parts }
     ensures { IfOk result (λ lines. lines.items ≡ added_by_each (group_line_in conf.now) parts.now) }
 {
     let mut lines = Vec::new(alloc);

@@ -7,8 +7,10 @@ mod parsing;
 mod planning;
 mod telling;
 mod unmade;
+mod upgrading;
 
 pub use imaging::{make_xef, no_container, no_image};
 pub use parsing::make_xmc;
 pub use telling::{Telling, text_telling};
 pub use unmade::Unmade;
+pub use upgrading::{make_upgraded, no_configuration};

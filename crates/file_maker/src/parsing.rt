@@ -2,6 +2,7 @@
 
 ghost use Rattle.std.specs.Prelude.{◌≡◌, ◌<◌, ◌≤◌, ◌^◌, All, IfSome, length};
 ghost use Rattle.xm_conf.specs.Fits.{IsNeed};
+ghost use Rattle.xm_conf.specs.Limits.{most_parts};
 ghost use Rattle.file_maker.specs.Makes.{Describes, IsRefusalText, Makes};
 ghost use Rattle.file_maker.specs.Parsing.{conf_by_verdict, conf_of, xmc_of};
 ghost use Rattle.xmcf_check.specs.Texts.{check_fault_text};
@@ -46,7 +47,7 @@ pub(crate) fn read_conf(alloc: Global, text: &[u8]) -> Result<Conf, Unmade>
 #[tactic(auto, unfolding(xm_conf::specs::Description::described))]
 pub(crate) fn parts_of(conf: &Conf) -> &[Part]
     ensures value { result.now ≡ conf.now.parts }
-    ensures few { length result.now ≤ 16 }
+    ensures few { length result.now ≤ most_parts }
     ensures needs { All (λ part. IfSome part.need IsNeed) result.now }
 {
     &conf.raw().parts

@@ -4,6 +4,7 @@ ghost use Rattle.std.specs.Prelude.{◌≡◌, ◌++◌, ◌<◌, ◌≤◌, ◌
 ghost use Rattle.plan_maker.specs.Texts.{plan_fault_text};
 ghost use Rattle.xm_conf.specs.Along.{added_by_each};
 ghost use Rattle.xm_conf.specs.Fits.{InFrame, InTurn, IsNeed, IsTime};
+ghost use Rattle.xm_conf.specs.Limits.{most_parts};
 ghost use Rattle.file_maker.specs.Makes.{IsRefusalText, Makes};
 ghost use Rattle.file_maker.specs.Planning.{first_plan, frame_line, frame_text, met_by, met_line, part_line, plan_lines_for, plan_lines_of, lines_of_plan, slot_line, verdicts_by, verdicts_for, verdicts_of};
 
@@ -172,7 +173,7 @@ fn verdicts_by(alloc: Global, plan: &Plan, parts: &[Part]) -> Result<Vec<u8>, Un
     requires frame { IsTime plan.now.frame }
     requires inside { All (InFrame plan.now.frame) plan.now.slots }
     requires in_turn { InTurn plan.now.slots }
-    requires few { length parts.now ≤ 16 }
+    requires few { length parts.now ≤ most_parts }
     requires needs { All (λ part. IfSome part.need IsNeed) parts.now }
     ensures { Makes result (verdicts_by plan.now parts.now) }
 {
@@ -202,7 +203,7 @@ fn put_parts(alloc: Global, plan: &Plan, parts: &[Part]) -> Result<Vec<u8>, Memo
     requires short { plan.now.frame ≤ 1000000 }
     requires inside { All (InFrame plan.now.frame) plan.now.slots }
     requires in_turn { InTurn plan.now.slots }
-    requires few { length parts.now ≤ 16 }
+    requires few { length parts.now ≤ most_parts }
     requires needs { All (λ part. IfSome part.need IsNeed) parts.now }
     ensures { IfOk result (λ lines. lines.items ≡ added_by_each (part_line plan.now) parts.now) }
 {

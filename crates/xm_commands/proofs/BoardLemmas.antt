@@ -14,7 +14,7 @@ use Rattle.xm_report.specs.Report.{ReportLine, texts}
 use Rattle.xm_report.specs.declared.output.WriteFault.{WriteFault}
 use Rattle.xm_outside.specs.Files.{Files}
 use Rattle.xm_outside.specs.Growth.{grown}
-use Rattle.xm_words.specs.Words.{Command, PartFile, Parse, BuildImage, ReadImage, Pack, ListContainer, CheckContainer, MakePlan, CheckPlan, TellGroups, Generate}
+use Rattle.xm_words.specs.Words.{Command, PartFile, Parse, Upgrade, BuildImage, ReadImage, Pack, ListContainer, CheckContainer, MakePlan, CheckPlan, TellGroups, Generate}
 use Rattle.xm_commands.specs.Behind.{EndsBehind}
 use Rattle.xm_commands.proofs.BehindLemmas.{behind_leaves}
 use Rattle.xm_commands.specs.Boards.{IsLeft, IsMarked, IsRunTo, LeavesBoard}
@@ -140,6 +140,9 @@ told_runs file (Err text) = refl
 
 pub parse_runs : (description output : List ℕ) (contents : List (List ℕ)) → (outcome_of (Parse description output) contents).run ≡ None
 parse_runs description output contents = no_run (Parse description output) contents (made_runs description output _)
+
+pub upgrade_runs : (configuration output : List ℕ) (contents : List (List ℕ)) → (outcome_of (Upgrade configuration output) contents).run ≡ None
+upgrade_runs configuration output contents = no_run (Upgrade configuration output) contents (made_runs configuration output _)
 
 pub build_runs : (program output : List ℕ) (contents : List (List ℕ)) → (outcome_of (BuildImage program output) contents).run ≡ None
 build_runs program output contents = no_run (BuildImage program output) contents (made_runs program output _)

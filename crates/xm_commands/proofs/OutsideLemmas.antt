@@ -12,7 +12,7 @@ use Rattle.xm_base.specs.Options.{on}
 use Rattle.xm_base.specs.declared.limits.TheConstants.{FILE_BYTES, IMAGE_BYTES, TICKS}
 use Rattle.xm_outside.specs.Causes.{counted}
 use Rattle.xm_outside.specs.Files.{Files, OthersStay, stored}
-use Rattle.xm_words.specs.Words.{Command, PartFile, RunOption, Bare, Parse, BuildImage, ReadImage, Pack, ListContainer, CheckContainer, MakePlan, CheckPlan, TellGroups, Generate, Run, Replay, ReplayFiles, cores_in, replay_core, replay_input, scripts_in, span_in}
+use Rattle.xm_words.specs.Words.{Command, PartFile, RunOption, Bare, Parse, Upgrade, BuildImage, ReadImage, Pack, ListContainer, CheckContainer, MakePlan, CheckPlan, TellGroups, Generate, Run, Replay, ReplayFiles, cores_in, replay_core, replay_input, scripts_in, span_in}
 use Rattle.xm_container.specs.Reading.{unpacked}
 use Rattle.xm_container.specs.declared.fault.BoxFault.{BoxFault}
 use Rattle.xm_commands.specs.Answer.{read_all, read_before, files_saved}
@@ -24,7 +24,7 @@ use Rattle.file_maker.specs.Grouping.{groups_of}
 use Rattle.file_maker.specs.Imaging.{container_lines_of, container_verdict_of, image_lines_of, xef_of}
 use Rattle.file_commands.specs.Inputs.{no_inputs}
 use Rattle.file_commands.specs.Packing.{container_of}
-use Rattle.file_maker.specs.Parsing.{xmc_of}
+use Rattle.file_maker.specs.Parsing.{upgraded_of, xmc_of}
 use Rattle.file_maker.specs.Planning.{plan_lines_of, verdicts_of}
 use Rattle.alone_replay.specs.Ready.{Replay as Readied, Unready, replay_of}
 use Rattle.file_commands.specs.Denial.{Denial}
@@ -166,6 +166,7 @@ outcome-denied command contents denial is = at command (first_long (inputs_of co
     at command (Some file) e = same_refusal _ denial e
     at (Bare image ticks) None e = bare-denied image ticks (content 0 contents) denial e
     at (Parse description out) None e = made-denied description out (xmc_of (content 0 contents)) denial e
+    at (Upgrade configuration out) None e = made-denied configuration out (upgraded_of (content 0 contents)) denial e
     at (BuildImage program out) None e = made-denied program out (xef_of (content 0 contents)) denial e
     at (ReadImage image) None e = told-denied image (image_lines_of (content 0 contents)) denial e
     at (Pack configuration out images) None e = packed-denied out (container_of configuration (content 0 contents) images (drop 1 contents)) denial e

@@ -13,7 +13,7 @@ use Rattle.machine_model.specs.Machine.{run, start}
 use Rattle.machine_model.specs.View.{System, view_of}
 use Rattle.whole_system.specs.State.{with_inputs}
 use Rattle.xm_alone.specs.Replay.{replay_lines, replayed}
-use Rattle.xm_words.specs.Words.{Command, ReplayFiles, Bare, Parse, BuildImage, ReadImage, Pack, ListContainer, CheckContainer, MakePlan, CheckPlan, TellGroups, Generate, Run, Replay, replay_core, replay_input}
+use Rattle.xm_words.specs.Words.{Command, ReplayFiles, Bare, Parse, Upgrade, BuildImage, ReadImage, Pack, ListContainer, CheckContainer, MakePlan, CheckPlan, TellGroups, Generate, Run, Replay, replay_core, replay_input}
 use Rattle.xm_commands.specs.Answer.{read_all}
 use Rattle.file_commands.specs.Denial.{Denial}
 use Rattle.file_commands.specs.Ending.{Ending, status_of}
@@ -112,6 +112,7 @@ pub are_replayed : RunIsReplayed → (e : Ending) (command : Option Command) (be
 are_replayed law e None before after w = tt
 are_replayed law e (Some (Bare image ticks)) before after w = tt
 are_replayed law e (Some (Parse description output)) before after w = tt
+are_replayed law e (Some (Upgrade configuration output)) before after w = tt
 are_replayed law e (Some (BuildImage program output)) before after w = tt
 are_replayed law e (Some (ReadImage image)) before after w = tt
 are_replayed law e (Some (Pack configuration output images)) before after w = tt

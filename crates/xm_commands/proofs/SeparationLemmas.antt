@@ -23,7 +23,7 @@ use Rattle.machine_model.specs.Machine.{Machine, booted_part, run, start}
 use Rattle.machine_model.specs.Partition.{PartitionState}
 use Rattle.machine_model.specs.View.{System, view_of}
 use Rattle.whole_system.specs.State.{part_at, with_inputs}
-use Rattle.xm_words.specs.Words.{Command, PartFile, RunOption, Bare, Parse, BuildImage, ReadImage, Pack, ListContainer, CheckContainer, MakePlan, CheckPlan, TellGroups, Generate, Run, Replay, cores_in, inputs_in, span_in, scripts_in}
+use Rattle.xm_words.specs.Words.{Command, PartFile, RunOption, Bare, Parse, Upgrade, BuildImage, ReadImage, Pack, ListContainer, CheckContainer, MakePlan, CheckPlan, TellGroups, Generate, Run, Replay, cores_in, inputs_in, span_in, scripts_in}
 use Rattle.xm_commands.specs.Cores.{AreForPartitions}
 use Rattle.file_commands.specs.Denial.{Denial}
 use Rattle.file_commands.specs.Ending.{Ending, length_text, status_of, ticks_text}
@@ -314,6 +314,7 @@ command_by Did Shows (Bare image ticks) contents before after are tells never sh
   shows = bare_by Did image ticks (content 0 contents) never (shows (bare_system (content 0 contents)) (no_inputs 1) ticks [] [] tt) is;
 }
 command_by Did Shows (Parse description output) contents before after are tells never shows is = tt
+command_by Did Shows (Upgrade configuration output) contents before after are tells never shows is = tt
 command_by Did Shows (BuildImage program output) contents before after are tells never shows is = tt
 command_by Did Shows (ReadImage image) contents before after are tells never shows is = tt
 command_by Did Shows (Pack configuration output images) contents before after are tells never shows is = tt
@@ -366,6 +367,7 @@ some_alone lines_law core_law command before after tells w =
 lost_alone : (command : Command) (before after : Outside) → IsNotWritten command before after → CommandAlone ShowsPart command before after
 lost_alone (Bare image ticks) before after w = absurd (let some : IsSome {T = List ℕ} None = w.output in cc)
 lost_alone (Parse description output) before after w = tt
+lost_alone (Upgrade configuration output) before after w = tt
 lost_alone (BuildImage program output) before after w = tt
 lost_alone (ReadImage image) before after w = tt
 lost_alone (Pack configuration output images) before after w = tt

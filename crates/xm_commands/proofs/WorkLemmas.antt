@@ -154,6 +154,7 @@ unmade_runs e file options contents unmade.Memory read before ends is = rw ends 
 pub has_ticks : (command : code.Command) (words : List (List ℕ)) → CommandsAreSpelled → command_seen (Some command) ≡ command_of words → HasTicks command
 has_ticks (variant.Bare image ticks) words law e = ((law words (Bare image.now ticks)).0 (sym e)).1.1
 has_ticks (variant.Parse description output) words law e = tt
+has_ticks (variant.Upgrade configuration output) words law e = tt
 has_ticks (variant.BuildImage program output) words law e = tt
 has_ticks (variant.ReadImage image) words law e = tt
 has_ticks (variant.Pack configuration output images) words law e = tt

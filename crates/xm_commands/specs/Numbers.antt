@@ -9,7 +9,7 @@ use Rattle.machine_model.specs.View.{System}
 use Rattle.told_scripts.specs.Telling.{HasNumbers}
 use Rattle.whole_system.specs.State.{with_inputs}
 use Rattle.xm_container.specs.Reading.{unpacked}
-use Rattle.xm_words.specs.Words.{Command, PartFile, RunOption, Bare, Parse, BuildImage, ReadImage, Pack, ListContainer, CheckContainer, MakePlan, CheckPlan, TellGroups, Generate, Run, Replay, inputs_in, span_in, scripts_in}
+use Rattle.xm_words.specs.Words.{Command, PartFile, RunOption, Bare, Parse, Upgrade, BuildImage, ReadImage, Pack, ListContainer, CheckContainer, MakePlan, CheckPlan, TellGroups, Generate, Run, Replay, inputs_in, span_in, scripts_in}
 use Rattle.xm_commands.specs.Answer.{read_all}
 use Rattle.file_commands.specs.Ending.{Ending, Finished, Misused, Unread, Denied, Unwritten, Unsaved, Unheard, Starved}
 use Rattle.file_commands.specs.Inputs.{inputs_for}
@@ -57,6 +57,7 @@ TellsOf container options told =
 abbrev pub CommandTells : Command → Option Files → Type 0
 CommandTells (Bare image ticks) told = Unit {0}
 CommandTells (Parse description output) told = Unit {0}
+CommandTells (Upgrade configuration output) told = Unit {0}
 CommandTells (BuildImage program output) told = Unit {0}
 CommandTells (ReadImage image) told = Unit {0}
 CommandTells (Pack configuration output images) told = Unit {0}

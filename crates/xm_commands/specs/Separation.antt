@@ -14,7 +14,7 @@ use Rattle.machine_model.specs.Lines.{end_line, own, report}
 use Rattle.machine_model.specs.Machine.{run, start}
 use Rattle.machine_model.specs.View.{System, view_of}
 use Rattle.whole_system.specs.State.{with_inputs}
-use Rattle.xm_words.specs.Words.{Command, PartFile, RunOption, Bare, Parse, BuildImage, ReadImage, Pack, ListContainer, CheckContainer, MakePlan, CheckPlan, TellGroups, Generate, Run, Replay, cores_in, replay_core, replay_input, span_in, scripts_in}
+use Rattle.xm_words.specs.Words.{Command, PartFile, RunOption, Bare, Parse, Upgrade, BuildImage, ReadImage, Pack, ListContainer, CheckContainer, MakePlan, CheckPlan, TellGroups, Generate, Run, Replay, cores_in, replay_core, replay_input, span_in, scripts_in}
 use Rattle.file_commands.specs.Inputs.{inputs_for, no_inputs}
 use Rattle.file_commands.specs.Outcome.{Output, content, core_output, first_long, input_bytes, name_if_any, script_output, ticks_asked}
 use Rattle.xm_commands.specs.Answer.{read_all}
@@ -100,6 +100,7 @@ pub record ContainerAlone (Shows : System → ℕ → List PartFile → List Par
 abbrev pub CommandAlone : (System → ℕ → List PartFile → List PartFile → Outside → Outside → Type 0) → Command → Outside → Outside → Type 0
 CommandAlone Shows (Bare image ticks) before after = BareAlone Shows image ticks before after
 CommandAlone Shows (Parse description output) before after = Unit {0}
+CommandAlone Shows (Upgrade configuration output) before after = Unit {0}
 CommandAlone Shows (BuildImage program output) before after = Unit {0}
 CommandAlone Shows (ReadImage image) before after = Unit {0}
 CommandAlone Shows (Pack configuration output images) before after = Unit {0}
@@ -128,6 +129,7 @@ pub record ShowsOwn (system : System) (ticks part : ℕ) (core : Option (List �
 abbrev pub ReplaysRun : Status → Command → Outside → Outside → Type 0
 ReplaysRun status (Bare image ticks) before after = Unit {0}
 ReplaysRun status (Parse description output) before after = Unit {0}
+ReplaysRun status (Upgrade configuration output) before after = Unit {0}
 ReplaysRun status (BuildImage program output) before after = Unit {0}
 ReplaysRun status (ReadImage image) before after = Unit {0}
 ReplaysRun status (Pack configuration output images) before after = Unit {0}

@@ -11,6 +11,7 @@ use Rattle.xm_words.specs.declared.commands.Command.TheVariants as words
 abbrev pub HasTicks : Command → Type 0
 HasTicks (words.Bare image ticks) = ticks ≤ TICKS
 HasTicks (words.Parse description output) = ⊤
+HasTicks (words.Upgrade configuration output) = ⊤
 HasTicks (words.BuildImage program output) = ⊤
 HasTicks (words.ReadImage image) = ⊤
 HasTicks (words.Pack configuration output images) = ⊤

@@ -13,14 +13,14 @@ use crate::generating::generate;
 use crate::replaying::replay_container;
 use crate::running::run_file;
 use crate::unpacking::run_container;
-use file_commands::{Ending, build_image, pack_files, parse, tell};
+use file_commands::{Ending, build_image, pack_files, parse, tell, upgrade};
 use file_maker::Telling;
 use std::alloc::Global;
 use uart_board::{Board, ViewBoard};
 use xm_outside::{Sink, Store};
 use xm_words::Command::{
     Bare, BuildImage, CheckContainer, CheckPlan, Generate, ListContainer, MakePlan, Pack, Parse,
-    ReadImage, Replay, Run, TellGroups,
+    ReadImage, Replay, Run, TellGroups, Upgrade,
 };
 use xm_words::{Command, Words, command, grammar};
 
@@ -66,6 +66,10 @@ fn carry_out<'a, S: Store, O: Sink>(
             description,
             output,
         } => parse(alloc, description, output, files, out),
+        Upgrade {
+            configuration,
+            output,
+        } => upgrade(alloc, configuration, output, files, out),
         BuildImage { program, output } => build_image(alloc, program, output, files, out),
         ReadImage { image } => tell(alloc, Telling::Image, image, files, out),
         Pack {

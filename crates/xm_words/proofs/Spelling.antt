@@ -3,7 +3,7 @@ use Rattle.std.proofs.Common.{◌≡◌, ℕ, Bool, true, false, ◌&&◌, if◌
 use Rattle.std.specs.Str.{bytes_eq}
 use Rattle.std.proofs.lemmas.Bool.{and_parts}
 use Rattle.xm_words.specs.Grammar.{AreFurther, CommandsAreSpelled, IsFileName, IsRight, further_words, words_of}
-use Rattle.xm_words.specs.Words.{Command, PartFile, ReplayFiles, RunOption, Bare, Parse, BuildImage, ReadImage, Pack, ListContainer, CheckContainer, MakePlan, CheckPlan, TellGroups, Generate, Run, Replay, Neither, InputAlone, CoreAlone, InputThenCore, CoreThenInput, are_part_files, are_run_options, asked, bare_of, command_by_count, command_of, command_of_more, command_of_one, command_of_three, command_of_two, format_command, generate_for, is_file, of_file, of_files, pack_command, part_files, part_number, plan_command, replay_by, replay_files, replay_command, run_of, run_options, seed_of, ticks_of}
+use Rattle.xm_words.specs.Words.{Command, PartFile, ReplayFiles, RunOption, Bare, Parse, Upgrade, BuildImage, ReadImage, Pack, ListContainer, CheckContainer, MakePlan, CheckPlan, TellGroups, Generate, Run, Replay, Neither, InputAlone, CoreAlone, InputThenCore, CoreThenInput, are_part_files, are_run_options, asked, bare_of, command_by_count, command_of, command_of_more, command_of_one, command_of_three, command_of_two, format_command, generate_for, is_file, of_file, of_files, pack_command, part_files, part_number, plan_command, replay_by, replay_files, replay_command, run_of, run_options, seed_of, ticks_of}
 use Rattle.xm_words.proofs.OptionLemmas.{reads_run_options, run_options_typed}
 use Rattle.xm_words.proofs.PartFileLemmas.{files_named, files_typed_right}
 use Rattle.xm_words.proofs.ReplayLemmas.{further_typed, reads_further}
@@ -198,8 +198,17 @@ replay_typed name container (word ∷ script ∷ options) command is e = at (is_
 three_typed : (name first second third : List ℕ) (command : Command) → command_of_three name first second third ≡ Some command → Typed (name ∷ first ∷ second ∷ third ∷ []) command
 unfolding command_of_three
 three_typed name first second third command e =
-    ⊎_elim build none (other (bytes_eq name (codes "xmeformat") && bytes_eq first (codes "build")) (of_files BuildImage second third) None command e)
+    ⊎_elim build (λ later. ⊎_elim upgrade none (other (bytes_eq name (codes "xmcparser") && bytes_eq first (codes "upgrade")) (of_files Upgrade second third) None command later))
+    (other (bytes_eq name (codes "xmeformat") && bytes_eq first (codes "build")) (of_files BuildImage second third)
+    (if bytes_eq name (codes "xmcparser") && bytes_eq first (codes "upgrade") then of_files Upgrade second third else None) command e)
   where
+    upgrade : ((bytes_eq name (codes "xmcparser") && bytes_eq first (codes "upgrade")) ≡ true × (of_files Upgrade second third ≡ Some command)) → Typed (name ∷ first ∷ second ∷ third ∷ []) command
+    upgrade h =
+        let tests = and_parts (bytes_eq name (codes "xmcparser")) (bytes_eq first (codes "upgrade")) h.0 in
+        let name_is = named name (codes "xmcparser") tests.0 in
+        let verb_is = named first (codes "upgrade") tests.1 in
+        files_typed _ Upgrade second third command (λ right. record { text = cc; right = right }) h.1
+
     build : ((bytes_eq name (codes "xmeformat") && bytes_eq first (codes "build")) ≡ true × (of_files BuildImage second third ≡ Some command)) → Typed (name ∷ first ∷ second ∷ third ∷ []) command
     build h =
         let tests = and_parts (bytes_eq name (codes "xmeformat")) (bytes_eq first (codes "build")) h.0 in
@@ -277,6 +286,7 @@ reads : (command : Command) → IsRight command → command_of (words_of command
 unfolding command_of command_by_count command_of_one command_of_two command_of_three format_command pack_command plan_command
 reads (Bare image ticks) right = rw (is_of_file image right.0, text_ticks (decimal ticks) ticks right.1 refl)
 reads (Parse description output) right = rw (is_of_file description right.0, is_of_file output right.1)
+reads (Upgrade configuration output) right = rw (is_of_file configuration right.0, is_of_file output right.1)
 reads (BuildImage program output) right = rw (is_of_file program right.0, is_of_file output right.1)
 reads (ReadImage image) right = rw (is_of_file image right)
 reads (Pack configuration output images) right = reads_pack configuration output images right

@@ -6,7 +6,7 @@ use Rattle.xm_words.specs.declared.commands.Span.{Span}
 use Rattle.xm_words.specs.declared.commands.Span.TheVariants.{Frames, Ticks}
 use Rattle.xm_words.specs.declared.run_options.FileKind.{FileKind}
 use Rattle.xm_words.specs.declared.run_options.FileKind.TheVariants.{Core, Input, Script}
-use Rattle.xm_words.specs.Words.{Command, PartFile, ReplayFiles, RunOption, Bare, Parse, BuildImage, ReadImage, Pack, ListContainer, CheckContainer, MakePlan, CheckPlan, TellGroups, Generate, Run, Replay, Length, ForPart, Neither, InputAlone, CoreAlone, InputThenCore, CoreThenInput, command_of, files_in, spans_in, ticks_of}
+use Rattle.xm_words.specs.Words.{Command, PartFile, ReplayFiles, RunOption, Bare, Parse, Upgrade, BuildImage, ReadImage, Pack, ListContainer, CheckContainer, MakePlan, CheckPlan, TellGroups, Generate, Run, Replay, Length, ForPart, Neither, InputAlone, CoreAlone, InputThenCore, CoreThenInput, command_of, files_in, spans_in, ticks_of}
 
 -- a word is so many ticks where it is their number in decimal, and they are not above the limit
 abbrev pub TicksAreDecimal : Type 0
@@ -54,6 +54,7 @@ further_words (CoreThenInput core input) = codes "--core" ∷ core ∷ codes "--
 abbrev pub words_of : Command → List (List ℕ)
 words_of (Bare image ticks) = codes "bare" ∷ image ∷ decimal ticks ∷ []
 words_of (Parse description output) = codes "xmcparser" ∷ description ∷ output ∷ []
+words_of (Upgrade configuration output) = codes "xmcparser" ∷ codes "upgrade" ∷ configuration ∷ output ∷ []
 words_of (BuildImage program output) = codes "xmeformat" ∷ codes "build" ∷ program ∷ output ∷ []
 words_of (ReadImage image) = codes "xmeformat" ∷ codes "read" ∷ image ∷ []
 words_of (Pack configuration output images) = codes "xmpack" ∷ codes "build" ∷ configuration ∷ output ∷ map part_word images
@@ -103,6 +104,7 @@ AreFurther (CoreThenInput core input) = IsFileName core × IsFileName input
 abbrev pub IsRight : Command → Type 0
 IsRight (Bare image ticks) = IsFileName image × (ticks ≤ TICKS)
 IsRight (Parse description output) = IsFileName description × IsFileName output
+IsRight (Upgrade configuration output) = IsFileName configuration × IsFileName output
 IsRight (BuildImage program output) = IsFileName program × IsFileName output
 IsRight (ReadImage image) = IsFileName image
 IsRight (Pack configuration output images) = IsFileName configuration × IsFileName output × ArePartFiles images

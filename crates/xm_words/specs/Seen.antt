@@ -1,7 +1,7 @@
 -- What the program's commands say.
 use Rattle.std.specs.Prelude.{ℕ, List, Option, Some, None}
 use Rattle.xm_words.specs.Texts.{texts_of}
-use Rattle.xm_words.specs.Words.{Command, PartFile, ReplayFiles, RunOption, Bare, Parse, BuildImage, ReadImage, Pack, ListContainer, CheckContainer, MakePlan, CheckPlan, TellGroups, Generate, Run, Replay, Length, ForPart, Neither, InputAlone, CoreAlone, InputThenCore, CoreThenInput, files_in, part_files, run_options}
+use Rattle.xm_words.specs.Words.{Command, PartFile, ReplayFiles, RunOption, Bare, Parse, Upgrade, BuildImage, ReadImage, Pack, ListContainer, CheckContainer, MakePlan, CheckPlan, TellGroups, Generate, Run, Replay, Length, ForPart, Neither, InputAlone, CoreAlone, InputThenCore, CoreThenInput, files_in, part_files, run_options}
 use Rattle.xm_words.specs.declared.commands.Command as code
 use Rattle.xm_words.specs.declared.commands.Command.TheVariants as variant
 use Rattle.xm_words.specs.declared.part_files.PartFile as file
@@ -62,6 +62,7 @@ seen_replay_files (Some named) = Some (seen_further named)
 abbrev pub seen_command : code.Command → Command
 seen_command (variant.Bare image ticks) = Bare image.now ticks
 seen_command (variant.Parse description output) = Parse description.now output.now
+seen_command (variant.Upgrade configuration output) = Upgrade configuration.now output.now
 seen_command (variant.BuildImage program output) = BuildImage program.now output.now
 seen_command (variant.ReadImage image) = ReadImage image.now
 seen_command (variant.Pack configuration output images) = Pack configuration.now output.now (seen_files images)

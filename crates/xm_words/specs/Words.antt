@@ -28,8 +28,9 @@ pub data ReplayFiles : Type 0 where
   InputThenCore : (input core : List ℕ) → ReplayFiles
   CoreThenInput : (core input : List ℕ) → ReplayFiles
 
--- a command: a raw image runs for so many ticks; the binary configuration of a system description is made; the image of
--- a program is made; an image is told; a configuration and the images of its partitions are packed into a container; a
+-- a command: a raw image runs for so many ticks; the binary configuration of a system description is made; a binary
+-- configuration is made again in the version that is written now; the image of a program is made; an image is told; a
+-- configuration and the images of its partitions are packed into a container; a
 -- container is told; a container is checked; a cyclic plan is made from the requirements of a system description; the
 -- plan of a system description is checked against its requirements; the groups of the partitions of a system description are
 -- told; a system is generated out of a number, and runs; a container runs with options; a partition of a container is replayed alone, by a
@@ -37,6 +38,7 @@ pub data ReplayFiles : Type 0 where
 pub data Command : Type 0 where
   Bare : (image : List ℕ) (ticks : ℕ) → Command
   Parse : (description output : List ℕ) → Command
+  Upgrade : (configuration output : List ℕ) → Command
   BuildImage : (program output : List ℕ) → Command
   ReadImage : (image : List ℕ) → Command
   Pack : (configuration output : List ℕ) (images : List PartFile) → Command
@@ -350,7 +352,9 @@ command_of_two name first second =
 -- the command of a name and three words
 unfoldable pub command_of_three : List ℕ → List ℕ → List ℕ → List ℕ → Option Command
 command_of_three name first second third =
-    if bytes_eq name (codes "xmeformat") && bytes_eq first (codes "build") then of_files BuildImage second third else None
+    if bytes_eq name (codes "xmeformat") && bytes_eq first (codes "build") then of_files BuildImage second third
+    else if bytes_eq name (codes "xmcparser") && bytes_eq first (codes "upgrade") then of_files Upgrade second third
+    else None
 
 -- the command of a name and four words or more
 unfoldable pub command_of_more : List ℕ → List ℕ → List ℕ → List ℕ → List (List ℕ) → Option Command

@@ -27,6 +27,11 @@ pub enum Command<'a> {
         description: &'a str,
         output: &'a str,
     },
+    /// Make the binary configuration in this file again, in the version that is written now.
+    Upgrade {
+        configuration: &'a str,
+        output: &'a str,
+    },
     /// Make the image of the program in this file.
     BuildImage {
         program: &'a str,

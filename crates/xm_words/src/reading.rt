@@ -3,7 +3,7 @@
 ghost use Rattle.std.specs.Prelude.{◌≡◌, ◌&&◌};
 ghost use Rattle.xm_words.specs.Seen.{command_seen};
 ghost use Rattle.xm_words.specs.Texts.{texts_of};
-ghost use Rattle.xm_words.specs.Words.{BuildImage, Pack, Parse, TellGroups, are_part_files, asked, bare_of, command_by_count, command_of, command_of_more, command_of_one, command_of_three, command_of_two, format_command, generate_for, is_file, of_file, of_files, pack_command, part_files, plan_command, replay_by, replay_command, run_of, seed_of, ticks_of, part_number, replay_files};
+ghost use Rattle.xm_words.specs.Words.{BuildImage, Pack, Parse, Upgrade, TellGroups, are_part_files, asked, bare_of, command_by_count, command_of, command_of_more, command_of_one, command_of_three, command_of_two, format_command, generate_for, is_file, of_file, of_files, pack_command, part_files, plan_command, replay_by, replay_command, run_of, seed_of, ticks_of, part_number, replay_files};
 
 use crate::commands::Command;
 use crate::numbers::{part, seed, ticks};
@@ -113,6 +113,8 @@ fn command_of_three<'a>(
 {
     if name == "xmeformat" && first == "build" {
         build_image(second, third)
+    } else if name == "xmcparser" && first == "upgrade" {
+        upgrade(second, third)
     } else {
         None
     }
@@ -199,6 +201,20 @@ fn parse<'a>(description: &'a str, output: &'a str) -> Option<Command<'a>>
     if is_file(description) && is_file(output) {
         Some(Command::Parse {
             description,
+            output,
+        })
+    } else {
+        None
+    }
+}
+
+/// The configuration that two words ask to make again.
+fn upgrade<'a>(configuration: &'a str, output: &'a str) -> Option<Command<'a>>
+    ensures { command_seen result ≡ of_files Upgrade configuration.now output.now }
+{
+    if is_file(configuration) && is_file(output) {
+        Some(Command::Upgrade {
+            configuration,
             output,
         })
     } else {

@@ -1,12 +1,15 @@
 use Rattle.file_commands.specs.Told.{ending_of}
 use Rattle.xm_words.specs.Seen.{seen_files}
-use Rattle.xm_words.specs.Words.{Parse, BuildImage, ReadImage, Pack, ListContainer, CheckContainer, MakePlan, CheckPlan, TellGroups, Generate}
-use Rattle.xm_commands.proofs.BoardLemmas.{build_runs, check_plan_runs, check_runs, generate_runs, left_still, list_runs, make_plan_runs, pack_runs, parse_runs, read_runs, tell_groups_runs}
+use Rattle.xm_words.specs.Words.{Parse, Upgrade, BuildImage, ReadImage, Pack, ListContainer, CheckContainer, MakePlan, CheckPlan, TellGroups, Generate}
+use Rattle.xm_commands.proofs.BoardLemmas.{build_runs, check_plan_runs, check_runs, generate_runs, left_still, list_runs, make_plan_runs, pack_runs, parse_runs, read_runs, tell_groups_runs, upgrade_runs}
 use Rattle.xm_commands.proofs.GeneratingLemmas.{generate_done}
 use Rattle.xm_commands.proofs.work.carry_out.Goals as goal
 
 pub returns-in-Parse-clause-board : goal.returns-in-Parse-clause-board
 returns-in-Parse-clause-board g c = rw c.in-Parse.is (left_still (ending_of c.parse.result) (Parse c.in-Parse.description.now c.in-Parse.output.now) _ _ _ _ (record { places = _; marks = _ }) (parse_runs c.in-Parse.description.now c.in-Parse.output.now) c.parse.ensures)
+
+pub returns-in-Upgrade-clause-board : goal.returns-in-Upgrade-clause-board
+returns-in-Upgrade-clause-board g c = rw c.in-Upgrade.is (left_still (ending_of c.upgrade.result) (Upgrade c.in-Upgrade.configuration.now c.in-Upgrade.output.now) _ _ _ _ (record { places = _; marks = _ }) (upgrade_runs c.in-Upgrade.configuration.now c.in-Upgrade.output.now) c.upgrade.ensures)
 
 pub returns-in-BuildImage-clause-board : goal.returns-in-BuildImage-clause-board
 returns-in-BuildImage-clause-board g c = rw c.in-BuildImage.is (left_still (ending_of c.build_image.result) (BuildImage c.in-BuildImage.program.now c.in-BuildImage.output.now) _ _ _ _ (record { places = _; marks = _ }) (build_runs c.in-BuildImage.program.now c.in-BuildImage.output.now) c.build_image.ensures)
