@@ -25,7 +25,7 @@ use verdict::Verdict;
 const WORKED: &str = "worked.toml";
 
 // The files of cases, in the order in which they are done.
-const BOOKS: [&str; 29] = [
+const BOOKS: [&str; 30] = [
     "differing.toml",
     "raw_images.toml",
     "descriptions.toml",
@@ -35,6 +35,7 @@ const BOOKS: [&str; 29] = [
     "programs.toml",
     "containers.toml",
     "binary_configurations.toml",
+    "versions.toml",
     "images.toml",
     "container_files.toml",
     "damaged_files.toml",

@@ -20,7 +20,8 @@ const NO_MEMORY: &str = "there is no memory";
 
 fn main(rt: HostRuntime) -> Result<()> {
     show(&rt, rt.alloc(), "reset.box", 4)?;
-    show(&rt, rt.alloc(), "queue.box", 50)
+    show(&rt, rt.alloc(), "queue.box", 50)?;
+    show(&rt, rt.alloc(), "signal.box", 4)
 }
 
 // Does so many ticks of a container's system, and prints what each partition was told in each.
@@ -63,9 +64,17 @@ fn booted(rt: &impl Files, alloc: Global, name: &str) -> Result<Machine> {
     let Ok(system) = unpack(alloc, &bytes) else {
         bail!("{name} is no container");
     };
-    let inputs = Inputs::new(alloc, count(&system)).ok().context(NO_MEMORY)?;
+    let inputs = no_inputs(alloc, &system)?;
     let machine = Machine::boot(alloc, system, inputs);
     machine.ok().context(NO_MEMORY)
+}
+
+// No input words for any partition of a system.
+fn no_inputs(alloc: Global, system: &System) -> Result<Inputs>
+    ensures { IfOk result (λ inputs. length inputs ≡ length system.now.conf.parts) }
+{
+    let inputs = Inputs::new(alloc, count(system));
+    inputs.ok().context(NO_MEMORY)
 }
 
 // How many partitions a system has.

@@ -40,6 +40,7 @@ fn put_traffic(rt: &impl Print, traffic: Traffic<'_>) -> Result<()> {
     match traffic {
         Traffic::Nothing => print!(rt; "none")?,
         Traffic::Take { chan } => print!(rt; "take {chan}")?,
+        Traffic::Signal { number } => print!(rt; "signal {number}")?,
         Traffic::Put { chan, bytes } => {
             print!(rt; "put {chan} ")?;
             put_bytes(rt, bytes)?;
