@@ -68,6 +68,7 @@ enum {
     XM_NR_sparc_set_psr = 35,
     XM_NR_sparc_set_tbr = 36,
     XM_NR_sparc_flush_regwin = 37,
+    XM_NR_raise_ipvi = 38,
 };
 
 /* Results; 0 or more is done. */
@@ -98,6 +99,7 @@ enum {
     XM_SAMPLING_PORT = 3,
     XM_QUEUING_PORT = 4,
     XM_SLOT_START = 5,
+    XM_LINK = 8, /* link n brings XM_LINK + n */
 };
 #define XM_INTERRUPT_TRAP(interrupt) (0xe0 + (interrupt))
 
@@ -472,6 +474,11 @@ static inline int sparc_set_tbr(unsigned table)
 static inline int sparc_flush_regwin(void)
 {
     return xm_call_0(XM_NR_sparc_flush_regwin);
+}
+
+static inline int XM_raise_ipvi(unsigned link)
+{
+    return xm_call_1(XM_NR_raise_ipvi, link);
 }
 
 #endif /* __ASSEMBLER__ */

@@ -119,6 +119,13 @@ class Channel:
 
 
 @dataclass
+class Link:
+    number: int
+    source: int
+    destination: int
+
+
+@dataclass
 class System:
     name: str
     regions: list  # start and size
@@ -127,9 +134,10 @@ class System:
     parts: list
     uarts: list = field(default_factory=list)
     channels: list = field(default_factory=list)
+    links: list = field(default_factory=list)
 
 
-# Writing.
+# Writing: in version 1 what fits into it, else in version 2, or in the version that is asked for.
 
 
 def string(text):
@@ -140,12 +148,17 @@ def digested(content):
     return content + hashlib.md5(content).digest()
 
 
-def headed(magic, content, more):
-    """The head of a file: its name, version 1, and its whole length, `more` bytes of which follow the content."""
-    return struct.pack(">4sHI", magic, 1, 10 + len(content) + more) + content
+def headed(magic, content, more, version=1):
+    """The head of a file: its name, version, and its whole length, `more` bytes of which follow the content."""
+    return struct.pack(">4sHI", magic, version, 10 + len(content) + more) + content
 
 
-def configuration(system):
+def version_of(system):
+    return 2 if system.links or len(system.parts) > MOST_PARTS[1] else 1
+
+
+def configuration(system, version=None):
+    version = version or version_of(system)
     out = bytearray(string(system.name))
     out += bytes([len(system.regions)])
     for start, size in system.regions:
@@ -176,7 +189,11 @@ def configuration(system):
         out += bytes([*channel.source, len(channel.destinations)])
         for end in channel.destinations:
             out += bytes(end)
-    return headed(b"XMCF", bytes(out), 0)
+    if version == 2:
+        out += bytes([len(system.links)])
+        for link in system.links:
+            out += bytes([link.number, link.source, link.destination])
+    return headed(b"XMCF", bytes(out), 0, version)
 
 
 def image_file(image):
@@ -188,13 +205,14 @@ def image_file(image):
     return digested(headed(b"XMEF", bytes(out), 16))
 
 
-def container(system):
-    config = configuration(system)
+def container(system, version=None):
+    version = version or version_of(system)
+    config = configuration(system, version)
     out = bytearray(struct.pack(">I", len(config)) + config + bytes([len(system.parts)]))
     for number, part in enumerate(system.parts):
         content = image_file(part.image)
         out += struct.pack(">BI", number, len(content)) + content
-    return digested(headed(b"XMPK", bytes(out), 16))
+    return digested(headed(b"XMPK", bytes(out), 16, version))
 
 
 # The rules of a configuration.
@@ -230,10 +248,14 @@ def port_of(system, end):
     return ports[port] if port < len(ports) else None
 
 
-def counts_hold(system):
+MOST_PARTS = {1: 16, 2: 32}
+
+
+def counts_hold(system, version):
     least_one = [system.regions, system.plans, system.parts, *(plan.slots for plan in system.plans)]
     least_one += [part.areas for part in system.parts]
-    limits = [(system.regions, 8), (system.uarts, 8), (system.plans, 8), (system.parts, 16), (system.channels, 64)]
+    limits = [(system.regions, 8), (system.uarts, 8), (system.plans, 8), (system.channels, 64)]
+    limits += [(system.parts, MOST_PARTS[version]), (system.links, 64)]
     limits += [(plan.slots, 64) for plan in system.plans]
     limits += [(part.areas, 8) for part in system.parts] + [(part.ports, 32) for part in system.parts]
     limits += [(channel.destinations, 16) for channel in system.channels if channel.kind == SAMPLING]
@@ -301,8 +323,15 @@ def needs_hold(system):
     return all(1 <= duration <= period <= 1000000000 for duration, period in needs)
 
 
+def links_hold(system):
+    return all(
+        link.number < 8 and link.source < len(system.parts) and link.destination < len(system.parts)
+        and link.source != link.destination
+        for link in system.links
+    )
+
+
 RULES = {
-    1: counts_hold,
     3: lambda s: differ(part.name for part in s.parts) and differ(s.uarts)
     and all(differ(port.name for port in part.ports) for part in s.parts),
     4: lambda s: all(pages(start, size) and 0 < size <= 2**32 - start for start, size in s.regions),
@@ -323,11 +352,15 @@ RULES = {
     18: lambda s: differ(end for channel in s.channels for end in ends_of(channel)),
     19: actions_hold,
     20: needs_hold,
+    21: links_hold,
+    22: lambda s: differ((link.source, link.number) for link in s.links),
 }
 
 
-def broken_rule(system):
+def broken_rule(system, version):
     """The number of the first rule that does not hold, or None. The second one holds by the form."""
+    if not counts_hold(system, version):
+        return 1
     return next((number for number, holds in RULES.items() if not holds(system)), None)
 
 
@@ -368,23 +401,23 @@ class Reader:
         return text
 
 
-def body(content, magic, with_digest):
+def body(content, magic, with_digest, versions=(1,)):
     """A reader behind the head, once magic, version, length and digest are right."""
     reader = Reader(content)
     if reader.take(4) != magic:
         raise Fault("magic")
     version = reader.u16()
-    if version != 1:
+    if version not in versions:
         raise Fault(f"version found={version}")
     length = reader.u32()
     if len(content) != length:
         raise Fault(f"short at={len(content)}" if len(content) < length else f"trailing at={length}")
     if not with_digest:
-        return reader
+        return version, reader
     stored, found = content[-16:], hashlib.md5(content[:-16]).digest()
     if stored != found:
         raise Fault(f"digest stored={stored.hex()} found={found.hex()}")
-    return Reader(content[:-16], 10)
+    return version, Reader(content[:-16], 10)
 
 
 def ended(reader):
@@ -392,8 +425,8 @@ def ended(reader):
         raise Fault(f"trailing at={reader.place}")
 
 
-def read_configuration(content):
-    reader = body(content, b"XMCF", False)
+def read_configuration(content, versions=(1, 2)):
+    version, reader = body(content, b"XMCF", False, versions)
     name = reader.string()
     regions = [(reader.u32(), reader.u32()) for _ in range(reader.u8())]
     hypervisor_size = reader.u32()
@@ -404,10 +437,13 @@ def read_configuration(content):
         plans.append(Plan(frame, [Slot(reader.u32(), reader.u32(), reader.u8()) for _ in range(reader.u8())]))
     parts = [read_part(reader) for _ in range(reader.u8())]
     channels = [read_channel(reader) for _ in range(reader.u8())]
+    links = []
+    if version == 2:
+        links = [Link(reader.u8(), reader.u8(), reader.u8()) for _ in range(reader.u8())]
     ended(reader)
-    system = System(name, regions, hypervisor_size, plans, parts, uarts, channels)
-    if broken_rule(system):
-        raise Fault(f"config not-fit rule={broken_rule(system)}")
+    system = System(name, regions, hypervisor_size, plans, parts, uarts, channels, links)
+    if broken_rule(system, version):
+        raise Fault(f"config not-fit rule={broken_rule(system, version)}")
     return system
 
 
@@ -432,7 +468,7 @@ def read_channel(reader):
 
 
 def read_image(content):
-    reader = body(content, b"XMEF", True)
+    _, reader = body(content, b"XMEF", True)
     entry = reader.u32()
     heads = [(reader.u32(), reader.u32(), reader.u32()) for _ in range(reader.u8())]
     segments = [Segment(address, bytes(reader.take(size)), memory) for address, memory, size in heads]
@@ -441,8 +477,8 @@ def read_image(content):
 
 
 def read_container(content):
-    reader = body(content, b"XMPK", True)
-    system = read_configuration(reader.take(reader.u32()))
+    version, reader = body(content, b"XMPK", True, (1, 2))
+    system = read_configuration(reader.take(reader.u32()), (version,))
     for _ in range(reader.u8()):
         number = reader.u8()
         image = read_image(reader.take(reader.u32()))

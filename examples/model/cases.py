@@ -17,10 +17,10 @@ from asm import (
     listed, memory, read_y, sethi, shown_operand, ticc, write_y,
 )
 from box import (
-    ACTIONS, DESTINATION, EVENTS, QUEUING, SAMPLING, SOURCE, Area, Channel, Image, Part, Plan, Port, Segment, Slot,
+    ACTIONS, DESTINATION, EVENTS, QUEUING, SAMPLING, SOURCE, Area, Channel, Image, Link, Part, Plan, Port, Segment, Slot,
     System, container, segments,
 )
-from model import run_words
+from model import LINK, run_words
 
 FIRST, STRIDE = 0x40100000, 0x10000
 DATA, HANDLERS, TABLE, STACK = 0x1000, 0x1400, 0x2000, 0x3F00
@@ -180,7 +180,7 @@ def idle_program(number):
     return Program(number)
 
 
-def make(*programs, actions=None, logged=None, plans=PLANS, mask=0xFF):
+def make(*programs, actions=None, logged=None, plans=PLANS, mask=0xFF, links=()):
     """A system of two partitions; the first one is a system partition."""
     programs = list(programs) + [idle_program(k) for k in range(len(programs), 2)]
     parts = []
@@ -195,7 +195,7 @@ def make(*programs, actions=None, logged=None, plans=PLANS, mask=0xFF):
     for number, flags in (logged or {}).items():
         parts[number].logged = flags
     return System("case", [(0x40000000, 0x400000)], 0x10000, list(plans), parts, ["A", "B"],
-                  CHANNELS if linked else [])
+                  CHANNELS if linked else [], [Link(*link) for link in links])
 
 
 def case(name, system, length="--ticks 2000", inputs=None):
@@ -569,14 +569,15 @@ def other_calls():
                    "HYPERVISOR_WARM_RESET"):
         bad = Program(0).stack().save().save().set(12, "sp").op("save", "g0", 0, "l0").nop(2).call(37).show_register()
         case(f"call37_{action.lower()}", make(bad, actions={(0, "MEM_PROTECTION"): action}), "--ticks 120")
+    link_cases()
     unknown = Program(0)
-    for number in (0, 38, 39, 100, 0x80000001, ALL_ONES):
+    for number in (0, 39, 40, 100, 0x80000001, ALL_ONES):
         unknown.ask(number)
     case("call_unknown", make(unknown))
     for number, name in enumerate(("system", "plain")):
         # Traps are disabled again before call 31, after which interrupts are no longer masked.
         wild = Program(number).wild(1, 2, 3, 4, 5, 6, 8, 10, 11, 12, 13, 14, 15, 16, 17, 18, 19, 20, 21, 22, 23, 24)
-        wild.wild(25, 26, 28, 29, 32, 33, 0, 38, ALL_ONES, 7, 35, 36, 37).call(35, 0).wild(30, 31, 27)
+        wild.wild(25, 26, 28, 29, 32, 33, 0, 38, 39, ALL_ONES, 7, 35, 36, 37).call(35, 0).wild(30, 31, 27)
         wild.wild(*[9, 34][1 - number:])
         system = make(*[Program(0), wild][1 - number:], actions={(number, "PARTITION_ERROR"): "IGNORE"})
         case(f"calls_wild_{name}", system, "--ticks 4000")
@@ -588,6 +589,52 @@ def other_calls():
     slot = Program(0).set(4, "fp").set(0, "l1").set(0, "l2").set(34, "o0").branch("a", "far").put(HYPERCALL).nop(3)
     slot.label("far").show_register().show("four", 4)
     case("call34_in_delay_slot", make(slot, actions={(0, "MEM_PROTECTION"): "SHUTDOWN"}))
+
+
+LINKS = [(0, 0, 1), (3, 0, 1), (0, 1, 0), (7, 1, 0)]  # number, source, destination
+SIGNALS = 0xFF << LINK
+
+
+def hears(number, unmasked=SIGNALS):
+    """A partition that tells of each signal."""
+    program = Program(number)
+    for link in (0, 3, 7):
+        program.on(INTERRUPT + LINK + link, say(str(link)), back)
+    return program.ready(unmasked)
+
+
+def link_cases():
+    case("call38", make(hears(0).asks((38, 0), (38, 3)), hears(1).asks((38, 7), (38, 0)), links=LINKS))
+    case("call38_not_there", make(refused_links(0, 1, 2, 4, 7, 8, 0x103, ALL_ONES), hears(1), links=LINKS))
+    case("call38_number_of_another", make(hears(0), refused_links(1, 1, 3, 8), links=LINKS))
+    case("call38_without_links", make(refused_links(0, 0), refused_links(1, 0)))
+    for name, unmasked in (("lowest_first", SIGNALS), ("masked", 1 << LINK)):
+        twice = Program(0).asks((38, 3), (38, 0), (38, 3))
+        case(f"call38_{name}", make(twice, hears(1, unmasked).wait(20).ask(31, 1 << LINK + 3), links=LINKS))
+    for name, first, last in (
+        ("suspended", (4, 1), (5, 1)), ("halted", (2, 1), (3, 1, 1, 0)), ("reset", (38, 0), (3, 1, 1, 0)),
+    ):
+        case(f"call38_{name}", make(Program(0).asks(first, (38, 3), last), hears(1), links=LINKS))
+    slots = [Plan(400, [Slot(0, 100, 1), Slot(100, 50, 0), Slot(150, 50, 1), Slot(200, 200, 0)])]
+    for name, unmasked, enabled in (("idle", SIGNALS, True), ("idle_disabled", SIGNALS, False), ("idle_masked", 0, True)):
+        sleeper = Program(1).on(INTERRUPT + LINK + 3, say_time, back).ready(unmasked, enabled).call(7)
+        say_time(sleeper)
+        system = make(Program(0).nop(20).ask(38, 3), sleeper, plans=slots, links=LINKS)
+        case(f"call38_{name}", system, "--ticks 900")
+
+
+    slots = [Plan(900, [Slot(0, 200, 0), Slot(200, 300, 2), Slot(500, 200, 1), Slot(700, 200, 2)])]
+    links = [(0, 0, 2), (0, 1, 2), (3, 1, 2)]
+    system = make(Program(0).asks((38, 0)), Program(1).asks((38, 0), (38, 3)), hears(2), plans=slots, links=links)
+    case("call38_two_sources", system)
+    slots = [Plan(3200, [Slot(100 * part, 100, part) for part in range(32)])]
+    system = make(hears(0).ask(38, 0), *map(idle_program, range(1, 31)), hears(31).ask(38, 7), plans=slots,
+                  links=[(0, 0, 31), (7, 31, 0)])  # fmt: skip
+    case("call38_thirty_two", system, "--ticks 6500")
+
+
+def refused_links(number, *links):
+    return Program(number).asks(*[(38, link) for link in links])
 
 
 def timer_cases():

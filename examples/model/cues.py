@@ -1,9 +1,9 @@
 #!/usr/bin/env python3
-"""Writes the two containers of crates/cue_rows, and the lines that the program has to print.
+"""Writes the three containers of crates/cue_rows, and the lines that the program has to print.
 
 usage: cues.py FOLDER
 
-FOLDER is the program's; its files `data/reset.box`, `data/queue.box` and `stdout` are written. The lines come from the
+FOLDER is the program's; its files `data/reset.box`, `data/queue.box`, `data/signal.box` and `stdout` are written. The lines come from the
 tables below, which are worked by hand from the guests' words, one tick a word.
 
 In `reset.box` the first partition raises an event in tick 2, for which the whole system is reset, warm.
@@ -12,13 +12,15 @@ In `queue.box` the first partition, in a frame of 48 ticks, sends `abcd` to the 
 looks at its state in 20, resumes it in 23, looks for an entry of its health log in 29, and resets it in 34 with status 7.
 In its own 13 ticks the second one makes its port, its port 1, and takes the message in tick 47. In tick 49, the second one
 of the next frame, the first partition halts the hypervisor.
+
+In `signal.box` the first partition signals over its link of number 0 in tick 2, with the call that is its third instruction.
 """
 import sys
 from pathlib import Path
 
 from asm import Guest
 from box import DESTINATION, QUEUING, SAMPLING, SOURCE, Channel, Plan, Port, Slot, container
-from rows import A, P0, P1, demo, words
+from rows import A, HEARS, P0, P1, SIGNALS, demo, link_system, words
 
 RAISES = "9010201b 9210202a 91d02070"
 
@@ -80,6 +82,9 @@ QUEUE_TOLD = {
     (49, 1): {"whole": "halt"},
 }
 
+SIGNAL_SLOTS = [range(0, 1000)], [range(1000, 2000)]
+SIGNAL_TOLD = {(2, 1): {"traffic": "signal 0"}}
+
 
 def mine(slots, tick):
     first = next((slot.start for slot in slots if tick in slot), None)
@@ -98,6 +103,7 @@ def main():
     text = []
     for name, system, slots, told, ticks in (
         ("reset.box", reset(), RESET_SLOTS, RESET_TOLD, 4), ("queue.box", queue(), QUEUE_SLOTS, QUEUE_TOLD, 50),
+        ("signal.box", link_system(SIGNALS, HEARS), SIGNAL_SLOTS, SIGNAL_TOLD, 4),
     ):
         (folder / "data" / name).write_bytes(container(system))
         text += [name, *lines(slots, told, ticks)]

@@ -4,8 +4,9 @@
 usage: groups.py FOLDER
 
 FOLDER is crates/case_suite/data, the file is groups.toml. The group of a partition is found here by its definition alone: of
-all sets of partitions those are taken that have the partition and that no channel enters from outside, and the group is what
-they have in common.
+all sets of partitions those are taken that have the partition and that no channel or link enters from outside, and the group is
+what they have in common. Of more than 16 partitions there are too many sets: there it is grown, which is compared with the
+other way for all others.
 """
 import json
 import sys
@@ -14,7 +15,7 @@ from pathlib import Path
 HEADER = """\
 # What `flows` answers. The descriptions and what is printed of them are those of
 # `examples/model/groups.py crates/case_suite/data`, which writes this file: it takes all sets of partitions that no channel
-# enters from outside, and what those with a partition have in common. The lines of a refusal are those of docs/ERRORS.md.
+# or link enters from outside, and what those with a partition have in common. The lines of a refusal are those of docs/ERRORS.md.
 """
 
 FRONT = """\
@@ -40,19 +41,41 @@ def queuing(source, dest):
     return ("queuing", source, (dest,))
 
 
+def link(source, dest, number=0):
+    return ("link", source, (dest,), number)
+
+
 def is_closed(members, channels):
-    """Whether no channel brings anything into the set from outside."""
-    for kind, source, dests in channels:
+    """Whether no channel or link brings anything into the set from outside."""
+    for kind, source, dests, *_ in channels:
         ends = {source, *dests}
-        if kind == "sampling" and members & set(dests) and source not in members:
+        if kind != "queuing" and members & set(dests) and source not in members:
             return False
         if kind == "queuing" and members & ends and not ends <= members:
             return False
     return True
 
 
+def grown(members, channels):
+    """The set with all that a channel or a link asks for."""
+    more = set(members)
+    for kind, source, dests, *_ in channels:
+        if more & set(dests):
+            more.add(source)
+        if kind == "queuing" and source in more:
+            more |= set(dests)
+    return members if more == members else grown(more, channels)
+
+
 def groups(count, channels):
     """The group of each partition: what all closed sets with it have in common."""
+    found = [grown({p}, channels) for p in range(count)]
+    if count <= 16 and found != common(count, channels):
+        sys.exit(f"not the same: {found}")
+    return found
+
+
+def common(count, channels):
     closed = []
     for bits in range(1 << count):
         members = {p for p in range(count) if bits >> p & 1}
@@ -83,7 +106,10 @@ def changes(count, channels, systems):
         return name
 
     texts = []
-    for kind, source, dests in channels:
+    for kind, source, dests, *number in channels:
+        if kind == "link":
+            texts.append(f"<Ipvi id='{number[0]}' sourceId='{source}' destinationId='{dests[0]}'/>")
+            continue
         ends = f"<Source partitionId='{source}' portName='{port(source, kind, 'source')}'/>"
         ends += "".join(f"<Destination partitionId='{dest}' portName='{port(dest, kind, 'destination')}'/>" for dest in dests)
         if kind == "sampling":
@@ -130,6 +156,19 @@ CASES = [
     ("sixteen partitions in one chain of queues", 16, [queuing(id, id + 1) for id in range(15)], []),
     ("sixteen partitions in one chain of queues, with a system partition in it", 16, [queuing(id, id + 1) for id in range(15)], [7]),
     ("sixteen partitions, each with the next but one", 16, [queuing(id, id + 2) for id in range(14)], [2]),
+    ("a link: its source does not feel its destination", 2, [link(0, 1)], []),
+    ("a link back", 2, [link(1, 0, 7)], []),
+    ("links both ways", 3, [link(0, 1), link(1, 0)], []),
+    ("a link from a system partition", 3, [link(0, 1, 3)], [0]),
+    ("a link to a system partition", 3, [link(1, 0)], [0]),
+    ("a chain of links", 4, [link(0, 1), link(1, 2), link(2, 3)], []),
+    ("a chain of links whose order is the other way round", 4, [link(2, 3), link(1, 2), link(0, 1)], []),
+    ("a ring of links", 4, [link(0, 1), link(1, 2), link(2, 3), link(3, 0)], []),
+    ("a link behind a queue and one behind a sampling channel", 5, [queuing(0, 1), link(2, 0), sampling(3, 4), link(4, 2)], []),
+    ("a queue whose destination is signalled", 4, [queuing(0, 1), link(3, 1), link(1, 2)], []),
+    ("eight links of one partition", 9, [link(8, id, id) for id in range(8)], []),
+    ("thirty-two partitions in one chain of links", 32, [link(id, id + 1) for id in range(31)], [16]),
+    ("thirty-two partitions in one chain of queues, backwards", 32, [queuing(id + 1, id) for id in range(31)], []),
     ("one source of all others", 16, [sampling(15, *range(15))], [15]),
 ]
 

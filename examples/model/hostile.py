@@ -113,9 +113,9 @@ def damaged(folder):
 
 def wild_answers():
     """What each number is answered by partition 1, which is no system partition; None where there is no result."""
-    answers = {1: 1, 33: -7, 27: None, 34: None, 0: -2, 38: -2, WORD: -2}
+    answers = {1: 1, 33: -7, 27: None, 34: None, 0: -2, 39: -2, WORD: -2}
     answers |= dict.fromkeys([2, 3, 4, 5, 6, 8, 9, 10, 11, 14, 15, 25, 26, 28, 29], -4)
-    answers |= dict.fromkeys([12, 13, 16, 17, 18, 19, 20, 21, 22, 23, 24, 32], -3)
+    answers |= dict.fromkeys([12, 13, 16, 17, 18, 19, 20, 21, 22, 23, 24, 32, 38], -3)
     answers |= dict.fromkeys([7, 30, 31, 35, 36, 37], 0)
     return answers
 

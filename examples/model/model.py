@@ -29,6 +29,7 @@ RESET_NAMES = ["COLD", "WARM"]
 
 # Virtual interrupts; their trap types follow 0xE0.
 HARDWARE_TIMER, EXECUTION_TIMER, SHUTDOWN, SAMPLING_PORT, QUEUING_PORT, SLOT_START = range(6)
+LINK = 8  # of link 0; those of the other numbers follow
 INTERRUPT_TRAPS = 0xE0
 
 # Results of hypercalls.
@@ -658,6 +659,15 @@ class Machine:
             self.undone(part, pair)
         return OK
 
+    def raise_ipvi(self, part, a):
+        for link in self.system.links:
+            if (link.source, link.number) == (part.number, a):
+                peer = self.parts[link.destination]
+                if peer.state != HALTED:
+                    peer.raise_interrupt(LINK + a)
+                return OK
+        raise Refused(INVALID)
+
     # Resets from outside, between two ticks: they print nothing.
 
     def reset_between(self, part, mode, status):
@@ -720,7 +730,7 @@ CALLS = {
     23: ("get_queuing_port_status", 2), 24: ("trace_event", 2), 25: ("trace_read", 3), 26: ("trace_status", 2),
     27: ("hm_raise_event", 1), 28: ("hm_read", 3), 29: ("hm_status", 2), 30: ("set_irqmask", 1),
     31: ("clear_irqmask", 1), 32: ("write_console", 2), 33: ("read_input", 1), 34: ("iret", 0), 35: ("set_psr", 1),
-    36: ("set_tbr", 1), 37: ("flush_regwin", 0),
+    36: ("set_tbr", 1), 37: ("flush_regwin", 0), 38: ("raise_ipvi", 1),
 }
 
 

@@ -144,6 +144,9 @@ MAKES = [
     ("a demand equal to the period, of two", [(2, 3), (2, 6)]),
     ("sixteen partitions at full load", [(1, 16)] * 16),
     ("sixteen partitions, every second one of which requires nothing", [(1, 8), None] * 8),
+    ("thirty-two partitions at full load", [(1, 32)] * 32),
+    ("thirty-two partitions, every second one of which requires nothing", [(1, 16), None] * 16),
+    ("thirty-two partitions, two slots each", [(1, 32)] * 31 + [(2, 64)]),
     ("64 slots", [(1, 2), (1, 126)]),
     ("the longest common period, one tick of it", [(1, LONGEST)]),
     ("the longest common period at full load", [(400_000, LONGEST), (100_000, 250_000), (50_000, 250_000)]),
@@ -153,6 +156,7 @@ MAKES = [
 MAKES_NONE = [
     ("no requirement", [None]),
     ("sixteen partitions without a requirement", [None] * 16),
+    ("thirty-two partitions without a requirement", [None] * 32),
     ("a period above the longest", [(1, LONGEST + 1)]),
     ("the longest period that a description may have", [None, (1, 1_000_000_000)]),
     ("a common period above the longest, at the second partition", [(1, 1000), (1, 1001)]),
@@ -163,6 +167,8 @@ MAKES_NONE = [
     ("one tick too many", [(1, 2), (2, 3)]),
     ("a requirement as long as its period, beside another", [(5, 5), (1, 5)]),
     ("sixteen times the longest period", [(LONGEST, LONGEST)] * 16),
+    ("thirty-two times the longest period", [(LONGEST, LONGEST)] * 32),
+    ("a tick too many in the last of thirty-two partitions", [(1, 32)] * 31 + [(2, 32)]),
     ("an overload goes before too many slots", [(1, 2), (1, 128), (64, 128)]),
     ("65 slots", [(1, 2), (1, 128)]),
     ("500000 slots", [(1, 2), (1, LONGEST)]),
@@ -194,6 +200,7 @@ CHECKS = [
     ("all four answers", [(20, [(0, 5, 0), (5, 5, 1), (10, 5, 0), (15, 5, 3)])], [(5, 10), None, (1, 3), (1, 10)]),
     ("plan 1 is not looked at", [(10, [(0, 10, 0)]), (10, [(0, 10, 1)])], [(10, 10), (1, 10)]),
     ("sixteen partitions", [(16, [(id, 1, id) for id in range(16)])], [(1, 16)] * 15 + [(2, 16)]),
+    ("thirty-two partitions", [(32, [(id, 1, id) for id in range(32)])], [(1, 32)] * 31 + [(2, 32)]),
     ("the longest frame in windows of one tick", [(LONGEST, [(0, LONGEST, 0)])], [(1, 1)]),
     ("the longest frame, whose last tick is missing", [(LONGEST, [(0, LONGEST - 1, 0)])], [(1, 1)]),
     ("the longest frame, whose last tick alone is there", [(LONGEST, [(LONGEST - 1, 1, 0)])], [(1, LONGEST)]),
@@ -211,6 +218,9 @@ def quoted(value):
     return json.dumps(value, ensure_ascii=False)
 
 
+LINKS = ["</PartitionTable>", "</PartitionTable><Channels><Ipvi id='0' sourceId='0' destinationId='1'/><Ipvi id='7' sourceId='1' destinationId='0'/></Channels>"]
+
+
 def row(shows, **keys):
     """A case, a line of its own."""
     parts = [f"shows = {quoted(shows)}"]
@@ -223,9 +233,9 @@ def group(name, keys, rows):
     return "\n".join(["[[group]]", f"name = {quoted(name)}", *(f"{key} = {value}" for key, value in keys.items()), "case = [", *rows, "]", ""])
 
 
-def description(plans, needs):
+def description(plans, needs, more=()):
     """How the file `x` of a case is made."""
-    return f"{{ name = \"x\", of = \"{len(needs)} partitions\", replace = {quoted(changes(plans, needs))} }}"
+    return f"{{ name = \"x\", of = \"{len(needs)} partitions\", replace = {quoted([*changes(plans, needs), *more])} }}"
 
 
 def main():
@@ -250,7 +260,7 @@ def main():
     parts.append(group("plans that are made, as configurations", parse, [row(shows, file=quoted([f"x=made {number}"]), out_begins='"ok length="') for number, (shows, _, _) in enumerate(plans)]))
     parts.append(group("plans that are made, checked", check, [row(shows, file=quoted([f"x=made {number}"]), out=quoted(checked(plan, needs))) for number, (shows, needs, plan) in enumerate(plans)]))
     for shows, needs, plan in plans:
-        if set(checked(plan, needs).split("\n")) - {f"P{part} {word}" for part in range(16) for word in ("met", "none")} - {""}:
+        if set(checked(plan, needs).split("\n")) - {f"P{part} {word}" for part in range(32) for word in ("met", "none")} - {""}:
             sys.exit(f"{shows}: a plan misses a requirement")
     nones = []
     for shows, needs in MAKES_NONE:
@@ -260,6 +270,11 @@ def main():
         nones.append(row(shows, make=description([SHORT], needs), refused=quoted(why)))
     parts.append(group("requirements that make no plan", {**make, **refused}, nones))
     parts.append(group("plans that are checked", check, [row(shows, make=description(plans, needs), out=quoted(checked(plans[0], needs))) for shows, plans, needs in CHECKS]))
+    turns = (12, [(0, 2, 0), (2, 3, 1), (5, 2, 0), (7, 1, 1), (8, 2, 0), (10, 2, 1)]), [(2, 4), (3, 6)]
+    parts.append(group("plans of partitions with links", {}, [
+        row("one is made as without them", call='"plan make x"', make=description([SHORT], turns[1], [LINKS]), out=quoted(lines_of(made(turns[1])))),
+        row("one is checked as without them", call='"plan check x"', make=description([turns[0]], turns[1], [LINKS]), out=quoted(checked(*turns))),
+    ]))
     parts.append(group("plans that are too long to be checked", {**check, **refused}, [row(shows, make=description(plans, needs), refused=quoted(checked(plans[0], needs))) for shows, plans, needs in CHECKS_NONE]))
     parts.append(group("descriptions that give no plan", refused, list(no_descriptions())))
     parts.append(group("plans where a device fails", {"file": '["demo.xml"]'}, list(devices())))

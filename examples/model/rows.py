@@ -4,7 +4,7 @@ import sys
 
 from asm import Guest
 from box import (
-    DESTINATION, QUEUING, SAMPLING, SOURCE, Area, Channel, Image, Part, Plan, Port, Segment, Slot, System,
+    DESTINATION, QUEUING, SAMPLING, SOURCE, Area, Channel, Image, Link, Part, Plan, Port, Segment, Slot, System,
     configuration, container, image_file, read_container,
 )
 from model import A, Machine
@@ -280,11 +280,40 @@ def sampling_rows():
         compare("stays", channel.sample, (5, b"abcd"))
 
 
+SIGNALS = "90102026 92102000 91d02070 10800000 01000000"
+HEARS = "13100600 90102024 91d02070 92102100 9010201f 91d02070 92102020 90102023 91d02070"
+
+
+def link_system(first, second):
+    system = demo(words(first), words(second))
+    system.links = [Link(0, 0, 1)]
+    return system
+
+
+def link_rows():
+    """P0 signals P1 over link 0. It is delivered in the tick behind P1's call that enables interrupts."""
+    heard = link_system(SIGNALS, HEARS)
+    compare("signal", lines_of(heard, 2000), """
+SYSTEM parts=2 plans=1 ticks=2000
+[1010] P1 HM XM_HM_EV_SPARC_ILLEGAL_INSTRUCTION 40180e80 XM_HM_AC_HALT
+[1010] P1 HALT
+END P0 ready resets=0 exec=1000 pc=40100010
+END P1 halted resets=0 exec=11 pc=40180e80
+END XM running plan=0 clock=2000 ticks=2000
+""")
+    machine = Machine(link_system(LOOP, SIGNALS))
+    machine.run(1003)
+    compare("no link of the destination", machine.parts[1].processor.get(8), 0xFFFFFFFD)
+    written = container(heard)
+    compare("links read back", read_container(written).links, heard.links)
+    compare("length of the configuration with a link", len(configuration(heard)), 148)
+
+
 def wild_rows():
     """All arguments are FFFFFFFF; the caller is not a system partition, and then is one."""
-    plain = {1: 1, 33: -7, 0: -2, 38: -2, 0xFFFFFFFF: -2}
+    plain = {1: 1, 33: -7, 0: -2, 39: -2, 0xFFFFFFFF: -2}
     plain |= dict.fromkeys([2, 3, 4, 5, 6, 8, 9, 10, 11, 14, 15, 25, 26, 28, 29], -4)
-    plain |= dict.fromkeys([12, 13, *range(16, 25), 32], -3)
+    plain |= dict.fromkeys([12, 13, *range(16, 25), 32, 38], -3)
     plain |= dict.fromkeys([7, 30, 31, 35, 36, 37, 27], 0)
     system = plain | dict.fromkeys([2, 3, 4, 5, 6, 8, 11, 14, 15, 25, 26, 28, 29], -3) | {9: 0, 10: -6, 1: 0}
     for caller, answers in ((1, plain), (0, system)):
@@ -331,7 +360,7 @@ def generated(number):
 def generated_row(frames=20):
     """Of the whole run of 1000 frames the sums are known; a few frames show them, since all later ones are alike."""
     system = generated(7)
-    compare("container of the generated system", len(container(system)), 3009)
+    compare("container of the generated system in version 1", len(container(system)), 3009)
     compare("durations", [slot.duration for slot in system.plans[0].slots],
             [699, 950, 276, 482, 250, 505, 774, 312, 414, 964, 811, 598, 777, 194, 832, 671])
     machine = Machine(system)
@@ -347,8 +376,8 @@ def generated_row(frames=20):
 
 
 def main():
-    for row in (bare_rows, instruction_rows, demo_rows, timer_rows, queue_rows, plan_rows, sampling_rows, wild_rows,
-                generated_row):
+    for row in (bare_rows, instruction_rows, demo_rows, timer_rows, queue_rows, plan_rows, sampling_rows, link_rows,
+                wild_rows, generated_row):
         row()
     print(f"{len(FAULTS)} differences")
     return 1 if FAULTS else 0

@@ -14,9 +14,9 @@ from pathlib import Path
 from asm import Guest
 from box import container
 from model import Machine
-from cues import QUEUE_SLOTS, QUEUE_TOLD, RESET_SLOTS, RESET_TOLD, mine, queue, reset
+from cues import QUEUE_SLOTS, QUEUE_TOLD, RESET_SLOTS, RESET_TOLD, SIGNAL_TOLD, mine, queue, reset
 from groups import group, quoted, row
-from rows import P0, demo
+from rows import HEARS, LOOP, P0, SIGNALS, demo, link_system
 
 HEADER = """\
 # Scripts of partitions, as `run --script` writes them (docs/FORMATS.md). `examples/model/scripts.py crates/case_suite/data`
@@ -89,7 +89,7 @@ def traffic_bytes(text):
     if kind == "put":
         message = bytes.fromhex(rest[1])
         return bytes([1, int(rest[0])]) + len(message).to_bytes(2, "big") + message
-    return bytes([2, int(rest[0])])
+    return bytes([{"take": 2, "signal": 3}[kind], int(rest[0])])
 
 
 def order_bytes(text):
@@ -178,6 +178,15 @@ FIELDS = {
     "with a halt before the last cue": ("584d5343 0001 01 0000000000000002 02 00 00 00 03 00 00 00000001", 19),
 }
 
+# The same of partition 1 of signal.box, to which link 0 goes, and then of partition 0, from which it goes.
+LINK_FIELDS = {
+    "with a signal over a link that there is not": (1, entry("00 03 01 00 00 00"), 18),
+    "with a signal over a link of number 8": (1, entry("00 03 08 00 00 00"), 18),
+    "with a signal without its number": (1, entry("00 03"), 18),
+    "with a signal in its own slot": (1, entry("01 03 00 00 00 00"), 17),
+    "with a signal over its own link": (0, "584d5343 0001 00 0000000000000001 02 00 03 00 00 00 00", 18),
+}
+
 # The same of partition 0, which has the flag `system`, and of which messages are taken.
 SYSTEM_FIELDS = {
     "with five bytes seen": ("584d5343 0001 00 0000000000000001 02 01 00 00 00 02 05 0000000000", 21),
@@ -258,6 +267,16 @@ def replays():
     yield group("scripts that are none for a system partition", {"call": '"alone queue.box 0 s"', "file": '["queue.box"]', "of_file": '"s"'}, [
         row(name, make=f'{{ name = "s", hex = "{digits}" }}', refused=quoted(f"field at={at}")) for name, (digits, at) in SYSTEM_FIELDS.items()
     ])
+    signalled = report_of(link_system(SIGNALS, HEARS), 2000)
+    yield group("replays of signals", {"file": '["signal.box"]'}, [
+        row("one that is signalled", make='{ name = "s", of = "script 1 of signal" }', call='"alone signal.box 1 s"', out=quoted(own(1, signalled))),
+        row("the one that signals", make='{ name = "s", of = "script 0 of signal" }', call='"alone signal.box 0 s"', out=quoted(own(0, signalled))),
+        row("one whose signal is left out", make='{ name = "s", of = "script 1 of no signal" }', call='"alone signal.box 1 s"', out=quoted(own(1, report_of(link_system(LOOP, HEARS), 2000)))),
+        row("by the script that a run wrote", calls='["run signal.box --ticks 2000 --script 1=s", "alone signal.box 1 s"]', out=quoted(own(1, signalled))),
+    ])
+    yield group("scripts whose signal is none", {"file": '["signal.box"]', "of_file": '"s"'}, [
+        row(name, call=quoted(f"alone signal.box {p} s"), make=f'{{ name = "s", hex = "{digits}" }}', refused=quoted(("short" if len(digits.split()) < 8 else "field") + f" at={at}")) for name, (p, digits, at) in LINK_FIELDS.items()
+    ])
     scripts = {
         "bytes of another length than the call writes": script_but(20, {"seen": 4 * "00"}),
         "nothing, where a call asks": script_but(20, None),
@@ -294,24 +313,29 @@ def replays():
 
 def main():
     (folder,) = sys.argv[1:]
-    boxes = {"reset.box": container(reset()), "queue.box": container(queue())}
+    boxes = {"reset.box": container(reset()), "queue.box": container(queue()), "signal.box": container(link_system(SIGNALS, HEARS))}
     scripts = {
         "script 0 of reset": script(0, RESET_SLOTS, RESET_TOLD, 4),
         "script 1 of reset": script(1, RESET_SLOTS, RESET_TOLD, 4),
         "script 0 of queue": script(0, QUEUE_SLOTS, QUEUE_TOLD, 50),
         "script 1 of queue": script(1, QUEUE_SLOTS, QUEUE_TOLD, 50),
         "script 1 of the front of queue": script(1, QUEUE_SLOTS, QUEUE_TOLD, 15),
+        "script 0 of signal": script(0, LOOPS_SLOTS, SIGNAL_TOLD, 2000),
+        "script 1 of signal": script(1, LOOPS_SLOTS, SIGNAL_TOLD, 2000),
+        "script 1 of no signal": script(1, LOOPS_SLOTS, {}, 2000),
         "script 0 of loops": script(0, LOOPS_SLOTS, {}, 6000),
         "script 1 of loops": script(1, LOOPS_SLOTS, {}, 6000),
         "script 0 of no tick": script(0, LOOPS_SLOTS, {}, 0),
     }
     parts = [HEADER, OTHERS, *(file_row(name, content) for name, content in (boxes | scripts).items())]
-    parts.append(group("scripts of runs", {"file": '["reset.box", "queue.box", "duo.xmp", "none"]'}, [
+    parts.append(group("scripts of runs", {"file": '["reset.box", "queue.box", "signal.box", "duo.xmp", "none"]'}, [
         row("a reset of the whole system, told the other partition", call='"run reset.box --ticks 4 --script 1=s"', out=quoted(FOUR), same='{ s = "script 1 of reset" }'),
         row("and the one that caused it", call='"run reset.box --script 0=s --ticks 4"', out=quoted(FOUR), same='{ s = "script 0 of reset" }'),
         row("both, each in its file", call='"run reset.box --script 1=s --ticks 4 --script 0=t"', out=quoted(FOUR), same='{ s = "script 1 of reset", t = "script 0 of reset" }'),
         row("slots of a partition that loops", call='"run duo.xmp --frames 3 --script 0=s"', out=quoted(LOOPS), same='{ s = "script 0 of loops" }'),
         row("slots of the other one", call='"run duo.xmp --frames 3 --script 1=s"', out=quoted(LOOPS), same='{ s = "script 1 of loops" }'),
+        row("a signal, told the partition to which its link goes", call='"run signal.box --ticks 2000 --script 1=s"', out=quoted(report_of(link_system(SIGNALS, HEARS), 2000)), same='{ s = "script 1 of signal" }'),
+        row("and not the one that signals", call='"run signal.box --ticks 2000 --script 0=s"', out=quoted(report_of(link_system(SIGNALS, HEARS), 2000)), same='{ s = "script 0 of signal" }'),
         row("no tick", call='"run duo.xmp --ticks 0 --script 0=s"', out=quoted(NONE), same='{ s = "script 0 of no tick" }'),
         row("a message taken, and what two calls are shown, up to the tick in which the hypervisor halts", call='"run queue.box --ticks 50 --script 0=s"', out_begins='"SYSTEM parts=2 plans=1 ticks=50\\n"', same='{ s = "script 0 of queue" }'),
         row("a message put, and three orders, up to that tick", call='"run queue.box --ticks 50 --script 1=s"', out_begins='"SYSTEM parts=2 plans=1 ticks=50\\n"', same='{ s = "script 1 of queue" }'),

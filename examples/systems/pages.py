@@ -25,7 +25,7 @@ from pathlib import Path
 
 HERE = Path(__file__).resolve().parent
 ROOT = HERE.parent.parent
-PAGES = ["queue", "control", "supervisor", "misdeeds", "filter"]
+PAGES = ["queue", "control", "supervisor", "misdeeds", "filter", "alarm"]
 BLOCK = re.compile(r"^```text\n(.*?)^```$", re.M | re.S)
 # As many zeros in a row are not written into the data.
 ZEROS = re.compile(rb"\0{64,}")

@@ -9,7 +9,6 @@ usage: second.py xmcparser XML OUT
 Descriptions and program files are read here; whether they keep the rules is not tested.
 """
 import re
-import re
 import struct
 import sys
 import xml.etree.ElementTree as ET
@@ -19,13 +18,15 @@ sys.dont_write_bytecode = True
 sys.path.insert(0, str(Path(__file__).resolve().parent.parent / "model"))
 
 from box import (  # noqa: E402
-    ACTIONS, DEFAULT_ACTIONS, DESTINATION, EVENTS, QUEUING, SAMPLING, SOURCE, Area, Channel, Image, Part, Plan, Port,
-    Segment, Slot, System, configuration, container, image_file, read_configuration, read_image,
+    ACTIONS, DEFAULT_ACTIONS, DESTINATION, EVENTS, QUEUING, SAMPLING, SOURCE, Area, Channel, Image, Link, Part, Plan,
+    Port, Segment, Slot, System, configuration, container, image_file, read_configuration, read_image,
 )
 from model import run_in  # noqa: E402
 
 UNITS = {"us": 1, "ms": 1000, "s": 1000000, "B": 1, "KB": 1 << 10, "MB": 1 << 20}
 KINDS = {"sampling": SAMPLING, "queuing": QUEUING}
+# Of the files that are written.
+VERSION = 2
 WAYS = {"source": SOURCE, "destination": DESTINATION}
 
 
@@ -81,9 +82,10 @@ def description(path):
                    for slot in plan.iter("Slot")]) for plan in root.iter("Plan")]  # fmt: skip
     uarts = [uart.get("name") for uart in root.iter("Uart")]
     parts = [part_of(part, uarts) for part in root.iter("Partition")]
-    channels = [channel_of(channel, parts) for channel in root.findall("Channels/*")]
+    channels = [channel_of(channel, parts) for channel in root.findall("Channels/*") if channel.tag != "Ipvi"]
+    links = [Link(*(int(link.get(key)) for key in ("id", "sourceId", "destinationId"))) for link in root.iter("Ipvi")]
     size = amount(root.find("XMHypervisor/PhysicalMemoryArea").get("size"))
-    return System(root.get("name"), regions, size, plans, parts, uarts, channels)
+    return System(root.get("name"), regions, size, plans, parts, uarts, channels, links)
 
 
 def program(content):
@@ -103,17 +105,17 @@ def written(path, content):
 
 
 def packed(config, images):
-    system = read_configuration(Path(config).read_bytes())
+    system = read_configuration(Path(config).read_bytes(), (VERSION,))
     for image in images:
         number, _, path = image.partition("=")
         system.parts[int(number)].image = read_image(Path(path).read_bytes())
-    return container(system)
+    return container(system, VERSION)
 
 
 def main(words):
     match words:
         case ["xmcparser", text, out]:
-            return written(out, configuration(description(text)))
+            return written(out, configuration(description(text), VERSION))
         case ["xmeformat", "build", elf, out]:
             return written(out, image_file(program(Path(elf).read_bytes())))
         case ["xmpack", "build", config, out, *images]:
