@@ -106,16 +106,12 @@ pub(crate) fn difference_overflows(a: u32, b: u32, borrow: bool) -> bool
     !is_signed_word(signed_difference(a, b, borrow))
 }
 
-/// The difference of signed words does not fit one: their signs differ, and its sign is not the first's.
+/// The difference of signed words does not fit one: it is negative where the first is not the smaller, or it is not where it is.
 #[tactic(auto, unfolding(crate::specs::Words::difference_overflows, crate::specs::Words::difference, crate::specs::Words::sign))]
 pub(crate) fn comparison_overflows(a: u32, b: u32) -> bool
     ensures { result ≡ difference_overflows a b false }
 {
-    if sign(a) == sign(b) {
-        false
-    } else {
-        sign(a) != sign(difference(a, b, false))
-    }
+    sign(difference(a, b, false)) != (a.cast_signed() < b.cast_signed())
 }
 
 // The difference of signed words, less a borrow.
