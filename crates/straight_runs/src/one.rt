@@ -66,19 +66,21 @@ pub(crate) fn one<B: HasWords>(
             let to = taken(own, row, code.words, at);
             behind(own, bus, words, rows, code, at, to)
         }
-        Step::Stays => match turn(own, row, code.words, at) {
-            Goal::Behind(to) => behind(own, bus, words, rows, code, at, to),
-            Goal::Now(to) => Came::Jump(to),
-            Goal::Stays => {
-                if row.kind == kinds::OTHER {
-                    Came::Stays
-                } else if shift(own, bus, *row, address(code.words, at)) {
+        Step::Stays => {
+            if row.kind < kinds::CALL {
+                if shift(own, bus, *row, address(code.words, at)) {
                     Came::Next
                 } else {
                     Came::Stays
                 }
+            } else {
+                match turn(own, row, code.words, at) {
+                    Goal::Behind(to) => behind(own, bus, words, rows, code, at, to),
+                    Goal::Now(to) => Came::Jump(to),
+                    Goal::Stays => Came::Stays,
+                }
             }
-        },
+        }
     }
 }
 

@@ -29,10 +29,12 @@ pub(crate) fn rare(own: &mut Processor, row: &Row) -> Step
         } else {
             read_y(own, row)
         }
-    } else if row.kind == kinds::SAVE {
-        save(own, row)
-    } else if row.kind == kinds::RESTORE {
-        restore(own, row)
+    } else if row.kind < kinds::CALL {
+        if row.kind == kinds::SAVE {
+            save(own, row)
+        } else {
+            restore(own, row)
+        }
     } else {
         Step::Stays
     }
