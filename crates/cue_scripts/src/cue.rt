@@ -16,7 +16,8 @@ pub enum ScriptSlot {
     Mine { first: bool },
 }
 
-/// What others did to a channel of the partition, which goes by the partition's name for it: its lowest port on the channel; or over a link to it.
+/// What others did to a channel of the partition, which goes by the partition's name for it: its lowest port on the channel; or over a link
+/// to it.
 #[derive(Debug, Drop)]
 pub enum ScriptTraffic {
     /// Nothing.

@@ -64,7 +64,8 @@ pub fn read_files<'a, S: Store>(
     }
 }
 
-/// The bytes of two files, and of a third where there is one, read in this order: of each its bytes, or its first ones where it is too long.
+/// The bytes of two files, and of a third where there is one, read in this order: of each its bytes, or its first ones where it is too
+/// long.
 pub fn read_three<'a, S: Store>(
     alloc: Global,
     first: &'a str,

@@ -1,4 +1,4 @@
--- The end of a tick of one partition without the others in which it was reported nothing but that a slot of its own runs.
+-- The end of a tick of one partition without the others in which it was told nothing but that a slot of its own runs.
 use Rattle.std.proofs.Common.{◌≡◌, ℕ, ◌+◌, ◌<◌, ◌≤◌, Bool, false, true, List, ◌++◌, length, Option, None, Some, refl, sym, ap, ◌∙◌, subst, arith}
 use Rattle.std.specs.Prelude.{◌%◌, ◌^◌, if◌then◌else◌, IfSome}
 use Rattle.std.proofs.lemmas.List.{length-set}

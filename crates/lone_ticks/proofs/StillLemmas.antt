@@ -1,4 +1,4 @@
--- One partition alone in ticks in which it is reported nothing but whether the slot is its own, and in which it prints nothing: one of them, and many.
+-- One partition alone in ticks in which it is told nothing but whether the slot is its own, and in which it prints nothing: one of them, and many.
 use Rattle.std.proofs.Common.{◌≡◌, ℕ, zero, suc, ◌+◌, ◌==◌, ◌<◌, ◌≤◌, ◌⊎◌, Bool, true, false, ◌&&◌, List, [], ◌∷◌, ◌++◌, Option, None, Some, refl, sym, ap, ◌∙◌, inl, inr, subst, arith}
 use Rattle.std.proofs.lemmas.Bool.Decides.{nat_tests}
 use Rattle.std.specs.Prelude.{if◌then◌else◌, map, replicate}

@@ -1,4 +1,4 @@
--- What many ticks of one partition without the others come to, in each of which it is reported nothing but whether the slot is its own.
+-- What many ticks of one partition without the others come to, in each of which it is told nothing but whether the slot is its own.
 use Rattle.std.specs.Prelude.{◌≡◌, ℕ, ◌+◌, ◌-◌, ◌<◌, ◌≤◌, ◌^◌, Bool, true, false, List, [], ◌∷◌, length, replicate, Option}
 use Rattle.cyclic_plans.specs.PlanClock.{IsInFrame, ended}
 use Rattle.cyclic_plans.specs.Slots.{frame_of}
@@ -42,7 +42,7 @@ pub record AreSilent (p : ℕ) (cues : List Cue) (old new : Machine) : Type 0 wh
   pub system : IsOfSystem old new
   pub running : new.halted ≡ false
 
--- so many ticks of partition p, in each of which it is reported nothing but whether a slot of its own runs: all but the last were silent, and
+-- so many ticks of partition p, in each of which it is told nothing but whether a slot of its own runs: all but the last were silent, and
 -- the last came to this
 pub record IsLoneSpan (told : Option Note) (ticks p : ℕ) (own : Bool) (old new : Machine) (got : List ReportLine) : Type 0 where
   pub before : Machine

@@ -1,4 +1,4 @@
-//! Many ticks of one partition without the others, in each of which it is reported nothing but whether the slot is its own.
+//! Many ticks of one partition without the others, in each of which it is told nothing but whether the slot is its own.
 
 ghost use Rattle.std.specs.Prelude.{◌≡◌, ◌+◌, ◌-◌, ◌%◌, ◌^◌, ◌<◌, ◌≤◌, [], IfSome, IsTrue, None, Some, false, length, true};
 ghost use Rattle.cue_scripts.specs.Entries.{bare_cue};
@@ -40,8 +40,8 @@ pub struct LoneSpan {
     pub told: Option<Note>,
 }
 
-/// Ticks of partition `p` without the others, at most so many, in each of which it is reported nothing but whether a slot of its own runs, up to
-/// the first in which more is done than instructions that go.
+/// Ticks of partition `p` without the others, at most so many, in each of which it is told nothing but whether a slot of its own runs,
+/// up to the first in which more is done than instructions that go.
 pub fn span_alone(sys: &mut Sys, lines: &mut Lines, p: PartId, own: bool, most: u64) -> LoneSpan
     requires machine { IsMachine sys.old }
     requires partition { p < length sys.old.machine.parts }

@@ -19,8 +19,8 @@ use xm_base::PartId;
 use xm_conf::ChanKind;
 use xm_ports::Full;
 
-/// What others did to a channel of partition `p`, which goes by the partition's name for it, or over a link to it. Whether it can be done: a
-/// queue that gets a message is not full, and one that gives a message is not empty. Where it cannot, nothing is.
+/// What others did to a channel of partition `p`, which goes by the partition's name for it, or over a link to it. Whether it can be done:
+/// a queue that gets a message is not full, and one that gives a message is not empty. Where it cannot, nothing is.
 pub(crate) fn hear(sys: &mut Sys, p: PartId, traffic: Traffic<'_>) -> bool
     requires partition { p < length sys.old.machine.parts }
     requires shapes { sys.old.shapes ≡ shapes_of sys.old.machine.system.conf }

@@ -29,7 +29,8 @@ pub enum Mine {
     Mine { first: bool },
 }
 
-/// What others did to a channel of the partition, which goes by the partition's name for it: its lowest port on the channel; or over a link to it.
+/// What others did to a channel of the partition, which goes by the partition's name for it: its lowest port on the channel; or over a link
+/// to it.
 #[derive(Clone, Copy, Debug, PartialEq, Eq)]
 pub enum Traffic<'a> {
     /// Nothing.
@@ -103,8 +104,8 @@ pub(crate) fn mine_of(slot: Option<Here>, p: PartId) -> Mine
     }
 }
 
-/// The traffic that a note of partition `source` tells with these bytes, as partition `p` hears of it: on a channel of its own, under its name for
-/// it, or over a link to it.
+/// The traffic that a note of partition `source` tells with these bytes, as partition `p` hears of it: on a channel of its own, under its
+/// name for it, or over a link to it.
 pub(crate) fn traffic_heard<'a>(
     conf: &Conf,
     p: PartId,

@@ -11,7 +11,8 @@ use xm_base::{PartId, TICKS};
 use xm_machine::{AloneSpan, Machine};
 use xm_outside::Sink;
 
-/// Ticks of partition `p` without the others under the cues that come next: one at least, and no more than one that prints or says something.
+/// Ticks of partition `p` without the others under the cues that come next: one at least, and no more than one that prints or says
+/// something.
 pub(crate) fn follow<O: Sink>(
     machine: &mut Machine,
     p: PartId,

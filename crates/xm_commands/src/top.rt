@@ -49,8 +49,8 @@ pub fn xm_main<S: Store, O: Sink, E: Sink>(
     ensures marked { result ≡ Status.UartFault → IsMarked (⟦<Board as ViewBoard>⟧.board_view board.new) }
     ensures still { IsQuiet result → ⟦<Board as ViewBoard>⟧.board_view board.new ≡ ⟦<Board as ViewBoard>⟧.board_view board.old }
 
-    // After a run that is carried out, what went out and what was written shows of each partition what it is alone; so does what there is of
-    // it where the report or a core file was not written.
+    // After a run that is carried out, what went out and what was written shows of each partition what it is alone; so does what there is
+    // of it where the report or a core file was not written.
     ensures alone { IsCompleteStatus result → AreShownAlone ShowsAlone (command_of words.now)
         (outside (S.files files.old) (S.read_faults files.old) (S.write_faults files.old) (S.calls files.old) (O.got out.old) (O.faults out.old))
         (outside (S.files files.new) (S.read_faults files.new) (S.write_faults files.new) (S.calls files.new) (O.got out.new) (O.faults out.new)) }

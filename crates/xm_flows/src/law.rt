@@ -11,8 +11,8 @@ pub fn acts_by_right()
     ensures law { ActsByRight }
 {}
 
-/// What as many rounds over the channels and links as there are partitions leave of a partition's bit is its group: the least set that has it and
-/// that keeps the rules of channels and links.
+/// What as many rounds over the channels and links as there are partitions leave of a partition's bit is its group: the least set that has
+/// it and that keeps the rules of channels and links.
 pub fn rounds_find_groups()
     ensures law { RoundsFindGroups }
 {}

@@ -1,4 +1,4 @@
--- Many ticks of one partition of a machine without the others, in each of which it is reported nothing but whether a slot of its own runs.
+-- Many ticks of one partition of a machine without the others, in each of which it is told nothing but whether a slot of its own runs.
 use Rattle.std.specs.Prelude.{ℕ, ◌-◌, Bool, List, Option, Result, replicate}
 use Rattle.cue_scripts.specs.Entries.{bare_cue}
 use Rattle.machine_model.specs.Machine.{Machine}

@@ -123,8 +123,8 @@ impl Machine {
         self.sys.halted()
     }
 
-    /// What partition `p` was told in the last tick that was done. Ticks of a machine whose hypervisor has halted are none, and a reset from
-    /// without is none.
+    /// What partition `p` was told in the last tick that was done. Ticks of a machine whose hypervisor has halted are none, and a reset
+    /// from without is none.
     pub fn cue(&self, p: PartId) -> Cue<'_>
         requires { p < length self.now.state.parts }
         ensures { cue_value result ≡ told_to self.now p }
@@ -153,7 +153,8 @@ impl Machine {
 
     /// Ticks of the slot or gap that it is, at most so many, up to and with the first whose partition reaches beyond itself by more than a
     /// message that it puts or takes. Tells how many they were, with the one in which the hypervisor halts. Their lines go out, and their
-    /// console bytes go to their UARTs. After `WriteFault` the tick in hand was done whole, its bytes were said, and no later one was begun.
+    /// console bytes go to their UARTs. After `WriteFault` the tick in hand was done whole, its bytes were said, and no later one was
+    /// begun.
     pub fn stretch<O: Sink>(
         &mut self,
         most: u64,
@@ -178,7 +179,8 @@ impl Machine {
         }
     }
 
-    /// The run of so many ticks, with its whole report: the first line, the ticks' lines and the lines of the end. Console bytes go to their
+    /// The run of so many ticks, with its whole report: the first line, the ticks' lines and the lines of the end. Console bytes go to
+    /// their
     /// UARTs. It ends with the tick in which the hypervisor halts. After `WriteFault` the tick in hand was done whole, its bytes were said,
     /// and no later one was begun; where the first line failed, none was.
     pub fn run<O: Sink>(
@@ -239,8 +241,8 @@ impl Machine {
         tell_alone(&self.sys, n, p, done, &self.lines, out, board)
     }
 
-    /// Ticks of partition `p` without the others, at least one and at most so many, in each of which it is reported nothing but whether a slot of
-    /// its own runs. Only the last may print and say something; it ends as that of `step_alone`.
+    /// Ticks of partition `p` without the others, at least one and at most so many, in each of which it is told nothing but whether a
+    /// slot of its own runs. Only the last may print and say something; it ends as that of `step_alone`.
     pub fn span_alone<O: Sink>(
         &mut self,
         p: PartId,
