@@ -5,7 +5,7 @@ use Rattle.std.proofs.lemmas.Bool.{cases_eq, cases_lt}
 use Rattle.std.proofs.lemmas.Bool.Decides.{nat_tests}
 use Rattle.std.proofs.lemmas.Slice.{take-put_mid_below}
 use Rattle.std.proofs.lemmas.List.{same_lists, places, get_or-set_same, get_or-set_other, get_or-take, get_or-drop, length-set}
-use Rattle.std.specs.Prelude.{ℕ, zero, suc, ◌+◌, ◌-◌, ◌*◌, ◌%◌, ◌<◌, ◌≤◌, Bool, true, false, nat_lt, ◌==◌, if◌then◌else◌, List, ◌++◌, length, take, drop, slice_index, slice_set, get_or}
+use Rattle.std.specs.Prelude.{ℕ, zero, suc, ◌+◌, ◌-◌, ◌*◌, ◌%◌, ◌<◌, ◌≤◌, Bool, true, false, nat_lt, ◌==◌, if◌then◌else◌, List, [], ◌∷◌, ◌++◌, length, take, drop, slice_index, slice_set, get_or}
 use Rattle.sparc_step.specs.AtHand.{IsAtHand, gathered, lies_in, own_place, listed_below, windows_with, with_first, word_at}
 use Rattle.sparc_step.specs.Registers.{AreRegisters, Registers, ins_place, locals_and_ins, locals_place, place_in_windows, register_at, with_locals_and_ins, with_register, with_saved}
 
@@ -133,6 +133,12 @@ put_at-zero hand value zero_first some = same_lists _ _ (length-set (slice_set h
 
         later : k ≢ 0 → get_or (put_at hand 0 value) k d ≡ get_or hand k d
         later not_first = get_or-set_other (slice_set hand 0 value) 0 k 0 d not_first ∙ get_or-set_other hand 0 k value d not_first
+
+-- where register 0 is zero, another one is set alone
+pub put_at_held : (hand : List ℕ) (r value : ℕ) → slice_index hand 0 ≡ 0 → 0 < r → slice_set hand r value ≡ put_at hand r value
+put_at_held [] r value zero_first some = refl
+put_at_held (x ∷ xs) zero value zero_first some = absurd (omega (arith, some))
+put_at_held (x ∷ xs) (suc r) value zero_first some = ap (λ (first : ℕ). first ∷ slice_set xs r value) zero_first
 
 -- the globals with a register set
 globals-put_at : (hand : List ℕ) (r value : ℕ) → slice_index hand 0 ≡ 0 → 0 < r → r < 8 → 8 ≤ length hand → slice_set (take 8 hand) r value ≡ take 8 (put_at hand r value)

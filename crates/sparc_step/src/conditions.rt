@@ -15,8 +15,8 @@ ghost use Rattle.sparc_step.specs.Conditions.{
 };
 
 use crate::words::{
-    comparison_overflows, difference, difference_borrows, difference_overflows, sign, sum,
-    sum_carries, sum_overflows,
+    addition_overflows, comparison_overflows, difference, difference_borrows, difference_overflows,
+    sign, sum, sum_carries, sum_overflows,
 };
 
 // The condition codes of four flags.
@@ -49,6 +49,22 @@ pub fn codes_of_sum(a: u32, b: u32, carry: bool) -> u8
         value == 0,
         sum_overflows(a, b, carry),
         sum_carries(a, b, carry),
+    )
+}
+
+/// The condition codes of an addition, which are those of a sum without a carry.
+#[inline(always)]
+#[tactic(auto, unfolding(crate::specs::Conditions::codes_of_sum))]
+pub fn codes_of_addition(a: u32, b: u32) -> u8
+    ensures value { result ≡ codes_of_sum a b false }
+    ensures four { result < 16 }
+{
+    let value = sum(a, b, false);
+    condition_codes(
+        sign(value),
+        value == 0,
+        addition_overflows(a, b),
+        sum_carries(a, b, false),
     )
 }
 

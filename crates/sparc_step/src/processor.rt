@@ -234,6 +234,17 @@ impl Processor {
         put(&mut self.hand, r, value);
     }
 
+    /// Sets a register of the current window that is not register 0.
+    #[inline(always)]
+    #[tactic(auto, using(crate::specs::AtHandLemmas::with_register_gathered))]
+    pub fn set_held(&mut self, r: u8, value: u32)
+        requires r { r < 32 }
+        requires held { 0 < r }
+        ensures { self.new ≡ with_register self.old r value }
+    {
+        put_held(&mut self.hand, r, value);
+    }
+
     /// Goes on to the next instruction.
     #[tactic(auto, unfolding(crate::specs::Registers::advanced, crate::specs::AtHand::gathered))]
     pub(crate) fn advance(&mut self)
@@ -310,6 +321,18 @@ fn put(hand: &mut [u32; 32], r: u8, value: u32)
 {
     hand[usize::from(r)] = value;
     hand[0] = 0;
+}
+
+// Sets a register that is not register 0, which is zero.
+#[inline(always)]
+#[tactic(auto, using(crate::specs::AtHandLemmas::put_at_held))]
+fn put_held(hand: &mut [u32; 32], r: u8, value: u32)
+    requires r { r < 32 }
+    requires held { 0 < r }
+    requires zero { slice_index hand.old 0 ≡ 0 }
+    ensures { hand.new ≡ put_at hand.old r value }
+{
+    hand[usize::from(r)] = value;
 }
 
 // Takes the globals to hand.

@@ -59,6 +59,14 @@ pub(crate) fn sum_overflows(a: u32, b: u32, carry: bool) -> bool
     !is_signed_word(signed_sum(a, b, carry))
 }
 
+/// The sum of signed words does not fit one: it is below the first where the second is not negative, or it is not where it is.
+#[tactic(auto, unfolding(crate::specs::Words::sum_overflows, crate::specs::Words::sum, crate::specs::Words::sign))]
+pub(crate) fn addition_overflows(a: u32, b: u32) -> bool
+    ensures { result ≡ sum_overflows a b false }
+{
+    (sum(a, b, false).cast_signed() < a.cast_signed()) != sign(b)
+}
+
 // The sum of signed words and a carry.
 fn signed_sum(a: u32, b: u32, carry: bool) -> i64
     ensures { result ≡ signed_sum a b carry }
