@@ -9,6 +9,8 @@ use Rattle.sparc_step.specs.Registers.{Registers, placed}
 use Rattle.straight_runs.specs.Coming.{IsCame}
 use Rattle.straight_runs.specs.Runs.{AreSteps, no_steps, one_more, one_settled, word_more}
 use Rattle.straight_runs.specs.Shifts.{IsShift}
+use Rattle.straight_runs.specs.Rows.{as_done}
+use Rattle.straight_runs.specs.DroppedLemmas.{goes_itself, same_executed}
 use Rattle.straight_runs.specs.Steps.{IsRowStep}
 use Rattle.straight_runs.specs.Tables.{IsRowFor}
 use Rattle.straight_runs.specs.TurnLemmas.{turned-word}
@@ -33,7 +35,7 @@ pub came_next : (raw origin at : ℕ) (row : Row) (areas : List Area) (old new :
 came_next raw origin at row areas old new memory after stands is goes =
     followed 1 origin (at + 1) areas (at_place origin at old) new memory after
     (word_more 0 (swapped raw) (word_address origin at) (word_address origin (at + 1)) areas (at_place origin at old) old new memory memory after
-    (no_steps areas (at_place origin at old) memory) stands (goes (decoded (swapped raw)) is.spelled))
+    (no_steps areas (at_place origin at old) memory) stands (goes_itself (decoded (swapped raw)) areas old new memory after (goes (as_done (decoded (swapped raw))) is.spelled)))
 
 -- so did the row in its delay slot
 pub came_behind : (raw origin at to : ℕ) (row : Row) (areas : List Area) (core old new : Registers) (memory there after : Memory)
@@ -41,7 +43,7 @@ pub came_behind : (raw origin at to : ℕ) (row : Row) (areas : List Area) (core
     → AreSteps 1 areas (at_place origin at core) memory (at_slot origin (at + 1) to old) there → IsCame (Turn to) origin at areas core new memory after
 came_behind raw origin at to row areas core old new memory there after stands is goes steps =
     followed 2 origin to areas (at_place origin at core) new memory after
-    (word_more 1 (swapped raw) (word_address origin (at + 1)) (word_address origin to) areas (at_place origin at core) old new memory there after steps stands (goes (decoded (swapped raw)) is.spelled))
+    (word_more 1 (swapped raw) (word_address origin (at + 1)) (word_address origin to) areas (at_place origin at core) old new memory there after steps stands (goes_itself (decoded (swapped raw)) areas old new there after (goes (as_done (decoded (swapped raw))) is.spelled)))
 
 -- it went on with the spill or the fill that it needed
 pub came_shifted : (raw origin at pc : ℕ) (row : Row) (here areas : List Area) (old mid new : Registers) (memory there after : Memory)
@@ -89,7 +91,8 @@ pub turned_to : (raw origin at to : ℕ) (row : Row) (areas : List Area) (old mi
 turned_to raw origin at to row areas old mid new memory there stands is same bytes turns =
     subst (λ (m : Memory). AreSteps 1 areas (at_place origin at old) memory (at_slot origin (at + 1) to new) m) (sym bytes)
     (gone raw origin at areas old (at_slot origin (at + 1) to new) memory stands
-    (ap (λ (r : Registers). executed (decoded (swapped raw)) areas (at_place origin at r) memory) (sym same) ∙ turns (decoded (swapped raw)) areas memory is.spelled))
+    (ap (λ (r : Registers). executed (decoded (swapped raw)) areas (at_place origin at r) memory) (sym same)
+    ∙ sym (same_executed (decoded (swapped raw)) areas (at_place origin at mid) memory) ∙ turns (as_done (decoded (swapped raw))) areas memory is.spelled))
 
 -- at once to a place
 pub came_jump : (raw origin at to : ℕ) (row : Row) (areas : List Area) (old mid new : Registers) (memory there : Memory)
@@ -98,7 +101,8 @@ pub came_jump : (raw origin at to : ℕ) (row : Row) (areas : List Area) (old mi
 came_jump raw origin at to row areas old mid new memory there stands is same bytes turns =
     subst (λ (m : Memory). AreSteps 1 areas (at_place origin at old) memory (at_place origin to new) m) (sym bytes)
     (gone raw origin at areas old (at_place origin to new) memory stands
-    (ap (λ (r : Registers). executed (decoded (swapped raw)) areas (at_place origin at r) memory) (sym same) ∙ turns (decoded (swapped raw)) areas memory is.spelled))
+    (ap (λ (r : Registers). executed (decoded (swapped raw)) areas (at_place origin at r) memory) (sym same)
+    ∙ sym (same_executed (decoded (swapped raw)) areas (at_place origin at mid) memory) ∙ turns (as_done (decoded (swapped raw))) areas memory is.spelled))
 
 -- what came after a turn
 pub came_turned : (came : Came) (raw origin at to : ℕ) (row : Row) (here areas : List Area) (old mid turned new : Registers) (memory there after : Memory)

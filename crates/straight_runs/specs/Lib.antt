@@ -3,6 +3,7 @@ pub mod Rows
 pub mod Sources
 pub mod Effects
 pub mod Steps
+pub mod DroppedLemmas
 pub mod Codes
 pub mod Tables
 pub mod Turning

@@ -1,5 +1,6 @@
 -- Which row is that of an instruction.
-use Rattle.std.specs.Prelude.{◌≡◌, ℕ, ◌*◌, ◌^◌, ◌<◌}
+use Rattle.std.specs.Prelude.{◌≡◌, ◌≢◌, ℕ, ◌*◌, ◌^◌, ◌<◌, pos, Bool, true, false, not, ◌&&◌, nat_lt, ◌==◌}
+use Rattle.sparc_code.specs.declared.instruction.Arith.{Arith}
 use Rattle.sparc_code.specs.declared.instruction.Src.{Src}
 use Rattle.sparc_code.specs.declared.instruction.Src.TheVariants.{Reg, Imm}
 use Rattle.sparc_code.specs.declared.instruction.Instr.{Instr}
@@ -8,13 +9,14 @@ use Rattle.sparc_step.specs.Words.{residue}
 use Rattle.straight_runs.specs.Kinds.{row_kind_of, kind_of_branch, kind_of_transfer, other}
 use Rattle.straight_runs.specs.declared.rows.Row.{Row}
 
--- its registers are registers, and the condition of a branch is a condition
+-- its registers are registers, and the condition of a branch is a condition; work that sets a register alone sets one that holds it
 pub record AreRegisterNumbers (row : Row) : Type 0 where
   pub rd : row.rd < 32
   pub rs1 : row.rs1 < 32
   pub rs2 : row.rs2 < 32
   pub condition : row.kind ≡ 2 → row.rs1 < 16
   pub annulling : row.kind ≡ 36 → row.rs1 < 16
+  pub held : row.kind < 13 → row.kind ≢ 1 → row.kind ≢ 2 → 0 < row.rd
 
 -- operand 2 is a register, or a number, which then is added to register 0
 abbrev pub HasSource : Src → Row → Type 0
@@ -51,3 +53,36 @@ IsRowOf row instr.Privileged = IsOtherRow row
 IsRowOf row instr.Float = IsOtherRow row
 IsRowOf row instr.Coproc = IsOtherRow row
 IsRowOf row instr.Illegal = IsOtherRow row
+
+-- work that sets a register alone sets register 0, which holds nothing
+unfoldable pub is_dropped : ℕ → ℕ → Bool
+is_dropped kind rd = (rd == 0) && nat_lt kind 13 && not (kind == 1)
+
+-- what does nothing is done as a branch that is never taken
+abbrev pub done_as : Bool → Instr → Instr
+done_as true i = instr.Branch 0 false (pos 0)
+done_as false i = i
+
+-- the instruction as which one is done
+abbrev pub as_done : Instr → Instr
+as_done (instr.Arith operation rd rs1 source) = done_as (is_dropped (row_kind_of operation) rd) (instr.Arith operation rd rs1 source)
+as_done (instr.Sethi rd imm) = done_as (is_dropped 3 rd) (instr.Sethi rd imm)
+as_done i = i
+
+-- the row of work on registers
+abbrev pub IsWorkRow : Row → Arith → ℕ → ℕ → Src → Type 0
+IsWorkRow row operation rd rs1 source = IsRowOf row (as_done (instr.Arith operation rd rs1 source))
+
+-- the row of a SETHI
+abbrev pub IsSethiRow : Row → ℕ → ℕ → Type 0
+IsSethiRow row rd imm = IsRowOf row (as_done (instr.Sethi rd imm))
+
+-- a row that does anything is that of the instruction itself
+kept_row : (b : Bool) (i : Instr) (row : Row) → row.kind ≢ 2 → IsRowOf row (done_as b i) → IsRowOf row i
+kept_row true i row some is = absurd (some is.0)
+kept_row false i row some is = is
+
+pub row_as_done : (i : Instr) (row : Row) → row.kind ≢ 2 → IsRowOf row (as_done i) → IsRowOf row i
+row_as_done (instr.Arith operation rd rs1 source) row some is = kept_row (is_dropped (row_kind_of operation) rd) (instr.Arith operation rd rs1 source) row some is
+row_as_done (instr.Sethi rd imm) row some is = kept_row (is_dropped 3 rd) (instr.Sethi rd imm) row some is
+row_as_done i row some is = is

@@ -17,7 +17,7 @@ use Rattle.virt_traps.specs.Moves.{Moved, fill_address, filled, move_made, move_
 use Rattle.virt_traps.specs.SaveArea.{is_usable, saved, with_registers}
 use Rattle.virt_traps.specs.Settled.{after_trap, again_or_trap, answered, made_again, settled}
 use Rattle.straight_runs.specs.RareLemmas.{arith_rare, restore_kind, save_kind}
-use Rattle.straight_runs.specs.Rows.{HasSource, IsRowOf}
+use Rattle.straight_runs.specs.Rows.{HasSource, IsRowOf, row_as_done}
 use Rattle.straight_runs.specs.Shifts.{IsFilled, IsShift, IsSpilled}
 use Rattle.straight_runs.specs.StepLemmas.{branch_apart, transfer_apart}
 use Rattle.straight_runs.specs.TurnLemmas.{turned-word}
@@ -120,7 +120,8 @@ settled_filled areas core mid memory there t trap moves again =
 pub shift_save : (row : Row) (pc window : ℕ) (areas : List Area) (old mid new : Registers) (memory there : Memory) → row.kind ≡ 32 → (old.cwp + 7) % 8 ≡ old.inv → window ≡ (old.cwp + 7) % 8 → IsSpilled pc areas old mid memory there
     → ((source : Src) → HasSource source row → new ≡ with_register (in_window mid window) row.rd (sum_of row.rs1 source mid)) → IsShift row pc areas old new memory there
 unfolding shifted-placed
-shift_save row pc window areas old mid new memory there kind needed window_is is left = λ npc word stands is_row.
+shift_save row pc window areas old mid new memory there kind needed window_is is left = λ npc word stands done_row.
+    let is_row = row_as_done (decoded word) row (λ two. absurd (omega (arith, kind, two))) done_row in
     let trap = turned-word word pc npc areas old memory (refused_by 5 (placed pc npc old) memory) stands (save_row_traps row pc npc areas old memory kind needed (decoded word) is_row) in
     let moves : spilled areas (placed pc npc old) memory ≡ move_made (placed pc npc mid) there = spilled-placed areas old memory pc npc ∙ ap (shifted-placed pc npc) is.moved in
     let below : window ≡ (mid.cwp + 7) % 8 = window_is ∙ ap (λ (n : ℕ). (n + 7) % 8) (sym is.current) in
@@ -132,7 +133,8 @@ shift_save row pc window areas old mid new memory there kind needed window_is is
 pub shift_restore : (row : Row) (pc window : ℕ) (areas : List Area) (old mid new : Registers) (memory : Memory) → row.kind ≡ 33 → (old.cwp + 1) % 8 ≡ old.inv → window ≡ (old.cwp + 1) % 8 → IsFilled areas old mid memory
     → ((source : Src) → HasSource source row → new ≡ with_register (in_window mid window) row.rd (sum_of row.rs1 source mid)) → IsShift row pc areas old new memory memory
 unfolding shifted-placed
-shift_restore row pc window areas old mid new memory kind needed window_is is left = λ npc word stands is_row.
+shift_restore row pc window areas old mid new memory kind needed window_is is left = λ npc word stands done_row.
+    let is_row = row_as_done (decoded word) row (λ two. absurd (omega (arith, kind, two))) done_row in
     let trap = turned-word word pc npc areas old memory (refused_by 6 (placed pc npc old) memory) stands (restore_row_traps row pc npc areas old memory kind needed (decoded word) is_row) in
     let moves : filled areas (placed pc npc old) memory ≡ move_made (placed pc npc mid) memory = filled-placed areas old memory pc npc ∙ ap (shifted-placed pc npc) is.moved in
     let above : window ≡ (mid.cwp + 1) % 8 = window_is ∙ ap (λ (n : ℕ). (n + 1) % 8) (sym is.current) in

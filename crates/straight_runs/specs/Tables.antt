@@ -2,12 +2,12 @@
 use Rattle.std.specs.Prelude.{◌≡◌, ℕ, ◌<◌, List, length, slice_index, slice_get, Some}
 use Rattle.guest_bus.specs.Words.{swapped}
 use Rattle.sparc_code.specs.Decoded.{decoded}
-use Rattle.straight_runs.specs.Rows.{AreRegisterNumbers, IsRowOf}
+use Rattle.straight_runs.specs.Rows.{AreRegisterNumbers, IsRowOf, as_done}
 use Rattle.straight_runs.specs.declared.rows.Row.{Row}
 
--- the row is that of a word, whose lowest byte stands first
+-- the row is that of a word, whose lowest byte stands first, by the instruction as which it is done
 pub record IsRowFor (raw : ℕ) (row : Row) : Type 0 where
-  pub spelled : IsRowOf row (decoded (swapped raw))
+  pub spelled : IsRowOf row (as_done (decoded (swapped raw)))
   pub registers : AreRegisterNumbers row
 
 -- each row is that of the word beside it

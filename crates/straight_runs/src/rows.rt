@@ -1,10 +1,10 @@
 //! Instruction words that are taken apart once.
 
-ghost use Rattle.std.specs.Prelude.{◌≡◌, ◌*◌, ◌≢◌, ◌^◌, ◌<◌};
+ghost use Rattle.std.specs.Prelude.{◌≡◌, ◌*◌, ◌≢◌, ◌^◌, ◌<◌, ◌≤◌, false};
 ghost use Rattle.sparc_code.specs.Ranges.{InRange};
 ghost use Rattle.sparc_step.specs.Words.{residue};
 ghost use Rattle.straight_runs.specs.Kinds.{row_kind_of, kind_of_branch, kind_of_transfer};
-ghost use Rattle.straight_runs.specs.Rows.{AreRegisterNumbers, RowDoes, IsRowOf};
+ghost use Rattle.straight_runs.specs.Rows.{AreRegisterNumbers, IsRowOf, IsSethiRow, IsWorkRow, RowDoes, as_done, is_dropped};
 ghost use Rattle.straight_runs.specs.Sources.{IsRegisterIn};
 
 use crate::kinds;
@@ -32,17 +32,18 @@ impl Row {
     };
 }
 
-/// The row of an instruction.
+/// The row of an instruction. One whose result register 0 drops, and that does nothing else, is done as a branch that is never
+/// taken.
 pub(crate) fn row_of(instr: Instr) -> Row
     requires { InRange instr }
-    ensures row { IsRowOf result instr }
+    ensures row { IsRowOf result (as_done instr) }
     ensures registers { AreRegisterNumbers result }
 {
     match instr {
         Instr::Call { disp } => call(disp),
         Instr::Branch { cond, annul, disp } => branch(cond, annul, disp),
         Instr::Sethi { rd, imm } => sethi(rd, imm),
-        Instr::Arith { op, rd, rs1, src } => with_source(arith_kind(op), rd, rs1, src),
+        Instr::Arith { op, rd, rs1, src } => work(op, rd, rs1, src),
         Instr::ReadY { rd } => read_y(rd),
         Instr::Barrier => Row::OTHER,
         Instr::WriteY { rs1, src } => with_source(kinds::WRY, 0, rs1, src),
@@ -92,9 +93,49 @@ fn branch(condition: u8, annul: bool, disp: i32) -> Row
     }
 }
 
+// A row that sets a register alone drops what it sets.
+#[tactic(auto, unfolding(crate::specs::Rows::is_dropped))]
+fn is_dropped(kind: u8, rd: u8) -> bool
+    ensures value { result ≡ is_dropped kind rd }
+    ensures held { result ≡ false → kind < 13 → kind ≢ 1 → 0 < rd }
+{
+    rd == 0 && kind < kinds::LD && kind != kinds::SUBCC
+}
+
+// The row of work on registers.
+fn work(op: Arith, rd: u8, rs1: u8, src: Src) -> Row
+    requires rd { rd < 32 }
+    requires rs1 { rs1 < 32 }
+    requires source { IsRegisterIn src }
+    ensures row { IsWorkRow result op rd rs1 src }
+    ensures registers { AreRegisterNumbers result }
+{
+    let kind = arith_kind(op);
+    if is_dropped(kind, rd) {
+        branch(0, false, 0)
+    } else {
+        with_source(kind, rd, rs1, src)
+    }
+}
+
 // The row of SETHI.
 fn sethi(rd: u8, imm: u32) -> Row
     requires register { rd < 32 }
+    requires number { imm < 2 ^ 22 }
+    ensures row { IsSethiRow result rd imm }
+    ensures registers { AreRegisterNumbers result }
+{
+    if is_dropped(kinds::OR, rd) {
+        branch(0, false, 0)
+    } else {
+        number_above(rd, imm)
+    }
+}
+
+// The row of a SETHI whose register holds its number.
+fn number_above(rd: u8, imm: u32) -> Row
+    requires register { rd < 32 }
+    requires held { 0 < rd }
     requires number { imm < 2 ^ 22 }
     ensures row { (result.kind ≡ 3) × (result.rd ≡ rd) × (result.rs1 ≡ 0) × (result.rs2 ≡ 0) × (result.number ≡ imm * 2 ^ 10) }
     ensures registers { AreRegisterNumbers result }
@@ -130,6 +171,7 @@ fn with_source(kind: u8, rd: u8, rs1: u8, src: Src) -> Row
     requires rd { rd < 32 }
     requires rs1 { rs1 < 32 }
     requires source { IsRegisterIn src }
+    requires held { kind < 13 → kind ≢ 1 → 0 < rd }
     ensures row { RowDoes result kind rd rs1 src }
     ensures registers { AreRegisterNumbers result }
 {
@@ -214,6 +256,7 @@ fn arith_kind(op: Arith) -> u8
 // The kind of a load or a store.
 fn memory_kind(op: MemOp) -> u8
     ensures value { result ≡ kind_of_transfer op }
+    ensures from { 13 ≤ result }
     ensures work { result ≢ 2 }
     ensures annulling { result ≢ 36 }
 {

@@ -11,7 +11,7 @@ ghost use Rattle.straight_runs.specs.Rows.{AreRegisterNumbers, HasSource};
 use crate::kinds;
 use crate::rows::Row;
 use sparc_step::Processor;
-use sparc_step::conditions::{codes_of_comparison, codes_of_result, codes_of_sum};
+use sparc_step::conditions::{codes_of_addition, codes_of_comparison, codes_of_result};
 use sparc_step::words::{
     difference, quotient, shifted_arithmetically, shifted_left, shifted_right, signed_product,
     signed_quotient, sum,
@@ -54,15 +54,16 @@ pub(crate) fn frequent(own: &mut Processor, kind: u8, rd: u8, a: u32, b: u32)
     requires kind { kind < 4 }
     requires work { kind ≢ 2 }
     requires rd { rd < 32 }
+    requires held { kind ≢ 1 → 0 < rd }
     ensures { own.new ≡ worked_by_kind kind rd a b own.old }
 {
     if kind == kinds::SUBCC {
         own.set(rd, difference(a, b, false));
         own.set_icc(codes_of_comparison(a, b));
     } else if kind < kinds::SUBCC {
-        own.set(rd, sum(a, b, false));
+        own.set_held(rd, sum(a, b, false));
     } else {
-        own.set(rd, a | b);
+        own.set_held(rd, a | b);
     }
 }
 
@@ -73,32 +74,33 @@ pub(crate) fn plain(own: &mut Processor, kind: u8, rd: u8, a: u32, b: u32)
     requires from { 4 ≤ kind }
     requires below { kind < 13 }
     requires rd { rd < 32 }
+    requires held { 0 < rd }
     ensures { own.new ≡ worked_by_kind kind rd a b own.old }
 {
     if kind < kinds::AND {
         if kind == kinds::XOR {
-            own.set(rd, a ^ b);
+            own.set_held(rd, a ^ b);
         } else if kind < kinds::XOR {
-            own.set(rd, shifted_left(a, b));
+            own.set_held(rd, shifted_left(a, b));
         } else {
-            own.set(rd, shifted_right(a, b));
+            own.set_held(rd, shifted_right(a, b));
         }
     } else if kind < kinds::ANDN {
         if kind == kinds::AND {
-            own.set(rd, a & b);
+            own.set_held(rd, a & b);
         } else {
-            own.set(rd, difference(a, b, false));
+            own.set_held(rd, difference(a, b, false));
         }
     } else if kind < kinds::XNOR {
         if kind == kinds::ANDN {
-            own.set(rd, a & !b);
+            own.set_held(rd, a & !b);
         } else {
-            own.set(rd, a | !b);
+            own.set_held(rd, a | !b);
         }
     } else if kind == kinds::XNOR {
-        own.set(rd, !(a ^ b));
+        own.set_held(rd, !(a ^ b));
     } else {
-        own.set(rd, shifted_arithmetically(a, b));
+        own.set_held(rd, shifted_arithmetically(a, b));
     }
 }
 
@@ -113,7 +115,7 @@ pub(crate) fn coded(own: &mut Processor, kind: u8, rd: u8, a: u32, b: u32)
 {
     if kind == kinds::ADDCC {
         own.set(rd, sum(a, b, false));
-        own.set_icc(codes_of_sum(a, b, false));
+        own.set_icc(codes_of_addition(a, b));
     } else if kind == kinds::ANDCC {
         own.set(rd, a & b);
         own.set_icc(codes_of_result(a & b, false));
