@@ -8,27 +8,28 @@ use Rattle.xm_base.specs.declared.partition.Mode.TheVariants as mode
 use Rattle.xm_base.specs.declared.partition.Order.{Order}
 use Rattle.xm_base.specs.declared.partition.Order.TheVariants as upon
 use Rattle.xm_conf.specs.Configuration.{Conf}
-use Rattle.sealed_files.specs.FieldLemmas.{wide8, wide16, wide32}
+use Rattle.sealed_files.specs.FieldLemmas.{wide8, wide16, wide32, Reads, bytes_again, listed_again, number_again}
 use Rattle.sealed_files.specs.Steps.{◌>>=◌}
 use Rattle.machine_model.specs.Cue.{Away, Cue, Mine, CueSlot}
 use Rattle.machine_model.specs.Told.{AllHalted, AllReset, NoEvent, NotKept, OwnPuts, OwnSignals, OwnStill, OwnTakes, OwnTraffic, Sight, Unseen, WholeEvent, Words}
+use Rattle.sealed_files.specs.Fields.{field_bytes, listed_at}
 use Rattle.cue_scripts.specs.Script.{CanHear, CanSee, IsOrder, gives_queue, is_length, is_shown, most_heard, signals}
 use Rattle.cue_scripts.specs.Spelling.{event_byte, order_text, reset_byte, sight_text, slot_byte, traffic_text}
-use Rattle.cue_scripts.specs.Reading.{bytes_at, event_at, event_of_byte, is_event, is_heard, is_sight, listed_at, message_at, number_at, order_at, order_of_kind, put_message_at, reset_at, cue_sight_at, sight_of_kind, signal_at, cue_slot_at, slot_of_byte, take_at, traffic_at, traffic_of_kind, shown_words_at}
+use Rattle.cue_scripts.specs.Reading.{event_at, event_of_byte, is_event, is_heard, is_sight, message_at, order_at, order_of_kind, put_message_at, reset_at, cue_sight_at, sight_of_kind, signal_at, cue_slot_at, slot_of_byte, take_at, traffic_at, traffic_of_kind, shown_words_at, script_field, script_short}
 use Rattle.cue_scripts.specs.declared.fault.ScriptFault.{ScriptFault}
-use Rattle.cue_scripts.proofs.FieldLemmas.{Reads, bytes_again, listed_again, number_again, one_byte}
+use Rattle.cue_scripts.proofs.FieldLemmas.{one_byte}
 use Rattle.cue_scripts.proofs.ScriptLemmas.{few_shown}
 use Rattle.cue_scripts.proofs.TakePartLemmas.{InOwn}
 
 -- a byte that stands there is read, and then what is after it
 pub record Leads {A : Type 0} (test : ℕ → Bool) (more : ℕ → Place → Result A ScriptFault) (place : Place) (n : ℕ) (rest : List ℕ) : Type 0 where
   pub after : Place
-  pub is : (listed_at w8 test place >>= λ kind. more kind.0 kind.1) ≡ more n after
+  pub is : (listed_at script_short script_field w8 test place >>= λ kind. more kind.0 kind.1) ≡ more n after
   pub ahead : ahead after ≡ rest
 
 pub leads : {A : Type 0} (test : ℕ → Bool) (more : ℕ → Place → Result A ScriptFault) (place : Place) (n : ℕ) (rest : List ℕ) → n < 256 → test n ≡ true → ahead place ≡ n ∷ rest → Leads test more place n rest
 leads test more place n rest small passes stands =
-    let b = listed_again w8 256 wide8 test place n rest small passes (stands ∙ ap (λ x. x ++ rest) (sym (one_byte n small))) in
+    let b = listed_again script_short script_field w8 256 wide8 test place n rest small passes (stands ∙ ap (λ x. x ++ rest) (sym (one_byte n small))) in
     record { after = b.after; is = rw b.is refl; ahead = b.ahead }
 
 -- a slot
@@ -60,9 +61,9 @@ traffic_again conf p Away place (OwnPuts name bytes) rest can still stands =
     let k = leads (is_heard 3 Away) (traffic_of_kind conf p) place 1 (name ∷ (to_be_bytes w16 (length bytes) ++ bytes) ++ rest) (omega arith) refl stands in
     let n = leads (λ name. is_some (most_heard conf p name)) (λ name later. message_at (most_heard conf p name) name later) k.after name ((to_be_bytes w16 (length bytes) ++ bytes) ++ rest)
     can.called (some_most (most_heard conf p name) (length bytes) can.fits) k.ahead in
-    let c = listed_again w16 (2 ^ 16) wide16 (is_length (most_heard conf p name)) n.after (length bytes) (bytes ++ rest) can.short can.fits
+    let c = listed_again script_short script_field w16 (2 ^ 16) wide16 (is_length (most_heard conf p name)) n.after (length bytes) (bytes ++ rest) can.short can.fits
     (n.ahead ∙ append_assoc (to_be_bytes w16 (length bytes)) bytes rest) in
-    let b = bytes_again (length bytes) c.after bytes rest refl c.ahead in
+    let b = bytes_again script_short (length bytes) c.after bytes rest refl c.ahead in
     record { after = b.after; is = k.is ∙ n.is ∙ rw (c.is, b.is) refl; ahead = b.ahead }
 traffic_again conf p (Mine first) place (OwnPuts name bytes) rest can still stands = absurd cc
 traffic_again conf p Away place (OwnTakes name) rest can still stands =
@@ -80,7 +81,7 @@ traffic_again conf p (Mine first) place (OwnSignals number) rest can still stand
 reset_again : (mode : Mode) (place : Place) (status : ℕ) (rest : List ℕ) → status < 2 ^ 32 → ahead place ≡ to_be_bytes w32 status ++ rest → Reads (reset_at mode place) (Some (upon.Reset mode status)) rest
 unfolding reset_at
 reset_again mode place status rest small stands =
-    let b = number_again w32 (2 ^ 32) wide32 place status rest small stands in
+    let b = number_again script_short w32 (2 ^ 32) wide32 place status rest small stands in
     record { after = b.after; is = rw b.is refl; ahead = b.ahead }
 
 -- an order of a kind
@@ -141,8 +142,8 @@ sight_again true (Mine first) place NotKept rest can stands =
     record { after = k.after; is = k.is; ahead = k.ahead }
 sight_again true (Mine first) place (Words bytes) rest can stands =
     let k = leads (is_sight true (Mine first)) sight_of_kind place 2 (length bytes ∷ bytes ++ rest) (omega arith) refl stands in
-    let n = leads is_shown (λ count later. bytes_at count later >>= λ bytes. Ok (Words bytes.0, bytes.1)) k.after (length bytes) (bytes ++ rest) (few_shown (length bytes) can.2) can.2 k.ahead in
-    let b = bytes_again (length bytes) n.after bytes rest refl n.ahead in
+    let n = leads is_shown (λ count later. field_bytes script_short count later >>= λ bytes. Ok (Words bytes.0, bytes.1)) k.after (length bytes) (bytes ++ rest) (few_shown (length bytes) can.2) can.2 k.ahead in
+    let b = bytes_again script_short (length bytes) n.after bytes rest refl n.ahead in
     record { after = b.after; is = k.is ∙ n.is ∙ rw b.is refl; ahead = b.ahead }
 sight_again system Away place NotKept rest can stands =
     let own = can.0 in

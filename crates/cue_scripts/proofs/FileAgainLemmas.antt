@@ -7,20 +7,21 @@ use Rattle.std.proofs.lemmas.Bool.{eq-eqb}
 use Rattle.std.proofs.lemmas.List.{append-nil, length-append, length-replicate}
 use Rattle.xm_base.specs.Cursor.{Place, ahead, left, cursor_start}
 use Rattle.xm_conf.specs.Configuration.{Conf}
-use Rattle.sealed_files.specs.FieldLemmas.{wide8, wide16}
+use Rattle.sealed_files.specs.FieldLemmas.{wide8, wide16, Reads, bytes_again, listed_again, number_again}
 use Rattle.xef_images.specs.ImageLemmas.{Decides-nat_le}
 use Rattle.sealed_files.specs.StepLemmas.{ok_is}
 use Rattle.sealed_files.specs.Steps.{◌>>=◌}
 use Rattle.machine_model.specs.Cue.{Cue}
 use Rattle.machine_model.specs.Told.{AllHalted}
+use Rattle.sealed_files.specs.Heads.{magic_at, version_at}
 use Rattle.cue_scripts.specs.Entries.{Alike, AreLongest, Entry, Other, cue_count, expanded, plain_cue_of, bare_cue, runs}
 use Rattle.cue_scripts.specs.Script.{HaltsLast, IsCue, IsScript}
 use Rattle.cue_scripts.specs.Gives.{Fails}
 use Rattle.cue_scripts.specs.Spelling.{IsSpelledScript, entry_text, script_head_text, script_text}
-use Rattle.cue_scripts.specs.Reading.{body_at, script_entries_at, entries_of, partition_at, magic_at, script_read, cue_count_at, version_at}
+use Rattle.cue_scripts.specs.Reading.{body_at, script_entries_at, entries_of, partition_at, script_read, cue_count_at, script_field, script_short}
 use Rattle.cue_scripts.specs.declared.fault.ScriptFault.{ScriptFault}
 use Rattle.cue_scripts.proofs.EntriesLemmas.{fails_on}
-use Rattle.cue_scripts.proofs.FieldLemmas.{Reads, bytes_again, listed_again, number_again, one_byte, wide64}
+use Rattle.cue_scripts.proofs.FieldLemmas.{one_byte, wide64}
 use Rattle.cue_scripts.proofs.RunLemmas.{runs_expand, runs_longest}
 use Rattle.cue_scripts.proofs.WholeAgainLemmas.{entries_again}
 use Rattle.cue_scripts.proofs.WholeTakeLemmas.{AreEntries}
@@ -32,11 +33,11 @@ unfolding body_at magic_at version_at partition_at cue_count_at script_head_text
 body_again conf p total entries rest below few are =
     let behind = flat_map entry_text entries ++ rest in
     let stands = append_assoc (script_head_text p total) (flat_map entry_text entries) rest in
-    let a = bytes_again 4 (cursor_start ((script_head_text p total ++ flat_map entry_text entries) ++ rest)) (codes "XMSC") (to_be_bytes w16 1 ++ (p ∷ (to_be_bytes w64 total ++ (flat_map entry_text entries ++ rest)))) refl stands in
-    let b = number_again w16 (2 ^ 16) wide16 a.after 1 (p ∷ (to_be_bytes w64 total ++ (flat_map entry_text entries ++ rest))) (omega arith) a.ahead in
-    let i = listed_again w8 256 wide8 (λ id. id == p) b.after p (to_be_bytes w64 total ++ (flat_map entry_text entries ++ rest)) below (eq-eqb p p refl)
+    let a = bytes_again script_short 4 (cursor_start ((script_head_text p total ++ flat_map entry_text entries) ++ rest)) (codes "XMSC") (to_be_bytes w16 1 ++ (p ∷ (to_be_bytes w64 total ++ (flat_map entry_text entries ++ rest)))) refl stands in
+    let b = number_again script_short w16 (2 ^ 16) wide16 a.after 1 (p ∷ (to_be_bytes w64 total ++ (flat_map entry_text entries ++ rest))) (omega arith) a.ahead in
+    let i = listed_again script_short script_field w8 256 wide8 (λ id. id == p) b.after p (to_be_bytes w64 total ++ (flat_map entry_text entries ++ rest)) below (eq-eqb p p refl)
     (b.ahead ∙ ap (λ x. x ++ (to_be_bytes w64 total ++ (flat_map entry_text entries ++ rest))) (sym (one_byte p below))) in
-    let t = listed_again w64 (2 ^ 64) wide64 (λ total. nat_le total 4000000000) i.after total (flat_map entry_text entries ++ rest) (omega (arith, few)) ((Decides-nat_le total 4000000000).1 few) i.ahead in
+    let t = listed_again script_short script_field w64 (2 ^ 64) wide64 (λ total. nat_le total 4000000000) i.after total (flat_map entry_text entries ++ rest) (omega (arith, few)) ((Decides-nat_le total 4000000000).1 few) i.ahead in
     let r = entries_again conf p total total None t.after entries rest (omega arith) (omega (arith, few)) are t.ahead in
     record { after = r.after; is = rw (a.is, b.is, i.is, t.is) r.is; ahead = r.ahead }
 

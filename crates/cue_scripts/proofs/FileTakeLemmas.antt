@@ -3,54 +3,35 @@ use Rattle.std.proofs.Common.{◌≡◌, ℕ, ◌+◌, ◌^◌, ◌<◌, ◌≤�
 use Rattle.std.specs.Prelude.{nat_le, ◌==◌}
 use Rattle.std.specs.Int.{w8, w16, w64, to_be_bytes}
 use Rattle.std.specs.List.{flat_map}
-use Rattle.std.specs.Str.{bytes_eq}
 use Rattle.std.proofs.lemmas.Bool.{eqb-true}
 use Rattle.std.proofs.lemmas.List.{append-nil, nil_from_length}
-use Rattle.std.proofs.lemmas.Slice.Eq.{bytes_eq-Decides}
 use Rattle.xm_base.specs.Bytes.{AreBytes}
 use Rattle.xm_base.specs.Cursor.{Place, ahead, left, cursor_start}
 use Rattle.xm_conf.specs.Configuration.{Conf}
-use Rattle.sealed_files.specs.FieldLemmas.{Takes, takes_both, wide8, wide16}
+use Rattle.sealed_files.specs.FieldLemmas.{Takes, takes_both, wide8, listed_takes}
 use Rattle.xef_images.specs.ImageLemmas.{Decides-nat_le}
-use Rattle.sealed_files.specs.StepLemmas.{stepped, ok_is}
-use Rattle.sealed_files.specs.Steps.{◌>>=◌}
+use Rattle.sealed_files.specs.StepLemmas.{stepped, ok_is, passed}
+use Rattle.sealed_files.specs.Steps.{◌>>=◌, unless}
 use Rattle.machine_model.specs.Cue.{Cue}
+use Rattle.sealed_files.specs.Fields.{listed_at}
+use Rattle.sealed_files.specs.HeadLemmas.{is_first, magic_takes, version_takes}
+use Rattle.sealed_files.specs.Heads.{magic_at, version_at}
 use Rattle.cue_scripts.specs.Entries.{Entry, expanded, runs}
 use Rattle.cue_scripts.specs.Script.{IsScript}
 use Rattle.cue_scripts.specs.Spelling.{IsSpelledScript, entry_text, script_head_text, script_text}
-use Rattle.cue_scripts.specs.Reading.{body_at, bytes_at, script_entries_at, entries_of, partition_at, listed_at, magic_at, number_at, script_read, cue_count_at, unless, version_at}
-use Rattle.cue_scripts.specs.declared.fault.ScriptFault.TheVariants.{Field, Magic, Trailing, Version}
-use Rattle.cue_scripts.proofs.FieldLemmas.{bytes_take, listed_takes, number_takes, one_byte, passed, wide64}
+use Rattle.cue_scripts.specs.Reading.{body_at, script_entries_at, entries_of, partition_at, script_read, cue_count_at, script_field, script_short, script_version}
+use Rattle.cue_scripts.specs.declared.fault.ScriptFault.TheVariants.{Magic, Trailing}
+use Rattle.cue_scripts.proofs.FieldLemmas.{one_byte, wide64}
 use Rattle.cue_scripts.proofs.RunLemmas.{runs_again}
 use Rattle.cue_scripts.proofs.ScriptLemmas.{are_longest, are_script, have_cues}
 use Rattle.cue_scripts.proofs.WholeTakeLemmas.{AreEntries, entries_take}
-
--- the name that is read stands there
-magic_takes : (place after : Place) → AreBytes (ahead place) → magic_at place ≡ Ok after → Takes place (codes "XMSC") after
-unfolding magic_at
-magic_takes place after each e =
-    let s = stepped (bytes_at 4 place) (λ field. unless (bytes_eq field.0 (codes "XMSC")) Magic field.1) after e in
-    let p = passed (bytes_eq s.value.0 (codes "XMSC")) Magic s.value.1 after s.led in
-    let t = bytes_take 4 place s.value.0 s.value.1 each s.is in
-    let same : s.value.0 ≡ codes "XMSC" = (bytes_eq-Decides s.value.0 (codes "XMSC")).0 p.true in
-    subst (λ (place' : Place). Takes place (codes "XMSC") place') p.is (subst (λ (text : List ℕ). Takes place text s.value.1) same t.0)
-
--- the version that is read is 1, and stands there
-version_takes : (place after : Place) → AreBytes (ahead place) → version_at place ≡ Ok after → Takes place (to_be_bytes w16 1) after
-unfolding version_at
-version_takes place after each e =
-    let s = stepped (number_at w16 place) (λ field. unless (field.0 == 1) (Version field.0) field.1) after e in
-    let p = passed (s.value.0 == 1) (Version s.value.0) s.value.1 after s.led in
-    let t = number_takes w16 (2 ^ 16) wide16 place s.value.0 s.value.1 each s.is in
-    let same : s.value.0 ≡ 1 = eqb-true s.value.0 1 p.true in
-    subst (λ (place' : Place). Takes place (to_be_bytes w16 1) place') p.is (subst (λ (n : ℕ). Takes place (to_be_bytes w16 n) s.value.1) same t.0)
 
 -- the partition's number that is read stands there
 id_takes : (p : ℕ) (place after : Place) → AreBytes (ahead place) → partition_at p place ≡ Ok after → Takes place (p ∷ []) after
 unfolding partition_at
 id_takes p place after each e =
-    let s = stepped (listed_at w8 (λ id. id == p) place) (λ field. Ok field.1) after e in
-    let t = listed_takes w8 256 wide8 (λ id. id == p) place s.value.0 s.value.1 each s.is in
+    let s = stepped (listed_at script_short script_field w8 (λ id. id == p) place) (λ field. Ok field.1) after e in
+    let t = listed_takes script_short script_field w8 256 wide8 (λ id. id == p) place s.value.0 s.value.1 each s.is in
     let same : s.value.0 ≡ p = eqb-true s.value.0 p t.2 in
     let here : Takes place (s.value.0 ∷ []) s.value.1 = rw (one_byte s.value.0 t.1) at t.0 in
     subst (λ (place' : Place). Takes place (p ∷ []) place') (ok_is s.value.1 after s.led) (subst (λ (n : ℕ). Takes place (n ∷ []) s.value.1) same here)
@@ -68,17 +49,18 @@ unfolding entries_of body_at cue_count_at script_head_text
 file_takes conf p bytes entries each e =
     let b = stepped (body_at conf p (cursor_start bytes)) (λ found. unless (left found.1 == 0) (Trailing found.1.at) found.0) entries e in
     let q = passed (left b.value.1 == 0) (Trailing b.value.1.at) b.value.0 entries b.led in
-    let m = stepped (magic_at (cursor_start bytes)) (λ name. version_at name >>= λ version. partition_at p version >>= λ id. cue_count_at id >>= λ total. script_entries_at conf p total.0 total.0 None total.1) b.value b.is in
-    let v = stepped (version_at m.value) (λ version. partition_at p version >>= λ id. cue_count_at id >>= λ total. script_entries_at conf p total.0 total.0 None total.1) b.value m.led in
-    let i = stepped (partition_at p v.value) (λ id. cue_count_at id >>= λ total. script_entries_at conf p total.0 total.0 None total.1) b.value v.led in
+    let m = stepped (magic_at script_short Magic (codes "XMSC") (cursor_start bytes)) (λ name. version_at script_short script_version 1 name >>= λ version. partition_at p version.1 >>= λ id. cue_count_at id >>= λ total. script_entries_at conf p total.0 total.0 None total.1) b.value b.is in
+    let v = stepped (version_at script_short script_version 1 m.value) (λ version. partition_at p version.1 >>= λ id. cue_count_at id >>= λ total. script_entries_at conf p total.0 total.0 None total.1) b.value m.led in
+    let i = stepped (partition_at p v.value.1) (λ id. cue_count_at id >>= λ total. script_entries_at conf p total.0 total.0 None total.1) b.value v.led in
     let t = stepped (cue_count_at i.value) (λ total. script_entries_at conf p total.0 total.0 None total.1) b.value i.led in
-    let first = magic_takes (cursor_start bytes) m.value each m.is in
-    let second = version_takes m.value v.value first.rest v.is in
-    let third = id_takes p v.value i.value second.rest i.is in
-    let fourth = listed_takes w64 (2 ^ 64) wide64 (λ total. nat_le total 4000000000) i.value t.value.0 t.value.1 third.rest t.is in
+    let first = magic_takes script_short Magic (codes "XMSC") (cursor_start bytes) m.value each m.is in
+    let known = version_takes script_short script_version 1 m.value v.value.0 v.value.1 first.rest v.is in
+    let second : Takes m.value (to_be_bytes w16 1) v.value.1 = subst (λ (version : ℕ). Takes m.value (to_be_bytes w16 version) v.value.1) (is_first v.value.0 known.1) known.0 in
+    let third = id_takes p v.value.1 i.value second.rest i.is in
+    let fourth = listed_takes script_short script_field w64 (2 ^ 64) wide64 (λ total. nat_le total 4000000000) i.value t.value.0 t.value.1 third.rest t.is in
     let fifth = entries_take conf p t.value.0 t.value.0 None t.value.1 b.value.0 b.value.1 (omega arith) fourth.0.rest t.led in
-    let numbered = takes_both v.value (p ∷ []) i.value (to_be_bytes w64 t.value.0) t.value.1 third fourth.0 in
-    let versioned = takes_both m.value (to_be_bytes w16 1) v.value (p ∷ to_be_bytes w64 t.value.0) t.value.1 second numbered in
+    let numbered = takes_both v.value.1 (p ∷ []) i.value (to_be_bytes w64 t.value.0) t.value.1 third fourth.0 in
+    let versioned = takes_both m.value (to_be_bytes w16 1) v.value.1 (p ∷ to_be_bytes w64 t.value.0) t.value.1 second numbered in
     let head = takes_both (cursor_start bytes) (codes "XMSC") m.value (to_be_bytes w16 1 ++ p ∷ to_be_bytes w64 t.value.0) t.value.1 first versioned in
     let whole = takes_both (cursor_start bytes) (script_head_text p t.value.0) t.value.1 (flat_map entry_text b.value.0) b.value.1 head fifth.0 in
     let none : ahead b.value.1 ≡ [] = nil_from_length (ahead b.value.1) (eqb-true (left b.value.1) 0 q.true) in

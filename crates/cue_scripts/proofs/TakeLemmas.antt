@@ -11,16 +11,17 @@ use Rattle.xm_base.specs.declared.partition.Mode.{Mode}
 use Rattle.xm_base.specs.declared.partition.Mode.TheVariants as mode
 use Rattle.xm_base.specs.declared.partition.Order.{Order}
 use Rattle.xm_conf.specs.Configuration.{Conf}
-use Rattle.sealed_files.specs.FieldLemmas.{Takes, takes_both, wide16, wide32}
+use Rattle.sealed_files.specs.FieldLemmas.{Takes, takes_both, wide16, wide32, bytes_take, listed_takes}
 use Rattle.sealed_files.specs.StepLemmas.{stepped, ok_is}
 use Rattle.sealed_files.specs.Steps.{◌>>=◌}
 use Rattle.machine_model.specs.Cue.{Away, Cue, Mine, CueSlot}
 use Rattle.machine_model.specs.Told.{AllHalted, AllReset, NoEvent, NotKept, OwnPuts, OwnSignals, OwnStill, OwnTakes, OwnTraffic, Sight, Unseen, WholeEvent, Words}
+use Rattle.sealed_files.specs.Fields.{field_bytes, listed_at}
 use Rattle.cue_scripts.specs.Entries.{is_away}
 use Rattle.cue_scripts.specs.Script.{CanHear, CanSee, IsOrder, gives_queue, is_length, is_shown, most_heard, signals}
 use Rattle.cue_scripts.specs.Spelling.{event_byte, order_text, reset_byte, sight_text, slot_byte, traffic_text}
-use Rattle.cue_scripts.specs.Reading.{bytes_at, event_at, event_of_byte, is_event, is_heard, is_sight, listed_at, message_at, order_at, order_of_kind, put_message_at, reset_at, cue_sight_at, sight_of_kind, signal_at, cue_slot_at, slot_of_byte, take_at, traffic_at, traffic_of_kind, shown_words_at}
-use Rattle.cue_scripts.proofs.FieldLemmas.{AreBytes-front, begins, bytes_take, listed_takes, number_takes}
+use Rattle.cue_scripts.specs.Reading.{event_at, event_of_byte, is_event, is_heard, is_sight, message_at, order_at, order_of_kind, put_message_at, reset_at, cue_sight_at, sight_of_kind, signal_at, cue_slot_at, slot_of_byte, take_at, traffic_at, traffic_of_kind, shown_words_at, script_field, script_short}
+use Rattle.cue_scripts.proofs.FieldLemmas.{AreBytes-front, begins}
 
 -- a number is this one
 pub is_this : (n m : ℕ) → (n == m) ≡ true → n ≡ m
@@ -57,10 +58,10 @@ unfolding put_message_at message_at traffic_text
 put_takes conf p place behind traffic after kind e =
     let n = begins (λ name. is_some (most_heard conf p name)) (λ name later. message_at (most_heard conf p name) name later) behind (traffic, after) kind.rest e in
     let most = most_heard conf p n.kind in
-    let c = stepped (listed_at w16 (is_length most) n.behind) (λ count. bytes_at count.0 count.1 >>= λ bytes. Ok (OwnPuts n.kind bytes.0, bytes.1)) (traffic, after) n.led in
-    let t = listed_takes w16 (2 ^ 16) wide16 (is_length most) n.behind c.value.0 c.value.1 n.first.rest c.is in
-    let b = stepped (bytes_at c.value.0 c.value.1) (λ bytes. Ok (OwnPuts n.kind bytes.0, bytes.1)) (traffic, after) c.led in
-    let u = bytes_take c.value.0 c.value.1 b.value.0 b.value.1 t.0.rest b.is in
+    let c = stepped (listed_at script_short script_field w16 (is_length most) n.behind) (λ count. field_bytes script_short count.0 count.1 >>= λ bytes. Ok (OwnPuts n.kind bytes.0, bytes.1)) (traffic, after) n.led in
+    let t = listed_takes script_short script_field w16 (2 ^ 16) wide16 (is_length most) n.behind c.value.0 c.value.1 n.first.rest c.is in
+    let b = stepped (field_bytes script_short c.value.0 c.value.1) (λ bytes. Ok (OwnPuts n.kind bytes.0, bytes.1)) (traffic, after) c.led in
+    let u = bytes_take script_short c.value.0 c.value.1 b.value.0 b.value.1 t.0.rest b.is in
     let P : OwnTraffic × Place → Type 0 = λ x. Takes place (traffic_text x.0) x.1 × CanHear conf p x.0 in
     let sized : Takes n.behind (to_be_bytes w16 (length b.value.0)) c.value.1 = rw u.1 t.0 in
     subst P {x = (OwnPuts n.kind b.value.0, b.value.1)} (ok_is (OwnPuts n.kind b.value.0, b.value.1) (traffic, after) b.led) (

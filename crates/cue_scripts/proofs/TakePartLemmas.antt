@@ -11,16 +11,17 @@ use Rattle.xm_base.specs.declared.partition.Mode.TheVariants as mode
 use Rattle.xm_base.specs.declared.partition.Order.{Order}
 use Rattle.xm_base.specs.declared.partition.Order.TheVariants as upon
 use Rattle.xm_conf.specs.Configuration.{Conf}
-use Rattle.sealed_files.specs.FieldLemmas.{Takes, takes_both, wide32}
+use Rattle.sealed_files.specs.FieldLemmas.{Takes, takes_both, wide32, bytes_take, number_takes}
 use Rattle.sealed_files.specs.StepLemmas.{stepped, ok_is}
 use Rattle.sealed_files.specs.Steps.{◌>>=◌}
 use Rattle.machine_model.specs.Cue.{Away, Cue, Mine, CueSlot}
 use Rattle.machine_model.specs.Told.{AllHalted, AllReset, NoEvent, NotKept, OwnStill, OwnTraffic, Sight, Unseen, WholeEvent, Words}
+use Rattle.sealed_files.specs.Fields.{field_bytes, number_at}
 use Rattle.cue_scripts.specs.Entries.{is_away}
 use Rattle.cue_scripts.specs.Script.{CanHear, CanSee, IsOrder, is_shown}
 use Rattle.cue_scripts.specs.Spelling.{event_byte, order_text, reset_byte, sight_text, traffic_text}
-use Rattle.cue_scripts.specs.Reading.{bytes_at, event_at, event_of_byte, is_event, is_heard, is_sight, number_at, order_at, order_of_kind, put_message_at, reset_at, signal_at, take_at, cue_sight_at, sight_of_kind, traffic_at, traffic_of_kind, shown_words_at}
-use Rattle.cue_scripts.proofs.FieldLemmas.{AreBytes-front, begins, bytes_take, number_takes}
+use Rattle.cue_scripts.specs.Reading.{event_at, event_of_byte, is_event, is_heard, is_sight, order_at, order_of_kind, put_message_at, reset_at, signal_at, take_at, cue_sight_at, sight_of_kind, traffic_at, traffic_of_kind, shown_words_at, script_short}
+use Rattle.cue_scripts.proofs.FieldLemmas.{AreBytes-front, begins}
 use Rattle.cue_scripts.proofs.TakeLemmas.{is_this, put_takes, signal_takes, take_takes, two}
 
 -- what holds in a slot of the partition's own alone
@@ -79,8 +80,8 @@ reset_takes : (mode : Mode) (place behind : Place) (order : Option Order) (after
     → Takes place (order_text order) after × IsOrder order
 unfolding reset_at order_text
 reset_takes mode place behind order after kind e =
-    let s = stepped (number_at w32 behind) (λ status. Ok (Some (upon.Reset mode status.0), status.1)) (order, after) e in
-    let t = number_takes w32 (2 ^ 32) wide32 behind s.value.0 s.value.1 kind.rest s.is in
+    let s = stepped (number_at script_short w32 behind) (λ status. Ok (Some (upon.Reset mode status.0), status.1)) (order, after) e in
+    let t = number_takes script_short w32 (2 ^ 32) wide32 behind s.value.0 s.value.1 kind.rest s.is in
     let P : Option Order × Place → Type 0 = λ x. Takes place (order_text x.0) x.1 × IsOrder x.0 in
     subst P {x = (Some (upon.Reset mode s.value.0), s.value.1)} (ok_is (Some (upon.Reset mode s.value.0), s.value.1) (order, after) s.led) (
       takes_both place (reset_byte mode ∷ []) behind (to_be_bytes w32 s.value.0) s.value.1 kind t.0,
@@ -179,9 +180,9 @@ words_take : (system : Bool) (mine : CueSlot) (place behind : Place) (seen : Sig
     → Takes place (sight_text seen) after × CanSee system mine seen
 unfolding shown_words_at sight_text
 words_take system mine place behind seen after in_own_slot kind e =
-    let n = begins is_shown (λ count later. bytes_at count later >>= λ bytes. Ok (Words bytes.0, bytes.1)) behind (seen, after) kind.rest e in
-    let b = stepped (bytes_at n.kind n.behind) (λ bytes. Ok (Words bytes.0, bytes.1)) (seen, after) n.led in
-    let u = bytes_take n.kind n.behind b.value.0 b.value.1 n.first.rest b.is in
+    let n = begins is_shown (λ count later. field_bytes script_short count later >>= λ bytes. Ok (Words bytes.0, bytes.1)) behind (seen, after) kind.rest e in
+    let b = stepped (field_bytes script_short n.kind n.behind) (λ bytes. Ok (Words bytes.0, bytes.1)) (seen, after) n.led in
+    let u = bytes_take script_short n.kind n.behind b.value.0 b.value.1 n.first.rest b.is in
     let P : Sight × Place → Type 0 = λ x. Takes place (sight_text x.0) x.1 × CanSee system mine x.0 in
     let counted : Takes behind (length b.value.0 ∷ []) n.behind = rw u.1 n.first in
     subst P {x = (Words b.value.0, b.value.1)} (ok_is (Words b.value.0, b.value.1) (seen, after) b.led) (

@@ -10,7 +10,7 @@ use Rattle.std.proofs.lemmas.List.{append-nil}
 use Rattle.std.proofs.lemmas.List.Concat.{flat_map-cons}
 use Rattle.xm_base.specs.Cursor.{Place, ahead, left, cursor_start}
 use Rattle.xm_conf.specs.Configuration.{Conf}
-use Rattle.sealed_files.specs.FieldLemmas.{wide16, wide32}
+use Rattle.sealed_files.specs.FieldLemmas.{wide16, wide32, Reads, listed_again}
 use Rattle.xef_images.specs.ImageLemmas.{Decides-nat_le}
 use Rattle.sealed_files.specs.Steps.{◌>>=◌}
 use Rattle.machine_model.specs.Cue.{Away, Cue, Mine, CueSlot}
@@ -19,8 +19,7 @@ use Rattle.xm_base.specs.declared.partition.Order.{Order}
 use Rattle.cue_scripts.specs.Entries.{Alike, AreLongest, Entry, Other, cue_count, plain_cue_of, plain_kind}
 use Rattle.cue_scripts.specs.Script.{HearsNothing, IsCue, is_system_partition}
 use Rattle.cue_scripts.specs.Spelling.{alike_byte, cue_text, entry_text, event_byte, order_text, sight_text, slot_byte, traffic_text}
-use Rattle.cue_scripts.specs.Reading.{alike_at, cue_at, script_entries_at, script_entry_at, entry_of_kind, is_entry_kind, listed_at, other_at}
-use Rattle.cue_scripts.proofs.FieldLemmas.{Reads, listed_again}
+use Rattle.cue_scripts.specs.Reading.{alike_at, cue_at, script_entries_at, script_entry_at, entry_of_kind, is_entry_kind, other_at, script_field, script_short}
 use Rattle.cue_scripts.proofs.AgainLemmas.{event_again, leads, order_again, sight_again, slot_again, traffic_again}
 use Rattle.cue_scripts.proofs.EntriesLemmas.{one_more, none_left}
 use Rattle.cue_scripts.proofs.TakePartLemmas.{InOwn}
@@ -68,7 +67,7 @@ kind_other (Some false) = refl
 alike_again : (own : Bool) (cues : ℕ) (place : Place) (count : ℕ) (rest : List ℕ) → cues < 2 ^ 32 → 1 ≤ count → count ≤ cues → ahead place ≡ to_be_bytes w32 count ++ rest → Reads (alike_at own cues place) (Alike own count) rest
 unfolding alike_at
 alike_again own cues place count rest small some few stands =
-    let b = listed_again w32 (2 ^ 32) wide32 (λ count. nat_le 1 count && nat_le count cues) place count rest (omega (arith, small, few))
+    let b = listed_again script_short script_field w32 (2 ^ 32) wide32 (λ count. nat_le 1 count && nat_le count cues) place count rest (omega (arith, small, few))
     ((Decides-and _ _ (Decides-nat_le 1 count) (Decides-nat_le count cues)).1 (some, few)) stands in
     record { after = b.after; is = rw b.is refl; ahead = b.ahead }
 

@@ -11,19 +11,20 @@ use Rattle.std.proofs.lemmas.List.Concat.{flat_map-cons}
 use Rattle.xm_base.specs.Bytes.{AreBytes}
 use Rattle.xm_base.specs.Cursor.{Place, ahead}
 use Rattle.xm_conf.specs.Configuration.{Conf}
-use Rattle.sealed_files.specs.FieldLemmas.{Takes, takes_both, wide32}
+use Rattle.sealed_files.specs.FieldLemmas.{Takes, takes_both, wide32, listed_takes}
 use Rattle.xef_images.specs.ImageLemmas.{Decides-nat_le}
-use Rattle.sealed_files.specs.StepLemmas.{stepped, ok_is}
-use Rattle.sealed_files.specs.Steps.{◌>>=◌}
+use Rattle.sealed_files.specs.StepLemmas.{stepped, ok_is, passed}
+use Rattle.sealed_files.specs.Steps.{◌>>=◌, unless}
 use Rattle.machine_model.specs.Cue.{Away, Cue, Mine, CueSlot}
 use Rattle.machine_model.specs.Told.{AllHalted, OwnStill, OwnTraffic}
 use Rattle.xm_base.specs.declared.partition.Order.{Order}
+use Rattle.sealed_files.specs.Fields.{listed_at}
 use Rattle.cue_scripts.specs.Entries.{Alike, AreLongest, Entry, MayFollow, Other, cue_count, plain_cue_of, plain_kind}
 use Rattle.cue_scripts.specs.Script.{HearsNothing, IsCue, is_system_partition}
 use Rattle.cue_scripts.specs.Spelling.{alike_byte, cue_text, entry_text, event_byte, order_text, sight_text, slot_byte, traffic_text}
-use Rattle.cue_scripts.specs.Reading.{alike_at, cue_at, script_entries_at, script_entry_at, entry_of_kind, event_at, is_entry_kind, listed_at, order_at, other_at, cue_sight_at, cue_slot_at, traffic_at, unless}
+use Rattle.cue_scripts.specs.Reading.{alike_at, cue_at, script_entries_at, script_entry_at, entry_of_kind, event_at, is_entry_kind, order_at, other_at, cue_sight_at, cue_slot_at, traffic_at, script_field, script_short}
 use Rattle.cue_scripts.specs.declared.fault.ScriptFault.TheVariants.{Field}
-use Rattle.cue_scripts.proofs.FieldLemmas.{begins, listed_takes, passed}
+use Rattle.cue_scripts.proofs.FieldLemmas.{begins}
 use Rattle.cue_scripts.proofs.TakeLemmas.{is_this, slot_takes, two}
 use Rattle.cue_scripts.proofs.TakePartLemmas.{InOwn, event_takes, order_takes, sight_takes, traffic_takes}
 
@@ -93,8 +94,8 @@ alike_takes : (conf : Conf) (p cues : ℕ) (last : Option Bool) (own : Bool) (pl
     → alike_at own cues behind ≡ Ok (entry, after) → Takes place (entry_text entry) after × IsEntry conf p cues last entry
 unfolding alike_at entry_text
 alike_takes conf p cues last own place behind entry after other kind e =
-    let c = stepped (listed_at w32 (λ count. nat_le 1 count && nat_le count cues) behind) (λ count. Ok (Alike own count.0, count.1)) (entry, after) e in
-    let t = listed_takes w32 (2 ^ 32) wide32 (λ count. nat_le 1 count && nat_le count cues) behind c.value.0 c.value.1 kind.rest c.is in
+    let c = stepped (listed_at script_short script_field w32 (λ count. nat_le 1 count && nat_le count cues) behind) (λ count. Ok (Alike own count.0, count.1)) (entry, after) e in
+    let t = listed_takes script_short script_field w32 (2 ^ 32) wide32 (λ count. nat_le 1 count && nat_le count cues) behind c.value.0 c.value.1 kind.rest c.is in
     let sizes = (Decides-and _ _ (Decides-nat_le 1 c.value.0) (Decides-nat_le c.value.0 cues)).0 t.2 in
     let P : Entry × Place → Type 0 = λ x. Takes place (entry_text x.0) x.1 × IsEntry conf p cues last x.0 in
     subst P {x = (Alike own c.value.0, c.value.1)} (ok_is (Alike own c.value.0, c.value.1) (entry, after) c.led) (

@@ -1,7 +1,5 @@
 -- What a reader of a script answers, against what reading gives.
-use Rattle.std.specs.Prelude.{◌≡◌, Result, Ok, Err}
-use Rattle.xm_base.specs.Cursor.{Place}
-use Rattle.cue_scripts.specs.Reading.{ScriptRead}
+use Rattle.std.specs.Prelude.{◌≡◌, Result, Err}
 use Rattle.cue_scripts.specs.declared.fault.ScriptFault.{ScriptFault}
 use Rattle.cue_scripts.specs.declared.fault.ScriptFault.TheVariants as fault
 
@@ -15,13 +13,3 @@ Fails (fault.Trailing at) read = read ≡ Err (fault.Trailing at)
 Fails (fault.Field at) read = read ≡ Err (fault.Field at)
 Fails (fault.Length found) read = ⊥
 Fails (fault.Cue tick) read = ⊥
-
--- what was answered is what reading gives, unless there was no memory
-abbrev pub Gives : {X Y : Type 0} → (X → Y) → Result X ScriptFault → Result Y ScriptFault → Type 0
-Gives view (Ok value) read = read ≡ Ok (view value)
-Gives view (Err fault) read = Fails fault read
-
--- the same for a cursor, which stands after what was read
-abbrev pub GivesAt : {X Y : Type 0} → (X → Y) → Result X ScriptFault → Place → ScriptRead Y → Type 0
-GivesAt view (Ok value) place read = read ≡ Ok (view value, place)
-GivesAt view (Err fault) place read = Fails fault read

@@ -1,14 +1,15 @@
 -- The reading of a script: the cues that the bytes spell, or the first fault from left to right.
-use Rattle.std.specs.Prelude.{◌≡◌, ℕ, zero, suc, ◌-◌, ◌==◌, Bool, true, false, ◌&&◌, ◌||◌, not, nat_le, nat_lt, if◌then◌else◌, List, [], ◌∷◌, codes, Option, Some, None, is_none, is_some, Result, Ok, Err}
-use Rattle.std.specs.Int.{Width, w8, w16, w32, w64, byte_len, from_be_bytes}
-use Rattle.std.specs.Str.{bytes_eq}
-use Rattle.xm_base.specs.Cursor.{Place, left, next, past, cursor_start}
+use Rattle.std.specs.Prelude.{◌≡◌, ℕ, zero, suc, ◌-◌, ◌==◌, Bool, true, false, ◌&&◌, ◌||◌, not, nat_le, if◌then◌else◌, List, [], ◌∷◌, codes, Option, Some, None, is_none, is_some, Result, Ok}
+use Rattle.std.specs.Int.{w8, w16, w32, w64}
+use Rattle.xm_base.specs.Cursor.{Place, left, cursor_start}
 use Rattle.xm_base.specs.declared.partition.Mode.{Mode}
 use Rattle.xm_base.specs.declared.partition.Mode.TheVariants as mode
 use Rattle.xm_base.specs.declared.partition.Order.{Order}
 use Rattle.xm_base.specs.declared.partition.Order.TheVariants as order
 use Rattle.xm_conf.specs.Configuration.{Conf}
-use Rattle.sealed_files.specs.Steps.{◌>>=◌}
+use Rattle.sealed_files.specs.Fields.{field_bytes, listed_at, number_at}
+use Rattle.sealed_files.specs.Heads.{magic_at, version_at}
+use Rattle.sealed_files.specs.Steps.{◌>>=◌, unless}
 use Rattle.machine_model.specs.Cue.{Away, Cue, Mine, CueSlot}
 use Rattle.machine_model.specs.Told.{AllHalted, AllReset, NoEvent, NotKept, OwnPuts, OwnSignals, OwnStill, OwnTakes, OwnTraffic, Sight, Unseen, WholeEvent, Words}
 use Rattle.cue_scripts.specs.Entries.{Alike, Entry, Other, cue_count, expanded, is_away, plain_cue_of, plain_kind}
@@ -21,37 +22,23 @@ use Rattle.cue_scripts.specs.declared.fault.ScriptFault.TheVariants as fault
 abbrev pub ScriptRead : Type 0 → Type 0
 ScriptRead X = Result (X × Place) ScriptFault
 
--- the fault where a test fails, else the value
-abbrev pub unless : {A : Type 0} → Bool → ScriptFault → A → Result A ScriptFault
-unless test fault value = if test then Ok value else Err fault
+-- a field that passes the end, one whose value is not allowed, and another version
+abbrev pub script_short : ℕ → ScriptFault
+script_short at = fault.Short at
 
--- the next bytes, so many, and the place after them; a field that passes the end is Short, at its beginning
-abbrev pub bytes_at : ℕ → Place → ScriptRead (List ℕ)
-bytes_at count place = if nat_lt (left place) count then Err (fault.Short place.at) else Ok (next count place, past count place)
+abbrev pub script_field : ℕ → ScriptFault
+script_field at = fault.Field at
 
--- the next field as a number, and the place after it
-abbrev pub number_at : Width → Place → ScriptRead ℕ
-number_at width place = bytes_at (byte_len width) place >>= λ field. Ok (from_be_bytes width field.0, field.1)
-
--- the next field as a number that passes a test; one that does not is Field, at its beginning
-abbrev pub listed_at : Width → (ℕ → Bool) → Place → ScriptRead ℕ
-listed_at width test place = number_at width place >>= λ field. unless (test field.0) (fault.Field place.at) field
-
--- the name of the format, and the place after it
-unfoldable pub magic_at : Place → Result Place ScriptFault
-magic_at place = bytes_at 4 place >>= λ field. unless (bytes_eq field.0 (codes "XMSC")) fault.Magic field.1
-
--- the version, and the place after it
-unfoldable pub version_at : Place → Result Place ScriptFault
-version_at place = number_at w16 place >>= λ field. unless (field.0 == 1) (fault.Version field.0) field.1
+abbrev pub script_version : ℕ → ScriptFault
+script_version found = fault.Version found
 
 -- the partition's number, and the place after it
 unfoldable pub partition_at : ℕ → Place → Result Place ScriptFault
-partition_at p place = listed_at w8 (λ id. id == p) place >>= λ field. Ok field.1
+partition_at p place = listed_at script_short script_field w8 (λ id. id == p) place >>= λ field. Ok field.1
 
 -- the number of cues, at most 4000000000
 unfoldable pub cue_count_at : Place → ScriptRead ℕ
-cue_count_at place = listed_at w64 (λ total. nat_le total 4000000000) place
+cue_count_at place = listed_at script_short script_field w64 (λ total. nat_le total 4000000000) place
 
 -- the slot of a byte from 0 to 2
 abbrev pub slot_of_byte : ℕ → CueSlot
@@ -60,7 +47,7 @@ slot_of_byte byte = if byte == 0 then Away else Mine (byte == 2)
 -- whose slot it is
 unfoldable pub cue_slot_at : Place → ScriptRead CueSlot
 cue_slot_at place = do
-  byte ← listed_at w8 (λ byte. nat_le byte 2) place
+  byte ← listed_at script_short script_field w8 (λ byte. nat_le byte 2) place
   Ok (slot_of_byte byte.0, byte.1)
 
 -- whether a kind of at most so much may stand, which is none in a slot of the partition's own
@@ -70,26 +57,26 @@ is_heard most mine kind = if kind == 0 then true else is_away mine && nat_le kin
 -- a message that others put into the channel that partition p calls so
 unfoldable pub message_at : Option ℕ → ℕ → Place → ScriptRead OwnTraffic
 message_at most name place = do
-  count ← listed_at w16 (is_length most) place
-  bytes ← bytes_at count.0 count.1
+  count ← listed_at script_short script_field w16 (is_length most) place
+  bytes ← field_bytes script_short count.0 count.1
   Ok (OwnPuts name bytes.0, bytes.1)
 
 -- a message into a channel of which partition p is a destination
 unfoldable pub put_message_at : Conf → ℕ → Place → ScriptRead OwnTraffic
 put_message_at conf p place = do
-  name ← listed_at w8 (λ name. is_some (most_heard conf p name)) place
+  name ← listed_at script_short script_field w8 (λ name. is_some (most_heard conf p name)) place
   message_at (most_heard conf p name.0) name.0 name.1
 
 -- a message that was taken from a queue whose source is partition p
 unfoldable pub take_at : Conf → ℕ → Place → ScriptRead OwnTraffic
 take_at conf p place = do
-  name ← listed_at w8 (gives_queue conf p) place
+  name ← listed_at script_short script_field w8 (gives_queue conf p) place
   Ok (OwnTakes name.0, name.1)
 
 -- a signal over a link of a number that goes to partition p
 unfoldable pub signal_at : Conf → ℕ → Place → ScriptRead OwnTraffic
 signal_at conf p place = do
-  number ← listed_at w8 (signals conf p) place
+  number ← listed_at script_short script_field w8 (signals conf p) place
   Ok (OwnSignals number.0, number.1)
 
 -- traffic of a kind
@@ -103,13 +90,13 @@ traffic_of_kind conf p kind place =
 -- what others did to a channel of partition p, or over a link to it
 unfoldable pub traffic_at : Conf → ℕ → CueSlot → Place → ScriptRead OwnTraffic
 traffic_at conf p mine place = do
-  kind ← listed_at w8 (is_heard 3 mine) place
+  kind ← listed_at script_short script_field w8 (is_heard 3 mine) place
   traffic_of_kind conf p kind.0 kind.1
 
 -- the status of a reset
 unfoldable pub reset_at : Mode → Place → ScriptRead (Option Order)
 reset_at mode place = do
-  status ← number_at w32 place
+  status ← number_at script_short w32 place
   Ok (Some (order.Reset mode status.0), status.1)
 
 -- an order of a kind from 0 to 6
@@ -126,7 +113,7 @@ order_of_kind kind place =
 -- the order that another partition gave
 unfoldable pub order_at : CueSlot → Place → ScriptRead (Option Order)
 order_at mine place = do
-  kind ← listed_at w8 (is_heard 6 mine) place
+  kind ← listed_at script_short script_field w8 (is_heard 6 mine) place
   order_of_kind kind.0 kind.1
 
 -- the hypervisor event of a byte from 0 to 3
@@ -144,14 +131,14 @@ is_event last byte = if nat_le byte 2 then true else last && byte == 3
 -- the hypervisor event
 unfoldable pub event_at : Bool → Place → ScriptRead WholeEvent
 event_at last place = do
-  byte ← listed_at w8 (is_event last) place
+  byte ← listed_at script_short script_field w8 (is_event last) place
   Ok (event_of_byte byte.0, byte.1)
 
 -- bytes that were shown
 unfoldable pub shown_words_at : Place → ScriptRead Sight
 shown_words_at place = do
-  count ← listed_at w8 is_shown place
-  bytes ← bytes_at count.0 count.1
+  count ← listed_at script_short script_field w8 is_shown place
+  bytes ← field_bytes script_short count.0 count.1
   Ok (Words bytes.0, bytes.1)
 
 -- a sight of a kind
@@ -168,7 +155,7 @@ is_sight system mine kind = if kind == 0 then true else not (is_away mine) && (s
 -- what was shown
 unfoldable pub cue_sight_at : Bool → CueSlot → Place → ScriptRead Sight
 cue_sight_at system mine place = do
-  kind ← listed_at w8 (is_sight system mine) place
+  kind ← listed_at script_short script_field w8 (is_sight system mine) place
   sight_of_kind kind.0 kind.1
 
 -- a cue for partition p, the last one or not
@@ -190,7 +177,7 @@ other_at conf p last at place = do
 -- an entry of plain cues, where so many cues are left
 unfoldable pub alike_at : Bool → ℕ → Place → ScriptRead Entry
 alike_at own cues place = do
-  count ← listed_at w32 (λ count. nat_le 1 count && nat_le count cues) place
+  count ← listed_at script_short script_field w32 (λ count. nat_le 1 count && nat_le count cues) place
   Ok (Alike own count.0, count.1)
 
 -- whether a byte is the kind of an entry after one that repeats a plain cue, or after another: two that repeat the same one never meet
@@ -208,7 +195,7 @@ entry_of_kind conf p cues at kind place =
 -- an entry, where so many cues are left
 unfoldable pub script_entry_at : Conf → ℕ → ℕ → Option Bool → Place → ScriptRead Entry
 script_entry_at conf p cues last place = do
-  kind ← listed_at w8 (is_entry_kind last) place
+  kind ← listed_at script_short script_field w8 (is_entry_kind last) place
   entry_of_kind conf p cues place.at kind.0 kind.1
 
 -- entries until no cues are left, and at most so many
@@ -223,9 +210,9 @@ script_entries_at conf p (suc most) cues last place =
 -- the head and the entries of a script for partition p: each entry has a cue at least, so there are no more entries than cues
 unfoldable pub body_at : Conf → ℕ → Place → ScriptRead (List Entry)
 body_at conf p place = do
-  name ← magic_at place
-  version ← version_at name
-  id ← partition_at p version
+  name ← magic_at script_short fault.Magic (codes "XMSC") place
+  version ← version_at script_short script_version 1 name
+  id ← partition_at p version.1
   total ← cue_count_at id
   script_entries_at conf p total.0 total.0 None total.1
 

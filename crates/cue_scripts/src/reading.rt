@@ -1,13 +1,17 @@
 //! The reading of a script.
 
-ghost use Rattle.std.specs.Prelude.{◌≡◌, ◌==◌, ◌<◌, ◌≤◌, IfOk, List, None, Ok, length};
+ghost use Rattle.std.specs.Prelude.{◌≡◌, ◌==◌, ◌<◌, ◌≤◌, IfOk, List, None, Ok, codes, length};
 ghost use Rattle.std.specs.Int.{w8};
 ghost use Rattle.machine_model.specs.Cue.{Cue};
 ghost use Rattle.cue_scripts.specs.Entries.{cue_count, plain_kind};
-ghost use Rattle.cue_scripts.specs.Gives.{Gives, GivesAt};
+ghost use Rattle.sealed_files.specs.Fields.{listed_at};
+ghost use Rattle.sealed_files.specs.Gives.{Gives, GivesAt};
+ghost use Rattle.sealed_files.specs.Heads.{magic_at, version_at};
+ghost use Rattle.cue_scripts.specs.Gives.{Fails};
 ghost use Rattle.cue_scripts.specs.Reading as reading;
 ghost use Rattle.cue_scripts.specs.Script.{is_length, is_shown, most_heard};
 ghost use Rattle.cue_scripts.specs.Spelling.{IsSpelledScript, alike_byte};
+ghost use Rattle.cue_scripts.specs.declared.fault.ScriptFault.TheVariants as fault;
 ghost use Rattle.cue_scripts.specs.Values.{script_cue_value, entry_value, entry_values, event_value, script_sight_value, script_slot_value, script_traffic_value};
 
 use crate::channels::{gives_queue, is_system, most_heard, signals};
@@ -23,9 +27,9 @@ use xm_base::{Cursor, Mode, Order, PartId, TICKS};
 use xm_conf::Conf;
 
 /// The name of the format.
-#[tactic(auto, unfolding(crate::specs::Reading::magic_at))]
+#[tactic(auto, unfolding(sealed_files::specs::Heads::magic_at))]
 fn magic(cursor: &mut Cursor<'_>) -> Result<(), ScriptFault>
-    ensures { Gives (λ _. cursor.new) result (reading.magic_at cursor.old) }
+    ensures { Gives Fails (λ _. cursor.new) result (magic_at reading.script_short fault.Magic (codes "XMSC") cursor.old) }
 {
     if cursor.take(4)? != MAGIC.as_slice() {
         return Err(ScriptFault::Magic);
@@ -34,21 +38,22 @@ fn magic(cursor: &mut Cursor<'_>) -> Result<(), ScriptFault>
 }
 
 /// The version.
-#[tactic(auto, unfolding(crate::specs::Reading::version_at))]
-fn version(cursor: &mut Cursor<'_>) -> Result<(), ScriptFault>
-    ensures { Gives (λ _. cursor.new) result (reading.version_at cursor.old) }
+#[tactic(auto, unfolding(sealed_files::specs::Heads::version_at))]
+fn version(cursor: &mut Cursor<'_>) -> Result<u16, ScriptFault>
+    ensures { GivesAt Fails (λ found. found) result cursor.new (version_at reading.script_short reading.script_version 1 cursor.old) }
 {
     let found = cursor.u16()?;
-    if found != VERSION {
-        return Err(ScriptFault::Version { found });
+    if 1 <= found && found <= VERSION {
+        Ok(found)
+    } else {
+        Err(ScriptFault::Version { found })
     }
-    Ok(())
 }
 
 /// The partition's number.
 #[tactic(auto, unfolding(crate::specs::Reading::partition_at))]
 fn id(p: PartId, cursor: &mut Cursor<'_>) -> Result<(), ScriptFault>
-    ensures { Gives (λ _. cursor.new) result (reading.partition_at p cursor.old) }
+    ensures { Gives Fails (λ _. cursor.new) result (reading.partition_at p cursor.old) }
 {
     let at = cursor.at();
     if cursor.u8()? != p {
@@ -60,7 +65,7 @@ fn id(p: PartId, cursor: &mut Cursor<'_>) -> Result<(), ScriptFault>
 /// The number of cues.
 #[tactic(auto, unfolding(crate::specs::Reading::cue_count_at))]
 fn total(cursor: &mut Cursor<'_>) -> Result<u32, ScriptFault>
-    ensures { GivesAt (λ total. total) result cursor.new (reading.cue_count_at cursor.old) }
+    ensures { GivesAt Fails (λ total. total) result cursor.new (reading.cue_count_at cursor.old) }
 {
     let at = cursor.at();
     let total = cursor.u64()?;
@@ -73,7 +78,7 @@ fn total(cursor: &mut Cursor<'_>) -> Result<u32, ScriptFault>
 /// Whose slot it is.
 #[tactic(auto, unfolding(crate::specs::Reading::cue_slot_at))]
 fn slot(cursor: &mut Cursor<'_>) -> Result<ScriptSlot, ScriptFault>
-    ensures { GivesAt (λ slot. script_slot_value slot) result cursor.new (reading.cue_slot_at cursor.old) }
+    ensures { GivesAt Fails (λ slot. script_slot_value slot) result cursor.new (reading.cue_slot_at cursor.old) }
 {
     let at = cursor.at();
     match cursor.u8()? {
@@ -99,7 +104,7 @@ fn is_heard(most: u8, mine: ScriptSlot, kind: u8) -> bool
 
 /// A kind of at most so much, which is none in a slot of the partition's own.
 fn heard_kind(most: u8, mine: ScriptSlot, cursor: &mut Cursor<'_>) -> Result<u8, ScriptFault>
-    ensures { GivesAt (λ kind. kind) result cursor.new (reading.listed_at w8 (reading.is_heard most (script_slot_value mine)) cursor.old) }
+    ensures { GivesAt Fails (λ kind. kind) result cursor.new (listed_at reading.script_short reading.script_field w8 (reading.is_heard most (script_slot_value mine)) cursor.old) }
 {
     let at = cursor.at();
     let kind = cursor.u8()?;
@@ -128,7 +133,7 @@ fn message(
     chan: u8,
     cursor: &mut Cursor<'_>,
 ) -> Result<ScriptTraffic, ScriptFault>
-    ensures { GivesAt (λ traffic. script_traffic_value traffic) result cursor.new (reading.message_at most chan cursor.old) }
+    ensures { GivesAt Fails (λ traffic. script_traffic_value traffic) result cursor.new (reading.message_at most chan cursor.old) }
 {
     let at = cursor.at();
     let count = cursor.u16()?;
@@ -151,7 +156,7 @@ fn put(
     cursor: &mut Cursor<'_>,
 ) -> Result<ScriptTraffic, ScriptFault>
     requires { p < length conf.now.parts }
-    ensures { GivesAt (λ traffic. script_traffic_value traffic) result cursor.new (reading.put_message_at conf.now p cursor.old) }
+    ensures { GivesAt Fails (λ traffic. script_traffic_value traffic) result cursor.new (reading.put_message_at conf.now p cursor.old) }
 {
     let at = cursor.at();
     let chan = cursor.u8()?;
@@ -166,7 +171,7 @@ fn put(
 #[tactic(auto, unfolding(crate::specs::Reading::take_at))]
 fn take(conf: &Conf, p: PartId, cursor: &mut Cursor<'_>) -> Result<ScriptTraffic, ScriptFault>
     requires { p < length conf.now.parts }
-    ensures { GivesAt (λ traffic. script_traffic_value traffic) result cursor.new (reading.take_at conf.now p cursor.old) }
+    ensures { GivesAt Fails (λ traffic. script_traffic_value traffic) result cursor.new (reading.take_at conf.now p cursor.old) }
 {
     let at = cursor.at();
     let chan = cursor.u8()?;
@@ -180,7 +185,7 @@ fn take(conf: &Conf, p: PartId, cursor: &mut Cursor<'_>) -> Result<ScriptTraffic
 /// A signal over a link that goes to the partition.
 #[tactic(auto, unfolding(crate::specs::Reading::signal_at))]
 fn signal(conf: &Conf, p: PartId, cursor: &mut Cursor<'_>) -> Result<ScriptTraffic, ScriptFault>
-    ensures { GivesAt (λ traffic. script_traffic_value traffic) result cursor.new (reading.signal_at conf.now p cursor.old) }
+    ensures { GivesAt Fails (λ traffic. script_traffic_value traffic) result cursor.new (reading.signal_at conf.now p cursor.old) }
 {
     let at = cursor.at();
     let number = cursor.u8()?;
@@ -200,7 +205,7 @@ fn traffic_of_kind(
     cursor: &mut Cursor<'_>,
 ) -> Result<ScriptTraffic, ScriptFault>
     requires { p < length conf.now.parts }
-    ensures { GivesAt (λ traffic. script_traffic_value traffic) result cursor.new (reading.traffic_of_kind conf.now p kind cursor.old) }
+    ensures { GivesAt Fails (λ traffic. script_traffic_value traffic) result cursor.new (reading.traffic_of_kind conf.now p kind cursor.old) }
 {
     match kind {
         0 => Ok(ScriptTraffic::Nothing),
@@ -220,7 +225,7 @@ fn traffic(
     cursor: &mut Cursor<'_>,
 ) -> Result<ScriptTraffic, ScriptFault>
     requires { p < length conf.now.parts }
-    ensures { GivesAt (λ traffic. script_traffic_value traffic) result cursor.new (reading.traffic_at conf.now p (script_slot_value mine) cursor.old) }
+    ensures { GivesAt Fails (λ traffic. script_traffic_value traffic) result cursor.new (reading.traffic_at conf.now p (script_slot_value mine) cursor.old) }
 {
     let kind = heard_kind(3, mine, cursor)?;
     traffic_of_kind(alloc, conf, p, kind, cursor)
@@ -229,7 +234,7 @@ fn traffic(
 /// A reset with its status.
 #[tactic(auto, unfolding(crate::specs::Reading::reset_at))]
 fn reset(mode: Mode, cursor: &mut Cursor<'_>) -> Result<Option<Order>, ScriptFault>
-    ensures { GivesAt (λ order. order) result cursor.new (reading.reset_at mode cursor.old) }
+    ensures { GivesAt Fails (λ order. order) result cursor.new (reading.reset_at mode cursor.old) }
 {
     let status = cursor.u32()?;
     Ok(Some(Order::Reset { mode, status }))
@@ -237,7 +242,7 @@ fn reset(mode: Mode, cursor: &mut Cursor<'_>) -> Result<Option<Order>, ScriptFau
 
 /// An order of a kind from 0 to 6.
 fn order_of_kind(kind: u8, cursor: &mut Cursor<'_>) -> Result<Option<Order>, ScriptFault>
-    ensures { GivesAt (λ order. order) result cursor.new (reading.order_of_kind kind cursor.old) }
+    ensures { GivesAt Fails (λ order. order) result cursor.new (reading.order_of_kind kind cursor.old) }
 {
     match kind {
         0 => Ok(None),
@@ -253,7 +258,7 @@ fn order_of_kind(kind: u8, cursor: &mut Cursor<'_>) -> Result<Option<Order>, Scr
 /// The order that another partition gave.
 #[tactic(auto, unfolding(crate::specs::Reading::order_at))]
 fn order(mine: ScriptSlot, cursor: &mut Cursor<'_>) -> Result<Option<Order>, ScriptFault>
-    ensures { GivesAt (λ order. order) result cursor.new (reading.order_at (script_slot_value mine) cursor.old) }
+    ensures { GivesAt Fails (λ order. order) result cursor.new (reading.order_at (script_slot_value mine) cursor.old) }
 {
     let kind = heard_kind(6, mine, cursor)?;
     order_of_kind(kind, cursor)
@@ -281,7 +286,7 @@ fn event_of_byte(byte: u8) -> ScriptEvent
 /// The hypervisor event of the tick.
 #[tactic(auto, unfolding(crate::specs::Reading::event_at))]
 fn event(last: bool, cursor: &mut Cursor<'_>) -> Result<ScriptEvent, ScriptFault>
-    ensures { GivesAt (λ event. event_value event) result cursor.new (reading.event_at last cursor.old) }
+    ensures { GivesAt Fails (λ event. event_value event) result cursor.new (reading.event_at last cursor.old) }
 {
     let at = cursor.at();
     let byte = cursor.u8()?;
@@ -302,7 +307,7 @@ fn is_shown(count: u8) -> bool
 /// Bytes that were shown.
 #[tactic(auto, unfolding(crate::specs::Reading::shown_words_at))]
 fn words(alloc: Global, cursor: &mut Cursor<'_>) -> Result<ScriptSight, ScriptFault>
-    ensures { GivesAt (λ seen. script_sight_value seen) result cursor.new (reading.shown_words_at cursor.old) }
+    ensures { GivesAt Fails (λ seen. script_sight_value seen) result cursor.new (reading.shown_words_at cursor.old) }
 {
     let at = cursor.at();
     let count = cursor.u8()?;
@@ -319,7 +324,7 @@ fn sight_of_kind(
     kind: u8,
     cursor: &mut Cursor<'_>,
 ) -> Result<ScriptSight, ScriptFault>
-    ensures { GivesAt (λ seen. script_sight_value seen) result cursor.new (reading.sight_of_kind kind cursor.old) }
+    ensures { GivesAt Fails (λ seen. script_sight_value seen) result cursor.new (reading.sight_of_kind kind cursor.old) }
 {
     match kind {
         0 => Ok(ScriptSight::Nothing),
@@ -349,7 +354,7 @@ fn sight(
     mine: ScriptSlot,
     cursor: &mut Cursor<'_>,
 ) -> Result<ScriptSight, ScriptFault>
-    ensures { GivesAt (λ seen. script_sight_value seen) result cursor.new (reading.cue_sight_at system (script_slot_value mine) cursor.old) }
+    ensures { GivesAt Fails (λ seen. script_sight_value seen) result cursor.new (reading.cue_sight_at system (script_slot_value mine) cursor.old) }
 {
     let at = cursor.at();
     let kind = cursor.u8()?;
@@ -369,7 +374,7 @@ fn cue(
     cursor: &mut Cursor<'_>,
 ) -> Result<ScriptCue, ScriptFault>
     requires { p < length conf.now.parts }
-    ensures { GivesAt (λ cue. script_cue_value cue) result cursor.new (reading.cue_at conf.now p last cursor.old) }
+    ensures { GivesAt Fails (λ cue. script_cue_value cue) result cursor.new (reading.cue_at conf.now p last cursor.old) }
 {
     let mine = slot(cursor)?;
     let traffic = traffic(alloc, conf, p, mine, cursor)?;
@@ -396,7 +401,7 @@ fn other(
     cursor: &mut Cursor<'_>,
 ) -> Result<ScriptEntry, ScriptFault>
     requires { p < length conf.now.parts }
-    ensures value { GivesAt (λ entry. entry_value entry) result cursor.new (reading.other_at conf.now p last at cursor.old) }
+    ensures value { GivesAt Fails (λ entry. entry_value entry) result cursor.new (reading.other_at conf.now p last at cursor.old) }
     ensures counted { IfOk result (λ entry. cue_count (entry_value entry) ≡ 1) }
 {
     let cue = cue(alloc, conf, p, last, cursor)?;
@@ -409,7 +414,7 @@ fn other(
 /// An entry of plain cues, where so many cues are left.
 #[tactic(auto, unfolding(crate::specs::Reading::alike_at))]
 fn alike(own: bool, cues: u32, cursor: &mut Cursor<'_>) -> Result<ScriptEntry, ScriptFault>
-    ensures value { GivesAt (λ entry. entry_value entry) result cursor.new (reading.alike_at own cues cursor.old) }
+    ensures value { GivesAt Fails (λ entry. entry_value entry) result cursor.new (reading.alike_at own cues cursor.old) }
     ensures counted { IfOk result (λ entry. (1 ≤ cue_count (entry_value entry)) × (cue_count (entry_value entry) ≤ cues)) }
 {
     let at = cursor.at();
@@ -449,7 +454,7 @@ fn entry_of_kind(
 ) -> Result<ScriptEntry, ScriptFault>
     requires part { p < length conf.now.parts }
     requires left { 1 ≤ cues }
-    ensures value { GivesAt (λ entry. entry_value entry) result cursor.new (reading.entry_of_kind conf.now p cues at kind cursor.old) }
+    ensures value { GivesAt Fails (λ entry. entry_value entry) result cursor.new (reading.entry_of_kind conf.now p cues at kind cursor.old) }
     ensures counted { IfOk result (λ entry. (1 ≤ cue_count (entry_value entry)) × (cue_count (entry_value entry) ≤ cues)) }
 {
     if kind == ALIKE {
@@ -473,7 +478,7 @@ fn entry(
 ) -> Result<ScriptEntry, ScriptFault>
     requires part { p < length conf.now.parts }
     requires left { 1 ≤ cues }
-    ensures value { GivesAt (λ entry. entry_value entry) result cursor.new (reading.script_entry_at conf.now p cues last cursor.old) }
+    ensures value { GivesAt Fails (λ entry. entry_value entry) result cursor.new (reading.script_entry_at conf.now p cues last cursor.old) }
     ensures counted { IfOk result (λ entry. (1 ≤ cue_count (entry_value entry)) × (cue_count (entry_value entry) ≤ cues)) }
 {
     let at = cursor.at();
@@ -493,7 +498,7 @@ fn entries(
     cursor: &mut Cursor<'_>,
 ) -> Result<Vec<ScriptEntry>, ScriptFault>
     requires { p < length conf.now.parts }
-    ensures { GivesAt (λ entries. entry_values entries.items) result cursor.new (reading.script_entries_at conf.now p total total None cursor.old) }
+    ensures { GivesAt Fails (λ entries. entry_values entries.items) result cursor.new (reading.script_entries_at conf.now p total total None cursor.old) }
 {
     let mut entries = Vec::new(alloc);
     let mut cues = total;
@@ -516,7 +521,7 @@ fn body(
     cursor: &mut Cursor<'_>,
 ) -> Result<Vec<ScriptEntry>, ScriptFault>
     requires { p < length conf.now.parts }
-    ensures { GivesAt (λ entries. entry_values entries.items) result cursor.new (reading.body_at conf.now p cursor.old) }
+    ensures { GivesAt Fails (λ entries. entry_values entries.items) result cursor.new (reading.body_at conf.now p cursor.old) }
 {
     magic(cursor)?;
     version(cursor)?;
@@ -534,7 +539,7 @@ fn whole(
     bytes: &[u8],
 ) -> Result<Vec<ScriptEntry>, ScriptFault>
     requires { p < length conf.now.parts }
-    ensures { Gives (λ entries. entry_values entries.items) result (reading.entries_of conf.now p bytes.now) }
+    ensures { Gives Fails (λ entries. entry_values entries.items) result (reading.entries_of conf.now p bytes.now) }
 {
     let mut cursor = Cursor::new(bytes);
     let entries = body(alloc, conf, p, &mut cursor)?;
@@ -555,9 +560,9 @@ pub fn read_script(
     // What is read are the cues that the bytes spell.
     ensures found { IfOk result (IsSpelledScript conf.now p bytes.now) }
     // What is spelled is read, unless there is no memory.
-    ensures only { (cues : List Cue) → IsSpelledScript conf.now p bytes.now cues → Gives (λ found. found) result (Ok cues) }
+    ensures only { (cues : List Cue) → IsSpelledScript conf.now p bytes.now cues → Gives Fails (λ found. found) result (Ok cues) }
     // A fault is the first one.
-    ensures exact { Gives (λ found. found) result (reading.script_read conf.now p bytes.now) }
+    ensures exact { Gives Fails (λ found. found) result (reading.script_read conf.now p bytes.now) }
 {
     let entries = whole(alloc, conf, p, bytes)?;
     Ok(Script { entries })
