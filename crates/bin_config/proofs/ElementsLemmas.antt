@@ -4,7 +4,8 @@ use Rattle.std.specs.Prelude.{Ok, Err}
 use Rattle.std.proofs.lemmas.List.{append-nil, take_all, take_more_set}
 use Rattle.std.proofs.Math.ListN.{length-set}
 use Rattle.xm_base.specs.Cursor.{Place}
-use Rattle.bin_config.specs.Reading.{Read, elements_at, ◌>>=◌}
+use Rattle.sealed_files.specs.Steps.{◌>>=◌}
+use Rattle.bin_config.specs.Reading.{Read, elements_at}
 use Rattle.bin_config.specs.Gives.{Fails, with_front}
 use Rattle.bin_config.specs.declared.fault.XmcFault.{XmcFault}
 use Rattle.bin_config.specs.declared.fault.XmcFault.TheVariants as fault

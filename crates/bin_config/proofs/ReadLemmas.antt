@@ -3,7 +3,8 @@ use Rattle.std.proofs.Common.{◌≡◌, List, ℕ, Option, Some, None, Result, 
 use Rattle.std.specs.Prelude.{IfOk}
 use Rattle.xm_base.specs.Bytes.{AreBytes}
 use Rattle.xm_conf.specs.Configuration.{Conf}
-use Rattle.bin_config.specs.Gives.{GivesWhole}
+use Rattle.sealed_files.specs.Gives.{Gives}
+use Rattle.bin_config.specs.Gives.{Fails}
 use Rattle.bin_config.specs.Laws.{ReadIsSpelled, SpelledIsRead}
 use Rattle.bin_config.specs.Reading.{read_as, read_of}
 use Rattle.bin_config.specs.Spelled.{HasConfRanges}
@@ -14,13 +15,13 @@ use Rattle.bin_config.specs.declared.version.Version.{Version}
 use Rattle.bin_config.specs.declared.version.Version.TheVariants.{Two}
 
 -- a configuration that reading gives is the one that the bytes spell, in one of the versions
-pub given_spelled : ReadIsSpelled → (bytes : List ℕ) (given : Result Conf XmcFault) → AreBytes bytes → GivesWhole given (read_of bytes)
+pub given_spelled : ReadIsSpelled → (bytes : List ℕ) (given : Result Conf XmcFault) → AreBytes bytes → Gives Fails (λ conf. conf) given (read_of bytes)
     → IfOk given (λ conf. (v : Version) × (bytes ≡ xmc v conf))
 given_spelled law bytes (Ok conf) each read = let is = law None bytes conf each read in (is.0, is.2.text)
 given_spelled law bytes (Err fault) each read = tt
 
 -- the same in one version
-pub given_in : ReadIsSpelled → (v : Version) (bytes : List ℕ) (given : Result Conf XmcFault) → AreBytes bytes → GivesWhole given (read_as v bytes)
+pub given_in : ReadIsSpelled → (v : Version) (bytes : List ℕ) (given : Result Conf XmcFault) → AreBytes bytes → Gives Fails (λ conf. conf) given (read_as v bytes)
     → IfOk given (λ conf. bytes ≡ xmc v conf)
 given_in law v bytes (Ok conf) each read =
     let is = law (Some v) bytes conf each read in

@@ -2,8 +2,11 @@
 use Rattle.std.proofs.Common.{◌≡◌, ℕ, List, ◌++◌, Result, Ok, refl, sym, ap, subst, ◌∙◌, append_assoc}
 use Rattle.xm_base.specs.Bytes.{AreBytes}
 use Rattle.xm_base.specs.Cursor.{Place, ahead}
-use Rattle.bin_config.specs.Reading.{Read, ◌>>=◌}
-use Rattle.bin_config.specs.FieldLemmas.{IsReaderOf, Takes, stepped, ok_is, takes_both}
+use Rattle.sealed_files.specs.FieldLemmas.{Takes, takes_both}
+use Rattle.sealed_files.specs.StepLemmas.{ok_is, stepped}
+use Rattle.sealed_files.specs.Steps.{◌>>=◌}
+use Rattle.bin_config.specs.Reading.{Read}
+use Rattle.bin_config.specs.FieldLemmas.{IsReaderOf}
 use Rattle.bin_config.specs.declared.fault.XmcFault.{XmcFault}
 
 -- fields before something: their values go to what follows, with the place after them

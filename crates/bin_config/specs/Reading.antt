@@ -1,8 +1,10 @@
 -- A binary configuration is read from left to right: each field with its value and what is after it, or the first fault.
 use Rattle.std.specs.Prelude.{ℕ, suc, zero, ◌==◌, Bool, true, false, ◌&&◌, ◌||◌, nat_lt, if◌then◌else◌, List, [], ◌∷◌, length, slice_get, codes, Option, Some, None, Result, Ok, Err}
-use Rattle.std.specs.Str.{bytes_eq}
-use Rattle.std.specs.Int.{Width, w8, w16, w32, from_be_bytes}
-use Rattle.xm_base.specs.Cursor.{Place, cursor_start, left, next, past}
+use Rattle.std.specs.Int.{w8, w16, w32}
+use Rattle.xm_base.specs.Cursor.{Place, cursor_start, left}
+use Rattle.sealed_files.specs.Fields.{field_bytes, number_at}
+use Rattle.sealed_files.specs.Heads.{magic_at}
+use Rattle.sealed_files.specs.Steps.{◌>>=◌}
 use Rattle.xm_conf.specs.Configuration.{Plan, Part, Chan, Conf}
 use Rattle.xm_conf.specs.Health.{actions}
 use Rattle.xm_conf.specs.Name.{name_from_bytes}
@@ -35,28 +37,21 @@ use Rattle.bin_config.specs.declared.fault.XmcFault.TheVariants as fault
 abbrev pub Read : Type 0 → Type 0
 Read X = Result (X × Place) XmcFault
 
-infixl 10 ◌>>=◌
--- what follows, after a value
-abbrev pub ◌>>=◌ : {A B : Type 0} → Result A XmcFault → (A → Result B XmcFault) → Result B XmcFault
-(Ok x) >>= f = f x
-(Err e) >>= f = Err e
-
--- a number of so many bytes
-abbrev pub number_at : Width → ℕ → Place → Read ℕ
-number_at width count place =
-    if nat_lt (left place) count then Err (fault.Short place.at) else Ok (from_be_bytes width (next count place), past count place)
+-- a field that passes the end
+abbrev pub conf_short : ℕ → XmcFault
+conf_short at = fault.Short at
 
 -- a number of one byte
 unfoldable pub byte_field_at : Place → Read ℕ
-byte_field_at place = number_at w8 1 place
+byte_field_at place = number_at conf_short w8 place
 
 -- a number of two bytes
 unfoldable pub half_word_at : Place → Read ℕ
-half_word_at place = number_at w16 2 place
+half_word_at place = number_at conf_short w16 place
 
 -- a number of four bytes
 unfoldable pub word_field_at : Place → Read ℕ
-word_field_at place = number_at w32 4 place
+word_field_at place = number_at conf_short w32 place
 
 -- a value where there is one; else the field at a place is at fault
 abbrev pub or_fault : {X : Type 0} → ℕ → Place → Option X → Read X
@@ -75,8 +70,7 @@ flag_at place = do
 
 -- the bytes of a text, where so many are left; the text begins at a place
 abbrev pub text_behind : ℕ → ℕ → Place → Read (List ℕ)
-text_behind at count place =
-    if nat_lt (left place) count then Err (fault.Short at) else or_fault at (past count place) (name_from_bytes (next count place))
+text_behind at count place = field_bytes (λ here. fault.Short at) count place >>= λ bytes. or_fault at bytes.1 (name_from_bytes bytes.0)
 
 -- a text
 unfoldable pub text_field_at : Place → Read (List ℕ)
@@ -296,21 +290,14 @@ conf_body_at v place = do
     links.1,
   )
 
--- the first four bytes; the value says nothing
-unfoldable pub magic_at : Place → Read ℕ
-magic_at place =
-    if nat_lt (left place) 4 then Err (fault.Short place.at)
-    else if bytes_eq (next 4 place) (codes "XMCF") then Ok (4, past 4 place)
-    else Err fault.Magic
-
 -- a version where there is one; else the number of a version is at fault
 abbrev pub or_version : ℕ → Place → Option Version → Read Version
 or_version number behind None = Err (fault.Version number)
 or_version number behind (Some v) = Ok (v, behind)
 
 -- the version, which is the one that is wanted, or either
-unfoldable pub version_at : Option Version → Place → Read Version
-version_at want place = do
+unfoldable pub wanted_version_at : Option Version → Place → Read Version
+wanted_version_at want place = do
   number ← half_word_at place
   or_version number.0 number.1 (wanted want number.0)
 
@@ -322,8 +309,8 @@ is_whole total told =
 -- the first fields: what comes first, the version, which is told, and the length of the whole
 unfoldable pub head_at : Option Version → Place → Read Version
 head_at want place = do
-  magic ← magic_at place
-  version ← version_at want magic.1
+  named ← magic_at conf_short fault.Magic (codes "XMCF") place
+  version ← wanted_version_at want named
   told ← word_field_at version.1
   is_whole (length place.bytes) told.0 >>= λ all. Ok (version.0, told.1)
 

@@ -1,11 +1,10 @@
 -- What each record of a configuration is read of, and how it is spelled.
-use Rattle.std.proofs.Common.{◌≡◌, ◌≢◌, ℕ, zero, suc, ◌<◌, Bool, true, false, cond, ltb, List, [], ◌∷◌, ◌++◌, length, Option, Some, None, Ok, refl, sym, ap, subst, ◌∙◌, append_assoc, arith, ◌⊎◌, inl, inr}
+use Rattle.std.proofs.Common.{◌≡◌, ◌≢◌, ℕ, zero, suc, ◌<◌, Bool, true, false, cond, List, [], ◌∷◌, ◌++◌, length, Option, Some, None, Ok, refl, sym, ap, subst, ◌∙◌, append_assoc, arith, ◌⊎◌, inl, inr}
 use Rattle.std.specs.Prelude.{⊤, ◌==◌, ◌&&◌, ◌||◌, nat_lt, slice_get, IfSome}
 use Rattle.std.specs.List.{AllByRecursion}
-use Rattle.std.proofs.lemmas.Bool.{ltb-false}
 use Rattle.std.proofs.lemmas.Bool.Decides.{nat_tests}
 use Rattle.xm_base.specs.Bytes.{AreBytes}
-use Rattle.xm_base.specs.Cursor.{Place, ahead, left, next, past}
+use Rattle.xm_base.specs.Cursor.{Place, ahead}
 use Rattle.xm_conf.specs.Health.{action_row, actions}
 use Rattle.xm_conf.specs.Name.{IsName, is_name, name_from_bytes}
 use Rattle.xm_conf.specs.NameLemmas.{is_name-Decides}
@@ -19,11 +18,15 @@ use Rattle.xm_conf.specs.declared.port.Way.TheVariants as way
 use Rattle.xm_conf.specs.declared.channel.ChanKind.{ChanKind}
 use Rattle.xm_conf.specs.declared.channel.ChanKind.TheVariants as chan_kind
 use Rattle.xm_conf.specs.declared.link.Link.{Link}
+use Rattle.sealed_files.specs.FieldLemmas.{Reads, Takes, bytes_again, bytes_take, takes_both}
+use Rattle.sealed_files.specs.Fields.{field_bytes}
+use Rattle.sealed_files.specs.StepLemmas.{ok_is, stepped}
+use Rattle.sealed_files.specs.Steps.{◌>>=◌}
 use Rattle.bin_config.specs.Reading as reading
-use Rattle.bin_config.specs.Reading.{Read, ◌>>=◌}
+use Rattle.bin_config.specs.Reading.{Read}
 use Rattle.bin_config.specs.Spelled.{IsByte, IsHalfWord, HasFourBytes, IsSpelledRegion, IsSpelledSlot, IsSpelledPlan, IsSpelledNeed, IsSpelledMonitor, IsSpelledArea, IsSpelledPart, IsSpelledEnd, IsSpelledKind, IsSpelledChan, IsSpelledLink, AreSpelledLinks, IsSpelledConf}
 use Rattle.bin_config.specs.Xmc as xmc
-use Rattle.bin_config.specs.FieldLemmas.{Takes, Reads, IsReaderOf, ok_is, stepped, went_on, had, next_take, stands_next, takes_both, byte_spells, half_word_spells, word_spells, coded_spells, elements_spells, counted_spells}
+use Rattle.bin_config.specs.FieldLemmas.{IsReaderOf, had, byte_spells, half_word_spells, word_spells, coded_spells, elements_spells, counted_spells}
 use Rattle.bin_config.specs.FrontLemmas.{first, then, followed, made_of_fields}
 use Rattle.bin_config.specs.declared.identity.Identity.{Identity}
 use Rattle.bin_config.specs.declared.version.Version.{Version}
@@ -190,12 +193,12 @@ unfolding reading.text_field_at xmc.text_field
 text_takes place x after each e =
     let a = stepped (reading.byte_field_at place) (λ count. reading.text_behind place.at count.0 count.1) (x, after) e in
     let size = byte_spells.takes place a.value.0 a.value.1 each a.is in
-    let g = went_on (ltb (left a.value.1) a.value.0) (Short place.at) (reading.or_fault place.at (past a.value.0 a.value.1) (name_from_bytes (next a.value.0 a.value.1))) (x, after) a.led in
-    let h = had place.at (past a.value.0 a.value.1) (name_from_bytes (next a.value.0 a.value.1)) x after g.1 in
-    let named = name_there (next a.value.0 a.value.1) x h.0 in
-    let t = next_take a.value.0 a.value.1 size.0.rest (ltb-false _ _ g.0) in
+    let b = stepped (field_bytes (λ here. Short place.at) a.value.0 a.value.1) (λ bytes. reading.or_fault place.at bytes.1 (name_from_bytes bytes.0)) (x, after) a.led in
+    let h = had place.at b.value.1 (name_from_bytes b.value.0) x after b.led in
+    let named = name_there b.value.0 x h.0 in
+    let t = bytes_take (λ here. Short place.at) a.value.0 a.value.1 b.value.0 b.value.1 size.0.rest b.is in
     let counted : a.value.0 ≡ length x = sym t.1 ∙ ap length named.0 in
-    let bytes : Takes a.value.1 x after = subst (λ (b : Place). Takes a.value.1 x b) h.1 (subst (λ (y : List ℕ). Takes a.value.1 y (past a.value.0 a.value.1)) named.0 t.0) in
+    let bytes : Takes a.value.1 x after = subst (λ (behind : Place). Takes a.value.1 x behind) h.1 (subst (λ (y : List ℕ). Takes a.value.1 y b.value.1) named.0 t.0) in
     (subst (λ (n : ℕ). Takes place ((n ∷ []) ++ x) after) counted (takes_both place (a.value.0 ∷ []) a.value.1 x after size.0 bytes), named.1)
 
 -- a text that stands there
@@ -203,8 +206,8 @@ text_again : (place : Place) (x rest : List ℕ) → IsName x → ahead place �
 unfolding reading.text_field_at xmc.text_field
 text_again place x rest named is =
     let size = byte_spells.again place (length x) (x ++ rest) (omega (arith, named.most)) is in
-    let s = stands_next (length x) size.after x rest refl size.ahead in
-    record { after = past (length x) size.after; is = rw (size.is, s.enough, s.next, name_back x named) refl; ahead = s.ahead }
+    let b = bytes_again (λ here. Short place.at) (length x) size.after x rest refl size.ahead in
+    record { after = b.after; is = rw (size.is, b.is, name_back x named) refl; ahead = b.ahead }
 
 -- a text
 pub text_spells : IsReaderOf reading.text_field_at xmc.text_field IsName

@@ -2,27 +2,30 @@
 use Rattle.std.proofs.Common.{◌≡◌, ◌≢◌, ℕ, suc, ◌+◌, ◌-◌, ◌^◌, ◌<◌, ◌≤◌, Bool, true, false, cond, ltb, List, [], ◌∷◌, ◌++◌, length, take, drop, codes, Option, Some, None, Ok, Err, refl, sym, ap, subst, ◌∙◌, append_assoc, arith}
 use Rattle.std.specs.Prelude.{◌==◌}
 use Rattle.std.specs.Int.{w32, from_be_bytes}
-use Rattle.std.specs.Str.{bytes_eq}
 use Rattle.std.proofs.Math.Seq.{take-append_seam, take-append-add}
 use Rattle.std.proofs.lemmas.Bool.{ltb-false, le-ltb, lt-ltb}
 use Rattle.std.proofs.lemmas.Bool.Decides.{nat_tests}
 use Rattle.std.proofs.lemmas.List.{append-nil, length-append, nil_from_length}
 use Rattle.std.proofs.lemmas.Nat.{from_be_bytes-to_be_bytes_4}
-use Rattle.std.proofs.lemmas.Slice.Eq.{bytes_eq-Decides}
 use Rattle.xm_base.specs.Bytes.{AreBytes}
-use Rattle.xm_base.specs.Cursor.{Place, ahead, left, next, past, cursor_start}
+use Rattle.xm_base.specs.Cursor.{Place, ahead, left, cursor_start}
 use Rattle.xm_conf.specs.Configuration.{Conf}
 use Rattle.xm_conf.specs.declared.link.Link.{Link}
 use Rattle.xm_conf.specs.Description.{described}
 use Rattle.xm_conf.specs.Laws.{IsBrokenUnlessFits}
 use Rattle.xm_conf.specs.Rules.{first_broken}
 use Rattle.xm_conf.specs.declared.item.Broken.{Broken}
+use Rattle.sealed_files.specs.FieldLemmas.{Reads, Takes, bytes_again, takes_both}
+use Rattle.sealed_files.specs.HeadLemmas.{magic_takes}
+use Rattle.sealed_files.specs.Heads.{magic_at}
+use Rattle.sealed_files.specs.StepLemmas.{led_on, ok_is, stepped}
+use Rattle.sealed_files.specs.Steps.{◌>>=◌}
 use Rattle.bin_config.specs.Laws.{IsPrefixFree, ReadIsSpelled, SpelledIsRead, OtherIsRefused, MoreIsTrailing, CutIsShort, FitsItsLength}
-use Rattle.bin_config.specs.Reading.{Read, ◌>>=◌, magic_at, half_word_at, or_version, version_at, is_whole, head_at, conf_body_at, nothing_left, unbroken, fields_at, read_within}
+use Rattle.bin_config.specs.Reading.{half_word_at, or_version, wanted_version_at, is_whole, head_at, conf_body_at, nothing_left, unbroken, fields_at, read_within, conf_short, word_field_at}
 use Rattle.bin_config.specs.Spelled.{IsSpelledConf, AreSpelledLinks}
 use Rattle.bin_config.specs.Version.{version_number, parts_in_version, version_numbered, wanted, IsWanted, MayHaveLinks, FitsVersion}
 use Rattle.bin_config.specs.Xmc.{half_word, word_field, body, head, xmc}
-use Rattle.bin_config.specs.FieldLemmas.{Takes, Reads, IsReaderOf, stepped, ok_is, went_on, next_take, stands_next, takes_both, half_word_spells, word_spells}
+use Rattle.bin_config.specs.FieldLemmas.{IsReaderOf, half_word_spells, word_spells}
 use Rattle.bin_config.specs.FrontLemmas.{Reached, first, then}
 use Rattle.bin_config.specs.RangeLemmas.{spelled_if_fits}
 use Rattle.bin_config.specs.RecordLemmas.{conf_spells}
@@ -84,31 +87,12 @@ xmc_is : (v : Version) (conf : Conf) (rest : List ℕ)
 unfolding xmc
 xmc_is v conf rest = (refl, append_assoc (head v (10 + length (body v conf))) (body v conf) rest)
 
--- the first four bytes that are read
-conf_magic_takes : (place : Place) (n : ℕ) (after : Place) → AreBytes (ahead place) → magic_at place ≡ Ok (n, after) → Takes place (codes "XMCF") after × (n ≡ 4)
+-- the name of the format, where it stands
+magic_again : (place : Place) (rest : List ℕ) → ahead place ≡ codes "XMCF" ++ rest → Reached (magic_at conf_short fault.Magic (codes "XMCF") place) (λ after. Ok after) rest
 unfolding magic_at
-conf_magic_takes place n after each e =
-    let g = went_on (ltb (left place) 4) (fault.Short place.at) (cond {A = Read ℕ} (bytes_eq (next 4 place) (codes "XMCF")) (Ok (4, past 4 place)) (Err fault.Magic)) (n, after) e in
-    let m = was (bytes_eq (next 4 place) (codes "XMCF")) g.1 in
-    let t = next_take 4 place each (ltb-false _ _ g.0) in
-    let same : next 4 place ≡ codes "XMCF" = (bytes_eq-Decides (next 4 place) (codes "XMCF")).0 m.0 in
-    let P : ℕ × Place → Type 0 = λ x. Takes place (codes "XMCF") x.1 × (x.0 ≡ 4) in
-    subst P (ok_is (4, past 4 place) (n, after) m.1) (subst (λ (text : List ℕ). Takes place text (past 4 place)) same t.0, refl)
-  where
-    was : (b : Bool) → cond {A = Read ℕ} b (Ok (4, past 4 place)) (Err fault.Magic) ≡ Ok (n, after) → (b ≡ true) × ((let done : Read ℕ = Ok (4, past 4 place) in done) ≡ Ok (n, after))
-    was true e = (refl, e)
-    was false e = absurd cc
-
--- the first four bytes, where they stand
-magic_again : (place : Place) (n : ℕ) (rest : List ℕ) → n ≡ 4 → ahead place ≡ codes "XMCF" ++ rest → Reads (magic_at place) n rest
-unfolding magic_at
-magic_again place n rest four is =
-    let s = stands_next 4 place (codes "XMCF") rest refl is in
-    record { after = past 4 place; is = rw (s.enough, s.next, four) refl; ahead = s.ahead }
-
--- the first four bytes
-magic_spells : IsReaderOf magic_at (λ n. codes "XMCF") (λ n. n ≡ 4)
-magic_spells = record { takes = conf_magic_takes; again = magic_again }
+magic_again place rest is =
+    let b = bytes_again conf_short 4 place (codes "XMCF") rest refl is in
+    record { after = b.after; is = rw b.is refl; ahead = b.ahead }
 
 -- a version that was found
 had_version : (n : ℕ) (behind : Place) (found : Option Version) (v : Version) (after : Place) → or_version n behind found ≡ Ok (v, after) → (found ≡ Some v) × (behind ≡ after)
@@ -171,9 +155,9 @@ number_small version.One = omega arith
 number_small version.Two = omega arith
 
 -- the version that is read
-conf_version_takes : (want : Option Version) (place : Place) (v : Version) (after : Place) → AreBytes (ahead place) → version_at want place ≡ Ok (v, after)
+conf_version_takes : (want : Option Version) (place : Place) (v : Version) (after : Place) → AreBytes (ahead place) → wanted_version_at want place ≡ Ok (v, after)
     → Takes place (half_word (version_number v)) after × IsWanted want v
-unfolding version_at
+unfolding wanted_version_at
 conf_version_takes want place v after each e =
     let n = stepped (half_word_at place) (λ n. or_version n.0 n.1 (wanted want n.0)) (v, after) e in
     let t = half_word_spells.takes place n.value.0 n.value.1 each n.is in
@@ -182,33 +166,37 @@ conf_version_takes want place v after each e =
     (subst (λ (m : ℕ). Takes place (half_word m) after) is.0 (subst (λ (behind : Place). Takes place (half_word n.value.0) behind) h.1 t.0), is.1)
 
 -- the version, where it stands
-version_again : (want : Option Version) (place : Place) (v : Version) (rest : List ℕ) → IsWanted want v → ahead place ≡ half_word (version_number v) ++ rest → Reads (version_at want place) v rest
-unfolding version_at
-version_again want place v rest wants is =
+conf_version_again : (want : Option Version) (place : Place) (v : Version) (rest : List ℕ) → IsWanted want v → ahead place ≡ half_word (version_number v) ++ rest → Reads (wanted_version_at want place) v rest
+unfolding wanted_version_at
+conf_version_again want place v rest wants is =
     let r = half_word_spells.again place (version_number v) rest (number_small v) is in
     record { after = r.after; is = rw (r.is, wanted_back want v wants) refl; ahead = r.ahead }
 
 -- the version
-version_spells : (want : Option Version) → IsReaderOf (version_at want) (λ v. half_word (version_number v)) (IsWanted want)
-version_spells want = record { takes = conf_version_takes want; again = version_again want }
+version_spells : (want : Option Version) → IsReaderOf (wanted_version_at want) (λ v. half_word (version_number v)) (IsWanted want)
+version_spells want = record { takes = conf_version_takes want; again = conf_version_again want }
 
 -- the first fields that are read: the bytes are as many as they tell
 head_takes : (want : Option Version) (bytes : List ℕ) (got : Version × Place) → AreBytes bytes → head_at want (cursor_start bytes) ≡ Ok got
     → Takes (cursor_start bytes) (head got.0 (length bytes)) got.1 × IsWanted want got.0
 unfolding head_at head
 head_takes want bytes got each e =
-    let fields = then (then (first magic_spells) (version_spells want)) word_spells in
-    let o = fields.takes (Version × Place) (λ t behind. is_whole (length bytes) t.1 >>= λ all. Ok (t.0.1, behind)) (cursor_start bytes) got each e in
-    let w = stepped (is_whole (length bytes) o.value.1) (λ all. Ok (o.value.0.1, o.after)) got o.led in
+    let m = stepped (magic_at conf_short fault.Magic (codes "XMCF") (cursor_start bytes)) (λ named.
+    wanted_version_at want named >>= λ version. word_field_at version.1 >>= λ told. is_whole (length bytes) told.0 >>= λ all. Ok (version.0, told.1)) got e in
+    let named = magic_takes conf_short fault.Magic (codes "XMCF") (cursor_start bytes) m.value each m.is in
+    let fields = then (first (version_spells want)) word_spells in
+    let o = fields.takes (Version × Place) (λ t behind. is_whole (length bytes) t.1 >>= λ all. Ok (t.0, behind)) m.value got named.rest m.led in
+    let w = stepped (is_whole (length bytes) o.value.1) (λ all. Ok (o.value.0, o.after)) got o.led in
     let size : o.value.1 ≡ length bytes = whole_is (length bytes) o.value.1 w.value w.is in
+    let both = takes_both (cursor_start bytes) (codes "XMCF") m.value (half_word (version_number o.value.0) ++ word_field o.value.1) o.after named o.takes in
     let P : Version × Place → Type 0 = λ x. Takes (cursor_start bytes) (codes "XMCF" ++ half_word (version_number x.0) ++ word_field (length bytes)) x.1 × IsWanted want x.0 in
-    subst P (ok_is (o.value.0.1, o.after) got w.led)
-    (subst (λ (n : ℕ). Takes (cursor_start bytes) (codes "XMCF" ++ half_word (version_number o.value.0.1) ++ word_field n) o.after) size o.takes, o.is.0.1)
+    subst P (ok_is (o.value.0, o.after) got w.led)
+    (subst (λ (n : ℕ). Takes (cursor_start bytes) (codes "XMCF" ++ half_word (version_number o.value.0) ++ word_field n) o.after) size both, o.is.0)
   where
     whole_is : (total size : ℕ) (all : Unit {0}) → is_whole total size ≡ Ok all → size ≡ total
     whole_is total size all is =
-        let a = went_on (ltb total size) (fault.Short total) (cond (ltb size total) (Err (fault.Trailing size)) (Ok tt)) all is in
-        let b = went_on (ltb size total) (fault.Trailing size) (Ok tt) all a.1 in
+        let a = led_on (ltb total size) (fault.Short total) (cond (ltb size total) (Err (fault.Trailing size)) (Ok tt)) all is in
+        let b = led_on (ltb size total) (fault.Trailing size) (Ok tt) all a.1 in
         omega (arith, ltb-false total size a.0, ltb-false size total b.0)
 
 -- the first fields, where they stand
@@ -216,8 +204,10 @@ head_again : (want : Option Version) (v : Version) (bytes : List ℕ) (size : �
     → Reached (head_at want (cursor_start bytes)) (λ behind. is_whole (length bytes) size >>= λ all. Ok (v, behind)) rest
 unfolding head_at head
 head_again want v bytes size rest wants below is =
-    let fields = then (then (first magic_spells) (version_spells want)) word_spells in
-    fields.again (Version × Place) (λ t behind. is_whole (length bytes) t.1 >>= λ all. Ok (t.0.1, behind)) (cursor_start bytes) ((4, v), size) rest ((refl, wants), below) is
+    let m = magic_again (cursor_start bytes) ((half_word (version_number v) ++ word_field size) ++ rest) is in
+    let fields = then (first (version_spells want)) word_spells in
+    let r = fields.again (Version × Place) (λ t behind. is_whole (length bytes) t.1 >>= λ all. Ok (t.0, behind)) m.after (v, size) rest (wants, below) m.ahead in
+    record { after = r.after; is = rw m.is r.is; ahead = r.ahead }
 
 -- fields that are read are a spelling
 fields_takes : (v : Version) (bytes : List ℕ) (place : Place) (conf : Conf) → Takes (cursor_start bytes) (head v (length bytes)) place → fields_at v place ≡ Ok conf
@@ -225,7 +215,7 @@ fields_takes : (v : Version) (bytes : List ℕ) (place : Place) (conf : Conf) �
 unfolding fields_at
 fields_takes v bytes place conf first e =
     let c = stepped (conf_body_at v place) (λ c. nothing_left c) conf e in
-    let n = went_on (ltb 0 (left c.value.1)) (fault.Trailing c.value.1.at) (Ok c.value.0) conf c.led in
+    let n = led_on (ltb 0 (left c.value.1)) (fault.Trailing c.value.1.at) (Ok c.value.0) conf c.led in
     let is : c.value.0 ≡ conf = ok_is c.value.0 conf n.1 in
     let second = (conf_spells v).takes place c.value.0 c.value.1 first.rest c.is in
     let none : ahead c.value.1 ≡ [] = nil_from_length (ahead c.value.1) (omega (arith, ltb-false 0 (left c.value.1) n.0)) in
@@ -302,11 +292,11 @@ spelled_read law want v conf wants ranges fits = unbroken_read want v conf wants
 
 -- a spelling in another version than the one that is wanted
 pub other_refused : OtherIsRefused
-unfolding read_within head_at version_at xmc head
+unfolding read_within head_at wanted_version_at xmc head
 other_refused v w conf differ =
     let total : ℕ = 10 + length (body w conf) in
     let behind : List ℕ = word_field total ++ body w conf in
-    let m = magic_again (cursor_start (xmc w conf)) 4 ((half_word (version_number w) ++ word_field total) ++ body w conf) refl refl in
+    let m = magic_again (cursor_start (xmc w conf)) ((half_word (version_number w) ++ word_field total) ++ body w conf) refl in
     let n = half_word_spells.again m.after (version_number w) behind (number_small w) (m.ahead ∙ append_assoc (half_word (version_number w)) (word_field total) (body w conf)) in
     rw (m.is, n.is, wanted_other v w differ) refl
 

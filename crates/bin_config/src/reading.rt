@@ -1,14 +1,16 @@
 //! The fields of a configuration, read one after another.
 
 ghost use Rattle.std.specs.Prelude.{◌≡◌, IfOk, codes, length, slice_get};
-ghost use Rattle.std.specs.Str.{bytes_eq};
 ghost use Rattle.xm_conf.specs.Health.{actions};
-ghost use Rattle.bin_config.specs.Gives.{Gives, GivesFilled, GivesItems, GivesWhole};
 ghost use Rattle.xm_conf.specs.Description.{described};
 ghost use Rattle.xm_conf.specs.Rules.{first_broken};
+ghost use Rattle.sealed_files.specs.Gives.{Gives, GivesAt};
+ghost use Rattle.sealed_files.specs.Heads.{magic_at};
+ghost use Rattle.bin_config.specs.Gives.{Fails};
 ghost use Rattle.bin_config.specs.Reading as reading;
 ghost use Rattle.bin_config.specs.Version.{parts_in_version};
 ghost use Rattle.bin_config.specs.Xmc.{xmc};
+ghost use Rattle.bin_config.specs.declared.fault.XmcFault.TheVariants as fault;
 ghost use Rattle.bin_config.specs.declared.version.Version.{Version as AVersion};
 
 use crate::fault::XmcFault;
@@ -25,7 +27,7 @@ use xm_conf::{
 /// A number of one byte.
 #[tactic(auto, unfolding(crate::specs::Reading::byte_field_at))]
 fn byte(cursor: &mut Cursor<'_>) -> Result<u8, XmcFault>
-    ensures { Gives result cursor.new (reading.byte_field_at cursor.old) }
+    ensures { GivesAt Fails (λ value. value) result cursor.new (reading.byte_field_at cursor.old) }
 {
     Ok(cursor.u8()?)
 }
@@ -33,7 +35,7 @@ fn byte(cursor: &mut Cursor<'_>) -> Result<u8, XmcFault>
 /// A number of two bytes.
 #[tactic(auto, unfolding(crate::specs::Reading::half_word_at))]
 fn half_word(cursor: &mut Cursor<'_>) -> Result<u16, XmcFault>
-    ensures { Gives result cursor.new (reading.half_word_at cursor.old) }
+    ensures { GivesAt Fails (λ value. value) result cursor.new (reading.half_word_at cursor.old) }
 {
     Ok(cursor.u16()?)
 }
@@ -41,7 +43,7 @@ fn half_word(cursor: &mut Cursor<'_>) -> Result<u16, XmcFault>
 /// A number of four bytes.
 #[tactic(auto, unfolding(crate::specs::Reading::word_field_at))]
 fn word(cursor: &mut Cursor<'_>) -> Result<u32, XmcFault>
-    ensures { Gives result cursor.new (reading.word_field_at cursor.old) }
+    ensures { GivesAt Fails (λ value. value) result cursor.new (reading.word_field_at cursor.old) }
 {
     Ok(cursor.u32()?)
 }
@@ -49,7 +51,7 @@ fn word(cursor: &mut Cursor<'_>) -> Result<u32, XmcFault>
 /// A region.
 #[tactic(auto, unfolding(crate::specs::Reading::region_at))]
 fn region(cursor: &mut Cursor<'_>) -> Result<Region, XmcFault>
-    ensures { Gives result cursor.new (reading.region_at cursor.old) }
+    ensures { GivesAt Fails (λ value. value) result cursor.new (reading.region_at cursor.old) }
 {
     let start = word(cursor)?;
     let size = word(cursor)?;
@@ -59,7 +61,7 @@ fn region(cursor: &mut Cursor<'_>) -> Result<Region, XmcFault>
 /// A slot.
 #[tactic(auto, unfolding(crate::specs::Reading::slot_record_at))]
 fn slot(cursor: &mut Cursor<'_>) -> Result<Slot, XmcFault>
-    ensures { Gives result cursor.new (reading.slot_record_at cursor.old) }
+    ensures { GivesAt Fails (λ value. value) result cursor.new (reading.slot_record_at cursor.old) }
 {
     let start = word(cursor)?;
     let duration = word(cursor)?;
@@ -87,7 +89,7 @@ fn flag_of(byte: u8) -> Option<bool>
 /// A byte that is 0 or 1.
 #[tactic(auto, unfolding(crate::specs::Reading::flag_at))]
 fn flag(cursor: &mut Cursor<'_>) -> Result<bool, XmcFault>
-    ensures { Gives result cursor.new (reading.flag_at cursor.old) }
+    ensures { GivesAt Fails (λ value. value) result cursor.new (reading.flag_at cursor.old) }
 {
     let at = cursor.at();
     let byte = byte(cursor)?;
@@ -99,7 +101,7 @@ fn flag(cursor: &mut Cursor<'_>) -> Result<bool, XmcFault>
 
 /// The bytes of a text that begins at a place.
 fn text_behind(at: usize, count: u8, cursor: &mut Cursor<'_>) -> Result<Name, XmcFault>
-    ensures { Gives result cursor.new (reading.text_behind at count cursor.old) }
+    ensures { GivesAt Fails (λ value. value) result cursor.new (reading.text_behind at count cursor.old) }
 {
     match cursor.take(usize::from(count)) {
         Ok(bytes) => match Name::new(bytes) {
@@ -113,7 +115,7 @@ fn text_behind(at: usize, count: u8, cursor: &mut Cursor<'_>) -> Result<Name, Xm
 /// A text.
 #[tactic(auto, unfolding(crate::specs::Reading::text_field_at))]
 fn text(cursor: &mut Cursor<'_>) -> Result<Name, XmcFault>
-    ensures { Gives result cursor.new (reading.text_field_at cursor.old) }
+    ensures { GivesAt Fails (λ value. value) result cursor.new (reading.text_field_at cursor.old) }
 {
     let at = cursor.at();
     let count = byte(cursor)?;
@@ -136,7 +138,7 @@ fn kind_of(byte: u8) -> Option<Kind>
 /// A port's kind.
 #[tactic(auto, unfolding(crate::specs::Reading::kind_at))]
 fn kind(cursor: &mut Cursor<'_>) -> Result<Kind, XmcFault>
-    ensures { Gives result cursor.new (reading.kind_at cursor.old) }
+    ensures { GivesAt Fails (λ value. value) result cursor.new (reading.kind_at cursor.old) }
 {
     let at = cursor.at();
     let byte = byte(cursor)?;
@@ -162,7 +164,7 @@ fn way_of(byte: u8) -> Option<Way>
 /// A port's way.
 #[tactic(auto, unfolding(crate::specs::Reading::way_at))]
 fn way(cursor: &mut Cursor<'_>) -> Result<Way, XmcFault>
-    ensures { Gives result cursor.new (reading.way_at cursor.old) }
+    ensures { GivesAt Fails (λ value. value) result cursor.new (reading.way_at cursor.old) }
 {
     let at = cursor.at();
     let byte = byte(cursor)?;
@@ -175,7 +177,7 @@ fn way(cursor: &mut Cursor<'_>) -> Result<Way, XmcFault>
 /// A port.
 #[tactic(auto, unfolding(crate::specs::Reading::port_record_at))]
 fn port(cursor: &mut Cursor<'_>) -> Result<Port, XmcFault>
-    ensures { Gives result cursor.new (reading.port_record_at cursor.old) }
+    ensures { GivesAt Fails (λ value. value) result cursor.new (reading.port_record_at cursor.old) }
 {
     let name = text(cursor)?;
     let kind = kind(cursor)?;
@@ -186,7 +188,7 @@ fn port(cursor: &mut Cursor<'_>) -> Result<Port, XmcFault>
 /// An area.
 #[tactic(auto, unfolding(crate::specs::Reading::area_at))]
 fn area(cursor: &mut Cursor<'_>) -> Result<Area, XmcFault>
-    ensures { Gives result cursor.new (reading.area_at cursor.old) }
+    ensures { GivesAt Fails (λ value. value) result cursor.new (reading.area_at cursor.old) }
 {
     let start = word(cursor)?;
     let size = word(cursor)?;
@@ -201,7 +203,7 @@ fn area(cursor: &mut Cursor<'_>) -> Result<Area, XmcFault>
 /// An end of a channel.
 #[tactic(auto, unfolding(crate::specs::Reading::end_at))]
 fn end(cursor: &mut Cursor<'_>) -> Result<End, XmcFault>
-    ensures { Gives result cursor.new (reading.end_at cursor.old) }
+    ensures { GivesAt Fails (λ value. value) result cursor.new (reading.end_at cursor.old) }
 {
     let part = byte(cursor)?;
     let port = byte(cursor)?;
@@ -211,7 +213,7 @@ fn end(cursor: &mut Cursor<'_>) -> Result<End, XmcFault>
 /// What a channel's kind has beside it.
 #[tactic(auto, unfolding(crate::specs::Reading::keeps_at))]
 fn keeps(kind: Kind, cursor: &mut Cursor<'_>) -> Result<ChanKind, XmcFault>
-    ensures { Gives result cursor.new (reading.keeps_at kind cursor.old) }
+    ensures { GivesAt Fails (λ value. value) result cursor.new (reading.keeps_at kind cursor.old) }
 {
     match kind {
         Kind::Sampling => {
@@ -241,7 +243,7 @@ fn need_of(duration: u32, period: u32) -> Option<Option<Need>>
 /// A requirement.
 #[tactic(auto, unfolding(crate::specs::Reading::need_at))]
 fn need(cursor: &mut Cursor<'_>) -> Result<Option<Need>, XmcFault>
-    ensures { Gives result cursor.new (reading.need_at cursor.old) }
+    ensures { GivesAt Fails (λ value. value) result cursor.new (reading.need_at cursor.old) }
 {
     let duration = word(cursor)?;
     let at = cursor.at();
@@ -265,7 +267,7 @@ fn flags_of(byte: u16) -> Option<u16>
 /// The flags of the events that are logged.
 #[tactic(auto, unfolding(crate::specs::Reading::flags_at))]
 fn flags(cursor: &mut Cursor<'_>) -> Result<u16, XmcFault>
-    ensures { Gives result cursor.new (reading.flags_at cursor.old) }
+    ensures { GivesAt Fails (λ value. value) result cursor.new (reading.flags_at cursor.old) }
 {
     let at = cursor.at();
     let byte = half_word(cursor)?;
@@ -278,7 +280,7 @@ fn flags(cursor: &mut Cursor<'_>) -> Result<u16, XmcFault>
 /// Regions.
 #[tactic(auto, using(crate::proofs::ElementsLemmas::elements_loop))]
 fn each_region(alloc: Global, count: u8, cursor: &mut Cursor<'_>) -> Result<Vec<Region>, XmcFault>
-    ensures { GivesItems result cursor.new (reading.elements_at reading.region_at count cursor.old) }
+    ensures { GivesAt Fails (λ elements. elements.items) result cursor.new (reading.elements_at reading.region_at count cursor.old) }
 {
     let mut regions = Vec::new(alloc);
     for _ in 0..count {
@@ -290,7 +292,7 @@ fn each_region(alloc: Global, count: u8, cursor: &mut Cursor<'_>) -> Result<Vec<
 
 /// Regions.
 fn regions(alloc: Global, cursor: &mut Cursor<'_>) -> Result<Vec<Region>, XmcFault>
-    ensures { GivesItems result cursor.new (reading.counted_at reading.region_at cursor.old) }
+    ensures { GivesAt Fails (λ elements. elements.items) result cursor.new (reading.counted_at reading.region_at cursor.old) }
 {
     let count = byte(cursor)?;
     each_region(alloc, count, cursor)
@@ -299,7 +301,7 @@ fn regions(alloc: Global, cursor: &mut Cursor<'_>) -> Result<Vec<Region>, XmcFau
 /// Slots.
 #[tactic(auto, using(crate::proofs::ElementsLemmas::elements_loop))]
 fn each_slot(alloc: Global, count: u8, cursor: &mut Cursor<'_>) -> Result<Vec<Slot>, XmcFault>
-    ensures { GivesItems result cursor.new (reading.elements_at reading.slot_record_at count cursor.old) }
+    ensures { GivesAt Fails (λ elements. elements.items) result cursor.new (reading.elements_at reading.slot_record_at count cursor.old) }
 {
     let mut slots = Vec::new(alloc);
     for _ in 0..count {
@@ -311,7 +313,7 @@ fn each_slot(alloc: Global, count: u8, cursor: &mut Cursor<'_>) -> Result<Vec<Sl
 
 /// Slots.
 fn slots(alloc: Global, cursor: &mut Cursor<'_>) -> Result<Vec<Slot>, XmcFault>
-    ensures { GivesItems result cursor.new (reading.counted_at reading.slot_record_at cursor.old) }
+    ensures { GivesAt Fails (λ elements. elements.items) result cursor.new (reading.counted_at reading.slot_record_at cursor.old) }
 {
     let count = byte(cursor)?;
     each_slot(alloc, count, cursor)
@@ -320,7 +322,7 @@ fn slots(alloc: Global, cursor: &mut Cursor<'_>) -> Result<Vec<Slot>, XmcFault>
 /// A plan.
 #[tactic(auto, unfolding(crate::specs::Reading::plan_record_at))]
 fn plan(alloc: Global, cursor: &mut Cursor<'_>) -> Result<Plan, XmcFault>
-    ensures { Gives result cursor.new (reading.plan_record_at cursor.old) }
+    ensures { GivesAt Fails (λ value. value) result cursor.new (reading.plan_record_at cursor.old) }
 {
     let frame = word(cursor)?;
     let slots = slots(alloc, cursor)?;
@@ -330,7 +332,7 @@ fn plan(alloc: Global, cursor: &mut Cursor<'_>) -> Result<Plan, XmcFault>
 /// Plans.
 #[tactic(auto, using(crate::proofs::ElementsLemmas::elements_loop))]
 fn each_plan(alloc: Global, count: u8, cursor: &mut Cursor<'_>) -> Result<Vec<Plan>, XmcFault>
-    ensures { GivesItems result cursor.new (reading.elements_at reading.plan_record_at count cursor.old) }
+    ensures { GivesAt Fails (λ elements. elements.items) result cursor.new (reading.elements_at reading.plan_record_at count cursor.old) }
 {
     let mut plans = Vec::new(alloc);
     for _ in 0..count {
@@ -342,7 +344,7 @@ fn each_plan(alloc: Global, count: u8, cursor: &mut Cursor<'_>) -> Result<Vec<Pl
 
 /// Plans.
 fn plans(alloc: Global, cursor: &mut Cursor<'_>) -> Result<Vec<Plan>, XmcFault>
-    ensures { GivesItems result cursor.new (reading.counted_at reading.plan_record_at cursor.old) }
+    ensures { GivesAt Fails (λ elements. elements.items) result cursor.new (reading.counted_at reading.plan_record_at cursor.old) }
 {
     let count = byte(cursor)?;
     each_plan(alloc, count, cursor)
@@ -351,7 +353,7 @@ fn plans(alloc: Global, cursor: &mut Cursor<'_>) -> Result<Vec<Plan>, XmcFault>
 /// Names.
 #[tactic(auto, using(crate::proofs::ElementsLemmas::elements_loop))]
 fn each_text(alloc: Global, count: u8, cursor: &mut Cursor<'_>) -> Result<Vec<Name>, XmcFault>
-    ensures { GivesItems result cursor.new (reading.elements_at reading.text_field_at count cursor.old) }
+    ensures { GivesAt Fails (λ elements. elements.items) result cursor.new (reading.elements_at reading.text_field_at count cursor.old) }
 {
     let mut texts = Vec::new(alloc);
     for _ in 0..count {
@@ -363,7 +365,7 @@ fn each_text(alloc: Global, count: u8, cursor: &mut Cursor<'_>) -> Result<Vec<Na
 
 /// Names.
 fn texts(alloc: Global, cursor: &mut Cursor<'_>) -> Result<Vec<Name>, XmcFault>
-    ensures { GivesItems result cursor.new (reading.counted_at reading.text_field_at cursor.old) }
+    ensures { GivesAt Fails (λ elements. elements.items) result cursor.new (reading.counted_at reading.text_field_at cursor.old) }
 {
     let count = byte(cursor)?;
     each_text(alloc, count, cursor)
@@ -372,7 +374,7 @@ fn texts(alloc: Global, cursor: &mut Cursor<'_>) -> Result<Vec<Name>, XmcFault>
 /// Areas.
 #[tactic(auto, using(crate::proofs::ElementsLemmas::elements_loop))]
 fn each_area(alloc: Global, count: u8, cursor: &mut Cursor<'_>) -> Result<Vec<Area>, XmcFault>
-    ensures { GivesItems result cursor.new (reading.elements_at reading.area_at count cursor.old) }
+    ensures { GivesAt Fails (λ elements. elements.items) result cursor.new (reading.elements_at reading.area_at count cursor.old) }
 {
     let mut areas = Vec::new(alloc);
     for _ in 0..count {
@@ -384,7 +386,7 @@ fn each_area(alloc: Global, count: u8, cursor: &mut Cursor<'_>) -> Result<Vec<Ar
 
 /// Areas.
 fn areas(alloc: Global, cursor: &mut Cursor<'_>) -> Result<Vec<Area>, XmcFault>
-    ensures { GivesItems result cursor.new (reading.counted_at reading.area_at cursor.old) }
+    ensures { GivesAt Fails (λ elements. elements.items) result cursor.new (reading.counted_at reading.area_at cursor.old) }
 {
     let count = byte(cursor)?;
     each_area(alloc, count, cursor)
@@ -393,7 +395,7 @@ fn areas(alloc: Global, cursor: &mut Cursor<'_>) -> Result<Vec<Area>, XmcFault>
 /// Ports.
 #[tactic(auto, using(crate::proofs::ElementsLemmas::elements_loop))]
 fn each_port(alloc: Global, count: u8, cursor: &mut Cursor<'_>) -> Result<Vec<Port>, XmcFault>
-    ensures { GivesItems result cursor.new (reading.elements_at reading.port_record_at count cursor.old) }
+    ensures { GivesAt Fails (λ elements. elements.items) result cursor.new (reading.elements_at reading.port_record_at count cursor.old) }
 {
     let mut ports = Vec::new(alloc);
     for _ in 0..count {
@@ -405,7 +407,7 @@ fn each_port(alloc: Global, count: u8, cursor: &mut Cursor<'_>) -> Result<Vec<Po
 
 /// Ports.
 fn ports(alloc: Global, cursor: &mut Cursor<'_>) -> Result<Vec<Port>, XmcFault>
-    ensures { GivesItems result cursor.new (reading.counted_at reading.port_record_at cursor.old) }
+    ensures { GivesAt Fails (λ elements. elements.items) result cursor.new (reading.counted_at reading.port_record_at cursor.old) }
 {
     let count = byte(cursor)?;
     each_port(alloc, count, cursor)
@@ -414,7 +416,7 @@ fn ports(alloc: Global, cursor: &mut Cursor<'_>) -> Result<Vec<Port>, XmcFault>
 /// Ends of a channel.
 #[tactic(auto, using(crate::proofs::ElementsLemmas::elements_loop))]
 fn each_end(alloc: Global, count: u8, cursor: &mut Cursor<'_>) -> Result<Vec<End>, XmcFault>
-    ensures { GivesItems result cursor.new (reading.elements_at reading.end_at count cursor.old) }
+    ensures { GivesAt Fails (λ elements. elements.items) result cursor.new (reading.elements_at reading.end_at count cursor.old) }
 {
     let mut ends = Vec::new(alloc);
     for _ in 0..count {
@@ -426,7 +428,7 @@ fn each_end(alloc: Global, count: u8, cursor: &mut Cursor<'_>) -> Result<Vec<End
 
 /// Ends of a channel.
 fn ends(alloc: Global, cursor: &mut Cursor<'_>) -> Result<Vec<End>, XmcFault>
-    ensures { GivesItems result cursor.new (reading.counted_at reading.end_at cursor.old) }
+    ensures { GivesAt Fails (λ elements. elements.items) result cursor.new (reading.counted_at reading.end_at cursor.old) }
 {
     let count = byte(cursor)?;
     each_end(alloc, count, cursor)
@@ -435,7 +437,7 @@ fn ends(alloc: Global, cursor: &mut Cursor<'_>) -> Result<Vec<End>, XmcFault>
 /// A channel.
 #[tactic(auto, unfolding(crate::specs::Reading::chan_record_at))]
 fn chan(alloc: Global, cursor: &mut Cursor<'_>) -> Result<Chan, XmcFault>
-    ensures { Gives result cursor.new (reading.chan_record_at cursor.old) }
+    ensures { GivesAt Fails (λ value. value) result cursor.new (reading.chan_record_at cursor.old) }
 {
     let kind = kind(cursor)?;
     let length = half_word(cursor)?;
@@ -453,7 +455,7 @@ fn chan(alloc: Global, cursor: &mut Cursor<'_>) -> Result<Chan, XmcFault>
 /// Channels.
 #[tactic(auto, using(crate::proofs::ElementsLemmas::elements_loop))]
 fn each_chan(alloc: Global, count: u8, cursor: &mut Cursor<'_>) -> Result<Vec<Chan>, XmcFault>
-    ensures { GivesItems result cursor.new (reading.elements_at reading.chan_record_at count cursor.old) }
+    ensures { GivesAt Fails (λ elements. elements.items) result cursor.new (reading.elements_at reading.chan_record_at count cursor.old) }
 {
     let mut chans = Vec::new(alloc);
     for _ in 0..count {
@@ -465,7 +467,7 @@ fn each_chan(alloc: Global, count: u8, cursor: &mut Cursor<'_>) -> Result<Vec<Ch
 
 /// Channels.
 fn chans(alloc: Global, cursor: &mut Cursor<'_>) -> Result<Vec<Chan>, XmcFault>
-    ensures { GivesItems result cursor.new (reading.counted_at reading.chan_record_at cursor.old) }
+    ensures { GivesAt Fails (λ elements. elements.items) result cursor.new (reading.counted_at reading.chan_record_at cursor.old) }
 {
     let count = byte(cursor)?;
     each_chan(alloc, count, cursor)
@@ -496,7 +498,7 @@ fn action_of(number: u8) -> Option<Action>
 /// An action.
 #[tactic(auto, unfolding(crate::specs::Reading::action_at))]
 fn action(cursor: &mut Cursor<'_>) -> Result<Action, XmcFault>
-    ensures { Gives result cursor.new (reading.action_at cursor.old) }
+    ensures { GivesAt Fails (λ value. value) result cursor.new (reading.action_at cursor.old) }
 {
     let at = cursor.at();
     let byte = byte(cursor)?;
@@ -509,7 +511,7 @@ fn action(cursor: &mut Cursor<'_>) -> Result<Action, XmcFault>
 /// So many actions as there are places for.
 #[tactic(auto, using(crate::proofs::ElementsLemmas::elements_fill))]
 fn fill(places: &mut [Action], cursor: &mut Cursor<'_>) -> Result<(), XmcFault>
-    ensures { GivesFilled result places.new cursor.new (reading.elements_at reading.action_at (length places.old) cursor.old) }
+    ensures { GivesAt Fails (λ _. places.new) result cursor.new (reading.elements_at reading.action_at (length places.old) cursor.old) }
 {
     for n in 0..places.len() {
         places[n] = action(cursor)?;
@@ -520,7 +522,7 @@ fn fill(places: &mut [Action], cursor: &mut Cursor<'_>) -> Result<(), XmcFault>
 /// A partition's table of health events.
 #[tactic(auto, unfolding(crate::specs::Reading::health_table_at, crate::specs::Reading::event_count))]
 fn monitor(cursor: &mut Cursor<'_>) -> Result<HmTable, XmcFault>
-    ensures { Gives result cursor.new (reading.health_table_at cursor.old) }
+    ensures { GivesAt Fails (λ value. value) result cursor.new (reading.health_table_at cursor.old) }
 {
     let mut actions = [Action::Ignore; 12];
     fill(&mut actions, cursor)?;
@@ -541,7 +543,7 @@ fn console_of(byte: u8) -> Option<u8>
 /// Who a partition is, and what time it requires.
 #[tactic(auto, unfolding(crate::specs::Reading::identity_at))]
 fn identity(cursor: &mut Cursor<'_>) -> Result<Identity, XmcFault>
-    ensures { Gives result cursor.new (reading.identity_at cursor.old) }
+    ensures { GivesAt Fails (λ value. value) result cursor.new (reading.identity_at cursor.old) }
 {
     let name = text(cursor)?;
     let system = flag(cursor)?;
@@ -560,7 +562,7 @@ fn identity(cursor: &mut Cursor<'_>) -> Result<Identity, XmcFault>
 /// A partition.
 #[tactic(auto, unfolding(crate::specs::Reading::part_record_at))]
 fn part(alloc: Global, cursor: &mut Cursor<'_>) -> Result<Part, XmcFault>
-    ensures { Gives result cursor.new (reading.part_record_at cursor.old) }
+    ensures { GivesAt Fails (λ value. value) result cursor.new (reading.part_record_at cursor.old) }
 {
     let identity = identity(cursor)?;
     let hm = monitor(cursor)?;
@@ -581,7 +583,7 @@ fn part(alloc: Global, cursor: &mut Cursor<'_>) -> Result<Part, XmcFault>
 /// Partitions.
 #[tactic(auto, using(crate::proofs::ElementsLemmas::elements_loop))]
 fn each_part(alloc: Global, count: u8, cursor: &mut Cursor<'_>) -> Result<Vec<Part>, XmcFault>
-    ensures { GivesItems result cursor.new (reading.elements_at reading.part_record_at count cursor.old) }
+    ensures { GivesAt Fails (λ elements. elements.items) result cursor.new (reading.elements_at reading.part_record_at count cursor.old) }
 {
     let mut parts = Vec::new(alloc);
     for _ in 0..count {
@@ -593,7 +595,7 @@ fn each_part(alloc: Global, count: u8, cursor: &mut Cursor<'_>) -> Result<Vec<Pa
 
 /// Partitions.
 fn parts(alloc: Global, cursor: &mut Cursor<'_>) -> Result<Vec<Part>, XmcFault>
-    ensures { GivesItems result cursor.new (reading.counted_at reading.part_record_at cursor.old) }
+    ensures { GivesAt Fails (λ elements. elements.items) result cursor.new (reading.counted_at reading.part_record_at cursor.old) }
 {
     let count = byte(cursor)?;
     each_part(alloc, count, cursor)
@@ -602,7 +604,7 @@ fn parts(alloc: Global, cursor: &mut Cursor<'_>) -> Result<Vec<Part>, XmcFault>
 /// A link.
 #[tactic(auto, unfolding(crate::specs::Reading::link_at))]
 fn link(cursor: &mut Cursor<'_>) -> Result<Link, XmcFault>
-    ensures { Gives result cursor.new (reading.link_at cursor.old) }
+    ensures { GivesAt Fails (λ value. value) result cursor.new (reading.link_at cursor.old) }
 {
     let number = byte(cursor)?;
     let source = byte(cursor)?;
@@ -617,7 +619,7 @@ fn link(cursor: &mut Cursor<'_>) -> Result<Link, XmcFault>
 /// Links.
 #[tactic(auto, using(crate::proofs::ElementsLemmas::elements_loop))]
 fn each_link(alloc: Global, count: u8, cursor: &mut Cursor<'_>) -> Result<Vec<Link>, XmcFault>
-    ensures { GivesItems result cursor.new (reading.elements_at reading.link_at count cursor.old) }
+    ensures { GivesAt Fails (λ elements. elements.items) result cursor.new (reading.elements_at reading.link_at count cursor.old) }
 {
     let mut links = Vec::new(alloc);
     for _ in 0..count {
@@ -629,7 +631,7 @@ fn each_link(alloc: Global, count: u8, cursor: &mut Cursor<'_>) -> Result<Vec<Li
 
 /// Links.
 fn counted_links(alloc: Global, cursor: &mut Cursor<'_>) -> Result<Vec<Link>, XmcFault>
-    ensures { GivesItems result cursor.new (reading.counted_at reading.link_at cursor.old) }
+    ensures { GivesAt Fails (λ elements. elements.items) result cursor.new (reading.counted_at reading.link_at cursor.old) }
 {
     let count = byte(cursor)?;
     each_link(alloc, count, cursor)
@@ -637,7 +639,7 @@ fn counted_links(alloc: Global, cursor: &mut Cursor<'_>) -> Result<Vec<Link>, Xm
 
 /// The links, which version 1 does not have.
 fn links(alloc: Global, version: Version, cursor: &mut Cursor<'_>) -> Result<Vec<Link>, XmcFault>
-    ensures { GivesItems result cursor.new (reading.links_at version cursor.old) }
+    ensures { GivesAt Fails (λ elements. elements.items) result cursor.new (reading.links_at version cursor.old) }
 {
     match version {
         Version::One => Ok(Vec::new(alloc)),
@@ -648,7 +650,7 @@ fn links(alloc: Global, version: Version, cursor: &mut Cursor<'_>) -> Result<Vec
 /// What stands after the length of the whole.
 #[tactic(auto, unfolding(crate::specs::Reading::conf_body_at))]
 fn conf(alloc: Global, version: Version, cursor: &mut Cursor<'_>) -> Result<RawConf, XmcFault>
-    ensures { Gives result cursor.new (reading.conf_body_at version cursor.old) }
+    ensures { GivesAt Fails (λ value. value) result cursor.new (reading.conf_body_at version cursor.old) }
 {
     let name = text(cursor)?;
     let regions = regions(alloc, cursor)?;
@@ -670,29 +672,21 @@ fn conf(alloc: Global, version: Version, cursor: &mut Cursor<'_>) -> Result<RawC
     })
 }
 
-/// Whether the first four bytes are those of a configuration.
-fn is_magic(bytes: &[u8]) -> bool
-    ensures { result ≡ bytes_eq bytes.now (codes "XMCF") }
+/// The name of the format.
+#[tactic(auto, unfolding(sealed_files::specs::Heads::magic_at))]
+fn magic(cursor: &mut Cursor<'_>) -> Result<(), XmcFault>
+    ensures { Gives Fails (λ _. cursor.new) result (magic_at reading.conf_short fault.Magic (codes "XMCF") cursor.old) }
 {
-    bytes == b"XMCF".as_slice()
-}
-
-/// The first four bytes.
-#[tactic(auto, unfolding(crate::specs::Reading::magic_at))]
-fn magic(cursor: &mut Cursor<'_>) -> Result<usize, XmcFault>
-    ensures { Gives result cursor.new (reading.magic_at cursor.old) }
-{
-    let bytes = cursor.take(4)?;
-    if is_magic(bytes) {
-        return Ok(4);
+    if cursor.take(4)? != b"XMCF".as_slice() {
+        return Err(XmcFault::Magic);
     }
-    Err(XmcFault::Magic)
+    Ok(())
 }
 
 /// The version, which is the one that is wanted, or either.
-#[tactic(auto, unfolding(crate::specs::Reading::version_at))]
+#[tactic(auto, unfolding(crate::specs::Reading::wanted_version_at))]
 fn version(wanted: Option<Version>, cursor: &mut Cursor<'_>) -> Result<Version, XmcFault>
-    ensures { Gives result cursor.new (reading.version_at wanted cursor.old) }
+    ensures { GivesAt Fails (λ value. value) result cursor.new (reading.wanted_version_at wanted cursor.old) }
 {
     let found = half_word(cursor)?;
     match Version::wanted(wanted, found) {
@@ -706,7 +700,7 @@ fn version(wanted: Option<Version>, cursor: &mut Cursor<'_>) -> Result<Version, 
 #[tactic(auto, unfolding(crate::specs::Reading::head_at))]
 fn head(total: usize, wanted: Option<Version>, cursor: &mut Cursor<'_>) -> Result<Version, XmcFault>
     requires { total ≡ length cursor.old.bytes }
-    ensures { Gives result cursor.new (reading.head_at wanted cursor.old) }
+    ensures { GivesAt Fails (λ value. value) result cursor.new (reading.head_at wanted cursor.old) }
 {
     magic(cursor)?;
     let version = version(wanted, cursor)?;
@@ -717,7 +711,7 @@ fn head(total: usize, wanted: Option<Version>, cursor: &mut Cursor<'_>) -> Resul
 
 /// The bytes are as many as they tell.
 fn is_whole(total: usize, told: u32) -> Result<(), XmcFault>
-    ensures { GivesWhole result (reading.is_whole total told) }
+    ensures { Gives Fails (λ value. value) result (reading.is_whole total told) }
 {
     let length = told as usize;
     if total < length {
@@ -732,7 +726,7 @@ fn is_whole(total: usize, told: u32) -> Result<(), XmcFault>
 /// The other fields of a version, and nothing after them.
 #[tactic(auto, unfolding(crate::specs::Reading::fields_at))]
 fn fields(alloc: Global, version: Version, cursor: &mut Cursor<'_>) -> Result<RawConf, XmcFault>
-    ensures { GivesWhole result (reading.fields_at version cursor.old) }
+    ensures { Gives Fails (λ value. value) result (reading.fields_at version cursor.old) }
 {
     let raw = conf(alloc, version, cursor)?;
     if cursor.left() > 0 {
@@ -743,7 +737,7 @@ fn fields(alloc: Global, version: Version, cursor: &mut Cursor<'_>) -> Result<Ra
 
 /// A configuration, where no rule of a version is broken.
 fn unbroken(version: Version, raw: RawConf) -> Result<Conf, XmcFault>
-    ensures { GivesWhole result (reading.unbroken raw (first_broken (parts_in_version version) (described raw))) }
+    ensures { Gives Fails (λ value. value) result (reading.unbroken raw (first_broken (parts_in_version version) (described raw))) }
 {
     broken_unless_fits();
     match Conf::within(version.parts(), raw) {
@@ -755,7 +749,7 @@ fn unbroken(version: Version, raw: RawConf) -> Result<Conf, XmcFault>
 /// The configuration that these bytes are in the version that is wanted, or in either.
 #[tactic(auto, unfolding(crate::specs::Reading::read_within))]
 fn read_within(alloc: Global, wanted: Option<Version>, bytes: &[u8]) -> Result<Conf, XmcFault>
-    ensures { GivesWhole result (reading.read_within wanted bytes.now) }
+    ensures { Gives Fails (λ conf. conf) result (reading.read_within wanted bytes.now) }
 {
     let mut cursor = Cursor::new(bytes);
     let version = head(bytes.len(), wanted, &mut cursor)?;
@@ -767,7 +761,7 @@ fn read_within(alloc: Global, wanted: Option<Version>, bytes: &[u8]) -> Result<C
 /// the length, then of the other fields from left to right, then a byte that is left, then a broken
 /// rule. `Memory` where there is none.
 pub fn read_xmc(alloc: Global, bytes: &[u8]) -> Result<Conf, XmcFault>
-    ensures exact { GivesWhole result (reading.read_of bytes.now) }
+    ensures exact { Gives Fails (λ conf. conf) result (reading.read_of bytes.now) }
     ensures spelled { IfOk result (λ conf. (v : AVersion) × (bytes.now ≡ xmc v conf)) }
 {
     read_is_spelled();
@@ -776,7 +770,7 @@ pub fn read_xmc(alloc: Global, bytes: &[u8]) -> Result<Conf, XmcFault>
 
 /// The same, where no other version than one is known.
 pub fn read_version(alloc: Global, version: Version, bytes: &[u8]) -> Result<Conf, XmcFault>
-    ensures exact { GivesWhole result (reading.read_as version bytes.now) }
+    ensures exact { Gives Fails (λ conf. conf) result (reading.read_as version bytes.now) }
     ensures spelled { IfOk result (λ conf. bytes.now ≡ xmc version conf) }
 {
     read_is_spelled();
