@@ -1,6 +1,7 @@
 pub mod AnswerLemmas
 pub mod CountLemmas
 pub mod DecidesLemmas
+pub mod FirstLemmas
 pub mod HealthLemmas
 pub mod MeetLemmas
 pub mod RoomLemmas

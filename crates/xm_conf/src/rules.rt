@@ -13,6 +13,7 @@ mod broken;
 mod channels;
 mod counts;
 mod ends;
+mod first;
 mod links;
 mod memory;
 mod names;

@@ -9,6 +9,7 @@ ghost use Rattle.xm_conf.specs.Rules as rules;
 ghost use Rattle.xm_conf.specs.Room.{room_after};
 
 use super::broken::unless;
+use super::first::first_of_each;
 use super::memory::is_paged;
 use crate::item::{Broken, Item};
 use crate::part::{Area, Part};
@@ -32,34 +33,21 @@ fn unsized_area(p: u8, n: u8, area: &Area) -> Option<Broken>
 }
 
 /// The first area of a partition that is not whole pages.
-#[tactic(auto, using(crate::specs::AlongLemmas::each_loop))]
 fn unsized_areas(p: u8, areas: &[Area]) -> Option<Broken>
     requires { length areas.now ≤ 8 }
     ensures { result ≡ head_of (added_by_each (rules.unsized_area p) areas.now) }
 {
-    for (n, area) in areas.iter().enumerate() {
-        let broken = unsized_area(p, n as u8, area);
-        if broken.is_some() {
-            return broken;
-        }
-    }
-    None
+    first_of_each(areas, |n, area| unsized_area(p, n, area))
 }
 
 /// The first area of all that is not whole pages.
-#[tactic(auto, using(crate::specs::AlongLemmas::each_loop), unfolding(crate::specs::Rules::unsized_areas))]
+#[tactic(auto, unfolding(crate::specs::Rules::unsized_areas))]
 fn parts_unsized_areas(parts: &[Part]) -> Option<Broken>
     requires few { length parts.now ≤ most_parts }
     requires areas { All (λ part. length part.areas ≤ 8) parts.now }
     ensures { result ≡ head_of (added_by_each rules.unsized_areas parts.now) }
 {
-    for (n, part) in parts.iter().enumerate() {
-        let broken = unsized_areas(n as u8, &part.areas);
-        if broken.is_some() {
-            return broken;
-        }
-    }
-    None
+    first_of_each(parts, |n, part| unsized_areas(n, &part.areas))
 }
 
 /// Whether a region has all addresses of an area.
@@ -87,34 +75,21 @@ fn outside_area(regions: &[Region], p: u8, n: u8, area: &Area) -> Option<Broken>
 }
 
 /// The first area of a partition that is not inside a region.
-#[tactic(auto, using(crate::specs::AlongLemmas::each_loop))]
 fn outside_areas(regions: &[Region], p: u8, areas: &[Area]) -> Option<Broken>
     requires { length areas.now ≤ 8 }
     ensures { result ≡ head_of (added_by_each (rules.outside_area regions.now p) areas.now) }
 {
-    for (n, area) in areas.iter().enumerate() {
-        let broken = outside_area(regions, p, n as u8, area);
-        if broken.is_some() {
-            return broken;
-        }
-    }
-    None
+    first_of_each(areas, |n, area| outside_area(regions, p, n, area))
 }
 
 /// The first area of all that is not inside a region.
-#[tactic(auto, using(crate::specs::AlongLemmas::each_loop), unfolding(crate::specs::Rules::outside_areas))]
+#[tactic(auto, unfolding(crate::specs::Rules::outside_areas))]
 fn parts_outside_areas(regions: &[Region], parts: &[Part]) -> Option<Broken>
     requires few { length parts.now ≤ most_parts }
     requires areas { All (λ part. length part.areas ≤ 8) parts.now }
     ensures { result ≡ head_of (added_by_each (rules.outside_areas regions.now) parts.now) }
 {
-    for (n, part) in parts.iter().enumerate() {
-        let broken = outside_areas(regions, n as u8, &part.areas);
-        if broken.is_some() {
-            return broken;
-        }
-    }
-    None
+    first_of_each(parts, |n, part| outside_areas(regions, n, &part.areas))
 }
 
 /// What is left of a room for bytes after these areas, or `None` where they have more.

@@ -7,6 +7,7 @@ ghost use Rattle.xm_conf.specs.Limits.{most_dests};
 ghost use Rattle.xm_conf.specs.Rules as rules;
 
 use super::broken::unless;
+use super::first::first_of_each;
 use crate::channel::{Chan, ChanKind, End};
 use crate::item::{Broken, Item};
 use crate::part::Part;
@@ -39,18 +40,11 @@ fn unfit_chan(n: u8, chan: &Chan) -> Option<Broken>
 }
 
 /// The first channel with messages or destinations that are none.
-#[tactic(auto, using(crate::specs::AlongLemmas::each_loop))]
 fn unfit_chans(chans: &[Chan]) -> Option<Broken>
     requires { length chans.now ≤ 64 }
     ensures { result ≡ head_of (added_by_each rules.unfit_chan chans.now) }
 {
-    for (n, chan) in chans.iter().enumerate() {
-        let broken = unfit_chan(n as u8, chan);
-        if broken.is_some() {
-            return broken;
-        }
-    }
-    None
+    first_of_each(chans, |n, chan| unfit_chan(n, chan))
 }
 
 /// A partition's port.
@@ -89,18 +83,11 @@ fn stray_dest(parts: &[Part], c: u8, n: u8, end: &End) -> Option<Broken>
 }
 
 /// The first destination that is no port.
-#[tactic(auto, using(crate::specs::AlongLemmas::each_loop))]
 fn stray_dests(parts: &[Part], c: u8, dests: &[End]) -> Option<Broken>
     requires { length dests.now ≤ most_dests }
     ensures { result ≡ head_of (added_by_each (rules.stray_dest parts.now c) dests.now) }
 {
-    for (n, end) in dests.iter().enumerate() {
-        let broken = stray_dest(parts, c, n as u8, end);
-        if broken.is_some() {
-            return broken;
-        }
-    }
-    None
+    first_of_each(dests, |n, end| stray_dest(parts, c, n, end))
 }
 
 /// The first end of a channel that is no port.
@@ -117,19 +104,12 @@ fn stray_ends(parts: &[Part], c: u8, chan: &Chan) -> Option<Broken>
 }
 
 /// The first end of all channels that is no port.
-#[tactic(auto, using(crate::specs::AlongLemmas::each_loop))]
 fn chans_stray_ends(parts: &[Part], chans: &[Chan]) -> Option<Broken>
     requires few { length chans.now ≤ 64 }
     requires dests { All (λ chan. length chan.dests ≤ most_dests) chans.now }
     ensures { result ≡ head_of (added_by_each (rules.stray_ends parts.now) chans.now) }
 {
-    for (n, chan) in chans.iter().enumerate() {
-        let broken = stray_ends(parts, n as u8, chan);
-        if broken.is_some() {
-            return broken;
-        }
-    }
-    None
+    first_of_each(chans, |n, chan| stray_ends(parts, n, chan))
 }
 
 /// Whether a port's kind is the channel's.
@@ -191,18 +171,11 @@ fn wrong_dest(parts: &[Part], kind: ChanKind, c: u8, n: u8, end: &End) -> Option
 }
 
 /// The first destination whose port is of another kind or way.
-#[tactic(auto, using(crate::specs::AlongLemmas::each_loop))]
 fn wrong_dests(parts: &[Part], kind: ChanKind, c: u8, dests: &[End]) -> Option<Broken>
     requires { length dests.now ≤ most_dests }
     ensures { result ≡ head_of (added_by_each (rules.wrong_dest parts.now kind c) dests.now) }
 {
-    for (n, end) in dests.iter().enumerate() {
-        let broken = wrong_dest(parts, kind, c, n as u8, end);
-        if broken.is_some() {
-            return broken;
-        }
-    }
-    None
+    first_of_each(dests, |n, end| wrong_dest(parts, kind, c, n, end))
 }
 
 /// The first end of a channel whose port is of another kind or way.
@@ -219,19 +192,12 @@ fn wrong_ends(parts: &[Part], c: u8, chan: &Chan) -> Option<Broken>
 }
 
 /// The first end of all channels whose port is of another kind or way.
-#[tactic(auto, using(crate::specs::AlongLemmas::each_loop))]
 fn chans_wrong_ends(parts: &[Part], chans: &[Chan]) -> Option<Broken>
     requires few { length chans.now ≤ 64 }
     requires dests { All (λ chan. length chan.dests ≤ most_dests) chans.now }
     ensures { result ≡ head_of (added_by_each (rules.wrong_ends parts.now) chans.now) }
 {
-    for (n, chan) in chans.iter().enumerate() {
-        let broken = wrong_ends(parts, n as u8, chan);
-        if broken.is_some() {
-            return broken;
-        }
-    }
-    None
+    first_of_each(chans, |n, chan| wrong_ends(parts, n, chan))
 }
 
 /// The first channel with messages or destinations that are none.

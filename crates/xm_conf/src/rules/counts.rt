@@ -7,6 +7,7 @@ ghost use Rattle.xm_conf.specs.Along.{added_by_each, head_of};
 ghost use Rattle.xm_conf.specs.Rules as rules;
 
 use super::broken::unless;
+use super::first::first_of_each;
 use crate::channel::{Chan, ChanKind};
 use crate::item::{Broken, Item};
 use crate::limits::{DESTS, LINKS};
@@ -63,17 +64,10 @@ fn plan_counts(n: u8, plan: &Plan) -> Option<Broken>
 }
 
 /// The first plan past the limit, or with too few or too many slots.
-#[tactic(auto, using(crate::specs::AlongLemmas::each_loop))]
 fn plans_counts(plans: &[Plan]) -> Option<Broken>
     ensures { result ≡ head_of (added_by_each rules.plan_counts plans.now) }
 {
-    for (n, plan) in plans.iter().enumerate() {
-        let broken = plan_counts(n as u8, plan);
-        if broken.is_some() {
-            return broken;
-        }
-    }
-    None
+    first_of_each(plans, |n, plan| plan_counts(n, plan))
 }
 
 /// A partition past so many, and too few or too many areas and ports.
@@ -92,17 +86,10 @@ fn part_counts(most: u8, n: u8, part: &Part) -> Option<Broken>
 }
 
 /// The first partition past so many, or with too few or too many areas and ports.
-#[tactic(auto, using(crate::specs::AlongLemmas::each_loop))]
 fn parts_counts(most: u8, parts: &[Part]) -> Option<Broken>
     ensures { result ≡ head_of (added_by_each (rules.part_counts most) parts.now) }
 {
-    for (n, part) in parts.iter().enumerate() {
-        let broken = part_counts(most, n as u8, part);
-        if broken.is_some() {
-            return broken;
-        }
-    }
-    None
+    first_of_each(parts, |n, part| part_counts(most, n, part))
 }
 
 /// A channel past the limit, and the destination past the limit of a sampling channel.
@@ -121,17 +108,10 @@ fn chan_counts(n: u8, chan: &Chan) -> Option<Broken>
 }
 
 /// The first channel past the limit, or with a destination past the limit.
-#[tactic(auto, using(crate::specs::AlongLemmas::each_loop))]
 fn chans_counts(chans: &[Chan]) -> Option<Broken>
     ensures { result ≡ head_of (added_by_each rules.chan_counts chans.now) }
 {
-    for (n, chan) in chans.iter().enumerate() {
-        let broken = chan_counts(n as u8, chan);
-        if broken.is_some() {
-            return broken;
-        }
-    }
-    None
+    first_of_each(chans, |n, chan| chan_counts(n, chan))
 }
 
 /// The first item that is missing, or past its limit, where so many partitions are the most.

@@ -10,6 +10,7 @@ ghost use Rattle.xm_conf.specs.Walks as walks;
 ghost use Rattle.xm_conf.specs.declared.item.Item.TheVariants as item;
 
 use super::broken::beside;
+use super::first::{first_along, first_of_each};
 use crate::channel::{Chan, End};
 use crate::item::{Broken, Item};
 use crate::raw::RawConf;
@@ -67,19 +68,12 @@ fn chan_hit(at: &End, c: u8, chan: &Chan) -> Option<Item>
 }
 
 /// The first end of all channels that is one port with an end.
-#[tactic(auto, using(crate::specs::AlongLemmas::each_loop))]
 fn chans_hit(at: &End, chans: &[Chan]) -> Option<Item>
     requires few { length chans.now ≤ 64 }
     requires dests { All (λ chan. length chan.dests ≤ most_dests) chans.now }
     ensures { result ≡ head_of (added_by_each (walks.chan_hits at.now) chans.now) }
 {
-    for (n, chan) in chans.iter().enumerate() {
-        let broken = chan_hit(at, n as u8, chan);
-        if broken.is_some() {
-            return broken;
-        }
-    }
-    None
+    first_of_each(chans, |n, chan| chan_hit(at, n, chan))
 }
 
 /// The first end that stands before a destination and is one port with an end.
@@ -115,20 +109,16 @@ fn dest_meets(chans: &[Chan], source: &End, before: &[End], dest: &End) -> Optio
 }
 
 /// The first destination of a channel that is a port of an end before it.
-#[tactic(auto, using(crate::specs::AlongLemmas::along_loop))]
 fn dests_meet(chans: &[Chan], source: &End, dests: &[End]) -> Option<Broken>
     requires few { length chans.now ≤ 64 }
     requires dests { All (λ chan. length chan.dests ≤ most_dests) chans.now }
     requires next { length dests.now ≤ most_dests }
     ensures { result ≡ head_of (along (walks.dest_meets (walks.before_dests chans.now source.now) (length chans.now)) dests.now) }
 {
-    for (n, dest) in dests.iter().enumerate() {
-        let broken = dest_meets(chans, source, &dests[..n], dest);
-        if broken.is_some() {
-            return broken;
-        }
-    }
-    None
+    first_along(
+        dests,
+        |before, dest| dest_meets(chans, source, before, dest),
+    )
 }
 
 /// A source that is a port of an end before it.
@@ -160,19 +150,12 @@ fn chan_meets(before: &[Chan], chan: &Chan) -> Option<Broken>
 }
 
 /// The first end of all channels that is a port of an end before it.
-#[tactic(auto, using(crate::specs::AlongLemmas::along_loop))]
 fn chans_meet(chans: &[Chan]) -> Option<Broken>
     requires few { length chans.now ≤ 64 }
     requires dests { All (λ chan. length chan.dests ≤ most_dests) chans.now }
     ensures { result ≡ head_of (along walks.chan_meets chans.now) }
 {
-    for (n, chan) in chans.iter().enumerate() {
-        let broken = chan_meets(&chans[..n], chan);
-        if broken.is_some() {
-            return broken;
-        }
-    }
-    None
+    first_along(chans, |before, chan| chan_meets(before, chan))
 }
 
 /// The first end of all channels that is a port of an end before it.

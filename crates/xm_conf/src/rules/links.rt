@@ -9,6 +9,7 @@ ghost use Rattle.xm_conf.specs.Rules as rules;
 ghost use Rattle.xm_conf.specs.declared.item.Item.TheVariants as item;
 
 use super::broken::{beside, unless};
+use super::first::{first_along, first_of_each};
 use crate::item::{Broken, Item};
 use crate::limits::LINK_NUMBERS;
 use crate::link::Link;
@@ -41,18 +42,11 @@ fn unfit_link(parts: usize, n: u8, link: &Link) -> Option<Broken>
 }
 
 /// The first link that may not stand.
-#[tactic(auto, using(crate::specs::AlongLemmas::each_loop))]
 fn unfit_links(parts: usize, links: &[Link]) -> Option<Broken>
     requires { length links.now ≤ most_links }
     ensures { result ≡ head_of (added_by_each (rules.unfit_link parts) links.now) }
 {
-    for (n, link) in links.iter().enumerate() {
-        let broken = unfit_link(parts, n as u8, link);
-        if broken.is_some() {
-            return broken;
-        }
-    }
-    None
+    first_of_each(links, |n, link| unfit_link(parts, n, link))
 }
 
 /// Whether two links have the same source and number.
@@ -84,18 +78,11 @@ fn repeated_link(before: &[Link], link: &Link) -> Option<Broken>
 }
 
 /// The first link with an earlier one's source and number.
-#[tactic(auto, using(crate::specs::AlongLemmas::along_loop))]
 fn repeated_links(links: &[Link]) -> Option<Broken>
     requires { length links.now ≤ most_links }
     ensures { result ≡ head_of (along (rules.repeated 22 item.Link rules.same_link) links.now) }
 {
-    for (n, link) in links.iter().enumerate() {
-        let broken = repeated_link(&links[..n], link);
-        if broken.is_some() {
-            return broken;
-        }
-    }
-    None
+    first_along(links, |before, link| repeated_link(before, link))
 }
 
 /// The first link that may not stand.

@@ -8,6 +8,7 @@ ghost use Rattle.xm_conf.specs.Rules as rules;
 ghost use Rattle.xm_conf.specs.declared.item.Item.TheVariants as item;
 
 use super::broken::{beside, unless};
+use super::first::{first_along, first_of_each};
 use crate::item::{Broken, Item};
 use crate::raw::{RawConf, Region};
 
@@ -52,18 +53,11 @@ fn unsized_region(n: u8, region: &Region) -> Option<Broken>
 }
 
 /// The first region that is not whole pages.
-#[tactic(auto, using(crate::specs::AlongLemmas::each_loop))]
 fn unsized_regions(regions: &[Region]) -> Option<Broken>
     requires { length regions.now ≤ 8 }
     ensures { result ≡ head_of (added_by_each rules.unsized_region regions.now) }
 {
-    for (n, region) in regions.iter().enumerate() {
-        let broken = unsized_region(n as u8, region);
-        if broken.is_some() {
-            return broken;
-        }
-    }
-    None
+    first_of_each(regions, |n, region| unsized_region(n, region))
 }
 
 /// The number of the first region that overlaps this one.
@@ -87,18 +81,11 @@ fn overlapping_region(before: &[Region], region: &Region) -> Option<Broken>
 }
 
 /// The first region that overlaps an earlier one.
-#[tactic(auto, using(crate::specs::AlongLemmas::along_loop))]
 fn overlapping_regions(regions: &[Region]) -> Option<Broken>
     requires { length regions.now ≤ 8 }
     ensures { result ≡ head_of (along (rules.repeated 5 item.Region rules.overlaps) regions.now) }
 {
-    for (n, region) in regions.iter().enumerate() {
-        let broken = overlapping_region(&regions[..n], region);
-        if broken.is_some() {
-            return broken;
-        }
-    }
-    None
+    first_along(regions, |before, region| overlapping_region(before, region))
 }
 
 /// Whether a size is at most that of region 0.

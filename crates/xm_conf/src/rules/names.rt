@@ -10,6 +10,7 @@ ghost use Rattle.xm_conf.specs.Rules as rules;
 ghost use Rattle.xm_conf.specs.declared.item.Item.TheVariants as item;
 
 use super::broken::beside;
+use super::first::first_along;
 use crate::item::{Broken, Item};
 use crate::name::Name;
 use crate::part::Part;
@@ -37,18 +38,11 @@ fn uart_name(before: &[Name], name: &Name) -> Option<Broken>
 }
 
 /// The first UART with an earlier one's name.
-#[tactic(auto, using(crate::specs::AlongLemmas::along_loop))]
 fn uart_names(uarts: &[Name]) -> Option<Broken>
     requires { length uarts.now ≤ 8 }
     ensures { result ≡ head_of (along (rules.repeated 3 item.Uart bytes_eq) uarts.now) }
 {
-    for (n, name) in uarts.iter().enumerate() {
-        let broken = uart_name(&uarts[..n], name);
-        if broken.is_some() {
-            return broken;
-        }
-    }
-    None
+    first_along(uarts, |before, name| uart_name(before, name))
 }
 
 /// Whether two ports have one name.
@@ -79,18 +73,11 @@ fn port_name(p: u8, before: &[Port], port: &Port) -> Option<Broken>
 }
 
 /// The first port of a partition with an earlier one's name.
-#[tactic(auto, using(crate::specs::AlongLemmas::along_loop))]
 fn port_names(p: u8, ports: &[Port]) -> Option<Broken>
     requires { length ports.now ≤ 32 }
     ensures { result ≡ head_of (along (rules.repeated 3 (item.Port p) rules.same_port) ports.now) }
 {
-    for (n, port) in ports.iter().enumerate() {
-        let broken = port_name(p, &ports[..n], port);
-        if broken.is_some() {
-            return broken;
-        }
-    }
-    None
+    first_along(ports, |before, port| port_name(p, before, port))
 }
 
 /// Whether two partitions have one name.
@@ -135,19 +122,12 @@ fn part_names(before: &[Part], part: &Part) -> Option<Broken>
 }
 
 /// The first partition or port with an earlier one's name.
-#[tactic(auto, using(crate::specs::AlongLemmas::along_loop))]
 fn parts_names(parts: &[Part]) -> Option<Broken>
     requires few { length parts.now ≤ most_parts }
     requires ports { All (λ part. length part.ports ≤ 32) parts.now }
     ensures { result ≡ head_of (along rules.part_names parts.now) }
 {
-    for (n, part) in parts.iter().enumerate() {
-        let broken = part_names(&parts[..n], part);
-        if broken.is_some() {
-            return broken;
-        }
-    }
-    None
+    first_along(parts, |before, part| part_names(before, part))
 }
 
 /// The first UART, partition or port with an earlier one's name.

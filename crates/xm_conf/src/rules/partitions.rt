@@ -10,6 +10,7 @@ ghost use Rattle.xm_conf.specs.declared.item.Item.TheVariants as item;
 ghost use Rattle.xm_conf.specs.Description.{event_numbered, monitor_of};
 
 use super::broken::unless;
+use super::first::first_of_each;
 use crate::health::{Action, EVENTS, Event, allowed};
 use crate::item::{Broken, Item};
 use crate::part::{HmTable, Need, Part};
@@ -38,18 +39,11 @@ fn no_console(uarts: usize, n: u8, part: &Part) -> Option<Broken>
 }
 
 /// The first partition whose console is no UART.
-#[tactic(auto, using(crate::specs::AlongLemmas::each_loop))]
 fn parts_no_console(uarts: usize, parts: &[Part]) -> Option<Broken>
     requires { length parts.now ≤ most_parts }
     ensures { result ≡ head_of (added_by_each (rules.no_console uarts) parts.now) }
 {
-    for (n, part) in parts.iter().enumerate() {
-        let broken = no_console(uarts, n as u8, part);
-        if broken.is_some() {
-            return broken;
-        }
-    }
-    None
+    first_of_each(parts, |n, part| no_console(uarts, n, part))
 }
 
 /// Whether a requirement, where there is one, is a time in a period.
@@ -74,18 +68,11 @@ fn unfit_need(n: u8, part: &Part) -> Option<Broken>
 }
 
 /// The first partition whose requirement is none.
-#[tactic(auto, using(crate::specs::AlongLemmas::each_loop))]
 fn unfit_needs(parts: &[Part]) -> Option<Broken>
     requires { length parts.now ≤ most_parts }
     ensures { result ≡ head_of (added_by_each rules.unfit_need parts.now) }
 {
-    for (n, part) in parts.iter().enumerate() {
-        let broken = unfit_need(n as u8, part);
-        if broken.is_some() {
-            return broken;
-        }
-    }
-    None
+    first_of_each(parts, |n, part| unfit_need(n, part))
 }
 
 /// The event of a number.
@@ -129,18 +116,11 @@ fn action_broken(plans: usize, p: u8, n: u8, action: Action) -> Option<Broken>
 }
 
 /// The first of the actions of a partition that is not allowed, or whose plan is none.
-#[tactic(auto, using(crate::specs::AlongLemmas::each_loop))]
 fn actions_broken(plans: usize, p: u8, actions: &[Action]) -> Option<Broken>
     requires { length actions.now ≤ 12 }
     ensures { result ≡ head_of (added_by_each (walks.action_broken plans p) actions.now) }
 {
-    for (n, action) in actions.iter().enumerate() {
-        let broken = action_broken(plans, p, n as u8, *action);
-        if broken.is_some() {
-            return broken;
-        }
-    }
-    None
+    first_of_each(actions, |n, action| action_broken(plans, p, n, *action))
 }
 
 /// A table that logs an event that is none, or the first of its actions that may not stand.
@@ -165,18 +145,11 @@ fn part_monitor(plans: usize, p: u8, part: &Part) -> Option<Broken>
 }
 
 /// The first partition or action that breaks the rule on health events.
-#[tactic(auto, using(crate::specs::AlongLemmas::each_loop))]
 fn parts_monitors(plans: usize, parts: &[Part]) -> Option<Broken>
     requires { length parts.now ≤ most_parts }
     ensures { result ≡ head_of (added_by_each (walks.part_monitor plans) parts.now) }
 {
-    for (n, part) in parts.iter().enumerate() {
-        let broken = part_monitor(plans, n as u8, part);
-        if broken.is_some() {
-            return broken;
-        }
-    }
-    None
+    first_of_each(parts, |n, part| part_monitor(plans, n, part))
 }
 
 /// The first partition whose console is no UART.

@@ -6,6 +6,7 @@ ghost use Rattle.xm_conf.specs.Fits.{HasCounts};
 ghost use Rattle.xm_conf.specs.Rules as rules;
 
 use super::broken::{unless, unless_by};
+use super::first::{first_along, first_of_each};
 use crate::item::{Broken, Item};
 use crate::plan::{Plan, Slot};
 use crate::raw::RawConf;
@@ -38,18 +39,11 @@ fn late_slot(p: u8, frame: u32, n: u8, slot: &Slot) -> Option<Broken>
 }
 
 /// The first slot that does not last, or ends after the frame.
-#[tactic(auto, using(crate::specs::AlongLemmas::each_loop))]
 fn late_slots(p: u8, frame: u32, slots: &[Slot]) -> Option<Broken>
     requires { length slots.now ≤ 64 }
     ensures { result ≡ head_of (added_by_each (rules.late_slot p frame) slots.now) }
 {
-    for (n, slot) in slots.iter().enumerate() {
-        let broken = late_slot(p, frame, n as u8, slot);
-        if broken.is_some() {
-            return broken;
-        }
-    }
-    None
+    first_of_each(slots, |n, slot| late_slot(p, frame, n, slot))
 }
 
 /// A plan whose frame is too short or too long, or its first slot that does not fit into it.
@@ -65,19 +59,12 @@ fn frame_broken(p: u8, plan: &Plan) -> Option<Broken>
 }
 
 /// The first plan or slot that breaks rule 11.
-#[tactic(auto, using(crate::specs::AlongLemmas::each_loop))]
 fn frames_broken(plans: &[Plan]) -> Option<Broken>
     requires few { length plans.now ≤ 8 }
     requires slots { All (λ plan. length plan.slots ≤ 64) plans.now }
     ensures { result ≡ head_of (added_by_each rules.frame_broken plans.now) }
 {
-    for (n, plan) in plans.iter().enumerate() {
-        let broken = frame_broken(n as u8, plan);
-        if broken.is_some() {
-            return broken;
-        }
-    }
-    None
+    first_of_each(plans, |n, plan| frame_broken(n, plan))
 }
 
 /// Whether a slot starts at or after the end of an earlier one.
@@ -110,34 +97,21 @@ fn early_slot(p: u8, before: &[Slot], slot: &Slot) -> Option<Broken>
 }
 
 /// The first slot that starts before the end of the one before it.
-#[tactic(auto, using(crate::specs::AlongLemmas::along_loop))]
 fn early_slots(p: u8, slots: &[Slot]) -> Option<Broken>
     requires { length slots.now ≤ 64 }
     ensures { result ≡ head_of (along (rules.early_slot p) slots.now) }
 {
-    for (n, slot) in slots.iter().enumerate() {
-        let broken = early_slot(p, &slots[..n], slot);
-        if broken.is_some() {
-            return broken;
-        }
-    }
-    None
+    first_along(slots, |before, slot| early_slot(p, before, slot))
 }
 
 /// The first slot of all plans that starts too early.
-#[tactic(auto, using(crate::specs::AlongLemmas::each_loop), unfolding(crate::specs::Rules::early_slots))]
+#[tactic(auto, unfolding(crate::specs::Rules::early_slots))]
 fn plans_early_slots(plans: &[Plan]) -> Option<Broken>
     requires few { length plans.now ≤ 8 }
     requires slots { All (λ plan. length plan.slots ≤ 64) plans.now }
     ensures { result ≡ head_of (added_by_each rules.early_slots plans.now) }
 {
-    for (n, plan) in plans.iter().enumerate() {
-        let broken = early_slots(n as u8, &plan.slots);
-        if broken.is_some() {
-            return broken;
-        }
-    }
-    None
+    first_of_each(plans, |n, plan| early_slots(n, &plan.slots))
 }
 
 /// A slot whose partition is none.
@@ -149,34 +123,21 @@ fn stray_slot(parts: usize, p: u8, n: u8, slot: &Slot) -> Option<Broken>
 }
 
 /// The first slot of a plan whose partition is none.
-#[tactic(auto, using(crate::specs::AlongLemmas::each_loop))]
 fn stray_slots(parts: usize, p: u8, slots: &[Slot]) -> Option<Broken>
     requires { length slots.now ≤ 64 }
     ensures { result ≡ head_of (added_by_each (rules.stray_slot parts p) slots.now) }
 {
-    for (n, slot) in slots.iter().enumerate() {
-        let broken = stray_slot(parts, p, n as u8, slot);
-        if broken.is_some() {
-            return broken;
-        }
-    }
-    None
+    first_of_each(slots, |n, slot| stray_slot(parts, p, n, slot))
 }
 
 /// The first slot of all plans whose partition is none.
-#[tactic(auto, using(crate::specs::AlongLemmas::each_loop), unfolding(crate::specs::Rules::stray_slots))]
+#[tactic(auto, unfolding(crate::specs::Rules::stray_slots))]
 fn plans_stray_slots(parts: usize, plans: &[Plan]) -> Option<Broken>
     requires few { length plans.now ≤ 8 }
     requires slots { All (λ plan. length plan.slots ≤ 64) plans.now }
     ensures { result ≡ head_of (added_by_each (rules.stray_slots parts) plans.now) }
 {
-    for (n, plan) in plans.iter().enumerate() {
-        let broken = stray_slots(parts, n as u8, &plan.slots);
-        if broken.is_some() {
-            return broken;
-        }
-    }
-    None
+    first_of_each(plans, |n, plan| stray_slots(parts, n, &plan.slots))
 }
 
 /// The first plan or slot whose time does not fit.

@@ -9,6 +9,7 @@ ghost use Rattle.xm_conf.specs.Rules as rules;
 ghost use Rattle.xm_conf.specs.Walks as walks;
 
 use super::broken::beside;
+use super::first::{first_along, first_of_each};
 use super::memory::overlaps;
 use crate::item::{Broken, Item};
 use crate::part::{Area, Part};
@@ -75,19 +76,12 @@ fn area_hit(at: &Region, p: u8, areas: &[Area]) -> Option<Item>
 }
 
 /// The first area of all partitions that overlaps a stretch.
-#[tactic(auto, using(crate::specs::AlongLemmas::each_loop))]
 fn parts_hit(at: &Region, parts: &[Part]) -> Option<Item>
     requires few { length parts.now ≤ most_parts }
     requires areas { All (λ part. length part.areas ≤ 8) parts.now }
     ensures { result ≡ head_of (added_by_each (walks.part_hits at.now) parts.now) }
 {
-    for (n, part) in parts.iter().enumerate() {
-        let broken = part_hit(at, n as u8, part);
-        if broken.is_some() {
-            return broken;
-        }
-    }
-    None
+    first_of_each(parts, |n, part| part_hit(at, n, part))
 }
 
 /// The first area of a partition that overlaps a stretch.
@@ -131,20 +125,13 @@ fn area_meets(whole: Option<Region>, parts: &[Part], before: &[Area], area: &Are
 }
 
 /// The first area of a partition that overlaps one before it.
-#[tactic(auto, using(crate::specs::AlongLemmas::along_loop))]
 fn areas_meet(whole: Option<Region>, parts: &[Part], areas: &[Area]) -> Option<Broken>
     requires few { length parts.now ≤ most_parts }
     requires areas { All (λ part. length part.areas ≤ 8) parts.now }
     requires next { length areas.now ≤ 8 }
     ensures { result ≡ head_of (along (walks.area_meets (rules.whole_stretch whole ++ added_by_each rules.part_stretches parts.now) (length parts.now)) areas.now) }
 {
-    for (n, area) in areas.iter().enumerate() {
-        let broken = area_meets(whole, parts, &areas[..n], area);
-        if broken.is_some() {
-            return broken;
-        }
-    }
-    None
+    first_along(areas, |before, area| area_meets(whole, parts, before, area))
 }
 
 /// The first area of a partition that overlaps one before it.
@@ -159,19 +146,12 @@ fn part_meets(whole: Option<Region>, before: &[Part], part: &Part) -> Option<Bro
 }
 
 /// The first area of all partitions that overlaps one before it.
-#[tactic(auto, using(crate::specs::AlongLemmas::along_loop))]
 fn parts_meet(whole: Option<Region>, parts: &[Part]) -> Option<Broken>
     requires few { length parts.now ≤ most_parts }
     requires areas { All (λ part. length part.areas ≤ 8) parts.now }
     ensures { result ≡ head_of (along (walks.part_meets whole) parts.now) }
 {
-    for (n, part) in parts.iter().enumerate() {
-        let broken = part_meets(whole, &parts[..n], part);
-        if broken.is_some() {
-            return broken;
-        }
-    }
-    None
+    first_along(parts, |before, part| part_meets(whole, before, part))
 }
 
 /// The first area of all that overlaps the hypervisor or an area before it.

@@ -1,7 +1,0 @@
-use Rattle.std.proofs.Common.{◌≡◌, drop}
-use Rattle.xm_conf.specs.Along.{added_by_each, each_from, head_of}
-use Rattle.xm_conf.specs.Rules as rules
-use Rattle.xm_conf.proofs.rules.areas.outside_areas.Given as goal
-
-abbrev pub invariant-loop-n : goal.invariant-loop-n
-invariant-loop-n l = head_of (each_from (rules.outside_area l.regions l.p) l.n (drop l.n l.areas)) ≡ head_of (added_by_each (rules.outside_area l.regions l.p) l.areas)

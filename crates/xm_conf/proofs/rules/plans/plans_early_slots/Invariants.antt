@@ -1,7 +1,0 @@
-use Rattle.std.proofs.Common.{◌≡◌, drop}
-use Rattle.xm_conf.specs.Along.{added_by_each, each_from, head_of}
-use Rattle.xm_conf.specs.Rules as rules
-use Rattle.xm_conf.proofs.rules.plans.plans_early_slots.Given as goal
-
-abbrev pub invariant-loop-n : goal.invariant-loop-n
-invariant-loop-n l = head_of (each_from rules.early_slots l.n (drop l.n l.plans)) ≡ head_of (added_by_each rules.early_slots l.plans)
