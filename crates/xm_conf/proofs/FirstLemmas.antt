@@ -1,7 +1,8 @@
 -- What the items of a list add beside those before them, as what they add by their numbers.
-use Rattle.std.proofs.Common.{◌≡◌, List, [], ◌∷◌, ◌++◌, length, take, refl, sym, ap, ◌∙◌}
+use Rattle.std.proofs.Common.{◌≡◌, ℕ, ◌+◌, Bool, true, false, if◌then◌else◌, List, [], ◌∷◌, ◌++◌, length, take, Some, refl, sym, ap, ◌∙◌}
 use Rattle.std.proofs.lemmas.List.{length_push}
-use Rattle.xm_conf.specs.Along.{along, along_from, added_by_each, each_from}
+use Rattle.std.specs.List.{position_from}
+use Rattle.xm_conf.specs.Along.{head_of, along, along_from, added_by_each, each_from}
 
 -- the first of two lists is that many of both
 take_first : {X : Type 0} (a b : List X) → take (length a) (a ++ b) ≡ a
@@ -25,3 +26,13 @@ along_each_from f all before (x ∷ rest) split =
 -- and of the whole list
 pub along_each : {X Y : Type 0} (f : List X → X → List Y) (xs : List X) → along f xs ≡ added_by_each (λ n x. f (take n xs) x) xs
 along_each f xs = along_each_from f xs [] xs refl
+
+-- the number of the first item that passes a test is the first of what the items add that pass it
+pub position_each : {X : Type 0} (test : X → Bool) (n : ℕ) (xs : List X) → position_from test n xs ≡ head_of (each_from (λ m x. if test x then m ∷ [] else []) n xs)
+position_each test n [] = refl
+position_each test n (x ∷ xs) = at (test x) (position_each test (n + 1) xs)
+  where
+    at : (b : Bool) → position_from test (n + 1) xs ≡ head_of (each_from (λ m y. if test y then m ∷ [] else []) (n + 1) xs)
+        → (if b then Some n else position_from test (n + 1) xs) ≡ head_of ((if b then n ∷ [] else []) ++ each_from (λ m y. if test y then m ∷ [] else []) (n + 1) xs)
+    at true later = refl
+    at false later = later

@@ -3,6 +3,7 @@
 ghost use Rattle.std.specs.Prelude.{◌≡◌, ◌<◌};
 ghost use Rattle.std.specs.Str.{bytes_eq};
 ghost use Rattle.xm_conf.specs.Health.{IsActionNamed, IsEventNamed, action_named, action_row, default_action, event_named, event_row, is_allowed};
+ghost use Rattle.xm_conf.specs.Rules as rules;
 
 /// What can go wrong in a partition.
 #[derive(Clone, Copy, Debug, PartialEq, Eq)]
@@ -232,5 +233,24 @@ pub fn allowed(event: Event, action: Action) -> bool
         | Action::HypervisorWarmReset
         | Action::HypervisorHalt
         | Action::SwitchToMaintenance => true,
+    }
+}
+
+/// Whether an action has its plan, where there are so many plans.
+pub fn has_plan(plans: usize, action: Action) -> bool
+    ensures { result ≡ rules.has_plan plans action }
+{
+    match action {
+        Action::Ignore
+        | Action::Shutdown
+        | Action::PartitionColdReset
+        | Action::PartitionWarmReset
+        | Action::Suspend
+        | Action::Halt
+        | Action::Propagate
+        | Action::HypervisorColdReset
+        | Action::HypervisorWarmReset
+        | Action::HypervisorHalt => true,
+        Action::SwitchToMaintenance => 1 < plans,
     }
 }

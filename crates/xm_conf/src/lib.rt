@@ -3,6 +3,7 @@
 
 mod channel;
 mod conf;
+mod first;
 mod health;
 mod item;
 mod law;
@@ -17,7 +18,8 @@ mod rules;
 
 pub use channel::{Chan, ChanKind, End};
 pub use conf::{Conf, Seen};
-pub use health::{Action, EVENTS, Event, allowed};
+pub use first::{first_along, first_of_each};
+pub use health::{Action, EVENTS, Event, allowed, has_plan};
 pub use item::{Broken, Item};
 pub use law::broken_unless_fits;
 pub use limits::{DESTS, LINK_NUMBERS, LINKS, PARTS, PARTS_1};
@@ -27,3 +29,4 @@ pub use part::{Area, HmTable, Need, Part};
 pub use plan::{Plan, Slot};
 pub use port::{Kind, Port, Way};
 pub use raw::{RawConf, Region};
+pub use rules::repeated;

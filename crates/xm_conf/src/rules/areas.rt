@@ -9,8 +9,8 @@ ghost use Rattle.xm_conf.specs.Rules as rules;
 ghost use Rattle.xm_conf.specs.Room.{room_after};
 
 use super::broken::unless;
-use super::first::first_of_each;
 use super::memory::is_paged;
+use crate::first::first_of_each;
 use crate::item::{Broken, Item};
 use crate::part::{Area, Part};
 use crate::raw::{RawConf, Region};

@@ -7,8 +7,8 @@ ghost use Rattle.xm_conf.specs.Limits.{most_dests};
 ghost use Rattle.xm_conf.specs.Rules as rules;
 
 use super::broken::unless;
-use super::first::first_of_each;
 use crate::channel::{Chan, ChanKind, End};
+use crate::first::first_of_each;
 use crate::item::{Broken, Item};
 use crate::part::Part;
 use crate::port::{Kind, Port, Way};

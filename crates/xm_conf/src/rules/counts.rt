@@ -7,8 +7,8 @@ ghost use Rattle.xm_conf.specs.Along.{added_by_each, head_of};
 ghost use Rattle.xm_conf.specs.Rules as rules;
 
 use super::broken::unless;
-use super::first::first_of_each;
 use crate::channel::{Chan, ChanKind};
+use crate::first::first_of_each;
 use crate::item::{Broken, Item};
 use crate::limits::{DESTS, LINKS};
 use crate::part::Part;

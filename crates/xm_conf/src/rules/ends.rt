@@ -10,8 +10,8 @@ ghost use Rattle.xm_conf.specs.Walks as walks;
 ghost use Rattle.xm_conf.specs.declared.item.Item.TheVariants as item;
 
 use super::broken::beside;
-use super::first::{first_along, first_of_each};
 use crate::channel::{Chan, End};
+use crate::first::{first_along, first_of_each};
 use crate::item::{Broken, Item};
 use crate::raw::RawConf;
 

@@ -1,15 +1,14 @@
 //! Links between partitions.
 
-ghost use Rattle.std.specs.Prelude.{◌≡◌, ◌<◌, ◌≤◌, IfSome, length};
-ghost use Rattle.std.specs.List.{position_from};
+ghost use Rattle.std.specs.Prelude.{◌≡◌, ◌<◌, ◌≤◌, length};
 ghost use Rattle.xm_conf.specs.Along.{along, added_by_each, head_of};
 ghost use Rattle.xm_conf.specs.Fits.{HasCounts};
 ghost use Rattle.xm_conf.specs.Limits.{most_links};
 ghost use Rattle.xm_conf.specs.Rules as rules;
 ghost use Rattle.xm_conf.specs.declared.item.Item.TheVariants as item;
 
-use super::broken::{beside, unless};
-use super::first::{first_along, first_of_each};
+use super::broken::{repeated, unless};
+use crate::first::{first_along, first_of_each};
 use crate::item::{Broken, Item};
 use crate::limits::LINK_NUMBERS;
 use crate::link::Link;
@@ -57,24 +56,12 @@ fn same_link(a: &Link, b: &Link) -> bool
     a.source == b.source && a.number == b.number
 }
 
-/// The place of the first link with this one's source and number.
-fn first_link(links: &[Link], link: &Link) -> Option<usize>
-    ensures first { result ≡ position_from (λ earlier. rules.same_link earlier link.now) 0 links.now }
-    ensures within { IfSome result (λ n. n < length links.now) }
-{
-    links.iter().position(|earlier| same_link(earlier, link))
-}
-
 /// A link with an earlier one's source and number.
 fn repeated_link(before: &[Link], link: &Link) -> Option<Broken>
     requires { length before.now ≤ most_links }
     ensures { result ≡ head_of (rules.repeated 22 item.Link rules.same_link before.now link.now) }
 {
-    let later = Item::Link(before.len() as u8);
-    match first_link(before, link) {
-        Some(n) => beside(22, later, Some(Item::Link(n as u8))),
-        None => None,
-    }
+    repeated(22, before, link, |a, b| same_link(a, b), |n| Item::Link(n))
 }
 
 /// The first link with an earlier one's source and number.

@@ -1,14 +1,13 @@
 //! Regions and the hypervisor's memory.
 
-ghost use Rattle.std.specs.Prelude.{◌≡◌, ◌≤◌, ◌<◌, length, slice_get, IfSome};
-ghost use Rattle.std.specs.List.{position_from};
+ghost use Rattle.std.specs.Prelude.{◌≡◌, ◌≤◌, ◌<◌, length, slice_get};
 ghost use Rattle.xm_conf.specs.Along.{along, added_by_each, head_of};
 ghost use Rattle.xm_conf.specs.Fits.{HasCounts};
 ghost use Rattle.xm_conf.specs.Rules as rules;
 ghost use Rattle.xm_conf.specs.declared.item.Item.TheVariants as item;
 
-use super::broken::{beside, unless};
-use super::first::{first_along, first_of_each};
+use super::broken::{repeated, unless};
+use crate::first::{first_along, first_of_each};
 use crate::item::{Broken, Item};
 use crate::raw::{RawConf, Region};
 
@@ -60,24 +59,18 @@ fn unsized_regions(regions: &[Region]) -> Option<Broken>
     first_of_each(regions, |n, region| unsized_region(n, region))
 }
 
-/// The number of the first region that overlaps this one.
-fn first_overlap(regions: &[Region], region: &Region) -> Option<usize>
-    ensures first { result ≡ position_from (λ earlier. rules.overlaps earlier region.now) 0 regions.now }
-    ensures within { IfSome result (λ n. n < length regions.now) }
-{
-    regions.iter().position(|earlier| overlaps(earlier, region))
-}
-
 /// A region that overlaps an earlier one.
 fn overlapping_region(before: &[Region], region: &Region) -> Option<Broken>
     requires { length before.now ≤ 8 }
     ensures { result ≡ head_of (rules.repeated 5 item.Region rules.overlaps before.now region.now) }
 {
-    let later = Item::Region(before.len() as u8);
-    match first_overlap(before, region) {
-        Some(n) => beside(5, later, Some(Item::Region(n as u8))),
-        None => None,
-    }
+    repeated(
+        5,
+        before,
+        region,
+        |a, b| overlaps(a, b),
+        |n| Item::Region(n),
+    )
 }
 
 /// The first region that overlaps an earlier one.

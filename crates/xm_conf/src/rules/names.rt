@@ -1,7 +1,6 @@
 //! Names that differ.
 
-ghost use Rattle.std.specs.Prelude.{◌≡◌, ◌<◌, ◌≤◌, All, IfSome, length};
-ghost use Rattle.std.specs.List.{position_from};
+ghost use Rattle.std.specs.Prelude.{◌≡◌, ◌<◌, ◌≤◌, All, length};
 ghost use Rattle.std.specs.Str.{bytes_eq};
 ghost use Rattle.xm_conf.specs.Along.{along, head_of};
 ghost use Rattle.xm_conf.specs.Fits.{HasCounts};
@@ -9,32 +8,20 @@ ghost use Rattle.xm_conf.specs.Limits.{most_parts};
 ghost use Rattle.xm_conf.specs.Rules as rules;
 ghost use Rattle.xm_conf.specs.declared.item.Item.TheVariants as item;
 
-use super::broken::beside;
-use super::first::first_along;
+use super::broken::repeated;
+use crate::first::first_along;
 use crate::item::{Broken, Item};
 use crate::name::Name;
 use crate::part::Part;
 use crate::port::Port;
 use crate::raw::RawConf;
 
-/// The number of the first UART with this name.
-fn first_uart(uarts: &[Name], name: &Name) -> Option<usize>
-    ensures first { result ≡ position_from (λ earlier. bytes_eq earlier name.now) 0 uarts.now }
-    ensures within { IfSome result (λ n. n < length uarts.now) }
-{
-    uarts.iter().position(|earlier| *earlier == *name)
-}
-
 /// A UART with an earlier one's name.
 fn uart_name(before: &[Name], name: &Name) -> Option<Broken>
     requires { length before.now ≤ 8 }
     ensures { result ≡ head_of (rules.repeated 3 item.Uart bytes_eq before.now name.now) }
 {
-    let later = Item::Uart(before.len() as u8);
-    match first_uart(before, name) {
-        Some(n) => beside(3, later, Some(Item::Uart(n as u8))),
-        None => None,
-    }
+    repeated(3, before, name, |a, b| *a == *b, |n| Item::Uart(n))
 }
 
 /// The first UART with an earlier one's name.
@@ -52,24 +39,18 @@ fn same_port(a: &Port, b: &Port) -> bool
     a.name == b.name
 }
 
-/// The number of the first port with this one's name.
-fn first_port(ports: &[Port], port: &Port) -> Option<usize>
-    ensures first { result ≡ position_from (λ earlier. rules.same_port earlier port.now) 0 ports.now }
-    ensures within { IfSome result (λ n. n < length ports.now) }
-{
-    ports.iter().position(|earlier| same_port(earlier, port))
-}
-
 /// A port with an earlier one's name.
 fn port_name(p: u8, before: &[Port], port: &Port) -> Option<Broken>
     requires { length before.now ≤ 32 }
     ensures { result ≡ head_of (rules.repeated 3 (item.Port p) rules.same_port before.now port.now) }
 {
-    let later = Item::Port(p, before.len() as u8);
-    match first_port(before, port) {
-        Some(n) => beside(3, later, Some(Item::Port(p, n as u8))),
-        None => None,
-    }
+    repeated(
+        3,
+        before,
+        port,
+        |a, b| same_port(a, b),
+        |n| Item::Port(p, n),
+    )
 }
 
 /// The first port of a partition with an earlier one's name.
@@ -87,26 +68,6 @@ fn same_part(a: &Part, b: &Part) -> bool
     a.name == b.name
 }
 
-/// The number of the first partition with this one's name.
-fn first_part(parts: &[Part], part: &Part) -> Option<usize>
-    ensures first { result ≡ position_from (λ earlier. rules.same_part earlier part.now) 0 parts.now }
-    ensures within { IfSome result (λ n. n < length parts.now) }
-{
-    parts.iter().position(|earlier| same_part(earlier, part))
-}
-
-/// A partition with an earlier one's name.
-fn part_name(before: &[Part], part: &Part) -> Option<Broken>
-    requires { length before.now ≤ most_parts }
-    ensures { result ≡ head_of (rules.repeated 3 item.Part rules.same_part before.now part.now) }
-{
-    let later = Item::Part(before.len() as u8);
-    match first_part(before, part) {
-        Some(n) => beside(3, later, Some(Item::Part(n as u8))),
-        None => None,
-    }
-}
-
 /// A partition with an earlier one's name, or its first port with an earlier one's name.
 #[tactic(auto, using(crate::specs::AlongLemmas::in_turn), unfolding(crate::specs::Rules::part_names))]
 fn part_names(before: &[Part], part: &Part) -> Option<Broken>
@@ -114,7 +75,7 @@ fn part_names(before: &[Part], part: &Part) -> Option<Broken>
     requires ports { length part.now.ports ≤ 32 }
     ensures { result ≡ head_of (rules.part_names before.now part.now) }
 {
-    let broken = part_name(before, part);
+    let broken = repeated(3, before, part, |a, b| same_part(a, b), |n| Item::Part(n));
     if broken.is_some() {
         return broken;
     }

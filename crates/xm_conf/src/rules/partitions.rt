@@ -10,8 +10,8 @@ ghost use Rattle.xm_conf.specs.declared.item.Item.TheVariants as item;
 ghost use Rattle.xm_conf.specs.Description.{event_numbered, monitor_of};
 
 use super::broken::unless;
-use super::first::first_of_each;
-use crate::health::{Action, EVENTS, Event, allowed};
+use crate::first::first_of_each;
+use crate::health::{Action, EVENTS, Event, allowed, has_plan};
 use crate::item::{Broken, Item};
 use crate::part::{HmTable, Need, Part};
 use crate::raw::RawConf;
@@ -82,25 +82,6 @@ fn event_of(n: u8) -> Event
     ensures { result ≡ event_numbered n }
 {
     EVENTS[usize::from(n)]
-}
-
-/// Whether an action has its plan, where there are so many plans.
-fn has_plan(plans: usize, action: Action) -> bool
-    ensures { result ≡ rules.has_plan plans action }
-{
-    match action {
-        Action::Ignore
-        | Action::Shutdown
-        | Action::PartitionColdReset
-        | Action::PartitionWarmReset
-        | Action::Suspend
-        | Action::Halt
-        | Action::Propagate
-        | Action::HypervisorColdReset
-        | Action::HypervisorWarmReset
-        | Action::HypervisorHalt => true,
-        Action::SwitchToMaintenance => 1 < plans,
-    }
 }
 
 /// An action that is not allowed for its event, or whose plan is none.

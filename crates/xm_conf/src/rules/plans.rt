@@ -6,7 +6,7 @@ ghost use Rattle.xm_conf.specs.Fits.{HasCounts};
 ghost use Rattle.xm_conf.specs.Rules as rules;
 
 use super::broken::{unless, unless_by};
-use super::first::{first_along, first_of_each};
+use crate::first::{first_along, first_of_each};
 use crate::item::{Broken, Item};
 use crate::plan::{Plan, Slot};
 use crate::raw::RawConf;

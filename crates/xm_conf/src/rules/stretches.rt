@@ -9,8 +9,8 @@ ghost use Rattle.xm_conf.specs.Rules as rules;
 ghost use Rattle.xm_conf.specs.Walks as walks;
 
 use super::broken::beside;
-use super::first::{first_along, first_of_each};
 use super::memory::overlaps;
+use crate::first::{first_along, first_of_each};
 use crate::item::{Broken, Item};
 use crate::part::{Area, Part};
 use crate::raw::{RawConf, Region};

@@ -5,10 +5,7 @@ ghost use Rattle.xm_conf.specs.Along.{added_by_each, along, head_of};
 
 /// The first of what the items add, each by its number and itself. Where there are more than 255 items, one of the
 /// first 256 adds something.
-pub(super) fn first_of_each<T, Y: Copy, F: Fn(u8, &T) -> Option<Y>>(
-    items: &[T],
-    adds: F,
-) -> Option<Y>
+pub fn first_of_each<T, Y: Copy, F: Fn(u8, &T) -> Option<Y>>(items: &[T], adds: F) -> Option<Y>
     requires callable { (n : ℕ) (item : _) → n < length items.now → n < 256 → slice_get items.now n ≡ Some item.now → F.pre adds n item }
     requires few { (n : ℕ) (item : _) (found : Option Y) → n < length items.now → n < 256 → F.post adds n item found → is_some found ≡ false → n < 255 }
     ensures { (f : ℕ → T → List Y) → ((n : ℕ) (item : _) (found : Option Y) → F.post adds n item found → found ≡ head_of (f n item.now)) → result ≡ head_of (added_by_each f items.now) }
@@ -23,10 +20,7 @@ pub(super) fn first_of_each<T, Y: Copy, F: Fn(u8, &T) -> Option<Y>>(
 }
 
 /// The first of what the items add, each by those before it and itself.
-pub(super) fn first_along<T, Y: Copy, F: Fn(&[T], &T) -> Option<Y>>(
-    items: &[T],
-    adds: F,
-) -> Option<Y>
+pub fn first_along<T, Y: Copy, F: Fn(&[T], &T) -> Option<Y>>(items: &[T], adds: F) -> Option<Y>
     requires few { length items.now ≤ 255 }
     requires callable { (n : ℕ) (before : _) (item : _) → n < length items.now → before.now ≡ take n items.now → slice_get items.now n ≡ Some item.now → F.pre adds before item }
     ensures { (f : List T → T → List Y) → ((before : _) (item : _) (found : Option Y) → F.post adds before item found → found ≡ head_of (f before.now item.now)) → result ≡ head_of (along f items.now) }

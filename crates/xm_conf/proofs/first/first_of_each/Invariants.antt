@@ -1,6 +1,6 @@
 use Rattle.std.proofs.Common.{◌≡◌, ◌≤◌, ℕ, List, Option, Bor, drop}
 use Rattle.xm_conf.specs.Along.{added_by_each, each_from, head_of}
-use Rattle.xm_conf.proofs.rules.first.first_of_each.Given as goal
+use Rattle.xm_conf.proofs.first.first_of_each.Given as goal
 
 abbrev pub invariant-loop-n : goal.invariant-loop-n
 invariant-loop-n g l = record {

@@ -1,6 +1,6 @@
 use Rattle.std.proofs.Common.{rules, refl, sym, ◌∙◌, ◌≤◌, ◌<◌, length}
 use Rattle.xm_conf.specs.AlongLemmas.{each_goes_on, each_stops, each_ends}
-use Rattle.xm_conf.proofs.rules.first.first_of_each.Goals as goal
+use Rattle.xm_conf.proofs.first.first_of_each.Goals as goal
 
 pub loop-n-init : goal.loop-n-init
 loop-n-init g c = record { rest = λ f adds. refl; few = search rules }
