@@ -1,10 +1,9 @@
 //! Areas: whole pages inside a region, and not too many.
 
-ghost use Rattle.std.specs.Prelude.{◌≡◌, ◌≤◌, All, length, sum_by};
+ghost use Rattle.std.specs.Prelude.{◌≡◌, ◌≤◌, length, sum_by};
 ghost use Rattle.std.specs.List.{list_any};
 ghost use Rattle.xm_conf.specs.Along.{added_by_each, head_of};
 ghost use Rattle.xm_conf.specs.Fits.{HasCounts};
-ghost use Rattle.xm_conf.specs.Limits.{most_parts};
 ghost use Rattle.xm_conf.specs.Rules as rules;
 ghost use Rattle.xm_conf.specs.Room.{room_after};
 
@@ -40,16 +39,6 @@ fn unsized_areas(p: u8, areas: &[Area]) -> Option<Broken>
     first_of_each(areas, |n, area| unsized_area(p, n, area))
 }
 
-/// The first area of all that is not whole pages.
-#[tactic(auto, unfolding(crate::specs::Rules::unsized_areas))]
-fn parts_unsized_areas(parts: &[Part]) -> Option<Broken>
-    requires few { length parts.now ≤ most_parts }
-    requires areas { All (λ part. length part.areas ≤ 8) parts.now }
-    ensures { result ≡ head_of (added_by_each rules.unsized_areas parts.now) }
-{
-    first_of_each(parts, |n, part| unsized_areas(n, &part.areas))
-}
-
 /// Whether a region has all addresses of an area.
 #[tactic(auto, unfolding(crate::specs::Rules::has_area))]
 fn has_area(area: &Area, region: &Region) -> bool
@@ -82,16 +71,6 @@ fn outside_areas(regions: &[Region], p: u8, areas: &[Area]) -> Option<Broken>
     first_of_each(areas, |n, area| outside_area(regions, p, n, area))
 }
 
-/// The first area of all that is not inside a region.
-#[tactic(auto, unfolding(crate::specs::Rules::outside_areas))]
-fn parts_outside_areas(regions: &[Region], parts: &[Part]) -> Option<Broken>
-    requires few { length parts.now ≤ most_parts }
-    requires areas { All (λ part. length part.areas ≤ 8) parts.now }
-    ensures { result ≡ head_of (added_by_each (rules.outside_areas regions.now) parts.now) }
-{
-    first_of_each(parts, |n, part| outside_areas(regions, n, &part.areas))
-}
-
 /// What is left of a room for bytes after these areas, or `None` where they have more.
 #[tactic(auto, using(crate::proofs::RoomLemmas::room_loop))]
 fn room_behind(areas: &[Area], room: u32) -> Option<u32>
@@ -117,21 +96,24 @@ fn room_behind_all(parts: &[Part], room: u32) -> Option<u32>
 }
 
 /// The first area that is not whole pages.
-#[tactic(auto, using(crate::proofs::CountLemmas::few_areas), unfolding(crate::specs::Rules::rule_7))]
+#[tactic(auto, using(crate::proofs::CountLemmas::few_areas), unfolding(crate::specs::Rules::unsized_areas, crate::specs::Rules::rule_7))]
 pub(super) fn rule_7(raw: &RawConf) -> Option<Broken>
     requires { HasCounts raw.now }
     ensures { result ≡ head_of (rules.rule_7 raw.now) }
 {
-    parts_unsized_areas(&raw.parts)
+    first_of_each(&raw.parts, |n, part| unsized_areas(n, &part.areas))
 }
 
 /// The first area that is not inside a region.
-#[tactic(auto, using(crate::proofs::CountLemmas::few_areas), unfolding(crate::specs::Rules::rule_8))]
+#[tactic(auto, using(crate::proofs::CountLemmas::few_areas), unfolding(crate::specs::Rules::outside_areas, crate::specs::Rules::rule_8))]
 pub(super) fn rule_8(raw: &RawConf) -> Option<Broken>
     requires { HasCounts raw.now }
     ensures { result ≡ head_of (rules.rule_8 raw.now) }
 {
-    parts_outside_areas(&raw.regions, &raw.parts)
+    first_of_each(
+        &raw.parts,
+        |n, part| outside_areas(&raw.regions, n, &part.areas),
+    )
 }
 
 /// The whole, where all areas together have too many bytes.

@@ -39,14 +39,6 @@ fn unfit_chan(n: u8, chan: &Chan) -> Option<Broken>
     unless(fits, 15, Item::Chan(n))
 }
 
-/// The first channel with messages or destinations that are none.
-fn unfit_chans(chans: &[Chan]) -> Option<Broken>
-    requires { length chans.now ≤ 64 }
-    ensures { result ≡ head_of (added_by_each rules.unfit_chan chans.now) }
-{
-    first_of_each(chans, |n, chan| unfit_chan(n, chan))
-}
-
 /// A partition's port.
 fn port_of(port: u8, part: &Part) -> Option<&Port>
     ensures { option_copied result ≡ slice_get part.now.ports port }
@@ -101,15 +93,6 @@ fn stray_ends(parts: &[Part], c: u8, chan: &Chan) -> Option<Broken>
         return broken;
     }
     stray_dests(parts, c, &chan.dests)
-}
-
-/// The first end of all channels that is no port.
-fn chans_stray_ends(parts: &[Part], chans: &[Chan]) -> Option<Broken>
-    requires few { length chans.now ≤ 64 }
-    requires dests { All (λ chan. length chan.dests ≤ most_dests) chans.now }
-    ensures { result ≡ head_of (added_by_each (rules.stray_ends parts.now) chans.now) }
-{
-    first_of_each(chans, |n, chan| stray_ends(parts, n, chan))
 }
 
 /// Whether a port's kind is the channel's.
@@ -191,22 +174,13 @@ fn wrong_ends(parts: &[Part], c: u8, chan: &Chan) -> Option<Broken>
     wrong_dests(parts, chan.kind, c, &chan.dests)
 }
 
-/// The first end of all channels whose port is of another kind or way.
-fn chans_wrong_ends(parts: &[Part], chans: &[Chan]) -> Option<Broken>
-    requires few { length chans.now ≤ 64 }
-    requires dests { All (λ chan. length chan.dests ≤ most_dests) chans.now }
-    ensures { result ≡ head_of (added_by_each (rules.wrong_ends parts.now) chans.now) }
-{
-    first_of_each(chans, |n, chan| wrong_ends(parts, n, chan))
-}
-
 /// The first channel with messages or destinations that are none.
 #[tactic(auto, unfolding(crate::specs::Rules::rule_15))]
 fn first_unfit(raw: &RawConf) -> Option<Broken>
     requires { HasCounts raw.now }
     ensures { result ≡ head_of (rules.rule_15 raw.now) }
 {
-    unfit_chans(&raw.chans)
+    first_of_each(&raw.chans, |n, chan| unfit_chan(n, chan))
 }
 
 /// The first channel with messages or destinations that are none.
@@ -226,7 +200,7 @@ pub(super) fn rule_16(raw: &RawConf) -> Option<Broken>
     requires messages { All IsChan raw.now.chans }
     ensures { result ≡ head_of (rules.rule_16 raw.now) }
 {
-    chans_stray_ends(&raw.parts, &raw.chans)
+    first_of_each(&raw.chans, |n, chan| stray_ends(&raw.parts, n, chan))
 }
 
 /// The first end whose port is of another kind or way.
@@ -236,5 +210,5 @@ pub(super) fn rule_17(raw: &RawConf) -> Option<Broken>
     requires messages { All IsChan raw.now.chans }
     ensures { result ≡ head_of (rules.rule_17 raw.now) }
 {
-    chans_wrong_ends(&raw.parts, &raw.chans)
+    first_of_each(&raw.chans, |n, chan| wrong_ends(&raw.parts, n, chan))
 }

@@ -150,20 +150,11 @@ fn chan_meets(before: &[Chan], chan: &Chan) -> Option<Broken>
 }
 
 /// The first end of all channels that is a port of an end before it.
-fn chans_meet(chans: &[Chan]) -> Option<Broken>
-    requires few { length chans.now ≤ 64 }
-    requires dests { All (λ chan. length chan.dests ≤ most_dests) chans.now }
-    ensures { result ≡ head_of (along walks.chan_meets chans.now) }
-{
-    first_along(chans, |before, chan| chan_meets(before, chan))
-}
-
-/// The first end of all channels that is a port of an end before it.
 #[tactic(auto, using(crate::proofs::MeetLemmas::rule_18_along, crate::proofs::CountLemmas::few_dests))]
 pub(super) fn rule_18(raw: &RawConf) -> Option<Broken>
     requires counts { HasCounts raw.now }
     requires messages { All IsChan raw.now.chans }
     ensures { result ≡ head_of (rules.rule_18 raw.now) }
 {
-    chans_meet(&raw.chans)
+    first_along(&raw.chans, |before, chan| chan_meets(before, chan))
 }

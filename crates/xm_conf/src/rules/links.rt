@@ -1,7 +1,7 @@
 //! Links between partitions.
 
 ghost use Rattle.std.specs.Prelude.{◌≡◌, ◌<◌, ◌≤◌, length};
-ghost use Rattle.xm_conf.specs.Along.{along, added_by_each, head_of};
+ghost use Rattle.xm_conf.specs.Along.{head_of};
 ghost use Rattle.xm_conf.specs.Fits.{HasCounts};
 ghost use Rattle.xm_conf.specs.Limits.{most_links};
 ghost use Rattle.xm_conf.specs.Rules as rules;
@@ -40,14 +40,6 @@ fn unfit_link(parts: usize, n: u8, link: &Link) -> Option<Broken>
     unless(is_link(parts, link), 21, Item::Link(n))
 }
 
-/// The first link that may not stand.
-fn unfit_links(parts: usize, links: &[Link]) -> Option<Broken>
-    requires { length links.now ≤ most_links }
-    ensures { result ≡ head_of (added_by_each (rules.unfit_link parts) links.now) }
-{
-    first_of_each(links, |n, link| unfit_link(parts, n, link))
-}
-
 /// Whether two links have the same source and number.
 #[tactic(auto, unfolding(crate::specs::Rules::same_link))]
 fn same_link(a: &Link, b: &Link) -> bool
@@ -64,21 +56,13 @@ fn repeated_link(before: &[Link], link: &Link) -> Option<Broken>
     repeated(22, before, link, |a, b| same_link(a, b), |n| Item::Link(n))
 }
 
-/// The first link with an earlier one's source and number.
-fn repeated_links(links: &[Link]) -> Option<Broken>
-    requires { length links.now ≤ most_links }
-    ensures { result ≡ head_of (along (rules.repeated 22 item.Link rules.same_link) links.now) }
-{
-    first_along(links, |before, link| repeated_link(before, link))
-}
-
 /// The first link that may not stand.
 #[tactic(auto, unfolding(crate::specs::Rules::rule_21))]
 pub(super) fn rule_21(raw: &RawConf) -> Option<Broken>
     requires { HasCounts raw.now }
     ensures { result ≡ head_of (rules.rule_21 raw.now) }
 {
-    unfit_links(raw.parts.len(), &raw.links)
+    first_of_each(&raw.links, |n, link| unfit_link(raw.parts.len(), n, link))
 }
 
 /// The first link with an earlier one's source and number.
@@ -87,5 +71,5 @@ pub(super) fn rule_22(raw: &RawConf) -> Option<Broken>
     requires { HasCounts raw.now }
     ensures { result ≡ head_of (rules.rule_22 raw.now) }
 {
-    repeated_links(&raw.links)
+    first_along(&raw.links, |before, link| repeated_link(before, link))
 }

@@ -1,7 +1,7 @@
 //! Regions and the hypervisor's memory.
 
 ghost use Rattle.std.specs.Prelude.{◌≡◌, ◌≤◌, ◌<◌, length, slice_get};
-ghost use Rattle.xm_conf.specs.Along.{along, added_by_each, head_of};
+ghost use Rattle.xm_conf.specs.Along.{head_of};
 ghost use Rattle.xm_conf.specs.Fits.{HasCounts};
 ghost use Rattle.xm_conf.specs.Rules as rules;
 ghost use Rattle.xm_conf.specs.declared.item.Item.TheVariants as item;
@@ -51,14 +51,6 @@ fn unsized_region(n: u8, region: &Region) -> Option<Broken>
     unless(is_region(region), 4, Item::Region(n))
 }
 
-/// The first region that is not whole pages.
-fn unsized_regions(regions: &[Region]) -> Option<Broken>
-    requires { length regions.now ≤ 8 }
-    ensures { result ≡ head_of (added_by_each rules.unsized_region regions.now) }
-{
-    first_of_each(regions, |n, region| unsized_region(n, region))
-}
-
 /// A region that overlaps an earlier one.
 fn overlapping_region(before: &[Region], region: &Region) -> Option<Broken>
     requires { length before.now ≤ 8 }
@@ -71,14 +63,6 @@ fn overlapping_region(before: &[Region], region: &Region) -> Option<Broken>
         |a, b| overlaps(a, b),
         |n| Item::Region(n),
     )
-}
-
-/// The first region that overlaps an earlier one.
-fn overlapping_regions(regions: &[Region]) -> Option<Broken>
-    requires { length regions.now ≤ 8 }
-    ensures { result ≡ head_of (along (rules.repeated 5 item.Region rules.overlaps) regions.now) }
-{
-    first_along(regions, |before, region| overlapping_region(before, region))
 }
 
 /// Whether a size is at most that of region 0.
@@ -107,7 +91,7 @@ pub(super) fn rule_4(raw: &RawConf) -> Option<Broken>
     requires { HasCounts raw.now }
     ensures { result ≡ head_of (rules.rule_4 raw.now) }
 {
-    unsized_regions(&raw.regions)
+    first_of_each(&raw.regions, |n, region| unsized_region(n, region))
 }
 
 /// The first region that overlaps an earlier one.
@@ -116,5 +100,8 @@ pub(super) fn rule_5(raw: &RawConf) -> Option<Broken>
     requires { HasCounts raw.now }
     ensures { result ≡ head_of (rules.rule_5 raw.now) }
 {
-    overlapping_regions(&raw.regions)
+    first_along(
+        &raw.regions,
+        |before, region| overlapping_region(before, region),
+    )
 }

@@ -3,7 +3,6 @@
 ghost use Rattle.std.specs.Prelude.{◌≡◌, ◌++◌, ◌<◌, ◌≤◌, length, map, nat_lt};
 ghost use Rattle.xm_conf.specs.Along.{added_by_each, head_of, unless as unless_of};
 ghost use Rattle.xm_conf.specs.Fits.{HasCounts};
-ghost use Rattle.xm_conf.specs.Limits.{most_parts};
 ghost use Rattle.xm_conf.specs.Rules as rules;
 ghost use Rattle.xm_conf.specs.Walks as walks;
 ghost use Rattle.xm_conf.specs.declared.item.Item.TheVariants as item;
@@ -38,14 +37,6 @@ fn no_console(uarts: usize, n: u8, part: &Part) -> Option<Broken>
     unless(is_console(uarts, part.console), 14, Item::Part(n))
 }
 
-/// The first partition whose console is no UART.
-fn parts_no_console(uarts: usize, parts: &[Part]) -> Option<Broken>
-    requires { length parts.now ≤ most_parts }
-    ensures { result ≡ head_of (added_by_each (rules.no_console uarts) parts.now) }
-{
-    first_of_each(parts, |n, part| no_console(uarts, n, part))
-}
-
 /// Whether a requirement, where there is one, is a time in a period.
 #[tactic(auto, unfolding(crate::specs::Rules::longest))]
 fn is_need(need: Option<Need>) -> bool
@@ -65,14 +56,6 @@ fn unfit_need(n: u8, part: &Part) -> Option<Broken>
     ensures { result ≡ head_of (rules.unfit_need n part.now) }
 {
     unless(is_need(part.need), 20, Item::Part(n))
-}
-
-/// The first partition whose requirement is none.
-fn unfit_needs(parts: &[Part]) -> Option<Broken>
-    requires { length parts.now ≤ most_parts }
-    ensures { result ≡ head_of (added_by_each rules.unfit_need parts.now) }
-{
-    first_of_each(parts, |n, part| unfit_need(n, part))
 }
 
 /// The event of a number.
@@ -125,21 +108,13 @@ fn part_monitor(plans: usize, p: u8, part: &Part) -> Option<Broken>
     table_broken(plans, p, &part.hm)
 }
 
-/// The first partition or action that breaks the rule on health events.
-fn parts_monitors(plans: usize, parts: &[Part]) -> Option<Broken>
-    requires { length parts.now ≤ most_parts }
-    ensures { result ≡ head_of (added_by_each (walks.part_monitor plans) parts.now) }
-{
-    first_of_each(parts, |n, part| part_monitor(plans, n, part))
-}
-
 /// The first partition whose console is no UART.
 #[tactic(auto, unfolding(crate::specs::Rules::rule_14))]
 pub(super) fn rule_14(raw: &RawConf) -> Option<Broken>
     requires { HasCounts raw.now }
     ensures { result ≡ head_of (rules.rule_14 raw.now) }
 {
-    parts_no_console(raw.uarts.len(), &raw.parts)
+    first_of_each(&raw.parts, |n, part| no_console(raw.uarts.len(), n, part))
 }
 
 /// The first partition or action that breaks the rule on health events.
@@ -148,7 +123,7 @@ pub(super) fn rule_19(raw: &RawConf) -> Option<Broken>
     requires { HasCounts raw.now }
     ensures { result ≡ head_of (rules.rule_19 (length raw.now.plans) (map monitor_of raw.now.parts)) }
 {
-    parts_monitors(raw.plans.len(), &raw.parts)
+    first_of_each(&raw.parts, |n, part| part_monitor(raw.plans.len(), n, part))
 }
 
 /// The first partition whose requirement is none.
@@ -157,5 +132,5 @@ pub(super) fn rule_20(raw: &RawConf) -> Option<Broken>
     requires { HasCounts raw.now }
     ensures { result ≡ head_of (rules.rule_20 raw.now) }
 {
-    unfit_needs(&raw.parts)
+    first_of_each(&raw.parts, |n, part| unfit_need(n, part))
 }

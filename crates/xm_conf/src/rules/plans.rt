@@ -1,6 +1,6 @@
 //! Plans with their slots.
 
-ghost use Rattle.std.specs.Prelude.{◌≡◌, ◌≤◌, ◌-◌, All, Some, length, slice_get};
+ghost use Rattle.std.specs.Prelude.{◌≡◌, ◌≤◌, ◌-◌, Some, length, slice_get};
 ghost use Rattle.xm_conf.specs.Along.{along, added_by_each, head_of};
 ghost use Rattle.xm_conf.specs.Fits.{HasCounts};
 ghost use Rattle.xm_conf.specs.Rules as rules;
@@ -58,15 +58,6 @@ fn frame_broken(p: u8, plan: &Plan) -> Option<Broken>
     late_slots(p, plan.frame, &plan.slots)
 }
 
-/// The first plan or slot that breaks rule 11.
-fn frames_broken(plans: &[Plan]) -> Option<Broken>
-    requires few { length plans.now ≤ 8 }
-    requires slots { All (λ plan. length plan.slots ≤ 64) plans.now }
-    ensures { result ≡ head_of (added_by_each rules.frame_broken plans.now) }
-{
-    first_of_each(plans, |n, plan| frame_broken(n, plan))
-}
-
 /// Whether a slot starts at or after the end of an earlier one.
 fn is_behind(earlier: &Slot, slot: &Slot) -> bool
     ensures { result ≡ rules.follows (Some earlier.now) slot.now }
@@ -104,16 +95,6 @@ fn early_slots(p: u8, slots: &[Slot]) -> Option<Broken>
     first_along(slots, |before, slot| early_slot(p, before, slot))
 }
 
-/// The first slot of all plans that starts too early.
-#[tactic(auto, unfolding(crate::specs::Rules::early_slots))]
-fn plans_early_slots(plans: &[Plan]) -> Option<Broken>
-    requires few { length plans.now ≤ 8 }
-    requires slots { All (λ plan. length plan.slots ≤ 64) plans.now }
-    ensures { result ≡ head_of (added_by_each rules.early_slots plans.now) }
-{
-    first_of_each(plans, |n, plan| early_slots(n, &plan.slots))
-}
-
 /// A slot whose partition is none.
 #[tactic(auto, unfolding(crate::specs::Rules::stray_slot))]
 fn stray_slot(parts: usize, p: u8, n: u8, slot: &Slot) -> Option<Broken>
@@ -130,39 +111,32 @@ fn stray_slots(parts: usize, p: u8, slots: &[Slot]) -> Option<Broken>
     first_of_each(slots, |n, slot| stray_slot(parts, p, n, slot))
 }
 
-/// The first slot of all plans whose partition is none.
-#[tactic(auto, unfolding(crate::specs::Rules::stray_slots))]
-fn plans_stray_slots(parts: usize, plans: &[Plan]) -> Option<Broken>
-    requires few { length plans.now ≤ 8 }
-    requires slots { All (λ plan. length plan.slots ≤ 64) plans.now }
-    ensures { result ≡ head_of (added_by_each (rules.stray_slots parts) plans.now) }
-{
-    first_of_each(plans, |n, plan| stray_slots(parts, n, &plan.slots))
-}
-
 /// The first plan or slot whose time does not fit.
 #[tactic(auto, using(crate::proofs::CountLemmas::few_slots), unfolding(crate::specs::Rules::rule_11))]
 pub(super) fn rule_11(raw: &RawConf) -> Option<Broken>
     requires { HasCounts raw.now }
     ensures { result ≡ head_of (rules.rule_11 raw.now) }
 {
-    frames_broken(&raw.plans)
+    first_of_each(&raw.plans, |n, plan| frame_broken(n, plan))
 }
 
 /// The first slot that starts before the end of the one before it.
-#[tactic(auto, using(crate::proofs::CountLemmas::few_slots), unfolding(crate::specs::Rules::rule_12))]
+#[tactic(auto, using(crate::proofs::CountLemmas::few_slots), unfolding(crate::specs::Rules::early_slots, crate::specs::Rules::rule_12))]
 pub(super) fn rule_12(raw: &RawConf) -> Option<Broken>
     requires { HasCounts raw.now }
     ensures { result ≡ head_of (rules.rule_12 raw.now) }
 {
-    plans_early_slots(&raw.plans)
+    first_of_each(&raw.plans, |n, plan| early_slots(n, &plan.slots))
 }
 
 /// The first slot whose partition is none.
-#[tactic(auto, using(crate::proofs::CountLemmas::few_slots), unfolding(crate::specs::Rules::rule_13))]
+#[tactic(auto, using(crate::proofs::CountLemmas::few_slots), unfolding(crate::specs::Rules::stray_slots, crate::specs::Rules::rule_13))]
 pub(super) fn rule_13(raw: &RawConf) -> Option<Broken>
     requires { HasCounts raw.now }
     ensures { result ≡ head_of (rules.rule_13 raw.now) }
 {
-    plans_stray_slots(raw.parts.len(), &raw.plans)
+    first_of_each(
+        &raw.plans,
+        |n, plan| stray_slots(raw.parts.len(), n, &plan.slots),
+    )
 }

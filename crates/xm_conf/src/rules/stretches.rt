@@ -145,20 +145,14 @@ fn part_meets(whole: Option<Region>, before: &[Part], part: &Part) -> Option<Bro
     areas_meet(whole, before, &part.areas)
 }
 
-/// The first area of all partitions that overlaps one before it.
-fn parts_meet(whole: Option<Region>, parts: &[Part]) -> Option<Broken>
-    requires few { length parts.now ≤ most_parts }
-    requires areas { All (λ part. length part.areas ≤ 8) parts.now }
-    ensures { result ≡ head_of (along (walks.part_meets whole) parts.now) }
-{
-    first_along(parts, |before, part| part_meets(whole, before, part))
-}
-
 /// The first area of all that overlaps the hypervisor or an area before it.
 #[tactic(auto, using(crate::proofs::MeetLemmas::rule_9_along, crate::proofs::CountLemmas::few_areas))]
 pub(super) fn rule_9(raw: &RawConf) -> Option<Broken>
     requires { HasCounts raw.now }
     ensures { result ≡ head_of (rules.rule_9 raw.now) }
 {
-    parts_meet(hypervisor(raw.hv_size, &raw.regions), &raw.parts)
+    first_along(
+        &raw.parts,
+        |before, part| part_meets(hypervisor(raw.hv_size, &raw.regions), before, part),
+    )
 }
