@@ -16,40 +16,38 @@ pub fn effect(action: Action, enabled: bool) -> Effect
     ensures halts { action ≡ Propagate → enabled ≡ false → result ≡ effect_of Halt enabled }
 {
     match action {
-        Action::Ignore => passing(action, Own::Nothing, Whole::Nothing),
-        Action::Shutdown => passing(action, Own::Shutdown, Whole::Nothing),
-        Action::PartitionColdReset => stopping(action, Own::Reset(Mode::Cold), Whole::Nothing),
-        Action::PartitionWarmReset => stopping(action, Own::Reset(Mode::Warm), Whole::Nothing),
-        Action::Suspend => passing(action, Own::Suspend, Whole::Nothing),
-        Action::Halt => stopping(action, Own::Halt, Whole::Nothing),
-        Action::Propagate if enabled => stopping(action, Own::Propagate, Whole::Nothing),
-        Action::Propagate => stopping(Action::Halt, Own::Halt, Whole::Nothing),
-        Action::HypervisorColdReset => stopping(action, Own::Nothing, Whole::Reset(Mode::Cold)),
-        Action::HypervisorWarmReset => stopping(action, Own::Nothing, Whole::Reset(Mode::Warm)),
-        Action::HypervisorHalt => stopping(action, Own::Nothing, Whole::Halt),
-        Action::SwitchToMaintenance => passing(action, Own::Nothing, Whole::Maintenance),
+        Action::Ignore => answer(action, true, Own::Nothing, Whole::Nothing),
+        Action::Shutdown => answer(action, true, Own::Shutdown, Whole::Nothing),
+        Action::PartitionColdReset => answer(action, false, Own::Reset(Mode::Cold), Whole::Nothing),
+        Action::PartitionWarmReset => answer(action, false, Own::Reset(Mode::Warm), Whole::Nothing),
+        Action::Suspend => answer(action, true, Own::Suspend, Whole::Nothing),
+        Action::Halt => answer(action, false, Own::Halt, Whole::Nothing),
+        Action::Propagate if enabled => answer(action, false, Own::Propagate, Whole::Nothing),
+        Action::Propagate => answer(Action::Halt, false, Own::Halt, Whole::Nothing),
+        Action::HypervisorColdReset => answer(
+            action,
+            false,
+            Own::Nothing,
+            Whole::Reset(Mode::Cold),
+        ),
+        Action::HypervisorWarmReset => answer(
+            action,
+            false,
+            Own::Nothing,
+            Whole::Reset(Mode::Warm),
+        ),
+        Action::HypervisorHalt => answer(action, false, Own::Nothing, Whole::Halt),
+        Action::SwitchToMaintenance => answer(action, true, Own::Nothing, Whole::Maintenance),
     }
 }
 
-// The partition goes on after the instruction.
-fn passing(action: Action, own: Own, whole: Whole) -> Effect
-    ensures { result ≡ does action true own whole }
+// An action that does so, and whether the partition goes on after the instruction.
+fn answer(action: Action, pass: bool, own: Own, whole: Whole) -> Effect
+    ensures { result ≡ does action pass own whole }
 {
     Effect {
         action,
-        pass: true,
-        own,
-        whole,
-    }
-}
-
-// The partition does not go on after the instruction.
-fn stopping(action: Action, own: Own, whole: Whole) -> Effect
-    ensures { result ≡ does action false own whole }
-{
-    Effect {
-        action,
-        pass: false,
+        pass,
         own,
         whole,
     }
