@@ -4,7 +4,7 @@ use Rattle.std.proofs.Common.{◌≡◌, ◌≢◌, ◌⊎◌, inl, inr, ⊎_eli
 use Rattle.std.proofs.lemmas.Bool.{cases_eq, cases_lt}
 use Rattle.std.proofs.lemmas.Bool.Decides.{nat_tests}
 use Rattle.std.proofs.lemmas.Slice.{take-put_mid_below}
-use Rattle.std.proofs.lemmas.List.{same_lists, places, get_or-set_same, get_or-set_other, get_or-take, get_or-drop, length-set}
+use Rattle.std.proofs.lemmas.List.{length-drop, take_all, same_lists, places, get_or-set_same, get_or-set_other, get_or-take, get_or-drop, length-set}
 use Rattle.std.specs.Prelude.{ℕ, zero, suc, ◌+◌, ◌-◌, ◌*◌, ◌%◌, ◌<◌, ◌≤◌, Bool, true, false, nat_lt, ◌==◌, if◌then◌else◌, List, [], ◌∷◌, ◌++◌, length, take, drop, slice_index, slice_set, get_or}
 use Rattle.sparc_step.specs.AtHand.{IsAtHand, gathered, lies_in, own_place, listed_below, windows_with, with_first, word_at}
 use Rattle.sparc_step.specs.Registers.{AreRegisters, Registers, ins_place, locals_and_ins, locals_place, place_in_windows, register_at, with_locals_and_ins, with_register, with_saved}
@@ -340,10 +340,15 @@ at_hand-AreRegisters pc npc y icc cwp inv hand windows is = record {
     length-front : (xs : List ℕ) (count : ℕ) → count ≤ length xs → length (take count xs) ≡ count
     length-front xs count long = grind (arith, places)
 
+-- the last eight words are all that is left after those before them
+rest_whole : (n : ℕ) (words : List ℕ) → length words ≤ n + 8 → take 8 (drop n words) ≡ drop n words
+rest_whole n words short = take_all 8 (drop n words) (omega (arith, length-drop n words))
+
 -- the same in two writes
-pub written_in_two : (cwp from to : ℕ) (hand windows once twice : List ℕ) → cwp < 8 → length hand ≡ 32 → length windows ≡ 128 → from ≡ own_place cwp → to ≡ ins_place cwp → once ≡ put_mid from 16 windows (take 16 (drop 8 hand)) → twice ≡ put_mid to 8 once (drop 24 hand) → twice ≡ windows_with cwp hand windows
+pub written_in_two : (cwp from to : ℕ) (hand windows once twice : List ℕ) → cwp < 8 → length hand ≡ 32 → length windows ≡ 128 → from ≡ own_place cwp → to ≡ ins_place cwp → once ≡ put_mid from 16 windows (take 16 (drop 8 hand)) → twice ≡ put_mid to 8 once (take 8 (drop 24 hand)) → twice ≡ windows_with cwp hand windows
 written_in_two cwp from to hand windows once twice window counted whole from_is to_is once_is twice_is =
     twice_is
+    ∙ ap (put_mid to 8 once) (rest_whole 24 hand (omega (arith, counted)))
     ∙ ap (λ (xs : List ℕ). put_mid to 8 xs (drop 24 hand)) once_is
     ∙ ap (λ place. put_mid place 8 (put_mid from 16 windows (take 16 (drop 8 hand))) (drop 24 hand)) to_is
     ∙ ap (λ place. put_mid (ins_place cwp) 8 (put_mid place 16 windows (take 16 (drop 8 hand))) (drop 24 hand)) from_is
@@ -551,11 +556,12 @@ module _ (pc npc y icc cwp inv : ℕ) (hand windows : List ℕ) (now : Registers
       ∙ ap (λ (r : Registers). locals_and_ins r.windows window) seen
 
   pub put_seen : (locals ins : ℕ) (words once twice : List ℕ) → window ≢ now.cwp → (window + 1) % 8 ≢ now.cwp → locals ≡ locals_place window → ins ≡ ins_place window → length words ≡ 16
-      → once ≡ put_mid locals 8 windows (take 8 words) → twice ≡ put_mid ins 8 once (drop 8 words) → gathered pc npc y icc cwp inv hand twice ≡ with_saved now window words
+      → once ≡ put_mid locals 8 windows (take 8 words) → twice ≡ put_mid ins 8 once (take 8 (drop 8 words)) → gathered pc npc y icc cwp inv hand twice ≡ with_saved now window words
   unfolding gathered with_saved
   put_seen locals ins words once twice other below locals_is ins_are sixteen once_is twice_is =
       ap (gathered pc npc y icc cwp inv hand)
       (twice_is
+      ∙ ap (put_mid ins 8 once) (rest_whole 8 words (omega (arith, sixteen)))
       ∙ ap (λ (xs : List ℕ). put_mid ins 8 xs (drop 8 words)) once_is
       ∙ ap (λ (n : ℕ). put_mid ins 8 (put_mid n 8 windows (take 8 words)) (drop 8 words)) locals_is
       ∙ ap (λ (n : ℕ). put_mid n 8 (put_mid (locals_place window) 8 windows (take 8 words)) (drop 8 words)) ins_are)

@@ -1,11 +1,9 @@
 //! Work on registers.
 
-ghost use Rattle.std.specs.Prelude.{◌≡◌, ◌*◌, ◌+◌, ◌/◌, ◌%◌, ◌<◌, ◌≤◌, ◌^◌, List, false};
-ghost use Rattle.guest_bus.specs.Memory.{Area, Memory};
-ghost use Rattle.sparc_code.specs.Decoded.{operand, registers_row};
-ghost use Rattle.sparc_code.specs.Fields.{rd, rs1, simm13};
+ghost use Rattle.std.specs.Prelude.{◌≡◌, ◌⊎◌, ◌*◌, ◌+◌, ◌/◌, ◌%◌, ◌<◌, ◌≤◌, ◌^◌, false};
+ghost use Rattle.sparc_code.specs.Decoded.{registers_row};
+ghost use Rattle.sparc_code.specs.Fields.{rd};
 ghost use Rattle.sparc_step.specs.Arithmetic.{
-  arith_row,
   dividend,
   multiply_step,
   step_addend,
@@ -14,10 +12,17 @@ ghost use Rattle.sparc_step.specs.Arithmetic.{
   tagged_difference_overflows,
   tagged_sum_overflows,
 };
-ghost use Rattle.sparc_step.specs.Execution.{executed};
+ghost use Rattle.sparc_step.specs.Conditions.{
+  codes_of_difference,
+  codes_of_result,
+  codes_of_sum,
+  codes_of_tagged_difference,
+  codes_of_tagged_sum,
+};
+ghost use Rattle.sparc_step.specs.Execution.{TurnsTo};
 ghost use Rattle.sparc_step.specs.Outcome.{with_result, with_result_and_codes};
-ghost use Rattle.sparc_step.specs.Conditions.{codes_of_result};
 ghost use Rattle.sparc_step.specs.Registers.{with_y};
+ghost use Rattle.sparc_step.specs.Words.{difference, sum};
 
 use crate::conditions::{
     carry, codes_of_comparison, codes_of_difference, codes_of_result, codes_of_sum,
@@ -31,16 +36,13 @@ use crate::words::{
     shifted_arithmetically, shifted_left, shifted_right, signed_product, signed_quotient,
     signed_quotient_overflows, sum, sum_overflows,
 };
-use sparc_code::Arith;
 
 // Work on registers, from the selectors 08 to 27.
 #[inline(always)]
 pub(crate) fn work(core: &mut Processor, selector: u32, word: u32) -> Turn
     requires from { 8 ≤ selector }
     requires below { selector < 0x28 }
-    ensures turn { (areas : List Area) (memory : Memory) → result ≡ (executed (registers_row selector word) areas core.old memory).turn }
-    ensures core { (areas : List Area) (memory : Memory) → core.new ≡ (executed (registers_row selector word) areas core.old memory).core }
-    ensures memory { (areas : List Area) (memory : Memory) → memory ≡ (executed (registers_row selector word) areas core.old memory).memory }
+    ensures { TurnsTo (registers_row selector word) core.old result core.new }
 {
     if selector < 0x18 {
         if selector < 0x10 {
@@ -62,9 +64,7 @@ pub(crate) fn work(core: &mut Processor, selector: u32, word: u32) -> Turn
 #[inline(always)]
 pub(crate) fn plain(core: &mut Processor, selector: u32, word: u32) -> Turn
     requires { selector < 8 }
-    ensures turn { (areas : List Area) (memory : Memory) → result ≡ (executed (registers_row selector word) areas core.old memory).turn }
-    ensures core { (areas : List Area) (memory : Memory) → core.new ≡ (executed (registers_row selector word) areas core.old memory).core }
-    ensures memory { (areas : List Area) (memory : Memory) → memory ≡ (executed (registers_row selector word) areas core.old memory).memory }
+    ensures { TurnsTo (registers_row selector word) core.old result core.new }
 {
     let a = first(core, word);
     let b = second(core, word);
@@ -98,9 +98,7 @@ pub(crate) fn plain(core: &mut Processor, selector: u32, word: u32) -> Turn
 fn coded(core: &mut Processor, selector: u32, word: u32) -> Turn
     requires from { 0x10 ≤ selector }
     requires below { selector < 0x18 }
-    ensures turn { (areas : List Area) (memory : Memory) → result ≡ (executed (registers_row selector word) areas core.old memory).turn }
-    ensures core { (areas : List Area) (memory : Memory) → core.new ≡ (executed (registers_row selector word) areas core.old memory).core }
-    ensures memory { (areas : List Area) (memory : Memory) → memory ≡ (executed (registers_row selector word) areas core.old memory).memory }
+    ensures { TurnsTo (registers_row selector word) core.old result core.new }
 {
     let a = first(core, word);
     let b = second(core, word);
@@ -131,12 +129,20 @@ fn coded(core: &mut Processor, selector: u32, word: u32) -> Turn
     Turn::Went
 }
 
-// Puts a result of logic with its condition codes, and goes on.
+// Puts a result that neither overflows nor carries with its condition codes, and goes on.
 #[inline(always)]
 fn put_logic(core: &mut Processor, word: u32, value: u32)
     ensures { core.new ≡ with_result_and_codes (rd word) value (codes_of_result value false) core.old }
 {
-    put_with_codes(core, word, value, codes_of_result(value, false));
+    put_result(core, word, value, false);
+}
+
+// Puts a result with its condition codes, its overflow known, and goes on.
+#[inline(always)]
+fn put_result(core: &mut Processor, word: u32, value: u32, overflows: bool)
+    ensures { core.new ≡ with_result_and_codes (rd word) value (codes_of_result value overflows) core.old }
+{
+    put_with_codes(core, word, value, codes_of_result(value, overflows));
 }
 
 // The selectors 08 to 0f.
@@ -145,29 +151,25 @@ fn put_logic(core: &mut Processor, word: u32, value: u32)
 fn extended(core: &mut Processor, selector: u32, word: u32) -> Turn
     requires from { 0x08 ≤ selector }
     requires below { selector < 0x10 }
-    ensures turn { (areas : List Area) (memory : Memory) → result ≡ (executed (registers_row selector word) areas core.old memory).turn }
-    ensures core { (areas : List Area) (memory : Memory) → core.new ≡ (executed (registers_row selector word) areas core.old memory).core }
-    ensures memory { (areas : List Area) (memory : Memory) → memory ≡ (executed (registers_row selector word) areas core.old memory).memory }
+    ensures { TurnsTo (registers_row selector word) core.old result core.new }
 {
-    if selector < 0x0c {
-        if selector == 0x08 {
-            add_with_carry(core, word)
-        } else if selector == 0x0a {
-            multiply(core, word)
-        } else if selector == 0x0b {
-            multiply_signed(core, word)
-        } else {
-            Turn::Trap(0x02)
-        }
+    let a = first(core, word);
+    let b = second(core, word);
+    let carry = carry(core.icc());
+    if selector == 0x08 {
+        put(core, word, sum(a, b, carry));
     } else if selector == 0x0c {
-        subtract_with_borrow(core, word)
-    } else if selector == 0x0e {
-        divide(core, word)
-    } else if selector == 0x0f {
-        divide_signed(core, word)
+        put(core, word, difference(a, b, carry));
+    } else if selector == 0x0a {
+        put_product(core, word, u64::from(a) * u64::from(b));
+    } else if selector == 0x0b {
+        put_product(core, word, signed_product(a, b));
+    } else if selector >= 0x0e {
+        return divide(core, selector, word);
     } else {
-        Turn::Trap(0x02)
+        return Turn::Trap(0x02);
     }
+    Turn::Went
 }
 
 // The selectors 18 to 1f.
@@ -176,29 +178,25 @@ fn extended(core: &mut Processor, selector: u32, word: u32) -> Turn
 fn extended_coded(core: &mut Processor, selector: u32, word: u32) -> Turn
     requires from { 0x18 ≤ selector }
     requires below { selector < 0x20 }
-    ensures turn { (areas : List Area) (memory : Memory) → result ≡ (executed (registers_row selector word) areas core.old memory).turn }
-    ensures core { (areas : List Area) (memory : Memory) → core.new ≡ (executed (registers_row selector word) areas core.old memory).core }
-    ensures memory { (areas : List Area) (memory : Memory) → memory ≡ (executed (registers_row selector word) areas core.old memory).memory }
+    ensures { TurnsTo (registers_row selector word) core.old result core.new }
 {
-    if selector < 0x1c {
-        if selector == 0x18 {
-            add_with_carry_coded(core, word)
-        } else if selector == 0x1a {
-            multiply_coded(core, word)
-        } else if selector == 0x1b {
-            multiply_signed_coded(core, word)
-        } else {
-            Turn::Trap(0x02)
-        }
+    let a = first(core, word);
+    let b = second(core, word);
+    let carry = carry(core.icc());
+    if selector == 0x18 {
+        put_sum(core, word, a, b, carry);
     } else if selector == 0x1c {
-        subtract_with_borrow_coded(core, word)
-    } else if selector == 0x1e {
-        divide_coded(core, word)
-    } else if selector == 0x1f {
-        divide_signed_coded(core, word)
+        put_difference(core, word, a, b, carry);
+    } else if selector == 0x1a {
+        put_product_with_codes(core, word, u64::from(a) * u64::from(b));
+    } else if selector == 0x1b {
+        put_product_with_codes(core, word, signed_product(a, b));
+    } else if selector >= 0x1e {
+        return divide(core, selector, word);
     } else {
-        Turn::Trap(0x02)
+        return Turn::Trap(0x02);
     }
+    Turn::Went
 }
 
 // The selectors 20 to 24.
@@ -207,23 +205,28 @@ fn extended_coded(core: &mut Processor, selector: u32, word: u32) -> Turn
 fn stepped(core: &mut Processor, selector: u32, word: u32) -> Turn
     requires from { 0x20 ≤ selector }
     requires below { selector < 0x25 }
-    ensures turn { (areas : List Area) (memory : Memory) → result ≡ (executed (registers_row selector word) areas core.old memory).turn }
-    ensures core { (areas : List Area) (memory : Memory) → core.new ≡ (executed (registers_row selector word) areas core.old memory).core }
-    ensures memory { (areas : List Area) (memory : Memory) → memory ≡ (executed (registers_row selector word) areas core.old memory).memory }
+    ensures { TurnsTo (registers_row selector word) core.old result core.new }
 {
-    if selector < 0x22 {
-        if selector == 0x20 {
-            add_tagged(core, word)
-        } else {
-            subtract_tagged(core, word)
-        }
+    let a = first(core, word);
+    let b = second(core, word);
+    if selector == 0x20 {
+        put_tagged_sum(core, word, a, b, tagged_sum_overflows(a, b));
+    } else if selector == 0x21 {
+        put_tagged_difference(core, word, a, b, tagged_difference_overflows(a, b));
+    } else if selector == 0x24 {
+        multiply_step(core, word, a, b);
     } else if selector == 0x22 {
-        add_tagged_or_trap(core, word)
-    } else if selector == 0x23 {
-        subtract_tagged_or_trap(core, word)
+        if tagged_sum_overflows(a, b) {
+            return Turn::Trap(0x0a);
+        }
+        put_tagged_sum(core, word, a, b, false);
     } else {
-        multiply_step(core, word)
+        if tagged_difference_overflows(a, b) {
+            return Turn::Trap(0x0a);
+        }
+        put_tagged_difference(core, word, a, b, false);
     }
+    Turn::Went
 }
 
 // The selectors 25 to 27.
@@ -232,9 +235,7 @@ fn stepped(core: &mut Processor, selector: u32, word: u32) -> Turn
 fn shift(core: &mut Processor, selector: u32, word: u32) -> Turn
     requires from { 0x25 ≤ selector }
     requires below { selector < 0x28 }
-    ensures turn { (areas : List Area) (memory : Memory) → result ≡ (executed (registers_row selector word) areas core.old memory).turn }
-    ensures core { (areas : List Area) (memory : Memory) → core.new ≡ (executed (registers_row selector word) areas core.old memory).core }
-    ensures memory { (areas : List Area) (memory : Memory) → memory ≡ (executed (registers_row selector word) areas core.old memory).memory }
+    ensures { TurnsTo (registers_row selector word) core.old result core.new }
 {
     let a = first(core, word);
     let count = places(core, word);
@@ -248,97 +249,19 @@ fn shift(core: &mut Processor, selector: u32, word: u32) -> Turn
     Turn::Went
 }
 
-// ADDX.
-fn add_with_carry(core: &mut Processor, word: u32) -> Turn
-    ensures turn { result ≡ (arith_row Arith.AddX (rd word) (rs1 word) (operand simm13 word) core.old).turn }
-    ensures core { core.new ≡ (arith_row Arith.AddX (rd word) (rs1 word) (operand simm13 word) core.old).core }
+// Puts a sum with its condition codes, and goes on.
+fn put_sum(core: &mut Processor, word: u32, a: u32, b: u32, carry: bool)
+    ensures { core.new ≡ with_result_and_codes (rd word) (sum a b carry) (codes_of_sum a b carry) core.old }
 {
-    let a = first(core, word);
-    let b = second(core, word);
-    let carry = carry(core.icc());
-    put(core, word, sum(a, b, carry));
-    Turn::Went
-}
-
-// ADDXcc.
-fn add_with_carry_coded(core: &mut Processor, word: u32) -> Turn
-    ensures turn { result ≡ (arith_row Arith.AddXCc (rd word) (rs1 word) (operand simm13 word) core.old).turn }
-    ensures core { core.new ≡ (arith_row Arith.AddXCc (rd word) (rs1 word) (operand simm13 word) core.old).core }
-{
-    let a = first(core, word);
-    let b = second(core, word);
-    let carry = carry(core.icc());
     put_with_codes(core, word, sum(a, b, carry), codes_of_sum(a, b, carry));
-    Turn::Went
 }
 
-// SUBX.
-fn subtract_with_borrow(core: &mut Processor, word: u32) -> Turn
-    ensures turn { result ≡ (arith_row Arith.SubX (rd word) (rs1 word) (operand simm13 word) core.old).turn }
-    ensures core { core.new ≡ (arith_row Arith.SubX (rd word) (rs1 word) (operand simm13 word) core.old).core }
+// The same of a difference.
+fn put_difference(core: &mut Processor, word: u32, a: u32, b: u32, borrow: bool)
+    ensures { core.new ≡ with_result_and_codes (rd word) (difference a b borrow) (codes_of_difference a b borrow) core.old }
 {
-    let a = first(core, word);
-    let b = second(core, word);
-    let borrow = carry(core.icc());
-    put(core, word, difference(a, b, borrow));
-    Turn::Went
-}
-
-// SUBXcc.
-fn subtract_with_borrow_coded(core: &mut Processor, word: u32) -> Turn
-    ensures turn { result ≡ (arith_row Arith.SubXCc (rd word) (rs1 word) (operand simm13 word) core.old).turn }
-    ensures core { core.new ≡ (arith_row Arith.SubXCc (rd word) (rs1 word) (operand simm13 word) core.old).core }
-{
-    let a = first(core, word);
-    let b = second(core, word);
-    let borrow = carry(core.icc());
-    put_with_codes(
-        core,
-        word,
-        difference(a, b, borrow),
-        codes_of_difference(a, b, borrow),
-    );
-    Turn::Went
-}
-
-// UMUL.
-fn multiply(core: &mut Processor, word: u32) -> Turn
-    ensures turn { result ≡ (arith_row Arith.UMul (rd word) (rs1 word) (operand simm13 word) core.old).turn }
-    ensures core { core.new ≡ (arith_row Arith.UMul (rd word) (rs1 word) (operand simm13 word) core.old).core }
-{
-    let product = u64::from(first(core, word)) * u64::from(second(core, word));
-    put_product(core, word, product);
-    Turn::Went
-}
-
-// UMULcc.
-fn multiply_coded(core: &mut Processor, word: u32) -> Turn
-    ensures turn { result ≡ (arith_row Arith.UMulCc (rd word) (rs1 word) (operand simm13 word) core.old).turn }
-    ensures core { core.new ≡ (arith_row Arith.UMulCc (rd word) (rs1 word) (operand simm13 word) core.old).core }
-{
-    let product = u64::from(first(core, word)) * u64::from(second(core, word));
-    put_product_with_codes(core, word, product);
-    Turn::Went
-}
-
-// SMUL.
-fn multiply_signed(core: &mut Processor, word: u32) -> Turn
-    ensures turn { result ≡ (arith_row Arith.SMul (rd word) (rs1 word) (operand simm13 word) core.old).turn }
-    ensures core { core.new ≡ (arith_row Arith.SMul (rd word) (rs1 word) (operand simm13 word) core.old).core }
-{
-    let product = signed_product(first(core, word), second(core, word));
-    put_product(core, word, product);
-    Turn::Went
-}
-
-// SMULcc.
-fn multiply_signed_coded(core: &mut Processor, word: u32) -> Turn
-    ensures turn { result ≡ (arith_row Arith.SMulCc (rd word) (rs1 word) (operand simm13 word) core.old).turn }
-    ensures core { core.new ≡ (arith_row Arith.SMulCc (rd word) (rs1 word) (operand simm13 word) core.old).core }
-{
-    let product = signed_product(first(core, word), second(core, word));
-    put_product_with_codes(core, word, product);
-    Turn::Went
+    let codes = codes_of_difference(a, b, borrow);
+    put_with_codes(core, word, difference(a, b, borrow), codes);
 }
 
 // Puts the low half of a product as the result and its high half into Y, and goes on.
@@ -365,63 +288,28 @@ fn dividend(core: &Processor, a: u32) -> u64
     (u64::from(core.y()) << 32) + u64::from(a)
 }
 
-// UDIV.
-fn divide(core: &mut Processor, word: u32) -> Turn
-    ensures turn { result ≡ (arith_row Arith.UDiv (rd word) (rs1 word) (operand simm13 word) core.old).turn }
-    ensures core { core.new ≡ (arith_row Arith.UDiv (rd word) (rs1 word) (operand simm13 word) core.old).core }
+// The four divisions: without a sign and with one, and each with condition codes.
+#[tactic(auto, unfolding(sparc_code::specs::Decoded::registers_row))]
+fn divide(core: &mut Processor, selector: u32, word: u32) -> Turn
+    requires { (selector ≡ 0x0e) ⊎ (selector ≡ 0x0f) ⊎ (selector ≡ 0x1e) ⊎ (selector ≡ 0x1f) }
+    ensures { TurnsTo (registers_row selector word) core.old result core.new }
 {
     let dividend = dividend(core, first(core, word));
     let divisor = second(core, word);
     if divisor == 0 {
         return Turn::Trap(0x2a);
     }
-    put(core, word, quotient(dividend, divisor));
-    Turn::Went
-}
-
-// UDIVcc.
-fn divide_coded(core: &mut Processor, word: u32) -> Turn
-    ensures turn { result ≡ (arith_row Arith.UDivCc (rd word) (rs1 word) (operand simm13 word) core.old).turn }
-    ensures core { core.new ≡ (arith_row Arith.UDivCc (rd word) (rs1 word) (operand simm13 word) core.old).core }
-{
-    let dividend = dividend(core, first(core, word));
-    let divisor = second(core, word);
-    if divisor == 0 {
-        return Turn::Trap(0x2a);
+    if selector == 0x0e {
+        put(core, word, quotient(dividend, divisor));
+    } else if selector == 0x0f {
+        put(core, word, signed_quotient(dividend, divisor));
+    } else if selector == 0x1e {
+        let overflows = quotient_overflows(dividend, divisor);
+        put_result(core, word, quotient(dividend, divisor), overflows);
+    } else {
+        let overflows = signed_quotient_overflows(dividend, divisor);
+        put_result(core, word, signed_quotient(dividend, divisor), overflows);
     }
-    let value = quotient(dividend, divisor);
-    let codes = codes_of_result(value, quotient_overflows(dividend, divisor));
-    put_with_codes(core, word, value, codes);
-    Turn::Went
-}
-
-// SDIV.
-fn divide_signed(core: &mut Processor, word: u32) -> Turn
-    ensures turn { result ≡ (arith_row Arith.SDiv (rd word) (rs1 word) (operand simm13 word) core.old).turn }
-    ensures core { core.new ≡ (arith_row Arith.SDiv (rd word) (rs1 word) (operand simm13 word) core.old).core }
-{
-    let dividend = dividend(core, first(core, word));
-    let divisor = second(core, word);
-    if divisor == 0 {
-        return Turn::Trap(0x2a);
-    }
-    put(core, word, signed_quotient(dividend, divisor));
-    Turn::Went
-}
-
-// SDIVcc.
-fn divide_signed_coded(core: &mut Processor, word: u32) -> Turn
-    ensures turn { result ≡ (arith_row Arith.SDivCc (rd word) (rs1 word) (operand simm13 word) core.old).turn }
-    ensures core { core.new ≡ (arith_row Arith.SDivCc (rd word) (rs1 word) (operand simm13 word) core.old).core }
-{
-    let dividend = dividend(core, first(core, word));
-    let divisor = second(core, word);
-    if divisor == 0 {
-        return Turn::Trap(0x2a);
-    }
-    let value = signed_quotient(dividend, divisor);
-    let codes = codes_of_result(value, signed_quotient_overflows(dividend, divisor));
-    put_with_codes(core, word, value, codes);
     Turn::Went
 }
 
@@ -441,66 +329,20 @@ fn tagged_difference_overflows(a: u32, b: u32) -> bool
     difference_overflows(a, b, false) || is_tagged(a, b)
 }
 
-// TADDcc.
-fn add_tagged(core: &mut Processor, word: u32) -> Turn
-    ensures turn { result ≡ (arith_row Arith.TAddCc (rd word) (rs1 word) (operand simm13 word) core.old).turn }
-    ensures core { core.new ≡ (arith_row Arith.TAddCc (rd word) (rs1 word) (operand simm13 word) core.old).core }
+// Puts a sum with the condition codes of tagged work, and goes on.
+fn put_tagged_sum(core: &mut Processor, word: u32, a: u32, b: u32, overflows: bool)
+    ensures { core.new ≡ with_result_and_codes (rd word) (sum a b false) (codes_of_tagged_sum a b overflows) core.old }
 {
-    let a = first(core, word);
-    let b = second(core, word);
-    let codes = codes_of_tagged_sum(a, b, tagged_sum_overflows(a, b));
+    let codes = codes_of_tagged_sum(a, b, overflows);
     put_with_codes(core, word, sum(a, b, false), codes);
-    Turn::Went
 }
 
-// TSUBcc.
-fn subtract_tagged(core: &mut Processor, word: u32) -> Turn
-    ensures turn { result ≡ (arith_row Arith.TSubCc (rd word) (rs1 word) (operand simm13 word) core.old).turn }
-    ensures core { core.new ≡ (arith_row Arith.TSubCc (rd word) (rs1 word) (operand simm13 word) core.old).core }
+// The same of a difference.
+fn put_tagged_difference(core: &mut Processor, word: u32, a: u32, b: u32, overflows: bool)
+    ensures { core.new ≡ with_result_and_codes (rd word) (difference a b false) (codes_of_tagged_difference a b overflows) core.old }
 {
-    let a = first(core, word);
-    let b = second(core, word);
-    let codes = codes_of_tagged_difference(a, b, tagged_difference_overflows(a, b));
+    let codes = codes_of_tagged_difference(a, b, overflows);
     put_with_codes(core, word, difference(a, b, false), codes);
-    Turn::Went
-}
-
-// TADDccTV.
-fn add_tagged_or_trap(core: &mut Processor, word: u32) -> Turn
-    ensures turn { result ≡ (arith_row Arith.TAddCcTv (rd word) (rs1 word) (operand simm13 word) core.old).turn }
-    ensures core { core.new ≡ (arith_row Arith.TAddCcTv (rd word) (rs1 word) (operand simm13 word) core.old).core }
-{
-    let a = first(core, word);
-    let b = second(core, word);
-    if tagged_sum_overflows(a, b) {
-        return Turn::Trap(0x0a);
-    }
-    put_with_codes(
-        core,
-        word,
-        sum(a, b, false),
-        codes_of_tagged_sum(a, b, false),
-    );
-    Turn::Went
-}
-
-// TSUBccTV.
-fn subtract_tagged_or_trap(core: &mut Processor, word: u32) -> Turn
-    ensures turn { result ≡ (arith_row Arith.TSubCcTv (rd word) (rs1 word) (operand simm13 word) core.old).turn }
-    ensures core { core.new ≡ (arith_row Arith.TSubCcTv (rd word) (rs1 word) (operand simm13 word) core.old).core }
-{
-    let a = first(core, word);
-    let b = second(core, word);
-    if tagged_difference_overflows(a, b) {
-        return Turn::Trap(0x0a);
-    }
-    put_with_codes(
-        core,
-        word,
-        difference(a, b, false),
-        codes_of_tagged_difference(a, b, false),
-    );
-    Turn::Went
 }
 
 // The first operand of a step of a multiplication.
@@ -529,21 +371,12 @@ fn stepped_y(core: &Processor, a: u32) -> u32
 
 // MULScc.
 #[tactic(auto, unfolding(crate::specs::Arithmetic::multiply_step))]
-fn multiply_step(core: &mut Processor, word: u32) -> Turn
-    ensures turn { result ≡ (arith_row Arith.MulSCc (rd word) (rs1 word) (operand simm13 word) core.old).turn }
-    ensures core { core.new ≡ (arith_row Arith.MulSCc (rd word) (rs1 word) (operand simm13 word) core.old).core }
+fn multiply_step(core: &mut Processor, word: u32, a: u32, b: u32)
+    ensures { core.new ≡ multiply_step (rd word) a b core.old }
 {
-    let a = first(core, word);
-    let b = second(core, word);
     let augend = stepped_operand(core, a);
     let addend = step_addend(core, b);
     let y = stepped_y(core, a);
     core.set_y(y);
-    put_with_codes(
-        core,
-        word,
-        sum(augend, addend, false),
-        codes_of_sum(augend, addend, false),
-    );
-    Turn::Went
+    put_sum(core, word, augend, addend, false);
 }

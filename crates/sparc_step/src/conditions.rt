@@ -1,6 +1,6 @@
 //! The condition codes.
 
-ghost use Rattle.std.specs.Prelude.{◌≡◌, ◌<◌, false};
+ghost use Rattle.std.specs.Prelude.{◌≡◌, ◌<◌, ◌==◌, false};
 ghost use Rattle.sparc_step.specs.Conditions.{
   carry,
   codes_of_difference,
@@ -13,6 +13,7 @@ ghost use Rattle.sparc_step.specs.Conditions.{
   negative,
   overflow,
 };
+ghost use Rattle.sparc_step.specs.Words.{sign};
 
 use crate::words::{
     addition_overflows, comparison_overflows, difference, difference_borrows, difference_overflows,
@@ -28,13 +29,22 @@ pub(crate) fn condition_codes(n: bool, z: bool, v: bool, c: bool) -> u8
     8 * u8::from(n) + 4 * u8::from(z) + 2 * u8::from(v) + u8::from(c)
 }
 
+// The condition codes of a result, its overflow and its carry known.
+#[inline(always)]
+fn codes_of(value: u32, overflow: bool, carry: bool) -> u8
+    ensures value { result ≡ condition_codes (sign value) (value == 0) overflow carry }
+    ensures four { result < 16 }
+{
+    condition_codes(sign(value), value == 0, overflow, carry)
+}
+
 /// The condition codes of a result, with an overflow and without a carry.
 #[tactic(auto, unfolding(crate::specs::Conditions::codes_of_result))]
 pub fn codes_of_result(value: u32, overflow: bool) -> u8
     ensures value { result ≡ codes_of_result value overflow }
     ensures four { result < 16 }
 {
-    condition_codes(sign(value), value == 0, overflow, false)
+    codes_of(value, overflow, false)
 }
 
 /// The condition codes of a sum.
@@ -43,39 +53,28 @@ pub fn codes_of_sum(a: u32, b: u32, carry: bool) -> u8
     ensures value { result ≡ codes_of_sum a b carry }
     ensures four { result < 16 }
 {
-    let value = sum(a, b, carry);
-    condition_codes(
-        sign(value),
-        value == 0,
-        sum_overflows(a, b, carry),
-        sum_carries(a, b, carry),
-    )
+    let overflow = sum_overflows(a, b, carry);
+    codes_of(sum(a, b, carry), overflow, sum_carries(a, b, carry))
 }
 
 /// The condition codes of an addition, which are those of a sum without a carry.
 #[inline(always)]
-#[tactic(auto, unfolding(crate::specs::Conditions::codes_of_sum))]
+#[tactic(auto, unfolding(crate::specs::Conditions::codes_of_sum, crate::specs::Conditions::codes_of_tagged_sum))]
 pub fn codes_of_addition(a: u32, b: u32) -> u8
     ensures value { result ≡ codes_of_sum a b false }
     ensures four { result < 16 }
 {
-    let value = sum(a, b, false);
-    condition_codes(
-        sign(value),
-        value == 0,
-        addition_overflows(a, b),
-        sum_carries(a, b, false),
-    )
+    codes_of_tagged_sum(a, b, addition_overflows(a, b))
 }
 
 // The condition codes of a sum, its overflow known.
+#[inline(always)]
 #[tactic(auto, unfolding(crate::specs::Conditions::codes_of_tagged_sum))]
 pub(crate) fn codes_of_tagged_sum(a: u32, b: u32, overflow: bool) -> u8
     ensures value { result ≡ codes_of_tagged_sum a b overflow }
     ensures four { result < 16 }
 {
-    let value = sum(a, b, false);
-    condition_codes(sign(value), value == 0, overflow, sum_carries(a, b, false))
+    codes_of(sum(a, b, false), overflow, sum_carries(a, b, false))
 }
 
 // The condition codes of a difference.
@@ -84,44 +83,30 @@ pub(crate) fn codes_of_difference(a: u32, b: u32, borrow: bool) -> u8
     ensures value { result ≡ codes_of_difference a b borrow }
     ensures four { result < 16 }
 {
-    let value = difference(a, b, borrow);
-    condition_codes(
-        sign(value),
-        value == 0,
-        difference_overflows(a, b, borrow),
-        difference_borrows(a, b, borrow),
-    )
+    let overflow = difference_overflows(a, b, borrow);
+    let borrows = difference_borrows(a, b, borrow);
+    codes_of(difference(a, b, borrow), overflow, borrows)
 }
 
 /// The condition codes of a comparison, which are those of a difference without a borrow.
 #[inline(always)]
-#[tactic(auto, unfolding(crate::specs::Conditions::codes_of_difference))]
+#[tactic(auto, unfolding(crate::specs::Conditions::codes_of_difference, crate::specs::Conditions::codes_of_tagged_difference))]
 pub fn codes_of_comparison(a: u32, b: u32) -> u8
     ensures value { result ≡ codes_of_difference a b false }
     ensures four { result < 16 }
 {
-    let value = difference(a, b, false);
-    condition_codes(
-        sign(value),
-        value == 0,
-        comparison_overflows(a, b),
-        difference_borrows(a, b, false),
-    )
+    codes_of_tagged_difference(a, b, comparison_overflows(a, b))
 }
 
 // The condition codes of a difference, its overflow known.
+#[inline(always)]
 #[tactic(auto, unfolding(crate::specs::Conditions::codes_of_tagged_difference))]
 pub(crate) fn codes_of_tagged_difference(a: u32, b: u32, overflow: bool) -> u8
     ensures value { result ≡ codes_of_tagged_difference a b overflow }
     ensures four { result < 16 }
 {
-    let value = difference(a, b, false);
-    condition_codes(
-        sign(value),
-        value == 0,
-        overflow,
-        difference_borrows(a, b, false),
-    )
+    let borrows = difference_borrows(a, b, false);
+    codes_of(difference(a, b, false), overflow, borrows)
 }
 
 // For each condition a bit for each of the codes 0 to 15 of which it holds.

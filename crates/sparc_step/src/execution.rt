@@ -4,7 +4,7 @@ ghost use Rattle.std.specs.Prelude.{◌≡◌, ◌≢◌, ◌<◌, ◌≤◌, �
 ghost use Rattle.guest_bus.specs.Memory.{Area, Memory};
 ghost use Rattle.sparc_code.specs.Decoded.{decoded, format2_row, memory_row, read_state, registers_row, write_state};
 ghost use Rattle.sparc_code.specs.Fields.{op2, op3};
-ghost use Rattle.sparc_step.specs.Execution.{executed, refused, turned};
+ghost use Rattle.sparc_step.specs.Execution.{TurnsTo, executed, refused, turned};
 ghost use Rattle.sparc_step.specs.Registers.{Registers, advanced};
 ghost use Rattle.sparc_step.specs.Undone.{IsUndone};
 
@@ -84,9 +84,7 @@ pub(crate) fn execute<B: Bus>(core: &mut Processor, bus: &mut B, word: u32) -> T
 #[inline(always)]
 fn format2(core: &mut Processor, selector: u32, word: u32) -> Turn
     requires { selector < 8 }
-    ensures turn { (areas : List Area) (memory : Memory) → result ≡ (executed (format2_row selector word) areas core.old memory).turn }
-    ensures core { (areas : List Area) (memory : Memory) → core.new ≡ (executed (format2_row selector word) areas core.old memory).core }
-    ensures memory { (areas : List Area) (memory : Memory) → memory ≡ (executed (format2_row selector word) areas core.old memory).memory }
+    ensures { TurnsTo (format2_row selector word) core.old result core.new }
 {
     if selector == 2 {
         branch(core, word);
@@ -120,9 +118,7 @@ fn other_format2(selector: u32) -> u8
 #[inline(always)]
 fn on_registers(core: &mut Processor, selector: u32, word: u32) -> Turn
     requires { selector < 64 }
-    ensures turn { (areas : List Area) (memory : Memory) → result ≡ (executed (registers_row selector word) areas core.old memory).turn }
-    ensures core { (areas : List Area) (memory : Memory) → core.new ≡ (executed (registers_row selector word) areas core.old memory).core }
-    ensures memory { (areas : List Area) (memory : Memory) → memory ≡ (executed (registers_row selector word) areas core.old memory).memory }
+    ensures { TurnsTo (registers_row selector word) core.old result core.new }
 {
     if selector < 8 {
         plain(core, selector, word)
@@ -141,9 +137,7 @@ fn on_registers(core: &mut Processor, selector: u32, word: u32) -> Turn
 fn on_state(core: &mut Processor, selector: u32, word: u32) -> Turn
     requires from { 0x28 ≤ selector }
     requires below { selector < 0x38 }
-    ensures turn { (areas : List Area) (memory : Memory) → result ≡ (executed (registers_row selector word) areas core.old memory).turn }
-    ensures core { (areas : List Area) (memory : Memory) → core.new ≡ (executed (registers_row selector word) areas core.old memory).core }
-    ensures memory { (areas : List Area) (memory : Memory) → memory ≡ (executed (registers_row selector word) areas core.old memory).memory }
+    ensures { TurnsTo (registers_row selector word) core.old result core.new }
 {
     if selector < 0x30 {
         if selector == 0x28 {
@@ -167,9 +161,7 @@ fn on_state(core: &mut Processor, selector: u32, word: u32) -> Turn
 // RDY and STBAR.
 #[tactic(auto, unfolding(sparc_code::specs::Decoded::read_state))]
 fn read_state(core: &mut Processor, word: u32) -> Turn
-    ensures turn { (areas : List Area) (memory : Memory) → result ≡ (executed (read_state word) areas core.old memory).turn }
-    ensures core { (areas : List Area) (memory : Memory) → core.new ≡ (executed (read_state word) areas core.old memory).core }
-    ensures memory { (areas : List Area) (memory : Memory) → memory ≡ (executed (read_state word) areas core.old memory).memory }
+    ensures { TurnsTo (read_state word) core.old result core.new }
 {
     if rs1(word) == 0 {
         read_y(core, word);
@@ -185,9 +177,7 @@ fn read_state(core: &mut Processor, word: u32) -> Turn
 // WRY.
 #[tactic(auto, unfolding(sparc_code::specs::Decoded::write_state))]
 fn write_state(core: &mut Processor, word: u32) -> Turn
-    ensures turn { (areas : List Area) (memory : Memory) → result ≡ (executed (write_state word) areas core.old memory).turn }
-    ensures core { (areas : List Area) (memory : Memory) → core.new ≡ (executed (write_state word) areas core.old memory).core }
-    ensures memory { (areas : List Area) (memory : Memory) → memory ≡ (executed (write_state word) areas core.old memory).memory }
+    ensures { TurnsTo (write_state word) core.old result core.new }
 {
     if rd(word) == 0 {
         write_y(core, word);
@@ -203,9 +193,7 @@ fn write_state(core: &mut Processor, word: u32) -> Turn
 fn transfer_control(core: &mut Processor, selector: u32, word: u32) -> Turn
     requires from { 0x38 ≤ selector }
     requires below { selector < 0x40 }
-    ensures turn { (areas : List Area) (memory : Memory) → result ≡ (executed (registers_row selector word) areas core.old memory).turn }
-    ensures core { (areas : List Area) (memory : Memory) → core.new ≡ (executed (registers_row selector word) areas core.old memory).core }
-    ensures memory { (areas : List Area) (memory : Memory) → memory ≡ (executed (registers_row selector word) areas core.old memory).memory }
+    ensures { TurnsTo (registers_row selector word) core.old result core.new }
 {
     if selector < 0x3b {
         if selector == 0x38 {
@@ -264,45 +252,18 @@ fn other_space(selector: u32) -> u8
 }
 
 // The selectors 20 to 3f, the other units: which trap each raises.
+#[tactic(auto, unfolding(sparc_code::specs::Decoded::memory_row))]
 #[inline(never)]
 fn other_unit(selector: u32) -> u8
     requires from { 0x20 ≤ selector }
     requires below { selector < 0x40 }
     ensures { (word : ℕ) (areas : List Area) (core : Registers) (memory : Memory) → executed (memory_row selector word) areas core memory ≡ refused result core memory }
 {
-    if selector < 0x30 {
-        floating_point(selector)
-    } else {
-        coprocessor(selector)
-    }
-}
-
-// The selectors 20 to 2f.
-#[tactic(auto, unfolding(sparc_code::specs::Decoded::memory_row))]
-fn floating_point(selector: u32) -> u8
-    requires from { 0x20 ≤ selector }
-    requires below { selector < 0x30 }
-    ensures { (word : ℕ) (areas : List Area) (core : Registers) (memory : Memory) → executed (memory_row selector word) areas core memory ≡ refused result core memory }
-{
     if matches!(selector, 0x20 | 0x21 | 0x23..=0x25 | 0x27) {
         0x04
-    } else if selector == 0x26 {
-        0x03
-    } else {
-        0x02
-    }
-}
-
-// The selectors 30 to 3f.
-#[tactic(auto, unfolding(sparc_code::specs::Decoded::memory_row))]
-fn coprocessor(selector: u32) -> u8
-    requires from { 0x30 ≤ selector }
-    requires below { selector < 0x40 }
-    ensures { (word : ℕ) (areas : List Area) (core : Registers) (memory : Memory) → executed (memory_row selector word) areas core memory ≡ refused result core memory }
-{
-    if matches!(selector, 0x30 | 0x31 | 0x33..=0x35 | 0x37) {
+    } else if matches!(selector, 0x30 | 0x31 | 0x33..=0x35 | 0x37) {
         0x24
-    } else if selector == 0x36 {
+    } else if matches!(selector, 0x26 | 0x36) {
         0x03
     } else {
         0x02

@@ -1,6 +1,6 @@
 //! Branches, calls, jumps, traps, and moves between windows.
 
-ghost use Rattle.std.specs.Prelude.{◌≡◌, ◌≢◌, ◌*◌, ◌%◌, ◌<◌, ◌==◌, Bool};
+ghost use Rattle.std.specs.Prelude.{◌≡◌, ◌≢◌, ◌+◌, ◌%◌, ◌^◌, ◌<◌, ◌==◌};
 ghost use Rattle.sparc_code.specs.Decoded.{operand};
 ghost use Rattle.sparc_code.specs.Fields.{annul, cond, disp22, disp30, imm7, imm22, rd, rs1, simm13};
 ghost use Rattle.sparc_step.specs.Flow.{
@@ -16,13 +16,11 @@ ghost use Rattle.sparc_step.specs.Flow.{
   save_row,
   sethi_row,
   taken,
-  branch_target,
   trap_row,
   trap_type,
-  window_above,
-  window_below,
   write_y_row,
 };
+ghost use Rattle.sparc_step.specs.Operands.{sum_of};
 ghost use Rattle.sparc_step.specs.Outcome.{with_result};
 
 use crate::conditions::holds;
@@ -32,44 +30,34 @@ use crate::processor::Processor;
 use sparc_code::fields::{annul, cond, imm22, rd};
 
 // CALL.
-#[tactic(auto, unfolding(crate::specs::Flow::call_row))]
+#[tactic(auto, unfolding(crate::specs::Flow::call_row, crate::specs::Flow::branch_target))]
 #[inline(always)]
 pub(crate) fn call(core: &mut Processor, word: u32)
     ensures { core.new ≡ call_row (disp30 word) core.old }
 {
     let pc = core.pc();
     core.set(15, pc);
-    core.branch(call_target(pc, word));
+    core.branch(target(pc, call_bytes(word)));
 }
 
-// Where a call goes.
-#[tactic(auto, unfolding(crate::specs::Flow::branch_target))]
-fn call_target(pc: u32, word: u32) -> u32
-    requires { pc % 4 ≡ 0 }
-    ensures value { result ≡ branch_target pc (disp30 word) }
+// Where a call or a branch goes, so many bytes on.
+fn target(pc: u32, bytes: u32) -> u32
+    requires pc { pc % 4 ≡ 0 }
+    requires bytes { bytes % 4 ≡ 0 }
+    ensures value { result ≡ (pc + bytes) % 2 ^ 32 }
     ensures aligned { result % 4 ≡ 0 }
 {
-    pc.wrapping_add(call_bytes(word))
-}
-
-// Where a branch goes.
-#[tactic(auto, unfolding(crate::specs::Flow::branch_target))]
-fn branch_target(pc: u32, word: u32) -> u32
-    requires { pc % 4 ≡ 0 }
-    ensures value { result ≡ branch_target pc (disp22 word) }
-    ensures aligned { result % 4 ≡ 0 }
-{
-    pc.wrapping_add(branch_bytes(word))
+    pc.wrapping_add(bytes)
 }
 
 // Bicc.
-#[tactic(auto, unfolding(crate::specs::Flow::branch_row))]
+#[tactic(auto, unfolding(crate::specs::Flow::branch_row, crate::specs::Flow::branch_target))]
 #[inline(always)]
 pub(crate) fn branch(core: &mut Processor, word: u32)
     ensures { core.new ≡ branch_row (cond word) (annul word == 1) (disp22 word) core.old }
 {
     if holds(cond(word), core.icc()) {
-        let target = branch_target(core.pc(), word);
+        let target = target(core.pc(), branch_bytes(word));
         take(core, cond(word), annul(word) == 1, target);
     } else {
         pass(core, annul(word) == 1);
@@ -176,33 +164,39 @@ fn trap_type(number: u32) -> u8
 }
 
 // SAVE.
-#[tactic(auto, unfolding(crate::specs::Flow::moved, crate::specs::Flow::window_below))]
+#[tactic(auto, unfolding(crate::specs::Flow::window_below))]
 #[inline(always)]
 pub(crate) fn save(core: &mut Processor, word: u32) -> Turn
     ensures turn { result ≡ (save_row (rd word) (rs1 word) (operand simm13 word) core.old).turn }
     ensures core { core.new ≡ (save_row (rd word) (rs1 word) (operand simm13 word) core.old).core }
 {
-    let value = sum_of(core, word);
     let window = (core.cwp() + 7) % 8;
-    if window == core.inv() {
-        return Turn::Trap(0x05);
-    }
-    enter(core, window, word, value);
-    Turn::Went
+    shift_window(core, window, 0x05, word)
 }
 
 // RESTORE.
-#[tactic(auto, unfolding(crate::specs::Flow::moved, crate::specs::Flow::window_above))]
+#[tactic(auto, unfolding(crate::specs::Flow::window_above))]
 #[inline(always)]
 pub(crate) fn restore(core: &mut Processor, word: u32) -> Turn
     ensures turn { result ≡ (restore_row (rd word) (rs1 word) (operand simm13 word) core.old).turn }
     ensures core { core.new ≡ (restore_row (rd word) (rs1 word) (operand simm13 word) core.old).core }
 {
-    let value = sum_of(core, word);
     let window = (core.cwp() + 1) % 8;
+    shift_window(core, window, 0x06, word)
+}
+
+// Moves to a window with the sum of the operands as its result, or traps where that is the invalid one.
+#[tactic(auto, unfolding(crate::specs::Flow::moved))]
+#[inline(always)]
+fn shift_window(core: &mut Processor, window: u8, trap_type: u8, word: u32) -> Turn
+    requires { window < 8 }
+    ensures turn { result ≡ (moved window trap_type (rd word) (sum_of (rs1 word) (operand simm13 word) core.old) core.old).turn }
+    ensures core { core.new ≡ (moved window trap_type (rd word) (sum_of (rs1 word) (operand simm13 word) core.old) core.old).core }
+{
     if window == core.inv() {
-        return Turn::Trap(0x06);
+        return Turn::Trap(trap_type);
     }
+    let value = sum_of(core, word);
     enter(core, window, word, value);
     Turn::Went
 }

@@ -16,4 +16,4 @@ pub use execution::turn;
 pub use guest_bus::{Bus, BusFault, Size};
 pub use outcome::Turn;
 pub use processor::Processor;
-pub use registers::Core;
+pub use registers::{Core, place_in_windows};

@@ -193,11 +193,8 @@ impl Processor {
     {
         let mut words = [0; 16];
         take_first(&mut words, &self.windows, 16 * usize::from(window) + 8);
-        take_second(
-            &mut words,
-            &self.windows,
-            16 * usize::from((window + 1) % 8),
-        );
+        let ins = 16 * usize::from((window + 1) % 8);
+        copy_words(&mut words, 8, &self.windows, ins, 8);
         words
     }
 
@@ -212,7 +209,8 @@ impl Processor {
         ensures whole { length self.old.windows ≡ 128 }
     {
         give_first(&mut self.windows, words, 16 * usize::from(window) + 8);
-        give_second(&mut self.windows, words, 16 * usize::from((window + 1) % 8));
+        let ins = 16 * usize::from((window + 1) % 8);
+        copy_words(&mut self.windows, ins, words, 8, 8);
     }
 
     /// The value of a register of the current window.
@@ -362,28 +360,8 @@ fn take_window(hand: &mut [u32], windows: &[u32], window: u8)
     ensures windows { windows_with window hand.new windows.now ≡ windows.now }
     ensures globals { take 8 hand.new ≡ take 8 hand.old }
 {
-    take_own(hand, windows, 16 * usize::from(window));
-    take_ins(hand, windows, 16 * usize::from((window + 1) % 8));
-}
-
-// Takes the outs and locals of a window to hand.
-#[inline(always)]
-fn take_own(hand: &mut [u32], windows: &[u32], at: usize)
-    requires hand { length hand.old ≡ 32 }
-    requires windows { at + 16 ≤ length windows.now }
-    ensures { hand.new ≡ put_mid 8 16 hand.old (take 16 (drop at windows.now)) }
-{
-    hand[8..24].copy_from_slice(&windows[at..at + 16]);
-}
-
-// Takes the ins of a window to hand.
-#[inline(always)]
-fn take_ins(hand: &mut [u32], windows: &[u32], at: usize)
-    requires hand { length hand.old ≡ 32 }
-    requires windows { at + 8 ≤ length windows.now }
-    ensures { hand.new ≡ put_mid 24 8 hand.old (take 8 (drop at windows.now)) }
-{
-    hand[24..].copy_from_slice(&windows[at..at + 8]);
+    copy_words(hand, 8, windows, 16 * usize::from(window), 16);
+    copy_words(hand, 24, windows, 16 * usize::from((window + 1) % 8), 8);
 }
 
 // Writes what is cached of a window back to the windows.
@@ -394,28 +372,8 @@ fn write_window(windows: &mut [u32], hand: &[u32], window: u8)
     requires window { window < 8 }
     ensures { windows.new ≡ windows_with window hand.now windows.old }
 {
-    write_own(windows, hand, 16 * usize::from(window));
-    write_ins(windows, hand, 16 * usize::from((window + 1) % 8));
-}
-
-// Writes the outs and locals back.
-#[inline(always)]
-fn write_own(windows: &mut [u32], hand: &[u32], at: usize)
-    requires hand { length hand.now ≡ 32 }
-    requires windows { at + 16 ≤ length windows.old }
-    ensures { windows.new ≡ put_mid at 16 windows.old (take 16 (drop 8 hand.now)) }
-{
-    windows[at..at + 16].copy_from_slice(&hand[8..24]);
-}
-
-// Writes the ins back.
-#[inline(always)]
-fn write_ins(windows: &mut [u32], hand: &[u32], at: usize)
-    requires hand { length hand.now ≡ 32 }
-    requires windows { at + 8 ≤ length windows.old }
-    ensures { windows.new ≡ put_mid at 8 windows.old (drop 24 hand.now) }
-{
-    windows[at..at + 8].copy_from_slice(&hand[24..]);
+    copy_words(windows, 16 * usize::from(window), hand, 8, 16);
+    copy_words(windows, 16 * usize::from((window + 1) % 8), hand, 24, 8);
 }
 
 // Takes eight words of the windows from a place on as the first of sixteen.
@@ -426,17 +384,7 @@ fn take_first(words: &mut [u32], windows: &[u32], at: usize)
     requires windows { at + 8 ≤ length windows.now }
     ensures { words.new ≡ with_first words.old (take 8 (drop at windows.now)) }
 {
-    words[0..8].copy_from_slice(&windows[at..at + 8]);
-}
-
-// Takes eight words of the windows from a place on as the second of sixteen.
-#[inline(always)]
-fn take_second(words: &mut [u32], windows: &[u32], at: usize)
-    requires words { length words.old ≡ 16 }
-    requires windows { at + 8 ≤ length windows.now }
-    ensures { words.new ≡ put_mid 8 8 words.old (take 8 (drop at windows.now)) }
-{
-    words[8..16].copy_from_slice(&windows[at..at + 8]);
+    copy_words(words, 0, windows, at, 8);
 }
 
 // Puts the first eight of sixteen words into the windows from a place on.
@@ -447,15 +395,15 @@ fn give_first(windows: &mut [u32], words: &[u32], at: usize)
     ensures put { windows.new ≡ put_mid at 8 windows.old (take 8 words.now) }
     ensures counted { length words.now ≡ 16 }
 {
-    windows[at..at + 8].copy_from_slice(&words[..8]);
+    copy_words(windows, at, words, 0, 8);
 }
 
-// Puts the second eight of sixteen words into the windows from a place on.
+// Copies so many words from a place on to a place.
 #[inline(always)]
-fn give_second(windows: &mut [u32], words: &[u32], at: usize)
-    requires words { length words.now ≡ 16 }
-    requires windows { at + 8 ≤ length windows.old }
-    ensures { windows.new ≡ put_mid at 8 windows.old (drop 8 words.now) }
+fn copy_words(to: &mut [u32], at: usize, from: &[u32], start: usize, count: usize)
+    requires to { at + count ≤ length to.old }
+    requires from { start + count ≤ length from.now }
+    ensures { to.new ≡ put_mid at count to.old (take count (drop start from.now)) }
 {
-    windows[at..at + 8].copy_from_slice(&words[8..]);
+    to[at..at + count].copy_from_slice(&from[start..start + count]);
 }

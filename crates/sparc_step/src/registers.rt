@@ -87,8 +87,8 @@ impl Core {
     }
 }
 
-// Where a register of a window stands.
-fn place_in_windows(window: u8, r: u8) -> usize
+/// Where a register of a window stands.
+pub fn place_in_windows(window: u8, r: u8) -> usize
     requires window { window < 8 }
     requires low { 8 ≤ r }
     requires high { r < 32 }

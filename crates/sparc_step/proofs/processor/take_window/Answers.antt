@@ -6,4 +6,4 @@ use Rattle.sparc_step.proofs.processor.take_window.Goals as goal
 pub returns-clause-windows : goal.returns-clause-windows
 returns-clause-windows c =
     taken_in_two c.args.window _ _ _ _ _ _ c.requires.window c.requires.hand c.requires.windows
-    (ap (λ window. 16 * window) c.from.ensures) (ap (λ window. 16 * window) c.from-2.ensures) c.take_own.ensures c.take_ins.ensures
+    (ap (λ window. 16 * window) c.from.ensures) (ap (λ window. 16 * window) c.from-2.ensures) c.copy_words.ensures c.copy_words-2.ensures

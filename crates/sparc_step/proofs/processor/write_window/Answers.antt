@@ -6,4 +6,4 @@ use Rattle.sparc_step.proofs.processor.write_window.Goals as goal
 pub returns : goal.returns
 returns c =
     written_in_two c.args.window _ _ _ _ _ _ c.requires.window c.requires.hand c.requires.windows
-    (ap (λ window. 16 * window) c.from.ensures) (ap (λ window. 16 * window) c.from-2.ensures) c.write_own.ensures c.write_ins.ensures
+    (ap (λ window. 16 * window) c.from.ensures) (ap (λ window. 16 * window) c.from-2.ensures) c.copy_words.ensures c.copy_words-2.ensures

@@ -6,7 +6,7 @@ use Rattle.sparc_step.proofs.processor.Processor.put_saved.Goals as goal
 pub returns-clause-put : goal.returns-clause-put
 returns-clause-put c =
     put_seen c.self.inside.pc c.self.inside.npc c.self.inside.y c.self.inside.icc c.self.inside.cwp c.self.inside.inv c.self.inside.hand c.self.inside.windows c.args.self.now c.self.view_is c.self.invariant c.args.window c.requires.window _ _ c.args.words.now _ _ c.requires.other c.requires.below
-    (ap (λ (w : ℕ). 16 * w + 8) c.from.ensures) (ap (λ (w : ℕ). 16 * w) c.from-2.ensures) c.give_first.ensures.counted c.give_first.ensures.put c.give_second.ensures
+    (ap (λ (w : ℕ). 16 * w + 8) c.from.ensures) (ap (λ (w : ℕ). 16 * w) c.from-ins.ensures) c.give_first.ensures.counted c.give_first.ensures.put c.copy_words.ensures
 
 pub returns-clause-current : goal.returns-clause-current
 unfolding with_saved

@@ -5,7 +5,7 @@ use Rattle.sparc_step.proofs.processor.Processor.saved.Goals as goal
 pub returns-clause-saved : goal.returns-clause-saved
 returns-clause-saved c =
     saved_seen c.self.inside.pc c.self.inside.npc c.self.inside.y c.self.inside.icc c.self.inside.cwp c.self.inside.inv c.self.inside.hand c.self.inside.windows c.args.self.now c.self.view_is c.self.invariant c.args.window c.requires.window _ _ _ _ _ c.requires.other c.requires.below
-    (ap (λ (w : ℕ). 16 * w + 8) c.from.ensures) (ap (λ (w : ℕ). 16 * w) c.from-2.ensures) refl c.take_first.ensures c.take_second.ensures
+    (ap (λ (w : ℕ). 16 * w + 8) c.from.ensures) (ap (λ (w : ℕ). 16 * w) c.from-ins.ensures) refl c.take_first.ensures c.copy_words.ensures
 
 pub returns-clause-whole : goal.returns-clause-whole
 returns-clause-whole c = windows_seen c.self.inside.pc c.self.inside.npc c.self.inside.y c.self.inside.icc c.self.inside.cwp c.self.inside.inv c.self.inside.hand c.self.inside.windows c.args.self.now c.self.view_is c.self.invariant c.args.window c.requires.window
