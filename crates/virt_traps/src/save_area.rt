@@ -8,6 +8,7 @@ ghost use Rattle.guest_bus.specs.Words.{allows, bytes_of, words_at};
 ghost use Rattle.virt_traps.specs.SaveArea.{is_usable, register_of, registers_from, saved, with_registers};
 
 use guest_bus::{Bus, Size};
+use sparc_step::place_in_windows;
 
 // How many double words a save area has.
 const DOUBLES: u8 = 8;
@@ -196,19 +197,4 @@ pub(crate) fn register_of(windows: &[u32; 128], window: u8, n: u8) -> u32
     ensures { result ≡ register_of windows.now window n }
 {
     windows[place_in_windows(window, n)]
-}
-
-// Where a register of a window stands.
-fn place_in_windows(window: u8, n: u8) -> usize
-    requires window { window < 8 }
-    requires low { 8 ≤ n }
-    requires high { n < 32 }
-    ensures place { result ≡ place_in_windows window n }
-    ensures inside { result < 128 }
-{
-    if n < 24 {
-        16 * usize::from(window) + usize::from(n) - 8
-    } else {
-        16 * usize::from((window + 1) % 8) + usize::from(n) - 24
-    }
 }
