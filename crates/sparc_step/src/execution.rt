@@ -9,7 +9,7 @@ ghost use Rattle.sparc_step.specs.Registers.{Registers, advanced};
 ghost use Rattle.sparc_step.specs.Undone.{IsUndone};
 
 use crate::arithmetic::{plain, work};
-use crate::flow::{branch, call, jump, read_y, restore, save, sethi, trap, write_y};
+use crate::flow::{branch, call, jump, read_y, sethi, shift_window, trap, write_y};
 use crate::outcome::Turn;
 use crate::processor::Processor;
 use crate::registers::Core;
@@ -188,7 +188,7 @@ fn write_state(core: &mut Processor, word: u32) -> Turn
 }
 
 // The selectors 38 to 3f.
-#[tactic(auto, unfolding(sparc_code::specs::Decoded::registers_row))]
+#[tactic(auto, unfolding(sparc_code::specs::Decoded::registers_row, crate::specs::Flow::window_below, crate::specs::Flow::window_above))]
 #[inline(always)]
 fn transfer_control(core: &mut Processor, selector: u32, word: u32) -> Turn
     requires from { 0x38 ≤ selector }
@@ -204,9 +204,11 @@ fn transfer_control(core: &mut Processor, selector: u32, word: u32) -> Turn
             Turn::Trap(0x03)
         }
     } else if selector == 0x3c {
-        save(core, word)
+        let below = (core.cwp() + 7) % 8;
+        shift_window(core, below, 0x05, word)
     } else if selector == 0x3d {
-        restore(core, word)
+        let above = (core.cwp() + 1) % 8;
+        shift_window(core, above, 0x06, word)
     } else if selector == 0x3b {
         core.advance();
         Turn::Went

@@ -12,8 +12,6 @@ ghost use Rattle.sparc_step.specs.Flow.{
   left_by,
   moved,
   passed,
-  restore_row,
-  save_row,
   sethi_row,
   taken,
   trap_row,
@@ -163,32 +161,10 @@ fn trap_type(number: u32) -> u8
     0x80 + (number % 128) as u8
 }
 
-// SAVE.
-#[tactic(auto, unfolding(crate::specs::Flow::window_below))]
-#[inline(always)]
-pub(crate) fn save(core: &mut Processor, word: u32) -> Turn
-    ensures turn { result ≡ (save_row (rd word) (rs1 word) (operand simm13 word) core.old).turn }
-    ensures core { core.new ≡ (save_row (rd word) (rs1 word) (operand simm13 word) core.old).core }
-{
-    let window = (core.cwp() + 7) % 8;
-    shift_window(core, window, 0x05, word)
-}
-
-// RESTORE.
-#[tactic(auto, unfolding(crate::specs::Flow::window_above))]
-#[inline(always)]
-pub(crate) fn restore(core: &mut Processor, word: u32) -> Turn
-    ensures turn { result ≡ (restore_row (rd word) (rs1 word) (operand simm13 word) core.old).turn }
-    ensures core { core.new ≡ (restore_row (rd word) (rs1 word) (operand simm13 word) core.old).core }
-{
-    let window = (core.cwp() + 1) % 8;
-    shift_window(core, window, 0x06, word)
-}
-
-// Moves to a window with the sum of the operands as its result, or traps where that is the invalid one.
+// SAVE and RESTORE: moves to a window with the sum of the operands as its result, or traps where that is the invalid one.
 #[tactic(auto, unfolding(crate::specs::Flow::moved))]
 #[inline(always)]
-fn shift_window(core: &mut Processor, window: u8, trap_type: u8, word: u32) -> Turn
+pub(crate) fn shift_window(core: &mut Processor, window: u8, trap_type: u8, word: u32) -> Turn
     requires { window < 8 }
     ensures turn { result ≡ (moved window trap_type (rd word) (sum_of (rs1 word) (operand simm13 word) core.old) core.old).turn }
     ensures core { core.new ≡ (moved window trap_type (rd word) (sum_of (rs1 word) (operand simm13 word) core.old) core.old).core }
