@@ -38,12 +38,12 @@ came_next raw origin at row areas old new memory after stands is goes =
     (no_steps areas (at_place origin at old) memory) stands (goes_itself (decoded (swapped raw)) areas old new memory after (goes (as_done (decoded (swapped raw))) is.spelled)))
 
 -- so did the row in its delay slot
-pub came_behind : (raw origin at to : ℕ) (row : Row) (areas : List Area) (core old new : Registers) (memory there after : Memory)
+pub came_behind : (raw origin at displacement : ℕ) (row : Row) (areas : List Area) (core old new : Registers) (memory there after : Memory)
     → fetched areas there (word_address origin (at + 1)) ≡ Ok (swapped raw) → IsRowFor raw row → IsRowStep step.Next row areas old new there after
-    → AreSteps 1 areas (at_place origin at core) memory (at_slot origin (at + 1) to old) there → IsCame (Turn to) origin at areas core new memory after
-came_behind raw origin at to row areas core old new memory there after stands is goes steps =
-    followed 2 origin to areas (at_place origin at core) new memory after
-    (word_more 1 (swapped raw) (word_address origin (at + 1)) (word_address origin to) areas (at_place origin at core) old new memory there after steps stands (goes_itself (decoded (swapped raw)) areas old new there after (goes (as_done (decoded (swapped raw))) is.spelled)))
+    → AreSteps 1 areas (at_place origin at core) memory (at_slot origin (at + 1) (at + displacement) old) there → IsCame (Turn displacement) origin at areas core new memory after
+came_behind raw origin at displacement row areas core old new memory there after stands is goes steps =
+    followed 2 origin (at + displacement) areas (at_place origin at core) new memory after
+    (word_more 1 (swapped raw) (word_address origin (at + 1)) (word_address origin (at + displacement)) areas (at_place origin at core) old new memory there after steps stands (goes_itself (decoded (swapped raw)) areas old new there after (goes (as_done (decoded (swapped raw))) is.spelled)))
 
 -- it went on with the spill or the fill that it needed
 pub came_shifted : (raw origin at pc : ℕ) (row : Row) (here areas : List Area) (old mid new : Registers) (memory there after : Memory)
@@ -58,23 +58,23 @@ came_shifted raw origin at pc row here areas old mid new memory there after stan
     (no_steps areas (at_place origin at old) memory) (shifted (word_address origin (at + 1)) (swapped raw) stands is.spelled))
 
 -- so did the row in its delay slot
-pub came_behind_shifted : (raw origin at to pc : ℕ) (row : Row) (here areas : List Area) (core old mid new : Registers) (memory there now after : Memory)
+pub came_behind_shifted : (raw origin at displacement pc : ℕ) (row : Row) (here areas : List Area) (core old mid new : Registers) (memory there now after : Memory)
     → fetched areas there (word_address origin (at + 1)) ≡ Ok (swapped raw) → IsRowFor raw row → mid ≡ old → now ≡ there → here ≡ areas → pc ≡ word_address origin (at + 1) → IsShift row pc here mid new now after
-    → AreSteps 1 areas (at_place origin at core) memory (at_slot origin (at + 1) to old) there → IsCame (Turn to) origin at areas core new memory after
-came_behind_shifted raw origin at to pc row here areas core old mid new memory there now after stands is same bytes areas_same pc_is placed_shifts steps =
+    → AreSteps 1 areas (at_place origin at core) memory (at_slot origin (at + 1) (at + displacement) old) there → IsCame (Turn displacement) origin at areas core new memory after
+came_behind_shifted raw origin at displacement pc row here areas core old mid new memory there now after stands is same bytes areas_same pc_is placed_shifts steps =
     let shifts = subst (λ (a : ℕ). IsShift row a here mid new now after) pc_is placed_shifts in
     let shifted = subst (λ (a : List Area). IsShift row (word_address origin (at + 1)) a old new there after) areas_same
     (subst (λ (m : Memory). IsShift row (word_address origin (at + 1)) here old new m after) bytes (subst (λ (r : Registers). IsShift row (word_address origin (at + 1)) here r new now after) same shifts)) in
-    followed 2 origin to areas (at_place origin at core) new memory after
-    (one_settled 1 areas (at_place origin at core) (at_slot origin (at + 1) to old) (placed (word_address origin to) ((word_address origin to + 4) % 2 ^ 32) new) memory there after steps
-    (shifted (word_address origin to) (swapped raw) stands is.spelled))
+    followed 2 origin (at + displacement) areas (at_place origin at core) new memory after
+    (one_settled 1 areas (at_place origin at core) (at_slot origin (at + 1) (at + displacement) old) (placed (word_address origin (at + displacement)) ((word_address origin (at + displacement) + 4) % 2 ^ 32) new) memory there after steps
+    (shifted (word_address origin (at + displacement)) (swapped raw) stands is.spelled))
 
 -- it did not, and changed nothing
-pub came_slot : (origin at to : ℕ) (areas : List Area) (core old new : Registers) (memory there after : Memory)
-    → new ≡ old → after ≡ there → AreSteps 1 areas (at_place origin at core) memory (at_slot origin (at + 1) to old) there → IsCame (Slot to) origin at areas core new memory after
-came_slot origin at to areas core old new memory there after same bytes steps =
-    subst (λ (r : Registers). AreSteps 1 areas (at_place origin at core) memory (at_slot origin (at + 1) to r) after) (sym same)
-    (subst (λ (m : Memory). AreSteps 1 areas (at_place origin at core) memory (at_slot origin (at + 1) to old) m) (sym bytes) steps)
+pub came_slot : (origin at displacement : ℕ) (areas : List Area) (core old new : Registers) (memory there after : Memory)
+    → new ≡ old → after ≡ there → AreSteps 1 areas (at_place origin at core) memory (at_slot origin (at + 1) (at + displacement) old) there → IsCame (Slot displacement) origin at areas core new memory after
+came_slot origin at displacement areas core old new memory there after same bytes steps =
+    subst (λ (r : Registers). AreSteps 1 areas (at_place origin at core) memory (at_slot origin (at + 1) (at + displacement) r) after) (sym same)
+    (subst (λ (m : Memory). AreSteps 1 areas (at_place origin at core) memory (at_slot origin (at + 1) (at + displacement) old) m) (sym bytes) steps)
 
 -- its instruction went to other places
 gone : (raw origin at : ℕ) (areas : List Area) (old after : Registers) (memory : Memory)
@@ -85,34 +85,34 @@ gone raw origin at areas old after memory stands is =
     (turned-word (swapped raw) (word_address origin at) (word_address origin (at + 1)) areas old memory (done after memory) stands is)
 
 -- to its delay slot, and then to a place
-pub turned_to : (raw origin at to : ℕ) (row : Row) (areas : List Area) (old mid new : Registers) (memory there : Memory)
-    → fetched areas memory (word_address origin at) ≡ Ok (swapped raw) → IsRowFor raw row → mid ≡ old → there ≡ memory → Turns (goal.Behind to) row origin at mid new
-    → AreSteps 1 areas (at_place origin at old) memory (at_slot origin (at + 1) to new) there
-turned_to raw origin at to row areas old mid new memory there stands is same bytes turns =
-    subst (λ (m : Memory). AreSteps 1 areas (at_place origin at old) memory (at_slot origin (at + 1) to new) m) (sym bytes)
-    (gone raw origin at areas old (at_slot origin (at + 1) to new) memory stands
+pub turned_to : (raw origin at displacement : ℕ) (row : Row) (areas : List Area) (old mid new : Registers) (memory there : Memory)
+    → fetched areas memory (word_address origin at) ≡ Ok (swapped raw) → IsRowFor raw row → mid ≡ old → there ≡ memory → Turns (goal.Behind displacement) row origin at mid new
+    → AreSteps 1 areas (at_place origin at old) memory (at_slot origin (at + 1) (at + displacement) new) there
+turned_to raw origin at displacement row areas old mid new memory there stands is same bytes turns =
+    subst (λ (m : Memory). AreSteps 1 areas (at_place origin at old) memory (at_slot origin (at + 1) (at + displacement) new) m) (sym bytes)
+    (gone raw origin at areas old (at_slot origin (at + 1) (at + displacement) new) memory stands
     (ap (λ (r : Registers). executed (decoded (swapped raw)) areas (at_place origin at r) memory) (sym same)
     ∙ sym (same_executed (decoded (swapped raw)) areas (at_place origin at mid) memory) ∙ turns (as_done (decoded (swapped raw))) areas memory is.spelled))
 
--- at once to a place
-pub came_jump : (raw origin at to : ℕ) (row : Row) (areas : List Area) (old mid new : Registers) (memory there : Memory)
-    → fetched areas memory (word_address origin at) ≡ Ok (swapped raw) → IsRowFor raw row → mid ≡ old → there ≡ memory → Turns (goal.Now to) row origin at mid new
-    → IsCame (Jump to) origin at areas old new memory there
-came_jump raw origin at to row areas old mid new memory there stands is same bytes turns =
-    subst (λ (m : Memory). AreSteps 1 areas (at_place origin at old) memory (at_place origin to new) m) (sym bytes)
-    (gone raw origin at areas old (at_place origin to new) memory stands
+-- at once to another place
+pub came_jump : (raw origin at displacement : ℕ) (row : Row) (areas : List Area) (old mid new : Registers) (memory there : Memory)
+    → fetched areas memory (word_address origin at) ≡ Ok (swapped raw) → IsRowFor raw row → mid ≡ old → there ≡ memory → Turns (goal.Now displacement) row origin at mid new
+    → IsCame (Jump displacement) origin at areas old new memory there
+came_jump raw origin at displacement row areas old mid new memory there stands is same bytes turns =
+    subst (λ (m : Memory). AreSteps 1 areas (at_place origin at old) memory (at_place origin (at + displacement) new) m) (sym bytes)
+    (gone raw origin at areas old (at_place origin (at + displacement) new) memory stands
     (ap (λ (r : Registers). executed (decoded (swapped raw)) areas (at_place origin at r) memory) (sym same)
     ∙ sym (same_executed (decoded (swapped raw)) areas (at_place origin at mid) memory) ∙ turns (as_done (decoded (swapped raw))) areas memory is.spelled))
 
 -- what came after a turn
-pub came_turned : (came : Came) (raw origin at to : ℕ) (row : Row) (here areas : List Area) (old mid turned new : Registers) (memory there after : Memory)
-    → fetched areas memory (word_address origin at) ≡ Ok (swapped raw) → IsRowFor raw row → mid ≡ old → there ≡ memory → here ≡ areas → Turns (goal.Behind to) row origin at mid turned
-    → ((core : Registers) (m : Memory) → AreSteps 1 here (at_place origin at core) m (at_slot origin (at + 1) to turned) there → IsCame came origin at here core new m after)
+pub came_turned : (came : Came) (raw origin at displacement : ℕ) (row : Row) (here areas : List Area) (old mid turned new : Registers) (memory there after : Memory)
+    → fetched areas memory (word_address origin at) ≡ Ok (swapped raw) → IsRowFor raw row → mid ≡ old → there ≡ memory → here ≡ areas → Turns (goal.Behind displacement) row origin at mid turned
+    → ((core : Registers) (m : Memory) → AreSteps 1 here (at_place origin at core) m (at_slot origin (at + 1) (at + displacement) turned) there → IsCame came origin at here core new m after)
     → IsCame came origin at areas old new memory after
-came_turned came raw origin at to row here areas old mid turned new memory there after stands is same bytes areas_same turns follows =
+came_turned came raw origin at displacement row here areas old mid turned new memory there after stands is same bytes areas_same turns follows =
     subst (λ (a : List Area). IsCame came origin at a old new memory after) areas_same
-    (follows old memory (subst (λ (a : List Area). AreSteps 1 a (at_place origin at old) memory (at_slot origin (at + 1) to turned) there) (sym areas_same)
-    (turned_to raw origin at to row areas old mid turned memory there stands is same bytes turns)))
+    (follows old memory (subst (λ (a : List Area). AreSteps 1 a (at_place origin at old) memory (at_slot origin (at + 1) (at + displacement) turned) there) (sym areas_same)
+    (turned_to raw origin at displacement row areas old mid turned memory there stands is same bytes turns)))
 
 -- areas that did not change
 pub same_came : (came : Came) (origin at : ℕ) (here areas : List Area) (old new : Registers) (memory after : Memory)

@@ -1,5 +1,5 @@
 -- A run, word by word.
-use Rattle.std.proofs.Common.{◌≡◌, ℕ, suc, ◌+◌, ◌-◌, ◌%◌, ◌^◌, ◌<◌, ◌≤◌, List, refl, sym, ap, ◌∙◌, subst, arith}
+use Rattle.std.proofs.Common.{◌≡◌, ℕ, ◌+◌, ◌-◌, ◌%◌, ◌^◌, ◌<◌, ◌≤◌, List, refl, sym, ap, ◌∙◌, subst, arith}
 use Rattle.guest_bus.specs.Memory.{Area, Memory}
 use Rattle.guest_bus.specs.Words.{word_address}
 use Rattle.sparc_step.specs.Registers.{Registers, placed}
@@ -12,39 +12,63 @@ use Rattle.straight_runs.specs.declared.one.Came.TheVariants.{Next, Jump, Turn}
 use Rattle.straight_runs.specs.declared.places.Code.{Code}
 use Rattle.straight_runs.specs.declared.places.Start.{Start}
 
+-- the steps that are left at a place up to a limit, where both went round together
+abbrev pub left_at : ℕ → ℕ → ℕ
+left_at at limit = (limit + (2 ^ 64 - at)) % 2 ^ 64
+
 -- a run at a place: the steps so far, those that are left up to a limit, and up to where words may be executed
 pub record IsRunning (code : Code) (areas : List Area) (from most at limit last : ℕ) (core : Registers) (memory : Memory) (here : Registers) (there : Memory) : Type 0 where
-  pub steps : AreSteps (most - (limit - at)) areas (at_place code.words.origin from core) memory (at_place code.words.origin at here) there
-  pub left : at ≤ limit
-  pub few : limit ≤ at + most
-  pub near : at < 2 ^ 33
+  pub steps : AreSteps (most - left_at at limit) areas (at_place code.words.origin from core) memory (at_place code.words.origin at here) there
+  pub few : left_at at limit ≤ most
+  pub place : at < 2 ^ 64
+  pub end : limit < 2 ^ 64
   pub stops : RunStopsAt code at limit last
 
+-- steps that are left before a limit
+pub left_before : (at limit : ℕ) → at < limit → limit < 2 ^ 64 → left_at at limit ≡ limit - at
+left_before at limit under end = omega arith
+
+-- and after so many of them
+left_after : (count at limit distance : ℕ) → count ≤ 2 → at + count ≤ limit → limit < 2 ^ 64
+    → left_at ((at + distance) % 2 ^ 64) (((limit + distance) % 2 ^ 64 + (2 ^ 64 - count)) % 2 ^ 64) ≡ limit - (at + count)
+left_after count at limit distance small within end = omega arith
+
+-- a place at a displacement, by the distance
+pub moved_address : (origin at displacement distance : ℕ) → distance % 2 ^ 32 ≡ displacement → word_address origin ((at + distance) % 2 ^ 64) ≡ word_address origin (at + displacement)
+unfolding word_address
+moved_address origin at displacement distance is = omega arith
+
+pub moved_place : (origin at displacement distance : ℕ) (core : Registers) → distance % 2 ^ 32 ≡ displacement → at_place origin (at + displacement) core ≡ at_place origin ((at + distance) % 2 ^ 64) core
+moved_place origin at displacement distance core is =
+    ap (λ (n : ℕ). placed (word_address origin (at + displacement)) n core) (sym (next_address origin (at + displacement)))
+    ∙ ap (λ (a : ℕ). placed a ((a + 4) % 2 ^ 32) core) (sym (moved_address origin at displacement distance is))
+    ∙ ap (λ (n : ℕ). placed (word_address origin ((at + distance) % 2 ^ 64)) n core) (next_address origin ((at + distance) % 2 ^ 64))
+
 -- it begins
-pub begun : (code : Code) (areas : List Area) (from most last : ℕ) (core : Registers) (memory : Memory) → from < 2 ^ 33 → RunStopsAt code from (from + most) last
+pub begun : (code : Code) (areas : List Area) (from most last : ℕ) (core : Registers) (memory : Memory) → from < 2 ^ 33 → most < 2 ^ 32 → RunStopsAt code from (from + most) last
     → IsRunning code areas from most from (from + most) last core memory core memory
-begun code areas from most last core memory near stops = record {
+begun code areas from most last core memory near few stops = record {
   steps = subst (λ (n : ℕ). AreSteps n areas (at_place code.words.origin from core) memory (at_place code.words.origin from core) memory) none (no_steps areas (at_place code.words.origin from core) memory);
-  left = omega arith;
   few = omega arith;
-  near = near;
+  place = omega arith;
+  end = omega arith;
   stops = stops;
 }
   where
-    none : 0 ≡ most - (from + most - from)
+    none : 0 ≡ most - left_at from (from + most)
     none = omega arith
 
 -- the next word follows
 pub went_on : (code : Code) (areas : List Area) (from most at limit last : ℕ) (core : Registers) (memory : Memory) (here new : Registers) (there after : Memory)
-    → IsRunning code areas from most at limit last core memory here there → at < last → code.end ≤ 2 ^ 32
+    → IsRunning code areas from most at limit last core memory here there → at < last
     → IsCame Next code.words.origin at areas here new there after
     → IsRunning code areas from most (at + 1) limit last core memory new after
-went_on code areas from most at limit last core memory here new there after is under ends came = record {
+went_on code areas from most at limit last core memory here new there after is under came = record {
   steps = subst (λ (n : ℕ). AreSteps n areas (at_place code.words.origin from core) memory (at_place code.words.origin (at + 1) new) after) more
-      (steps_then 1 (most - (limit - at)) areas (at_place code.words.origin from core) (at_place code.words.origin at here) (at_place code.words.origin (at + 1) new) memory there after is.steps came);
-  left = omega (arith, under, is.stops.short under);
-  few = omega (arith, is.few);
-  near = omega (arith, under, is.stops.within under, ends);
+      (steps_then 1 (most - left_at at limit) areas (at_place code.words.origin from core) (at_place code.words.origin at here) (at_place code.words.origin (at + 1) new) memory there after is.steps came);
+  few = omega (arith, under, is.stops.short under, is.few, is.end);
+  place = omega (arith, under, is.stops.short under, is.end);
+  end = is.end;
   stops = record {
     begin = λ later. omega (arith, is.stops.begin under);
     within = λ later. is.stops.within under;
@@ -52,42 +76,53 @@ went_on code areas from most at limit last core memory here new there after is u
   };
 }
   where
-    more : 1 + (most - (limit - at)) ≡ most - (limit - (at + 1))
-    more = omega (arith, under, is.stops.short under, is.few)
+    more : 1 + (most - left_at at limit) ≡ most - left_at (at + 1) limit
+    more = omega (arith, under, is.stops.short under, is.few, is.end)
 
--- the word at a place follows
-pub jumped_on : (code : Code) (areas : List Area) (from most at limit last to next : ℕ) (core : Registers) (memory : Memory) (here new : Registers) (there after : Memory)
-    → IsRunning code areas from most at limit last core memory here there → at < last → to < 2 ^ 33
-    → IsCame (Jump to) code.words.origin at areas here new there after → RunStopsAt code to (to + (limit - (at + 1))) next
-    → IsRunning code areas from most to (to + (limit - (at + 1))) next core memory new after
-jumped_on code areas from most at limit last to next core memory here new there after is under near came stops = record {
-  steps = subst (λ (n : ℕ). AreSteps n areas (at_place code.words.origin from core) memory (at_place code.words.origin to new) after) more
-      (steps_then 1 (most - (limit - at)) areas (at_place code.words.origin from core) (at_place code.words.origin at here) (at_place code.words.origin to new) memory there after is.steps came);
-  left = omega arith;
-  few = omega (arith, under, is.stops.short under, is.few);
-  near = near;
-  stops = stops;
-}
+-- the word at a displacement follows
+moved_on : (count : ℕ) (code : Code) (areas : List Area) (from most at limit last displacement distance next : ℕ) (core : Registers) (memory : Memory) (here new : Registers) (there after : Memory)
+    → 0 < count → count ≤ 2 → at + count ≤ limit
+    → IsRunning code areas from most at limit last core memory here there → distance % 2 ^ 32 ≡ displacement
+    → AreSteps count areas (at_place code.words.origin at here) there (at_place code.words.origin (at + displacement) new) after
+    → RunStopsAt code ((at + distance) % 2 ^ 64) (((limit + distance) % 2 ^ 64 + (2 ^ 64 - count)) % 2 ^ 64) next
+    → IsRunning code areas from most ((at + distance) % 2 ^ 64) (((limit + distance) % 2 ^ 64 + (2 ^ 64 - count)) % 2 ^ 64) next core memory new after
+moved_on count code areas from most at limit last displacement distance next core memory here new there after some small within is reach came stops =
+    let left = left_after count at limit distance small within is.end in
+    let before = left_before at limit (omega arith) is.end in
+    let more : count + (most - left_at at limit) ≡ most - left_at ((at + distance) % 2 ^ 64) (((limit + distance) % 2 ^ 64 + (2 ^ 64 - count)) % 2 ^ 64) =
+    ap (λ (n : ℕ). count + (most - n)) before ∙ counted (sym before) ∙ ap (λ (n : ℕ). most - n) (sym left) in
+    record {
+      steps = subst (λ (n : ℕ). AreSteps n areas (at_place code.words.origin from core) memory (at_place code.words.origin ((at + distance) % 2 ^ 64) new) after) more
+          (steps_then count (most - left_at at limit) areas (at_place code.words.origin from core) (at_place code.words.origin at here) (at_place code.words.origin ((at + distance) % 2 ^ 64) new) memory there after is.steps
+          (subst (λ (r : Registers). AreSteps count areas (at_place code.words.origin at here) there r after) (moved_place code.words.origin at displacement distance new reach) came));
+      few = subst (λ (n : ℕ). n ≤ most) (sym left) (fewer (sym before));
+      place = omega arith;
+      end = omega arith;
+      stops = stops;
+    }
   where
-    more : 1 + (most - (limit - at)) ≡ most - (to + (limit - (at + 1)) - to)
-    more = omega (arith, under, is.stops.short under, is.few)
+    counted : limit - at ≡ left_at at limit → count + (most - (limit - at)) ≡ most - (limit - (at + count))
+    counted before = let few : limit - at ≤ most = subst (λ (n : ℕ). n ≤ most) (sym before) is.few in omega (arith, within)
+
+    fewer : limit - at ≡ left_at at limit → limit - (at + count) ≤ most
+    fewer before = let few : limit - at ≤ most = subst (λ (n : ℕ). n ≤ most) (sym before) is.few in omega arith
+
+pub jumped_on : (code : Code) (areas : List Area) (from most at limit last displacement distance next : ℕ) (core : Registers) (memory : Memory) (here new : Registers) (there after : Memory)
+    → IsRunning code areas from most at limit last core memory here there → at < last → distance % 2 ^ 32 ≡ displacement
+    → IsCame (Jump displacement) code.words.origin at areas here new there after
+    → RunStopsAt code ((at + distance) % 2 ^ 64) (((limit + distance) % 2 ^ 64 + (2 ^ 64 - 1)) % 2 ^ 64) next
+    → IsRunning code areas from most ((at + distance) % 2 ^ 64) (((limit + distance) % 2 ^ 64 + (2 ^ 64 - 1)) % 2 ^ 64) next core memory new after
+jumped_on code areas from most at limit last displacement distance next core memory here new there after is under reach came stops =
+    moved_on 1 code areas from most at limit last displacement distance next core memory here new there after (omega arith) (omega arith) (omega (arith, under, is.stops.short under)) is reach came stops
 
 -- the same after a delay slot
-pub turned_on : (code : Code) (areas : List Area) (from most at limit last to next : ℕ) (core : Registers) (memory : Memory) (here new : Registers) (there after : Memory)
-    → IsRunning code areas from most at limit last core memory here there → at < last → to < 2 ^ 33
-    → IsCame (Turn to) code.words.origin at areas here new there after → RunStopsAt code to (to + (limit - (at + 2))) next
-    → IsRunning code areas from most to (to + (limit - (at + 2))) next core memory new after
-turned_on code areas from most at limit last to next core memory here new there after is under near came stops = record {
-  steps = subst (λ (n : ℕ). AreSteps n areas (at_place code.words.origin from core) memory (at_place code.words.origin to new) after) more
-      (steps_then 2 (most - (limit - at)) areas (at_place code.words.origin from core) (at_place code.words.origin at here) (at_place code.words.origin to new) memory there after is.steps came);
-  left = omega arith;
-  few = omega (arith, under, is.stops.short under, is.few);
-  near = near;
-  stops = stops;
-}
-  where
-    more : 2 + (most - (limit - at)) ≡ most - (to + (limit - (at + 2)) - to)
-    more = omega (arith, under, is.stops.short under, is.few)
+pub turned_on : (code : Code) (areas : List Area) (from most at limit last displacement distance next : ℕ) (core : Registers) (memory : Memory) (here new : Registers) (there after : Memory)
+    → IsRunning code areas from most at limit last core memory here there → at < last → distance % 2 ^ 32 ≡ displacement
+    → IsCame (Turn displacement) code.words.origin at areas here new there after
+    → RunStopsAt code ((at + distance) % 2 ^ 64) (((limit + distance) % 2 ^ 64 + (2 ^ 64 - 2)) % 2 ^ 64) next
+    → IsRunning code areas from most ((at + distance) % 2 ^ 64) (((limit + distance) % 2 ^ 64 + (2 ^ 64 - 2)) % 2 ^ 64) next core memory new after
+turned_on code areas from most at limit last displacement distance next core memory here new there after is under reach came stops =
+    moved_on 2 code areas from most at limit last displacement distance next core memory here new there after (omega arith) (omega arith) (omega (arith, under, is.stops.short under)) is reach came stops
 
 -- registers whose program counters are at a place
 placed_own : (core : Registers) → placed core.pc core.npc core ≡ core

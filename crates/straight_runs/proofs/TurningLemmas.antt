@@ -34,6 +34,11 @@ after_next : (origin place : ℕ) → (word_address origin place + 8) % 2 ^ 32 �
 unfolding word_address
 after_next origin place = omega arith
 
+-- and of one at a displacement
+pub address_at : (origin at displacement : ℕ) → word_address origin (at + displacement) ≡ (word_address origin at + 4 * displacement) % 2 ^ 32
+unfolding word_address
+address_at origin at displacement = omega arith
+
 -- a target, by its place
 target_place : (origin at to number : ℕ) (disp : ℤ) → word_address origin to ≡ (word_address origin at + 4 * number) % 2 ^ 32 → number ≡ residue 32 disp → branch_target (word_address origin at) disp ≡ word_address origin to
 unfolding branch_target

@@ -1,5 +1,5 @@
 -- What came of a word of a run.
-use Rattle.std.specs.Prelude.{◌≡◌, ℕ, ◌+◌, ◌^◌, ◌<◌, ⊤, List}
+use Rattle.std.specs.Prelude.{◌≡◌, ℕ, ◌+◌, List}
 use Rattle.guest_bus.specs.Memory.{Area, Memory}
 use Rattle.sparc_step.specs.Registers.{Registers}
 use Rattle.straight_runs.specs.Runs.{AreSteps}
@@ -10,15 +10,7 @@ use Rattle.straight_runs.specs.declared.one.Came.TheVariants.{Next, Jump, Turn, 
 -- so many steps from its place led there
 abbrev pub IsCame : Came → ℕ → ℕ → List Area → Registers → Registers → Memory → Memory → Type 0
 IsCame Next origin at areas old new memory after = AreSteps 1 areas (at_place origin at old) memory (at_place origin (at + 1) new) after
-IsCame (Jump to) origin at areas old new memory after = AreSteps 1 areas (at_place origin at old) memory (at_place origin to new) after
-IsCame (Turn to) origin at areas old new memory after = AreSteps 2 areas (at_place origin at old) memory (at_place origin to new) after
-IsCame (Slot to) origin at areas old new memory after = AreSteps 1 areas (at_place origin at old) memory (at_slot origin (at + 1) to new) after
+IsCame (Jump displacement) origin at areas old new memory after = AreSteps 1 areas (at_place origin at old) memory (at_place origin (at + displacement) new) after
+IsCame (Turn displacement) origin at areas old new memory after = AreSteps 2 areas (at_place origin at old) memory (at_place origin (at + displacement) new) after
+IsCame (Slot displacement) origin at areas old new memory after = AreSteps 1 areas (at_place origin at old) memory (at_slot origin (at + 1) (at + displacement) new) after
 IsCame Stays origin at areas old new memory after = (new ≡ old) × (after ≡ memory)
-
--- a place that is not far beyond all addresses
-abbrev pub IsNearPlace : Came → Type 0
-IsNearPlace Next = ⊤
-IsNearPlace (Jump to) = to < 2 ^ 33
-IsNearPlace (Turn to) = to < 2 ^ 33
-IsNearPlace (Slot to) = ⊤
-IsNearPlace Stays = ⊤

@@ -1,5 +1,5 @@
 -- Where instructions go that do not go on to the next word.
-use Rattle.std.specs.Prelude.{◌≡◌, ℕ, ◌+◌, ◌^◌, ◌<◌, ⊤, List}
+use Rattle.std.specs.Prelude.{◌≡◌, ℕ, ◌+◌, List}
 use Rattle.guest_bus.specs.Memory.{Area, Memory}
 use Rattle.guest_bus.specs.Words.{word_address}
 use Rattle.sparc_code.specs.declared.instruction.Instr.{Instr}
@@ -20,14 +20,8 @@ at_slot origin place to core = placed (word_address origin place) (word_address 
 
 -- each instruction whose row it is goes there; one that stays changed nothing
 abbrev pub Turns : Goal → Row → ℕ → ℕ → Registers → Registers → Type 0
-Turns (Behind to) row origin at old new =
-    (i : Instr) (areas : List Area) (memory : Memory) → IsRowOf row i → executed i areas (at_place origin at old) memory ≡ done (at_slot origin (at + 1) to new) memory
-Turns (Now to) row origin at old new =
-    (i : Instr) (areas : List Area) (memory : Memory) → IsRowOf row i → executed i areas (at_place origin at old) memory ≡ done (at_place origin to new) memory
+Turns (Behind displacement) row origin at old new =
+    (i : Instr) (areas : List Area) (memory : Memory) → IsRowOf row i → executed i areas (at_place origin at old) memory ≡ done (at_slot origin (at + 1) (at + displacement) new) memory
+Turns (Now displacement) row origin at old new =
+    (i : Instr) (areas : List Area) (memory : Memory) → IsRowOf row i → executed i areas (at_place origin at old) memory ≡ done (at_place origin (at + displacement) new) memory
 Turns Stays row origin at old new = new ≡ old
-
--- a place that is not far beyond all addresses
-abbrev pub IsFew : Goal → Type 0
-IsFew (Behind to) = to < 2 ^ 33
-IsFew (Now to) = to < 2 ^ 33
-IsFew Stays = ⊤

@@ -1,10 +1,10 @@
 //! One word of a run.
 
-ghost use Rattle.std.specs.Prelude.{◌≡◌, ◌+◌, ◌^◌, ◌<◌, ◌≤◌, length};
+ghost use Rattle.std.specs.Prelude.{◌≡◌, ◌+◌, ◌<◌, ◌≤◌, length};
 ghost use Rattle.guest_bus.specs.Memory.{Memory};
 ghost use Rattle.sparc_step.specs.Registers.{Registers};
 ghost use Rattle.straight_runs.specs.Codes.{IsCode};
-ghost use Rattle.straight_runs.specs.Coming.{IsCame, IsNearPlace};
+ghost use Rattle.straight_runs.specs.Coming.{IsCame};
 ghost use Rattle.straight_runs.specs.Runs.{AreSteps};
 ghost use Rattle.straight_runs.specs.Tables.{AreRows};
 ghost use Rattle.straight_runs.specs.Turning.{at_place, at_slot};
@@ -24,12 +24,12 @@ use sparc_step::Processor;
 pub(crate) enum Came {
     /// It was done, and the next word follows.
     Next,
-    /// It was done, and the word at a place follows.
-    Jump(usize),
-    /// It and the one in its delay slot were done, and the word at a place follows.
-    Turn(usize),
-    /// It was done. The one in its delay slot follows, and then the word at a place.
-    Slot(usize),
+    /// It was done, and the word at a displacement from its place follows.
+    Jump(u32),
+    /// It and the one in its delay slot were done, and the word at a displacement from its place follows.
+    Turn(u32),
+    /// It was done. The one in its delay slot follows, and then the word at a displacement from its own place.
+    Slot(u32),
     /// It was not done, and nothing changed.
     Stays,
 }
@@ -51,7 +51,6 @@ pub(crate) fn one<B: HasWords>(
     requires from { code.begin ≤ at }
     requires under { at + 1 < code.end }
     ensures came { IsCame result code.words.origin at (B.areas bus.old) own.old own.new (B.memory bus.old) (B.memory bus.new) }
-    ensures near { IsNearPlace result }
     ensures rows { AreRows words.new rows.new }
     ensures size { length words.new ≡ length words.old }
     ensures areas { B.areas bus.new ≡ B.areas bus.old }
@@ -63,8 +62,8 @@ pub(crate) fn one<B: HasWords>(
     match execute(own, bus, row) {
         Step::Next => Came::Next,
         Step::Taken => {
-            let to = taken(own, row, code.words, at);
-            behind(own, bus, words, rows, code, at, to)
+            let displacement = taken(own, row);
+            behind(own, bus, words, rows, code, at, displacement)
         }
         Step::Stays => {
             if row.kind < kinds::CALL {
@@ -75,8 +74,10 @@ pub(crate) fn one<B: HasWords>(
                 }
             } else {
                 match turn(own, row, code.words, at) {
-                    Goal::Behind(to) => behind(own, bus, words, rows, code, at, to),
-                    Goal::Now(to) => Came::Jump(to),
+                    Goal::Behind(displacement) => {
+                        behind(own, bus, words, rows, code, at, displacement)
+                    }
+                    Goal::Now(displacement) => Came::Jump(displacement),
                     Goal::Stays => Came::Stays,
                 }
             }
@@ -93,7 +94,7 @@ fn behind<B: HasWords>(
     rows: &mut [Row],
     code: Code,
     at: usize,
-    to: usize,
+    displacement: u32,
 ) -> Came
     requires code { IsCode code }
     requires lie { B.lie (B.areas bus.old) (B.others bus.old) code.words }
@@ -101,9 +102,7 @@ fn behind<B: HasWords>(
     requires size { length words.old ≡ 131072 }
     requires from { code.begin ≤ at }
     requires under { at + 1 < code.end }
-    requires few { to < 2 ^ 33 }
-    ensures came { (core : Registers) (memory : Memory) → AreSteps 1 (B.areas bus.old) (at_place code.words.origin at core) memory (at_slot code.words.origin (at + 1) to own.old) (B.memory bus.old) → IsCame result code.words.origin at (B.areas bus.old) core own.new memory (B.memory bus.new) }
-    ensures near { IsNearPlace result }
+    ensures came { (core : Registers) (memory : Memory) → AreSteps 1 (B.areas bus.old) (at_place code.words.origin at core) memory (at_slot code.words.origin (at + 1) (at + displacement) own.old) (B.memory bus.old) → IsCame result code.words.origin at (B.areas bus.old) core own.new memory (B.memory bus.new) }
     ensures rows { AreRows words.new rows.new }
     ensures size { length words.new ≡ length words.old }
     ensures areas { B.areas bus.new ≡ B.areas bus.old }
@@ -113,13 +112,13 @@ fn behind<B: HasWords>(
     prepare(words, rows, number, bus.word(code.words, at + 1));
     let row = row_at(rows, number);
     match execute(own, bus, row) {
-        Step::Next => Came::Turn(to),
-        Step::Taken => Came::Slot(to),
+        Step::Next => Came::Turn(displacement),
+        Step::Taken => Came::Slot(displacement),
         Step::Stays => {
             if shift(own, bus, *row, address(code.words, at + 1)) {
-                Came::Turn(to)
+                Came::Turn(displacement)
             } else {
-                Came::Slot(to)
+                Came::Slot(displacement)
             }
         }
     }

@@ -55,14 +55,35 @@ pub(crate) fn place_of(words: Words, address: u32) -> usize
     words.begin + (address.wrapping_sub(first) >> 2) as usize
 }
 
-/// A place so many words on, by its address.
+/// The address of the word after the one at a place.
 #[inline(always)]
 #[tactic(auto, unfolding(guest_bus::specs::Words::word_address))]
-pub(crate) fn moved(place: usize, words: u32) -> usize
-    ensures value { (origin : ℕ) → word_address origin result ≡ (word_address origin place + 4 * words) % 2 ^ 32 }
-    ensures few { result < 2 ^ 33 }
+pub(crate) fn address_after(words: Words, place: usize) -> u32
+    requires { AreWords words }
+    ensures value { result ≡ word_address words.origin (place + 1) }
+    ensures aligned { result % 4 ≡ 0 }
 {
-    ((place % 0x1_0000_0000) as u32).wrapping_add(words) as usize
+    address(words, place).wrapping_add(4)
+}
+
+/// The displacement from the word at an address to the one at another.
+#[inline(always)]
+#[tactic(auto, unfolding(guest_bus::specs::Words::word_address))]
+pub(crate) fn displacement(here: u32, target: u32) -> u32
+    requires here { here % 4 ≡ 0 }
+    requires target { target % 4 ≡ 0 }
+    ensures { (origin at : ℕ) → here ≡ word_address origin at → word_address origin (at + result) ≡ target }
+{
+    // A shift that keeps the sign, so that a place before another is so many words before it.
+    (target.wrapping_sub(here).wrapping_add(0x8000_0000) >> 2).wrapping_sub(0x2000_0000)
+}
+
+/// What is added to a place for a displacement, which is signed.
+#[inline(always)]
+pub(crate) fn distance(displacement: u32) -> usize
+    ensures { result % 2 ^ 32 ≡ displacement }
+{
+    (displacement.wrapping_add(0x8000_0000) as usize).wrapping_sub(0x8000_0000)
 }
 
 /// The code around a word of an area, whose place is known.

@@ -8,7 +8,7 @@ ghost use Rattle.straight_runs.specs.Tables.{AreRows};
 ghost use Rattle.straight_runs.specs.Turning.{at_place, at_slot};
 
 use crate::one::{Came, one};
-use crate::places::{Code, Start, address, start_at};
+use crate::places::{Code, Start, address, address_after, distance, start_at};
 use crate::rows::Row;
 use crate::table::Rows;
 use guest_bus::{HasWords, Words};
@@ -97,18 +97,20 @@ fn run_in<B: HasWords>(
     while at < last {
         match one(own, bus, words, rows, code, at) {
             Came::Next => at += 1,
-            Came::Jump(to) => {
-                limit = to + (limit - (at + 1));
-                at = to;
+            Came::Jump(displacement) => {
+                let distance = distance(displacement);
+                limit = limit.wrapping_add(distance).wrapping_sub(1);
+                at = at.wrapping_add(distance);
                 last = last_at(code, at, limit);
             }
-            Came::Turn(to) => {
-                limit = to + (limit - (at + 2));
-                at = to;
+            Came::Turn(displacement) => {
+                let distance = distance(displacement);
+                limit = limit.wrapping_add(distance).wrapping_sub(2);
+                at = at.wrapping_add(distance);
                 last = last_at(code, at, limit);
             }
-            Came::Slot(to) => {
-                stand_in_slot(own, code.words, at + 1, to);
+            Came::Slot(displacement) => {
+                stand_in_slot(own, code.words, at, displacement);
                 return most - (limit - (at + 1)) as u64;
             }
             Came::Stays => {
@@ -118,26 +120,26 @@ fn run_in<B: HasWords>(
         }
     }
     stand(own, code.words, at);
-    most - (limit - at) as u64
+    most - limit.wrapping_sub(at) as u64
 }
 
 // The program counters at the word of a place.
 #[inline(always)]
 fn stand(own: &mut Processor, words: Words, at: usize)
     requires words { AreWords words }
-    requires few { at < 2 ^ 33 }
     ensures { own.new ≡ at_place words.origin at own.old }
 {
-    own.place(address(words, at), address(words, at + 1));
+    own.place(address(words, at), address_after(words, at));
 }
 
-// The program counters at the word of a delay slot.
+// The program counters at the word of the delay slot behind a place, from which a displacement follows.
 #[inline(always)]
-fn stand_in_slot(own: &mut Processor, words: Words, at: usize, to: usize)
+fn stand_in_slot(own: &mut Processor, words: Words, at: usize, displacement: u32)
     requires words { AreWords words }
-    ensures { own.new ≡ at_slot words.origin at to own.old }
+    ensures { own.new ≡ at_slot words.origin (at + 1) (at + displacement) own.old }
 {
-    own.place(address(words, at), address(words, to));
+    let to = at.wrapping_add(distance(displacement));
+    own.place(address_after(words, at), address(words, to));
 }
 
 // The last place of a run at a place: 0 where that lies before the code.

@@ -1,14 +1,14 @@
 //! Branches that are taken, calls and jumps.
 
-ghost use Rattle.std.specs.Prelude.{◌≡◌, ℕ, ◌^◌, ◌<◌, true};
+ghost use Rattle.std.specs.Prelude.{◌≡◌, ℕ, ◌<◌, true};
 ghost use Rattle.guest_bus.specs.Words.{AreWords};
 ghost use Rattle.sparc_step.specs.Conditions.{holds};
 ghost use Rattle.straight_runs.specs.Rows.{AreRegisterNumbers};
-ghost use Rattle.straight_runs.specs.Turning.{IsFew, Turns};
+ghost use Rattle.straight_runs.specs.Turning.{Turns};
 ghost use Rattle.straight_runs.specs.declared.turning.Goal.TheVariants.{Behind};
 
 use crate::kinds;
-use crate::places::{address, moved, place_of};
+use crate::places::{address, displacement};
 use crate::rows::Row;
 use crate::working::sum_of;
 use guest_bus::Words;
@@ -18,24 +18,22 @@ use sparc_step::conditions::holds;
 /// Where an instruction goes that does not go on to the next word.
 #[derive(Clone, Copy, Debug)]
 pub(crate) enum Goal {
-    /// After its delay slot to this place.
-    Behind(usize),
-    /// To this place, its delay slot being annulled.
-    Now(usize),
+    /// After its delay slot by a displacement from its place.
+    Behind(u32),
+    /// By a displacement from its place, its delay slot being annulled.
+    Now(u32),
     /// It was not done.
     Stays,
 }
 
-/// Where a branch that is taken goes.
+/// By which displacement a branch goes that is taken.
 #[inline(always)]
-pub(crate) fn taken(own: &Processor, row: &Row, words: Words, at: usize) -> usize
+pub(crate) fn taken(own: &Processor, row: &Row) -> u32
     requires kind { row.now.kind ≡ 2 }
     requires holds { holds row.now.rs1 own.now.icc ≡ true }
-    requires words { AreWords words }
-    ensures turns { Turns (Behind result) row.now words.origin at own.now own.now }
-    ensures few { result < 2 ^ 33 }
+    ensures { (origin at : ℕ) → Turns (Behind result) row.now origin at own.now own.now }
 {
-    moved(at, row.number)
+    row.number
 }
 
 /// Where a call, a jump, or a branch that may annul its delay slot goes.
@@ -43,16 +41,14 @@ pub(crate) fn taken(own: &Processor, row: &Row, words: Words, at: usize) -> usiz
 pub(crate) fn turn(own: &mut Processor, row: &Row, words: Words, at: usize) -> Goal
     requires registers { AreRegisterNumbers row.now }
     requires words { AreWords words }
-    requires few { at < 2 ^ 32 }
-    ensures turns { Turns result row.now words.origin at own.old own.new }
-    ensures few { IsFew result }
+    ensures { Turns result row.now words.origin at own.old own.new }
 {
     if row.kind == kinds::CALL {
         call(own, row, words, at)
     } else if row.kind == kinds::JUMP {
         jump(own, row, words, at)
     } else if row.kind == kinds::ANNULLING {
-        annulling(own, row, at)
+        annulling(own, row)
     } else {
         Goal::Stays
     }
@@ -63,11 +59,10 @@ pub(crate) fn turn(own: &mut Processor, row: &Row, words: Words, at: usize) -> G
 fn call(own: &mut Processor, row: &Row, words: Words, at: usize) -> Goal
     requires kind { row.now.kind ≡ 34 }
     requires words { AreWords words }
-    ensures turns { Turns result row.now words.origin at own.old own.new }
-    ensures few { IsFew result }
+    ensures { Turns result row.now words.origin at own.old own.new }
 {
     own.set(15, address(words, at));
-    Goal::Behind(moved(at, row.number))
+    Goal::Behind(row.number)
 }
 
 // A jump. One to where no instruction can stand is left.
@@ -76,31 +71,29 @@ fn jump(own: &mut Processor, row: &Row, words: Words, at: usize) -> Goal
     requires kind { row.now.kind ≡ 35 }
     requires registers { AreRegisterNumbers row.now }
     requires words { AreWords words }
-    ensures turns { Turns result row.now words.origin at own.old own.new }
-    ensures few { IsFew result }
+    ensures { Turns result row.now words.origin at own.old own.new }
 {
     let target = sum_of(own, row);
     if target % 4 != 0 {
         return Goal::Stays;
     }
-    own.set(row.rd, address(words, at));
-    Goal::Behind(place_of(words, target))
+    let here = address(words, at);
+    own.set(row.rd, here);
+    Goal::Behind(displacement(here, target))
 }
 
 // A branch that annuls its delay slot where it is not taken, or is taken always.
 #[inline(always)]
-fn annulling(own: &Processor, row: &Row, at: usize) -> Goal
+fn annulling(own: &Processor, row: &Row) -> Goal
     requires kind { row.now.kind ≡ 36 }
     requires condition { row.now.rs1 < 16 }
-    requires few { at < 2 ^ 32 }
-    ensures turns { (origin : ℕ) → Turns result row.now origin at own.now own.now }
-    ensures few { IsFew result }
+    ensures { (origin at : ℕ) → Turns result row.now origin at own.now own.now }
 {
     if !holds(row.rs1, own.icc()) {
-        Goal::Now(at + 2)
+        Goal::Now(2)
     } else if row.rs1 == 8 {
-        Goal::Now(moved(at, row.number))
+        Goal::Now(row.number)
     } else {
-        Goal::Behind(moved(at, row.number))
+        Goal::Behind(row.number)
     }
 }

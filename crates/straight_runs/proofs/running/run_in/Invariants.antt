@@ -1,6 +1,6 @@
-use Rattle.std.proofs.Common.{◌≡◌, ◌≤◌, ◌-◌, length}
+use Rattle.std.proofs.Common.{◌≡◌, length}
 use Rattle.straight_runs.specs.Tables.{AreRows}
-use Rattle.straight_runs.proofs.RunningLemmas.{IsRunning}
+use Rattle.straight_runs.proofs.RunningLemmas.{IsRunning, left_at}
 use Rattle.straight_runs.proofs.running.run_in.Given as goal
 
 abbrev pub invariant-loop-at : goal.invariant-loop-at
@@ -13,4 +13,4 @@ invariant-loop-at g l = record {
 }
 
 abbrev pub decreases-loop-at : goal.decreases-loop-at
-decreases-loop-at g l = l.limit - l.at
+decreases-loop-at g l = left_at l.at l.limit

@@ -1,10 +1,10 @@
-use Rattle.std.proofs.Common.{ap, ◌∙◌}
+use Rattle.std.proofs.Common.{◌+◌, ap, ◌∙◌}
 use Rattle.sparc_step.specs.Registers.{with_register}
 use Rattle.straight_runs.proofs.TurningLemmas.{jump_turns}
 use Rattle.straight_runs.proofs.turning.jump.Goals as goal
 
-pub returns-clause-turns : goal.returns-clause-turns
-returns-clause-turns c =
-    jump_turns c.args.row.now c.args.words.origin c.args.at c.place_of.result c.args.own.now c.set.new.self c.requires.kind
-    c.sum_of-target.result c.sum_of-target.ensures c.if-target-ne0.false c.place_of.ensures.value
-    (c.set.ensures ∙ ap (with_register c.args.own.now c.args.row.now.rd) c.address.ensures.value)
+pub returns : goal.returns
+returns c =
+    jump_turns c.args.row.now c.args.words.origin c.args.at (c.args.at + c.displacement.result) c.args.own.now c.set.new.self c.requires.kind
+    c.sum_of-target.result c.sum_of-target.ensures c.if-target-ne0.false (c.displacement.ensures c.args.words.origin c.args.at c.address-here.ensures.value)
+    (c.set.ensures ∙ ap (with_register c.args.own.now c.args.row.now.rd) c.address-here.ensures.value)
