@@ -36,10 +36,14 @@ lines_unless false g = lines_of g (happened g)
 unfoldable pub step_lines : Machine → List ReportLine
 step_lines g = lines_unless g.halted g
 
+-- what each of so many ticks adds, one after the other
+abbrev pub added : {X : Type 0} → (Machine → List X) → Machine → ℕ → List X
+added adds g zero = []
+added adds g (suc count) = adds g ++ added adds (step g) count
+
 -- the lines of so many ticks
 abbrev pub lines : Machine → ℕ → List ReportLine
-lines g zero = []
-lines g (suc count) = step_lines g ++ lines (step g) count
+lines g count = added step_lines g count
 
 -- the console bytes of a local tick
 abbrev pub local_said : Option LocalTick → List ℕ
@@ -56,8 +60,7 @@ step_said g p = said_unless g.halted g p
 
 -- the bytes that partition p writes to its console in so many ticks
 abbrev pub said : Machine → ℕ → ℕ → List ℕ
-said g zero p = []
-said g (suc count) p = step_said g p ++ said (step g) count p
+said g count p = added (λ m. step_said m p) g count
 
 -- whether a partition's console is this UART
 abbrev pub has_console : Machine → ℕ → ℕ → Bool
@@ -69,8 +72,7 @@ step_console g uart = all_of (λ p ps. if has_console g uart p then step_said g 
 
 -- the bytes that a UART gets in so many ticks
 abbrev pub console : Machine → ℕ → ℕ → List ℕ
-console g zero uart = []
-console g (suc count) uart = step_console g uart ++ console (step g) count uart
+console g count uart = added (λ m. step_console m uart) g count
 
 -- the line of partition p's end
 abbrev pub end_line : ℕ → PartitionState → ReportLine

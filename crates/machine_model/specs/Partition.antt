@@ -89,11 +89,11 @@ reset view mode status ps = record ps {
   made = no_ports;
 }
 
--- a partition as it boots
-unfoldable pub booted : PartitionView → PartitionState
-booted view = record {
-  core = registers_started view.image.entry;
-  memory = loaded_memory view;
+-- a partition that begins at an address, with this memory and these input words
+abbrev pub begun_at : ℕ → Memory → List ℕ → PartitionState
+begun_at entry memory inputs = record {
+  core = registers_started entry;
+  memory = memory;
   traps = no_traps;
   clocks = no_clocks;
   state = Ready;
@@ -102,8 +102,12 @@ booted view = record {
   made = no_ports;
   traces = nothing_kept;
   health = nothing_kept;
-  inputs = view.inputs;
+  inputs = inputs;
 }
+
+-- a partition as it boots
+unfoldable pub booted : PartitionView → PartitionState
+booted view = begun_at view.image.entry (loaded_memory view) view.inputs
 
 -- whether a partition in this state has halted
 abbrev pub is_halted : State → Bool

@@ -6,10 +6,7 @@ use Rattle.cyclic_plans.specs.PlanClock.{frame_from}
 use Rattle.guest_bus.specs.Access.{fetched}
 use Rattle.guest_bus.specs.Memory.{Memory, with_bytes}
 use Rattle.sparc_step.specs.Registers.{Registers, registers_started, with_register}
-use Rattle.virt_clocks.specs.Clocks.{no_clocks}
-use Rattle.virt_traps.specs.Virtual.{no_traps}
 use Rattle.xm_base.specs.Options.{on}
-use Rattle.xm_base.specs.declared.partition.State.TheVariants.{Ready}
 use Rattle.xm_conf.specs.Configuration.{Chan, Conf, Part, Plan}
 use Rattle.xm_conf.specs.declared.health.Action.{Action}
 use Rattle.xm_conf.specs.declared.health.Action.TheVariants as action
@@ -18,13 +15,11 @@ use Rattle.xm_conf.specs.declared.part.HmTable.{HmTable}
 use Rattle.xm_conf.specs.declared.plan.Slot.{Slot}
 use Rattle.xef_images.specs.Image.{Image}
 use Rattle.xm_ports.specs.Channels.{empty, shapes_of}
-use Rattle.xm_ports.specs.Ports.{no_ports}
 use Rattle.xm_report.specs.Report.{ReportLine}
-use Rattle.xm_traces.specs.Ring.{nothing_kept}
 use Rattle.machine_model.specs.Lines.{end_lines, lines}
 use Rattle.machine_model.specs.Machine.{Machine, run}
 use Rattle.guest_memory.specs.Loading.{area_of}
-use Rattle.machine_model.specs.Partition.{PartitionState}
+use Rattle.machine_model.specs.Partition.{PartitionState, begun_at}
 
 -- a program of these words, and then these bytes
 abbrev pub program : List ℕ → List ℕ → List ℕ
@@ -92,19 +87,7 @@ with_outs n (value ∷ values) core = with_outs (suc n) values (with_register co
 
 -- a partition at an address, with these values in its outs, of which a call has the first as its number, and with this memory
 abbrev pub calling : ℕ → List ℕ → Memory → PartitionState
-calling entry outs memory = record {
-  core = with_outs 8 outs (registers_started entry);
-  memory = memory;
-  traps = no_traps;
-  clocks = no_clocks;
-  state = Ready;
-  resets = 0;
-  reset_status = 0;
-  made = no_ports;
-  traces = nothing_kept;
-  health = nothing_kept;
-  inputs = [];
-}
+calling entry outs memory = record (begun_at entry memory []) { core = with_outs 8 outs (registers_started entry) }
 
 -- a partition that begins at an address, with this memory
 abbrev pub at : ℕ → Memory → PartitionState

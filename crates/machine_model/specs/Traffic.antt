@@ -10,7 +10,7 @@ use Rattle.xm_conf.specs.declared.port.Way.TheVariants as way
 use Rattle.xm_ports.specs.Channels.{Content, put, first_taken}
 use Rattle.virt_traps.specs.Virtual.{raised}
 use Rattle.xm_base.specs.Options.{on}
-use Rattle.machine_model.specs.Lists.{each, is_number, table}
+use Rattle.machine_model.specs.Lists.{by_option, each, is_number, table}
 use Rattle.machine_model.specs.Partition.{PartitionState, is_halted, link_signal, queuing_port, sampling_port}
 use Rattle.machine_model.specs.Told.{Act, OwnPuts, OwnSignals, OwnStill, OwnTakes, OwnTraffic, reach_of}
 use Rattle.machine_model.specs.View.{PartitionView, PortChannel, linked, name_of, named}
@@ -29,12 +29,10 @@ traffic_of act = (reach_of act).traffic
 
 -- a partition's traffic under the system's numbers; none where a name has no channel
 abbrev pub puts_at : Option ℕ → List ℕ → Traffic
-puts_at None bytes = Still
-puts_at (Some channel) bytes = Puts channel bytes
+puts_at channel bytes = by_option channel Still (λ number. Puts number bytes)
 
 abbrev pub takes_at : Option ℕ → Traffic
-takes_at None = Still
-takes_at (Some channel) = Takes channel
+takes_at channel = by_option channel Still Takes
 
 abbrev pub told_as : Conf → ℕ → OwnTraffic → Traffic
 told_as conf p OwnStill = Still
@@ -45,12 +43,10 @@ told_as conf p (OwnSignals number) = Signals p number
 -- traffic of the system under a partition's names; none where the partition has no name for the channel, and none where a signal goes to another
 -- one
 abbrev pub own_puts_at : Option ℕ → List ℕ → OwnTraffic
-own_puts_at None bytes = OwnStill
-own_puts_at (Some name) bytes = OwnPuts name bytes
+own_puts_at name bytes = by_option name OwnStill (λ number. OwnPuts number bytes)
 
 abbrev pub own_takes_at : Option ℕ → OwnTraffic
-own_takes_at None = OwnStill
-own_takes_at (Some name) = OwnTakes name
+own_takes_at name = by_option name OwnStill OwnTakes
 
 abbrev pub own_signals_at : Bool → ℕ → OwnTraffic
 own_signals_at false number = OwnStill
