@@ -12,6 +12,7 @@ use Rattle.xm_conf.specs.View.{counts_seen, is_system, sees}
 use Rattle.xm_ports.specs.Channels.{Content, Shape, first_message}
 use Rattle.xm_traces.specs.Ring.{entry_at}
 use Rattle.machine_model.specs.Allowed.{AllowsTraffic, AnswersCalls, HearsWhatIsAllowed, IsAnswerTo, IsForEntry, TakesMore}
+use Rattle.machine_model.specs.EndLemmas.{its_channel_is, view_channel}
 use Rattle.machine_model.specs.Facts.{IsComplete}
 use Rattle.machine_model.specs.Laws.{HasLength}
 use Rattle.machine_model.specs.Lists.{is_number}
@@ -25,7 +26,7 @@ use Rattle.machine_model.specs.Traffic.{Puts, Signals, Still, Takes, Traffic, co
 use Rattle.machine_model.specs.View.{PartitionView, PortChannel, linked, name_of, view_of}
 use Rattle.machine_model.proofs.NameLemmas.{name_is, name_named}
 use Rattle.machine_model.proofs.ObservingLemmas.{asks_by_flag, asks_other, by_number, shows_its_size}
-use Rattle.machine_model.proofs.ShapeFactLemmas.{FitsChannels, copy_there, its_channel_is, tick_traffic, view_channel}
+use Rattle.machine_model.proofs.ShapeFactLemmas.{FitsChannels, copy_there, tick_traffic}
 use Rattle.machine_model.proofs.WorkTickLemmas.{have_loads}
 
 -- what a channel holds, of a partition's copy of it

@@ -19,12 +19,13 @@ use Rattle.xm_conf.specs.declared.health.Event.{Event}
 use Rattle.xm_ports.specs.Channels.{Content}
 use Rattle.machine_model.specs.Facts.{BootsClocked, IsClocked, KeepsClocked, RunsClocked}
 use Rattle.machine_model.specs.Machine.{Machine, SlotTurn, act_of, after, clock_after, copies, happened, happened_by, local, local_in, local_of, next_clock, run, sight_of_state, start, step, taken_by, turn_of}
+use Rattle.machine_model.specs.OwnActs.{IsWithin}
 use Rattle.machine_model.specs.Partition.{PartitionState, takes_turns}
 use Rattle.machine_model.specs.Told as told
 use Rattle.machine_model.specs.Told.{Act, AllHalted, AllReset, Asked, Maintenance, NoEvent}
 use Rattle.machine_model.specs.View.{System, no_part, part_of, view_of}
 use Rattle.machine_model.specs.Whole.{event_of, time_after}
-use Rattle.machine_model.proofs.WithinLemmas.{IsWithin, local_within}
+use Rattle.machine_model.proofs.WithinLemmas.{local_within}
 use Rattle.machine_model.proofs.RunLemmas.{step_system}
 use Rattle.machine_model.proofs.StepLemmas.{step_halted, step_runs}
 
@@ -80,7 +81,7 @@ fits_plans system p contents told.Nothing fits within = tt
 fits_plans system p contents (told.Trades traffic) fits within = tt
 fits_plans system p contents (told.Upon id order) fits within = tt
 fits_plans system p contents (told.Plans (Asked plan)) fits within =
-    seen_there (length system.conf.parts) (length system.conf.plans) (is_system (slice_get system.conf.parts p)) plan within
+    seen_there (length system.conf.parts) (length system.conf.plans) (is_system (slice_get system.conf.parts p)) plan within.0
 fits_plans system p contents (told.Plans Maintenance) fits within = maintenance_there system.conf p fits within.event within.is
 fits_plans system p contents (told.UponAll event) fits within = tt
 

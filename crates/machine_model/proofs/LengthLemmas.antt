@@ -1,30 +1,31 @@
 -- How many bytes a tick puts into a channel, and how many a partition is shown in it.
-use Rattle.std.proofs.Common.{◌≡◌, ℕ, ◌≤◌, Bool, true, false, List, length, Option, None, Some, refl, sym, subst, arith}
+use Rattle.std.proofs.Common.{ℕ, ◌≤◌, Bool, true, false, List, length, Option, None, Some, refl, sym, subst, arith}
 use Rattle.std.specs.Prelude.{◌==◌, if◌then◌else◌, slice_get}
 use Rattle.guest_bus.specs.Memory.{all_from, is_writable}
 use Rattle.xm_conf.specs.Description.{described}
 use Rattle.xm_conf.specs.Fits.{Fits, IsChan}
 use Rattle.xm_ports.specs.Channels.{Shape}
+use Rattle.machine_model.specs.EndLemmas.{all_at, its_channel_is, view_channel}
 use Rattle.machine_model.specs.Facts.{HasFacts}
 use Rattle.machine_model.specs.Laws.{HasLength}
 use Rattle.machine_model.specs.Lengths.{PutsAtMost, PutsFewBytes, ShowsAtMost, ShowsFewBytes}
 use Rattle.machine_model.specs.Machine.{Machine, SlotTurn, act_of, answer_to, copies, happened, happened_by, local, local_in, local_of, sight, sight_for, sight_in, sight_of_state, system_traffic, taken_by, turn_of, with_room}
 use Rattle.machine_model.specs.Observed.{Observation, asks}
+use Rattle.machine_model.specs.OwnActs.{IsPutting, IsWithin}
 use Rattle.machine_model.specs.Partition.{PartitionState, areas_of, takes_turns}
 use Rattle.machine_model.specs.Told as told
 use Rattle.machine_model.specs.Told.{Act, OwnPuts, OwnSignals, OwnStill, OwnTakes, Sight, Unseen, Words}
 use Rattle.machine_model.specs.Traffic.{puts_at, takes_at, told_as, traffic_of}
 use Rattle.machine_model.specs.View.{PartitionView, named, view_of}
 use Rattle.machine_model.proofs.ObservingLemmas.{answer_has, size_few, size_of}
-use Rattle.machine_model.proofs.ShapeFactLemmas.{all_at, its_channel_is, view_channel}
-use Rattle.machine_model.proofs.WithinLemmas.{IsPutting, IsWithin, local_within}
+use Rattle.machine_model.proofs.WithinLemmas.{local_within}
 use Rattle.machine_model.proofs.WorkTickLemmas.{have_loads}
 
 -- a message that a partition puts is one for a channel of the configuration
 putting_short : (g : Machine) (p q : ℕ) (bytes : List ℕ) → Fits (described g.system.conf) → IsPutting (view_of g.system p) (copies g p) q bytes → length bytes ≤ 4096
 unfolding described
 putting_short g p q bytes fits putting =
-    let its = its_channel_is g.system.conf p putting.number putting.channel (view_channel g.system p putting.number putting.channel putting.channel_there) in
+    let its = its_channel_is g.system.conf p putting.on.number putting.on.channel (view_channel g.system p putting.on.number putting.on.channel putting.on.channel_there) in
     let fit : length bytes ≤ its.chan.length = subst (λ (shape : Shape). length bytes ≤ shape.length) (sym its.shape_is) putting.message.fit in
     let most : its.chan.length ≤ 4096 = (all_at IsChan g.system.conf.chans its.number its.chan its.there fits.messages).most in
     omega (arith, fit, most)

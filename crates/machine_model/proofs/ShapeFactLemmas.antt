@@ -1,17 +1,17 @@
 -- Each channel holds what its shape allows.
-use Rattle.std.proofs.Common.{◌≡◌, ℕ, zero, suc, ◌<◌, ◌≤◌, ◌+◌, Bool, true, false, cond, List, [], ◌∷◌, ◌++◌, length, Option, None, Some, refl, sym, ap, ◌∙◌, arith, subst}
-use Rattle.std.specs.Prelude.{slice_get, slice_index_or, ◌==◌, ◌&&◌, ◌||◌, if◌then◌else◌, map, IfSome, IsSome, All, drop}
-use Rattle.std.specs.List.{list_any, position_from}
+use Rattle.std.proofs.Common.{◌≡◌, ℕ, zero, suc, ◌<◌, ◌≤◌, ◌+◌, Bool, true, false, List, [], ◌∷◌, ◌++◌, length, Option, None, Some, refl, sym, ap, ◌∙◌, arith, subst}
+use Rattle.std.specs.Prelude.{slice_get, slice_index_or, ◌==◌, ◌||◌, if◌then◌else◌, map, IfSome, IsSome, drop}
+use Rattle.std.specs.List.{list_any}
 use Rattle.std.proofs.lemmas.Bool.{eqb-true}
 use Rattle.std.proofs.lemmas.List.{length-map}
-use Rattle.std.proofs.lemmas.List.Elements.{All-append, All-cons, All-head, All-nil, All-tail}
+use Rattle.std.proofs.lemmas.List.Elements.{All-append, All-cons, All-nil, All-tail}
 use Rattle.std.proofs.lemmas.Option.{same_Some}
 use Rattle.xm_base.specs.Options.{on}
 use Rattle.xm_conf.specs.Configuration.{Chan, Conf, Part}
 use Rattle.xm_conf.specs.Description.{described}
 use Rattle.xm_conf.specs.Fits.{Fits, IsOfKind, SuitsPorts}
 use Rattle.xm_conf.specs.Fits.{IsEnd as IsEndOf}
-use Rattle.xm_conf.specs.Rules.{port_at, port_of}
+use Rattle.xm_conf.specs.Rules.{port_at}
 use Rattle.xm_conf.specs.View.{channel_of, has_end, is_port}
 use Rattle.xm_conf.specs.declared.channel.ChanKind.{ChanKind}
 use Rattle.xm_conf.specs.declared.channel.ChanKind.TheVariants as chan_kind
@@ -21,16 +21,18 @@ use Rattle.xm_conf.specs.declared.port.Port.{Port}
 use Rattle.xm_conf.specs.declared.port.Way.TheVariants as way
 use Rattle.xm_ports.specs.Channels.{Content, IsMessage, IsQueue, Queuing, Sampling, Shape, Suits, SuitsKind, cleared, empty, empty_of, first_message, put, shape_of, shapes_of, first_taken}
 use Rattle.machine_model.specs.Allowed.{TakesMore}
+use Rattle.machine_model.specs.EndLemmas.{all_at, any_end, end_is, found_from, IsItsChannel, its_channel_is, part_port, table_some, view_channel}
 use Rattle.machine_model.specs.Facts.{BootsWithShapes, HasShapes, KeepsShapes, PortsHaveKinds, RunsWithShapes}
-use Rattle.machine_model.specs.Lists.{each, table}
+use Rattle.machine_model.specs.Lists.{each}
 use Rattle.machine_model.specs.Machine.{Machine, SlotTurn, act_of, after, channel_after, copies, happened, happened_by, local, local_in, local_of, run, sight_of_state, start, step, system_traffic, taken_by, turn_of}
+use Rattle.machine_model.specs.OwnActs.{HasRoom, IsPutting, IsTaking, IsWithin}
 use Rattle.machine_model.specs.Partition.{PartitionState, takes_turns}
 use Rattle.machine_model.specs.Told as told
 use Rattle.machine_model.specs.Told.{Act, OwnPuts, OwnSignals, OwnStill, OwnTakes}
 use Rattle.machine_model.specs.Traffic.{Puts, Signals, Still, Takes, Traffic, after_traffic, content_if, copies_of, puts_at, takes_at, told_as, traffic_of}
-use Rattle.machine_model.specs.View.{PortChannel, System, name_of, named, no_part, part_of, port_channel, view_of, with_its_name, with_name}
+use Rattle.machine_model.specs.View.{PortChannel, System, name_of, named, part_of, view_of}
 use Rattle.machine_model.specs.Whole.{AllHalted, AllReset, NoEvent, WholeEvent, content_after}
-use Rattle.machine_model.proofs.WithinLemmas.{HasRoom, IsPutting, IsTaking, IsWithin, local_within}
+use Rattle.machine_model.proofs.WithinLemmas.{are_names, local_within, named_so}
 use Rattle.machine_model.proofs.ListLemmas.{each_counted, get_each, get_map}
 use Rattle.machine_model.proofs.NameLemmas.{has_name_named}
 use Rattle.machine_model.proofs.RunLemmas.{step_system}
@@ -87,43 +89,6 @@ unfolding TakesMore
 takes_more (chan_kind.Sampling refresh) one content is room = tt
 takes_more (chan_kind.Queuing most) one content is room = subst (λ (k : Kind). HasRoom k (chan_kind.Queuing most) content) is room
 
--- what is found by a search
-record IsFound {X : Type 0} (test : X → Bool) (k : ℕ) (xs : List X) (e : ℕ) : Type 0 where
-  place : ℕ
-  element : X
-  at : e ≡ k + place
-  there : slice_get xs place ≡ Some element
-  passes : test element ≡ true
-
-found_from : {X : Type 0} (test : X → Bool) (k : ℕ) (xs : List X) (e : ℕ) → position_from test k xs ≡ Some e → IsFound test k xs e
-found_from test k [] e is = absurd cc
-found_from test k (x ∷ xs) e is = by (test x) refl is (found_from test (k + 1) xs e)
-  where
-    by : (b : Bool) → test x ≡ b → cond b (Some k) (position_from test (k + 1) xs) ≡ Some e → (position_from test (k + 1) xs ≡ Some e → IsFound test (k + 1) xs e) → IsFound test k (x ∷ xs) e
-    by true passes said further = record { place = 0; element = x; at = (let same : k ≡ e = same_Some k e said in omega (arith, same)); there = refl; passes = passes }
-    by false fails said further =
-        let found = further said in
-        let at : e ≡ k + 1 + found.place = found.at in
-        record { place = suc found.place; element = found.element; at = omega (arith, at); there = found.there; passes = found.passes }
-
--- the port at an end
-end_is : (p r : ℕ) (end : End) → is_port p r end ≡ true → end ≡ record { part = p; port = r }
-unfolding is_port
-end_is p r end is = by (end.part == p) (end.port == r) refl refl is
-  where
-    by : (a b : Bool) → (end.part == p) ≡ a → (end.port == r) ≡ b → (a && b) ≡ true → end ≡ record { part = p; port = r }
-    by true true part port said = ap (λ n. record { part = n; port = end.port }) (eqb-true end.part p part) ∙ ap (λ n. record { part = p; port = n }) (eqb-true end.port r port)
-    by true false part port said = absurd cc
-    by false b part port said = absurd cc
-
-any_end : (P : End → Type 0) (p r : ℕ) (ends : List End) → list_any (is_port p r) ends ≡ true → All P ends → P (record { part = p; port = r })
-any_end P p r [] is all = absurd cc
-any_end P p r (end ∷ ends) is all = by (is_port p r end) refl is (any_end P p r ends)
-  where
-    by : (b : Bool) → is_port p r end ≡ b → (b || list_any (is_port p r) ends) ≡ true → (list_any (is_port p r) ends ≡ true → All P ends → P (record { part = p; port = r })) → P (record { part = p; port = r })
-    by true its said further = subst P (end_is p r end its) (All-head P end ends all)
-    by false its said further = further said (All-tail P end ends all)
-
 -- a port that is an end of a channel is of its kind
 end_kind : (parts : List Part) (chan : Chan) (p r : ℕ) (port : Port) → SuitsPorts parts chan → has_end p r chan ≡ true → port_at parts (record { part = p; port = r }) ≡ Some port
     → IsOfKind chan.kind port.kind
@@ -138,53 +103,6 @@ end_kind parts chan p r port suits is there = by (is_port p r chan.source) refl 
         let at = any_end (λ end. IfSome (port_at parts end) (IsEndOf chan.kind way.Destination)) p r chan.dests said suits.dests in
         (subst (λ (o : Option Port). IfSome o (IsEndOf chan.kind way.Destination)) there at).kind_is
 
-part_port : (parts : List Part) (p r : ℕ) (port : Port) → slice_get (slice_index_or parts p no_part).ports r ≡ Some port → port_of r (slice_get parts p) ≡ Some port
-part_port [] p r port is = absurd cc
-part_port (part ∷ parts) zero r port is = is
-part_port (part ∷ parts) (suc p) r port is = part_port parts p r port is
-
--- a table of options, read where something is
-table_some : {Y : Type 0} (f : ℕ → Option Y) (n r : ℕ) (y : Y) → slice_index_or (table f n) r None ≡ Some y → f r ≡ Some y
-table_some f zero r y is = absurd cc
-table_some f (suc n) zero y is = is
-table_some f (suc n) (suc r) y is = table_some (λ k. f (suc k)) n r y is
-
--- the channel of a partition's port
-pub record IsItsChannel (conf : Conf) (p r : ℕ) (channel : PortChannel) : Type 0 where
-  pub number : ℕ
-  pub chan : Chan
-  pub found : channel_of conf p r ≡ Some number
-  pub there : slice_get conf.chans number ≡ Some chan
-  pub named_so : name_of conf p number ≡ Some channel.name
-  pub shape_is : shape_of chan ≡ channel.shape
-
-pub its_channel_is : (conf : Conf) (p r : ℕ) (channel : PortChannel) → port_channel conf p r ≡ Some channel → IsItsChannel conf p r channel
-unfolding port_channel
-its_channel_is conf p r channel is = by (channel_of conf p r) refl is
-  where
-    with_both : (c : ℕ) → channel_of conf p r ≡ Some c → (chan : Option Chan) (name : Option ℕ) → slice_get conf.chans c ≡ chan → name_of conf p c ≡ name
-        → with_name chan name ≡ Some channel → IsItsChannel conf p r channel
-    with_both c found None name there named_so said = absurd cc
-    with_both c found (Some chan) None there named_so said = absurd cc
-    with_both c found (Some chan) (Some q) there named_so said =
-        let same : record { shape = shape_of chan; name = q } ≡ channel = same_Some _ channel said in
-        record {
-          number = c;
-          chan = chan;
-          found = found;
-          there = there;
-          named_so = named_so ∙ ap (λ x. Some x.name) same;
-          shape_is = ap (λ x. x.shape) same;
-        }
-
-    by : (o : Option ℕ) → channel_of conf p r ≡ o → with_its_name conf p o ≡ Some channel → IsItsChannel conf p r channel
-    by None found said = absurd cc
-    by (Some c) found said = with_both c found (slice_get conf.chans c) (name_of conf p c) refl refl said
-
-pub view_channel : (system : System) (p r : ℕ) (channel : PortChannel) → slice_index_or (view_of system p).channels r None ≡ Some channel → port_channel system.conf p r ≡ Some channel
-unfolding view_of
-view_channel system p r channel is = table_some (port_channel system.conf p) (length (part_of system.conf p).ports) r channel is
-
 pub copy_there : (g : Machine) (p q : ℕ) (content : Content) → slice_index_or (copies g p) q None ≡ Some content → content_if g.channels (named g.system.conf p q) ≡ Some content
 unfolding copies copies_of
 copy_there g p q content is = table_some (λ k. content_if g.channels (named g.system.conf p k)) (length (part_of g.system.conf p).ports) q content is
@@ -196,12 +114,6 @@ FitsChannels conf channels (Puts c bytes) =
     (chan : Chan) (content : Content) → slice_get conf.chans c ≡ Some chan → slice_get channels c ≡ Some content → IsMessage chan.length bytes × TakesMore chan.kind content
 FitsChannels conf channels (Takes c) = (content : Content) → slice_get channels c ≡ Some content → IsSome (first_message content)
 FitsChannels conf channels (Signals source number) = Unit {0}
-
--- what holds of each element of a list holds of one that is there
-pub all_at : {X : Type 0} (P : X → Type 0) (xs : List X) (k : ℕ) (x : X) → slice_get xs k ≡ Some x → All P xs → P x
-all_at P [] k x is all = absurd cc
-all_at P (one ∷ xs) zero x is all = subst P (same_Some one x is) (All-head P one xs all)
-all_at P (one ∷ xs) (suc k) x is all = all_at P xs k x is (All-tail P one xs all)
 
 view_port : (system : System) (p r : ℕ) (port : Port) → slice_get (view_of system p).part.ports r ≡ Some port → slice_get (part_of system.conf p).ports r ≡ Some port
 unfolding view_of
@@ -224,17 +136,17 @@ put_fits : (g : Machine) (p q : ℕ) (bytes : List ℕ) (c : ℕ) → Fits (desc
     → name_of g.system.conf p c ≡ Some q → FitsChannels g.system.conf g.channels (Puts c bytes)
 unfolding FitsChannels
 put_fits g p q bytes c fits putting named_so name_is chan content chan_there content_there =
-    let its = its_channel_is g.system.conf p putting.number putting.channel (view_channel g.system p putting.number putting.channel putting.channel_there) in
-    let same : its.number ≡ c = same_channel g.system.conf p q its.number c (its.named_so ∙ ap Some putting.name_is) name_is in
+    let its = its_channel_is g.system.conf p putting.on.number putting.on.channel (view_channel g.system p putting.on.number putting.on.channel putting.on.channel_there) in
+    let same : its.number ≡ c = same_channel g.system.conf p q its.number c (its.named_so ∙ ap Some putting.on.name_is) name_is in
     let same_chan : its.chan ≡ chan = same_Some its.chan chan (sym its.there ∙ ap (slice_get g.system.conf.chans) same ∙ chan_there) in
-    let its_shape : putting.channel.shape ≡ shape_of chan = sym its.shape_is ∙ ap shape_of same_chan in
+    let its_shape : putting.on.channel.shape ≡ shape_of chan = sym its.shape_is ∙ ap shape_of same_chan in
     let same_content : putting.content ≡ content = same_Some putting.content content
     (sym (copy_there g p q putting.content putting.held) ∙ ap (content_if g.channels) named_so ∙ content_there) in
-    let of_kind : IsOfKind chan.kind putting.port.kind = subst (λ (x : Chan). IsOfKind x.kind putting.port.kind) same_chan
-    (port_kind g.system.conf p putting.number putting.port putting.channel fits (view_port g.system p putting.number putting.port putting.port_there) its) in
-    let room : HasRoom putting.port.kind chan.kind content = subst (λ (x : Content). HasRoom putting.port.kind chan.kind x) same_content
-    (subst (λ (shape : Shape). HasRoom putting.port.kind shape.kind putting.content) its_shape putting.room) in
-    (subst (λ (shape : Shape). IsMessage shape.length bytes) its_shape putting.message, takes_more chan.kind putting.port.kind content of_kind room)
+    let of_kind : IsOfKind chan.kind putting.on.port.kind = subst (λ (x : Chan). IsOfKind x.kind putting.on.port.kind) same_chan
+    (port_kind g.system.conf p putting.on.number putting.on.port putting.on.channel fits (view_port g.system p putting.on.number putting.on.port putting.on.port_there) its) in
+    let room : HasRoom putting.on.port.kind chan.kind content = subst (λ (x : Content). HasRoom putting.on.port.kind chan.kind x) same_content
+    (subst (λ (shape : Shape). HasRoom putting.on.port.kind shape.kind putting.content) its_shape putting.room) in
+    (subst (λ (shape : Shape). IsMessage shape.length bytes) its_shape putting.message, takes_more chan.kind putting.on.port.kind content of_kind room)
 
 -- and a message that it takes waits there
 take_fits : (g : Machine) (p q c : ℕ) → IsTaking (view_of g.system p) (copies g p) q → named g.system.conf p q ≡ Some c → FitsChannels g.system.conf g.channels (Takes c)
@@ -250,10 +162,10 @@ unfolding FitsChannels
 act_fits g p told.Nothing fits within = tt
 act_fits g p (told.Trades OwnStill) fits within = tt
 act_fits g p (told.Trades (OwnPuts q bytes)) fits within =
-    let its = has_name_named g.system.conf p q (view_has g.system p q within.named) in
+    let its = has_name_named g.system.conf p q (view_has g.system p q (named_so (view_of g.system p) _ q (are_names g.system p) within.on)) in
     subst (λ (o : Option ℕ). FitsChannels g.system.conf g.channels (puts_at o bytes)) (sym its.1) (put_fits g p q bytes its.0 fits within its.1 its.2)
 act_fits g p (told.Trades (OwnTakes q)) fits within =
-    let its = has_name_named g.system.conf p q (view_has g.system p q within.named) in
+    let its = has_name_named g.system.conf p q (view_has g.system p q (named_so (view_of g.system p) _ q (are_names g.system p) within.on)) in
     subst (λ (o : Option ℕ). FitsChannels g.system.conf g.channels (takes_at o)) (sym its.1) (take_fits g p q its.0 within its.1)
 act_fits g p (told.Trades (OwnSignals number)) fits within = tt
 act_fits g p (told.Upon id order) fits within = tt

@@ -32,6 +32,8 @@ pub mod HealthRows
 pub mod CallRows
 pub mod PortRows
 pub mod TrapRows
+pub mod EndLemmas
+pub mod OwnActs
 pub mod OwnRows
 pub mod StartRows
 pub mod WordRows

@@ -3,6 +3,7 @@
 ghost use Rattle.machine_model.specs.Allowed.{AnswersCalls, HearsWhatIsAllowed};
 ghost use Rattle.machine_model.specs.Facts.{BootsClocked, BootsComplete, BootsTimed, BootsWithFacts, BootsWithShapes, KeepsClocked, KeepsFacts, KeepsFactsAlone, KeepsNumbers, KeepsShapes, KeepsTimed, PortsHaveKinds, RunsClocked, RunsComplete, RunsKeepNumbers, RunsTimed, RunsWithFacts, RunsWithShapes, ShowsItsSizeInRuns};
 ghost use Rattle.machine_model.specs.Lengths.{PutsFewBytes, ShowsFewBytes};
+ghost use Rattle.machine_model.specs.OwnActs.{ActsWithinOwn};
 ghost use Rattle.machine_model.specs.Laws.{
   ActsWithinBounds,
   AllTicks,
@@ -79,9 +80,11 @@ pub fn observes_as_tested()
 {}
 
 /// What a partition's part of a tick does beyond the partition is what its work comes to: no act is
-/// left out for being on a channel or a partition that it may not reach.
+/// left out for being on a channel or a partition that it may not reach. And that is within what the
+/// partition has: its ports, the links from it, the system flag and its health table.
 pub fn acts_within_bounds()
     ensures law { ActsWithinBounds }
+    ensures own { ActsWithinOwn }
 {}
 
 /// The core file of a partition after a run is that of the partition alone under its script.

@@ -1,7 +1,7 @@
 -- The ends of a channel: who hears of a message that is put there, and of one that is taken.
-use Rattle.std.proofs.Common.{◌≡◌, ℕ, zero, suc, ◌<◌, ◌≤◌, ◌+◌, Bool, true, false, cond, List, [], ◌∷◌, length, Option, None, Some, refl, sym, ap, ◌∙◌, arith, subst}
+use Rattle.std.proofs.Common.{◌≡◌, ℕ, zero, suc, ◌<◌, ◌≤◌, ◌+◌, Bool, true, false, List, [], ◌∷◌, length, Option, None, Some, refl, sym, ap, ◌∙◌, arith, subst}
 use Rattle.std.specs.Prelude.{slice_get, slice_index_or, ◌==◌, ◌&&◌, ◌||◌, if◌then◌else◌, IfSome, All}
-use Rattle.std.specs.List.{list_any, position_from}
+use Rattle.std.specs.List.{list_any}
 use Rattle.std.proofs.lemmas.Bool.{eqb-true}
 use Rattle.std.proofs.lemmas.Bool.Decides.{nat_tests}
 use Rattle.std.proofs.lemmas.List.Elements.{All-head, All-tail}
@@ -10,7 +10,7 @@ use Rattle.xm_base.specs.Bytes.{AreBytes}
 use Rattle.xm_conf.specs.Configuration.{Chan, Conf, Part}
 use Rattle.xm_conf.specs.Description.{described}
 use Rattle.xm_conf.specs.Fits.{Fits, IsChan, IsEnd, IsKind, IsOfKind, SuitsPorts}
-use Rattle.xm_conf.specs.Rules.{port_at, port_of}
+use Rattle.xm_conf.specs.Rules.{port_at}
 use Rattle.xm_conf.specs.View.{channel_of, has_end, is_port}
 use Rattle.xm_conf.specs.declared.channel.ChanKind.{ChanKind}
 use Rattle.xm_conf.specs.declared.channel.ChanKind.TheVariants as chan_kind
@@ -20,11 +20,12 @@ use Rattle.xm_conf.specs.declared.port.Kind.TheVariants as kind
 use Rattle.xm_conf.specs.declared.port.Port.{Port}
 use Rattle.xm_conf.specs.declared.port.Way.{Way}
 use Rattle.xm_conf.specs.declared.port.Way.TheVariants as way
-use Rattle.xm_ports.specs.Channels.{IsMessage as IsMessageOf, Shape, shape_of}
-use Rattle.machine_model.specs.Lists.{is_number, table, then_some}
-use Rattle.machine_model.specs.View.{PortChannel, System, if_named, name_from, name_of, named, no_part, part_of, port_channel, view_of, with_its_name, with_name}
+use Rattle.xm_ports.specs.Channels.{Content, IsMessage as IsMessageOf, Shape, shape_of}
+use Rattle.machine_model.specs.EndLemmas.{all_at, any_end, end_is, found_from, its_channel_is, part_port, view_channel}
+use Rattle.machine_model.specs.Lists.{is_number, then_some}
+use Rattle.machine_model.specs.OwnActs.{HasPortOn, IsPutting, IsTaking}
+use Rattle.machine_model.specs.View.{System, if_named, name_from, name_of, named, no_part, part_of, view_of}
 use Rattle.cue_scripts.specs.Script.{IsHeardMessage, numbered_chan, chan_called, gives_in, gives_queue, heard_in, is_length, is_queue, most_heard}
-use Rattle.told_scripts.proofs.CallLemmas.{IsPort, IsPut, IsTake}
 
 -- a number that an option has
 number_is : (o : Option ℕ) (n : ℕ) → is_number o n ≡ true → o ≡ Some n
@@ -94,25 +95,6 @@ name_small conf p c q fits is =
     let few : length (part_of conf p).ports ≤ 32 = few_ports conf.parts p fits.counts.ports in
     omega (arith, below, few)
 
--- what is found by a search
-record IsFound {X : Type 0} (test : X → Bool) (k : ℕ) (xs : List X) (e : ℕ) : Type 0 where
-  place : ℕ
-  element : X
-  at : e ≡ k + place
-  there : slice_get xs place ≡ Some element
-  passes : test element ≡ true
-
-found_from : {X : Type 0} (test : X → Bool) (k : ℕ) (xs : List X) (e : ℕ) → position_from test k xs ≡ Some e → IsFound test k xs e
-found_from test k [] e is = absurd cc
-found_from test k (x ∷ xs) e is = by (test x) refl is (found_from test (k + 1) xs e)
-  where
-    by : (b : Bool) → test x ≡ b → cond b (Some k) (position_from test (k + 1) xs) ≡ Some e → (position_from test (k + 1) xs ≡ Some e → IsFound test (k + 1) xs e) → IsFound test k (x ∷ xs) e
-    by true passes said further = record { place = 0; element = x; at = (let same : k ≡ e = same_Some k e said in omega (arith, same)); there = refl; passes = passes }
-    by false fails said further =
-        let found = further said in
-        let at : e ≡ k + 1 + found.place = found.at in
-        record { place = suc found.place; element = found.element; at = omega (arith, at); there = found.there; passes = found.passes }
-
 -- the channel of a partition's port
 record IsOn (conf : Conf) (p r c : ℕ) : Type 0 where
   chan : Chan
@@ -132,24 +114,6 @@ is_end_of : (conf : Conf) (p r c : ℕ) (chan : Chan) → channel_of conf p r �
 is_end_of conf p r c chan found there =
     let on = on_channel conf p r c found in
     subst (λ (one : Chan). has_end p r one ≡ true) (same_Some on.chan chan (sym on.there ∙ there)) on.is_end
-
--- a port that is an end
-end_is : (p r : ℕ) (end : End) → is_port p r end ≡ true → end ≡ record { part = p; port = r }
-unfolding is_port
-end_is p r end is = by (end.part == p) (end.port == r) refl refl is
-  where
-    by : (a b : Bool) → (end.part == p) ≡ a → (end.port == r) ≡ b → (a && b) ≡ true → end ≡ record { part = p; port = r }
-    by true true part port said = ap (λ n. record { part = n; port = end.port }) (eqb-true end.part p part) ∙ ap (λ n. record { part = p; port = n }) (eqb-true end.port r port)
-    by true false part port said = absurd cc
-    by false b part port said = absurd cc
-
-any_end : (P : End → Type 0) (p r : ℕ) (ends : List End) → list_any (is_port p r) ends ≡ true → All P ends → P (record { part = p; port = r })
-any_end P p r [] is all = absurd cc
-any_end P p r (end ∷ ends) is all = by (is_port p r end) refl is (any_end P p r ends)
-  where
-    by : (b : Bool) → is_port p r end ≡ b → (b || list_any (is_port p r) ends) ≡ true → (list_any (is_port p r) ends ≡ true → All P ends → P (record { part = p; port = r })) → P (record { part = p; port = r })
-    by true its said further = subst P (end_is p r end its) (All-head P end ends all)
-    by false its said further = further said (All-tail P end ends all)
 
 or_true : (a b : Bool) → b ≡ true → (a || b) ≡ true
 or_true true b is = refl
@@ -174,12 +138,6 @@ source_or_dest X p r chan is source dest = by (is_port p r chan.source) refl is
     by : (b : Bool) → is_port p r chan.source ≡ b → (b || list_any (is_port p r) chan.dests) ≡ true → X
     by true its said = source its
     by false its said = dest said
-
--- a port of a partition, as the ends see it
-port_there : (parts : List Part) (p r : ℕ) (port : Port) → slice_get (slice_index_or parts p no_part).ports r ≡ Some port → port_of r (slice_get parts p) ≡ Some port
-port_there [] p r port is = absurd cc
-port_there (part ∷ parts) zero r port is = is
-port_there (part ∷ parts) (suc p) r port is = port_there parts p r port is
 
 -- the ways of a source end and of another one
 source_way : (parts : List Part) (chan : Chan) (p r : ℕ) (port : Port) → SuitsPorts parts chan → is_port p r chan.source ≡ true → port_at parts (record { part = p; port = r }) ≡ Some port
@@ -244,60 +202,12 @@ queue_kind : (of : ChanKind) (dests : List End) → IsOfKind of kind.Queuing →
 queue_kind (chan_kind.Sampling refresh) dests is fits = absurd cc
 queue_kind (chan_kind.Queuing most) dests is fits = (refl, fits.0)
 
--- a table of options, read where something is
-table_some : {Y : Type 0} (f : ℕ → Option Y) (n r : ℕ) (y : Y) → slice_index_or (table f n) r None ≡ Some y → f r ≡ Some y
-table_some f zero r y is = absurd cc
-table_some f (suc n) zero y is = is
-table_some f (suc n) (suc r) y is = table_some (λ k. f (suc k)) n r y is
-
--- the channel of a port, as the partition sees it
-record IsChannelOf (conf : Conf) (p r : ℕ) (channel : PortChannel) : Type 0 where
-  number : ℕ
-  chan : Chan
-  found : channel_of conf p r ≡ Some number
-  there : slice_get conf.chans number ≡ Some chan
-  name_there : name_of conf p number ≡ Some channel.name
-  shape_is : shape_of chan ≡ channel.shape
-
-channel_is : (conf : Conf) (p r : ℕ) (channel : PortChannel) → port_channel conf p r ≡ Some channel → IsChannelOf conf p r channel
-unfolding port_channel
-channel_is conf p r channel is = by (channel_of conf p r) refl is
-  where
-    with_both : (c : ℕ) → channel_of conf p r ≡ Some c → (chan : Option Chan) (o : Option ℕ) → slice_get conf.chans c ≡ chan → name_of conf p c ≡ o
-        → with_name chan o ≡ Some channel → IsChannelOf conf p r channel
-    with_both c found None o there name said = absurd cc
-    with_both c found (Some chan) None there name said = absurd cc
-    with_both c found (Some chan) (Some q) there name said =
-        let same : record { shape = shape_of chan; name = q } ≡ channel = same_Some _ channel said in
-        record {
-          number = c;
-          chan = chan;
-          found = found;
-          there = there;
-          name_there = name ∙ ap (λ x. Some x.name) same;
-          shape_is = ap (λ x. x.shape) same;
-        }
-
-    by : (o : Option ℕ) → channel_of conf p r ≡ o → with_its_name conf p o ≡ Some channel → IsChannelOf conf p r channel
-    by None found said = absurd cc
-    by (Some c) found said = with_both c found (slice_get conf.chans c) (name_of conf p c) refl refl said
-
-view_channel : (system : System) (p r : ℕ) (channel : PortChannel) → slice_index_or (view_of system p).channels r None ≡ Some channel → port_channel system.conf p r ≡ Some channel
-unfolding view_of
-view_channel system p r channel is = table_some (port_channel system.conf p) (length (part_of system.conf p).ports) r channel is
-
 view_port : (system : System) (p r : ℕ) (port : Port) → slice_get (view_of system p).part.ports r ≡ Some port → port_at system.conf.parts (record { part = p; port = r }) ≡ Some port
 unfolding part_of port_at view_of
-view_port system p r port is = port_there system.conf.parts p r port is
-
--- what holds of each element of a list holds of one that is there
-all_at : {X : Type 0} (P : X → Type 0) (xs : List X) (k : ℕ) (x : X) → slice_get xs k ≡ Some x → All P xs → P x
-all_at P [] k x is all = absurd cc
-all_at P (one ∷ xs) zero x is all = subst P (same_Some one x is) (All-head P one xs all)
-all_at P (one ∷ xs) (suc k) x is all = all_at P xs k x is (All-tail P one xs all)
+view_port system p r port is = part_port system.conf.parts p r port is
 
 -- a channel by a port of another partition, by the number that it has in the system
-record IsTraded (system : System) (other c : ℕ) (the_way : Way) (name : ℕ) (port : IsPort (view_of system other) the_way name) : Type 0 where
+record IsTraded (system : System) (other c : ℕ) (the_way : Way) (name : ℕ) (port : HasPortOn (view_of system other) the_way name) : Type 0 where
   chan : Chan
   there : slice_get system.conf.chans c ≡ Some chan
   shape_is : shape_of chan ≡ port.channel.shape
@@ -306,12 +216,12 @@ record IsTraded (system : System) (other c : ℕ) (the_way : Way) (name : ℕ) (
   fits : IsChan chan
   suits : SuitsPorts system.conf.parts chan
 
-traded : (system : System) (other c name : ℕ) (the_way : Way) → Fits (described system.conf) → (port : IsPort (view_of system other) the_way name) → named system.conf other name ≡ Some c
+traded : (system : System) (other c name : ℕ) (the_way : Way) → Fits (described system.conf) → (port : HasPortOn (view_of system other) the_way name) → named system.conf other name ≡ Some c
     → IsTraded system other c the_way name port
 unfolding described
 traded system other c name the_way fits port is =
-    let its = channel_is system.conf other port.number port.channel (view_channel system other port.number port.channel port.channel_there) in
-    let one : channel_of system.conf other port.channel.name ≡ Some its.number = (name_is system.conf other its.number port.channel.name its.name_there).found in
+    let its = its_channel_is system.conf other port.number port.channel (view_channel system other port.number port.channel port.channel_there) in
+    let one : channel_of system.conf other port.channel.name ≡ Some its.number = (name_is system.conf other its.number port.channel.name its.named_so).found in
     let two : channel_of system.conf other name ≡ Some c = (name_is system.conf other c name (named_is system.conf other name c is)).found in
     let same : its.number ≡ c = same_Some its.number c (sym one ∙ ap (channel_of system.conf other) port.name_is ∙ two) in
     let there : slice_get system.conf.chans c ≡ Some its.chan = subst (λ (k : ℕ). slice_get system.conf.chans k ≡ Some its.chan) same its.there in
@@ -334,12 +244,12 @@ length_fits : (most count : ℕ) → 1 ≤ count → count ≤ most → is_lengt
 length_fits most count some fit = grind (arith, nat_tests)
 
 -- a message that another partition puts is one that p may hear
-pub put_heard : (system : System) (p other c q name : ℕ) (bytes : List ℕ) → Fits (described system.conf) → IsPut (view_of system other) name bytes → named system.conf other name ≡ Some c
+pub put_heard : (system : System) (p other c q name : ℕ) (bytes : List ℕ) (contents : List (Option Content)) → Fits (described system.conf) → IsPutting (view_of system other) contents name bytes → named system.conf other name ≡ Some c
     → (other == p) ≡ false → name_of system.conf p c ≡ Some q → AreBytes bytes → IsHeardMessage (most_heard system.conf p q) q bytes
 unfolding most_heard
-put_heard system p other c q name bytes fits put named_other differ is each =
-    let its = traded system other c name way.Source fits put.through named_other in
-    let source = put_source system.conf.parts its.chan other put.through.number put.through.port its.suits its.is_end its.port_is put.through.way_is in
+put_heard system p other c q name bytes contents fits put named_other differ is each =
+    let its = traded system other c name way.Source fits put.on named_other in
+    let source = put_source system.conf.parts its.chan other put.on.number put.on.port its.suits its.is_end its.port_is put.on.way_is in
     let is_end = is_end_of system.conf p q c its.chan (name_is system.conf p c q is).found its.there in
     let among = heard_by its.chan p other q source differ is_end in
     let most : heard_in p (chan_called system.conf p q) ≡ Some its.chan.length =
@@ -356,15 +266,15 @@ put_heard system p other c q name bytes fits put named_other differ is each =
     }
 
 -- a message that another partition takes is one that p gave
-pub take_heard : (system : System) (p other c q name : ℕ) → Fits (described system.conf) → IsTake (view_of system other) name → named system.conf other name ≡ Some c → (other == p) ≡ false
+pub take_heard : (system : System) (p other c q name : ℕ) (contents : List (Option Content)) → Fits (described system.conf) → IsTaking (view_of system other) contents name → named system.conf other name ≡ Some c → (other == p) ≡ false
     → name_of system.conf p c ≡ Some q → (q < 256) × (gives_queue system.conf p q ≡ true)
 unfolding gives_queue
-take_heard system p other c q name fits take named_other differ is =
-    let its = traded system other c name way.Destination fits take.through named_other in
-    let dest = take_dest system.conf.parts its.chan other take.through.number take.through.port its.suits its.is_end its.port_is take.through.way_is in
+take_heard system p other c q name contents fits take named_other differ is =
+    let its = traded system other c name way.Destination fits take.on named_other in
+    let dest = take_dest system.conf.parts its.chan other take.on.number take.on.port its.suits its.is_end its.port_is take.on.way_is in
     let queue = queue_kind its.chan.kind its.chan.dests (subst (λ (k : Kind). IsOfKind its.chan.kind k) take.kind_is dest.kind_is) its.fits.kind in
     let is_end = is_end_of system.conf p q c its.chan (name_is system.conf p c q is).found its.there in
-    let source = gives_to its.chan p other q take.through.number queue.1 dest.among differ is_end in (
+    let source = gives_to its.chan p other q take.on.number queue.1 dest.among differ is_end in (
       name_small system.conf p c q fits is,
       ap (gives_in p) (called_is system.conf p c q its.chan is its.there) ∙ ap (λ (b : Bool). b && (its.chan.source.part == p)) queue.0 ∙ source,
     )

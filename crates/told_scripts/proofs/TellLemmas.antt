@@ -12,12 +12,14 @@ use Rattle.xm_conf.specs.Description.{described}
 use Rattle.xm_conf.specs.Fits.{Fits}
 use Rattle.xm_traces.specs.Ring.{Kept, entry_at, first_kept}
 use Rattle.xm_traces.specs.declared.entry.TraceEntry.{TraceEntry}
+use Rattle.xm_ports.specs.Channels.{Content}
 use Rattle.machine_model.specs.Cue.{Away, Mine, CueSlot, cue, cue_in, script, script_unless, slot_of, unless_own}
 use Rattle.machine_model.specs.Facts.{BootsWithFacts, HasFacts, HaveEight, KeepsFacts, KeepsNumbers}
-use Rattle.machine_model.specs.Laws.{NeverUponItself, NoScript, SeesNothing}
+use Rattle.machine_model.specs.Laws.{ActsWithinBounds, NeverUponItself, NoScript, SeesNothing}
 use Rattle.machine_model.specs.LocalTick.{LocalTick}
 use Rattle.machine_model.specs.Machine.{Machine, SlotTurn, act_of, after, answer_to, copies, happened, happened_by, if_its_turn, is_halt, is_turn_of, local, local_in, local_of, order_upon, shown_entry, shown_of, sight, sight_for, sight_in, sight_of_state, start, step, step_unless, system_traffic, taken_by, tick_of, turn_of, with_room}
 use Rattle.machine_model.specs.Observed.{CurrentPlan, HealthCounts, HealthEntryOf, Observation, PartitionStatus, PlanStatus, Question, SystemStatus, TraceCounts, TraceEntryOf, asks}
+use Rattle.machine_model.specs.OwnActs.{ActsWithinOwn, IsPutting, IsTaking, IsWithin}
 use Rattle.machine_model.specs.Partition.{PartitionState, areas_of, takes_turns}
 use Rattle.machine_model.specs.Structures.{counts_bytes, health_bytes, partition_status, plan_status, system_status, trace_bytes}
 use Rattle.machine_model.specs.Told as told
@@ -27,10 +29,8 @@ use Rattle.machine_model.specs.View.{PartitionView, System, name_of, named, part
 use Rattle.cue_scripts.specs.Entries.{is_away}
 use Rattle.cue_scripts.specs.Script.{CanHear, CanSee, HaltsLast, HearsNothing, IsCue, IsScript, is_shown, is_system_partition}
 use Rattle.told_scripts.specs.Telling.{HasMessageBytes, HasNumbers, HasShownBytes, TellsBootedScripts, TellsCues, TellsScripts}
-use Rattle.told_scripts.proofs.CallLemmas.{IsAt, IsPut, IsTake}
 use Rattle.told_scripts.proofs.EndLemmas.{put_heard, take_heard}
 use Rattle.told_scripts.proofs.LinkLemmas.{signal_heard}
-use Rattle.told_scripts.proofs.WorkLemmas.{local_at}
 
 -- what others do on channels, as a partition hears it, by whose turn it is
 abbrev heard_in_turn : Machine → ℕ → Option SlotTurn → OwnTraffic
@@ -47,69 +47,73 @@ own_still conf p other None = refl
 own_still conf p other (Some tick) = refl
 
 -- an act of another partition
-put_told : (system : System) (p other name : ℕ) (bytes : List ℕ) → Fits (described system.conf) → IsPut (view_of system other) name bytes → (other == p) ≡ false
+put_told : (system : System) (p other name : ℕ) (bytes : List ℕ) (contents : List (Option Content)) → Fits (described system.conf) → IsPutting (view_of system other) contents name bytes → (other == p) ≡ false
     → HasMessageBytes (heard_as system.conf p (told_as system.conf other (OwnPuts name bytes)))
     → CanHear system.conf p (heard_as system.conf p (told_as system.conf other (OwnPuts name bytes)))
-put_told system p other name bytes fits put differ = by (named system.conf other name) refl
+put_told system p other name bytes contents fits put differ = by (named system.conf other name) refl
   where
     at : (c : ℕ) → named system.conf other name ≡ Some c → (o : Option ℕ) → name_of system.conf p c ≡ o → HasMessageBytes (own_puts_at o bytes) → CanHear system.conf p (own_puts_at o bytes)
     at c named_other None is each = tt
-    at c named_other (Some q) is each = put_heard system p other c q name bytes fits put named_other differ is each
+    at c named_other (Some q) is each = put_heard system p other c q name bytes contents fits put named_other differ is each
 
     by : (o : Option ℕ) → named system.conf other name ≡ o → HasMessageBytes (heard_as system.conf p (puts_at o bytes)) → CanHear system.conf p (heard_as system.conf p (puts_at o bytes))
     by None is each = tt
     by (Some c) is each = at c is (name_of system.conf p c) refl each
 
-take_told : (system : System) (p other name : ℕ) → Fits (described system.conf) → IsTake (view_of system other) name → (other == p) ≡ false
+take_told : (system : System) (p other name : ℕ) (contents : List (Option Content)) → Fits (described system.conf) → IsTaking (view_of system other) contents name → (other == p) ≡ false
     → CanHear system.conf p (heard_as system.conf p (told_as system.conf other (OwnTakes name)))
-take_told system p other name fits take differ = by (named system.conf other name) refl
+take_told system p other name contents fits take differ = by (named system.conf other name) refl
   where
     at : (c : ℕ) → named system.conf other name ≡ Some c → (o : Option ℕ) → name_of system.conf p c ≡ o → CanHear system.conf p (own_takes_at o)
     at c named_other None is = tt
-    at c named_other (Some q) is = take_heard system p other c q name fits take named_other differ is
+    at c named_other (Some q) is = take_heard system p other c q name contents fits take named_other differ is
 
     by : (o : Option ℕ) → named system.conf other name ≡ o → CanHear system.conf p (heard_as system.conf p (takes_at o))
     by None is = tt
     by (Some c) is = at c is (name_of system.conf p c) refl
 
-act_told : (system : System) (p other : ℕ) (act : Act) → Fits (described system.conf) → IsAt (view_of system other) act → (other == p) ≡ false
+act_told : (system : System) (p other : ℕ) (contents : List (Option Content)) (act : Act) → Fits (described system.conf) → IsWithin (view_of system other) contents act → (other == p) ≡ false
     → HasMessageBytes (heard_as system.conf p (told_as system.conf other (traffic_of act)))
     → CanHear system.conf p (heard_as system.conf p (told_as system.conf other (traffic_of act)))
-act_told system p other told.Nothing fits is differ each = tt
-act_told system p other (told.Trades OwnStill) fits is differ each = tt
-act_told system p other (told.Trades (OwnPuts name bytes)) fits is differ each = put_told system p other name bytes fits is differ each
-act_told system p other (told.Trades (OwnTakes name)) fits is differ each = take_told system p other name fits is differ
-act_told system p other (told.Trades (OwnSignals number)) fits is differ each = signal_heard system.conf p other number fits
-act_told system p other (told.Upon id order) fits is differ each = tt
-act_told system p other (told.Plans change) fits is differ each = tt
-act_told system p other (told.UponAll event) fits is differ each = tt
+act_told system p other contents told.Nothing fits is differ each = tt
+act_told system p other contents (told.Trades OwnStill) fits is differ each = tt
+act_told system p other contents (told.Trades (OwnPuts name bytes)) fits is differ each = put_told system p other name bytes contents fits is differ each
+act_told system p other contents (told.Trades (OwnTakes name)) fits is differ each = take_told system p other name contents fits is differ
+act_told system p other contents (told.Trades (OwnSignals number)) fits is differ each = signal_heard system.conf p other number fits
+act_told system p other contents (told.Upon id order) fits is differ each = tt
+act_told system p other contents (told.Plans change) fits is differ each = tt
+act_told system p other contents (told.UponAll event) fits is differ each = tt
 
-taken_at : (g : Machine) (p : ℕ) (first : Bool) (o : Option PartitionState) → IsAt (view_of g.system p) (act_of (taken_by g p first o))
+taken_within : ActsWithinBounds → ActsWithinOwn → (g : Machine) (p : ℕ) (first : Bool) (o : Option PartitionState) → IsWithin (view_of g.system p) (copies g p) (act_of (taken_by g p first o))
 unfolding local_of
-taken_at g p first None = tt
-taken_at g p first (Some ps) = at (takes_turns ps.state)
+taken_within bounds own g p first None = tt
+taken_within bounds own g p first (Some ps) = at (takes_turns ps.state)
   where
-    at : (b : Bool) → IsAt (view_of g.system p) (act_of (if b then Some (local_of g p first ps) else None))
-    at true = local_at (view_of g.system p) ps (copies g p) g.ticks g.time first (sight_of_state g p first ps)
+    seen : Sight
+    seen = sight_of_state g p first ps
+
+    at : (b : Bool) → IsWithin (view_of g.system p) (copies g p) (act_of (if b then Some (local_of g p first ps) else None))
+    at true =
+        subst (IsWithin (view_of g.system p) (copies g p)) (sym (bounds g.system p ps (copies g p) g.ticks g.time first seen)) (own (view_of g.system p) (copies g p) g.time first seen ps)
     at false = tt
 
 -- the local tick of the partition whose turn it is
 abbrev tick_in : Machine → SlotTurn → Option LocalTick
 tick_in g turn = taken_by g turn.part turn.first (slice_get g.parts turn.part)
 
-turn_told : (g : Machine) (p : ℕ) (o : Option SlotTurn) → Fits (described g.system.conf) → HasMessageBytes (heard_in_turn g p o) → CanHear g.system.conf p (heard_in_turn g p o)
-turn_told g p None fits each = tt
-turn_told g p (Some turn) fits each = at (turn.part == p) refl each
+turn_told : ActsWithinBounds → ActsWithinOwn → (g : Machine) (p : ℕ) (o : Option SlotTurn) → Fits (described g.system.conf) → HasMessageBytes (heard_in_turn g p o) → CanHear g.system.conf p (heard_in_turn g p o)
+turn_told bounds own g p None fits each = tt
+turn_told bounds own g p (Some turn) fits each = at (turn.part == p) refl each
   where
     at : (b : Bool) → (turn.part == p) ≡ b
         → HasMessageBytes (unless_own (is_some (if_its_turn b (tick_in g turn))) (heard_as g.system.conf p (told_as g.system.conf turn.part (traffic_of (act_of (tick_in g turn))))))
         → CanHear g.system.conf p (unless_own (is_some (if_its_turn b (tick_in g turn))) (heard_as g.system.conf p (told_as g.system.conf turn.part (traffic_of (act_of (tick_in g turn))))))
     at true its has = subst (CanHear g.system.conf p) (sym (own_still g.system.conf p turn.part (tick_in g turn))) tt
-    at false differ has = act_told g.system p turn.part (act_of (tick_in g turn)) fits (taken_at g turn.part turn.first (slice_get g.parts turn.part)) differ has
+    at false differ has = act_told g.system p turn.part (copies g turn.part) (act_of (tick_in g turn)) fits (taken_within bounds own g turn.part turn.first (slice_get g.parts turn.part)) differ has
 
-traffic_told : (g : Machine) (p : ℕ) → Fits (described g.system.conf) → HasMessageBytes (cue g p).traffic → CanHear g.system.conf p (cue g p).traffic
-traffic_told g p fits each =
-    subst (CanHear g.system.conf p) (sym (traffic_is g p)) (turn_told g p (turn_of g) fits (subst HasMessageBytes (traffic_is g p) each))
+traffic_told : ActsWithinBounds → ActsWithinOwn → (g : Machine) (p : ℕ) → Fits (described g.system.conf) → HasMessageBytes (cue g p).traffic → CanHear g.system.conf p (cue g p).traffic
+traffic_told bounds own g p fits each =
+    subst (CanHear g.system.conf p) (sym (traffic_is g p)) (turn_told bounds own g p (turn_of g) fits (subst HasMessageBytes (traffic_is g p) each))
 
 -- in its own turn a partition gives itself no order
 no_order : (act : Act) (p : ℕ) → ((order : Order) → ¬ (act ≡ Upon p order)) → order_upon act p ≡ None
@@ -275,16 +279,16 @@ seen_told nothing g p facts each =
     can_see (part_of g.system.conf p).system (cue g p).mine (cue g p).seen (cue_seen_in g p facts) (λ plain. seen_is g p ∙ nothing g p plain) each
 
 -- so a tick tells what a partition may be told
-cue_told : NeverUponItself → SeesNothing → (g : Machine) (p : ℕ) → Fits (described g.system.conf) → HasFacts g → HasNumbers (cue g p) → IsCue g.system.conf p (cue g p)
-cue_told never nothing g p fits facts numbers = record {
-  traffic = traffic_told g p fits numbers.message;
+cue_told : ActsWithinBounds → ActsWithinOwn → NeverUponItself → SeesNothing → (g : Machine) (p : ℕ) → Fits (described g.system.conf) → HasFacts g → HasNumbers (cue g p) → IsCue g.system.conf p (cue g p)
+cue_told bounds own never nothing g p fits facts numbers = record {
+  traffic = traffic_told bounds own g p fits numbers.message;
   order = numbers.status;
   alone = alone_told never g p;
   seen = seen_told nothing g p facts numbers.shown;
 }
 
-pub tells_cues : NeverUponItself → SeesNothing → TellsCues
-tells_cues never nothing g p sound numbers = cue_told never nothing g p sound.fits sound.facts numbers
+pub tells_cues : ActsWithinBounds → ActsWithinOwn → NeverUponItself → SeesNothing → TellsCues
+tells_cues bounds own never nothing g p sound numbers = cue_told bounds own never nothing g p sound.fits sound.facts numbers
 
 -- a tick that tells of a halt of the whole system halts the machine
 halts_so : (g : Machine) (p : ℕ) → g.halted ≡ false → (cue g p).whole ≡ AllHalted → (step g).halted ≡ true
@@ -295,7 +299,7 @@ halts_so g p runs is = ap (λ (b : Bool). (step_unless b g).halted) runs ∙ ap 
 step_conf : KeepsNumbers → (g : Machine) → (step g).system.conf ≡ g.system.conf
 step_conf same g = ap (λ (s : System). s.conf) (same g).system
 
-module _ (never : NeverUponItself) (nothing : SeesNothing) (same : KeepsNumbers) (keeps : KeepsFacts) where
+module _ (bounds : ActsWithinBounds) (own : ActsWithinOwn) (never : NeverUponItself) (nothing : SeesNothing) (same : KeepsNumbers) (keeps : KeepsFacts) where
   each_told : (count : ℕ) (g : Machine) (p : ℕ) → Fits (described g.system.conf) → HasFacts g → AllByRecursion HasNumbers (script g p count)
       → AllByRecursion (IsCue g.system.conf p) (script g p count)
   each_told zero g p fits facts numbers = tt
@@ -307,7 +311,7 @@ module _ (never : NeverUponItself) (nothing : SeesNothing) (same : KeepsNumbers)
           → AllByRecursion (IsCue g.system.conf p) (script_unless b (cue g p) (script (step g) p count))
       at true has further = tt
       at false has further = (
-        cue_told never nothing g p fits facts has.0,
+        cue_told bounds own never nothing g p fits facts has.0,
         subst (λ (conf : Conf). AllByRecursion (IsCue conf p) (script (step g) p count)) (step_conf same g) (further has.1),
       )
 
@@ -327,22 +331,22 @@ few_cues (suc count) g p = at g.halted (few_cues count (step g) p)
     at true few = omega arith
     at false few = omega (arith, few)
 
-script_told : NeverUponItself → SeesNothing → KeepsNumbers → KeepsFacts → NoScript → (g : Machine) (p count : ℕ) → Fits (described g.system.conf) → HasFacts g → count ≤ 4000000000
+script_told : ActsWithinBounds → ActsWithinOwn → NeverUponItself → SeesNothing → KeepsNumbers → KeepsFacts → NoScript → (g : Machine) (p count : ℕ) → Fits (described g.system.conf) → HasFacts g → count ≤ 4000000000
     → AllByRecursion HasNumbers (script g p count) → IsScript g.system.conf p (script g p count)
-script_told never nothing same keeps none g p count fits facts most numbers = record {
+script_told bounds own never nothing same keeps none g p count fits facts most numbers = record {
   few = (let few = few_cues count g p in omega (arith, few, most));
-  each = each_told never nothing same keeps count g p fits facts numbers;
+  each = each_told bounds own never nothing same keeps count g p fits facts numbers;
   halts = halts_last none count g p;
 }
 
-pub tells_scripts : NeverUponItself → SeesNothing → KeepsNumbers → KeepsFacts → NoScript → TellsScripts
-tells_scripts never nothing same keeps none g p count sound most numbers = script_told never nothing same keeps none g p count sound.fits sound.facts most numbers
+pub tells_scripts : ActsWithinBounds → ActsWithinOwn → NeverUponItself → SeesNothing → KeepsNumbers → KeepsFacts → NoScript → TellsScripts
+tells_scripts bounds own never nothing same keeps none g p count sound most numbers = script_told bounds own never nothing same keeps none g p count sound.fits sound.facts most numbers
 
 start_conf : (system : System) → (start system).system.conf ≡ system.conf
 unfolding start
 start_conf system = refl
 
-pub tells_booted : NeverUponItself → SeesNothing → KeepsNumbers → KeepsFacts → NoScript → BootsWithFacts → TellsBootedScripts
-tells_booted never nothing same keeps none boots system p count fits most numbers =
+pub tells_booted : ActsWithinBounds → ActsWithinOwn → NeverUponItself → SeesNothing → KeepsNumbers → KeepsFacts → NoScript → BootsWithFacts → TellsBootedScripts
+tells_booted bounds own never nothing same keeps none boots system p count fits most numbers =
     subst (λ (conf : Conf). IsScript conf p (script (start system) p count)) (start_conf system)
-    (script_told never nothing same keeps none (start system) p count (subst (λ (conf : Conf). Fits (described conf)) (sym (start_conf system)) fits) (boots system) most numbers)
+    (script_told bounds own never nothing same keeps none (start system) p count (subst (λ (conf : Conf). Fits (described conf)) (sym (start_conf system)) fits) (boots system) most numbers)

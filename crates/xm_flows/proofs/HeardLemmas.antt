@@ -21,7 +21,8 @@ use Rattle.machine_model.specs.Told.{Act, OwnPuts, OwnSignals, OwnStill, OwnTake
 use Rattle.machine_model.specs.Traffic.{heard_as, own_puts_at, own_takes_at, puts_at, takes_at, told_as, traffic_of}
 use Rattle.machine_model.specs.View.{PortChannel, System, name_of, named, no_part, part_of, port_channel, view_of, with_its_name, with_name}
 use Rattle.xm_flows.specs.Groups.{HasItsPeers, KeepsLink, KeepsRule, KeepsIn, Members, has_dest_in, has_end_in, is_in}
-use Rattle.xm_flows.specs.Rights.{HasPortOn, IsByRight, ReceivesFrom}
+use Rattle.machine_model.specs.OwnActs.{HasPortOn}
+use Rattle.xm_flows.specs.Rights.{IsByRight, ReceivesFrom}
 use Rattle.xm_flows.proofs.EndLemmas.{either_true, end_is, its_channel, name_is, named_is}
 use Rattle.xm_flows.proofs.LinkLemmas.{its_source, no_signal}
 use Rattle.xm_flows.proofs.PairLemmas.{end_in}

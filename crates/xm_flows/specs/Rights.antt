@@ -1,20 +1,19 @@
 -- By what right a partition reaches beyond itself: its ports, its links, the system flag, and its health table.
-use Rattle.std.specs.Prelude.{◌≡◌, ◌==◌, ◌⊎◌, ℕ, Bool, true, false, List, All, Option, Some, None, slice_get, slice_index_or}
+use Rattle.std.specs.Prelude.{◌≡◌, ◌==◌, ◌⊎◌, ℕ, Bool, true, false, List, All, Option}
 use Rattle.health_monitor.specs.Monitor.{action_in}
 use Rattle.xm_conf.specs.Configuration.{Conf}
 use Rattle.xm_conf.specs.declared.health.Action.{Action}
 use Rattle.xm_conf.specs.declared.health.Action.TheVariants as action
 use Rattle.xm_conf.specs.declared.health.Event.{Event}
 use Rattle.xm_conf.specs.declared.port.Kind.TheVariants as kind
-use Rattle.xm_conf.specs.declared.port.Port.{Port}
-use Rattle.xm_conf.specs.declared.port.Way.{Way}
 use Rattle.xm_conf.specs.declared.port.Way.TheVariants as way
 use Rattle.xm_ports.specs.Channels.{Content}
 use Rattle.machine_model.specs.LocalTick.{worked}
+use Rattle.machine_model.specs.OwnActs.{HasPortOn}
 use Rattle.machine_model.specs.Partition.{PartitionState}
 use Rattle.machine_model.specs.Told as told
 use Rattle.machine_model.specs.Told.{Act, OwnPuts, OwnSignals, OwnStill, OwnTakes, Sight}
-use Rattle.machine_model.specs.View.{PartitionView, PortChannel, has_number}
+use Rattle.machine_model.specs.View.{PartitionView, has_number}
 
 -- whether an action reaches all partitions: a reset or a halt of the hypervisor, or the maintenance plan
 abbrev pub reaches_all : Action → Bool
@@ -29,16 +28,6 @@ reaches_all action.HypervisorColdReset = true
 reaches_all action.HypervisorWarmReset = true
 reaches_all action.HypervisorHalt = true
 reaches_all action.SwitchToMaintenance = true
-
--- a partition has a port of this way on the channel that it calls by a name
-pub record HasPortOn (view : PartitionView) (the_way : Way) (name : ℕ) : Type 0 where
-  pub number : ℕ
-  pub port : Port
-  pub port_there : slice_get view.part.ports number ≡ Some port
-  pub way_is : port.way ≡ the_way
-  pub channel : PortChannel
-  pub channel_there : slice_index_or view.channels number None ≡ Some channel
-  pub name_is : channel.name ≡ name
 
 -- a partition receives from the queue that it calls by a name
 pub record ReceivesFrom (view : PartitionView) (name : ℕ) : Type 0 where

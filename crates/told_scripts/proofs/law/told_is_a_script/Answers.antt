@@ -3,13 +3,15 @@ use Rattle.told_scripts.proofs.law.told_is_a_script.Goals as goal
 
 pub returns : goal.returns
 returns c =
+    let bounds = c.acts_within_bounds.ensures.law in
+    let own = c.acts_within_bounds.ensures.own in
     let never = c.never_upon_itself.ensures.law in
     let nothing = c.sees_nothing.ensures.law in
     let same = c.keeps_numbers.ensures.ticks in
     let keeps = c.keeps_facts.ensures.ticks in
     let none = c.scripts_end.ensures.none in
     record {
-      tick = tells_cues never nothing;
-      run = tells_scripts never nothing same keeps none;
-      booted = tells_booted never nothing same keeps none c.keeps_facts.ensures.boots;
+      tick = tells_cues bounds own never nothing;
+      run = tells_scripts bounds own never nothing same keeps none;
+      booted = tells_booted bounds own never nothing same keeps none c.keeps_facts.ensures.boots;
     }

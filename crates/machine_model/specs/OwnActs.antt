@@ -1,0 +1,79 @@
+-- What an act of a partition's work rests on: a port of its own, a link from it, the system flag, or its health table.
+use Rattle.std.specs.Prelude.{◌≡◌, ◌⊎◌, ℕ, ◌==◌, ◌<◌, Bool, true, false, List, length, IsSome, nat_lt, Option, None, Some, slice_get, slice_index_or}
+use Rattle.health_monitor.specs.Monitor.{action_in, effect_of}
+use Rattle.xm_conf.specs.declared.channel.ChanKind.{ChanKind}
+use Rattle.xm_conf.specs.declared.health.Action.TheVariants as action
+use Rattle.xm_conf.specs.declared.health.Event.{Event}
+use Rattle.xm_conf.specs.declared.port.Kind.{Kind}
+use Rattle.xm_conf.specs.declared.port.Kind.TheVariants as kind
+use Rattle.xm_conf.specs.declared.port.Port.{Port}
+use Rattle.xm_conf.specs.declared.port.Way.{Way}
+use Rattle.xm_conf.specs.declared.port.Way.TheVariants as way
+use Rattle.xm_ports.specs.Channels.{Content, IsMessage, first_message, messages_of, most_of}
+use Rattle.machine_model.specs.Health.{done_to_all}
+use Rattle.machine_model.specs.LocalTick.{worked}
+use Rattle.machine_model.specs.Partition.{PartitionState}
+use Rattle.machine_model.specs.Told as told
+use Rattle.machine_model.specs.Told.{Act, Asked, Maintenance, OwnPuts, OwnSignals, OwnStill, OwnTakes, Sight, WholeEvent}
+use Rattle.machine_model.specs.View.{PartitionView, PortChannel, has_number}
+
+-- a partition has a port of this way on the channel that it calls by a name
+pub record HasPortOn (view : PartitionView) (the_way : Way) (name : ℕ) : Type 0 where
+  pub number : ℕ
+  pub port : Port
+  pub port_there : slice_get view.part.ports number ≡ Some port
+  pub way_is : port.way ≡ the_way
+  pub channel : PortChannel
+  pub channel_there : slice_index_or view.channels number None ≡ Some channel
+  pub name_is : channel.name ≡ name
+
+-- whether a queue takes one more; a sampling port's channel takes each message
+abbrev pub HasRoom : Kind → ChanKind → Content → Type 0
+HasRoom kind.Sampling of content = Unit {0}
+HasRoom kind.Queuing of content = length (messages_of content) < most_of of
+
+-- a message that is put into a channel by its name: through a source port of the partition, it is one for the channel, and there is room
+pub record IsPutting (view : PartitionView) (contents : List (Option Content)) (name : ℕ) (bytes : List ℕ) : Type 0 where
+  pub on : HasPortOn view way.Source name
+  pub content : Content
+  pub held : slice_index_or contents name None ≡ Some content
+  pub message : IsMessage on.channel.shape.length bytes
+  pub room : HasRoom on.port.kind on.channel.shape.kind content
+
+-- a message that is taken from a channel by its name: through a destination port of a queue, and a message waits there
+pub record IsTaking (view : PartitionView) (contents : List (Option Content)) (name : ℕ) : Type 0 where
+  pub on : HasPortOn view way.Destination name
+  pub kind_is : on.port.kind ≡ kind.Queuing
+  pub content : Content
+  pub held : slice_index_or contents name None ≡ Some content
+  pub waits : IsSome (first_message content)
+
+-- a partition's table has the action that starts the maintenance plan
+pub record HasMaintenance (view : PartitionView) : Type 0 where
+  pub event : Event
+  pub is : action_in view.part.hm event ≡ action.SwitchToMaintenance
+
+-- a partition's table has an action that does this to all
+pub record HasActionUpon (view : PartitionView) (upon : WholeEvent) : Type 0 where
+  pub event : Event
+  pub enabled : Bool
+  pub is : done_to_all (effect_of (action_in view.part.hm event) enabled).whole ≡ told.UponAll upon
+
+-- an act is within what the partition has: a message goes through a port of its own, a signal over a link from it, only a system partition gives orders
+-- to others and asks for a plan, which is one that it sees, and all else that reaches all is done by a system partition or by the partition's health table
+abbrev pub IsWithin : PartitionView → List (Option Content) → Act → Type 0
+IsWithin view contents told.Nothing = Unit {0}
+IsWithin view contents (told.Trades OwnStill) = Unit {0}
+IsWithin view contents (told.Trades (OwnPuts name bytes)) = IsPutting view contents name bytes
+IsWithin view contents (told.Trades (OwnTakes name)) = IsTaking view contents name
+IsWithin view contents (told.Trades (OwnSignals number)) = has_number view.links number ≡ true
+IsWithin view contents (told.Upon id order) = ((id == view.id) ≡ false) × (view.part.system ≡ true)
+IsWithin view contents (told.Plans (Asked plan)) = (nat_lt plan view.sees.plans ≡ true) × (view.part.system ≡ true)
+IsWithin view contents (told.Plans Maintenance) = HasMaintenance view
+IsWithin view contents (told.UponAll event) = (view.part.system ≡ true) ⊎ HasActionUpon view event
+
+-- whatever a partition executes, its act is within what it has
+abbrev pub ActsWithinOwn : Type 0
+ActsWithinOwn =
+    (view : PartitionView) (contents : List (Option Content)) (time : ℕ) (first : Bool) (seen : Sight) (ps : PartitionState) →
+    IsWithin view contents (worked view contents time first seen ps).act
