@@ -19,7 +19,7 @@ use Rattle.xm_conf.specs.declared.health.Event.{Event}
 use Rattle.xm_ports.specs.Channels.{Content}
 use Rattle.machine_model.specs.Facts.{BootsClocked, IsClocked, KeepsClocked, RunsClocked}
 use Rattle.machine_model.specs.Machine.{Machine, SlotTurn, act_of, after, clock_after, copies, happened, happened_by, local, local_in, local_of, next_clock, run, sight_of_state, start, step, taken_by, turn_of}
-use Rattle.machine_model.specs.OwnActs.{IsWithin}
+use Rattle.machine_model.specs.OwnActs.{IsWithinOwn}
 use Rattle.machine_model.specs.Partition.{PartitionState, takes_turns}
 use Rattle.machine_model.specs.Told as told
 use Rattle.machine_model.specs.Told.{Act, AllHalted, AllReset, Asked, Maintenance, NoEvent}
@@ -75,7 +75,7 @@ unfolding described
 plans_some conf fits = fits.counts.plans.some
 
 -- an act that is within what a partition has fits the plans
-fits_plans : (system : System) (p : ℕ) (contents : List (Option Content)) (act : Act) → Fits (described system.conf) → IsWithin (view_of system p) contents act → FitsPlans system.conf act
+fits_plans : (system : System) (p : ℕ) (contents : List (Option Content)) (act : Act) → Fits (described system.conf) → IsWithinOwn (view_of system p) contents act → FitsPlans system.conf act
 unfolding sees view_of
 fits_plans system p contents told.Nothing fits within = tt
 fits_plans system p contents (told.Trades traffic) fits within = tt

@@ -11,7 +11,7 @@ use Rattle.machine_model.specs.Laws.{HasLength}
 use Rattle.machine_model.specs.Lengths.{PutsAtMost, PutsFewBytes, ShowsAtMost, ShowsFewBytes}
 use Rattle.machine_model.specs.Machine.{Machine, SlotTurn, act_of, answer_to, copies, happened, happened_by, local, local_in, local_of, sight, sight_for, sight_in, sight_of_state, system_traffic, taken_by, turn_of, with_room}
 use Rattle.machine_model.specs.Observed.{Observation, asks}
-use Rattle.machine_model.specs.OwnActs.{IsPutting, IsWithin}
+use Rattle.machine_model.specs.OwnActs.{IsPutting, IsWithinOwn}
 use Rattle.machine_model.specs.Partition.{PartitionState, areas_of, takes_turns}
 use Rattle.machine_model.specs.Told as told
 use Rattle.machine_model.specs.Told.{Act, OwnPuts, OwnSignals, OwnStill, OwnTakes, Sight, Unseen, Words}
@@ -31,7 +31,7 @@ putting_short g p q bytes fits putting =
     omega (arith, fit, most)
 
 -- the traffic of an act
-act_short : (g : Machine) (p : ℕ) (act : Act) → Fits (described g.system.conf) → IsWithin (view_of g.system p) (copies g p) act
+act_short : (g : Machine) (p : ℕ) (act : Act) → Fits (described g.system.conf) → IsWithinOwn (view_of g.system p) (copies g p) act
     → PutsAtMost 4096 (told_as g.system.conf p (traffic_of act))
 act_short g p told.Nothing fits within = tt
 act_short g p (told.Trades OwnStill) fits within = tt

@@ -25,7 +25,7 @@ use Rattle.machine_model.specs.EndLemmas.{all_at, any_end, end_is, found_from, I
 use Rattle.machine_model.specs.Facts.{BootsWithShapes, HasShapes, KeepsShapes, PortsHaveKinds, RunsWithShapes}
 use Rattle.machine_model.specs.Lists.{each}
 use Rattle.machine_model.specs.Machine.{Machine, SlotTurn, act_of, after, channel_after, copies, happened, happened_by, local, local_in, local_of, run, sight_of_state, start, step, system_traffic, taken_by, turn_of}
-use Rattle.machine_model.specs.OwnActs.{HasRoom, IsPutting, IsTaking, IsWithin}
+use Rattle.machine_model.specs.OwnActs.{HasPortRoom, IsPutting, IsTaking, IsWithinOwn}
 use Rattle.machine_model.specs.Partition.{PartitionState, takes_turns}
 use Rattle.machine_model.specs.Told as told
 use Rattle.machine_model.specs.Told.{Act, OwnPuts, OwnSignals, OwnStill, OwnTakes}
@@ -84,10 +84,10 @@ put_suits (chan_kind.Queuing most) room time bytes (Queuing messages) message mo
     }
 
 -- room by the kind of a port is room by the kind of its channel
-takes_more : (of : ChanKind) (one : Kind) (content : Content) → IsOfKind of one → HasRoom one of content → TakesMore of content
+takes_more : (of : ChanKind) (one : Kind) (content : Content) → IsOfKind of one → HasPortRoom one of content → TakesMore of content
 unfolding TakesMore
 takes_more (chan_kind.Sampling refresh) one content is room = tt
-takes_more (chan_kind.Queuing most) one content is room = subst (λ (k : Kind). HasRoom k (chan_kind.Queuing most) content) is room
+takes_more (chan_kind.Queuing most) one content is room = subst (λ (k : Kind). HasPortRoom k (chan_kind.Queuing most) content) is room
 
 -- a port that is an end of a channel is of its kind
 end_kind : (parts : List Part) (chan : Chan) (p r : ℕ) (port : Port) → SuitsPorts parts chan → has_end p r chan ≡ true → port_at parts (record { part = p; port = r }) ≡ Some port
@@ -144,8 +144,8 @@ put_fits g p q bytes c fits putting named_so name_is chan content chan_there con
     (sym (copy_there g p q putting.content putting.held) ∙ ap (content_if g.channels) named_so ∙ content_there) in
     let of_kind : IsOfKind chan.kind putting.on.port.kind = subst (λ (x : Chan). IsOfKind x.kind putting.on.port.kind) same_chan
     (port_kind g.system.conf p putting.on.number putting.on.port putting.on.channel fits (view_port g.system p putting.on.number putting.on.port putting.on.port_there) its) in
-    let room : HasRoom putting.on.port.kind chan.kind content = subst (λ (x : Content). HasRoom putting.on.port.kind chan.kind x) same_content
-    (subst (λ (shape : Shape). HasRoom putting.on.port.kind shape.kind putting.content) its_shape putting.room) in
+    let room : HasPortRoom putting.on.port.kind chan.kind content = subst (λ (x : Content). HasPortRoom putting.on.port.kind chan.kind x) same_content
+    (subst (λ (shape : Shape). HasPortRoom putting.on.port.kind shape.kind putting.content) its_shape putting.room) in
     (subst (λ (shape : Shape). IsMessage shape.length bytes) its_shape putting.message, takes_more chan.kind putting.on.port.kind content of_kind room)
 
 -- and a message that it takes waits there
@@ -156,7 +156,7 @@ take_fits g p q c taking named_so content there =
     subst (λ (x : Content). IsSome (first_message x)) same taking.waits
 
 -- the traffic of an act under the system's numbers
-act_fits : (g : Machine) (p : ℕ) (act : Act) → Fits (described g.system.conf) → IsWithin (view_of g.system p) (copies g p) act
+act_fits : (g : Machine) (p : ℕ) (act : Act) → Fits (described g.system.conf) → IsWithinOwn (view_of g.system p) (copies g p) act
     → FitsChannels g.system.conf g.channels (told_as g.system.conf p (traffic_of act))
 unfolding FitsChannels
 act_fits g p told.Nothing fits within = tt

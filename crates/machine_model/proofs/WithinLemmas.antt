@@ -35,7 +35,7 @@ use Rattle.machine_model.specs.Caller.{Acts, Caller, Meets, Served, Test, Upshot
 use Rattle.machine_model.specs.Health.{answered_by, by_interrupt, done_to_all, event_handled, interrupt_delivered, quiet, self_ordered, undelivered}
 use Rattle.machine_model.specs.Hypercalls.{served}
 use Rattle.machine_model.specs.Laws.{ActsWithinBounds}
-use Rattle.machine_model.specs.OwnActs.{ActsWithinOwn, HasPortOn, HasRoom, IsPutting, IsWithin}
+use Rattle.machine_model.specs.OwnActs.{ActsWithinOwn, HasPortOn, HasPortRoom, IsPutting, IsWithinOwn}
 use Rattle.machine_model.specs.LinkCalls.{raise_ipvi}
 use Rattle.machine_model.specs.Lists.{and_then, is_number, table}
 use Rattle.machine_model.specs.LocalTick.{bounded, by_act, by_turn, by_upshot, called, clocked, delivered_or_executed, executed_in_tick, goes_on, has_name, local_tick, turned_state, with_interrupts, worked, worked_if}
@@ -119,23 +119,23 @@ are_names system p r =
     table_has (HasName channels) (port_channel system.conf p) (length (part_of system.conf p).ports) r tt (each_named system.conf p)
 
 -- two kinds that are one have the same room
-same_room : (one other : Kind) (of : ChanKind) (content : Content) → are_same_kind one other ≡ true → HasRoom other of content → HasRoom one of content
+same_room : (one other : Kind) (of : ChanKind) (content : Content) → are_same_kind one other ≡ true → HasPortRoom other of content → HasPortRoom one of content
 same_room kind.Sampling kind.Sampling of content is has_room = tt
 same_room kind.Sampling kind.Queuing of content is has_room = tt
 same_room kind.Queuing kind.Sampling of content is has_room = absurd cc
 same_room kind.Queuing kind.Queuing of content is has_room = has_room
 
 -- a queue that is not full has room
-not_full : (port : MadePort) → is_full port ≡ false → HasRoom kind.Queuing port.shape.kind port.content
+not_full : (port : MadePort) → is_full port ≡ false → HasPortRoom kind.Queuing port.shape.kind port.content
 not_full port free = grind (arith, nat_tests)
 
 -- what a call asks for is within it, too; a partition may give itself orders
 abbrev AsksWithin : PartitionView → List (Option Content) → Act → Type 0
 AsksWithin view contents told.Nothing = Unit {0}
-AsksWithin view contents (told.Trades traffic) = IsWithin view contents (told.Trades traffic)
+AsksWithin view contents (told.Trades traffic) = IsWithinOwn view contents (told.Trades traffic)
 AsksWithin view contents (told.Upon id order) = (id == view.id) ≡ false → view.part.system ≡ true
-AsksWithin view contents (told.Plans change) = IsWithin view contents (told.Plans change)
-AsksWithin view contents (told.UponAll event) = IsWithin view contents (told.UponAll event)
+AsksWithin view contents (told.Plans change) = IsWithinOwn view contents (told.Plans change)
+AsksWithin view contents (told.UponAll event) = IsWithinOwn view contents (told.UponAll event)
 
 abbrev ComesWithin : PartitionView → List (Option Content) → Upshot → Type 0
 ComesWithin view contents (Acts act) = AsksWithin view contents act
@@ -241,7 +241,7 @@ port_on caller the_kind the_way made is way_is = record {
 
 -- a message that fits its source port, and for a queue one that has room, is put so
 putting_within : (the_kind : Kind) (caller : Caller) (made : MadePort) → IsMadePort caller the_kind made → source_only made ≡ None → size_fits made (c_of caller) ≡ None
-    → HasRoom the_kind made.shape.kind made.content → IsPutting caller.view caller.contents made.name (caller_bytes caller (b_of caller) (c_of caller))
+    → HasPortRoom the_kind made.shape.kind made.content → IsPutting caller.view caller.contents made.name (caller_bytes caller (b_of caller) (c_of caller))
 putting_within the_kind caller made is passed fits has_room =
     let size = size_is made (c_of caller) fits in
     let long : length (caller_bytes caller (b_of caller) (c_of caller)) ≡ c_of caller = length-bytes_at caller.state.memory (b_of caller) (c_of caller) in
@@ -251,7 +251,7 @@ putting_within the_kind caller made is passed fits has_room =
       held = is.held;
       message = subst (λ (shape : Shape). IsMessage shape.length (caller_bytes caller (b_of caller) (c_of caller))) is.shape_is
           (record { some = subst (λ (n : ℕ). 1 ≤ n) (sym long) size.0; fit = subst (λ (n : ℕ). n ≤ made.shape.length) (sym long) size.1 });
-      room = subst (λ (shape : Shape). HasRoom is.port.kind shape.kind made.content) is.shape_is (same_room is.port.kind the_kind made.shape.kind made.content is.kind_is has_room);
+      room = subst (λ (shape : Shape). HasPortRoom is.port.kind shape.kind made.content) is.shape_is (same_room is.port.kind the_kind made.shape.kind made.content is.kind_is has_room);
     }
 
 -- the tests of a call that puts a message
@@ -567,19 +567,19 @@ served_stays caller =
     (record { within = tt }))))))))))))))))))))))))))))))))))))))
 
 -- what a call does beyond its partition is within what the partition has
-act_within : (view : PartitionView) (contents : List (Option Content)) (act : Act) (ps : PartitionState) → AsksWithin view contents act → IsWithin view contents (by_act act view ps).act
+act_within : (view : PartitionView) (contents : List (Option Content)) (act : Act) (ps : PartitionState) → AsksWithin view contents act → IsWithinOwn view contents (by_act act view ps).act
 unfolding self_ordered
 act_within view contents told.Nothing ps within = tt
 act_within view contents (told.Trades traffic) ps within = within
 act_within view contents (told.Upon id order) ps within = at (id == view.id) refl
   where
-    at : (b : Bool) → (id == view.id) ≡ b → IsWithin view contents (if b then self_ordered view order ps else record (quiet ps) { act = told.Upon id order }).act
+    at : (b : Bool) → (id == view.id) ≡ b → IsWithinOwn view contents (if b then self_ordered view order ps else record (quiet ps) { act = told.Upon id order }).act
     at true same = tt
     at false other = (other, within other)
 act_within view contents (told.Plans change) ps within = within
 act_within view contents (told.UponAll event) ps within = within
 
-effect_within : (view : PartitionView) (contents : List (Option Content)) (event : Event) (an_action : Action) (enabled : Bool) → action_in view.part.hm event ≡ an_action → IsWithin view contents (done_to_all (effect_of an_action enabled).whole)
+effect_within : (view : PartitionView) (contents : List (Option Content)) (event : Event) (an_action : Action) (enabled : Bool) → action_in view.part.hm event ≡ an_action → IsWithinOwn view contents (done_to_all (effect_of an_action enabled).whole)
 unfolding effect_of
 effect_within view contents event action.Ignore enabled is = tt
 effect_within view contents event action.Shutdown enabled is = tt
@@ -594,39 +594,39 @@ effect_within view contents event action.HypervisorWarmReset enabled is = inr (r
 effect_within view contents event action.HypervisorHalt enabled is = inr (record { event = event; enabled = enabled; is = ap (λ an_action. done_to_all (effect_of an_action enabled).whole) is })
 effect_within view contents event action.SwitchToMaintenance enabled is = record { event = event; is = is }
 
-event_within : (view : PartitionView) (contents : List (Option Content)) (time : ℕ) (event : Event) (word : ℕ) (type : Option ℕ) (ps : PartitionState) → IsWithin view contents (event_handled view time event word type ps).act
+event_within : (view : PartitionView) (contents : List (Option Content)) (time : ℕ) (event : Event) (word : ℕ) (type : Option ℕ) (ps : PartitionState) → IsWithinOwn view contents (event_handled view time event word type ps).act
 unfolding answered_by event_handled
 event_within view contents time event word type ps = effect_within view contents event (action_in view.part.hm event) ps.traps.enabled refl
 
-upshot_within : (upshot : Upshot) (view : PartitionView) (contents : List (Option Content)) (time : ℕ) (ps : PartitionState) → ComesWithin view contents upshot → IsWithin view contents (by_upshot upshot view time ps).act
+upshot_within : (upshot : Upshot) (view : PartitionView) (contents : List (Option Content)) (time : ℕ) (ps : PartitionState) → ComesWithin view contents upshot → IsWithinOwn view contents (by_upshot upshot view time ps).act
 upshot_within (Acts act) view contents time ps within = act_within view contents act ps within
 upshot_within (Meets event word) view contents time ps within = event_within view contents time event word None ps
 
-called_within : (caller : Caller) → IsWithin caller.view caller.contents (called caller).act
+called_within : (caller : Caller) → IsWithinOwn caller.view caller.contents (called caller).act
 unfolding called
 called_within caller = upshot_within (served caller).upshot caller.view caller.contents caller.time (clocked (served caller).after) (served_stays caller).within
 
 turn_within : (turn : Turn) (view : PartitionView) (contents : List (Option Content)) (time : ℕ) (sight : Sight) (before ps : PartitionState)
-    → IsWithin view contents (by_turn turn view contents time sight before ps).act
+    → IsWithinOwn view contents (by_turn turn view contents time sight before ps).act
 turn_within Went view contents time sight before ps = tt
 turn_within (Trap type) view contents time sight before ps = event_within view contents time (event_of_type type) before.core.pc (Some type) (clocked ps)
 turn_within Call view contents time sight before ps =
     called_within (record { view = view; state = ps; contents = contents; time = time; sight = sight; pc = before.core.pc; npc = before.core.npc })
 
-interrupt_within : (view : PartitionView) (contents : List (Option Content)) (answer : Result (Unit {0}) StackFault) (time n : ℕ) (d : Delivered) (ps : PartitionState) → IsWithin view contents (by_interrupt answer view time n d ps).act
+interrupt_within : (view : PartitionView) (contents : List (Option Content)) (answer : Result (Unit {0}) StackFault) (time n : ℕ) (d : Delivered) (ps : PartitionState) → IsWithinOwn view contents (by_interrupt answer view time n d ps).act
 unfolding undelivered
 interrupt_within view contents (Ok made) time n d ps = tt
 interrupt_within view contents (Err fault) time n d ps = tt
 
 executed_within : (view : PartitionView) (contents : List (Option Content)) (time : ℕ) (sight : Sight) (ps : PartitionState)
-    → IsWithin view contents (executed_in_tick view contents time sight ps).act
+    → IsWithinOwn view contents (executed_in_tick view contents time sight ps).act
 unfolding executed_in_tick
 executed_within view contents time sight ps =
     let t = settled (areas_of view) ps.core ps.memory in
     turn_within t.turn view contents time sight ps (turned_state t ps)
 
 delivered_within : (o : Option ℕ) (enabled : Bool) (view : PartitionView) (contents : List (Option Content)) (time : ℕ) (sight : Sight) (ps : PartitionState)
-    → IsWithin view contents (delivered_or_executed o enabled view contents time sight ps).act
+    → IsWithinOwn view contents (delivered_or_executed o enabled view contents time sight ps).act
 unfolding interrupt_delivered
 delivered_within None enabled view contents time sight ps = executed_within view contents time sight ps
 delivered_within (Some n) true view contents time sight ps =
@@ -635,13 +635,13 @@ delivered_within (Some n) true view contents time sight ps =
 delivered_within (Some n) false view contents time sight ps = executed_within view contents time sight ps
 
 going_within : (b : Bool) (view : PartitionView) (contents : List (Option Content)) (time : ℕ) (sight : Sight) (ps : PartitionState)
-    → IsWithin view contents (worked_if b view contents time sight ps).act
+    → IsWithinOwn view contents (worked_if b view contents time sight ps).act
 going_within false view contents time sight ps = tt
 going_within true view contents time sight ps =
     delivered_within (due ps.traps) ps.traps.enabled view contents time sight (record ps { state = Ready })
 
 work_within : (view : PartitionView) (contents : List (Option Content)) (time : ℕ) (first : Bool) (sight : Sight) (ps : PartitionState)
-    → IsWithin view contents (worked view contents time first sight ps).act
+    → IsWithinOwn view contents (worked view contents time first sight ps).act
 unfolding worked
 work_within view contents time first sight ps =
     let ready = with_interrupts time first ps in
@@ -655,7 +655,7 @@ pub named_so : (view : PartitionView) (the_way : Way) (name : ℕ) → AreNames 
 named_so view the_way name names on = subst (IsName view.channels) on.name_is (subst (HasName view.channels) on.channel_there (names on.number))
 
 -- and so it is as it is bounded
-act_bounded : (view : PartitionView) (contents : List (Option Content)) (act : Act) → AreNames view.channels → IsWithin view contents act → bounded view act ≡ act
+act_bounded : (view : PartitionView) (contents : List (Option Content)) (act : Act) → AreNames view.channels → IsWithinOwn view contents act → bounded view act ≡ act
 act_bounded view contents told.Nothing names within = refl
 act_bounded view contents (told.Trades OwnStill) names within = refl
 act_bounded view contents (told.Trades (OwnPuts name bytes)) names within = ap (λ b. if b then told.Trades (OwnPuts name bytes) else told.Nothing) (named_so view way.Source name names within.on)
@@ -672,6 +672,6 @@ acts_within_bounds system p ps contents n time first seen =
 
 -- the act of a local tick of a system's partition is within what the partition has
 pub local_within : (system : System) (p : ℕ) (ps : PartitionState) (contents : List (Option Content)) (n time : ℕ) (first : Bool) (seen : Sight)
-    → IsWithin (view_of system p) contents (local_tick (view_of system p) ps contents n time first seen).act
+    → IsWithinOwn (view_of system p) contents (local_tick (view_of system p) ps contents n time first seen).act
 local_within system p ps contents n time first seen =
-    subst (IsWithin (view_of system p) contents) (sym (acts_within_bounds system p ps contents n time first seen)) (work_within (view_of system p) contents time first seen ps)
+    subst (IsWithinOwn (view_of system p) contents) (sym (acts_within_bounds system p ps contents n time first seen)) (work_within (view_of system p) contents time first seen ps)

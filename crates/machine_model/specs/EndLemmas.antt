@@ -15,18 +15,18 @@ use Rattle.machine_model.specs.Lists.{table}
 use Rattle.machine_model.specs.View.{PortChannel, System, name_of, no_part, part_of, port_channel, view_of, with_its_name, with_name}
 
 -- what is found by a search
-pub record IsFound {X : Type 0} (test : X → Bool) (k : ℕ) (xs : List X) (e : ℕ) : Type 0 where
+pub record IsFoundAt {X : Type 0} (test : X → Bool) (k : ℕ) (xs : List X) (e : ℕ) : Type 0 where
   pub place : ℕ
   pub element : X
   pub at : e ≡ k + place
   pub there : slice_get xs place ≡ Some element
   pub passes : test element ≡ true
 
-pub found_from : {X : Type 0} (test : X → Bool) (k : ℕ) (xs : List X) (e : ℕ) → position_from test k xs ≡ Some e → IsFound test k xs e
+pub found_from : {X : Type 0} (test : X → Bool) (k : ℕ) (xs : List X) (e : ℕ) → position_from test k xs ≡ Some e → IsFoundAt test k xs e
 found_from test k [] e is = absurd cc
 found_from test k (x ∷ xs) e is = by (test x) refl is (found_from test (k + 1) xs e)
   where
-    by : (b : Bool) → test x ≡ b → cond b (Some k) (position_from test (k + 1) xs) ≡ Some e → (position_from test (k + 1) xs ≡ Some e → IsFound test (k + 1) xs e) → IsFound test k (x ∷ xs) e
+    by : (b : Bool) → test x ≡ b → cond b (Some k) (position_from test (k + 1) xs) ≡ Some e → (position_from test (k + 1) xs ≡ Some e → IsFoundAt test (k + 1) xs e) → IsFoundAt test k (x ∷ xs) e
     by true passes said further = record { place = 0; element = x; at = (let same : k ≡ e = same_Some k e said in omega (arith, same)); there = refl; passes = passes }
     by false fails said further =
         let found = further said in

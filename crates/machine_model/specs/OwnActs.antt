@@ -28,9 +28,9 @@ pub record HasPortOn (view : PartitionView) (the_way : Way) (name : ℕ) : Type 
   pub name_is : channel.name ≡ name
 
 -- whether a queue takes one more; a sampling port's channel takes each message
-abbrev pub HasRoom : Kind → ChanKind → Content → Type 0
-HasRoom kind.Sampling of content = Unit {0}
-HasRoom kind.Queuing of content = length (messages_of content) < most_of of
+abbrev pub HasPortRoom : Kind → ChanKind → Content → Type 0
+HasPortRoom kind.Sampling of content = Unit {0}
+HasPortRoom kind.Queuing of content = length (messages_of content) < most_of of
 
 -- a message that is put into a channel by its name: through a source port of the partition, it is one for the channel, and there is room
 pub record IsPutting (view : PartitionView) (contents : List (Option Content)) (name : ℕ) (bytes : List ℕ) : Type 0 where
@@ -38,7 +38,7 @@ pub record IsPutting (view : PartitionView) (contents : List (Option Content)) (
   pub content : Content
   pub held : slice_index_or contents name None ≡ Some content
   pub message : IsMessage on.channel.shape.length bytes
-  pub room : HasRoom on.port.kind on.channel.shape.kind content
+  pub room : HasPortRoom on.port.kind on.channel.shape.kind content
 
 -- a message that is taken from a channel by its name: through a destination port of a queue, and a message waits there
 pub record IsTaking (view : PartitionView) (contents : List (Option Content)) (name : ℕ) : Type 0 where
@@ -61,19 +61,19 @@ pub record HasActionUpon (view : PartitionView) (upon : WholeEvent) : Type 0 whe
 
 -- an act is within what the partition has: a message goes through a port of its own, a signal over a link from it, only a system partition gives orders
 -- to others and asks for a plan, which is one that it sees, and all else that reaches all is done by a system partition or by the partition's health table
-abbrev pub IsWithin : PartitionView → List (Option Content) → Act → Type 0
-IsWithin view contents told.Nothing = Unit {0}
-IsWithin view contents (told.Trades OwnStill) = Unit {0}
-IsWithin view contents (told.Trades (OwnPuts name bytes)) = IsPutting view contents name bytes
-IsWithin view contents (told.Trades (OwnTakes name)) = IsTaking view contents name
-IsWithin view contents (told.Trades (OwnSignals number)) = has_number view.links number ≡ true
-IsWithin view contents (told.Upon id order) = ((id == view.id) ≡ false) × (view.part.system ≡ true)
-IsWithin view contents (told.Plans (Asked plan)) = (nat_lt plan view.sees.plans ≡ true) × (view.part.system ≡ true)
-IsWithin view contents (told.Plans Maintenance) = HasMaintenance view
-IsWithin view contents (told.UponAll event) = (view.part.system ≡ true) ⊎ HasActionUpon view event
+abbrev pub IsWithinOwn : PartitionView → List (Option Content) → Act → Type 0
+IsWithinOwn view contents told.Nothing = Unit {0}
+IsWithinOwn view contents (told.Trades OwnStill) = Unit {0}
+IsWithinOwn view contents (told.Trades (OwnPuts name bytes)) = IsPutting view contents name bytes
+IsWithinOwn view contents (told.Trades (OwnTakes name)) = IsTaking view contents name
+IsWithinOwn view contents (told.Trades (OwnSignals number)) = has_number view.links number ≡ true
+IsWithinOwn view contents (told.Upon id order) = ((id == view.id) ≡ false) × (view.part.system ≡ true)
+IsWithinOwn view contents (told.Plans (Asked plan)) = (nat_lt plan view.sees.plans ≡ true) × (view.part.system ≡ true)
+IsWithinOwn view contents (told.Plans Maintenance) = HasMaintenance view
+IsWithinOwn view contents (told.UponAll event) = (view.part.system ≡ true) ⊎ HasActionUpon view event
 
 -- whatever a partition executes, its act is within what it has
 abbrev pub ActsWithinOwn : Type 0
 ActsWithinOwn =
     (view : PartitionView) (contents : List (Option Content)) (time : ℕ) (first : Bool) (seen : Sight) (ps : PartitionState) →
-    IsWithin view contents (worked view contents time first seen ps).act
+    IsWithinOwn view contents (worked view contents time first seen ps).act

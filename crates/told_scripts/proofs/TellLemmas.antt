@@ -19,7 +19,7 @@ use Rattle.machine_model.specs.Laws.{ActsWithinBounds, NeverUponItself, NoScript
 use Rattle.machine_model.specs.LocalTick.{LocalTick}
 use Rattle.machine_model.specs.Machine.{Machine, SlotTurn, act_of, after, answer_to, copies, happened, happened_by, if_its_turn, is_halt, is_turn_of, local, local_in, local_of, order_upon, shown_entry, shown_of, sight, sight_for, sight_in, sight_of_state, start, step, step_unless, system_traffic, taken_by, tick_of, turn_of, with_room}
 use Rattle.machine_model.specs.Observed.{CurrentPlan, HealthCounts, HealthEntryOf, Observation, PartitionStatus, PlanStatus, Question, SystemStatus, TraceCounts, TraceEntryOf, asks}
-use Rattle.machine_model.specs.OwnActs.{ActsWithinOwn, IsPutting, IsTaking, IsWithin}
+use Rattle.machine_model.specs.OwnActs.{ActsWithinOwn, IsPutting, IsTaking, IsWithinOwn}
 use Rattle.machine_model.specs.Partition.{PartitionState, areas_of, takes_turns}
 use Rattle.machine_model.specs.Structures.{counts_bytes, health_bytes, partition_status, plan_status, system_status, trace_bytes}
 use Rattle.machine_model.specs.Told as told
@@ -72,7 +72,7 @@ take_told system p other name contents fits take differ = by (named system.conf 
     by None is = tt
     by (Some c) is = at c is (name_of system.conf p c) refl
 
-act_told : (system : System) (p other : ℕ) (contents : List (Option Content)) (act : Act) → Fits (described system.conf) → IsWithin (view_of system other) contents act → (other == p) ≡ false
+act_told : (system : System) (p other : ℕ) (contents : List (Option Content)) (act : Act) → Fits (described system.conf) → IsWithinOwn (view_of system other) contents act → (other == p) ≡ false
     → HasMessageBytes (heard_as system.conf p (told_as system.conf other (traffic_of act)))
     → CanHear system.conf p (heard_as system.conf p (told_as system.conf other (traffic_of act)))
 act_told system p other contents told.Nothing fits is differ each = tt
@@ -84,7 +84,7 @@ act_told system p other contents (told.Upon id order) fits is differ each = tt
 act_told system p other contents (told.Plans change) fits is differ each = tt
 act_told system p other contents (told.UponAll event) fits is differ each = tt
 
-taken_within : ActsWithinBounds → ActsWithinOwn → (g : Machine) (p : ℕ) (first : Bool) (o : Option PartitionState) → IsWithin (view_of g.system p) (copies g p) (act_of (taken_by g p first o))
+taken_within : ActsWithinBounds → ActsWithinOwn → (g : Machine) (p : ℕ) (first : Bool) (o : Option PartitionState) → IsWithinOwn (view_of g.system p) (copies g p) (act_of (taken_by g p first o))
 unfolding local_of
 taken_within bounds own g p first None = tt
 taken_within bounds own g p first (Some ps) = at (takes_turns ps.state)
@@ -92,9 +92,9 @@ taken_within bounds own g p first (Some ps) = at (takes_turns ps.state)
     seen : Sight
     seen = sight_of_state g p first ps
 
-    at : (b : Bool) → IsWithin (view_of g.system p) (copies g p) (act_of (if b then Some (local_of g p first ps) else None))
+    at : (b : Bool) → IsWithinOwn (view_of g.system p) (copies g p) (act_of (if b then Some (local_of g p first ps) else None))
     at true =
-        subst (IsWithin (view_of g.system p) (copies g p)) (sym (bounds g.system p ps (copies g p) g.ticks g.time first seen)) (own (view_of g.system p) (copies g p) g.time first seen ps)
+        subst (IsWithinOwn (view_of g.system p) (copies g p)) (sym (bounds g.system p ps (copies g p) g.ticks g.time first seen)) (own (view_of g.system p) (copies g p) g.time first seen ps)
     at false = tt
 
 -- the local tick of the partition whose turn it is

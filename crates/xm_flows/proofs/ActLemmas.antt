@@ -7,7 +7,7 @@ use Rattle.xm_conf.specs.declared.health.Action.TheVariants as action
 use Rattle.xm_ports.specs.Channels.{Content}
 use Rattle.machine_model.specs.Health.{done_to_all}
 use Rattle.machine_model.specs.LocalTick.{bounded, is_its, worked}
-use Rattle.machine_model.specs.OwnActs.{ActsWithinOwn, IsWithin}
+use Rattle.machine_model.specs.OwnActs.{ActsWithinOwn, IsWithinOwn}
 use Rattle.machine_model.specs.Told as told
 use Rattle.machine_model.specs.Told.{Act, Asked, Maintenance, OwnPuts, OwnSignals, OwnStill, OwnTakes, WholeEvent}
 use Rattle.machine_model.specs.View.{PartitionView}
@@ -30,7 +30,7 @@ does_reach action.HypervisorHalt enabled event is = refl
 does_reach action.SwitchToMaintenance enabled event is = refl
 
 -- an act that is within what the partition has is by right
-is_right : (view : PartitionView) (contents : List (Option Content)) (act : Act) → IsWithin view contents act → IsByRight view act
+is_right : (view : PartitionView) (contents : List (Option Content)) (act : Act) → IsWithinOwn view contents act → IsByRight view act
 is_right view contents told.Nothing within = tt
 is_right view contents (told.Trades OwnStill) within = tt
 is_right view contents (told.Trades (OwnPuts name bytes)) within = within.on
