@@ -1,7 +1,6 @@
 //! The ports that a partition has made.
 
 ghost use Rattle.std.specs.Prelude.{◌≡◌, ◌<◌, ◌≤◌, IfOk, IfSome, IsSome, IsSomeAnd, OnErr, OnOk, length as length_of, option_map, slice_get};
-ghost use Rattle.xm_conf.specs.Rules.{port_of};
 ghost use Rattle.xm_conf.specs.View.{channel_of};
 ghost use Rattle.xm_ports.specs.Ports.{IsCalled, IsPort, agrees, agrees_end, agrees_most, created, granted, is_called, are_same_kind, is_made, is_way_of, no_ports, port_with, ports_of, shape_of_port, unless_made, way_number, with_port};
 ghost use Rattle.xm_ports.specs.Channels.{shape_of};
@@ -61,6 +60,7 @@ impl Ports {
 
     /// Makes a port of the partition `p`, and gives its number. The way is 0 for a source and 1 for a destination;
     /// `length` is in bytes, and `most`, a number of messages, is looked at for queuing ports alone.
+    #[tactic(auto, unfolding(crate::specs::Ports::created, crate::specs::Ports::created_over))]
     pub fn create(
         &mut self,
         conf: &Conf,
@@ -77,35 +77,16 @@ impl Ports {
         ensures unchanged { OnErr result (self.new ≡ self.old) }
         ensures port { IfOk result (IsPort conf.now p name.now kind) }
     {
-        let port = self.answer(conf, p, name, kind, way, length, most)?;
+        let Some(port) = port_with(ports_of(conf, p), name, kind) else {
+            return Err(CreateFault::NoPort);
+        };
+        let port = self.grant(conf, p, port, way, length, most)?;
         self.made[usize::from(port)] = true;
         Ok(port)
     }
 }
 
 impl Ports {
-    /// What an order to make a port answers.
-    #[tactic(auto, unfolding(crate::specs::Ports::created, crate::specs::Ports::created_over))]
-    fn answer(
-        &self,
-        conf: &Conf,
-        p: PartId,
-        name: &[u8],
-        kind: Kind,
-        way: u32,
-        length: u32,
-        most: u32,
-    ) -> Result<u8, CreateFault>
-        requires { p < length_of conf.now.parts }
-        ensures answer { result ≡ created conf.now p name.now kind way length most self.now }
-        ensures port { IfOk result (IsPort conf.now p name.now kind) }
-    {
-        match port_with(ports_of(conf, p), name, kind) {
-            Some(port) => self.grant(conf, p, port, way, length, most),
-            None => Err(CreateFault::NoPort),
-        }
-    }
-
     /// What an order to make a port of this number answers.
     #[tactic(auto, unfolding(crate::specs::Ports::granted))]
     fn grant(
