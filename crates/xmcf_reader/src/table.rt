@@ -71,279 +71,78 @@ pub(crate) struct Child {
     pub(crate) often: Often,
 }
 
+// An attribute with a value of this form, and whether it has to stand.
+macro_rules! attribute {
+    ($word:ident $form:ident $needed:literal) => {
+        Attribute {
+            word: Word::$word,
+            form: Form::$form,
+            needed: $needed,
+        }
+    };
+}
+
+// An attribute that has to stand.
+macro_rules! must {
+    ($word:ident $form:ident) => {
+        attribute!($word $form true)
+    };
+}
+
+// An attribute that may stand.
+macro_rules! may {
+    ($word:ident $form:ident) => {
+        attribute!($word $form false)
+    };
+}
+
+// A child that stands so often.
+macro_rules! child {
+    ($word:ident $often:ident) => {
+        Child {
+            word: Word::$word,
+            often: Often::$often,
+        }
+    };
+}
+
 /// The attributes of an element, in the order of the table.
 pub(crate) fn attributes(element: Word) -> &'static [Attribute]
     ensures { result.now ≡ attributes element }
 {
     match element {
-        Word::SystemDescription => &[
-            Attribute {
-                word: Word::Version,
-                form: Form::Text,
-                needed: true,
-            },
-            Attribute {
-                word: Word::Name,
-                form: Form::Name,
-                needed: true,
-            },
-            Attribute {
-                word: Word::Xmlns,
-                form: Form::Text,
-                needed: false,
-            },
-        ],
-        Word::Region => &[
-            Attribute {
-                word: Word::Kind,
-                form: Form::Text,
-                needed: true,
-            },
-            Attribute {
-                word: Word::Start,
-                form: Form::Address,
-                needed: true,
-            },
-            Attribute {
-                word: Word::Size,
-                form: Form::Size,
-                needed: true,
-            },
-        ],
-        Word::Processor => &[
-            Attribute {
-                word: Word::Id,
-                form: Form::Number,
-                needed: true,
-            },
-            Attribute {
-                word: Word::Frequency,
-                form: Form::Frequency,
-                needed: false,
-            },
-        ],
-        Word::Plan => &[
-            Attribute {
-                word: Word::Id,
-                form: Form::Number,
-                needed: true,
-            },
-            Attribute {
-                word: Word::MajorFrame,
-                form: Form::Time,
-                needed: true,
-            },
-        ],
+        Word::SystemDescription => &[must!(Version Text), must!(Name Name), may!(Xmlns Text)],
+        Word::Region => &[must!(Kind Text), must!(Start Address), must!(Size Size)],
+        Word::Processor => &[must!(Id Number), may!(Frequency Frequency)],
+        Word::Plan => &[must!(Id Number), must!(MajorFrame Time)],
         Word::Slot => &[
-            Attribute {
-                word: Word::Id,
-                form: Form::Number,
-                needed: true,
-            },
-            Attribute {
-                word: Word::Start,
-                form: Form::Time,
-                needed: true,
-            },
-            Attribute {
-                word: Word::Duration,
-                form: Form::Time,
-                needed: true,
-            },
-            Attribute {
-                word: Word::PartitionId,
-                form: Form::Number,
-                needed: true,
-            },
+            must!(Id Number),
+            must!(Start Time),
+            must!(Duration Time),
+            must!(PartitionId Number),
         ],
-        Word::Uart => &[
-            Attribute {
-                word: Word::Id,
-                form: Form::Number,
-                needed: true,
-            },
-            Attribute {
-                word: Word::Name,
-                form: Form::Name,
-                needed: true,
-            },
-            Attribute {
-                word: Word::BaudRate,
-                form: Form::Number,
-                needed: false,
-            },
-        ],
-        Word::XmHypervisor => &[Attribute {
-            word: Word::Console,
-            form: Form::Name,
-            needed: false,
-        }],
-        Word::PhysicalMemoryArea => &[Attribute {
-            word: Word::Size,
-            form: Form::Size,
-            needed: true,
-        }],
+        Word::Uart => &[must!(Id Number), must!(Name Name), may!(BaudRate Number)],
+        Word::XmHypervisor => &[may!(Console Name)],
+        Word::PhysicalMemoryArea => &[must!(Size Size)],
         Word::Partition => &[
-            Attribute {
-                word: Word::Id,
-                form: Form::Number,
-                needed: true,
-            },
-            Attribute {
-                word: Word::Name,
-                form: Form::Name,
-                needed: true,
-            },
-            Attribute {
-                word: Word::Flags,
-                form: Form::Flags,
-                needed: false,
-            },
-            Attribute {
-                word: Word::Console,
-                form: Form::Name,
-                needed: false,
-            },
+            must!(Id Number),
+            must!(Name Name),
+            may!(Flags Flags),
+            may!(Console Name),
         ],
-        Word::Area => &[
-            Attribute {
-                word: Word::Start,
-                form: Form::Address,
-                needed: true,
-            },
-            Attribute {
-                word: Word::Size,
-                form: Form::Size,
-                needed: true,
-            },
-            Attribute {
-                word: Word::Flags,
-                form: Form::Access,
-                needed: false,
-            },
-        ],
-        Word::TemporalRequirements => &[
-            Attribute {
-                word: Word::Duration,
-                form: Form::Time,
-                needed: true,
-            },
-            Attribute {
-                word: Word::Period,
-                form: Form::Time,
-                needed: true,
-            },
-        ],
-        Word::Event => &[
-            Attribute {
-                word: Word::Name,
-                form: Form::Event,
-                needed: true,
-            },
-            Attribute {
-                word: Word::Action,
-                form: Form::Action,
-                needed: true,
-            },
-            Attribute {
-                word: Word::Log,
-                form: Form::Log,
-                needed: false,
-            },
-        ],
-        Word::Trace => &[
-            Attribute {
-                word: Word::Bitmask,
-                form: Form::Address,
-                needed: true,
-            },
-            Attribute {
-                word: Word::Device,
-                form: Form::Name,
-                needed: false,
-            },
-        ],
-        Word::Port => &[
-            Attribute {
-                word: Word::Name,
-                form: Form::Name,
-                needed: true,
-            },
-            Attribute {
-                word: Word::Kind,
-                form: Form::Kind,
-                needed: true,
-            },
-            Attribute {
-                word: Word::Direction,
-                form: Form::Way,
-                needed: true,
-            },
-        ],
-        Word::SamplingChannel => &[
-            Attribute {
-                word: Word::MaxMessageLength,
-                form: Form::Size,
-                needed: true,
-            },
-            Attribute {
-                word: Word::RefreshPeriod,
-                form: Form::Time,
-                needed: false,
-            },
-        ],
-        Word::QueuingChannel => &[
-            Attribute {
-                word: Word::MaxMessageLength,
-                form: Form::Size,
-                needed: true,
-            },
-            Attribute {
-                word: Word::MaxNoMessages,
-                form: Form::Number,
-                needed: true,
-            },
-        ],
-        Word::Source => &[
-            Attribute {
-                word: Word::PartitionId,
-                form: Form::Number,
-                needed: true,
-            },
-            Attribute {
-                word: Word::PortName,
-                form: Form::Name,
-                needed: true,
-            },
-        ],
-        Word::Destination => &[
-            Attribute {
-                word: Word::PartitionId,
-                form: Form::Number,
-                needed: true,
-            },
-            Attribute {
-                word: Word::PortName,
-                form: Form::Name,
-                needed: true,
-            },
-        ],
+        Word::Area => &[must!(Start Address), must!(Size Size), may!(Flags Access)],
+        Word::TemporalRequirements => &[must!(Duration Time), must!(Period Time)],
+        Word::Event => &[must!(Name Event), must!(Action Action), may!(Log Log)],
+        Word::Trace => &[must!(Bitmask Address), may!(Device Name)],
+        Word::Port => &[must!(Name Name), must!(Kind Kind), must!(Direction Way)],
+        Word::SamplingChannel => &[must!(MaxMessageLength Size), may!(RefreshPeriod Time)],
+        Word::QueuingChannel => &[must!(MaxMessageLength Size), must!(MaxNoMessages Number)],
+        Word::Source => &[must!(PartitionId Number), must!(PortName Name)],
+        Word::Destination => &[must!(PartitionId Number), must!(PortName Name)],
         Word::Ipvi => &[
-            Attribute {
-                word: Word::Id,
-                form: Form::Number,
-                needed: true,
-            },
-            Attribute {
-                word: Word::SourceId,
-                form: Form::Number,
-                needed: true,
-            },
-            Attribute {
-                word: Word::DestinationId,
-                form: Form::Number,
-                needed: true,
-            },
+            must!(Id Number),
+            must!(SourceId Number),
+            must!(DestinationId Number),
         ],
         _ => &[],
     }
@@ -355,137 +154,41 @@ pub(crate) fn children(element: Word) -> &'static [Child]
 {
     match element {
         Word::SystemDescription => &[
-            Child {
-                word: Word::HwDescription,
-                often: Often::One,
-            },
-            Child {
-                word: Word::XmHypervisor,
-                often: Often::One,
-            },
-            Child {
-                word: Word::PartitionTable,
-                often: Often::One,
-            },
-            Child {
-                word: Word::Channels,
-                often: Often::Maybe,
-            },
+            child!(HwDescription One),
+            child!(XmHypervisor One),
+            child!(PartitionTable One),
+            child!(Channels Maybe),
         ],
         Word::HwDescription => &[
-            Child {
-                word: Word::MemoryLayout,
-                often: Often::One,
-            },
-            Child {
-                word: Word::ProcessorTable,
-                often: Often::One,
-            },
-            Child {
-                word: Word::Devices,
-                often: Often::Maybe,
-            },
+            child!(MemoryLayout One),
+            child!(ProcessorTable One),
+            child!(Devices Maybe),
         ],
-        Word::MemoryLayout => &[Child {
-            word: Word::Region,
-            often: Often::Some,
-        }],
-        Word::ProcessorTable => &[Child {
-            word: Word::Processor,
-            often: Often::One,
-        }],
-        Word::Processor => &[Child {
-            word: Word::CyclicPlanTable,
-            often: Often::One,
-        }],
-        Word::CyclicPlanTable => &[Child {
-            word: Word::Plan,
-            often: Often::Some,
-        }],
-        Word::Plan => &[Child {
-            word: Word::Slot,
-            often: Often::Some,
-        }],
-        Word::Devices => &[Child {
-            word: Word::Uart,
-            often: Often::Any,
-        }],
-        Word::XmHypervisor => &[Child {
-            word: Word::PhysicalMemoryArea,
-            often: Often::One,
-        }],
-        Word::PartitionTable => &[Child {
-            word: Word::Partition,
-            often: Often::Some,
-        }],
+        Word::MemoryLayout => &[child!(Region Some)],
+        Word::ProcessorTable => &[child!(Processor One)],
+        Word::Processor => &[child!(CyclicPlanTable One)],
+        Word::CyclicPlanTable => &[child!(Plan Some)],
+        Word::Plan => &[child!(Slot Some)],
+        Word::Devices => &[child!(Uart Any)],
+        Word::XmHypervisor => &[child!(PhysicalMemoryArea One)],
+        Word::PartitionTable => &[child!(Partition Some)],
         Word::Partition => &[
-            Child {
-                word: Word::PhysicalMemoryAreas,
-                often: Often::One,
-            },
-            Child {
-                word: Word::TemporalRequirements,
-                often: Often::Maybe,
-            },
-            Child {
-                word: Word::HealthMonitor,
-                often: Often::Maybe,
-            },
-            Child {
-                word: Word::Trace,
-                often: Often::Maybe,
-            },
-            Child {
-                word: Word::PortTable,
-                often: Often::Maybe,
-            },
+            child!(PhysicalMemoryAreas One),
+            child!(TemporalRequirements Maybe),
+            child!(HealthMonitor Maybe),
+            child!(Trace Maybe),
+            child!(PortTable Maybe),
         ],
-        Word::PhysicalMemoryAreas => &[Child {
-            word: Word::Area,
-            often: Often::Some,
-        }],
-        Word::HealthMonitor => &[Child {
-            word: Word::Event,
-            often: Often::Any,
-        }],
-        Word::PortTable => &[Child {
-            word: Word::Port,
-            often: Often::Any,
-        }],
+        Word::PhysicalMemoryAreas => &[child!(Area Some)],
+        Word::HealthMonitor => &[child!(Event Any)],
+        Word::PortTable => &[child!(Port Any)],
         Word::Channels => &[
-            Child {
-                word: Word::SamplingChannel,
-                often: Often::Any,
-            },
-            Child {
-                word: Word::QueuingChannel,
-                often: Often::Any,
-            },
-            Child {
-                word: Word::Ipvi,
-                often: Often::Any,
-            },
+            child!(SamplingChannel Any),
+            child!(QueuingChannel Any),
+            child!(Ipvi Any),
         ],
-        Word::SamplingChannel => &[
-            Child {
-                word: Word::Source,
-                often: Often::One,
-            },
-            Child {
-                word: Word::Destination,
-                often: Often::Some,
-            },
-        ],
-        Word::QueuingChannel => &[
-            Child {
-                word: Word::Source,
-                often: Often::One,
-            },
-            Child {
-                word: Word::Destination,
-                often: Often::One,
-            },
-        ],
+        Word::SamplingChannel => &[child!(Source One), child!(Destination Some)],
+        Word::QueuingChannel => &[child!(Source One), child!(Destination One)],
         _ => &[],
     }
 }
