@@ -51,7 +51,7 @@ pub(crate) fn work(core: &mut Processor, selector: u32, word: u32) -> Turn
             coded(core, selector, word)
         }
     } else if selector < 0x20 {
-        extended_coded(core, selector, word)
+        extended(core, selector, word)
     } else if selector < 0x25 {
         stepped(core, selector, word)
     } else {
@@ -145,56 +145,27 @@ fn put_result(core: &mut Processor, word: u32, value: u32, overflows: bool)
     put_with_codes(core, word, value, codes_of_result(value, overflows));
 }
 
-// The selectors 08 to 0f.
+// The selectors 08 to 0f, and 18 to 1f, which are the same with condition codes.
 #[tactic(auto, unfolding(sparc_code::specs::Decoded::registers_row))]
 #[inline(never)]
 fn extended(core: &mut Processor, selector: u32, word: u32) -> Turn
-    requires from { 0x08 ≤ selector }
-    requires below { selector < 0x10 }
+    requires { ((0x08 ≤ selector) × (selector < 0x10)) ⊎ ((0x18 ≤ selector) × (selector < 0x20)) }
     ensures { TurnsTo (registers_row selector word) core.old result core.new }
 {
     let a = first(core, word);
     let b = second(core, word);
     let carry = carry(core.icc());
-    if selector == 0x08 {
-        put(core, word, sum(a, b, carry));
-    } else if selector == 0x0c {
-        put(core, word, difference(a, b, carry));
-    } else if selector == 0x0a {
-        put_product(core, word, u64::from(a) * u64::from(b));
-    } else if selector == 0x0b {
-        put_product(core, word, signed_product(a, b));
-    } else if selector >= 0x0e {
-        return divide(core, selector, word);
-    } else {
-        return Turn::Trap(0x02);
-    }
-    Turn::Went
-}
-
-// The selectors 18 to 1f.
-#[tactic(auto, unfolding(sparc_code::specs::Decoded::registers_row))]
-#[inline(never)]
-fn extended_coded(core: &mut Processor, selector: u32, word: u32) -> Turn
-    requires from { 0x18 ≤ selector }
-    requires below { selector < 0x20 }
-    ensures { TurnsTo (registers_row selector word) core.old result core.new }
-{
-    let a = first(core, word);
-    let b = second(core, word);
-    let carry = carry(core.icc());
-    if selector == 0x18 {
-        put_sum(core, word, a, b, carry);
-    } else if selector == 0x1c {
-        put_difference(core, word, a, b, carry);
-    } else if selector == 0x1a {
-        put_product_with_codes(core, word, u64::from(a) * u64::from(b));
-    } else if selector == 0x1b {
-        put_product_with_codes(core, word, signed_product(a, b));
-    } else if selector >= 0x1e {
-        return divide(core, selector, word);
-    } else {
-        return Turn::Trap(0x02);
+    match selector {
+        0x08 => put(core, word, sum(a, b, carry)),
+        0x18 => put_sum(core, word, a, b, carry),
+        0x0c => put(core, word, difference(a, b, carry)),
+        0x1c => put_difference(core, word, a, b, carry),
+        0x0a => put_product(core, word, u64::from(a) * u64::from(b)),
+        0x1a => put_product_with_codes(core, word, u64::from(a) * u64::from(b)),
+        0x0b => put_product(core, word, signed_product(a, b)),
+        0x1b => put_product_with_codes(core, word, signed_product(a, b)),
+        0x0e | 0x0f | 0x1e | 0x1f => return divide(core, selector, word),
+        _ => return Turn::Trap(0x02),
     }
     Turn::Went
 }

@@ -2,7 +2,7 @@
 
 ghost use Rattle.std.specs.Prelude.{◌≡◌, ◌≢◌, ◌<◌, ◌≤◌, ℕ, List};
 ghost use Rattle.guest_bus.specs.Memory.{Area, Memory};
-ghost use Rattle.sparc_code.specs.Decoded.{decoded, format2_row, memory_row, read_state, registers_row, write_state};
+ghost use Rattle.sparc_code.specs.Decoded.{decoded, format2_row, memory_row, read_state, registers_row};
 ghost use Rattle.sparc_code.specs.Fields.{op2, op3};
 ghost use Rattle.sparc_step.specs.Execution.{TurnsTo, executed, refused, turned};
 ghost use Rattle.sparc_step.specs.Registers.{Registers, advanced};
@@ -13,7 +13,7 @@ use crate::flow::{branch, call, jump, read_y, sethi, shift_window, trap, write_y
 use crate::outcome::Turn;
 use crate::processor::Processor;
 use crate::registers::Core;
-use crate::transfers::{load, transfer};
+use crate::transfers::{load, load_signed_or_exchange, store};
 use guest_bus::Bus;
 use sparc_code::fields::{op, op2, op3, rd, rs1};
 
@@ -132,7 +132,7 @@ fn on_registers(core: &mut Processor, selector: u32, word: u32) -> Turn
 }
 
 // The selectors 28 to 37.
-#[tactic(auto, unfolding(sparc_code::specs::Decoded::registers_row))]
+#[tactic(auto, unfolding(sparc_code::specs::Decoded::registers_row, sparc_code::specs::Decoded::write_state))]
 #[inline(never)]
 fn on_state(core: &mut Processor, selector: u32, word: u32) -> Turn
     requires from { 0x28 ≤ selector }
@@ -147,8 +147,11 @@ fn on_state(core: &mut Processor, selector: u32, word: u32) -> Turn
         } else {
             Turn::Trap(0x02)
         }
+    } else if selector == 0x30 && rd(word) == 0 {
+        write_y(core, word);
+        Turn::Went
     } else if selector == 0x30 {
-        write_state(core, word)
+        Turn::Trap(0x02)
     } else if selector < 0x34 {
         Turn::Trap(0x03)
     } else if selector < 0x36 {
@@ -168,19 +171,6 @@ fn read_state(core: &mut Processor, word: u32) -> Turn
         Turn::Went
     } else if rs1(word) == 15 && rd(word) == 0 {
         core.advance();
-        Turn::Went
-    } else {
-        Turn::Trap(0x02)
-    }
-}
-
-// WRY.
-#[tactic(auto, unfolding(sparc_code::specs::Decoded::write_state))]
-fn write_state(core: &mut Processor, word: u32) -> Turn
-    ensures { TurnsTo (write_state word) core.old result core.new }
-{
-    if rd(word) == 0 {
-        write_y(core, word);
         Turn::Went
     } else {
         Turn::Trap(0x02)
@@ -229,33 +219,34 @@ fn on_memory<B: Bus>(core: &mut Processor, bus: &mut B, selector: u32, word: u32
 {
     if selector < 4 {
         load(core, bus, selector, word)
+    } else if selector < 8 {
+        store(core, bus, selector, word)
     } else if selector < 16 {
-        transfer(core, bus, selector, word)
-    } else if selector < 32 {
-        Turn::Trap(other_space(selector))
+        load_signed_or_exchange(core, bus, selector, word)
     } else {
-        Turn::Trap(other_unit(selector))
+        Turn::Trap(other_memory(selector))
     }
 }
 
-// The selectors 10 to 1f, the other spaces of addresses: which trap each raises.
+// The selectors 10 to 3f, the other spaces of addresses and the other units: which trap each raises.
 #[tactic(auto, unfolding(sparc_code::specs::Decoded::memory_row))]
 #[inline(never)]
-fn other_space(selector: u32) -> u8
+fn other_memory(selector: u32) -> u8
     requires from { 0x10 ≤ selector }
-    requires below { selector < 0x20 }
+    requires below { selector < 0x40 }
     ensures { (word : ℕ) (areas : List Area) (core : Registers) (memory : Memory) → executed (memory_row selector word) areas core memory ≡ refused result core memory }
 {
-    if matches!(selector, 0x10..=0x17 | 0x19 | 0x1a | 0x1d | 0x1f) {
+    if selector >= 0x20 {
+        other_unit(selector)
+    } else if matches!(selector, 0x10..=0x17 | 0x19 | 0x1a | 0x1d | 0x1f) {
         0x03
     } else {
         0x02
     }
 }
 
-// The selectors 20 to 3f, the other units: which trap each raises.
+// The selectors 20 to 3f, the other units.
 #[tactic(auto, unfolding(sparc_code::specs::Decoded::memory_row))]
-#[inline(never)]
 fn other_unit(selector: u32) -> u8
     requires from { 0x20 ≤ selector }
     requires below { selector < 0x40 }

@@ -26,24 +26,6 @@ use crate::processor::Processor;
 use guest_bus::{Bus, BusFault, Size};
 use sparc_code::fields::rd;
 
-// The selectors 04 to 0f.
-#[inline(always)]
-pub(crate) fn transfer<B: Bus>(core: &mut Processor, bus: &mut B, selector: u32, word: u32) -> Turn
-    requires from { 4 ≤ selector }
-    requires below { selector < 16 }
-    ensures turn { result ≡ (executed (memory_row selector word) (B.areas bus.old) core.old (B.memory bus.old)).turn }
-    ensures core { core.new ≡ (executed (memory_row selector word) (B.areas bus.old) core.old (B.memory bus.old)).core }
-    ensures memory { B.memory bus.new ≡ (executed (memory_row selector word) (B.areas bus.old) core.old (B.memory bus.old)).memory }
-    ensures areas { B.areas bus.new ≡ B.areas bus.old }
-    ensures others { B.others bus.new ≡ B.others bus.old }
-{
-    if selector < 8 {
-        store(core, bus, selector, word)
-    } else {
-        load_signed_or_exchange(core, bus, selector, word)
-    }
-}
-
 // The selectors 00 to 03.
 #[tactic(auto, unfolding(sparc_code::specs::Decoded::memory_row))]
 #[inline(always)]
@@ -72,7 +54,7 @@ pub(crate) fn load<B: Bus>(core: &mut Processor, bus: &mut B, selector: u32, wor
 // The selectors 04 to 07.
 #[tactic(auto, unfolding(sparc_code::specs::Decoded::memory_row))]
 #[inline(always)]
-fn store<B: Bus>(core: &mut Processor, bus: &mut B, selector: u32, word: u32) -> Turn
+pub(crate) fn store<B: Bus>(core: &mut Processor, bus: &mut B, selector: u32, word: u32) -> Turn
     requires from { 4 ≤ selector }
     requires below { selector < 8 }
     ensures turn { result ≡ (executed (memory_row selector word) (B.areas bus.old) core.old (B.memory bus.old)).turn }
@@ -99,7 +81,7 @@ fn store<B: Bus>(core: &mut Processor, bus: &mut B, selector: u32, word: u32) ->
 // The selectors 08 to 0f.
 #[tactic(auto, unfolding(sparc_code::specs::Decoded::memory_row))]
 #[inline(always)]
-fn load_signed_or_exchange<B: Bus>(
+pub(crate) fn load_signed_or_exchange<B: Bus>(
     core: &mut Processor,
     bus: &mut B,
     selector: u32,
