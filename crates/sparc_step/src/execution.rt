@@ -59,9 +59,7 @@ impl Processor {
 #[tactic(auto, unfolding(sparc_code::specs::Decoded::decoded))]
 #[inline(always)]
 pub(crate) fn execute<B: Bus>(core: &mut Processor, bus: &mut B, word: u32) -> Turn
-    ensures turn { result ≡ (executed (decoded word) (B.areas bus.old) core.old (B.memory bus.old)).turn }
-    ensures core { core.new ≡ (executed (decoded word) (B.areas bus.old) core.old (B.memory bus.old)).core }
-    ensures memory { B.memory bus.new ≡ (executed (decoded word) (B.areas bus.old) core.old (B.memory bus.old)).memory }
+    ensures turned { executed (decoded word) (B.areas bus.old) core.old (B.memory bus.old) ≡ record { turn = result; core = core.new; memory = B.memory bus.new } }
     ensures areas { B.areas bus.new ≡ B.areas bus.old }
     ensures others { B.others bus.new ≡ B.others bus.old }
 {
@@ -211,9 +209,7 @@ fn transfer_control(core: &mut Processor, selector: u32, word: u32) -> Turn
 #[inline(always)]
 fn on_memory<B: Bus>(core: &mut Processor, bus: &mut B, selector: u32, word: u32) -> Turn
     requires { selector < 64 }
-    ensures turn { result ≡ (executed (memory_row selector word) (B.areas bus.old) core.old (B.memory bus.old)).turn }
-    ensures core { core.new ≡ (executed (memory_row selector word) (B.areas bus.old) core.old (B.memory bus.old)).core }
-    ensures memory { B.memory bus.new ≡ (executed (memory_row selector word) (B.areas bus.old) core.old (B.memory bus.old)).memory }
+    ensures turned { executed (memory_row selector word) (B.areas bus.old) core.old (B.memory bus.old) ≡ record { turn = result; core = core.new; memory = B.memory bus.new } }
     ensures areas { B.areas bus.new ≡ B.areas bus.old }
     ensures others { B.others bus.new ≡ B.others bus.old }
 {

@@ -31,9 +31,7 @@ use sparc_code::fields::rd;
 #[inline(always)]
 pub(crate) fn load<B: Bus>(core: &mut Processor, bus: &mut B, selector: u32, word: u32) -> Turn
     requires { selector < 4 }
-    ensures turn { result ≡ (executed (memory_row selector word) (B.areas bus.old) core.old (B.memory bus.old)).turn }
-    ensures core { core.new ≡ (executed (memory_row selector word) (B.areas bus.old) core.old (B.memory bus.old)).core }
-    ensures memory { B.memory bus.new ≡ (executed (memory_row selector word) (B.areas bus.old) core.old (B.memory bus.old)).memory }
+    ensures turned { executed (memory_row selector word) (B.areas bus.old) core.old (B.memory bus.old) ≡ record { turn = result; core = core.new; memory = B.memory bus.new } }
     ensures areas { B.areas bus.new ≡ B.areas bus.old }
     ensures others { B.others bus.new ≡ B.others bus.old }
 {
@@ -57,9 +55,7 @@ pub(crate) fn load<B: Bus>(core: &mut Processor, bus: &mut B, selector: u32, wor
 pub(crate) fn store<B: Bus>(core: &mut Processor, bus: &mut B, selector: u32, word: u32) -> Turn
     requires from { 4 ≤ selector }
     requires below { selector < 8 }
-    ensures turn { result ≡ (executed (memory_row selector word) (B.areas bus.old) core.old (B.memory bus.old)).turn }
-    ensures core { core.new ≡ (executed (memory_row selector word) (B.areas bus.old) core.old (B.memory bus.old)).core }
-    ensures memory { B.memory bus.new ≡ (executed (memory_row selector word) (B.areas bus.old) core.old (B.memory bus.old)).memory }
+    ensures turned { executed (memory_row selector word) (B.areas bus.old) core.old (B.memory bus.old) ≡ record { turn = result; core = core.new; memory = B.memory bus.new } }
     ensures areas { B.areas bus.new ≡ B.areas bus.old }
     ensures others { B.others bus.new ≡ B.others bus.old }
 {
@@ -89,9 +85,7 @@ pub(crate) fn load_signed_or_exchange<B: Bus>(
 ) -> Turn
     requires from { 8 ≤ selector }
     requires below { selector < 16 }
-    ensures turn { result ≡ (executed (memory_row selector word) (B.areas bus.old) core.old (B.memory bus.old)).turn }
-    ensures core { core.new ≡ (executed (memory_row selector word) (B.areas bus.old) core.old (B.memory bus.old)).core }
-    ensures memory { B.memory bus.new ≡ (executed (memory_row selector word) (B.areas bus.old) core.old (B.memory bus.old)).memory }
+    ensures turned { executed (memory_row selector word) (B.areas bus.old) core.old (B.memory bus.old) ≡ record { turn = result; core = core.new; memory = B.memory bus.new } }
     ensures areas { B.areas bus.new ≡ B.areas bus.old }
     ensures others { B.others bus.new ≡ B.others bus.old }
 {
@@ -123,9 +117,7 @@ fn load_value<B: Bus>(
     address: u32,
     size: Size,
 ) -> Turn
-    ensures turn { result ≡ (loaded_into (loaded (B.areas bus.old) (B.memory bus.old) address size) low_word (rd word) core.old (B.memory bus.old)).turn }
-    ensures core { core.new ≡ (loaded_into (loaded (B.areas bus.old) (B.memory bus.old) address size) low_word (rd word) core.old (B.memory bus.old)).core }
-    ensures memory { B.memory bus.new ≡ (loaded_into (loaded (B.areas bus.old) (B.memory bus.old) address size) low_word (rd word) core.old (B.memory bus.old)).memory }
+    ensures turned { loaded_into (loaded (B.areas bus.old) (B.memory bus.old) address size) low_word (rd word) core.old (B.memory bus.old) ≡ record { turn = result; core = core.new; memory = B.memory bus.new } }
     ensures areas { B.areas bus.new ≡ B.areas bus.old }
     ensures others { B.others bus.new ≡ B.others bus.old }
 {
@@ -141,9 +133,7 @@ fn load_value<B: Bus>(
 // LDSB.
 #[inline(never)]
 fn load_byte<B: Bus>(core: &mut Processor, bus: &mut B, word: u32, address: u32) -> Turn
-    ensures turn { result ≡ (loaded_into (loaded (B.areas bus.old) (B.memory bus.old) address One) signed_byte (rd word) core.old (B.memory bus.old)).turn }
-    ensures core { core.new ≡ (loaded_into (loaded (B.areas bus.old) (B.memory bus.old) address One) signed_byte (rd word) core.old (B.memory bus.old)).core }
-    ensures memory { B.memory bus.new ≡ (loaded_into (loaded (B.areas bus.old) (B.memory bus.old) address One) signed_byte (rd word) core.old (B.memory bus.old)).memory }
+    ensures turned { loaded_into (loaded (B.areas bus.old) (B.memory bus.old) address One) signed_byte (rd word) core.old (B.memory bus.old) ≡ record { turn = result; core = core.new; memory = B.memory bus.new } }
     ensures areas { B.areas bus.new ≡ B.areas bus.old }
     ensures others { B.others bus.new ≡ B.others bus.old }
 {
@@ -159,9 +149,7 @@ fn load_byte<B: Bus>(core: &mut Processor, bus: &mut B, word: u32, address: u32)
 // LDSH.
 #[inline(never)]
 fn load_half<B: Bus>(core: &mut Processor, bus: &mut B, word: u32, address: u32) -> Turn
-    ensures turn { result ≡ (loaded_into (loaded (B.areas bus.old) (B.memory bus.old) address Two) signed_half (rd word) core.old (B.memory bus.old)).turn }
-    ensures core { core.new ≡ (loaded_into (loaded (B.areas bus.old) (B.memory bus.old) address Two) signed_half (rd word) core.old (B.memory bus.old)).core }
-    ensures memory { B.memory bus.new ≡ (loaded_into (loaded (B.areas bus.old) (B.memory bus.old) address Two) signed_half (rd word) core.old (B.memory bus.old)).memory }
+    ensures turned { loaded_into (loaded (B.areas bus.old) (B.memory bus.old) address Two) signed_half (rd word) core.old (B.memory bus.old) ≡ record { turn = result; core = core.new; memory = B.memory bus.new } }
     ensures areas { B.areas bus.new ≡ B.areas bus.old }
     ensures others { B.others bus.new ≡ B.others bus.old }
 {
@@ -194,9 +182,7 @@ pub fn signed_half(value: u64) -> u32
 #[tactic(auto, unfolding(sparc_code::specs::Decoded::double_work))]
 #[inline(never)]
 fn load_double<B: Bus>(core: &mut Processor, bus: &mut B, word: u32) -> Turn
-    ensures turn { result ≡ (executed (double_work LdD word) (B.areas bus.old) core.old (B.memory bus.old)).turn }
-    ensures core { core.new ≡ (executed (double_work LdD word) (B.areas bus.old) core.old (B.memory bus.old)).core }
-    ensures memory { B.memory bus.new ≡ (executed (double_work LdD word) (B.areas bus.old) core.old (B.memory bus.old)).memory }
+    ensures turned { executed (double_work LdD word) (B.areas bus.old) core.old (B.memory bus.old) ≡ record { turn = result; core = core.new; memory = B.memory bus.new } }
     ensures areas { B.areas bus.new ≡ B.areas bus.old }
     ensures others { B.others bus.new ≡ B.others bus.old }
 {
@@ -227,9 +213,7 @@ fn set_pair(core: &mut Processor, rd: u8, value: u64)
 #[tactic(auto, unfolding(sparc_code::specs::Decoded::double_work))]
 #[inline(never)]
 fn store_double<B: Bus>(core: &mut Processor, bus: &mut B, word: u32) -> Turn
-    ensures turn { result ≡ (executed (double_work StD word) (B.areas bus.old) core.old (B.memory bus.old)).turn }
-    ensures core { core.new ≡ (executed (double_work StD word) (B.areas bus.old) core.old (B.memory bus.old)).core }
-    ensures memory { B.memory bus.new ≡ (executed (double_work StD word) (B.areas bus.old) core.old (B.memory bus.old)).memory }
+    ensures turned { executed (double_work StD word) (B.areas bus.old) core.old (B.memory bus.old) ≡ record { turn = result; core = core.new; memory = B.memory bus.new } }
     ensures areas { B.areas bus.new ≡ B.areas bus.old }
     ensures others { B.others bus.new ≡ B.others bus.old }
 {
@@ -260,9 +244,7 @@ fn store_value<B: Bus>(
     size: Size,
     value: u64,
 ) -> Turn
-    ensures turn { result ≡ (store_of value address size (B.areas bus.old) core.old (B.memory bus.old)).turn }
-    ensures core { core.new ≡ (store_of value address size (B.areas bus.old) core.old (B.memory bus.old)).core }
-    ensures memory { B.memory bus.new ≡ (store_of value address size (B.areas bus.old) core.old (B.memory bus.old)).memory }
+    ensures turned { store_of value address size (B.areas bus.old) core.old (B.memory bus.old) ≡ record { turn = result; core = core.new; memory = B.memory bus.new } }
     ensures areas { B.areas bus.new ≡ B.areas bus.old }
     ensures others { B.others bus.new ≡ B.others bus.old }
 {
@@ -286,9 +268,7 @@ fn exchange<B: Bus>(
     size: Size,
     value: u64,
 ) -> Turn
-    ensures turn { result ≡ (exchange_of value address size (rd word) (B.areas bus.old) core.old (B.memory bus.old)).turn }
-    ensures core { core.new ≡ (exchange_of value address size (rd word) (B.areas bus.old) core.old (B.memory bus.old)).core }
-    ensures memory { B.memory bus.new ≡ (exchange_of value address size (rd word) (B.areas bus.old) core.old (B.memory bus.old)).memory }
+    ensures turned { exchange_of value address size (rd word) (B.areas bus.old) core.old (B.memory bus.old) ≡ record { turn = result; core = core.new; memory = B.memory bus.new } }
     ensures areas { B.areas bus.new ≡ B.areas bus.old }
     ensures others { B.others bus.new ≡ B.others bus.old }
 {
@@ -308,9 +288,7 @@ fn exchange_for<B: Bus>(
     value: u64,
     found: u64,
 ) -> Turn
-    ensures turn { result ≡ (exchanged_with (store_fault (B.areas bus.old) address size) found (rd word) core.old (B.memory bus.old) (after_store (B.areas bus.old) (B.memory bus.old) address size value)).turn }
-    ensures core { core.new ≡ (exchanged_with (store_fault (B.areas bus.old) address size) found (rd word) core.old (B.memory bus.old) (after_store (B.areas bus.old) (B.memory bus.old) address size value)).core }
-    ensures memory { B.memory bus.new ≡ (exchanged_with (store_fault (B.areas bus.old) address size) found (rd word) core.old (B.memory bus.old) (after_store (B.areas bus.old) (B.memory bus.old) address size value)).memory }
+    ensures turned { exchanged_with (store_fault (B.areas bus.old) address size) found (rd word) core.old (B.memory bus.old) (after_store (B.areas bus.old) (B.memory bus.old) address size value) ≡ record { turn = result; core = core.new; memory = B.memory bus.new } }
     ensures areas { B.areas bus.new ≡ B.areas bus.old }
     ensures others { B.others bus.new ≡ B.others bus.old }
 {
