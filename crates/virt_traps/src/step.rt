@@ -1,9 +1,8 @@
 //! One instruction, with the spill or the fill that it needs.
 
 ghost use Rattle.std.specs.Prelude.{◌≡◌, ◌≢◌, ◌+◌, ◌%◌};
-ghost use Rattle.sparc_step.specs.Execution.{turned};
 ghost use Rattle.virt_traps.specs.Moves.{filled, spilled};
-ghost use Rattle.virt_traps.specs.Settled.{FailsAlone, GoesOn, IsUndoneButSpill, after_trap, made_again, settled};
+ghost use Rattle.virt_traps.specs.Settled.{FailsAlone, GoesOn, IsUndoneButSpill, after_trap, again_or_trap, settled};
 
 use crate::windows::{StackFault, fill, spill};
 use guest_bus::Bus;
@@ -55,7 +54,7 @@ pub fn settle_at_hand<B: Bus>(processor: &mut Processor, bus: &mut B) -> Turn
 // The step after an instruction that trapped.
 #[cold]
 #[inline(never)]
-#[tactic(auto, unfolding(crate::specs::Settled::after_trap))]
+#[tactic(auto, unfolding(crate::specs::Settled::after_trap, crate::specs::Settled::made_again))]
 fn after_trap<B: Bus>(processor: &mut Processor, bus: &mut B, trap_type: u8) -> Turn
     requires overflow { trap_type ≡ 5 → (processor.old.cwp + 7) % 8 ≡ processor.old.inv }
     requires underflow { trap_type ≡ 6 → (processor.old.cwp + 1) % 8 ≡ processor.old.inv }
@@ -66,52 +65,20 @@ fn after_trap<B: Bus>(processor: &mut Processor, bus: &mut B, trap_type: u8) -> 
     ensures others { B.others bus.new ≡ B.others bus.old }
 {
     if trap_type == OVERFLOW {
-        after_overflow(processor, bus)
+        let answer = spill_at_hand(processor, bus);
+        again_or_trap(processor, bus, answer, OVERFLOW)
     } else if trap_type == UNDERFLOW {
-        after_underflow(processor, bus)
+        let answer = fill_at_hand(processor, bus);
+        again_or_trap(processor, bus, answer, UNDERFLOW)
     } else {
         Turn::Trap(trap_type)
-    }
-}
-
-// The step after a SAVE that met the invalid window: the spill, and the instruction again.
-#[tactic(auto, unfolding(crate::specs::Settled::made_again))]
-fn after_overflow<B: Bus>(processor: &mut Processor, bus: &mut B) -> Turn
-    requires { (processor.old.cwp + 7) % 8 ≡ processor.old.inv }
-    ensures turn { result ≡ (made_again 5 (B.areas bus.old) (spilled (B.areas bus.old) processor.old (B.memory bus.old))).turn }
-    ensures core { processor.new ≡ (made_again 5 (B.areas bus.old) (spilled (B.areas bus.old) processor.old (B.memory bus.old))).core }
-    ensures memory { B.memory bus.new ≡ (made_again 5 (B.areas bus.old) (spilled (B.areas bus.old) processor.old (B.memory bus.old))).memory }
-    ensures areas { B.areas bus.new ≡ B.areas bus.old }
-    ensures others { B.others bus.new ≡ B.others bus.old }
-{
-    match spill_at_hand(processor, bus) {
-        Ok(()) => again(processor, bus),
-        Err(_) => Turn::Trap(OVERFLOW),
-    }
-}
-
-// The step after a RESTORE that met the invalid window: the fill, and the instruction again.
-#[tactic(auto, unfolding(crate::specs::Settled::made_again))]
-fn after_underflow<B: Bus>(processor: &mut Processor, bus: &mut B) -> Turn
-    requires { (processor.old.cwp + 1) % 8 ≡ processor.old.inv }
-    ensures turn { result ≡ (made_again 6 (B.areas bus.old) (filled (B.areas bus.old) processor.old (B.memory bus.old))).turn }
-    ensures core { processor.new ≡ (made_again 6 (B.areas bus.old) (filled (B.areas bus.old) processor.old (B.memory bus.old))).core }
-    ensures memory { B.memory bus.new ≡ (made_again 6 (B.areas bus.old) (filled (B.areas bus.old) processor.old (B.memory bus.old))).memory }
-    ensures areas { B.areas bus.new ≡ B.areas bus.old }
-    ensures others { B.others bus.new ≡ B.others bus.old }
-{
-    match fill_at_hand(processor, bus) {
-        Ok(()) => again(processor, bus),
-        Err(_) => Turn::Trap(UNDERFLOW),
     }
 }
 
 // The spill, of cached registers.
 fn spill_at_hand<B: Bus>(processor: &mut Processor, bus: &mut B) -> Result<(), StackFault>
     requires { (processor.old.cwp + 1) % 8 ≢ processor.old.inv }
-    ensures answer { result ≡ (spilled (B.areas bus.old) processor.old (B.memory bus.old)).answer }
-    ensures core { processor.new ≡ (spilled (B.areas bus.old) processor.old (B.memory bus.old)).core }
-    ensures memory { B.memory bus.new ≡ (spilled (B.areas bus.old) processor.old (B.memory bus.old)).memory }
+    ensures moved { spilled (B.areas bus.old) processor.old (B.memory bus.old) ≡ record { answer = result; core = processor.new; memory = B.memory bus.new } }
     ensures areas { B.areas bus.new ≡ B.areas bus.old }
     ensures others { B.others bus.new ≡ B.others bus.old }
 {
@@ -124,9 +91,7 @@ fn spill_at_hand<B: Bus>(processor: &mut Processor, bus: &mut B) -> Result<(), S
 // The fill, of cached registers.
 fn fill_at_hand<B: Bus>(processor: &mut Processor, bus: &mut B) -> Result<(), StackFault>
     requires { (processor.old.inv + 1) % 8 ≢ processor.old.cwp }
-    ensures answer { result ≡ (filled (B.areas bus.old) processor.old (B.memory bus.old)).answer }
-    ensures core { processor.new ≡ (filled (B.areas bus.old) processor.old (B.memory bus.old)).core }
-    ensures memory { B.memory bus.new ≡ (filled (B.areas bus.old) processor.old (B.memory bus.old)).memory }
+    ensures moved { filled (B.areas bus.old) processor.old (B.memory bus.old) ≡ record { answer = result; core = processor.new; memory = B.memory bus.new } }
     ensures areas { B.areas bus.new ≡ B.areas bus.old }
     ensures others { B.others bus.new ≡ B.others bus.old }
 {
@@ -136,14 +101,20 @@ fn fill_at_hand<B: Bus>(processor: &mut Processor, bus: &mut B) -> Result<(), St
     answer
 }
 
-// The instruction again.
+// The instruction again where the spill or the fill was made, else the window trap.
 #[inline(never)]
-fn again<B: Bus>(processor: &mut Processor, bus: &mut B) -> Turn
-    ensures turn { result ≡ (turned (B.areas bus.old) processor.old (B.memory bus.old)).turn }
-    ensures core { processor.new ≡ (turned (B.areas bus.old) processor.old (B.memory bus.old)).core }
-    ensures memory { B.memory bus.new ≡ (turned (B.areas bus.old) processor.old (B.memory bus.old)).memory }
+fn again_or_trap<B: Bus>(
+    processor: &mut Processor,
+    bus: &mut B,
+    answer: Result<(), StackFault>,
+    trap_type: u8,
+) -> Turn
+    ensures turned { again_or_trap answer trap_type (B.areas bus.old) processor.old (B.memory bus.old) ≡ record { turn = result; core = processor.new; memory = B.memory bus.new } }
     ensures areas { B.areas bus.new ≡ B.areas bus.old }
     ensures others { B.others bus.new ≡ B.others bus.old }
 {
-    processor.turn(bus)
+    match answer {
+        Ok(()) => processor.turn(bus),
+        Err(_) => Turn::Trap(trap_type),
+    }
 }
