@@ -1,1 +1,2 @@
 pub mod AreaLemmas
+pub mod ValueLemmas

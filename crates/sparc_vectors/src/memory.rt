@@ -1,7 +1,7 @@
 //! The memory of a vector: one area of bytes.
 
 ghost use Rattle.std.specs.Prelude.{◌≡◌, ◌+◌, ◌<◌, ◌≤◌, ◌↔◌, IfSome, IsSome, IsTrue, length, take, drop};
-ghost use Rattle.std.specs.Int.{byte_len, from_be_bytes, to_be_bytes, w16, w32, w64};
+ghost use Rattle.std.specs.Int.{byte_len, from_be_bytes, to_be_bytes, w32};
 ghost use borrow.Rule.Slice.PartMut.{put_mid};
 ghost use Rattle.guest_bus.specs.Access.{Stores, after_store, fetched, loaded, store_fault, width_of};
 ghost use Rattle.guest_bus.specs.Memory.{all_from, is_readable, memory_of_bytes, no_others};
@@ -9,6 +9,7 @@ ghost use Rattle.guest_bus.specs.Whole.{IsMemoryOf};
 ghost use Rattle.sparc_vectors.specs.Area.{Places, vector_areas};
 
 use crate::contents::{Contents, DATA_AT, HEAD_BYTES};
+use byteorder::{BigEndian, ByteOrder};
 use sparc_step::{Bus, BusFault, Size};
 use std::alloc::{AllocError, Global};
 use std::marker::Model;
@@ -212,61 +213,31 @@ fn store_value(
 }
 
 // The big endian value of a size at a place.
+#[tactic(auto, using(crate::proofs::ValueLemmas::read_of_size))]
 fn value_at(bytes: &[u8], at: usize, size: Size) -> u64
     requires { at + byte_len (width_of size) ≤ length bytes.now }
     ensures { result ≡ from_be_bytes (width_of size) (take (byte_len (width_of size)) (drop at bytes.now)) }
 {
-    match size {
-        Size::One => u64::from(bytes[at]),
-        Size::Two => u64::from(half(bytes, at)),
-        Size::Four => u64::from(word(bytes, at)),
-        Size::Eight => double(bytes, at),
-    }
-}
-
-// The big endian number of two bytes at a place.
-fn half(bytes: &[u8], at: usize) -> u16
-    requires { at + 2 ≤ length bytes.now }
-    ensures { result ≡ from_be_bytes w16 (take 2 (drop at bytes.now)) }
-{
-    let Ok(half) = <[u8; 2]>::try_from(&bytes[at..at + 2]) else {
-        unreachable!();
-    };
-    u16::from_be_bytes(half)
+    let count = size.bytes() as usize;
+    BigEndian::read_uint(&bytes[at..at + count], count)
 }
 
 // The big endian number of four bytes at a place.
+#[tactic(auto, using(crate::proofs::ValueLemmas::read_word))]
 fn word(bytes: &[u8], at: usize) -> u32
     requires { at + 4 ≤ length bytes.now }
     ensures { result ≡ from_be_bytes w32 (take 4 (drop at bytes.now)) }
 {
-    let Ok(word) = <[u8; 4]>::try_from(&bytes[at..at + 4]) else {
-        unreachable!();
-    };
-    u32::from_be_bytes(word)
-}
-
-// The big endian number of eight bytes at a place.
-fn double(bytes: &[u8], at: usize) -> u64
-    requires { at + 8 ≤ length bytes.now }
-    ensures { result ≡ from_be_bytes w64 (take 8 (drop at bytes.now)) }
-{
-    let Ok(double) = <[u8; 8]>::try_from(&bytes[at..at + 8]) else {
-        unreachable!();
-    };
-    u64::from_be_bytes(double)
+    BigEndian::read_u32(&bytes[at..at + 4])
 }
 
 // Puts the low bytes of a value at a place, the highest of them first.
+#[tactic(auto, using(crate::proofs::ValueLemmas::low_bytes))]
 fn put_value(bytes: &mut [u8], at: usize, size: Size, value: u64)
     requires { at + byte_len (width_of size) ≤ length bytes.old }
     ensures { bytes.new ≡ put_mid at (byte_len (width_of size)) bytes.old (to_be_bytes (width_of size) value) }
 {
+    let count = size.bytes() as usize;
     let value = value.to_be_bytes();
-    match size {
-        Size::One => bytes[at..at + 1].copy_from_slice(&value[7..]),
-        Size::Two => bytes[at..at + 2].copy_from_slice(&value[6..]),
-        Size::Four => bytes[at..at + 4].copy_from_slice(&value[4..]),
-        Size::Eight => bytes[at..at + 8].copy_from_slice(&value),
-    }
+    bytes[at..at + count].copy_from_slice(&value[8 - count..]);
 }
