@@ -1,16 +1,16 @@
 -- Sixteen words in one of the areas that are looked at first.
 use borrow.Rule.Slice.PartMut.{put_mid}
-use Rattle.std.proofs.Common.{◌≡◌, ℕ, zero, suc, ◌+◌, ◌-◌, ◌*◌, ◌%◌, ◌<◌, ◌≤◌, true, false, not, Bool, List, [], ◌∷◌, ◌++◌, length, take, drop, get_or, Option, Some, None, refl, sym, ap, ◌∙◌, inl, inr, subst, arith, append_assoc}
+use Rattle.std.proofs.Common.{◌≡◌, ℕ, zero, suc, ◌+◌, ◌-◌, ◌*◌, ◌/◌, ◌%◌, ◌^◌, ◌<◌, ◌≤◌, true, false, not, Bool, List, [], ◌∷◌, ◌++◌, length, take, drop, get_or, Option, Some, None, refl, sym, ap, ◌∙◌, inl, inr, subst, arith, append_assoc}
 use Rattle.std.specs.Bool.{OnTrue}
 use Rattle.std.specs.Prelude.{IfSome, slice_get, slice_index}
-use Rattle.std.specs.Int.{w32, from_be_bytes, to_be_bytes}
-use Rattle.std.proofs.lemmas.List.{take_more}
+use Rattle.std.specs.Int.{w32, w64, from_be_bytes, to_be_bytes}
+use Rattle.std.proofs.lemmas.List.{get_or-drop, get_or-take, take_more}
 use Rattle.std.proofs.lemmas.Slice.{take-put_mid}
 use Rattle.guest_bus.specs.AccessLemmas.{length-bytes_high_first, length-bytes_of}
 use Rattle.guest_bus.specs.Memory.{Area, Memory, bytes_at, is_readable, is_writable, with_bytes}
 use Rattle.guest_bus.specs.MemoryLemmas.{all_from-true}
 use Rattle.guest_bus.specs.Words.{MayStand, allows, bytes_of, words_at}
-use Rattle.guest_memory.specs.Flat.{AreFlat, StandsInArea, IsPartOf, StandsInEntry, Table, area_in, areas_of_tables, listed, memories_in, memory_in, memory_of_part, bytes_of_part}
+use Rattle.guest_memory.specs.Flat.{AllBytes, AreFlat, StandsInArea, IsPartOf, StandsInEntry, Table, area_in, areas_of_tables, listed, memories_in, memory_in, memory_of_part, bytes_of_part}
 use Rattle.guest_memory.specs.Memories.{areas_at, map_at, others_of}
 use Rattle.guest_memory.specs.Near.{AreRead, AreWithin, AreWritten, FitsIn, HasPart, IsNearPart, near_of, spot_of}
 use Rattle.guest_memory.specs.declared.entry.Entry.{Entry}
@@ -37,6 +37,37 @@ word_put words bytes new i word below is fits front put =
     ∙ ap (λ (xs : List ℕ). xs ++ to_be_bytes w32 word) front
     ∙ sym (bytes_of-append (take i words) word)
     ∙ sym (ap bytes_of (take_more words i 0 below ∙ ap (λ (w : ℕ). take i words ++ w ∷ []) is))
+
+-- a byte of a part, by its place among all
+part_byte : (bytes : List ℕ) (at count i place : ℕ) → i < count → place ≡ at + i → slice_index (take count (drop at bytes)) i ≡ slice_index bytes place
+part_byte bytes at count i place below is = get_or-take count (drop at bytes) i 0 below ∙ get_or-drop at bytes i 0 ∙ ap (slice_index bytes) (sym is)
+
+-- the words of a double word
+module _ (bytes : List ℕ) (at : ℕ) (small : AllBytes bytes) where
+  eight : (i : ℕ) → i < 8 → slice_index (take 8 (drop at bytes)) i ≡ slice_index bytes (at + i)
+  eight i below = part_byte bytes at 8 i (at + i) below refl
+
+  four : (i : ℕ) → i < 4 → slice_index (take 4 (drop at bytes)) i ≡ slice_index bytes (at + i)
+  four i below = part_byte bytes at 4 i (at + i) below refl
+
+  four_on : (i : ℕ) → i < 4 → slice_index (take 4 (drop (at + 4) bytes)) i ≡ slice_index bytes (at + (4 + i))
+  four_on i below = part_byte bytes (at + 4) 4 i (at + (4 + i)) below (omega arith)
+
+  high : (a b c d e f g h : ℕ) → e < 256 → f < 256 → g < 256 → h < 256 → from_be_bytes w64 (a ∷ b ∷ c ∷ d ∷ e ∷ f ∷ g ∷ h ∷ []) / 2 ^ 32 ≡ from_be_bytes w32 (a ∷ b ∷ c ∷ d ∷ [])
+  high a b c d e f g h below_e below_f below_g below_h = omega arith
+
+  low : (a b c d e f g h : ℕ) → e < 256 → f < 256 → g < 256 → h < 256 → from_be_bytes w64 (a ∷ b ∷ c ∷ d ∷ e ∷ f ∷ g ∷ h ∷ []) % 2 ^ 32 ≡ from_be_bytes w32 (e ∷ f ∷ g ∷ h ∷ [])
+  low a b c d e f g h below_e below_f below_g below_h = omega arith
+
+  pub first_word : from_be_bytes w64 (take 8 (drop at bytes)) / 2 ^ 32 ≡ from_be_bytes w32 (take 4 (drop at bytes))
+  first_word =
+      rw (eight 0 (omega arith), eight 1 (omega arith), eight 2 (omega arith), eight 3 (omega arith), eight 4 (omega arith), eight 5 (omega arith), eight 6 (omega arith), eight 7 (omega arith), four 0 (omega arith), four 1 (omega arith), four 2 (omega arith), four 3 (omega arith))
+      (high (slice_index bytes (at + 0)) (slice_index bytes (at + 1)) (slice_index bytes (at + 2)) (slice_index bytes (at + 3)) (slice_index bytes (at + 4)) (slice_index bytes (at + 5)) (slice_index bytes (at + 6)) (slice_index bytes (at + 7)) (small (at + 4)) (small (at + 5)) (small (at + 6)) (small (at + 7)))
+
+  pub second_word : from_be_bytes w64 (take 8 (drop at bytes)) % 2 ^ 32 ≡ from_be_bytes w32 (take 4 (drop (at + 4) bytes))
+  second_word =
+      rw (eight 0 (omega arith), eight 1 (omega arith), eight 2 (omega arith), eight 3 (omega arith), eight 4 (omega arith), eight 5 (omega arith), eight 6 (omega arith), eight 7 (omega arith), four_on 0 (omega arith), four_on 1 (omega arith), four_on 2 (omega arith), four_on 3 (omega arith))
+      (low (slice_index bytes (at + 0)) (slice_index bytes (at + 1)) (slice_index bytes (at + 2)) (slice_index bytes (at + 3)) (slice_index bytes (at + 4)) (slice_index bytes (at + 5)) (slice_index bytes (at + 6)) (slice_index bytes (at + 7)) (small (at + 4)) (small (at + 5)) (small (at + 6)) (small (at + 7)))
 
 -- words by their bytes, one by one
 pub words_listed : (memory : Memory) (words : List ℕ) (address count : ℕ) → length words ≡ count

@@ -149,10 +149,23 @@ pub(crate) fn get_words(bytes: &[u8], at: usize) -> [u32; 16]
     ensures counted { length result ≡ 16 }
 {
     let mut words = [0; 16];
-    for i in 0..16usize {
-        words[i] = word(bytes, at + 4 * i);
+    for i in 0..8usize {
+        let two = two_words(bytes, at + 8 * i);
+        words[2 * i] = two.0;
+        words[2 * i + 1] = two.1;
     }
     words
+}
+
+/// The two words from a place on, read as one.
+#[inline(always)]
+fn two_words(bytes: &[u8], at: usize) -> (u32, u32)
+    requires { at + 8 ≤ length bytes.now }
+    ensures first { result.0 ≡ from_be_bytes w32 (take 4 (drop at bytes.now)) }
+    ensures second { result.1 ≡ from_be_bytes w32 (take 4 (drop (at + 4) bytes.now)) }
+{
+    let both = double(bytes, at);
+    ((both >> 32) as u32, (both % 0x1_0000_0000) as u32)
 }
 
 /// Makes all bytes zero.
