@@ -19,7 +19,7 @@ const FRAME: u8 = 30;
 
 /// Does a SAVE with the spill or a RESTORE with the fill that it needs, where the save area needs no search. The answer is whether
 /// it did.
-#[inline(never)]
+#[inline(always)]
 pub(crate) fn shift<B: HasWords>(own: &mut Processor, bus: &mut B, row: Row, here: u32) -> bool
     requires registers { AreRegisterNumbers row }
     requires aligned { here % 4 ≡ 0 }
@@ -39,7 +39,7 @@ pub(crate) fn shift<B: HasWords>(own: &mut Processor, bus: &mut B, row: Row, her
 }
 
 // Kind 32, with its spill.
-#[inline(always)]
+#[inline(never)]
 fn save<B: HasWords>(own: &mut Processor, bus: &mut B, row: &Row, here: u32) -> bool
     requires kind { row.now.kind ≡ 32 }
     requires registers { AreRegisterNumbers row.now }
@@ -63,7 +63,7 @@ fn save<B: HasWords>(own: &mut Processor, bus: &mut B, row: &Row, here: u32) -> 
 }
 
 // Kind 33, with its fill.
-#[inline(always)]
+#[inline(never)]
 fn restore<B: HasWords>(own: &mut Processor, bus: &B, row: &Row) -> bool
     requires kind { row.now.kind ≡ 33 }
     requires registers { AreRegisterNumbers row.now }
