@@ -7,6 +7,8 @@ use Rattle.xm_base.specs.Options.{on}
 use Rattle.xm_conf.specs.Configuration.{Chan, Conf}
 use Rattle.xm_conf.specs.View.{channel_of}
 use Rattle.xm_ports.specs.Channels.{Content, cleared, put, first_taken}
+use Rattle.machine_model.specs.ListLemmas.{get_each, get_map, same_tables, each_table, map_table}
+use Rattle.machine_model.specs.NameLemmas.{number_is}
 use Rattle.machine_model.specs.Lists.{each, is_number, table, then_some}
 use Rattle.machine_model.specs.Machine.{Machine}
 use Rattle.machine_model.specs.Told.{OwnPuts, OwnSignals, OwnStill, OwnTakes, OwnTraffic}
@@ -14,38 +16,7 @@ use Rattle.machine_model.specs.Traffic.{Puts, Still, Takes, Traffic, after_own, 
 use Rattle.machine_model.specs.LocalTick.{has_name}
 use Rattle.machine_model.specs.View.{PortChannel, if_named, name_of, named, part_of, port_channel, view_of, with_its_name, with_name}
 
--- tables of equal functions are equal
-same_tables : {Y : Type 0} (f g : ℕ → Y) (n : ℕ) → ((p : ℕ) → f p ≡ g p) → table f n ≡ table g n
-same_tables f g zero same = refl
-same_tables f g (suc n) same = rw (same 0, same_tables (λ k. f (suc k)) (λ k. g (suc k)) n (λ k. same (suc k))) refl
-
--- a pass over a table is a table
-each_table : {X Y : Type 0} (f : ℕ → X → Y) (g : ℕ → X) (n : ℕ) → each f (table g n) ≡ table (λ k. f k (g k)) n
-each_table f g zero = refl
-each_table f g (suc n) = ap (λ rest. f 0 (g 0) ∷ rest) (each_table (λ k. f (suc k)) (λ k. g (suc k)) n)
-
--- a map over a table is a table
-map_table : {X Y : Type 0} (f : X → Y) (g : ℕ → X) (n : ℕ) → map f (table g n) ≡ table (λ k. f (g k)) n
-map_table f g zero = refl
-map_table f g (suc n) = ap (λ rest. f (g 0) ∷ rest) (map_table f (λ k. g (suc k)) n)
-
--- an element of what is changed
-pub get_each : {X Y : Type 0} (f : ℕ → X → Y) (xs : List X) (p : ℕ) → slice_get (each f xs) p ≡ on (f p) (slice_get xs p)
-get_each f [] p = refl
-get_each f (x ∷ xs) zero = refl
-get_each f (x ∷ xs) (suc p) = get_each (λ k. f (suc k)) xs p
-
--- an element of what is mapped
-get_map : {X Y : Type 0} (f : X → Y) (xs : List X) (p : ℕ) → slice_get (map f xs) p ≡ on f (slice_get xs p)
-get_map f [] p = refl
-get_map f (x ∷ xs) zero = refl
-get_map f (x ∷ xs) (suc p) = get_map f xs p
-
 -- a channel that a partition calls q has the name q
-number_is : (o : Option ℕ) (n : ℕ) → is_number o n ≡ true → o ≡ Some n
-number_is None n is = absurd cc
-number_is (Some m) n is = ap Some (eqb-true m n is)
-
 if_named_is : (conf : Conf) (p q c : ℕ) (o : Option ℕ) → if_named conf p q o ≡ Some c → (o ≡ Some c) × (name_of conf p c ≡ Some q)
 if_named_is conf p q c None is = absurd cc
 if_named_is conf p q c (Some d) is = at (is_number (name_of conf p d) q) refl is

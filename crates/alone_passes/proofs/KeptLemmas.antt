@@ -11,6 +11,7 @@ use Rattle.xm_conf.specs.Configuration.{Conf}
 use Rattle.xm_conf.specs.Description.{described}
 use Rattle.xm_conf.specs.Fits.{Fits}
 use Rattle.xm_ports.specs.Channels.{cleared}
+use Rattle.machine_model.specs.ListLemmas.{get_each, each_counted as each_length}
 use Rattle.machine_model.specs.Cue.{Cue}
 use Rattle.machine_model.specs.Facts.{AreFacts, HasFacts, IsClocked, IsTimed, KeepsClocked, begun}
 use Rattle.machine_model.specs.Health.{Worked}
@@ -25,8 +26,6 @@ use Rattle.slot_runs.specs.Passes.{part_at, traded, traffic_in, with_part, with_
 use Rattle.virt_traps.specs.Virtual.{raised}
 use Rattle.alone_passes.specs.Kept.{IsKeptBy, PassesKeep}
 use Rattle.alone_passes.specs.Passes.{away_passed, event_met, obeyed_by, rested_in, tick_past, told_traffic, work_passed}
-use Rattle.alone_passes.proofs.CopyLemmas.{get_each}
-use Rattle.alone_passes.proofs.PartLemmas.{each_length}
 
 -- what the facts say of a partition is the same
 record IsAlike (before after : PartitionState) : Type 0 where

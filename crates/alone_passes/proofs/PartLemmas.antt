@@ -7,6 +7,7 @@ use Rattle.xm_base.specs.declared.partition.Order.{Order}
 use Rattle.xm_base.specs.declared.partition.State.{State}
 use Rattle.xm_conf.specs.Configuration.{Conf}
 use Rattle.xm_ports.specs.Channels.{Content, cleared}
+use Rattle.machine_model.specs.ListLemmas.{each_counted as each_length}
 use Rattle.machine_model.specs.Alone.{Alone}
 use Rattle.machine_model.specs.Laws.{part}
 use Rattle.machine_model.specs.LinkLemmas.{own_signal}
@@ -41,10 +42,6 @@ each_or : {X : Type 0} (f : ℕ → X → X) (xs : List X) (p : ℕ) (d : X) →
 each_or f [] p d below = absurd (omega (arith, below))
 each_or f (x ∷ xs) zero d below = refl
 each_or f (x ∷ xs) (suc p) d below = each_or (λ k. f (suc k)) xs p d (omega (arith, below))
-
-pub each_length : {X Y : Type 0} (f : ℕ → X → Y) (xs : List X) → length (each f xs) ≡ length xs
-each_length f [] = refl
-each_length f (x ∷ xs) = ap suc (each_length (λ k. f (suc k)) xs)
 
 -- traffic of the system, as partition p hears it
 abbrev heard_state : Machine → Traffic → ℕ → PartitionState → PartitionState

@@ -24,7 +24,7 @@ use Rattle.machine_model.specs.Structures.{counts_bytes, health_bytes, partition
 use Rattle.machine_model.specs.Told.{NotKept, Sight, Unseen, Words}
 use Rattle.machine_model.specs.Traffic.{Puts, Signals, Still, Takes, Traffic, content_if, heard_as, own_puts_at, own_signals_at, own_takes_at}
 use Rattle.machine_model.specs.View.{PartitionView, PortChannel, linked, name_of, view_of}
-use Rattle.machine_model.proofs.NameLemmas.{name_is, name_named}
+use Rattle.machine_model.specs.NameLemmas.{name_is, name_named}
 use Rattle.machine_model.proofs.ObservingLemmas.{asks_by_flag, asks_other, by_number, shows_its_size}
 use Rattle.machine_model.proofs.ShapeFactLemmas.{FitsChannels, copy_there, tick_traffic}
 use Rattle.machine_model.proofs.WorkTickLemmas.{have_loads}

@@ -1,5 +1,3 @@
-pub mod ListLemmas
-pub mod NameLemmas
 pub mod TrafficLemmas
 pub mod StepLemmas
 pub mod LineLemmas

@@ -7,7 +7,7 @@ use Rattle.machine_model.specs.Facts.{BootsComplete, BootsTimed, IsAsMany, IsCom
 use Rattle.machine_model.specs.Machine.{Machine, after, booted_part, channel_after, happened, part_after, run, start, step}
 use Rattle.machine_model.specs.View.{System}
 use Rattle.machine_model.specs.Whole.{AllHalted, AllReset, NoEvent, WholeEvent, ticks_after, time_after}
-use Rattle.machine_model.proofs.ListLemmas.{each_counted, table_counted}
+use Rattle.machine_model.specs.ListLemmas.{each_counted, table_counted}
 use Rattle.machine_model.proofs.StepLemmas.{step_halted, step_runs}
 
 -- a tick on both clocks, a reset of the hardware clock, or none on either

@@ -11,7 +11,7 @@ use Rattle.machine_model.specs.Machine.{Machine, after, happened, part_after, ru
 use Rattle.machine_model.specs.Partition.{PartitionState}
 use Rattle.machine_model.specs.View.{view_of}
 use Rattle.machine_model.proofs.LineLemmas.{own_append, own_nil, tick_lines, tick_said}
-use Rattle.machine_model.proofs.ListLemmas.{get_each}
+use Rattle.machine_model.specs.ListLemmas.{get_each}
 use Rattle.machine_model.proofs.StepLemmas.{step_halted, step_runs, tick_state}
 
 pub one_tick : OneTick

@@ -33,8 +33,8 @@ use Rattle.machine_model.specs.Traffic.{Puts, Signals, Still, Takes, Traffic, af
 use Rattle.machine_model.specs.View.{PortChannel, System, name_of, named, part_of, view_of}
 use Rattle.machine_model.specs.Whole.{AllHalted, AllReset, NoEvent, WholeEvent, content_after}
 use Rattle.machine_model.proofs.WithinLemmas.{are_names, local_within, named_so}
-use Rattle.machine_model.proofs.ListLemmas.{each_counted, get_each, get_map}
-use Rattle.machine_model.proofs.NameLemmas.{has_name_named}
+use Rattle.machine_model.specs.ListLemmas.{each_counted, get_each, get_map}
+use Rattle.machine_model.specs.NameLemmas.{has_name_named}
 use Rattle.machine_model.proofs.RunLemmas.{step_system}
 use Rattle.machine_model.proofs.StepLemmas.{step_halted, step_runs}
 use Rattle.machine_model.proofs.TrafficLemmas.{same_channel, view_has}

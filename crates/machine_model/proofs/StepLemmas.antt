@@ -15,7 +15,7 @@ use Rattle.machine_model.specs.Told.{Act, Sight}
 use Rattle.machine_model.specs.Traffic.{copies_after, copies_of, heard_as, heard_of_own, traffic_of}
 use Rattle.machine_model.specs.View.{part_of, view_of}
 use Rattle.machine_model.specs.Whole.{content_after, ticks_after, time_after}
-use Rattle.machine_model.proofs.ListLemmas.{get_each}
+use Rattle.machine_model.specs.ListLemmas.{get_each}
 use Rattle.machine_model.proofs.TrafficLemmas.{copies_same, own_traffic}
 
 -- the step of a machine that has not halted

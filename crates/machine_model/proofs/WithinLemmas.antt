@@ -1,8 +1,7 @@
 -- What a partition's work does beyond it is on channels and links of its own and on others.
-use Rattle.std.proofs.Common.{◌≡◌, ℕ, zero, suc, ◌<◌, ◌+◌, Bool, true, false, List, [], ◌∷◌, length, Option, None, Some, Result, Ok, Err, inl, inr, refl, sym, ap, ◌∙◌, arith, subst}
+use Rattle.std.proofs.Common.{◌≡◌, ℕ, zero, suc, ◌+◌, Bool, true, false, List, [], ◌∷◌, length, Option, None, Some, Result, Ok, Err, inl, inr, refl, sym, ap, ◌∙◌, arith, subst}
 use Rattle.std.specs.Prelude.{slice_get, slice_index_or, if◌then◌else◌, ◌==◌, ◌||◌, ◌≤◌, nat_lt, not, IsSome}
 use Rattle.std.proofs.lemmas.Bool.Decides.{nat_tests}
-use Rattle.std.proofs.lemmas.Option.{same_Some}
 use Rattle.guest_bus.specs.MemoryLemmas.{length-bytes_at}
 use Rattle.health_monitor.specs.Monitor.{action_in, effect_of, event_of_type}
 use Rattle.sparc_step.specs.declared.outcome.Turn.{Turn}
@@ -31,13 +30,14 @@ use Rattle.xm_conf.specs.declared.port.Way.TheVariants as way
 use Rattle.xm_ports.specs.Channels.{Content, HeldSample, IsMessage, Shape, first_message, sample_of}
 use Rattle.xm_ports.specs.Ports.{created_over, are_same_kind, is_made}
 use Rattle.xm_ports.specs.declared.ports.CreateFault.{CreateFault}
+use Rattle.machine_model.specs.ListLemmas.{table_at}
 use Rattle.machine_model.specs.Caller.{Acts, Caller, Meets, Served, Test, Upshot, a_of, acting, answering, b_of, caller_bytes, c_of, d_of, invalid_mode, invalid_parameter, is_neither, mode_numbered, no_permission, not_allowed, not_available, number_of, refused_if, room, shown, system_only, target, tested, text, with_written}
 use Rattle.machine_model.specs.Health.{answered_by, by_interrupt, done_to_all, event_handled, interrupt_delivered, quiet, self_ordered, undelivered}
 use Rattle.machine_model.specs.Hypercalls.{served}
 use Rattle.machine_model.specs.Laws.{ActsWithinBounds}
 use Rattle.machine_model.specs.OwnActs.{ActsWithinOwn, HasPortOn, HasPortRoom, IsPutting, IsWithinOwn}
 use Rattle.machine_model.specs.LinkCalls.{raise_ipvi}
-use Rattle.machine_model.specs.Lists.{and_then, is_number, table}
+use Rattle.machine_model.specs.Lists.{and_then, table}
 use Rattle.machine_model.specs.LocalTick.{bounded, by_act, by_turn, by_upshot, called, clocked, delivered_or_executed, executed_in_tick, goes_on, has_name, local_tick, turned_state, with_interrupts, worked, worked_if}
 use Rattle.machine_model.specs.LogCalls.{hm_read, hm_status, raise_event, trace_event, trace_read, trace_status}
 use Rattle.machine_model.specs.Partition.{PartitionState, areas_of}
@@ -48,8 +48,8 @@ use Rattle.machine_model.specs.Structures.{queuing_status, sampling_status}
 use Rattle.machine_model.specs.TimeCalls.{get_plan_status, get_time, is_no_plan, set_timer, switch_sched_plan}
 use Rattle.machine_model.specs.Told as told
 use Rattle.machine_model.specs.Told.{Act, AllHalted, AllReset, Asked, OwnPuts, OwnSignals, OwnStill, OwnTakes, Sight}
-use Rattle.machine_model.specs.View.{PartitionView, PortChannel, System, has_number, name_from, name_of, part_of, port_channel, view_of, with_its_name, with_name}
-use Rattle.machine_model.proofs.NameLemmas.{name_is, number_of as same_number}
+use Rattle.machine_model.specs.View.{PartitionView, PortChannel, System, has_number, name_of, part_of, port_channel, view_of, with_its_name, with_name}
+use Rattle.machine_model.specs.NameLemmas.{name_is, of_name_below, same_number}
 
 -- a name in a list of channels is that of the channel there
 abbrev pub IsName : List (Option PortChannel) → ℕ → Type 0
@@ -64,28 +64,10 @@ abbrev pub AreNames : List (Option PortChannel) → Type 0
 AreNames channels = (r : ℕ) → HasName channels (slice_index_or channels r None)
 
 -- a table of options, read with none after its end
-table_at : {Y : Type 0} (f : ℕ → Option Y) (n r : ℕ) → r < n → slice_index_or (table f n) r None ≡ f r
-table_at f zero r below = absurd (omega (arith, below))
-table_at f (suc n) zero below = refl
-table_at f (suc n) (suc r) below = table_at (λ k. f (suc k)) n r (omega (arith, below))
-
 table_has : {Y : Type 0} (P : Option Y → Type 0) (f : ℕ → Option Y) (n r : ℕ) → P None → ((k : ℕ) → P (f k)) → P (slice_index_or (table f n) r None)
 table_has P f zero r none each = none
 table_has P f (suc n) zero none each = each 0
 table_has P f (suc n) (suc r) none each = table_has P (λ k. f (suc k)) n r none (λ k. each (suc k))
-
--- a name is that of a port that the partition has
-name_below : (conf : Conf) (p c count r q : ℕ) → name_from conf p c count r ≡ Some q → q < r + count
-name_below conf p c zero r q is = absurd cc
-name_below conf p c (suc count) r q is = at (is_number (channel_of conf p r) c) is (name_below conf p c count (suc r) q)
-  where
-    at : (b : Bool) → (if b then Some r else name_from conf p c count (suc r)) ≡ Some q → (name_from conf p c count (suc r) ≡ Some q → q < suc r + count) → q < r + suc count
-    at true found further = let e : r ≡ q = same_Some r q found in omega (arith, e)
-    at false found further = let below = further found in omega (arith, below)
-
-of_name_below : (conf : Conf) (p c q : ℕ) → name_of conf p c ≡ Some q → q < length (part_of conf p).ports
-unfolding name_of
-of_name_below conf p c q is = let below = name_below conf p c (length (part_of conf p).ports) 0 q is in omega (arith, below)
 
 -- the channels of a partition of a system have such names
 its_channel : (conf : Conf) (p c q : ℕ) (chan : Chan) → slice_get conf.chans c ≡ Some chan → name_of conf p c ≡ Some q → has_name (port_channel conf p q) q ≡ true

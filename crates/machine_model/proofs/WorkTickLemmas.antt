@@ -47,7 +47,7 @@ use Rattle.machine_model.specs.Traffic.{after_message, heard_as, heard_from, hea
 use Rattle.machine_model.specs.View.{PartitionView, System, view_of}
 use Rattle.machine_model.specs.Whole.{AllHalted, AllReset, NoEvent, WholeEvent, after_event, event_of, ticks_after}
 use Rattle.machine_model.proofs.WorkCallLemmas.{Goes, same_goes, served_goes}
-use Rattle.machine_model.proofs.ListLemmas.{get_each}
+use Rattle.machine_model.specs.ListLemmas.{get_each}
 use Rattle.machine_model.proofs.ObservingLemmas.{shows_its_size}
 use Rattle.machine_model.proofs.RunLemmas.{step_system}
 use Rattle.machine_model.proofs.StepLemmas.{step_halted, step_runs}

@@ -6,7 +6,7 @@ use Rattle.std.proofs.lemmas.Bool.{eqb-true}
 use Rattle.std.proofs.lemmas.List.Elements.{All-head, All-tail}
 use Rattle.std.proofs.lemmas.Option.{same_Some}
 use Rattle.xm_conf.specs.Configuration.{Chan, Conf, Part}
-use Rattle.xm_conf.specs.Rules.{port_of}
+use Rattle.xm_conf.specs.Rules.{port_at, port_of}
 use Rattle.xm_conf.specs.View.{channel_of, is_port}
 use Rattle.xm_conf.specs.declared.channel.End.{End}
 use Rattle.xm_conf.specs.declared.port.Port.{Port}
@@ -98,6 +98,10 @@ its_channel_is conf p r channel is = by (channel_of conf p r) refl is
 pub view_channel : (system : System) (p r : ℕ) (channel : PortChannel) → slice_index_or (view_of system p).channels r None ≡ Some channel → port_channel system.conf p r ≡ Some channel
 unfolding view_of
 view_channel system p r channel is = table_some (port_channel system.conf p) (length (part_of system.conf p).ports) r channel is
+
+pub view_port : (system : System) (p r : ℕ) (port : Port) → slice_get (view_of system p).part.ports r ≡ Some port → port_at system.conf.parts (record { part = p; port = r }) ≡ Some port
+unfolding part_of port_at view_of
+view_port system p r port is = part_port system.conf.parts p r port is
 
 -- what holds of each element of a list holds of one that is there
 pub all_at : {X : Type 0} (P : X → Type 0) (xs : List X) (k : ℕ) (x : X) → slice_get xs k ≡ Some x → All P xs → P x

@@ -33,6 +33,8 @@ pub mod CallRows
 pub mod PortRows
 pub mod TrapRows
 pub mod EndLemmas
+pub mod ListLemmas
+pub mod NameLemmas
 pub mod OwnActs
 pub mod OwnRows
 pub mod StartRows

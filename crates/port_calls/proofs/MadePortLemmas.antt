@@ -1,7 +1,6 @@
 -- A made port as it is found in the configuration is the one of the machine.
 use Rattle.std.proofs.Common.{◌≡◌, ℕ, zero, suc, ◌+◌, ◌<◌, ◌≤◌, Bool, true, false, List, [], ◌∷◌, length, Option, None, Some, refl, sym, ap, ◌∙◌, arith, subst}
 use Rattle.std.specs.Prelude.{slice_get, slice_index_or, if◌then◌else◌, map, unwrap_or}
-use Rattle.std.proofs.lemmas.Bool.{eqb-true}
 use Rattle.std.proofs.lemmas.Option.{same_Some, slice_get-get_or, slice_get_within}
 use Rattle.xm_conf.specs.Configuration.{Chan, Conf}
 use Rattle.xm_conf.specs.Description.{described}
@@ -15,6 +14,8 @@ use Rattle.xm_conf.specs.declared.port.Port.{Port}
 use Rattle.xm_conf.specs.declared.port.Way.{Way}
 use Rattle.xm_ports.specs.Channels.{ChannelTable, Content, IsTable, Queuing, content_at, shape_of, shapes_of}
 use Rattle.xm_ports.specs.Ports.{are_same_kind, is_made}
+use Rattle.machine_model.specs.ListLemmas.{table_at}
+use Rattle.machine_model.specs.NameLemmas.{number_is, same_number}
 use Rattle.machine_model.specs.Caller.{Caller, a_of}
 use Rattle.machine_model.specs.Facts.{PortsHaveKinds}
 use Rattle.machine_model.specs.Lists.{and_then, is_number, table, then_some}
@@ -27,14 +28,6 @@ use Rattle.whole_system.specs.Serving.{caller_of}
 use Rattle.whole_system.specs.State.{SysState}
 use Rattle.whole_system.specs.declared.call_site.CallSite.{CallSite}
 use Rattle.port_calls.specs.declared.made_ports.MadePort as found
-
--- the number that an option has
-number_is : (o : Option ℕ) (n : ℕ) → is_number o n ≡ true → o ≡ Some n
-number_is None n is = absurd cc
-number_is (Some m) n is = ap Some (eqb-true m n is)
-
-number_of : (n : ℕ) → is_number (Some n) n ≡ true
-number_of n = grind (arith)
 
 -- the lowest of so many ports on a channel, from port r on
 record IsName (conf : Conf) (p c count r : ℕ) : Type 0 where
@@ -56,7 +49,7 @@ has_name conf p c (suc count) r q at from below = by (is_number (channel_of conf
       its = number_is (channel_of conf p r) c here;
     }
     by false other further =
-        let apart : (r ≡ q) → ⊥ = λ same. absurd (let two : is_number (channel_of conf p r) c ≡ true = ap (λ k. is_number (channel_of conf p k) c) same ∙ ap (λ o. is_number o c) at ∙ number_of c in cc) in
+        let apart : (r ≡ q) → ⊥ = λ same. absurd (let two : is_number (channel_of conf p r) c ≡ true = ap (λ k. is_number (channel_of conf p k) c) same ∙ ap (λ o. is_number o c) at ∙ same_number c in cc) in
         let later = further (omega (arith, from, apart)) (omega (arith, below)) in
         let bound : later.name < suc r + count = later.below in
         record { name = later.name; is = ap (λ b. if b then Some r else name_from conf p c count (suc r)) other ∙ later.is; below = omega (arith, bound); its = later.its }
@@ -79,14 +72,8 @@ name_there conf p c r at below =
       below = omega (arith, bound);
       called = ap (if_named conf p found.name) found.its
           ∙ ap (λ o. then_some (is_number o found.name) c) found.is
-          ∙ ap (λ b. then_some b c) (number_of found.name);
+          ∙ ap (λ b. then_some b c) (same_number found.name);
     }
-
--- a table of options, read at a place that it has
-table_at : {Y : Type 0} (f : ℕ → Option Y) (n r : ℕ) → r < n → slice_index_or (table f n) r None ≡ f r
-table_at f zero r below = absurd (omega (arith, below))
-table_at f (suc n) zero below = refl
-table_at f (suc n) (suc r) below = table_at (λ k. f (suc k)) n r (omega (arith, below))
 
 -- the channel of a port in the view
 pub view_channel : (system : System) (p r : ℕ) → r < length (part_of system.conf p).ports → slice_index_or (view_of system p).channels r None ≡ with_its_name system.conf p (channel_of system.conf p r)

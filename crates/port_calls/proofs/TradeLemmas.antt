@@ -11,6 +11,7 @@ use Rattle.xm_conf.specs.declared.channel.ChanKind.{ChanKind}
 use Rattle.xm_conf.specs.declared.channel.ChanKind.TheVariants as chan_kind
 use Rattle.xm_ports.specs.Channels.{ChannelTable, Content, HasQueue, HasSampling, IsQueuing, IsSampling, Queuing, Shape, changed, content_at, first_message, put, shape_of, shapes_of, first_taken, with_content}
 use Rattle.xm_ports.specs.Ports.{is_made}
+use Rattle.machine_model.specs.NameLemmas.{name_is}
 use Rattle.machine_model.specs.Lists.{each, is_number, table, then_some}
 use Rattle.machine_model.specs.Machine.{Machine, booted_part}
 use Rattle.machine_model.specs.Partition.{PartitionState, link_signal}
@@ -21,25 +22,6 @@ use Rattle.slot_runs.specs.Passes.{with_traffic}
 use Rattle.port_calls.specs.MadePorts.{table_in}
 use Rattle.whole_system.specs.State.{SysState, part_at, with_machine, with_part}
 use Rattle.port_calls.specs.Traffic.{Brings, heard_at, hears_from, hears_in, is_on, notified}
-
--- a number that an option has
-number_is : (o : Option ℕ) (n : ℕ) → is_number o n ≡ true → o ≡ Some n
-number_is None n is = absurd cc
-number_is (Some m) n is = ap Some (eqb-true m n is)
-
--- a name is a port on the channel
-name_from_is : (conf : Conf) (p c count r q : ℕ) → name_from conf p c count r ≡ Some q → channel_of conf p q ≡ Some c
-name_from_is conf p c zero r q is = absurd cc
-name_from_is conf p c (suc count) r q is = at (is_number (channel_of conf p r) c) refl is (name_from_is conf p c count (suc r) q)
-  where
-    at : (b : Bool) → is_number (channel_of conf p r) c ≡ b → (if b then Some r else name_from conf p c count (suc r)) ≡ Some q
-        → (name_from conf p c count (suc r) ≡ Some q → channel_of conf p q ≡ Some c) → channel_of conf p q ≡ Some c
-    at true found is further = ap (channel_of conf p) (sym (same_Some r q is)) ∙ number_is (channel_of conf p r) c found
-    at false other is further = further is
-
-name_is : (conf : Conf) (p c q : ℕ) → name_of conf p c ≡ Some q → channel_of conf p q ≡ Some c
-unfolding name_of
-name_is conf p c q is = name_from_is conf p c (length (part_of conf p).ports) 0 q is
 
 -- two passes that do the same to each element
 each_alike : {X : Type 0} (f g : ℕ → X → X) (xs : List X) → ((k : ℕ) (x : X) → f k x ≡ g k x) → each f xs ≡ each g xs

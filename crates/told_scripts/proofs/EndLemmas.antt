@@ -2,7 +2,6 @@
 use Rattle.std.proofs.Common.{◌≡◌, ℕ, zero, suc, ◌<◌, ◌≤◌, ◌+◌, Bool, true, false, List, [], ◌∷◌, length, Option, None, Some, refl, sym, ap, ◌∙◌, arith, subst}
 use Rattle.std.specs.Prelude.{slice_get, slice_index_or, ◌==◌, ◌&&◌, ◌||◌, if◌then◌else◌, IfSome, All}
 use Rattle.std.specs.List.{list_any}
-use Rattle.std.proofs.lemmas.Bool.{eqb-true}
 use Rattle.std.proofs.lemmas.Bool.Decides.{nat_tests}
 use Rattle.std.proofs.lemmas.List.Elements.{All-head, All-tail}
 use Rattle.std.proofs.lemmas.Option.{same_Some}
@@ -21,17 +20,14 @@ use Rattle.xm_conf.specs.declared.port.Port.{Port}
 use Rattle.xm_conf.specs.declared.port.Way.{Way}
 use Rattle.xm_conf.specs.declared.port.Way.TheVariants as way
 use Rattle.xm_ports.specs.Channels.{Content, IsMessage as IsMessageOf, Shape, shape_of}
-use Rattle.machine_model.specs.EndLemmas.{all_at, any_end, end_is, found_from, its_channel_is, part_port, view_channel}
-use Rattle.machine_model.specs.Lists.{is_number, then_some}
+use Rattle.machine_model.specs.NameLemmas.{number_is, named_is}
+use Rattle.machine_model.specs.EndLemmas.{all_at, any_end, end_is, found_from, its_channel_is, view_channel, view_port}
+use Rattle.machine_model.specs.Lists.{is_number}
 use Rattle.machine_model.specs.OwnActs.{HasPortOn, IsPutting, IsTaking}
-use Rattle.machine_model.specs.View.{System, if_named, name_from, name_of, named, no_part, part_of, view_of}
+use Rattle.machine_model.specs.View.{System, name_from, name_of, named, no_part, part_of, view_of}
 use Rattle.cue_scripts.specs.Script.{IsHeardMessage, numbered_chan, chan_called, gives_in, gives_queue, heard_in, is_length, is_queue, most_heard}
 
--- a number that an option has
-number_is : (o : Option ℕ) (n : ℕ) → is_number o n ≡ true → o ≡ Some n
-number_is None n is = absurd cc
-number_is (Some m) n is = ap Some (eqb-true m n is)
-
+-- a number is itself
 itself : (n : ℕ) → (n == n) ≡ true
 itself n = grind (arith)
 
@@ -68,19 +64,6 @@ named_so conf p c q is =
     let found : channel_of conf p q ≡ Some c = (name_is conf p c q is).found in
     let its : is_number (name_of conf p c) q ≡ true = ap (λ (o : Option ℕ). is_number o q) is ∙ itself q in
     rw (found, its) refl
-
--- and a channel that the partition calls so has the name
-if_named_is : (conf : Conf) (p q c : ℕ) (o : Option ℕ) → if_named conf p q o ≡ Some c → name_of conf p c ≡ Some q
-if_named_is conf p q c None is = absurd cc
-if_named_is conf p q c (Some d) is = at (is_number (name_of conf p d) q) refl is
-  where
-    at : (b : Bool) → is_number (name_of conf p d) q ≡ b → then_some b d ≡ Some c → name_of conf p c ≡ Some q
-    at true found said = ap (name_of conf p) (sym (same_Some d c said)) ∙ number_is (name_of conf p d) q found
-    at false other said = absurd cc
-
-named_is : (conf : Conf) (p q c : ℕ) → named conf p q ≡ Some c → name_of conf p c ≡ Some q
-unfolding named
-named_is conf p q c is = if_named_is conf p q c (channel_of conf p q) is
 
 -- a name is a byte, since a partition has no more than 32 ports
 few_ports : (parts : List Part) (p : ℕ) → All (λ part. length part.ports ≤ 32) parts → length (slice_index_or parts p no_part).ports ≤ 32
@@ -201,10 +184,6 @@ gives_to chan p other q r one among differ is_end =
 queue_kind : (of : ChanKind) (dests : List End) → IsOfKind of kind.Queuing → IsKind of dests → (is_queue of ≡ true) × (length dests ≡ 1)
 queue_kind (chan_kind.Sampling refresh) dests is fits = absurd cc
 queue_kind (chan_kind.Queuing most) dests is fits = (refl, fits.0)
-
-view_port : (system : System) (p r : ℕ) (port : Port) → slice_get (view_of system p).part.ports r ≡ Some port → port_at system.conf.parts (record { part = p; port = r }) ≡ Some port
-unfolding part_of port_at view_of
-view_port system p r port is = part_port system.conf.parts p r port is
 
 -- a channel by a port of another partition, by the number that it has in the system
 record IsTraded (system : System) (other c : ℕ) (the_way : Way) (name : ℕ) (port : HasPortOn (view_of system other) the_way name) : Type 0 where

@@ -1,26 +1,21 @@
 -- Machines that go together for a closed set of partitions agree on it: on its channels, too.
-use Rattle.std.proofs.Common.{◌≡◌, ℕ, zero, suc, ◌<◌, true, length, Some, refl, sym, ap, ◌∙◌, arith}
+use Rattle.std.proofs.Common.{◌≡◌, ℕ, ◌<◌, true, length, Some, sym, ap, ◌∙◌}
 use Rattle.std.specs.Prelude.{slice_get, ◌||◌}
 use Rattle.std.proofs.lemmas.Option.{same_Some}
 use Rattle.std.specs.List.{list_any}
 use Rattle.xm_conf.specs.Configuration.{Chan}
 use Rattle.xm_conf.specs.View.{channel_of, has_end, is_port}
-use Rattle.machine_model.specs.Lists.{table}
+use Rattle.machine_model.specs.ListLemmas.{get_table}
+use Rattle.machine_model.specs.NameLemmas.{of_name_below as name_within, name_named}
 use Rattle.machine_model.specs.Machine.{Machine, copies}
 use Rattle.machine_model.specs.Traffic.{content_if, copies_of}
 use Rattle.machine_model.specs.View.{name_of, named, part_of}
 use Rattle.xm_flows.specs.Groups.{Members, has_end_in}
 use Rattle.xm_flows.specs.Laws.{Agree, AreClosedAlike}
-use Rattle.xm_flows.proofs.EndLemmas.{channel_is, its_port, name_named, name_there, name_within}
+use Rattle.xm_flows.proofs.EndLemmas.{channel_is, its_port, name_there}
 use Rattle.xm_flows.proofs.HeardLemmas.{member_is_source, source_within}
 use Rattle.xm_flows.proofs.PairLemmas.{port_pair, same_name}
 use Rattle.xm_flows.proofs.TickLemmas.{GoTogether, same_channels}
-
--- a table, read at a place that it has
-get_table : {Y : Type 0} (f : ℕ → Y) (n p : ℕ) → p < n → slice_get (table f n) p ≡ Some (f p)
-get_table f zero p below = absurd (omega (arith, below))
-get_table f (suc n) zero below = refl
-get_table f (suc n) (suc p) below = get_table (λ k. f (suc k)) n p (omega (arith, below))
 
 -- a partition's copy of a channel that it calls q
 copy_at : (g : Machine) (p q : ℕ) → q < length (part_of g.system.conf p).ports → slice_get (copies g p) q ≡ Some (content_if g.channels (named g.system.conf p q))

@@ -1,6 +1,6 @@
 -- Each port is the end of one channel at most: where it stands, and by what name its partition calls it.
 use Rattle.std.proofs.Common.{◌≡◌, ℕ, zero, suc, ◌<◌, ◌≤◌, ◌+◌, Bool, true, false, cond, List, [], ◌∷◌, ◌++◌, length, Option, None, Some, refl, sym, ap, ◌∙◌, arith, subst}
-use Rattle.std.specs.Prelude.{slice_get, slice_index_or, ◌==◌, ◌≢◌, ◌||◌, ◌&&◌, if◌then◌else◌, nat_lt, AllPairs}
+use Rattle.std.specs.Prelude.{slice_get, slice_index_or, ◌==◌, ◌≢◌, ◌||◌, if◌then◌else◌, nat_lt, AllPairs}
 use Rattle.std.specs.List.{list_any, position_from}
 use Rattle.std.proofs.lemmas.Bool.{eqb-true}
 use Rattle.std.proofs.lemmas.Bool.Decides.{nat_tests}
@@ -14,27 +14,10 @@ use Rattle.xm_conf.specs.View.{channel_of, has_end, is_port}
 use Rattle.xm_conf.specs.declared.channel.End.{End}
 use Rattle.xm_conf.specs.declared.item.Item.{Item}
 use Rattle.xm_conf.specs.declared.item.Item.TheVariants as item
-use Rattle.machine_model.specs.Lists.{is_number, then_some}
-use Rattle.machine_model.specs.View.{if_named, name_from, name_of, named, part_of}
-
--- where the first element that passes a test stands
-record IsFound {X : Type 0} (test : X → Bool) (k : ℕ) (xs : List X) (e : ℕ) : Type 0 where
-  place : ℕ
-  element : X
-  at : e ≡ k + place
-  there : slice_get xs place ≡ Some element
-  passes : test element ≡ true
-
-found_from : {X : Type 0} (test : X → Bool) (k : ℕ) (xs : List X) (e : ℕ) → position_from test k xs ≡ Some e → IsFound test k xs e
-found_from test k [] e is = absurd cc
-found_from test k (x ∷ xs) e is = by (test x) refl is (found_from test (k + 1) xs e)
-  where
-    by : (b : Bool) → test x ≡ b → cond b (Some k) (position_from test (k + 1) xs) ≡ Some e → (position_from test (k + 1) xs ≡ Some e → IsFound test (k + 1) xs e) → IsFound test k (x ∷ xs) e
-    by true passes said further = record { place = 0; element = x; at = (let same : k ≡ e = same_Some k e said in omega (arith, same)); there = refl; passes = passes }
-    by false fails said further =
-        let found = further said in
-        let at : e ≡ k + 1 + found.place = found.at in
-        record { place = suc found.place; element = found.element; at = omega (arith, at); there = found.there; passes = found.passes }
+use Rattle.machine_model.specs.EndLemmas.{end_is, found_from}
+use Rattle.machine_model.specs.NameLemmas.{same_number}
+use Rattle.machine_model.specs.Lists.{is_number}
+use Rattle.machine_model.specs.View.{name_from, name_of, part_of}
 
 -- where an element passes, a first one is found
 finds : {X : Type 0} (test : X → Bool) (k : ℕ) (xs : List X) (c : ℕ) (x : X) → slice_get xs c ≡ Some x → test x ≡ true → (e : ℕ) × (position_from test k xs ≡ Some e)
@@ -45,16 +28,6 @@ finds test k (y ∷ xs) (suc c) x is passes = by (test y) (finds test (k + 1) xs
     by : (b : Bool) → ((e : ℕ) × (position_from test (k + 1) xs ≡ Some e)) → (e : ℕ) × (cond b (Some k) (position_from test (k + 1) xs) ≡ Some e)
     by true further = (k, refl)
     by false further = further
-
--- the port at an end
-pub end_is : (p r : ℕ) (end : End) → is_port p r end ≡ true → end ≡ record { part = p; port = r }
-unfolding is_port
-end_is p r end is = by (end.part == p) (end.port == r) refl refl is
-  where
-    by : (a b : Bool) → (end.part == p) ≡ a → (end.port == r) ≡ b → (a && b) ≡ true → end ≡ record { part = p; port = r }
-    by true true part port said = ap (λ n. record { part = n; port = end.port }) (eqb-true end.part p part) ∙ ap (λ n. record { part = p; port = n }) (eqb-true end.port r port)
-    by true false part port said = absurd cc
-    by false b part port said = absurd cc
 
 -- an end is the port that it is
 pub its_port : (end : End) → is_port end.part end.port end ≡ true
@@ -190,41 +163,6 @@ is_its_channel conf fits c chan p r there = by (has_end p r chan) refl
     by true ends = ap (λ o. is_number o c) (channel_is conf fits c chan p r there ends) ∙ grind (arith)
     by false fails = numbered (channel_of conf p r) refl fails
 
--- a number that an option has
-number_is : (o : Option ℕ) (n : ℕ) → is_number o n ≡ true → o ≡ Some n
-number_is None n is = absurd cc
-number_is (Some m) n is = ap Some (eqb-true m n is)
-
-number_of : (n : ℕ) → is_number (Some n) n ≡ true
-number_of n = grind (arith)
-
--- a name is a port on the channel
-name_from_is : (conf : Conf) (p c count r q : ℕ) → name_from conf p c count r ≡ Some q → channel_of conf p q ≡ Some c
-name_from_is conf p c zero r q is = absurd cc
-name_from_is conf p c (suc count) r q is = by (is_number (channel_of conf p r) c) refl is (name_from_is conf p c count (suc r) q)
-  where
-    by : (b : Bool) → is_number (channel_of conf p r) c ≡ b → (if b then Some r else name_from conf p c count (suc r)) ≡ Some q
-        → (name_from conf p c count (suc r) ≡ Some q → channel_of conf p q ≡ Some c) → channel_of conf p q ≡ Some c
-    by true found is further = ap (channel_of conf p) (sym (same_Some r q is)) ∙ number_is (channel_of conf p r) c found
-    by false other is further = further is
-
-pub name_is : (conf : Conf) (p c q : ℕ) → name_of conf p c ≡ Some q → channel_of conf p q ≡ Some c
-unfolding name_of
-name_is conf p c q is = name_from_is conf p c (length (part_of conf p).ports) 0 q is
-
--- and one of the partition's
-name_below : (conf : Conf) (p c count r q : ℕ) → name_from conf p c count r ≡ Some q → q < r + count
-name_below conf p c zero r q is = absurd cc
-name_below conf p c (suc count) r q is = by (is_number (channel_of conf p r) c) is (name_below conf p c count (suc r) q)
-  where
-    by : (b : Bool) → (if b then Some r else name_from conf p c count (suc r)) ≡ Some q → (name_from conf p c count (suc r) ≡ Some q → q < suc r + count) → q < r + suc count
-    by true found further = let e : r ≡ q = same_Some r q found in omega (arith, e)
-    by false found further = let below = further found in omega (arith, below)
-
-pub name_within : (conf : Conf) (p c q : ℕ) → name_of conf p c ≡ Some q → q < length (part_of conf p).ports
-unfolding name_of
-name_within conf p c q is = let below = name_below conf p c (length (part_of conf p).ports) 0 q is in omega (arith, below)
-
 -- a channel of a port of the partition has a name
 name_from_there : (conf : Conf) (p c r : ℕ) → channel_of conf p r ≡ Some c → (count first : ℕ) → first ≤ r → r < first + count → (q : ℕ) × (name_from conf p c count first ≡ Some q)
 name_from_there conf p c r is zero first low high = absurd (omega (arith, low, high))
@@ -238,7 +176,7 @@ name_from_there conf p c r is (suc count) first low high =
         test true before = grind (arith, nat_tests)
         test false not_before =
             let same : first ≡ r = grind (arith, nat_tests) in
-            let holds : is_number (channel_of conf p first) c ≡ true = ap (λ o. is_number o c) (ap (channel_of conf p) same ∙ is) ∙ number_of c in
+            let holds : is_number (channel_of conf p first) c ≡ true = ap (λ o. is_number o c) (ap (channel_of conf p) same ∙ is) ∙ same_number c in
             absurd cc
 
     by : (b : Bool) → is_number (channel_of conf p first) c ≡ b → (suc first ≤ r → (q : ℕ) × (name_from conf p c count (suc first) ≡ Some q))
@@ -249,24 +187,3 @@ name_from_there conf p c r is (suc count) first low high =
 pub name_there : (conf : Conf) (p c r : ℕ) → channel_of conf p r ≡ Some c → r < length (part_of conf p).ports → (q : ℕ) × (name_of conf p c ≡ Some q)
 unfolding name_of
 name_there conf p c r is below = name_from_there conf p c r is (length (part_of conf p).ports) 0 (omega arith) (omega (arith, below))
-
--- a channel that a partition calls q has the name q
-if_named_is : (conf : Conf) (p q c : ℕ) (o : Option ℕ) → if_named conf p q o ≡ Some c → name_of conf p c ≡ Some q
-if_named_is conf p q c None is = absurd cc
-if_named_is conf p q c (Some d) is = by (is_number (name_of conf p d) q) refl is
-  where
-    by : (b : Bool) → is_number (name_of conf p d) q ≡ b → then_some b d ≡ Some c → name_of conf p c ≡ Some q
-    by true found is = ap (name_of conf p) (sym (same_Some d c is)) ∙ number_is (name_of conf p d) q found
-    by false other is = absurd cc
-
-pub named_is : (conf : Conf) (p q c : ℕ) → named conf p q ≡ Some c → name_of conf p c ≡ Some q
-unfolding named
-named_is conf p q c is = if_named_is conf p q c (channel_of conf p q) is
-
--- a channel with the name q is the one that the partition calls q
-pub name_named : (conf : Conf) (p q c : ℕ) → name_of conf p c ≡ Some q → named conf p q ≡ Some c
-unfolding named
-name_named conf p q c is =
-    let found : channel_of conf p q ≡ Some c = name_is conf p c q is in
-    let its : is_number (name_of conf p c) q ≡ true = ap (λ o. is_number o q) is ∙ number_of q in
-    rw (found, its) refl

@@ -15,7 +15,8 @@ use Rattle.xm_conf.specs.declared.channel.End.{End}
 use Rattle.xm_conf.specs.declared.port.Kind.TheVariants as kind
 use Rattle.xm_conf.specs.declared.port.Port.{Port}
 use Rattle.xm_conf.specs.declared.port.Way.TheVariants as way
-use Rattle.machine_model.specs.Lists.{table}
+use Rattle.machine_model.specs.EndLemmas.{end_is, view_channel, view_port}
+use Rattle.machine_model.specs.NameLemmas.{name_is, named_is}
 use Rattle.machine_model.specs.Told as told
 use Rattle.machine_model.specs.Told.{Act, OwnPuts, OwnSignals, OwnStill, OwnTakes}
 use Rattle.machine_model.specs.Traffic.{heard_as, own_puts_at, own_takes_at, puts_at, takes_at, told_as, traffic_of}
@@ -23,7 +24,7 @@ use Rattle.machine_model.specs.View.{PortChannel, System, name_of, named, no_par
 use Rattle.xm_flows.specs.Groups.{HasItsPeers, KeepsLink, KeepsRule, KeepsIn, Members, has_dest_in, has_end_in, is_in}
 use Rattle.machine_model.specs.OwnActs.{HasPortOn}
 use Rattle.xm_flows.specs.Rights.{IsByRight, ReceivesFrom}
-use Rattle.xm_flows.proofs.EndLemmas.{either_true, end_is, its_channel, name_is, named_is}
+use Rattle.xm_flows.proofs.EndLemmas.{either_true, its_channel}
 use Rattle.xm_flows.proofs.LinkLemmas.{its_source, no_signal}
 use Rattle.xm_flows.proofs.PairLemmas.{end_in}
 
@@ -32,12 +33,6 @@ pub all_at : {X : Type 0} (P : X → Type 0) (xs : List X) (k : ℕ) (x : X) →
 all_at P [] k x is all = absurd cc
 all_at P (one ∷ xs) zero x is all = subst P (same_Some one x is) (All-head P one xs all)
 all_at P (one ∷ xs) (suc k) x is all = all_at P xs k x is (All-tail P one xs all)
-
--- a table of options, read where something is
-table_some : {Y : Type 0} (f : ℕ → Option Y) (n r : ℕ) (y : Y) → slice_index_or (table f n) r None ≡ Some y → f r ≡ Some y
-table_some f zero r y is = absurd cc
-table_some f (suc n) zero y is = is
-table_some f (suc n) (suc r) y is = table_some (λ k. f (suc k)) n r y is
 
 -- the number of a channel that a port of a partition is on, and by which name the partition calls it
 record IsNumbered (conf : Conf) (p r : ℕ) (channel : PortChannel) : Type 0 where
@@ -59,10 +54,6 @@ numbered conf p r channel is = by (channel_of conf p r) refl is
     by None found said = absurd cc
     by (Some c) found said = with_both c found (slice_get conf.chans c) (name_of conf p c) refl said
 
-view_channel : (system : System) (p r : ℕ) (channel : PortChannel) → slice_index_or (view_of system p).channels r None ≡ Some channel → port_channel system.conf p r ≡ Some channel
-unfolding view_of
-view_channel system p r channel is = table_some (port_channel system.conf p) (length (part_of system.conf p).ports) r channel is
-
 -- a port on a channel that its partition calls by a name is on the channel of that name
 on_named : (system : System) (q number name c : ℕ) (channel : PortChannel) → slice_index_or (view_of system q).channels number None ≡ Some channel → channel.name ≡ name
     → named system.conf q name ≡ Some c → channel_of system.conf q number ≡ Some c
@@ -71,16 +62,6 @@ on_named system q number name c channel there name_said is =
     let one : channel_of system.conf q name ≡ Some its.number = name_is system.conf q its.number name (its.named_so ∙ ap Some name_said) in
     let other : channel_of system.conf q name ≡ Some c = name_is system.conf q c name (named_is system.conf q name c is) in
     its.found ∙ sym one ∙ other
-
--- a partition's port, at an end
-part_port : (parts : List Part) (p r : ℕ) (port : Port) → slice_get (slice_index_or parts p no_part).ports r ≡ Some port → port_of r (slice_get parts p) ≡ Some port
-part_port [] p r port is = absurd cc
-part_port (part ∷ parts) zero r port is = is
-part_port (part ∷ parts) (suc p) r port is = part_port parts p r port is
-
-view_port : (system : System) (p r : ℕ) (port : Port) → slice_get (view_of system p).part.ports r ≡ Some port → port_at system.conf.parts (record { part = p; port = r }) ≡ Some port
-unfolding part_of port_at view_of
-view_port system p r port is = part_port system.conf.parts p r port is
 
 -- where a port is an end: the source, or one of the destinations
 any_end : (P : End → Type 0) (p r : ℕ) (ends : List End) → list_any (is_port p r) ends ≡ true → All P ends → P (record { part = p; port = r })

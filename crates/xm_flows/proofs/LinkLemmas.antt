@@ -1,6 +1,6 @@
 -- Links of a configuration: where each goes, and that a partition has one of a number.
 use Rattle.std.proofs.Common.{◌≡◌, ℕ, zero, suc, Bool, true, false, cond, List, [], ◌∷◌, Option, None, Some, refl, sym, ap, ◌∙◌, arith, inl, inr, subst}
-use Rattle.std.specs.Prelude.{slice_get, ◌==◌, ◌≢◌, ◌&&◌, ◌⊎◌, if◌then◌else◌, AllPairs}
+use Rattle.std.specs.Prelude.{slice_get, ◌==◌, ◌&&◌, if◌then◌else◌, AllPairs}
 use Rattle.std.specs.List.{find}
 use Rattle.std.proofs.lemmas.Bool.{eqb-true}
 use Rattle.std.proofs.lemmas.Bool.Decides.{nat_tests}
@@ -11,6 +11,7 @@ use Rattle.xm_conf.specs.Description.{described}
 use Rattle.xm_conf.specs.Fits.{DifferLinks, Fits}
 use Rattle.xm_conf.specs.View.{is_link_of, link_of}
 use Rattle.xm_conf.specs.declared.link.Link.{Link}
+use Rattle.machine_model.specs.NameLemmas.{number_is}
 use Rattle.machine_model.specs.Lists.{is_number}
 use Rattle.machine_model.specs.Told.{OwnSignals, OwnStill}
 use Rattle.machine_model.specs.Traffic.{Signals, heard_as, own_signals_at}
@@ -90,11 +91,6 @@ finds_link (one ∷ links) (suc k) link pairs there =
 link_is : (conf : Conf) → Fits (described conf) → (k : ℕ) (link : Link) → slice_get conf.links k ≡ Some link → link_of conf link.source link.number ≡ Some link.dest
 unfolding described link_of
 link_is conf fits k link there = finds_link conf.links k link fits.links_differ there
-
--- a number that an option has
-number_is : (o : Option ℕ) (n : ℕ) → is_number o n ≡ true → o ≡ Some n
-number_is None n is = absurd cc
-number_is (Some m) n is = ap Some (eqb-true m n is)
 
 -- a link to another partition
 linked_found : (conf : Conf) (q number dest : ℕ) → linked conf q number ≡ Some dest → (link_of conf q number ≡ Some dest) × ((dest == q) ≡ false)

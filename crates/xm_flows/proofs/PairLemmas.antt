@@ -8,13 +8,14 @@ use Rattle.xm_conf.specs.Description.{described}
 use Rattle.xm_conf.specs.Fits.{Fits}
 use Rattle.xm_conf.specs.View.{channel_of, has_end, is_port}
 use Rattle.xm_conf.specs.declared.channel.End.{End}
+use Rattle.machine_model.specs.EndLemmas.{end_is}
 use Rattle.machine_model.specs.Lists.{is_number, then_some}
 use Rattle.machine_model.specs.Told.{OwnPuts, OwnSignals, OwnStill, OwnTakes, OwnTraffic}
 use Rattle.machine_model.specs.Traffic.{heard_as, own_puts_at, own_takes_at, puts_at, takes_at, told_as}
 use Rattle.machine_model.specs.View.{if_named, name_from, name_of, named, part_of}
 use Rattle.xm_flows.specs.Alike.{HasChannelsOf, HasLinksOf, chan_among}
 use Rattle.xm_flows.specs.Groups.{Members, has_dest_in, has_end_in, is_in}
-use Rattle.xm_flows.proofs.EndLemmas.{channel_is, either_true, end_is, is_its_channel, its_channel}
+use Rattle.xm_flows.proofs.EndLemmas.{channel_is, either_true, is_its_channel, its_channel}
 use Rattle.xm_flows.proofs.LinkLemmas.{signals_alike}
 
 -- a port of a member is among the destinations of members where it is among all

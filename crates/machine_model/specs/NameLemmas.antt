@@ -1,5 +1,5 @@
 -- A partition's names of channels: each name is that of one channel, and each channel has one.
-use Rattle.std.proofs.Common.{◌≡◌, ℕ, zero, suc, Bool, true, false, length, Option, None, Some, refl, sym, ap, ◌∙◌, arith}
+use Rattle.std.proofs.Common.{◌≡◌, ℕ, zero, suc, ◌+◌, ◌<◌, Bool, true, false, length, Option, None, Some, refl, sym, ap, ◌∙◌, arith}
 use Rattle.std.specs.Prelude.{slice_get, if◌then◌else◌}
 use Rattle.std.proofs.lemmas.Bool.{eqb-true}
 use Rattle.std.proofs.lemmas.Option.{same_Some}
@@ -15,8 +15,8 @@ number_is None n is = absurd cc
 number_is (Some m) n is = ap Some (eqb-true m n is)
 
 -- the number that an option has
-pub number_of : (n : ℕ) → is_number (Some n) n ≡ true
-number_of n = grind (arith)
+pub same_number : (n : ℕ) → is_number (Some n) n ≡ true
+same_number n = grind (arith)
 
 -- a name is a port on the channel
 pub name_from_is : (conf : Conf) (p c count r q : ℕ) → name_from conf p c count r ≡ Some q → channel_of conf p q ≡ Some c
@@ -50,7 +50,7 @@ pub name_named : (conf : Conf) (p q c : ℕ) → name_of conf p c ≡ Some q →
 unfolding named
 name_named conf p q c is =
     let found : channel_of conf p q ≡ Some c = name_is conf p c q is in
-    let its : is_number (name_of conf p c) q ≡ true = ap (λ o. is_number o q) is ∙ number_of q in
+    let its : is_number (name_of conf p c) q ≡ true = ap (λ o. is_number o q) is ∙ same_number q in
     rw (found, its) refl
 
 -- a port whose channel bears its number as the name: the partition calls that channel so
@@ -68,3 +68,16 @@ unfolding port_channel
 has_name_named conf p q has =
     let found = at_channel conf p q (channel_of conf p q) has in
     (found.0, name_named conf p q found.0 found.1, found.1)
+
+-- a name is that of a port that the partition has
+name_below : (conf : Conf) (p c count r q : ℕ) → name_from conf p c count r ≡ Some q → q < r + count
+name_below conf p c zero r q is = absurd cc
+name_below conf p c (suc count) r q is = at (is_number (channel_of conf p r) c) is (name_below conf p c count (suc r) q)
+  where
+    at : (b : Bool) → (if b then Some r else name_from conf p c count (suc r)) ≡ Some q → (name_from conf p c count (suc r) ≡ Some q → q < suc r + count) → q < r + suc count
+    at true found further = let e : r ≡ q = same_Some r q found in omega (arith, e)
+    at false found further = let below = further found in omega (arith, below)
+
+pub of_name_below : (conf : Conf) (p c q : ℕ) → name_of conf p c ≡ Some q → q < length (part_of conf p).ports
+unfolding name_of
+of_name_below conf p c q is = let below = name_below conf p c (length (part_of conf p).ports) 0 q is in omega (arith, below)

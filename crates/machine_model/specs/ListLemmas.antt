@@ -61,3 +61,9 @@ filter_append test (x ∷ xs) ys = at (test x) (filter_append test xs ys)
     at : (b : Bool) → filter test (xs ++ ys) ≡ filter test xs ++ filter test ys → cond b (x ∷ filter test (xs ++ ys)) (filter test (xs ++ ys)) ≡ cond b (x ∷ filter test xs) (filter test xs) ++ filter test ys
     at true further = ap (λ rest. x ∷ rest) further
     at false further = further
+
+-- a table of options, read with none after its end
+pub table_at : {Y : Type 0} (f : ℕ → Option Y) (n r : ℕ) → r < n → slice_index_or (table f n) r None ≡ f r
+table_at f zero r below = absurd (omega (arith, below))
+table_at f (suc n) zero below = refl
+table_at f (suc n) (suc r) below = table_at (λ k. f (suc k)) n r (omega (arith, below))
