@@ -1,5 +1,5 @@
 -- Calls that are shown nothing, and numbers that are no call's.
-use Rattle.std.proofs.Common.{◌≡◌, ℕ, ◌≤◌, ◌<◌, ◌≢◌, Bool, true, false, refl, sym, ap, ◌∙◌, arith, subst}
+use Rattle.std.proofs.Common.{◌≡◌, ◌⊎◌, inl, inr, ℕ, ◌≤◌, ◌<◌, ◌≢◌, Bool, true, false, refl, sym, ap, ◌∙◌, arith, subst}
 use Rattle.std.proofs.lemmas.Bool.Decides.{nat_tests}
 use Rattle.std.specs.Prelude.{◌==◌, if◌then◌else◌, None}
 use Rattle.machine_model.specs.Caller.{Caller, Served, a_of, answering, b_of, c_of, unknown_call}
@@ -39,8 +39,9 @@ abbrev pub IsUnknown : ℕ → Type 0
 IsUnknown n = (k : ℕ) → 1 ≤ k → k ≤ 38 → n ≢ k
 
 -- such a number is 0, or above those of all calls
-pub is_unknown : (n : ℕ) → (1 ≤ n → 38 < n) → IsUnknown n
-is_unknown n above k from to same = (let over : 38 < n = above (omega (arith, from, same)) in omega (arith, over, to, same))
+pub is_unknown : (n : ℕ) → (n ≡ 0) ⊎ (38 < n) → IsUnknown n
+is_unknown n (inl none) k from to same = omega (arith, none, from, same)
+is_unknown n (inr over) k from to same = omega (arith, over, to, same)
 
 -- it is none of these
 differs : (n k : ℕ) → n ≢ k → (n == k) ≡ false

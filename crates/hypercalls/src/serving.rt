@@ -1,6 +1,6 @@
 //! A hypercall is served.
 
-ghost use Rattle.std.specs.Prelude.{◌≡◌, ◌+◌, ◌%◌, ◌<◌, ◌≤◌, false, length};
+ghost use Rattle.std.specs.Prelude.{◌≡◌, ◌⊎◌, ◌+◌, ◌%◌, ◌<◌, ◌≤◌, false, length};
 ghost use Rattle.std.specs.Bool.{OnTrue};
 ghost use Rattle.cyclic_plans.specs.PlanClock.{IsInFrame};
 ghost use Rattle.machine_model.specs.Hypercalls.{call_numbered, served};
@@ -65,7 +65,7 @@ fn serve_site(sys: &mut Sys, site: CallSite) -> Served
 fn is_call(number: u32) -> bool
     ensures from { OnTrue result (1 ≤ number) }
     ensures to { OnTrue result (number ≤ 38) }
-    ensures none { result ≡ false → 1 ≤ number → 38 < number }
+    ensures none { result ≡ false → (number ≡ 0) ⊎ (38 < number) }
 {
     number.wrapping_sub(1) < 38
 }
