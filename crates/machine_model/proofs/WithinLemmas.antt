@@ -1,4 +1,4 @@
--- What a partition's work does beyond it is on channels and links of its own and on others.
+-- What a partition's work does beyond the partition is within what it has.
 use Rattle.std.proofs.Common.{◌≡◌, ℕ, zero, suc, ◌+◌, Bool, true, false, List, [], ◌∷◌, length, Option, None, Some, Result, Ok, Err, inl, inr, refl, sym, ap, ◌∙◌, arith, subst}
 use Rattle.std.specs.Prelude.{slice_get, slice_index_or, if◌then◌else◌, ◌==◌, ◌||◌, ◌≤◌, nat_lt, not, IsSome}
 use Rattle.std.proofs.lemmas.Bool.Decides.{nat_tests}
@@ -111,7 +111,7 @@ same_room kind.Queuing kind.Queuing of content is has_room = has_room
 not_full : (port : MadePort) → is_full port ≡ false → HasPortRoom kind.Queuing port.shape.kind port.content
 not_full port free = grind (arith, nat_tests)
 
--- what a call asks for is within it, too; a partition may give itself orders
+-- what a call asks for is within what its partition has; an order may be one on the partition itself
 abbrev AsksWithin : PartitionView → List (Option Content) → Act → Type 0
 AsksWithin view contents told.Nothing = Unit {0}
 AsksWithin view contents (told.Trades traffic) = IsWithinOwn view contents (told.Trades traffic)
@@ -330,7 +330,7 @@ flush_within : (view : PartitionView) (contents : List (Option Content)) (answer
 flush_within view contents (Ok all) ps caller = tt
 flush_within view contents (Err fault) ps caller = tt
 
--- what a call comes to acts on the caller's own channels
+-- what a call comes to is within what its caller has
 record Stays (view : PartitionView) (contents : List (Option Content)) (comes : Served) : Type 0 where
   within : ComesWithin view contents comes.upshot
 

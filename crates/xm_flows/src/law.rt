@@ -3,7 +3,9 @@
 ghost use Rattle.xm_flows.specs.Laws.{ClosedRunsAlike, NoneSteers, RoundsFindGroups, UnsteeredRunsAlike};
 ghost use Rattle.xm_flows.specs.Rights.{ActsByRight};
 
-use machine_model::{acts_within_bounds, all_ticks, boots_alone, keeps_numbers, one_tick, sees_nothing};
+use machine_model::{
+    acts_within_bounds, all_ticks, boots_alone, keeps_numbers, one_tick, sees_nothing,
+};
 
 /// What a partition does beyond itself is by right: it puts messages by its source ports, takes them from its queues, and reaches others
 /// in any other way only as a system partition, or by an action of its health table that reaches all.
