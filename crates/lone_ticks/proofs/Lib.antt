@@ -1,4 +1,3 @@
-pub mod GoesOnLemmas
 pub mod LoneCallLemmas
 pub mod LoneLemmas
 pub mod LoneTrafficLemmas

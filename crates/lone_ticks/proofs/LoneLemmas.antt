@@ -31,7 +31,7 @@ use Rattle.alone_passes.specs.Step.{IsLone, IsOfSystem}
 use Rattle.system_ticks.specs.CueValues.{slot_value}
 use Rattle.system_ticks.specs.declared.cue.Mine as code_mine
 use Rattle.system_ticks.specs.declared.cue.Mine.TheVariants as its
-use Rattle.lone_ticks.specs.LoneWork.{IsLoneTick, IsLoneTicked, traffic_done}
+use Rattle.lone_ticks.specs.LoneWork.{IsLoneTick, IsLoneTicked, most_lines, traffic_done}
 use Rattle.system_ticks.specs.Machine.{IsMachine}
 use Rattle.lone_ticks.proofs.PutLemmas.{is_told}
 use Rattle.system_ticks.specs.KeptLemmas.{facts_at}
@@ -80,7 +80,7 @@ away_told p cue old s1 s2 had between got none e1 e2 first last =
 -- a tick in the slot of another partition, or in a gap, that was done
 pub away_done : AwayTicks → TakesAway → PassesKeep → (p : ℕ) (cue : Cue) (old new : SysState) (got : List ReportLine) → p < length old.machine.parts → old.machine.halted ≡ false
     → cue.mine ≡ Away → cue.seen ≡ Unseen → CanHear old.machine.system.conf p cue.traffic → takes_traffic (view_of old.machine.system p) (copies old.machine p) cue.traffic ≡ true
-    → new ≡ with_machine (away_passed p cue old.machine) old → got ≡ away_lines p cue old.machine → length got ≤ 24 → IsLoneTick (Some note.Nothing) p cue old.machine new.machine got
+    → new ≡ with_machine (away_passed p cue old.machine) old → got ≡ away_lines p cue old.machine → length got ≤ most_lines → IsLoneTick (Some note.Nothing) p cue old.machine new.machine got
 away_done ticks takes keeps p cue old new got below runs away unseen can taken is told few =
     let tick = ticks old.machine p cue below away (called_by old.machine.system.conf p cue.traffic can) in
     let kept = keeps.away old.machine p cue runs below in

@@ -1,7 +1,6 @@
 -- What others do to the channels of one partition, under the system's numbers.
-use Rattle.std.proofs.Common.{◌≡◌, ℕ, zero, suc, ◌+◌, ◌<◌, ◌≤◌, Bool, true, false, List, [], ◌∷◌, length, map, get_or, Option, None, Some, refl, sym, ap, ◌∙◌, subst, arith}
+use Rattle.std.proofs.Common.{◌≡◌, ℕ, zero, suc, ◌<◌, ◌≤◌, Bool, true, false, List, [], ◌∷◌, length, map, get_or, Option, None, Some, refl, sym, ap, ◌∙◌, subst, arith}
 use Rattle.std.specs.Prelude.{All, IfSome, IsSome, IsSomeAnd, ◌==◌, ◌&&◌, not, if◌then◌else◌, nat_le, nat_lt, slice_get, slice_index_or, unwrap_or}
-use Rattle.std.proofs.lemmas.Bool.{eqb-true}
 use Rattle.std.proofs.lemmas.Bool.Decides.{nat_tests}
 use Rattle.std.proofs.lemmas.Option.{get_or_from_slice_get, same_Some}
 use Rattle.cue_scripts.specs.Script.{numbered_chan, chan_called, gives_in, gives_queue, heard_in, is_length, is_queue, most_heard}
@@ -12,37 +11,22 @@ use Rattle.xm_conf.specs.View.{channel_of}
 use Rattle.xm_conf.specs.declared.channel.ChanKind.{ChanKind}
 use Rattle.xm_conf.specs.declared.channel.ChanKind.TheVariants as kinds
 use Rattle.xm_ports.specs.Channels.{ChannelTable, Content, IsFull, IsMessage, IsQueuing, IsShape, IsTable, Queuing, Sampling, Shape, Suits, content_at, first_message, messages_of, most_of, shape_of, shapes_of}
+use Rattle.machine_model.specs.ListLemmas.{table_at}
+use Rattle.machine_model.specs.NameLemmas.{number_is, of_name_below}
 use Rattle.machine_model.specs.Lists.{is_number, table, then_some}
 use Rattle.machine_model.specs.Machine.{Machine, copies}
 use Rattle.machine_model.specs.Told.{OwnPuts, OwnTakes}
 use Rattle.machine_model.specs.Traffic.{content_if, copies_of, puts_at, takes_at}
-use Rattle.machine_model.specs.View.{PortChannel, if_named, name_from, name_of, named, part_of, port_channel, view_of, with_its_name, with_name}
+use Rattle.machine_model.specs.View.{PortChannel, if_named, name_of, named, part_of, port_channel, view_of, with_its_name, with_name}
 use Rattle.slot_runs.specs.Passes.{traded}
 use Rattle.alone_passes.specs.Taking.{is_empty_copy, is_queue_full, is_full_copy, takes_traffic}
 use Rattle.lone_ticks.specs.LoneWork.{IsChannelFor, IsChannelOfKind, has_first, has_room, is_full_in, put_in, taken_in, traffic_done}
-
--- the number that an option has
-number_is : (o : Option ℕ) (n : ℕ) → is_number o n ≡ true → o ≡ Some n
-number_is None n is = absurd cc
-number_is (Some m) n is = ap Some (eqb-true m n is)
 
 -- the channel that a partition calls q: it is that of port q, and q is its name, a port's number
 pub record IsCalledSo (conf : Conf) (p q c : ℕ) : Type 0 where
   pub channel : channel_of conf p q ≡ Some c
   pub name : name_of conf p c ≡ Some q
   pub below : q < length (part_of conf p).ports
-
-name_below : (conf : Conf) (p c count r q : ℕ) → name_from conf p c count r ≡ Some q → q < r + count
-name_below conf p c zero r q is = absurd cc
-name_below conf p c (suc count) r q is = at (is_number (channel_of conf p r) c) is (name_below conf p c count (suc r) q)
-  where
-    at : (b : Bool) → (if b then Some r else name_from conf p c count (suc r)) ≡ Some q → (name_from conf p c count (suc r) ≡ Some q → q < suc r + count) → q < r + suc count
-    at true found further = let e : r ≡ q = same_Some r q found in omega (arith, e)
-    at false found further = let below = further found in omega (arith, below)
-
-of_name_below : (conf : Conf) (p c q : ℕ) → name_of conf p c ≡ Some q → q < length (part_of conf p).ports
-unfolding name_of
-of_name_below conf p c q is = let below = name_below conf p c (length (part_of conf p).ports) 0 q is in omega (arith, below)
 
 called_if : (conf : Conf) (p q c : ℕ) (o : Option ℕ) → channel_of conf p q ≡ o → if_named conf p q o ≡ Some c → IsCalledSo conf p q c
 called_if conf p q c None at is = absurd cc
@@ -58,12 +42,6 @@ called_if conf p q c (Some d) at is = by (is_number (name_of conf p d) q) refl i
 pub called_so : (conf : Conf) (p q c : ℕ) → named conf p q ≡ Some c → IsCalledSo conf p q c
 unfolding named
 called_so conf p q c is = called_if conf p q c (channel_of conf p q) refl is
-
--- a table of options, read where it has the number
-table_at : {Y : Type 0} (f : ℕ → Option Y) (n r : ℕ) → r < n → slice_index_or (table f n) r None ≡ f r
-table_at f zero r below = absurd (omega (arith, below))
-table_at f (suc n) zero below = refl
-table_at f (suc n) (suc r) below = table_at (λ k. f (suc k)) n r (omega (arith, below))
 
 -- the view's channel and the copy of it
 view_channel : (g : Machine) (p q c : ℕ) (chan : Chan) → IsCalledSo g.system.conf p q c → slice_get g.system.conf.chans c ≡ Some chan

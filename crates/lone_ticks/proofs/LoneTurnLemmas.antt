@@ -1,21 +1,19 @@
 -- A tick of one partition without the others in which it takes its turn.
-use Rattle.std.proofs.Common.{◌≡◌, ℕ, ◌+◌, ◌<◌, ◌≤◌, Bool, true, false, List, [], ◌∷◌, ◌++◌, length, map, Option, None, Some, refl, sym, ap, subst, ◌∙◌, arith}
-use Rattle.std.specs.Prelude.{◌&&◌, ◌^◌, if◌then◌else◌, slice_get, slice_index_or}
+use Rattle.std.proofs.Common.{◌≡◌, ℕ, ◌+◌, ◌<◌, ◌≤◌, Bool, true, false, List, ◌++◌, length, map, Option, None, Some, refl, sym, ap, subst, ◌∙◌, arith}
+use Rattle.std.specs.Prelude.{◌&&◌, if◌then◌else◌}
 use Rattle.std.proofs.lemmas.List.{append_assoc, get_or-set_same, length-set}
 use Rattle.cyclic_plans.specs.PlanClock.{CyclicClock, IsInFrame}
-use Rattle.guest_bus.specs.Memory.{Memory}
 use Rattle.whole_system.specs.Serving.{CanBeTold}
 use Rattle.whole_system.specs.State.{SysState, areas_in, memory_of, with_machine}
 use Rattle.whole_system.specs.declared.served.Note.{Note}
 use Rattle.whole_system.specs.declared.served.Note.TheVariants as note
 use Rattle.xm_base.specs.declared.partition.Mode.{Mode}
 use Rattle.xm_base.specs.declared.partition.Mode.TheVariants as mode
-use Rattle.xm_ports.specs.Channels.{shapes_of}
 use Rattle.xm_report.specs.Report.{ReportLine}
 use Rattle.xm_traces.specs.Ring.{Kept}
 use Rattle.xm_traces.specs.declared.entry.TraceEntry.{TraceEntry}
 use Rattle.cue_scripts.specs.Script.{HearsNothing, IsCue}
-use Rattle.machine_model.specs.Alone.{Alone, alone_local, alone_local_in, alone_step, alone_step_lines}
+use Rattle.machine_model.specs.Alone.{Alone, alone_local, alone_local_in, alone_step_lines}
 use Rattle.machine_model.specs.Cue.{Cue, Mine, CueSlot}
 use Rattle.machine_model.specs.Facts.{AreEnds, AreFacts, AreLast, HaveEight, IsItsOwn, KeepsFactsAlone, begun}
 use Rattle.machine_model.specs.Health.{Worked}
@@ -34,10 +32,10 @@ use Rattle.virt_traps.specs.Virtual.{raised}
 use Rattle.alone_passes.specs.Kept.{IsKeptBy, PassesKeep}
 use Rattle.alone_passes.specs.Laws.{WorkingTicks}
 use Rattle.alone_passes.specs.Passes.{event_met, part_in, tick_past, work_passed}
-use Rattle.alone_passes.specs.Step.{IsLone, IsOfSystem}
+use Rattle.alone_passes.specs.Step.{IsOfSystem}
 use Rattle.alone_passes.specs.Taking.{is_same_event, is_same_mode, takes_cue, takes_sight}
 use Rattle.alone_passes.specs.TakingLaws.{TakesWorking}
-use Rattle.lone_ticks.specs.LoneWork.{IsLoneDone, IsLoneTick, IsLoneTicked, IsLoneWork, IsUncounted, IsWorkUndone}
+use Rattle.lone_ticks.specs.LoneWork.{IsLoneDone, IsLoneTick, IsUncounted, IsWorkUndone, most_lines}
 use Rattle.system_ticks.specs.CueValues.{cue_value, slot_value}
 use Rattle.system_ticks.specs.Machine.{IsMachine}
 use Rattle.system_ticks.specs.Span.{CanTake}
@@ -79,32 +77,12 @@ traded_memory (Signals source number) p x g below =
     ap (λ (ps : PartitionState). ps.memory) (at_each_set (λ q ps. hearing (view_of g.system q) (heard_as g.system.conf q (Signals source number)) ps) g.parts p x (booted_part g.system p) below)
     ∙ hearing_memory (view_of g.system p) (heard_as g.system.conf p (Signals source number)) x
 
--- what the end of a tick needs of a machine whose partition did its work
-pub record CanEnd (p : ℕ) (sys : SysState) : Type 0 where
-  pub partition : p < length sys.machine.parts
-  pub time : sys.machine.time + 1 < 2 ^ 64
-  pub ticks : sys.machine.ticks + 1 < 2 ^ 64
-  pub frame : IsInFrame sys.machine.system.conf sys.machine.clock sys.machine.time
-
+-- the frame of a machine whose traffic is done
 pub frame_traded : (g h : Machine) → IsTraded g h → IsInFrame g.system.conf g.clock g.time → IsInFrame h.system.conf h.clock h.time
 frame_traded g h keeps frame =
     subst (λ (n : ℕ). IsInFrame h.system.conf h.clock n) (sym keeps.time)
     (subst (λ (k : CyclicClock). IsInFrame h.system.conf k g.time) (sym keeps.clock)
     (subst (λ (s : System). IsInFrame s.conf g.clock g.time) (sym keeps.system) frame))
-
-pub can_end : (p : ℕ) (w : Worked) (work : LoneWork) (old mid : SysState) (got : List ReportLine) → IsMachine old → p < length old.machine.parts → old.machine.ticks < 4000000000
-    → IsLoneDone p w work old mid got → CanEnd p mid
-can_end p w work old mid got is below few done =
-    let keeps : IsTraded (with_part p w.after old.machine) (traded (traffic_in old.machine p w.act) (with_part p w.after old.machine)) = is_traded (traffic_in old.machine p w.act) (with_part p w.after old.machine) in
-    let timed : old.machine.time ≤ old.machine.ticks = is.counted.time in
-    let time : (traded (traffic_in old.machine p w.act) (with_part p w.after old.machine)).time ≡ old.machine.time = keeps.time in
-    let ticks : (traded (traffic_in old.machine p w.act) (with_part p w.after old.machine)).ticks ≡ old.machine.ticks = keeps.ticks in
-    subst (CanEnd p) (sym done.state) (record {
-      partition = subst (λ (n : ℕ). p < n) (sym (keeps.parts ∙ length-set old.machine.parts p w.after)) below;
-      time = omega (arith, time, timed, few);
-      ticks = omega (arith, ticks, few);
-      frame = frame_traded (with_part p w.after old.machine) _ keeps is.clocked.in_frame;
-    })
 
 -- hypervisor events that are the same
 same_mode : (one other : Mode) → is_same_mode one other ≡ true → other ≡ one
@@ -244,7 +222,7 @@ module _ (ticks : WorkingTicks) (takes : TakesWorking) (keeps : PassesKeep) (bou
         ∙ ap (λ (rest : List ReportLine). console ++ rest) (sym got_is)
         ∙ ap (λ (tale : List Told). map (line_of old.machine.ticks p) tale ++ got) (sym console_new)
 
-    turn_tick : (b : Bool) → is_same_event event cue.whole ≡ b → length got ≤ 24 → IsLoneTick (if b then Some work.note else None) p cue old.machine new.machine got
+    turn_tick : (b : Bool) → is_same_event event cue.whole ≡ b → length got ≤ most_lines → IsLoneTick (if b then Some work.note else None) p cue old.machine new.machine got
     turn_tick true same few =
         let alike : is_same_event (event_of w.act) cue.whole ≡ true = ap (λ (e : WholeEvent). is_same_event e cue.whole) its_event ∙ same in
         let whole : cue.whole ≡ event_of w.act = same_event (event_of w.act) cue.whole alike in
@@ -261,11 +239,11 @@ module _ (ticks : WorkingTicks) (takes : TakesWorking) (keeps : PassesKeep) (bou
         }
     turn_tick false other few = taken_is ∙ both_false _ _ (ap (λ (e : WholeEvent). is_same_event e cue.whole) its_event ∙ other)
 
-    pub turn_noted : (noted : Option Note) (b : Bool) → b ≡ is_same_event event cue.whole → noted ≡ (if b then Some work.note else None) → length got ≤ 24 → IsLoneTick noted p cue old.machine new.machine got
+    pub turn_noted : (noted : Option Note) (b : Bool) → b ≡ is_same_event event cue.whole → noted ≡ (if b then Some work.note else None) → length got ≤ most_lines → IsLoneTick noted p cue old.machine new.machine got
     turn_noted noted b same is_noted few = subst (λ (o : Option Note). IsLoneTick o p cue old.machine new.machine got) (sym is_noted) (turn_tick b (sym same) few)
 
 -- the lines of the work leave room for one more
-pub few_room : (p : ℕ) (w : Worked) (work : LoneWork) (old mid : SysState) {got : List ReportLine} → IsLoneDone p w work old mid got → length got < 24
+pub few_room : (p : ℕ) (w : Worked) (work : LoneWork) (old mid : SysState) {got : List ReportLine} → IsLoneDone p w work old mid got → length got < most_lines
 few_room p w work old mid done = omega (arith, done.few)
 
 -- a tick that was not done, since the partition may not be shown this

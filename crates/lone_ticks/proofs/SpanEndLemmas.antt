@@ -34,9 +34,9 @@ use Rattle.alone_passes.specs.TakingLaws.{TakesWorking}
 use Rattle.system_ticks.specs.Span.{CanTake}
 use Rattle.system_ticks.specs.Work.{act_beyond}
 use Rattle.lone_ticks.specs.LoneSpan.{CanEnd, HasTurnedAlone, HasWorked, IsLoneSpanEnded}
-use Rattle.lone_ticks.specs.LoneWork.{IsLoneDone, IsLoneWork}
+use Rattle.lone_ticks.specs.LoneWork.{IsLoneDone, IsLoneWork, most_lines}
 use Rattle.lone_ticks.specs.declared.work.LoneWork.{LoneWork}
-use Rattle.lone_ticks.proofs.GoesOnLemmas.{call_goes_on}
+use Rattle.system_ticks.specs.GoesOnLemmas.{call_goes_on}
 use Rattle.lone_ticks.proofs.LoneTurnLemmas.{IsTurn, can_take, frame_traded, not_seen, turn_machine, turn_noted, turn_system, undone_machine, undone_system}
 use Rattle.lone_ticks.proofs.LoneWorkLemmas.{call_as, lone_as, observed_as, trap_as, turned_work, uncounted_takes}
 use Rattle.lone_ticks.proofs.PutLemmas.{IsTraded, is_traded}
@@ -58,7 +58,7 @@ is_turn p work before now got is = record {
 -- work that was done
 pub work_ended : WorkingTicks → TakesWorking → PassesKeep → ActsWithinBounds → KeepsFactsAlone → (p : ℕ) (work : LoneWork) (event : WholeEvent) (before mid new : SysState) (had got : List ReportLine) (told : Option Note) (same : Bool)
     → HasWorked p (Some work) before mid had → event ≡ event_of (act_beyond work.reach) → new ≡ with_machine (tick_past event (event_met p event mid.machine)) mid
-    → got ≡ had ++ event_lines mid.machine.ticks event p → same ≡ is_same_event event NoEvent → told ≡ (if same then Some work.note else None) → length got ≤ 24 → IsLoneSpanEnded told p before new got
+    → got ≡ had ++ event_lines mid.machine.ticks event p → same ≡ is_same_event event NoEvent → told ≡ (if same then Some work.note else None) → length got ≤ most_lines → IsLoneSpanEnded told p before new got
 unfolding bare_cue
 work_ended ticks takes keeps bounds facts p work event before mid new had got told same is event_is new_is got_is same_is told_is few =
     let turn : IsTurn p false (bare_cue true) before = is_turn p (Some work) before mid had is in
@@ -124,7 +124,7 @@ call_serves p pc before now is =
     goes.1 ∙ ap (λ n. (n + 4) % 2 ^ 32) (sym goes.0)
 
 -- the end of a tick whose work was done
-work_can_end : (p : ℕ) (w : Worked) (work : LoneWork) (old mid : SysState) (got : List ReportLine) → CanTake p 1 old → IsLoneDone p w work old mid got → CanEnd p mid got
+pub work_can_end : (p : ℕ) (w : Worked) (work : LoneWork) (old mid : SysState) (got : List ReportLine) → CanTake p 1 old → IsLoneDone p w work old mid got → CanEnd p mid got
 work_can_end p w work old mid got can done =
     let h : Machine = traded (traffic_in old.machine p w.act) (with_part p w.after old.machine) in
     let keeps : IsTraded (with_part p w.after old.machine) h = is_traded (traffic_in old.machine p w.act) (with_part p w.after old.machine) in
@@ -143,7 +143,7 @@ pub can_end_if : (p : ℕ) (work : Option LoneWork) (asked : Option Observation)
 can_end_if p (Some work) asked w old mid got can is = work_can_end p w work old mid got can is.1
 can_end_if p None asked w old mid got can is = tt
 
--- a partition may be reported nothing but that a slot of its own runs
+-- a cue with nothing but that a slot of the partition's own runs is one that it may get
 pub plain_cue : (conf : Conf) (p : ℕ) → IsCue conf p (bare_cue true)
 unfolding bare_cue
 plain_cue conf p = record { traffic = tt; order = tt; alone = (refl, refl); seen = tt }

@@ -164,7 +164,7 @@ resting_still view a rests = record {
   its = own_its view a (ap (λ (t : Option LocalTick). event_of (act_of t)) (resting_local view a rests));
 }
 
--- a partition that rests is in the same state, as far as that answers whether it takes turns
+-- a partition that rests keeps its state, by which it takes turns or does not
 rest_state : (time : ℕ) (ps : PartitionState) → (rested time ps).state ≡ ps.state
 unfolding rested hardware_looked_at
 rest_state time ps = by (is_halted ps.state)
@@ -186,7 +186,7 @@ pub rested_turns : (k time : ℕ) (ps : PartitionState) → takes_turns (rested_
 rested_turns zero time ps = refl
 rested_turns (suc k) time ps = ap takes_turns (rest_state (time + k) ps)
 
--- work that reported nothing and does not reach beyond the partition
+-- work that reports nothing and reaches beyond no partition
 turn_local : (view : PartitionView) (a : Alone) (s : PartitionState) → takes_turns a.state.state ≡ true → worked view a.copies a.time false Unseen a.state ≡ quiet s
     → alone_local view a (bare_cue true) ≡ Some (seen_outside view a.ticks (quiet s))
 unfolding alone_local local_tick bare_cue

@@ -24,7 +24,7 @@ use Rattle.alone_passes.specs.Passes.{part_in}
 use Rattle.alone_passes.specs.Step.{IsOfSystem}
 use Rattle.alone_passes.specs.Taking.{takes_cue}
 use Rattle.system_ticks.specs.Machine.{IsMachine}
-use Rattle.lone_ticks.specs.LoneWork.{IsLoneTick, IsLoneWork}
+use Rattle.lone_ticks.specs.LoneWork.{IsLoneTick, IsLoneWork, most_lines}
 use Rattle.lone_ticks.specs.declared.span.LoneSpan.{LoneSpan}
 use Rattle.lone_ticks.specs.declared.work.LoneWork.{LoneWork}
 
@@ -98,7 +98,7 @@ pub record CanEnd (p : ℕ) (sys : SysState) (lines : List ReportLine) : Type 0 
   pub time : sys.machine.time + 1 < 2 ^ 64
   pub ticks : sys.machine.ticks + 1 < 2 ^ 64
   pub frame : IsInFrame sys.machine.system.conf sys.machine.clock sys.machine.time
-  pub room : length lines < 24
+  pub room : length lines < most_lines
 
 -- the machine when so many ticks of its frame have passed, which left this state of partition p
 abbrev pub ended_at : ℕ → ℕ → PartitionState → Machine → Machine

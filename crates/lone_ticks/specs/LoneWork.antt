@@ -1,5 +1,5 @@
 -- What one tick of one partition without the others does to the whole system, part by part.
-use Rattle.std.specs.Prelude.{◌≡◌, ℕ, ◌≤◌, ◌==◌, ◌&&◌, not, Bool, true, false, List, ◌++◌, length, map, Option, Some, None, IsSomeAnd, slice_get}
+use Rattle.std.specs.Prelude.{◌≡◌, ℕ, ◌<◌, ◌≤◌, ◌==◌, ◌&&◌, not, Bool, true, false, List, ◌++◌, length, map, Option, Some, None, IsSomeAnd, slice_get}
 use Rattle.xm_conf.specs.Configuration.{Chan, Conf}
 use Rattle.xm_conf.specs.declared.channel.ChanKind.{ChanKind}
 use Rattle.xm_ports.specs.Channels.{Content, IsMessage}
@@ -22,6 +22,7 @@ use Rattle.whole_system.specs.declared.served.Note.{Note}
 use Rattle.alone_passes.specs.Passes.{part_in, told_traffic}
 use Rattle.alone_passes.specs.Step.{IsLone}
 use Rattle.alone_passes.specs.Taking.{is_empty_copy, asks_entry, is_queue_full, takes_cue, takes_sight}
+use Rattle.system_ticks.specs.Machine.{IsMachine}
 use Rattle.system_ticks.specs.Work.{TellsAlone, act_beyond, console_told}
 use Rattle.lone_ticks.specs.declared.call.Asked.{Asked}
 use Rattle.lone_ticks.specs.declared.work.LoneWork.{LoneWork}
@@ -111,13 +112,25 @@ abbrev pub IsLoneWork : Option LoneWork → ℕ → Option Observation → Sight
 IsLoneWork (Some work) p asked seen w old new got = (takes_sight (view_of old.machine.system p) asked seen ≡ true) × IsLoneDone p w work old new got
 IsLoneWork None p asked seen w old new got = (takes_sight (view_of old.machine.system p) asked seen ≡ false) × IsWorkUndone p old new
 
+-- a tick can be done of partition p without the others: the hypervisor has not halted, and a tick is left
+pub record CanTickAlone (p : ℕ) (sys : SysState) : Type 0 where
+  pub machine : IsMachine sys
+  pub partition : p < length sys.machine.parts
+  pub running : sys.machine.halted ≡ false
+  pub more : sys.machine.ticks < 4000000000
+
+-- how many lines a tick of one partition without the others has at most, but for that of bytes for the console: four of its work, one of an order,
+-- and those of a hypervisor event
+abbrev pub most_lines : ℕ
+most_lines = 24
+
 -- a tick of partition p without the others that was done: what it leaves of the partition, the lines that it adds, but for that of bytes for
 -- the console, and what its call told
 pub record IsLoneTicked (p : ℕ) (cue : Cue) (note : Note) (old new : Machine) (got : List ReportLine) : Type 0 where
   pub lone : IsLone p cue old new
   pub lines : alone_step_lines (view_of old.system p) (part_in old p) cue ≡ map (line_of old.ticks p) (console_told note (memory_of p new)) ++ got
   pub readable : CanBeTold note (areas_in p new)
-  pub few : length got ≤ 24
+  pub few : length got ≤ most_lines
 
 -- a tick was done, or the partition cannot take its cue
 abbrev pub IsLoneTick : Option Note → ℕ → Cue → Machine → Machine → List ReportLine → Type 0

@@ -13,7 +13,8 @@ ghost use Rattle.whole_system.specs.State.{with_machine};
 ghost use Rattle.alone_passes.specs.Step.{IsOfSystem};
 ghost use Rattle.system_ticks.specs.CueValues.{cue_value, whole_value};
 ghost use Rattle.alone_passes.specs.Passes.{event_met, rested_in, tick_past};
-ghost use Rattle.lone_ticks.specs.LoneWork.{IsLoneTick};
+ghost use Rattle.lone_ticks.specs.LoneSpan.{CanEnd};
+ghost use Rattle.lone_ticks.specs.LoneWork.{CanTickAlone, IsLoneTick, most_lines};
 ghost use Rattle.system_ticks.specs.Machine.{IsMachine};
 ghost use Rattle.alone_passes.specs.Taking.{is_same_event};
 ghost use Rattle.system_ticks.specs.Work.{IsPartDone, act_beyond};
@@ -45,16 +46,19 @@ pub fn tick_alone(sys: &mut Sys, lines: &mut Lines, p: PartId, cue: &Cue<'_>) ->
 {
     match cue.mine {
         Mine::Away => tick_away(sys, lines, p, cue),
-        Mine::Mine { first } => tick_in_slot(sys, lines, p, first, cue),
+        Mine::Mine { first } => {
+            if takes_turns(sys, p) {
+                turn_in_slot(sys, lines, p, first, cue)
+            } else {
+                rest_in_slot(sys, p, cue)
+            }
+        }
     }
 }
 
 // A tick in the slot of another partition, or in a gap.
 fn tick_away(sys: &mut Sys, lines: &mut Lines, p: PartId, cue: &Cue<'_>) -> Option<Note>
-    requires machine { IsMachine sys.old }
-    requires partition { p < length sys.old.machine.parts }
-    requires running { sys.old.machine.halted ≡ false }
-    requires more { sys.old.machine.ticks < 4000000000 }
+    requires can { CanTickAlone p sys.old }
     requires cue { IsCue sys.old.machine.system.conf p (cue_value cue.now) }
     requires away { cue.now.mine ≡ Mine.Away }
     requires empty { lines.old ≡ [] }
@@ -76,33 +80,7 @@ fn tick_away(sys: &mut Sys, lines: &mut Lines, p: PartId, cue: &Cue<'_>) -> Opti
     }
 }
 
-// A tick in a slot of the partition's own.
-fn tick_in_slot(
-    sys: &mut Sys,
-    lines: &mut Lines,
-    p: PartId,
-    first: bool,
-    cue: &Cue<'_>,
-) -> Option<Note>
-    requires machine { IsMachine sys.old }
-    requires partition { p < length sys.old.machine.parts }
-    requires running { sys.old.machine.halted ≡ false }
-    requires more { sys.old.machine.ticks < 4000000000 }
-    requires cue { IsCue sys.old.machine.system.conf p (cue_value cue.now) }
-    requires own { cue.now.mine ≡ Mine.Mine first }
-    requires empty { lines.old ≡ [] }
-    ensures tick { IsLoneTick result p (cue_value cue.now) sys.old.machine sys.new.machine lines.new }
-    ensures machine { IsMachine sys.new }
-    ensures system { IsOfSystem sys.old.machine sys.new.machine }
-{
-    if takes_turns(sys, p) {
-        turn_in_slot(sys, lines, p, first, cue)
-    } else {
-        rest_in_slot(sys, p, cue)
-    }
-}
-
-/// A tick in which the partition takes its turn: a hypervisor event is that of its own act.
+/// A tick in a slot of the partition's own in which it takes its turn: a hypervisor event is that of its own act.
 pub(crate) fn turn_in_slot(
     sys: &mut Sys,
     lines: &mut Lines,
@@ -110,10 +88,7 @@ pub(crate) fn turn_in_slot(
     first: bool,
     cue: &Cue<'_>,
 ) -> Option<Note>
-    requires machine { IsMachine sys.old }
-    requires partition { p < length sys.old.machine.parts }
-    requires running { sys.old.machine.halted ≡ false }
-    requires more { sys.old.machine.ticks < 4000000000 }
+    requires can { CanTickAlone p sys.old }
     requires cue { IsCue sys.old.machine.system.conf p (cue_value cue.now) }
     requires own { cue.now.mine ≡ Mine.Mine first }
     requires turns { takes_turns (part_at p sys.old.machine).state ≡ true }
@@ -138,11 +113,7 @@ pub(crate) fn turn_in_slot(
 
 /// The end of a tick in which the partition's work reached so far: the hypervisor event of its act, and the clocks.
 pub(crate) fn end_turn(sys: &mut Sys, lines: &mut Lines, p: PartId, reach: Beyond) -> WholeCue
-    requires partition { p < length sys.old.machine.parts }
-    requires time { sys.old.machine.time + 1 < 2 ^ 64 }
-    requires ticks { sys.old.machine.ticks + 1 < 2 ^ 64 }
-    requires frame { IsInFrame sys.old.machine.system.conf sys.old.machine.clock sys.old.machine.time }
-    requires room { length lines.old < 24 }
+    requires can { CanEnd p sys.old lines.old }
     ensures event { whole_value result ≡ event_of (act_beyond reach) }
     ensures state { sys.new ≡ with_machine (tick_past (whole_value result) (event_met p (whole_value result) sys.old.machine)) sys.old }
     ensures lines { lines.new ≡ lines.old ++ event_lines sys.old.machine.ticks (whole_value result) p }
@@ -163,10 +134,7 @@ pub(crate) fn note_if(is: bool, note: Note) -> Option<Note>
 
 // A tick in a slot of a partition that takes no turns.
 fn rest_in_slot(sys: &mut Sys, p: PartId, cue: &Cue<'_>) -> Option<Note>
-    requires machine { IsMachine sys.old }
-    requires partition { p < length sys.old.machine.parts }
-    requires running { sys.old.machine.halted ≡ false }
-    requires more { sys.old.machine.ticks < 4000000000 }
+    requires can { CanTickAlone p sys.old }
     requires cue { IsCue sys.old.machine.system.conf p (cue_value cue.now) }
     requires own { cue.now.mine ≢ Mine.Away }
     requires turns { takes_turns (part_at p sys.old.machine).state ≡ false }
@@ -189,7 +157,7 @@ fn rest_in_slot(sys: &mut Sys, p: PartId, cue: &Cue<'_>) -> Option<Note>
 // An order that another partition gave, where one did.
 fn obey_other(sys: &mut Sys, lines: &mut Lines, p: PartId, order: Option<Order>)
     requires partition { p < length sys.old.machine.parts }
-    requires room { length lines.old < 24 }
+    requires room { length lines.old < most_lines }
     ensures done { IsPartDone p (obeyed (view_of sys.old.machine.system p) order (part_at p sys.old.machine)) (obeyed_told order (part_at p sys.old.machine)) sys.old sys.new lines.old lines.new }
     ensures few { length lines.new ≤ length lines.old + 1 }
 {
@@ -202,7 +170,7 @@ fn obey_other(sys: &mut Sys, lines: &mut Lines, p: PartId, order: Option<Order>)
 // A hypervisor event, as one partition meets it.
 fn meet_event(sys: &mut Sys, lines: &mut Lines, p: PartId, event: WholeCue)
     requires partition { p < length sys.old.machine.parts }
-    requires room { length lines.old < 24 }
+    requires room { length lines.old < most_lines }
     ensures state { sys.new ≡ with_machine (event_met p (whole_value event) sys.old.machine) sys.old }
     ensures lines { lines.new ≡ lines.old ++ event_lines sys.old.machine.ticks (whole_value event) p }
     ensures few { length lines.new ≤ length lines.old + 1 }
@@ -218,7 +186,7 @@ fn meet_event(sys: &mut Sys, lines: &mut Lines, p: PartId, event: WholeCue)
 // A reset of the hypervisor: the partition is reset, and the channels are empty.
 fn meet_reset(sys: &mut Sys, lines: &mut Lines, p: PartId, mode: Mode)
     requires partition { p < length sys.old.machine.parts }
-    requires room { length lines.old < 24 }
+    requires room { length lines.old < most_lines }
     ensures state { sys.new ≡ with_machine (event_met p (AllReset mode) sys.old.machine) sys.old }
     ensures lines { lines.new ≡ lines.old ++ event_lines sys.old.machine.ticks (AllReset mode) p }
     ensures few { length lines.new ≤ length lines.old + 1 }

@@ -13,10 +13,10 @@ ghost use Rattle.system_ticks.specs.CueValues.{sight_value};
 ghost use Rattle.lone_ticks.specs.LoneWork.{IsLoneWork, asked_of, shown_state, shows_this};
 ghost use Rattle.system_ticks.specs.Span.{CanTake};
 
-use crate::work::{LoneWork, is_unseen};
-use hypercalls::{Note, Sys};
+use crate::work::{LoneWork, is_unseen, silent};
+use hypercalls::Sys;
 use machine_model::observes_as_tested;
-use system_ticks::{Beyond, Lines, Sight, call, count_tick, program_counter};
+use system_ticks::{Beyond, Lines, Sight, call_told, count_tick, program_counter};
 use whole_system::CallSite;
 use whole_system::answering::{
     A, B, C, INVALID_PARAMETER, NOT_AVAILABLE, answer, answer_written, argument, is_system,
@@ -69,8 +69,13 @@ fn call_unseeing(
     ensures { IsLoneWork result p None (sight_value seen.entry) (called (record (caller_at p pc (part_at p sys.old.machine).core.pc sys.old) { sight = sight_value seen.entry })) sys.old sys.new lines.new }
 {
     if is_unseen(seen) {
-        let (note, reach) = call(sys, lines, p, pc);
-        Some(LoneWork { note, reach })
+        match call_told(sys, lines, p, pc) {
+            Some(told) => Some(LoneWork {
+                note: told.0,
+                reach: told.1,
+            }),
+            None => silent(Beyond::Nothing),
+        }
     } else {
         None
     }
@@ -86,10 +91,7 @@ fn observe(sys: &mut Sys, site: CallSite, asked: Asked, seen: Sight<'_>) -> Opti
     if shows_this(sys, site, asked, seen) {
         show(sys, site, asked, seen);
         count_tick(sys, site.part);
-        Some(LoneWork {
-            note: Note::Nothing,
-            reach: Beyond::Nothing,
-        })
+        silent(Beyond::Nothing)
     } else {
         None
     }

@@ -33,8 +33,8 @@ pub(crate) struct LoneWork {
     pub(crate) reach: Beyond,
 }
 
-/// Work that reported nothing, with how it reached beyond the partition.
-fn silent(reach: Beyond) -> Option<LoneWork>
+/// Work whose note is none, with how it reached beyond the partition.
+pub(crate) fn silent(reach: Beyond) -> Option<LoneWork>
     ensures { result ≡ Some (record { note = Note.Nothing; reach = reach }) }
 {
     Some(LoneWork {

@@ -8,6 +8,7 @@ use Rattle.whole_system.specs.State.{SysState, with_machine}
 use Rattle.whole_system.specs.declared.served.Note.{Note}
 use Rattle.whole_system.specs.declared.served.Note.TheVariants as note
 use Rattle.whole_system.specs.declared.served.Served as code
+use Rattle.machine_model.specs.ListLemmas.{each_counted as each_length}
 use Rattle.machine_model.specs.Caller.{Acts, Meets, Served, Upshot}
 use Rattle.machine_model.specs.Health.{Worked, quiet, self_ordered}
 use Rattle.machine_model.specs.Hypercalls.{served}
@@ -34,7 +35,7 @@ use Rattle.system_ticks.proofs.MildLemmas.{Mild, served_mild}
 use Rattle.system_ticks.proofs.ServedLemmas.{kept_parts, served_keeps}
 use Rattle.system_ticks.proofs.ReachLemmas.{no_traffic, one_before, plain_act}
 use Rattle.system_ticks.proofs.WorkLemmas.{done_then, put_back, put_there}
-use Rattle.system_ticks.specs.ListLemmas.{at_each_set, each_length, set_each_set}
+use Rattle.system_ticks.specs.ListLemmas.{at_each_set, set_each_set}
 use Rattle.xm_conf.specs.Configuration.{Conf}
 
 -- an interrupt that becomes pending, and a tick that is counted

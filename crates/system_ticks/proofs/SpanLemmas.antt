@@ -8,6 +8,7 @@ use Rattle.whole_system.specs.State.{SysState, memory_of, with_machine}
 use Rattle.whole_system.specs.declared.served.Note.{Note}
 use Rattle.whole_system.specs.declared.served.Note.TheVariants as note
 use Rattle.xm_report.specs.Report.{ReportLine}
+use Rattle.machine_model.specs.ListLemmas.{each_counted as each_length}
 use Rattle.machine_model.specs.Facts.{AreEnds, IsAsMany, RunsKeepNumbers}
 use Rattle.machine_model.specs.Health.{Worked}
 use Rattle.machine_model.specs.Lines.{lines}
@@ -32,7 +33,7 @@ use Rattle.system_ticks.specs.declared.beyond.Beyond.{Beyond}
 use Rattle.system_ticks.specs.declared.beyond.Beyond.TheVariants as beyond
 use Rattle.system_ticks.specs.declared.slot.Span.{Span}
 use Rattle.system_ticks.proofs.KeepingLemmas.{calm_kept}
-use Rattle.system_ticks.specs.ListLemmas.{each_at, each_length}
+use Rattle.system_ticks.specs.ListLemmas.{each_at}
 use Rattle.system_ticks.proofs.QuietLemmas.{calm_goes, earlier_bound}
 use Rattle.system_ticks.proofs.WorkLemmas.{put_there}
 

@@ -28,7 +28,7 @@ use Rattle.slot_runs.specs.Undisturbed.{IsUndisturbed, NoneFallsDue, Undisturbed
 use Rattle.system_ticks.specs.Span.{AreDoneFrom, HasTurned, HasMetInterrupts, counted_on}
 use Rattle.system_ticks.specs.declared.beyond.Beyond.TheVariants as beyond
 use Rattle.system_ticks.specs.declared.slot.Span.{Span}
-use Rattle.system_ticks.proofs.InstructionLemmas.{call_goes_on}
+use Rattle.system_ticks.specs.GoesOnLemmas.{call_goes_on}
 use Rattle.system_ticks.proofs.QuietLemmas.{earlier_bound, earlier_gone}
 use Rattle.system_ticks.proofs.SpanLemmas.{AreCalm, quiet_span, slot_done}
 use Rattle.system_ticks.proofs.WorkLemmas.{put_there}

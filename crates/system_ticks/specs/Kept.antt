@@ -4,7 +4,7 @@ use Rattle.guest_bus.specs.Memory.{Memory, bytes_at}
 use Rattle.xm_conf.specs.Configuration.{Conf}
 use Rattle.machine_model.specs.Cue.{Cue, cue, slot_of, unless_own}
 use Rattle.machine_model.specs.Machine.{Happened, Machine, SlotTurn, happened, is_turn_of, order_for, sight, step, turn_of}
-use Rattle.machine_model.specs.Told.{Directed, NoEvent, NotKept, Sight, Unseen, WholeEvent, Words, reach_of}
+use Rattle.machine_model.specs.Told.{Act, Directed, NoEvent, NotKept, Sight, Unseen, WholeEvent, Words, reach_of}
 use Rattle.machine_model.specs.Traffic.{Puts, Signals, Still, Takes, Traffic, heard_as}
 use Rattle.machine_model.specs.Whole.{event_of}
 use Rattle.whole_system.specs.Serving.{sight_by, traffic_by}
@@ -51,16 +51,14 @@ abbrev pub slot_partition : Option SlotTurn → ℕ
 slot_partition None = 0
 slot_partition (Some turn) = turn.part
 
+-- what is kept of a tick with this act, this traffic in the system, and this shown to the slot's partition
+abbrev pub kept_from : Option SlotTurn → Bool → Act → Traffic → Sight → KeptTick
+kept_from turn worked act traffic seen =
+    record { turn = turn; worked = worked; traffic = traffic; order = (reach_of act).directed; event = event_of act; seen = seen }
+
 -- what is kept of a tick by its slot, whether a partition worked, what its call noted and how it reached beyond, over the memory that the tick leaves
 abbrev pub kept_by : Option SlotTurn → Bool → Note → Beyond → Memory → KeptTick
-kept_by turn worked a_note reach memory = record {
-  turn = turn;
-  worked = worked;
-  traffic = traffic_by (slot_partition turn) a_note memory;
-  order = (reach_of (act_beyond reach)).directed;
-  event = event_of (act_beyond reach);
-  seen = sight_by a_note memory;
-}
+kept_by turn worked a_note reach memory = kept_from turn worked (act_beyond reach) (traffic_by (slot_partition turn) a_note memory) (sight_by a_note memory)
 
 -- the bytes that a note names, of a message or of what was shown
 abbrev pub bytes_noted : Note → Memory → List ℕ
@@ -97,14 +95,7 @@ sight_with (note.Signal number) bytes = Unseen
 
 -- what is kept of a tick, with the bytes that its note named
 abbrev pub kept_with : Option SlotTurn → Bool → Note → Beyond → List ℕ → KeptTick
-kept_with turn worked a_note reach bytes = record {
-  turn = turn;
-  worked = worked;
-  traffic = traffic_with (slot_partition turn) a_note bytes;
-  order = (reach_of (act_beyond reach)).directed;
-  event = event_of (act_beyond reach);
-  seen = sight_with a_note bytes;
-}
+kept_with turn worked a_note reach bytes = kept_from turn worked (act_beyond reach) (traffic_with (slot_partition turn) a_note bytes) (sight_with a_note bytes)
 
 -- what partition p was told in a tick of which this is kept: the traffic of others under its own names, an order on it, the hypervisor
 -- event, and what it was shown in its slot

@@ -16,6 +16,7 @@ use Rattle.xm_conf.specs.Fits.{Fits}
 use Rattle.xm_ports.specs.Channels.{cleared, shapes_of}
 use Rattle.xm_ports.specs.Ports.{no_ports}
 use Rattle.whole_system.specs.State.{SysState, part_at, with_machine, with_part}
+use Rattle.machine_model.specs.ListLemmas.{get_each, each_counted as each_length}
 use Rattle.machine_model.specs.Facts.{AreEnds, AreFacts, BootsClocked, BootsComplete, BootsTimed, BootsWithFacts, HasFacts, IsAsMany, IsClocked, IsComplete, IsTimed, KeepsClocked, KeepsFacts, KeepsNumbers, KeepsTimed, begun}
 use Rattle.machine_model.specs.Machine.{Machine, after, booted_part, happened, is_halt, run, start, step, step_unless}
 use Rattle.machine_model.specs.Partition.{PartitionState, is_halted, reset}
@@ -24,7 +25,6 @@ use Rattle.machine_model.specs.View.{PartitionView, System, view_of}
 use Rattle.machine_model.specs.Whole.{AllHalted, AllReset, NoEvent, WholeEvent, ticks_after}
 use Rattle.slot_runs.specs.Passes.{evented}
 use Rattle.system_ticks.specs.Machine.{IsMachine}
-use Rattle.system_ticks.specs.ListLemmas.{each_length, get_each}
 
 -- what a hypervisor event counts
 event_most : (e : WholeEvent) (n : ℕ) → ticks_after e n ≤ n + 1

@@ -1,4 +1,5 @@
 pub mod CueValues
+pub mod GoesOnLemmas
 pub mod Kept
 pub mod KeptLemmas
 pub mod ListLemmas

@@ -2,18 +2,6 @@
 use Rattle.std.proofs.Common.{◌≡◌, ◌≢◌, ℕ, zero, suc, ◌<◌, List, [], ◌∷◌, ◌++◌, length, set, get_or, refl, ap, arith}
 use Rattle.std.specs.Prelude.{slice_get, slice_index_or, slice_set}
 use Rattle.machine_model.specs.Lists.{all_of, each}
-use Rattle.xm_base.specs.Options.{on}
-
--- a change of all keeps their number
-pub each_length : {X Y : Type 0} (f : ℕ → X → Y) (xs : List X) → length (each f xs) ≡ length xs
-each_length f [] = refl
-each_length f (x ∷ xs) = ap suc (each_length (λ k. f (suc k)) xs)
-
--- an element of what is changed
-pub get_each : {X Y : Type 0} (f : ℕ → X → Y) (xs : List X) (p : ℕ) → slice_get (each f xs) p ≡ on (f p) (slice_get xs p)
-get_each f [] p = refl
-get_each f (x ∷ xs) zero = refl
-get_each f (x ∷ xs) (suc p) = get_each (λ k. f (suc k)) xs p
 
 -- what the change of an element leaves of it
 pub each_at : {X Y : Type 0} (part : X → Y) (f : ℕ → X → X) (xs : List X) (p : ℕ) (other : X) → ((x : X) → part (f p x) ≡ part x)

@@ -92,7 +92,7 @@ trace_told (note.Saw at size) = []
 trace_told note.NotKept = []
 trace_told (note.Signal number) = []
 
--- the note of a call, and how it reaches beyond its partition, where none is told that reports nothing and does not
+-- the note of a call, and how it reaches beyond its partition: a call that notes nothing and reaches beyond no partition answers no such pair
 abbrev pub note_in : Option (Note × Beyond) → Note
 note_in None = note.Nothing
 note_in (Some told) = told.0

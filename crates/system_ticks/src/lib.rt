@@ -23,4 +23,4 @@ pub use order::{obey, reset, reset_move};
 pub use place::{Place, later};
 pub use rest::rest_one;
 pub use slot::{Span, goes_on, interrupt, meet, takes_turns, wake};
-pub use work::{call, count_tick, meet_trap, take_interrupt};
+pub use work::{call_told, count_tick, meet_trap, take_interrupt};

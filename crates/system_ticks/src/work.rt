@@ -64,38 +64,10 @@ pub fn count_tick(sys: &mut Sys, p: PartId)
     sys.part_mut(p).clocks.pass();
 }
 
-/// An instruction of a partition, at this program counter, called. What the call tells of its own, and how it reaches beyond the partition.
-pub fn call(sys: &mut Sys, lines: &mut Lines, p: PartId, pc: u32) -> (Note, Beyond)
-    requires partition { p < length sys.old.machine.parts }
-    requires pc { pc % 4 ≡ 0 }
-    requires next { (part_at p sys.old.machine).core.npc ≡ ((part_at p sys.old.machine).core.pc + 4) % 2 ^ 32 }
-    requires traces { (part_at p sys.old.machine).traces.next < 4294967295 }
-    requires shapes { sys.old.shapes ≡ shapes_of sys.old.machine.system.conf }
-    requires made { AreEnds (view_of sys.old.machine.system p) (part_at p sys.old.machine).made }
-    requires frame { IsInFrame sys.old.machine.system.conf sys.old.machine.clock sys.old.machine.time }
-    requires asked { AsksPlan sys.old.machine.system.conf sys.old.machine.clock }
-    requires clock { (part_at p sys.old.machine).clocks.execution < 2 ^ 63 }
-    requires log { (part_at p sys.old.machine).health.next < 4294967294 }
-    requires empty { lines.old ≡ [] }
-    ensures worked { IsTickWorked p (called (caller_at p pc (part_at p sys.old.machine).core.pc sys.old)) result.0 result.1 sys.old sys.new lines.new }
-    ensures alone { TellsAlone result.0 result.1 }
-    ensures noted { IsToldBy p (caller_at p pc (part_at p sys.old.machine).core.pc sys.old).sight (called (caller_at p pc (part_at p sys.old.machine).core.pc sys.old)) result.0 sys.old }
-    ensures few { length lines.new ≤ 4 }
-{
-    match call_told(sys, lines, p, pc) {
-        Some(told) => told,
-        None => (Note::Nothing, Beyond::Nothing),
-    }
-}
-
-/// The same, and none where the call reports nothing and reaches beyond no partition, as most do.
+/// An instruction of a partition, at this program counter, called. The call's note, and how it reaches beyond the partition; none where it
+/// notes nothing and reaches beyond no partition, as most do.
 #[inline(always)]
-pub(crate) fn call_told(
-    sys: &mut Sys,
-    lines: &mut Lines,
-    p: PartId,
-    pc: u32,
-) -> Option<(Note, Beyond)>
+pub fn call_told(sys: &mut Sys, lines: &mut Lines, p: PartId, pc: u32) -> Option<(Note, Beyond)>
     requires partition { p < length sys.old.machine.parts }
     requires pc { pc % 4 ≡ 0 }
     requires next { (part_at p sys.old.machine).core.npc ≡ ((part_at p sys.old.machine).core.pc + 4) % 2 ^ 32 }
@@ -122,7 +94,7 @@ pub(crate) fn call_told(
     Some((served.note, reach))
 }
 
-// Whether a call reported nothing, and asks for nothing.
+// Whether a call notes nothing, and asks for nothing.
 #[inline(always)]
 fn is_quiet(note: Note, act: Act) -> bool
     ensures note { OnTrue result (note ≡ Note.Nothing) }

@@ -175,7 +175,7 @@ pub(crate) fn end_parts<O: Sink>(sys: &Sys, out: &mut O) -> Result<u64, WriteFau
     Ok(u64::from(p))
 }
 
-// The line that answers how a partition stands at the end.
+// The line of the state in which a partition is at the end.
 fn end_line(sys: &Sys, p: PartId) -> Line<'static>
     requires { p < length sys.now.machine.parts }
     ensures { line_value result ≡ end_line p (part_at p sys.now.machine) }

@@ -9,7 +9,7 @@ pub returns-then-is_same_event-clause-tick : goal.returns-then-is_same_event-cla
 returns-then-is_same_event-clause-tick c =
     let own = own_slot c.args.cue.now.mine c.requires.own in
     rest_done c.resting_ticks_alone.ensures.law c.takes_cues.ensures.resting c.passes_keep.ensures.law c.args.p own.0 (cue_value c.args.cue.now) c.args.sys.now c.rest_and_pass.new.sys
-    c.requires.partition c.requires.running own.1 c.requires.cue.alone (sym c.is_unseen.ensures ∙ c.if-is_unseen.true) (sym c.is_same_event.ensures ∙ c.if-is_same_event.true) c.requires.turns c.rest_and_pass.ensures
+    c.requires.can.partition c.requires.can.running own.1 c.requires.cue.alone (sym c.is_unseen.ensures ∙ c.if-is_unseen.true) (sym c.is_same_event.ensures ∙ c.if-is_same_event.true) c.requires.turns c.rest_and_pass.ensures
 
 pub returns-then-is_same_event-clause-machine : goal.returns-then-is_same_event-clause-machine
 returns-then-is_same_event-clause-machine c =
@@ -17,7 +17,7 @@ returns-then-is_same_event-clause-machine c =
     let g = c.args.sys.now.machine in
     let quiet = sym c.is_same_event.ensures ∙ c.if-is_same_event.true in
     machine_kept c.keeps_facts_alone.ensures.law c.args.p (cue_value c.args.cue.now) NoEvent c.args.sys.now c.rest_and_pass.new.sys (tick_past NoEvent (rested_in c.args.p g))
-    c.requires.machine c.requires.partition c.requires.running c.requires.more (c.passes_keep.ensures.law.resting g c.args.p c.requires.running c.requires.partition)
-    (rest_part c.resting_ticks_alone.ensures.law g c.args.p own.0 (cue_value c.args.cue.now) c.requires.partition own.1 c.requires.cue.alone quiet c.requires.turns)
+    c.requires.can.machine c.requires.can.partition c.requires.can.running c.requires.can.more (c.passes_keep.ensures.law.resting g c.args.p c.requires.can.running c.requires.can.partition)
+    (rest_part c.resting_ticks_alone.ensures.law g c.args.p own.0 (cue_value c.args.cue.now) c.requires.can.partition own.1 c.requires.cue.alone quiet c.requires.turns)
     (its_own c.args.p g (cue_value c.args.cue.now) own.0 own.1 c.requires.cue.alone quiet c.requires.turns)
     c.rest_and_pass.ensures

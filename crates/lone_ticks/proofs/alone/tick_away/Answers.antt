@@ -5,23 +5,23 @@ use Rattle.lone_ticks.proofs.LoneLemmas.{away_done, away_state, away_told, calle
 use Rattle.lone_ticks.proofs.alone.tick_away.Goals as goal
 
 pub obey_other-requires-clause-partition : goal.obey_other-requires-clause-partition
-obey_other-requires-clause-partition c = heard_below _ c.args.p _ c.args.sys.now c.hear.new.sys c.requires.partition c.hear.ensures.heard
+obey_other-requires-clause-partition c = heard_below _ c.args.p _ c.args.sys.now c.hear.new.sys c.requires.can.partition c.hear.ensures.heard
 
 pub meet_event-requires-clause-partition : goal.meet_event-requires-clause-partition
 meet_event-requires-clause-partition c =
-    put_below c.args.p _ c.hear.new.sys c.obey_other.new.sys (heard_below _ c.args.p _ c.args.sys.now c.hear.new.sys c.requires.partition c.hear.ensures.heard) c.obey_other.ensures.done.state
+    put_below c.args.p _ c.hear.new.sys c.obey_other.new.sys (heard_below _ c.args.p _ c.args.sys.now c.hear.new.sys c.requires.can.partition c.hear.ensures.heard) c.obey_other.ensures.done.state
 
 pub rest_and_pass-requires-clause-partition : goal.rest_and_pass-requires-clause-partition
 rest_and_pass-requires-clause-partition c =
     met_below c.args.p _ c.obey_other.new.sys c.meet_event.new.sys
-    (put_below c.args.p _ c.hear.new.sys c.obey_other.new.sys (heard_below _ c.args.p _ c.args.sys.now c.hear.new.sys c.requires.partition c.hear.ensures.heard) c.obey_other.ensures.done.state)
+    (put_below c.args.p _ c.hear.new.sys c.obey_other.new.sys (heard_below _ c.args.p _ c.args.sys.now c.hear.new.sys c.requires.can.partition c.hear.ensures.heard) c.obey_other.ensures.done.state)
     c.meet_event.ensures.state
 
 pub returns-then-hear-clause-tick : goal.returns-then-hear-clause-tick
 returns-then-hear-clause-tick c =
     let cue = cue_value c.args.cue.now in
     let heard = heard_so c.hear.result c.args.p cue.traffic c.args.sys.now c.hear.new.sys c.if-hear.true c.hear.ensures.heard in
-    away_done c.away_ticks.ensures.law c.takes_cues.ensures.away c.passes_keep.ensures.law c.args.p cue c.args.sys.now c.rest_and_pass.new.sys c.meet_event.new.lines c.requires.partition c.requires.running
+    away_done c.away_ticks.ensures.law c.takes_cues.ensures.away c.passes_keep.ensures.law c.args.p cue c.args.sys.now c.rest_and_pass.new.sys c.meet_event.new.lines c.requires.can.partition c.requires.can.running
     (ap slot_value c.requires.away) (unseen_away _ _ _ (ap slot_value c.requires.away) c.requires.cue.seen) c.requires.cue.traffic (sym c.hear.ensures.taken ∙ c.if-hear.true)
     (away_state c.args.p cue c.args.sys.now c.hear.new.sys c.obey_other.new.sys c.meet_event.new.sys c.rest_and_pass.new.sys heard c.obey_other.ensures.done.state c.meet_event.ensures.state c.rest_and_pass.ensures)
     (away_told c.args.p cue c.args.sys.now c.hear.new.sys c.obey_other.new.sys c.args.lines.now c.obey_other.new.lines c.meet_event.new.lines c.requires.empty heard c.obey_other.ensures.done.state c.obey_other.ensures.done.lines c.meet_event.ensures.lines)
@@ -32,9 +32,9 @@ returns-then-hear-clause-machine c =
     let cue = cue_value c.args.cue.now in
     let heard = heard_so c.hear.result c.args.p cue.traffic c.args.sys.now c.hear.new.sys c.if-hear.true c.hear.ensures.heard in
     let g = c.args.sys.now.machine in
-    machine_kept c.keeps_facts_alone.ensures.law c.args.p cue cue.whole c.args.sys.now c.rest_and_pass.new.sys (away_passed c.args.p cue g) c.requires.machine c.requires.partition c.requires.running c.requires.more
-    (c.passes_keep.ensures.law.away g c.args.p cue c.requires.running c.requires.partition)
-    (c.away_ticks.ensures.law g c.args.p cue c.requires.partition (ap slot_value c.requires.away) (called_by g.system.conf c.args.p cue.traffic c.requires.cue.traffic)).part
+    machine_kept c.keeps_facts_alone.ensures.law c.args.p cue cue.whole c.args.sys.now c.rest_and_pass.new.sys (away_passed c.args.p cue g) c.requires.can.machine c.requires.can.partition c.requires.can.running c.requires.can.more
+    (c.passes_keep.ensures.law.away g c.args.p cue c.requires.can.running c.requires.can.partition)
+    (c.away_ticks.ensures.law g c.args.p cue c.requires.can.partition (ap slot_value c.requires.away) (called_by g.system.conf c.args.p cue.traffic c.requires.cue.traffic)).part
     (its_away _ _ cue _ (ap slot_value c.requires.away))
     (away_state c.args.p cue c.args.sys.now c.hear.new.sys c.obey_other.new.sys c.meet_event.new.sys c.rest_and_pass.new.sys heard c.obey_other.ensures.done.state c.meet_event.ensures.state c.rest_and_pass.ensures)
 
@@ -43,5 +43,5 @@ returns-then-hear-clause-system c =
     let cue = cue_value c.args.cue.now in
     let heard = heard_so c.hear.result c.args.p cue.traffic c.args.sys.now c.hear.new.sys c.if-hear.true c.hear.ensures.heard in
     let g = c.args.sys.now.machine in
-    of_system c.args.p cue.whole c.args.sys.now c.rest_and_pass.new.sys (away_passed c.args.p cue g) (c.passes_keep.ensures.law.away g c.args.p cue c.requires.running c.requires.partition)
+    of_system c.args.p cue.whole c.args.sys.now c.rest_and_pass.new.sys (away_passed c.args.p cue g) (c.passes_keep.ensures.law.away g c.args.p cue c.requires.can.running c.requires.can.partition)
     (away_state c.args.p cue c.args.sys.now c.hear.new.sys c.obey_other.new.sys c.meet_event.new.sys c.rest_and_pass.new.sys heard c.obey_other.ensures.done.state c.meet_event.ensures.state c.rest_and_pass.ensures)

@@ -1,35 +1,24 @@
 use Rattle.std.proofs.Common.{arith, refl, sym, ◌∙◌}
 use Rattle.system_ticks.specs.CueValues.{cue_value, whole_value}
-use Rattle.lone_ticks.proofs.LoneTurnLemmas.{can_end, can_take, few_room, is_turn, not_seen, turn_machine, turn_noted, turn_system, undone_machine, undone_system}
+use Rattle.lone_ticks.proofs.SpanEndLemmas.{work_can_end}
+use Rattle.lone_ticks.proofs.LoneTurnLemmas.{can_take, few_room, is_turn, not_seen, turn_machine, turn_noted, turn_system, undone_machine, undone_system}
 use Rattle.lone_ticks.proofs.alone.turn_in_slot.Goals as goal
 
 pub work_alone-requires-clause-take : goal.work_alone-requires-clause-take
-work_alone-requires-clause-take c = can_take c.args.p c.args.sys.now c.requires.machine c.requires.partition c.requires.running c.requires.more
+work_alone-requires-clause-take c = can_take c.args.p c.args.sys.now c.requires.can.machine c.requires.can.partition c.requires.can.running c.requires.can.more
 
-pub end_turn-event-requires-clause-partition : goal.end_turn-event-requires-clause-partition
-end_turn-event-requires-clause-partition c =
-    (can_end c.args.p _ c.in-Some.work c.args.sys.now c.work_alone.new.sys c.work_alone.new.lines c.requires.machine c.requires.partition c.requires.more (rw c.in-Some.is at c.work_alone.ensures).1).partition
-
-pub end_turn-event-requires-clause-time : goal.end_turn-event-requires-clause-time
-end_turn-event-requires-clause-time c =
-    (can_end c.args.p _ c.in-Some.work c.args.sys.now c.work_alone.new.sys c.work_alone.new.lines c.requires.machine c.requires.partition c.requires.more (rw c.in-Some.is at c.work_alone.ensures).1).time
-
-pub end_turn-event-requires-clause-ticks : goal.end_turn-event-requires-clause-ticks
-end_turn-event-requires-clause-ticks c =
-    (can_end c.args.p _ c.in-Some.work c.args.sys.now c.work_alone.new.sys c.work_alone.new.lines c.requires.machine c.requires.partition c.requires.more (rw c.in-Some.is at c.work_alone.ensures).1).ticks
-
-pub end_turn-event-requires-clause-frame : goal.end_turn-event-requires-clause-frame
-end_turn-event-requires-clause-frame c =
-    (can_end c.args.p _ c.in-Some.work c.args.sys.now c.work_alone.new.sys c.work_alone.new.lines c.requires.machine c.requires.partition c.requires.more (rw c.in-Some.is at c.work_alone.ensures).1).frame
-
-pub end_turn-event-requires-clause-room : goal.end_turn-event-requires-clause-room
-end_turn-event-requires-clause-room c = few_room _ _ _ _ _ (rw c.in-Some.is at c.work_alone.ensures).1
+pub end_turn-event-requires : goal.end_turn-event-requires
+end_turn-event-requires c =
+    record {
+      can = work_can_end c.args.p _ c.in-Some.work c.args.sys.now c.work_alone.new.sys c.work_alone.new.lines
+          (can_take c.args.p c.args.sys.now c.requires.can.machine c.requires.can.partition c.requires.can.running c.requires.can.more) (rw c.in-Some.is at c.work_alone.ensures).1;
+    }
 
 pub returns-in-Some-clause-tick : goal.returns-in-Some-clause-tick
 returns-in-Some-clause-tick c =
     turn_noted c.working_ticks.ensures.law c.takes_cues.ensures.working c.passes_keep.ensures.law c.acts_within_bounds.ensures.law c.keeps_facts_alone.ensures.law
     c.args.p c.args.first (cue_value c.args.cue.now) c.in-Some.work (whole_value c.end_turn-event.result) c.args.sys.now c.work_alone.new.sys c.end_turn-event.new.sys c.work_alone.new.lines c.end_turn-event.new.lines
-    (is_turn c.args.p c.args.first c.args.cue.now c.args.sys.now c.requires.machine c.requires.partition c.requires.running c.requires.more c.requires.own c.requires.cue c.requires.turns)
+    (is_turn c.args.p c.args.first c.args.cue.now c.args.sys.now c.requires.can.machine c.requires.can.partition c.requires.can.running c.requires.can.more c.requires.own c.requires.cue c.requires.turns)
     (rw c.in-Some.is at c.work_alone.ensures).0 (rw c.in-Some.is at c.work_alone.ensures).1
     c.end_turn-event.ensures.event c.end_turn-event.ensures.state c.end_turn-event.ensures.lines c.note_if.result c.is_same_event.result c.is_same_event.ensures c.note_if.ensures
     (omega (arith, few_room _ _ _ _ _ (rw c.in-Some.is at c.work_alone.ensures).1, c.end_turn-event.ensures.few))
@@ -38,7 +27,7 @@ pub returns-in-Some-clause-machine : goal.returns-in-Some-clause-machine
 returns-in-Some-clause-machine c =
     turn_machine c.working_ticks.ensures.law c.takes_cues.ensures.working c.passes_keep.ensures.law c.acts_within_bounds.ensures.law c.keeps_facts_alone.ensures.law
     c.args.p c.args.first (cue_value c.args.cue.now) c.in-Some.work (whole_value c.end_turn-event.result) c.args.sys.now c.work_alone.new.sys c.end_turn-event.new.sys c.work_alone.new.lines c.end_turn-event.new.lines
-    (is_turn c.args.p c.args.first c.args.cue.now c.args.sys.now c.requires.machine c.requires.partition c.requires.running c.requires.more c.requires.own c.requires.cue c.requires.turns)
+    (is_turn c.args.p c.args.first c.args.cue.now c.args.sys.now c.requires.can.machine c.requires.can.partition c.requires.can.running c.requires.can.more c.requires.own c.requires.cue c.requires.turns)
     (rw c.in-Some.is at c.work_alone.ensures).0 (rw c.in-Some.is at c.work_alone.ensures).1
     c.end_turn-event.ensures.event c.end_turn-event.ensures.state c.end_turn-event.ensures.lines
 
@@ -46,18 +35,18 @@ pub returns-in-Some-clause-system : goal.returns-in-Some-clause-system
 returns-in-Some-clause-system c =
     turn_system c.working_ticks.ensures.law c.takes_cues.ensures.working c.passes_keep.ensures.law c.acts_within_bounds.ensures.law c.keeps_facts_alone.ensures.law
     c.args.p c.args.first (cue_value c.args.cue.now) c.in-Some.work (whole_value c.end_turn-event.result) c.args.sys.now c.work_alone.new.sys c.end_turn-event.new.sys c.work_alone.new.lines c.end_turn-event.new.lines
-    (is_turn c.args.p c.args.first c.args.cue.now c.args.sys.now c.requires.machine c.requires.partition c.requires.running c.requires.more c.requires.own c.requires.cue c.requires.turns)
+    (is_turn c.args.p c.args.first c.args.cue.now c.args.sys.now c.requires.can.machine c.requires.can.partition c.requires.can.running c.requires.can.more c.requires.own c.requires.cue c.requires.turns)
     (rw c.in-Some.is at c.work_alone.ensures).0 (rw c.in-Some.is at c.work_alone.ensures).1
     c.end_turn-event.ensures.event c.end_turn-event.ensures.state c.end_turn-event.ensures.lines
 
 pub returns-in-None-clause-tick : goal.returns-in-None-clause-tick
 returns-in-None-clause-tick c =
     not_seen c.takes_cues.ensures.working c.acts_within_bounds.ensures.law c.args.p c.args.first (cue_value c.args.cue.now) c.args.sys.now
-    (is_turn c.args.p c.args.first c.args.cue.now c.args.sys.now c.requires.machine c.requires.partition c.requires.running c.requires.more c.requires.own c.requires.cue c.requires.turns)
+    (is_turn c.args.p c.args.first c.args.cue.now c.args.sys.now c.requires.can.machine c.requires.can.partition c.requires.can.running c.requires.can.more c.requires.own c.requires.cue c.requires.turns)
     (rw c.in-None.is at c.work_alone.ensures).0
 
 pub returns-in-None-clause-machine : goal.returns-in-None-clause-machine
-returns-in-None-clause-machine c = undone_machine c.args.p c.args.sys.now c.work_alone.new.sys c.requires.machine c.requires.partition (rw c.in-None.is at c.work_alone.ensures).1
+returns-in-None-clause-machine c = undone_machine c.args.p c.args.sys.now c.work_alone.new.sys c.requires.can.machine c.requires.can.partition (rw c.in-None.is at c.work_alone.ensures).1
 
 pub returns-in-None-clause-system : goal.returns-in-None-clause-system
 returns-in-None-clause-system c = undone_system c.args.p c.args.sys.now c.work_alone.new.sys (rw c.in-None.is at c.work_alone.ensures).1

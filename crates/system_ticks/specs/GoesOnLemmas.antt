@@ -18,27 +18,27 @@ unfolding advanced
 advanced_goes_on core before after pc npc is = (ap (λ (r : Registers). r.pc) is ∙ npc, ap (λ (r : Registers). r.npc) is ∙ ap (λ n. (n + 4) % 2 ^ 32) npc)
 
 -- a spill and a fill leave the program counters
-abbrev Stands : Registers → Moved → Type 0
-Stands core moved = (moved.core.pc ≡ core.pc) × (moved.core.npc ≡ core.npc)
+abbrev KeepsCounters : Registers → Moved → Type 0
+KeepsCounters core moved = (moved.core.pc ≡ core.pc) × (moved.core.npc ≡ core.npc)
 
-spilled_stands : (areas : List Area) (core : Registers) (memory : Memory) → Stands core (spilled areas core memory)
+spilled_stands : (areas : List Area) (core : Registers) (memory : Memory) → KeepsCounters core (spilled areas core memory)
 unfolding spilled
 spilled_stands areas core memory = at (is_usable (is_writable areas) (spill_address core)) _
   where
-    at : (usable : Bool) (new : Memory) → Stands core (if usable then move_made (record core { inv = spill_window core }) new else move_refused core memory)
+    at : (usable : Bool) (new : Memory) → KeepsCounters core (if usable then move_made (record core { inv = spill_window core }) new else move_refused core memory)
     at true new = (refl, refl)
     at false new = (refl, refl)
 
-filled_stands : (areas : List Area) (core : Registers) (memory : Memory) → Stands core (filled areas core memory)
+filled_stands : (areas : List Area) (core : Registers) (memory : Memory) → KeepsCounters core (filled areas core memory)
 unfolding filled
 filled_stands areas core memory = at (is_usable (is_readable areas) (fill_address core)) _
   where
-    at : (usable : Bool) (windows : List ℕ) → Stands core (if usable then move_made (record core { windows = windows; inv = (core.inv + 1) % 8 }) memory else move_refused core memory)
+    at : (usable : Bool) (windows : List ℕ) → KeepsCounters core (if usable then move_made (record core { windows = windows; inv = (core.inv + 1) % 8 }) memory else move_refused core memory)
     at true windows = (refl, refl)
     at false windows = (refl, refl)
 
 -- where it goes on after a spill or a fill
-again_goes_on : (type : ℕ) (areas : List Area) (core : Registers) (moved : Moved) → Stands core moved → (made_again type areas moved).turn ≡ Call
+again_goes_on : (type : ℕ) (areas : List Area) (core : Registers) (moved : Moved) → KeepsCounters core moved → (made_again type areas moved).turn ≡ Call
     → GoesOn core (made_again type areas moved).core
 unfolding made_again
 again_goes_on type areas core moved stands calls = at moved.answer calls
