@@ -17,6 +17,7 @@ use Rattle.xm_conf.specs.declared.health.Action.{Action}
 use Rattle.xm_conf.specs.declared.health.Action.TheVariants as action
 use Rattle.xm_conf.specs.declared.health.Event.{Event}
 use Rattle.xm_ports.specs.Channels.{Content}
+use Rattle.machine_model.specs.TickLemmas.{step_halted, step_runs}
 use Rattle.machine_model.specs.Facts.{BootsClocked, IsClocked, KeepsClocked, RunsClocked}
 use Rattle.machine_model.specs.Machine.{Machine, SlotTurn, act_of, after, clock_after, copies, happened, happened_by, local, local_in, local_of, next_clock, run, sight_of_state, start, step, taken_by, turn_of}
 use Rattle.machine_model.specs.OwnActs.{IsWithinOwn}
@@ -27,7 +28,6 @@ use Rattle.machine_model.specs.View.{System, no_part, part_of, view_of}
 use Rattle.machine_model.specs.Whole.{event_of, time_after}
 use Rattle.machine_model.proofs.WithinLemmas.{local_within}
 use Rattle.machine_model.proofs.RunLemmas.{step_system}
-use Rattle.machine_model.proofs.StepLemmas.{step_halted, step_runs}
 
 -- an act of a tick asks for a plan that there is, and starts maintenance where plan 1 is there
 abbrev FitsPlans : Conf → Act → Type 0

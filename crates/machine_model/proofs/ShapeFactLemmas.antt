@@ -20,6 +20,7 @@ use Rattle.xm_conf.specs.declared.port.Kind.{Kind}
 use Rattle.xm_conf.specs.declared.port.Port.{Port}
 use Rattle.xm_conf.specs.declared.port.Way.TheVariants as way
 use Rattle.xm_ports.specs.Channels.{Content, IsMessage, IsQueue, Queuing, Sampling, Shape, Suits, SuitsKind, cleared, empty, empty_of, first_message, put, shape_of, shapes_of, first_taken}
+use Rattle.machine_model.specs.TickLemmas.{step_halted, step_runs}
 use Rattle.machine_model.specs.Allowed.{TakesMore}
 use Rattle.machine_model.specs.EndLemmas.{all_at, any_end, end_is, found_from, IsItsChannel, its_channel_is, part_port, table_some, view_channel}
 use Rattle.machine_model.specs.Facts.{BootsWithShapes, HasShapes, KeepsShapes, PortsHaveKinds, RunsWithShapes}
@@ -36,7 +37,6 @@ use Rattle.machine_model.proofs.WithinLemmas.{are_names, local_within, named_so}
 use Rattle.machine_model.specs.ListLemmas.{each_counted, get_each, get_map}
 use Rattle.machine_model.specs.NameLemmas.{has_name_named}
 use Rattle.machine_model.proofs.RunLemmas.{step_system}
-use Rattle.machine_model.proofs.StepLemmas.{step_halted, step_runs}
 use Rattle.machine_model.proofs.TrafficLemmas.{same_channel, view_has}
 
 -- a content without messages suits its shape

@@ -5,11 +5,12 @@ use Rattle.std.proofs.lemmas.Bool.{eqb-true}
 use Rattle.std.proofs.lemmas.Option.{same_Some}
 use Rattle.xm_base.specs.Options.{on}
 use Rattle.xm_ports.specs.Channels.{Content}
+use Rattle.machine_model.specs.TickLemmas.{step_runs}
 use Rattle.machine_model.specs.Alone.{Alone, alone_after, alone_local, alone_local_in, alone_step, alone_traffic}
 use Rattle.machine_model.specs.Cue.{Away, Mine, cue, cue_in, slot_of, unless_own}
 use Rattle.machine_model.specs.Laws.{part, alone_part_at}
 use Rattle.machine_model.specs.LocalTick.{LocalTick, bounded, local_tick, worked}
-use Rattle.machine_model.specs.Machine.{Machine, SlotTurn, act_of, after, after_tick, channel_after, copies, happened, happened_by, if_its_turn, is_turn_of, local, local_in, local_of, order_upon, part_after, sight, sight_in, sight_of_state, step, step_unless, system_traffic, taken_by, tick_of, turn_of, worked_in}
+use Rattle.machine_model.specs.Machine.{Machine, SlotTurn, act_of, after, after_tick, channel_after, copies, happened, happened_by, if_its_turn, is_turn_of, local, local_in, local_of, order_upon, part_after, sight, sight_in, sight_of_state, step, system_traffic, taken_by, tick_of, turn_of, worked_in}
 use Rattle.machine_model.specs.Partition.{PartitionState, takes_turns}
 use Rattle.machine_model.specs.Told.{Act, Sight}
 use Rattle.machine_model.specs.Traffic.{copies_after, copies_of, heard_as, heard_of_own, traffic_of}
@@ -17,16 +18,6 @@ use Rattle.machine_model.specs.View.{part_of, view_of}
 use Rattle.machine_model.specs.Whole.{content_after, ticks_after, time_after}
 use Rattle.machine_model.specs.ListLemmas.{get_each}
 use Rattle.machine_model.proofs.TrafficLemmas.{copies_same, own_traffic}
-
--- the step of a machine that has not halted
-pub step_runs : (g : Machine) → g.halted ≡ false → step g ≡ after g (happened g)
-unfolding step
-step_runs g runs = ap (λ b. step_unless b g) runs
-
--- a machine that has halted stays as it is
-pub step_halted : (g : Machine) → g.halted ≡ true → step g ≡ g
-unfolding step
-step_halted g halts = ap (λ b. step_unless b g) halts
 
 -- what partition p is shown in its slot
 shown_is : (g : Machine) (p : ℕ) (ps : PartitionState) (turn : SlotTurn) (o : Option PartitionState) → o ≡ Some ps → (turn.part == p) ≡ true → sight_in g p (Some turn) o ≡ sight_of_state g p turn.first ps

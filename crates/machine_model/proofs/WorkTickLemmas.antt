@@ -29,6 +29,7 @@ use Rattle.xm_ports.specs.Channels.{Content}
 use Rattle.xm_ports.specs.Ports.{is_made, no_ports}
 use Rattle.xm_traces.specs.Ring.{Kept, entry_at, first_kept, noted, nothing_kept}
 use Rattle.xm_traces.specs.declared.entry.TraceEntry.{TraceEntry}
+use Rattle.machine_model.specs.TickLemmas.{step_halted, step_runs}
 use Rattle.machine_model.specs.Caller.{Acts, Caller, Meets, Upshot}
 use Rattle.machine_model.specs.Alone.{Alone, alone_after, alone_local, alone_local_in, alone_step}
 use Rattle.machine_model.specs.Cue.{Away, Cue, Mine, CueSlot}
@@ -50,7 +51,6 @@ use Rattle.machine_model.proofs.WorkCallLemmas.{Goes, same_goes, served_goes}
 use Rattle.machine_model.specs.ListLemmas.{get_each}
 use Rattle.machine_model.proofs.ObservingLemmas.{shows_its_size}
 use Rattle.machine_model.proofs.RunLemmas.{step_system}
-use Rattle.machine_model.proofs.StepLemmas.{step_halted, step_runs}
 
 -- the last words of the last words
 append_assoc : (xs ys zs : List ℕ) → xs ++ (ys ++ zs) ≡ (xs ++ ys) ++ zs

@@ -35,6 +35,7 @@ pub mod TrapRows
 pub mod EndLemmas
 pub mod ListLemmas
 pub mod NameLemmas
+pub mod TickLemmas
 pub mod OwnActs
 pub mod OwnRows
 pub mod StartRows

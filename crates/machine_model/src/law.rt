@@ -3,7 +3,6 @@
 ghost use Rattle.machine_model.specs.Allowed.{AnswersCalls, HearsWhatIsAllowed};
 ghost use Rattle.machine_model.specs.Facts.{BootsClocked, BootsComplete, BootsTimed, BootsWithFacts, BootsWithShapes, KeepsClocked, KeepsFacts, KeepsFactsAlone, KeepsNumbers, KeepsShapes, KeepsTimed, PortsHaveKinds, RunsClocked, RunsComplete, RunsKeepNumbers, RunsTimed, RunsWithFacts, RunsWithShapes, ShowsItsSizeInRuns};
 ghost use Rattle.machine_model.specs.Lengths.{PutsFewBytes, ShowsFewBytes};
-ghost use Rattle.machine_model.specs.OwnActs.{ActsWithinOwn};
 ghost use Rattle.machine_model.specs.Laws.{
   ActsWithinBounds,
   AllTicks,
@@ -22,6 +21,7 @@ ghost use Rattle.machine_model.specs.Laws.{
   TwoRuns,
   TwoRunsEarlier,
 };
+ghost use Rattle.machine_model.specs.OwnActs.{ActsWithinOwn};
 
 /// One tick of a machine that has not halted is, for each partition, one tick of that partition
 /// alone under its cue: its state, its lines and its console bytes.

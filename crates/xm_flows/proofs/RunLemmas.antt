@@ -1,5 +1,6 @@
 -- Two runs that are steered alike go together for a closed set of partitions.
 use Rattle.std.proofs.Common.{◌≡◌, ℕ, zero, suc, ◌<◌, Bool, true, false, [], ◌∷◌, Some, refl, sym, ap, ◌∙◌, arith, subst}
+use Rattle.machine_model.specs.TickLemmas.{step_halted}
 use Rattle.machine_model.specs.Alone.{alone_lines, alone_said, alone_start}
 use Rattle.machine_model.specs.Cue.{cue, script, script_unless}
 use Rattle.machine_model.specs.Facts.{KeepsNumbers, RunsKeepNumbers}
@@ -12,7 +13,7 @@ use Rattle.xm_flows.specs.Laws.{AreClosedAlike, ClosedRunsAlike, NoneSteers, Uns
 use Rattle.xm_flows.specs.Rights.{ActsByRight}
 use Rattle.xm_flows.specs.Steering.{steering}
 use Rattle.xm_flows.proofs.AgreeLemmas.{agree_of}
-use Rattle.xm_flows.proofs.TickLemmas.{GoTogether, ToldTheSame, part_alike, same_part, steered, step_halted, together_after, told_alike}
+use Rattle.xm_flows.proofs.TickLemmas.{GoTogether, ToldTheSame, part_alike, same_part, steered, together_after, told_alike}
 
 -- two machines after so many ticks, and what the members were told in them
 record RunTogether (members : Members) (g h : Machine) (count : ℕ) : Type 0 where

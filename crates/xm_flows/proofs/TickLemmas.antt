@@ -11,11 +11,12 @@ use Rattle.xm_conf.specs.Configuration.{Conf}
 use Rattle.xm_conf.specs.Description.{described}
 use Rattle.xm_conf.specs.Fits.{Fits}
 use Rattle.xm_ports.specs.Channels.{Content}
+use Rattle.machine_model.specs.TickLemmas.{step_runs}
 use Rattle.machine_model.specs.Alone.{Alone, alone_step}
 use Rattle.machine_model.specs.Cue.{Cue, CueSlot, cue, cue_in, slot_of, unless_own}
 use Rattle.machine_model.specs.Laws.{OneTick, SeesNothing, part, alone_part_at}
 use Rattle.machine_model.specs.LocalTick.{LocalTick, local_tick, worked}
-use Rattle.machine_model.specs.Machine.{Machine, SlotTurn, act_of, after, clock_after, copies, happened, happened_by, if_its_turn, is_halt, is_turn_of, local, local_in, local_of, next_clock, order_for, order_upon, sight, sight_in, sight_of_state, step, step_unless, system_traffic, taken_by, tick_of, turn_of}
+use Rattle.machine_model.specs.Machine.{Machine, SlotTurn, act_of, after, clock_after, copies, happened, happened_by, if_its_turn, is_halt, is_turn_of, local, local_in, local_of, next_clock, order_for, order_upon, sight, sight_in, sight_of_state, step, system_traffic, taken_by, tick_of, turn_of}
 use Rattle.machine_model.specs.Partition.{PartitionState, takes_turns}
 use Rattle.machine_model.specs.Told.{Directed, OwnStill, OwnTraffic, Sight, Unseen, WholeEvent, reach_of}
 use Rattle.machine_model.specs.Traffic.{heard_as, traffic_of}
@@ -45,15 +46,6 @@ pub record GoTogether (members : Members) (g h : Machine) : Type 0 where
   pub time : g.time ≡ h.time
   pub clock : RunTheSame g.clock h.clock
   pub halted : g.halted ≡ h.halted
-
--- the step of a machine that has not halted, and of one that has
-pub step_runs : (g : Machine) → g.halted ≡ false → step g ≡ after g (happened g)
-unfolding step
-step_runs g runs = ap (λ b. step_unless b g) runs
-
-pub step_halted : (g : Machine) → g.halted ≡ true → step g ≡ g
-unfolding step
-step_halted g halts = ap (λ b. step_unless b g) halts
 
 -- the channels and links of the two systems
 pub same_channels : (members : Members) (one other : System) → AreClosedAlike members one other → HaveSameChannels members one.conf other.conf
