@@ -1,5 +1,5 @@
 -- A partition whose hardware timer is not armed rests as it is.
-use Rattle.std.proofs.Common.{◌≡◌, ℕ, suc, Bool, true, false, ◌||◌, List, [], ◌∷◌, refl, sym, ap, ◌∙◌, if◌then◌else◌}
+use Rattle.std.proofs.Common.{◌≡◌, ℕ, suc, arith, length, Bool, true, false, ◌||◌, List, [], ◌∷◌, refl, sym, ap, ◌∙◌, if◌then◌else◌}
 use Rattle.std.specs.Prelude.{Option, None, Some, is_some}
 use Rattle.virt_clocks.specs.Clocks.{is_due, looked_at}
 use Rattle.virt_clocks.specs.declared.timer.Timer.{Timer}
@@ -66,3 +66,14 @@ pub all_unarmed : (working : Option ℕ) (time : ℕ) (sys : SysState) → any_t
 all_unarmed working time sys none =
     ap (λ (parts : List PartitionState). with_machine (record sys.machine { parts = parts }) sys)
     (sym (each_unarmed (λ q ps. if is_number working q then ps else rested time ps) sys.machine.parts (λ q ps. rested_in working q time ps) none))
+
+-- the rest of all where there is no other
+each_alone : (time : ℕ) (parts : List PartitionState) → length parts ≡ 1 → each (λ q ps. if is_number (Some 0) q then ps else rested time ps) parts ≡ parts
+each_alone time [] one = absurd (omega (arith, one))
+each_alone time (ps ∷ []) one = refl
+each_alone time (ps ∷ (other ∷ others)) one = absurd (omega (arith, one))
+
+pub rests_alone : (working : Option ℕ) (time : ℕ) (sys : SysState) → length sys.machine.parts ≡ 1 → working ≡ Some 0 → sys ≡ with_machine (rest_but working time sys.machine) sys
+rests_alone working time sys one is =
+    ap (λ (parts : List PartitionState). with_machine (record sys.machine { parts = parts }) sys) (sym (each_alone time sys.machine.parts one))
+    ∙ ap (λ (w : Option ℕ). with_machine (rest_but w time sys.machine) sys) (sym is)

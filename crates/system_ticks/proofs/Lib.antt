@@ -14,6 +14,7 @@ pub mod QuietLemmas
 pub mod ReachLemmas
 pub mod ServedLemmas
 pub mod SightLemmas
+pub mod SilentLemmas
 pub mod SlotLemmas
 pub mod SpanLemmas
 pub mod StepsLemmas

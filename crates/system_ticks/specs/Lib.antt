@@ -2,11 +2,13 @@ pub mod CueValues
 pub mod GoesOnLemmas
 pub mod Kept
 pub mod KeptLemmas
+pub mod LaterLemmas
 pub mod ListLemmas
 pub mod Machine
 pub mod Place
 pub mod PlaceLemmas
 pub mod Quiet
+pub mod QuietRunLemmas
 pub mod Span
 pub mod TickLines
 pub mod Work

@@ -30,6 +30,7 @@ use Rattle.system_ticks.specs.Kept.{kept_by, kept_tick}
 use Rattle.system_ticks.specs.Quiet.{AreQuiet, ends_in, ends_stretch}
 use Rattle.system_ticks.specs.Work.{act_beyond, console_told}
 use Rattle.system_ticks.specs.declared.beyond.Beyond.{Beyond}
+use Rattle.system_ticks.specs.declared.beyond.Beyond.TheVariants as beyond
 use Rattle.system_ticks.specs.declared.slot.Span.{Span}
 
 -- the line of bytes for the console of the last of the ticks of a span
@@ -87,6 +88,12 @@ pub record AreDoneFrom (span : Span) (most : ℕ) (g : Machine) (old new : SysSt
   pub kept : IsLastKept span g new.machine
   pub quiet : AreQuiet span.ticks g
   pub ends : ends_in (run g (span.ticks - 1)) ≡ ends_so span.note span.reach
+
+-- nothing is told of the last of the ticks of a span, it has no lines, and it reaches beyond no partition
+pub record IsSilent (span : Span) (got : List ReportLine) : Type 0 where
+  pub note : span.note ≡ note.Nothing
+  pub reach : span.reach ≡ beyond.Nothing
+  pub lines : got ≡ []
 
 -- what ticks of a slot of partition p need, so many at most
 pub record CanTake (p most : ℕ) (sys : SysState) : Type 0 where

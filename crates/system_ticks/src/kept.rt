@@ -90,8 +90,8 @@ impl Kept {
         }
     }
 
-    /// Ticks of the slot or gap at this place, at most so many, up to the first in which more is done than instructions that go. The last
-    /// of them is kept. The bytes that its note names still stand in its partition's memory.
+    /// Ticks of the slot or gap at this place, at most so many, up to the first of which something is told, or that reaches beyond its
+    /// partition. The last of them is kept. The bytes that its note names still stand in its partition's memory.
     #[inline(always)]
     pub fn run(&mut self, sys: &mut Sys, lines: &mut Lines, place: Place, most: u64) -> Span
         requires machine { IsMachine sys.old }

@@ -1,6 +1,7 @@
 //! The rest of partitions that do no work in a tick.
 
-ghost use Rattle.std.specs.Prelude.{◌≡◌, ◌<◌, length};
+ghost use Rattle.std.specs.Prelude.{◌≡◌, ◌<◌, Some, length};
+ghost use Rattle.std.specs.Bool.{OnTrue};
 ghost use Rattle.whole_system.specs.State.{with_machine};
 ghost use Rattle.machine_model.specs.Lists.{is_number};
 ghost use Rattle.machine_model.specs.Partition.{rested};
@@ -13,14 +14,26 @@ use xm_base::{PartId, State};
 /// The interrupt of the hardware timer.
 const HARDWARE_TIMER: u8 = 0;
 
-/// All partitions rest at this time, but for one where it is named. Where no hardware timer is armed, that leaves all as they are.
+/// All partitions rest at this time, but for one where it is named. Where there is no other, or no hardware timer is armed, that leaves all
+/// as they are.
 #[inline(always)]
 pub(crate) fn rest(sys: &mut Sys, working: Option<PartId>, time: u64)
     ensures { sys.new ≡ with_machine (rest_but working time sys.old.machine) sys.old }
 {
+    if is_alone(sys, working) {
+        return;
+    }
     if sys.is_timed() {
         rest_each(sys, working, time);
     }
+}
+
+// Whether the partition that works is the only one that there is.
+fn is_alone(sys: &Sys, working: Option<PartId>) -> bool
+    ensures one { OnTrue result (length sys.now.machine.parts ≡ 1) }
+    ensures working { OnTrue result (working ≡ Some 0) }
+{
+    sys.count() == 1 && working == Some(0)
 }
 
 // The same, one partition after the other.

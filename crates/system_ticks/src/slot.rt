@@ -1,6 +1,7 @@
 //! The ticks of one slot or gap.
 
 ghost use Rattle.std.specs.Prelude.{◌≡◌, ℕ, ◌+◌, ◌-◌, ◌%◌, ◌^◌, ◌<◌, ◌≤◌, ◌++◌, Bool, true, false, if◌then◌else◌, [], IfSome, None, Some, length};
+ghost use Rattle.std.specs.Bool.{OnTrue};
 ghost use Rattle.cyclic_plans.specs.PlanClock.{IsInFrame};
 ghost use Rattle.whole_system.specs.State.{with_machine};
 ghost use Rattle.machine_model.specs.LocalTick.{goes_on, with_interrupts};
@@ -15,17 +16,19 @@ ghost use Rattle.virt_traps.specs.Virtual.{due};
 ghost use Rattle.system_ticks.specs.Machine.{IsMachine};
 ghost use Rattle.system_ticks.specs.Place.{IsAt};
 ghost use Rattle.system_ticks.specs.Work.{ReachIsUponOne, act_beyond, ended_by, ending_lines};
-ghost use Rattle.system_ticks.specs.Span.{AreDoneFrom, CanTake, CanTakeAfter, HasTurned, IsIdle, HasMetInterrupts, IsSpanDone, NoneDue, machine_underway, counted_on};
+ghost use Rattle.system_ticks.specs.Span.{IsSilent, AreDoneFrom, CanTake, CanTakeAfter, HasTurned, IsIdle, HasMetInterrupts, IsSpanDone, NoneDue, machine_underway, counted_on};
 
 use crate::beyond::Beyond;
 use crate::ending::{end_tick, end_ticks};
 use crate::lines::Lines;
-use crate::place::Place;
+use crate::place::{Place, later};
 use crate::rest::rest;
 use crate::work::{call_told, meet_trap, take_interrupt};
 use cyclic_plans::Here;
 use hypercalls::{Note, Sys};
-use machine_model::{acts_within_bounds, keeps_numbers};
+use machine_model::{
+    acts_within_bounds, keeps_facts, keeps_hardware_clock, keeps_numbers, keeps_plans,
+};
 use slot_runs::{
     calm_ticks, next_tick, resting_ticks, slot_goes_on, tick_in_passes, undisturbed_ticks,
 };
@@ -70,10 +73,84 @@ impl Span {
     }
 }
 
-/// The ticks of the slot or gap that it is, at most so many, up to the first in which more is done than instructions that go. Their lines
-/// are those of the last.
+/// The ticks of the slot or gap that it is, at most so many, up to the first of which something is told, or that reaches beyond its
+/// partition. Their lines are those of the last.
 #[inline(always)]
 pub(crate) fn run_span(sys: &mut Sys, lines: &mut Lines, span: &mut Span, place: Place, most: u64)
+    requires machine { IsMachine sys.old }
+    requires place { IsAt place sys.old.machine }
+    requires running { sys.old.machine.halted ≡ false }
+    requires some { 0 < most }
+    requires ticks { sys.old.machine.ticks + most ≤ 4000000000 }
+    requires empty { lines.old ≡ [] }
+    ensures done { IsSpanDone span.new most sys.old sys.new lines.new }
+{
+    keeps_facts();
+    keeps_hardware_clock();
+    keeps_numbers();
+    keeps_plans();
+    let left = most.min(place.left);
+    run_part(sys, lines, span, place, left);
+    let done = span.ticks;
+    if can_go_on(span, lines, left) {
+        run_on(sys, lines, span, later(place, done), left - done);
+        span.ticks += done;
+    }
+}
+
+// The same after ticks of which nothing was told. It stands by itself, so that the compiler has all host registers for the loop.
+#[inline(never)]
+fn run_on(sys: &mut Sys, lines: &mut Lines, span: &mut Span, place: Place, most: u64)
+    requires machine { IsMachine sys.old }
+    requires place { IsAt place sys.old.machine }
+    requires running { sys.old.machine.halted ≡ false }
+    requires some { 0 < most }
+    requires left { most ≤ place.left }
+    requires ticks { sys.old.machine.ticks + most ≤ 4000000000 }
+    requires empty { lines.old ≡ [] }
+    ensures done { IsSpanDone span.new most sys.old sys.new lines.new }
+{
+    keeps_facts();
+    keeps_hardware_clock();
+    keeps_numbers();
+    keeps_plans();
+    let mut at = place;
+    let mut done = 0;
+    let mut goes = true;
+    while goes {
+        run_part(sys, lines, span, at, most - done);
+        goes = can_go_on(span, lines, most - done);
+        done += span.ticks;
+        if goes {
+            at = later(at, span.ticks);
+        }
+    }
+    span.ticks = done;
+}
+
+// Whether more can be done after these ticks: they are fewer than there may be, and nothing is told of the last.
+#[inline(always)]
+fn can_go_on(span: &Span, lines: &Lines, most: u64) -> bool
+    ensures fewer { OnTrue result (span.now.ticks < most) }
+    ensures silent { OnTrue result (IsSilent span.now lines.now) }
+{
+    span.ticks < most && is_silent(span, lines)
+}
+
+// Whether nothing is told of the last of these ticks, and it reaches beyond no partition.
+#[inline(always)]
+fn is_silent(span: &Span, lines: &Lines) -> bool
+    ensures { OnTrue result (IsSilent span.now lines.now) }
+{
+    matches!(span.note, Note::Nothing)
+        && matches!(span.reach, Beyond::Nothing)
+        && lines.as_slice().is_empty()
+}
+
+// The ticks of the slot or gap that it is, at most so many, up to the first in which more is done than instructions that go. Their lines
+// are those of the last.
+#[inline(always)]
+fn run_part(sys: &mut Sys, lines: &mut Lines, span: &mut Span, place: Place, most: u64)
     requires machine { IsMachine sys.old }
     requires place { IsAt place sys.old.machine }
     requires running { sys.old.machine.halted ≡ false }
