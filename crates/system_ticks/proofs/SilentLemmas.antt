@@ -21,7 +21,6 @@ use Rattle.system_ticks.specs.Quiet.{ends_in}
 use Rattle.system_ticks.specs.QuietRunLemmas.{AllQuiet, all_quiet, quiet_on, quiet_runs}
 use Rattle.system_ticks.specs.Span.{IsSilent, IsSpanDone, ends_so}
 use Rattle.system_ticks.specs.Work.{console_told}
-use Rattle.system_ticks.specs.declared.beyond.Beyond.{Beyond}
 use Rattle.system_ticks.specs.declared.place.Place.{Place}
 use Rattle.system_ticks.specs.declared.slot.Span.{Span}
 
