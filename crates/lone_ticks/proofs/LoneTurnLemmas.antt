@@ -13,6 +13,7 @@ use Rattle.xm_report.specs.Report.{ReportLine}
 use Rattle.xm_traces.specs.Ring.{Kept}
 use Rattle.xm_traces.specs.declared.entry.TraceEntry.{TraceEntry}
 use Rattle.cue_scripts.specs.Script.{HearsNothing, IsCue}
+use Rattle.system_ticks.specs.PartLemmas.{traded_memory}
 use Rattle.machine_model.specs.Alone.{Alone, alone_local, alone_local_in, alone_step_lines}
 use Rattle.machine_model.specs.Cue.{Cue, Mine, CueSlot}
 use Rattle.machine_model.specs.Facts.{AreEnds, AreFacts, AreLast, HaveEight, IsItsOwn, KeepsFactsAlone, begun}
@@ -21,14 +22,13 @@ use Rattle.machine_model.specs.Laws.{ActsWithinBounds, part}
 use Rattle.machine_model.specs.LocalTick.{LocalTick, bounded, local_tick, worked}
 use Rattle.machine_model.specs.Machine.{Machine, act_of as act_in, booted_part, copies, is_halt}
 use Rattle.machine_model.specs.Observed.{asks}
-use Rattle.machine_model.specs.Partition.{PartitionState, is_halted, link_signal, takes_turns}
+use Rattle.machine_model.specs.Partition.{PartitionState, is_halted, takes_turns}
 use Rattle.machine_model.specs.Structures.{flag}
-use Rattle.machine_model.specs.Told.{OwnPuts, OwnSignals, OwnStill, OwnTakes, OwnTraffic, Sight, Told, line_of}
-use Rattle.machine_model.specs.Traffic.{Puts, Signals, Still, Takes, Traffic, after_message, heard_as, heard_from, hearing, interrupted}
+use Rattle.machine_model.specs.Told.{Sight, Told, line_of}
+use Rattle.machine_model.specs.Traffic.{Traffic}
 use Rattle.machine_model.specs.View.{PartitionView, System, view_of}
 use Rattle.machine_model.specs.Whole.{AllHalted, AllReset, NoEvent, WholeEvent, event_lines, event_of}
 use Rattle.slot_runs.specs.Passes.{part_at, traded, traffic_in, with_part}
-use Rattle.virt_traps.specs.Virtual.{raised}
 use Rattle.alone_passes.specs.Kept.{IsKeptBy, PassesKeep}
 use Rattle.alone_passes.specs.Laws.{WorkingTicks}
 use Rattle.alone_passes.specs.Passes.{event_met, part_in, tick_past, work_passed}
@@ -46,36 +46,11 @@ use Rattle.system_ticks.specs.declared.cue.Mine.TheVariants as its
 use Rattle.lone_ticks.specs.declared.work.LoneWork.{LoneWork}
 use Rattle.lone_ticks.proofs.PutLemmas.{IsTraded, is_traded}
 use Rattle.system_ticks.specs.KeptLemmas.{facts_at, facts_with}
-use Rattle.system_ticks.specs.ListLemmas.{at_each_set}
 use Rattle.lone_ticks.proofs.LoneLemmas.{alone_in, machine_kept, of_system}
 
--- traffic leaves the memory of those that hear
-interrupted_memory : (heard : Option ℕ) (ps : PartitionState) → (interrupted heard ps).memory ≡ ps.memory
-interrupted_memory None ps = refl
-interrupted_memory (Some n) ps = by (is_halted ps.state)
-  where
-    by : (b : Bool) → (if b then ps else record ps { traps = raised n ps.traps }).memory ≡ ps.memory
-    by true = refl
-    by false = refl
-
-hearing_memory : (view : PartitionView) (own : OwnTraffic) (ps : PartitionState) → (hearing view own ps).memory ≡ ps.memory
-unfolding after_message
-hearing_memory view OwnStill ps = refl
-hearing_memory view (OwnPuts q bytes) ps = interrupted_memory (heard_from q view.part.ports ps.made view.channels) ps
-hearing_memory view (OwnTakes q) ps = refl
-hearing_memory view (OwnSignals number) ps = interrupted_memory (Some (link_signal number)) ps
-
-traded_memory : (t : Traffic) (p : ℕ) (x : PartitionState) (g : Machine) → p < length g.parts → memory_of p (traded t (with_part p x g)) ≡ x.memory
-traded_memory Still p x g below = ap (λ (ps : PartitionState). ps.memory) (get_or-set_same g.parts p x (booted_part g.system p) below)
-traded_memory (Puts channel bytes) p x g below =
-    ap (λ (ps : PartitionState). ps.memory) (at_each_set (λ q ps. hearing (view_of g.system q) (heard_as g.system.conf q (Puts channel bytes)) ps) g.parts p x (booted_part g.system p) below)
-    ∙ hearing_memory (view_of g.system p) (heard_as g.system.conf p (Puts channel bytes)) x
-traded_memory (Takes channel) p x g below =
-    ap (λ (ps : PartitionState). ps.memory) (at_each_set (λ q ps. hearing (view_of g.system q) (heard_as g.system.conf q (Takes channel)) ps) g.parts p x (booted_part g.system p) below)
-    ∙ hearing_memory (view_of g.system p) (heard_as g.system.conf p (Takes channel)) x
-traded_memory (Signals source number) p x g below =
-    ap (λ (ps : PartitionState). ps.memory) (at_each_set (λ q ps. hearing (view_of g.system q) (heard_as g.system.conf q (Signals source number)) ps) g.parts p x (booted_part g.system p) below)
-    ∙ hearing_memory (view_of g.system p) (heard_as g.system.conf p (Signals source number)) x
+-- traffic leaves the memory of a partition that was put
+put_memory : (t : Traffic) (p : ℕ) (x : PartitionState) (g : Machine) → p < length g.parts → memory_of p (traded t (with_part p x g)) ≡ x.memory
+put_memory t p x g below = traded_memory t p (with_part p x g) ∙ ap (λ (ps : PartitionState). ps.memory) (get_or-set_same g.parts p x (booted_part g.system p) below)
 
 -- the frame of a machine whose traffic is done
 pub frame_traded : (g h : Machine) → IsTraded g h → IsInFrame g.system.conf g.clock g.time → IsInFrame h.system.conf h.clock h.time
@@ -149,7 +124,7 @@ console_stands p w note.Nothing reach g below alone same = refl
 console_stands p w (note.Console at size) reach g below alone same =
     let none : event_of w.act ≡ NoEvent = same ∙ ap event_of alone in
     ap (λ (e : WholeEvent). console_told (note.Console at size) (memory_of p (tick_past e (event_met p e (traded (traffic_in g p w.act) (with_part p w.after g)))))) none
-    ∙ ap (console_told (note.Console at size)) (traded_memory (traffic_in g p w.act) p w.after g below)
+    ∙ ap (console_told (note.Console at size)) (put_memory (traffic_in g p w.act) p w.after g below)
 console_stands p w (note.Trace entry) reach g below alone same = refl
 console_stands p w (note.Put chan at size) reach g below alone same = refl
 console_stands p w (note.Take chan) reach g below alone same = refl

@@ -13,12 +13,13 @@ use Rattle.virt_traps.specs.Virtual.{due}
 use Rattle.xm_base.specs.declared.partition.State.{State}
 use Rattle.xm_base.specs.declared.partition.State.TheVariants.{Ready, Idle, Suspended, Halted}
 use Rattle.xm_ports.specs.Channels.{Content}
-use Rattle.whole_system.specs.Serving.{CanBeTold, caller_at, sight_at, without_traffic}
+use Rattle.whole_system.specs.Serving.{CanBeTold, caller_at, without_traffic}
 use Rattle.whole_system.specs.State.{SysState, areas_in, memory_of, with_machine}
 use Rattle.whole_system.specs.StateLemmas.{part_set}
 use Rattle.whole_system.specs.declared.served.Note.{Note}
 use Rattle.whole_system.specs.declared.served.Note.TheVariants as note
 use Rattle.xm_report.specs.Report.{ReportLine}
+use Rattle.system_ticks.specs.PartLemmas.{part_put_back}
 use Rattle.machine_model.specs.Caller.{Caller}
 use Rattle.machine_model.specs.Facts.{AreEnds}
 use Rattle.machine_model.specs.Health.{Worked, event_handled, interrupt_delivered, quiet}
@@ -35,11 +36,11 @@ use Rattle.slot_runs.specs.Passes.{part_at, traded, traffic_in, with_part}
 use Rattle.alone_passes.specs.Taking.{is_no_sight, takes_sight}
 use Rattle.lone_ticks.specs.LoneWork.{IsLoneDone, IsLoneWork, IsUncounted, IsWorkUndone}
 use Rattle.system_ticks.specs.Span.{CanTake}
-use Rattle.system_ticks.specs.Work.{IsTickWorked, TellsAlone, act_beyond, console_told}
+use Rattle.system_ticks.specs.Work.{IsTickWorked, TellsAlone, console_told}
 use Rattle.system_ticks.specs.declared.beyond.Beyond.{Beyond}
 use Rattle.system_ticks.specs.declared.beyond.Beyond.TheVariants as beyond
 use Rattle.lone_ticks.specs.declared.work.LoneWork.{LoneWork}
-use Rattle.lone_ticks.proofs.PutLemmas.{put_back, put_then}
+use Rattle.lone_ticks.proofs.PutLemmas.{put_then}
 
 -- an act has the event that it has but for its traffic
 event_plain : (act : Act) → event_of (without_traffic act) ≡ event_of act
@@ -79,7 +80,7 @@ unseeing p pc npc seen sys none is =
 pub undone_same : (p : ℕ) (old new : SysState) → new ≡ old → IsWorkUndone p old new
 undone_same p old new is = record {
   after = part_at p old.machine;
-  state = is ∙ sym (put_back p old);
+  state = is ∙ sym (part_put_back p old);
   same = record { traces = refl; health = refl; execution = refl; inputs = refl; made = refl; awake = refl };
 }
 

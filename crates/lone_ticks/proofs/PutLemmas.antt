@@ -1,21 +1,16 @@
 -- One partition of a system that is changed, and traffic of it.
 use Rattle.std.proofs.Common.{◌≡◌, ℕ, ◌<◌, List, length, refl, ap, ◌∙◌}
-use Rattle.std.proofs.lemmas.List.{length-set, set-get_or, set-set}
+use Rattle.std.proofs.lemmas.List.{length-set, set-set}
 use Rattle.whole_system.specs.State.{SysState, with_machine}
 use Rattle.whole_system.specs.StateLemmas.{part_set}
 use Rattle.machine_model.specs.ListLemmas.{each_counted as each_length}
-use Rattle.machine_model.specs.Machine.{Machine, booted_part}
+use Rattle.machine_model.specs.Machine.{Machine}
 use Rattle.machine_model.specs.Partition.{PartitionState}
 use Rattle.machine_model.specs.Told.{OwnPuts, OwnSignals, OwnStill, OwnTakes, OwnTraffic}
 use Rattle.machine_model.specs.Traffic.{Puts, Signals, Still, Takes, Traffic, heard_as, hearing, puts_at, takes_at}
 use Rattle.machine_model.specs.View.{named, view_of}
 use Rattle.slot_runs.specs.Passes.{part_at, traded, with_part}
 use Rattle.alone_passes.specs.Passes.{told_traffic}
-
--- a partition that stays as it is
-pub put_back : (p : ℕ) (sys : SysState) → with_machine (with_part p (part_at p sys.machine) sys.machine) sys ≡ sys
-put_back p sys =
-    ap (λ (parts : List PartitionState). with_machine (record sys.machine { parts = parts }) sys) (set-get_or sys.machine.parts p (booted_part sys.machine.system p))
 
 -- one that is changed by what it is changed to
 pub put_then : (f : PartitionState → PartitionState) (p : ℕ) (x : PartitionState) (old mid new : SysState) → p < length old.machine.parts

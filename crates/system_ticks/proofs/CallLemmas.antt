@@ -8,6 +8,7 @@ use Rattle.whole_system.specs.State.{SysState, with_machine}
 use Rattle.whole_system.specs.declared.served.Note.{Note}
 use Rattle.whole_system.specs.declared.served.Note.TheVariants as note
 use Rattle.whole_system.specs.declared.served.Served as code
+use Rattle.system_ticks.specs.PartLemmas.{part_put_back}
 use Rattle.machine_model.specs.ListLemmas.{each_counted as each_length}
 use Rattle.machine_model.specs.Caller.{Acts, Meets, Served, Upshot}
 use Rattle.machine_model.specs.Health.{Worked, quiet, self_ordered}
@@ -34,7 +35,7 @@ use Rattle.system_ticks.proofs.InstructionLemmas.{handled_still}
 use Rattle.system_ticks.proofs.MildLemmas.{Mild, served_mild}
 use Rattle.system_ticks.proofs.ServedLemmas.{kept_parts, served_keeps}
 use Rattle.system_ticks.proofs.ReachLemmas.{no_traffic, one_before, plain_act}
-use Rattle.system_ticks.proofs.WorkLemmas.{done_then, put_back, put_there}
+use Rattle.system_ticks.proofs.WorkLemmas.{done_then, put_there}
 use Rattle.system_ticks.specs.ListLemmas.{at_each_set, set_each_set}
 use Rattle.xm_conf.specs.Configuration.{Conf}
 
@@ -247,7 +248,7 @@ module _ (p : ℕ) (sight : Sight) (s : Served) (answer : code.Served) (reach : 
       let lengths : length two.machine.parts ≡ length old.machine.parts =
       ap (λ (sys : SysState). length sys.machine.parts) two_is ∙ traded_length traffic (with_part p (clocked s.after) old.machine) ∙ length-set old.machine.parts p (clocked s.after) in
       let worked : IsTickWorked p (record (quiet (clocked s.after)) { told = s.told ++ []; act = Trades own }) answer.note reach old new got = record {
-        state = follows.state ∙ put_back p two ∙ two_is
+        state = follows.state ∙ part_put_back p two ∙ two_is
             ∙ ap (λ (t : Traffic). with_machine (traded t (with_part p (clocked s.after) old.machine)) old) (sym traffic_is);
         lines = call_lines (line_of old.machine.ticks p) answer.note s.after.memory s.after.memory s.told [] between got c.serves.told refl traces follows.lines;
         act = act_is;
@@ -303,7 +304,7 @@ call_quiet p pc npc answer old one two had below empty serves counts note_is act
     let is : answer ≡ none = λ i. record { note = note_is i; act = act_is i } in
     call_worked p pc npc two.machine.ticks none beyond.Nothing old one two two had had had below empty
     (subst (λ (a : code.Served). IsServed p (caller_at p pc npc old).sight (served (caller_at p pc npc old)) a old one) is serves) counts refl (sym (append-nil had))
-    (silent p (part_at p two.machine) two two had (sym (put_back p two))) refl tt
+    (silent p (part_at p two.machine) two two had (sym (part_put_back p two))) refl tt
 
 -- a call that put a message does nothing else
 put_alone : (conf : Conf) (p : ℕ) (upshot u : Upshot) (chan : ℕ) (bytes : List ℕ) (reach : Beyond) (view : PartitionView) (time : ℕ) (ps : PartitionState)

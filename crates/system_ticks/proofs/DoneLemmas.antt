@@ -1,5 +1,5 @@
 -- Ticks that were done: quiet ones, and those of which the last had work.
-use Rattle.std.proofs.Common.{◌≡◌, inl, inr, ℕ, suc, ◌+◌, ◌<◌, ◌≤◌, Bool, true, false, List, [], ◌∷◌, ◌++◌, length, map, Option, None, Some, refl, sym, ap, subst, ◌∙◌, arith}
+use Rattle.std.proofs.Common.{◌≡◌, inl, inr, ℕ, suc, ◌+◌, ◌<◌, ◌≤◌, Bool, true, false, List, [], ◌∷◌, ◌++◌, length, map, Option, Some, refl, sym, ap, subst, ◌∙◌, arith}
 use Rattle.std.specs.Prelude.{◌-◌, if◌then◌else◌, IfSome}
 use Rattle.std.proofs.lemmas.Bool.{eq-eqb}
 use Rattle.std.proofs.lemmas.List.{append-nil, get_or-set_same}
@@ -9,8 +9,8 @@ use Rattle.whole_system.specs.Serving.{CanBeTold, without_traffic}
 use Rattle.whole_system.specs.State.{SysState, areas_in, memory_of, with_machine}
 use Rattle.whole_system.specs.declared.served.Note.{Note}
 use Rattle.whole_system.specs.declared.served.Note.TheVariants as note
-use Rattle.virt_traps.specs.Virtual.{raised}
 use Rattle.xm_report.specs.Report.{ReportLine}
+use Rattle.system_ticks.specs.PartLemmas.{traded_memory}
 use Rattle.machine_model.specs.Facts.{IsAsMany, RunsKeepNumbers}
 use Rattle.machine_model.specs.Health.{Worked}
 use Rattle.machine_model.specs.Laws.{ActsWithinBounds}
@@ -19,12 +19,12 @@ use Rattle.machine_model.specs.Lists.{is_number}
 use Rattle.machine_model.specs.LocalTick.{bounded, local_tick, with_interrupts, worked, worked_if}
 use Rattle.machine_model.specs.Machine as machine
 use Rattle.machine_model.specs.Machine.{Machine, SlotTurn, booted_part, copies, run, sight, turn_of}
-use Rattle.machine_model.specs.Partition.{PartitionState, is_halted, link_signal, rested}
+use Rattle.machine_model.specs.Partition.{PartitionState, rested}
 use Rattle.machine_model.specs.Told as told
-use Rattle.machine_model.specs.Told.{Act, Directed, OwnPuts, OwnSignals, OwnStill, OwnTakes, OwnTraffic, Told, line_of, reach_of}
-use Rattle.machine_model.specs.Traffic.{Puts, Signals, Still, Takes, Traffic, after_message, heard_as, heard_from, hearing, interrupted}
+use Rattle.machine_model.specs.Told.{Act, Directed, Told, line_of, reach_of}
+use Rattle.machine_model.specs.Traffic.{Traffic}
 use Rattle.guest_memory.specs.Loading.{memory_areas}
-use Rattle.machine_model.specs.View.{PartitionView, System, part_of, view_of}
+use Rattle.machine_model.specs.View.{System, part_of, view_of}
 use Rattle.slot_runs.specs.Calm.{GoneCalm, turn_after}
 use Rattle.slot_runs.specs.Meeting.{HasGone, first_after, gone_on}
 use Rattle.slot_runs.specs.NextLaws.{IsNextTick, IsTickOf, MetTick, next_work}
@@ -44,36 +44,7 @@ use Rattle.system_ticks.proofs.SlotLemmas.{at_next, its_before, within_bounds}
 use Rattle.system_ticks.proofs.TickLemmas.{tick_lines, tick_state}
 use Rattle.system_ticks.specs.ListLemmas.{each_at}
 
--- an interrupt leaves the memory
-interrupted_memory : (heard : Option ℕ) (ps : PartitionState) → (interrupted heard ps).memory ≡ ps.memory
-interrupted_memory None ps = refl
-interrupted_memory (Some n) ps = either (is_halted ps.state)
-  where
-    either : (b : Bool) → (if b then ps else record ps { traps = raised n ps.traps }).memory ≡ ps.memory
-    either true = refl
-    either false = refl
-
--- hearing of a message or of a signal leaves the memory
-hearing_memory : (view : PartitionView) (own : OwnTraffic) (ps : PartitionState) → (hearing view own ps).memory ≡ ps.memory
-unfolding after_message
-hearing_memory view OwnStill ps = refl
-hearing_memory view (OwnPuts q bytes) ps = interrupted_memory (heard_from q view.part.ports ps.made view.channels) ps
-hearing_memory view (OwnTakes q) ps = refl
-hearing_memory view (OwnSignals number) ps = interrupted_memory (Some (link_signal number)) ps
-
--- traffic and the rest of all others leave the memory of a partition
-traded_memory : (traffic : Traffic) (p : ℕ) (g : Machine) → memory_of p (traded traffic g) ≡ memory_of p g
-traded_memory Still p g = refl
-traded_memory (Puts channel bytes) p g =
-    each_at (λ (ps : PartitionState). ps.memory) (λ q ps. hearing (view_of g.system q) (heard_as g.system.conf q (Puts channel bytes)) ps) g.parts p (booted_part g.system p)
-    (λ ps. hearing_memory (view_of g.system p) (heard_as g.system.conf p (Puts channel bytes)) ps)
-traded_memory (Takes channel) p g =
-    each_at (λ (ps : PartitionState). ps.memory) (λ q ps. hearing (view_of g.system q) (heard_as g.system.conf q (Takes channel)) ps) g.parts p (booted_part g.system p)
-    (λ ps. hearing_memory (view_of g.system p) (heard_as g.system.conf p (Takes channel)) ps)
-traded_memory (Signals source number) p g =
-    each_at (λ (ps : PartitionState). ps.memory) (λ q ps. hearing (view_of g.system q) (heard_as g.system.conf q (Signals source number)) ps) g.parts p (booted_part g.system p)
-    (λ ps. hearing_memory (view_of g.system p) (heard_as g.system.conf p (Signals source number)) ps)
-
+-- the rest of all others leaves the memory of a partition
 rest_memory : (p time : ℕ) (g : Machine) → memory_of p (rest_but (Some p) time g) ≡ memory_of p g
 rest_memory p time g =
     each_at (λ (ps : PartitionState). ps.memory) (λ q ps. if is_number (Some p) q then ps else rested time ps) g.parts p (booted_part g.system p)

@@ -4,10 +4,10 @@ use Rattle.std.specs.Prelude.{Option, None, Some, is_some}
 use Rattle.virt_clocks.specs.Clocks.{is_due, looked_at}
 use Rattle.virt_clocks.specs.declared.timer.Timer.{Timer}
 use Rattle.whole_system.specs.State.{SysState, any_timed, is_timed, with_machine}
+use Rattle.system_ticks.specs.PartLemmas.{part_put_back}
 use Rattle.machine_model.specs.Lists.{each, is_number}
 use Rattle.machine_model.specs.Partition.{PartitionState, hardware_looked_at, hardware_timer, is_halted, raised_if, rested}
 use Rattle.slot_runs.specs.Passes.{part_at, rest_but, with_part}
-use Rattle.system_ticks.proofs.WorkLemmas.{put_back}
 
 -- a timer that is not there
 is_absent : (timer : Option Timer) → is_some timer ≡ false → timer ≡ None
@@ -42,7 +42,7 @@ rested_unarmed time ps none = ap (λ (looked : PartitionState). if is_halted ps.
 -- and of it among all
 pub rests_unarmed : (p time : ℕ) (sys : SysState) → (part_at p sys.machine).clocks.hardware_timer ≡ None → sys ≡ with_machine (with_part p (rested time (part_at p sys.machine)) sys.machine) sys
 rests_unarmed p time sys none =
-    sym (put_back p sys)
+    sym (part_put_back p sys)
     ∙ ap (λ (ps : PartitionState). with_machine (with_part p ps sys.machine) sys) (sym (rested_unarmed time (part_at p sys.machine) none))
 
 -- one of a pass

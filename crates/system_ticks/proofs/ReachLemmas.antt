@@ -7,6 +7,7 @@ use Rattle.health_monitor.specs.declared.effects.Whole.TheVariants as whole
 use Rattle.whole_system.specs.Serving.{without_traffic}
 use Rattle.whole_system.specs.State.{SysState, with_machine}
 use Rattle.whole_system.specs.declared.served.Note.TheVariants as note
+use Rattle.system_ticks.specs.PartLemmas.{part_put_back}
 use Rattle.machine_model.specs.Health.{Worked, by_interrupt, done_to_all, interrupt_delivered, quiet, self_ordered, undelivered}
 use Rattle.machine_model.specs.LocalTick.{by_act}
 use Rattle.machine_model.specs.Machine.{Machine}
@@ -24,7 +25,7 @@ use Rattle.system_ticks.specs.Work.{IsPartDone, ReachIsUponOne, IsTickWorked, ac
 use Rattle.system_ticks.specs.declared.beyond.Beyond.{Beyond}
 use Rattle.system_ticks.specs.declared.beyond.Beyond.TheVariants as beyond
 use Rattle.system_ticks.proofs.HealthLemmas.{is_work, silent}
-use Rattle.system_ticks.proofs.WorkLemmas.{done_then, put_back, put_there}
+use Rattle.system_ticks.proofs.WorkLemmas.{done_then, put_there}
 
 -- what reaches beyond a partition is no traffic
 pub still_act : (reach : Beyond) → traffic_of (act_beyond reach) ≡ OwnStill
@@ -98,7 +99,7 @@ interrupt_act view time n ps =
 
 -- nothing is done
 pub stays : (p : ℕ) (old : SysState) (had : List ReportLine) → IsPartDone p (part_at p old.machine) [] old old had had
-stays p old had = silent p (part_at p old.machine) old old had (sym (put_back p old))
+stays p old had = silent p (part_at p old.machine) old old had (sym (part_put_back p old))
 
 -- an order on the partition itself, and one on another
 own_order : (system : System) (p id : ℕ) (order : Order) (ps : PartitionState) → id ≡ p → by_act (told.Upon id order) (view_of system p) ps ≡ self_ordered (view_of system p) order ps

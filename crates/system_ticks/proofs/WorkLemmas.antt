@@ -1,6 +1,6 @@
 -- Parts of the work of one partition, one after the other.
 use Rattle.std.proofs.Common.{◌≡◌, ℕ, ◌<◌, List, ◌++◌, length, map, sym, ap, ◌∙◌}
-use Rattle.std.proofs.lemmas.List.{append_assoc, get_or-set_same, map-append, set-get_or, set-set}
+use Rattle.std.proofs.lemmas.List.{append_assoc, get_or-set_same, map-append, set-set}
 use Rattle.xm_report.specs.Report.{ReportLine}
 use Rattle.whole_system.specs.State.{SysState, with_machine}
 use Rattle.machine_model.specs.Machine.{Machine, booted_part}
@@ -9,11 +9,6 @@ use Rattle.machine_model.specs.Told.{Told, line_of}
 use Rattle.machine_model.specs.View.{PartitionView, view_of}
 use Rattle.slot_runs.specs.Passes.{part_at, with_part}
 use Rattle.system_ticks.specs.Work.{IsPartDone}
-
--- a partition that stays as it is
-pub put_back : (p : ℕ) (sys : SysState) → with_machine (with_part p (part_at p sys.machine) sys.machine) sys ≡ sys
-put_back p sys =
-    ap (λ (parts : List PartitionState). with_machine (record sys.machine { parts = parts }) sys) (set-get_or sys.machine.parts p (booted_part sys.machine.system p))
 
 -- the partition of a system in which it was put
 pub put_there : (p : ℕ) (x : PartitionState) (g : Machine) (sys old : SysState) → p < length g.parts → sys ≡ with_machine (with_part p x g) old → part_at p sys.machine ≡ x

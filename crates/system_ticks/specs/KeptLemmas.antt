@@ -16,9 +16,10 @@ use Rattle.xm_conf.specs.Fits.{Fits}
 use Rattle.xm_ports.specs.Channels.{cleared, shapes_of}
 use Rattle.xm_ports.specs.Ports.{no_ports}
 use Rattle.whole_system.specs.State.{SysState, part_at, with_machine, with_part}
+use Rattle.machine_model.specs.TickLemmas.{step_runs, step_halted}
 use Rattle.machine_model.specs.ListLemmas.{get_each, each_counted as each_length}
 use Rattle.machine_model.specs.Facts.{AreEnds, AreFacts, BootsClocked, BootsComplete, BootsTimed, BootsWithFacts, HasFacts, IsAsMany, IsClocked, IsComplete, IsTimed, KeepsClocked, KeepsFacts, KeepsNumbers, KeepsTimed, begun}
-use Rattle.machine_model.specs.Machine.{Machine, after, booted_part, happened, is_halt, run, start, step, step_unless}
+use Rattle.machine_model.specs.Machine.{Machine, after, booted_part, happened, is_halt, run, start, step}
 use Rattle.machine_model.specs.Partition.{PartitionState, is_halted, reset}
 use Rattle.machine_model.specs.Structures.{flag}
 use Rattle.machine_model.specs.View.{PartitionView, System, view_of}
@@ -46,15 +47,6 @@ event_stands : (e : WholeEvent) (n : ℕ) → is_halt e ≡ true → ticks_after
 event_stands NoEvent n halts = absurd cc
 event_stands (AllReset mode) n halts = absurd cc
 event_stands AllHalted n halts = refl
-
--- a tick of a machine that has not halted, and of one that has
-step_runs : (g : Machine) → g.halted ≡ false → step g ≡ after g (happened g)
-unfolding step
-step_runs g runs = ap (λ b. step_unless b g) runs
-
-pub step_halted : (g : Machine) → g.halted ≡ true → step g ≡ g
-unfolding step
-step_halted g halts = ap (λ b. step_unless b g) halts
 
 -- what a tick counts
 record Counts (g next : Machine) : Type 0 where

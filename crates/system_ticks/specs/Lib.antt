@@ -5,6 +5,7 @@ pub mod KeptLemmas
 pub mod LaterLemmas
 pub mod ListLemmas
 pub mod Machine
+pub mod PartLemmas
 pub mod Place
 pub mod PlaceLemmas
 pub mod Quiet

@@ -2,12 +2,12 @@
 use Rattle.std.proofs.Common.{◌≡◌, ℕ, ◌≤◌, ◌<◌, true, List, length, Option, refl, sym, ap, ◌∙◌, subst, arith}
 use Rattle.std.specs.Prelude.{Result, Ok, Err}
 use Rattle.xm_report.specs.declared.output.WriteFault.{WriteFault}
+use Rattle.machine_model.specs.TickLemmas.{step_halted}
 use Rattle.machine_model.specs.Laws as laws
 use Rattle.machine_model.specs.Laws.{AllTicks, BootsAlone, OwnLines, alone_part_at}
 use Rattle.machine_model.specs.Lines.{own, report}
 use Rattle.machine_model.specs.Machine.{Machine, run, start}
 use Rattle.machine_model.specs.View.{System}
-use Rattle.system_ticks.specs.KeptLemmas.{step_halted}
 use Rattle.xm_machine.specs.Alone.{AreAlone, AreBootedAlone, IsBootedAlone, RunsEachAlone}
 use Rattle.xm_machine.specs.Outcome.{IsRun, report_of}
 use Rattle.xm_machine.specs.Steps.{IsStep, IsStepCut}

@@ -6,13 +6,14 @@ use Rattle.std.proofs.lemmas.List.{append-nil}
 use Rattle.xm_outside.specs.Growth.{grown, grown-nothing, grown_grown, GrewByPrefix}
 use Rattle.xm_report.specs.Report.{ReportLine, texts, texts-append}
 use Rattle.xm_report.specs.declared.output.WriteFault.{WriteFault}
+use Rattle.machine_model.specs.TickLemmas.{step_halted}
 use Rattle.machine_model.specs.Lines.{lines, lines_unless, step_lines}
 use Rattle.machine_model.specs.Machine.{Machine, run, step}
 use Rattle.machine_model.specs.Structures.{flag}
 use Rattle.whole_system.specs.State.{SysState}
 use Rattle.slot_runs.specs.RunLemmas.{lines_add, run_add}
 use Rattle.xm_machine.proofs.FrontLemmas.{front_of_all}
-use Rattle.system_ticks.specs.KeptLemmas.{run_halted, step_halted, ticks_exact, ticks_least}
+use Rattle.system_ticks.specs.KeptLemmas.{run_halted, ticks_exact, ticks_least}
 use Rattle.xm_machine.specs.Outcome.{HasWriteCause, IsTick}
 use Rattle.system_ticks.specs.Span.{IsSpanDone, console_lines, ends_so}
 use Rattle.xm_machine.specs.Steps.{AreCut, AreRun, IsStep, IsStepCut, Tells}

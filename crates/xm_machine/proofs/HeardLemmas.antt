@@ -17,6 +17,7 @@ use Rattle.xm_conf.specs.Fits.{Fits}
 use Rattle.xm_report.specs.Report.{ConsoleLine, EndPart, EndWhole, HealthLine, MovedLine, PlanLine, ReportLine, SystemLine, TraceLine, WholeLine}
 use Rattle.whole_system.specs.State.{SysState}
 use Rattle.alone_passes.specs.Passes.{part_in}
+use Rattle.machine_model.specs.TickLemmas.{step_halted}
 use Rattle.machine_model.specs.Alone.{Alone, alone_lines_of, alone_local, alone_local_in, alone_step_lines, alone_step_said}
 use Rattle.machine_model.specs.Cue.{Away, Cue, Mine, CueSlot}
 use Rattle.machine_model.specs.Facts.{RunsKeepNumbers}
@@ -33,7 +34,7 @@ use Rattle.machine_model.specs.Whole.{AllHalted, AllReset, NoEvent, WholeEvent, 
 use Rattle.slot_runs.specs.Passes.{part_at}
 use Rattle.slot_runs.specs.RunLemmas.{console_add, run_add}
 use Rattle.xm_machine.proofs.GoingLemmas.{lines_halted, state_on}
-use Rattle.system_ticks.specs.KeptLemmas.{step_halted, ticks_exact}
+use Rattle.system_ticks.specs.KeptLemmas.{ticks_exact}
 use Rattle.system_ticks.specs.TickLines.{IsOtherLine}
 use Rattle.xm_machine.specs.AloneStep.{said_alone}
 use Rattle.xm_machine.specs.Heard.{IsRunHeard, console_to, line_to, lines_to}
