@@ -9,21 +9,14 @@ ghost use Rattle.xmcf_check.specs.Misplaced.{misplace};
 
 use crate::broken::{alone, unless};
 use crate::gathered::{Ids, PlanIds};
-use xm_conf::{Broken, Item};
+use xm_conf::{Broken, Item, first_of_each};
 
 /// The place of the first id that is not its place.
-#[tactic(auto, using(xm_conf::specs::AlongLemmas::each_loop))]
 fn misplaced(ids: &[u32]) -> Option<u8>
     requires { length ids.now ≤ 64 }
     ensures { result ≡ head_of (added_by_each misplace ids.now) }
 {
-    for (n, id) in ids.iter().enumerate() {
-        let place = misplace(n as u8, *id);
-        if place.is_some() {
-            return place;
-        }
-    }
-    None
+    first_of_each(ids, |n, id| misplace(n, *id))
 }
 
 /// The place, where the id is another.
@@ -83,19 +76,12 @@ fn plan_misplaced(n: u8, ids: &PlanIds) -> Option<Broken>
 }
 
 /// The first plan or slot whose id is not its place.
-#[tactic(auto, using(xm_conf::specs::AlongLemmas::each_loop))]
 fn plans_misplaced(ids: &[PlanIds]) -> Option<Broken>
     requires few { length ids.now ≤ 8 }
     requires slots { All (λ plan. length plan.slots ≤ 64) ids.now }
     ensures { result ≡ head_of (added_by_each rules.plan_misplaced ids.now) }
 {
-    for (n, plan) in ids.iter().enumerate() {
-        let broken = plan_misplaced(n as u8, plan);
-        if broken.is_some() {
-            return broken;
-        }
-    }
-    None
+    first_of_each(ids, |n, plan| plan_misplaced(n, plan))
 }
 
 /// The first item whose id is not its place.
