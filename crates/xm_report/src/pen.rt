@@ -71,6 +71,16 @@ impl Pen {
         self.text(buffer.format(n).as_bytes());
     }
 
+    /// Writes what stands before a number, and the number in decimal.
+    pub fn field(&mut self, before: &[u8], n: u64)
+        requires { HasRoom self.old (length before.now + 20) }
+        ensures value { self.new ≡ self.old ++ before.now ++ decimal n }
+        ensures room { length self.new ≤ length self.old + (length before.now + 20) }
+    {
+        self.text(before);
+        self.number(n);
+    }
+
     /// Writes a word with eight hexadecimal digits.
     pub fn word(&mut self, word: u32)
         requires { HasRoom self.old 8 }

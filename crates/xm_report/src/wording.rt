@@ -20,12 +20,9 @@ fn system_line(pen: &mut Pen, parts: u8, plans: u8, ticks: u64)
     requires { pen.old ≡ [] }
     ensures { pen.new ≡ system_text parts plans ticks }
 {
-    pen.text(b"SYSTEM parts=");
-    pen.number(u64::from(parts));
-    pen.text(b" plans=");
-    pen.number(u64::from(plans));
-    pen.text(b" ticks=");
-    pen.number(ticks);
+    pen.field(b"SYSTEM parts=", u64::from(parts));
+    pen.field(b" plans=", u64::from(plans));
+    pen.field(b" ticks=", ticks);
     pen.text(b"\n");
 }
 
@@ -35,10 +32,8 @@ fn console_line(pen: &mut Pen, n: u64, p: PartId, bytes: &[u8])
     requires short { length bytes.now ≤ CONSOLE_BYTES }
     ensures { pen.new ≡ console_text n p bytes.now }
 {
-    pen.text(b"[");
-    pen.number(n);
-    pen.text(b"] P");
-    pen.number(u64::from(p));
+    pen.field(b"[", n);
+    pen.field(b"] P", u64::from(p));
     pen.text(b" CON ");
     pen.escaped(bytes);
     pen.text(b"\n");
@@ -49,10 +44,8 @@ fn health_line(pen: &mut Pen, n: u64, p: PartId, event: Event, word: u32, action
     requires { pen.old ≡ [] }
     ensures { pen.new ≡ health_text n p event word action }
 {
-    pen.text(b"[");
-    pen.number(n);
-    pen.text(b"] P");
-    pen.number(u64::from(p));
+    pen.field(b"[", n);
+    pen.field(b"] P", u64::from(p));
     pen.text(b" HM ");
     pen.name(event.text());
     pen.text(b" ");
@@ -67,10 +60,8 @@ fn trace_line(pen: &mut Pen, n: u64, p: PartId, bits: u32, load: [u8; 8])
     requires { pen.old ≡ [] }
     ensures { pen.new ≡ trace_text n p bits load }
 {
-    pen.text(b"[");
-    pen.number(n);
-    pen.text(b"] P");
-    pen.number(u64::from(p));
+    pen.field(b"[", n);
+    pen.field(b"] P", u64::from(p));
     pen.text(b" TRACE ");
     pen.word(bits);
     pen.text(b" ");
@@ -83,10 +74,8 @@ fn moved_line(pen: &mut Pen, n: u64, p: PartId, to: Move)
     requires { pen.old ≡ [] }
     ensures { pen.new ≡ moved_text n p to }
 {
-    pen.text(b"[");
-    pen.number(n);
-    pen.text(b"] P");
-    pen.number(u64::from(p));
+    pen.field(b"[", n);
+    pen.field(b"] P", u64::from(p));
     pen.text(b" ");
     pen.name(to.text());
     pen.text(b"\n");
@@ -97,8 +86,7 @@ fn whole_line(pen: &mut Pen, n: u64, to: Move)
     requires { pen.old ≡ [] }
     ensures { pen.new ≡ whole_text n to }
 {
-    pen.text(b"[");
-    pen.number(n);
+    pen.field(b"[", n);
     pen.text(b"] XM ");
     pen.name(to.text());
     pen.text(b"\n");
@@ -109,10 +97,8 @@ fn plan_line(pen: &mut Pen, n: u64, plan: u8)
     requires { pen.old ≡ [] }
     ensures { pen.new ≡ plan_text n plan }
 {
-    pen.text(b"[");
-    pen.number(n);
-    pen.text(b"] XM PLAN ");
-    pen.number(u64::from(plan));
+    pen.field(b"[", n);
+    pen.field(b"] XM PLAN ", u64::from(plan));
     pen.text(b"\n");
 }
 
@@ -121,14 +107,11 @@ fn end_part_line(pen: &mut Pen, p: PartId, state: State, resets: u32, exec: u64,
     requires { pen.old ≡ [] }
     ensures { pen.new ≡ end_part_text p state resets exec pc }
 {
-    pen.text(b"END P");
-    pen.number(u64::from(p));
+    pen.field(b"END P", u64::from(p));
     pen.text(b" ");
     pen.name(state.text());
-    pen.text(b" resets=");
-    pen.number(u64::from(resets));
-    pen.text(b" exec=");
-    pen.number(exec);
+    pen.field(b" resets=", u64::from(resets));
+    pen.field(b" exec=", exec);
     pen.text(b" pc=");
     pen.word(pc);
     pen.text(b"\n");
@@ -141,12 +124,9 @@ fn end_whole_line(pen: &mut Pen, halted: bool, plan: u8, clock: u64, ticks: u64)
 {
     pen.text(b"END XM ");
     pen.name(running(halted));
-    pen.text(b" plan=");
-    pen.number(u64::from(plan));
-    pen.text(b" clock=");
-    pen.number(clock);
-    pen.text(b" ticks=");
-    pen.number(ticks);
+    pen.field(b" plan=", u64::from(plan));
+    pen.field(b" clock=", clock);
+    pen.field(b" ticks=", ticks);
     pen.text(b"\n");
 }
 
