@@ -1,16 +1,31 @@
 -- Loads and stores are the same wherever they stand.
-use Rattle.std.proofs.Common.{◌≡◌, ℕ, ◌+◌, ◌/◌, ◌%◌, ◌^◌, List, Result, Ok, Err, Option, Some, None, refl, sym, ap, ◌∙◌}
+use Rattle.std.proofs.Common.{◌≡◌, ◌≢◌, ℕ, ◌+◌, ◌/◌, ◌%◌, ◌^◌, List, Result, Ok, Err, Option, Some, None, refl, sym, ap, ◌∙◌}
 use Rattle.guest_bus.specs.Access.{Stores, after_store, loaded, memory_unless_refused, store_fault}
 use Rattle.guest_bus.specs.Memory.{Area, Memory}
 use Rattle.guest_bus.specs.declared.bus.BusFault.{BusFault}
 use Rattle.guest_bus.specs.declared.bus.Size.{Size}
-use Rattle.guest_bus.specs.declared.bus.Size.TheVariants.{Eight}
+use Rattle.guest_bus.specs.declared.bus.Size.TheVariants.{One, Two, Four, Eight}
 use Rattle.sparc_code.specs.declared.instruction.MemOp.{MemOp}
 use Rattle.sparc_code.specs.declared.instruction.MemOp.TheVariants.{LdD}
 use Rattle.sparc_step.specs.Registers.{Registers, advanced, placed, register_at, with_register}
-use Rattle.sparc_step.specs.Transfers.{Turned, done, loaded_into, pair_at, pair_loaded, store_of, stored_from, transfer, with_pair}
+use Rattle.sparc_step.specs.Transfers.{Turned, done, loaded_into, low_word, pair_at, pair_loaded, store_of, stored_from, transfer, with_pair}
 use Rattle.straight_runs.specs.Effects.{IsTransferred}
+use Rattle.straight_runs.specs.Kinds.{load_of}
+use Rattle.straight_runs.specs.Kinds as kinds
 use Rattle.straight_runs.specs.PlacedLemmas.{advanced-placed, register_at-placed, with_register-placed, with_result-placed}
+
+-- the load of a size below a double word, and the store
+pub load_row : (size : Size) (rd address : ℕ) (areas : List Area) (core : Registers) (memory : Memory) → size ≢ Eight → transfer (load_of size) rd address areas core memory ≡ loaded_into (loaded areas memory address size) low_word rd core memory
+load_row One rd address areas core memory single = refl
+load_row Two rd address areas core memory single = refl
+load_row Four rd address areas core memory single = refl
+load_row Eight rd address areas core memory single = absurd (single refl)
+
+pub store_row : (size : Size) (rd address : ℕ) (areas : List Area) (core : Registers) (memory : Memory) → size ≢ Eight → transfer (kinds.store_of size) rd address areas core memory ≡ store_of (register_at core rd) address size areas core memory
+store_row One rd address areas core memory single = refl
+store_row Two rd address areas core memory single = refl
+store_row Four rd address areas core memory single = refl
+store_row Eight rd address areas core memory single = absurd (single refl)
 
 -- a load that was answered
 pub load-IsTransferred : (operation : MemOp) (size : Size) (extended : ℕ → ℕ) (rd address value : ℕ) (areas : List Area) (old new : Registers) (memory after : Memory)

@@ -150,74 +150,44 @@ taken_turns row origin at to old is told reach instr.Float areas memory kind = a
 taken_turns row origin at to old is told reach instr.Coproc areas memory kind = absurd (omega (arith, is, kind))
 taken_turns row origin at to old is told reach instr.Illegal areas memory kind = absurd (omega (arith, is, kind))
 
+-- what holds of each branch that may annul and that a row does holds of its instruction
+of_annulling : (P : Instr → Type 0) (row : Row) → row.kind ≡ 36 → ((condition : ℕ) (disp : ℤ) → row.rs1 ≡ condition → row.number ≡ residue 32 disp → P (instr.Branch condition true disp)) → (i : Instr) → IsRowOf row i → P i
+of_annulling P row is annulling (instr.Call disp) (kind, number) = absurd (omega (arith, is, kind))
+of_annulling P row is annulling (instr.Branch condition true disp) (kind, first, number) = annulling condition disp first number
+of_annulling P row is annulling (instr.Branch condition false disp) (kind, first, number) = absurd (omega (arith, is, kind))
+of_annulling P row is annulling (instr.Sethi rd imm) (kind, result, first, second, number) = absurd (omega (arith, is, kind))
+of_annulling P row is annulling (instr.Arith operation rd rs1 source) does = absurd (arith_rare operation row.kind does.work (omega (arith, is)) (omega (arith, is)))
+of_annulling P row is annulling (instr.ReadY rd) (kind, result) = absurd (omega (arith, is, kind))
+of_annulling P row is annulling instr.Barrier kind = absurd (omega (arith, is, kind))
+of_annulling P row is annulling (instr.WriteY rs1 source) does = absurd (omega (arith, is, does.work))
+of_annulling P row is annulling (instr.Jump rd rs1 source) does = absurd (omega (arith, is, does.work))
+of_annulling P row is annulling (instr.Trap condition rs1 source) kind = absurd (omega (arith, is, kind))
+of_annulling P row is annulling instr.Flush kind = absurd (omega (arith, is, kind))
+of_annulling P row is annulling (instr.Save rd rs1 source) does = absurd (omega (arith, is, does.work))
+of_annulling P row is annulling (instr.Restore rd rs1 source) does = absurd (omega (arith, is, does.work))
+of_annulling P row is annulling (instr.Mem operation rd rs1 source) does = absurd (transfer_apart operation row.kind does.work (omega (arith, is)) (omega (arith, is)))
+of_annulling P row is annulling instr.Privileged kind = absurd (omega (arith, is, kind))
+of_annulling P row is annulling instr.Float kind = absurd (omega (arith, is, kind))
+of_annulling P row is annulling instr.Coproc kind = absurd (omega (arith, is, kind))
+of_annulling P row is annulling instr.Illegal kind = absurd (omega (arith, is, kind))
+
 -- kind 36, which is taken on a condition
 pub annulling_turns : (row : Row) (origin at to : ℕ) (old : Registers) → row.kind ≡ 36 → holds row.rs1 old.icc ≡ true → row.rs1 ≢ 8 → word_address origin to ≡ (word_address origin at + 4 * row.number) % 2 ^ 32
     → (i : Instr) (areas : List Area) (memory : Memory) → IsRowOf row i → executed i areas (at_place origin at old) memory ≡ done (at_slot origin (at + 1) to old) memory
-annulling_turns row origin at to old is told some reach (instr.Call disp) areas memory (kind, number) = absurd (omega (arith, is, kind))
-annulling_turns row origin at to old is told some reach (instr.Branch condition true disp) areas memory (kind, first, number) =
-    branch_to origin at to row.number condition true disp areas old memory (ap (λ (c : ℕ). holds c old.icc) (sym first) ∙ told) (not_always condition (λ eight. some (first ∙ eight))) reach number
-annulling_turns row origin at to old is told some reach (instr.Branch condition false disp) areas memory (kind, first, number) = absurd (omega (arith, is, kind))
-annulling_turns row origin at to old is told some reach (instr.Sethi rd imm) areas memory (kind, result, first, second, number) = absurd (omega (arith, is, kind))
-annulling_turns row origin at to old is told some reach (instr.Arith operation rd rs1 source) areas memory does = absurd (arith_rare operation row.kind does.work (omega (arith, is)) (omega (arith, is)))
-annulling_turns row origin at to old is told some reach (instr.ReadY rd) areas memory (kind, result) = absurd (omega (arith, is, kind))
-annulling_turns row origin at to old is told some reach instr.Barrier areas memory kind = absurd (omega (arith, is, kind))
-annulling_turns row origin at to old is told some reach (instr.WriteY rs1 source) areas memory does = absurd (omega (arith, is, does.work))
-annulling_turns row origin at to old is told some reach (instr.Jump rd rs1 source) areas memory does = absurd (omega (arith, is, does.work))
-annulling_turns row origin at to old is told some reach (instr.Trap condition rs1 source) areas memory kind = absurd (omega (arith, is, kind))
-annulling_turns row origin at to old is told some reach instr.Flush areas memory kind = absurd (omega (arith, is, kind))
-annulling_turns row origin at to old is told some reach (instr.Save rd rs1 source) areas memory does = absurd (omega (arith, is, does.work))
-annulling_turns row origin at to old is told some reach (instr.Restore rd rs1 source) areas memory does = absurd (omega (arith, is, does.work))
-annulling_turns row origin at to old is told some reach (instr.Mem operation rd rs1 source) areas memory does = absurd (transfer_apart operation row.kind does.work (omega (arith, is)) (omega (arith, is)))
-annulling_turns row origin at to old is told some reach instr.Privileged areas memory kind = absurd (omega (arith, is, kind))
-annulling_turns row origin at to old is told some reach instr.Float areas memory kind = absurd (omega (arith, is, kind))
-annulling_turns row origin at to old is told some reach instr.Coproc areas memory kind = absurd (omega (arith, is, kind))
-annulling_turns row origin at to old is told some reach instr.Illegal areas memory kind = absurd (omega (arith, is, kind))
+annulling_turns row origin at to old is told some reach i areas memory = of_annulling (λ i. executed i areas (at_place origin at old) memory ≡ done (at_slot origin (at + 1) to old) memory) row is (λ condition disp first number.
+    branch_to origin at to row.number condition true disp areas old memory (ap (λ (c : ℕ). holds c old.icc) (sym first) ∙ told) (not_always condition (λ eight. some (first ∙ eight))) reach number) i
 
 -- kind 36, which is taken always
 pub always_turns : (row : Row) (origin at to : ℕ) (old : Registers) → row.kind ≡ 36 → holds row.rs1 old.icc ≡ true → row.rs1 ≡ 8 → word_address origin to ≡ (word_address origin at + 4 * row.number) % 2 ^ 32
     → (i : Instr) (areas : List Area) (memory : Memory) → IsRowOf row i → executed i areas (at_place origin at old) memory ≡ done (at_place origin to old) memory
-always_turns row origin at to old is told always reach (instr.Call disp) areas memory (kind, number) = absurd (omega (arith, is, kind))
-always_turns row origin at to old is told always reach (instr.Branch condition true disp) areas memory (kind, first, number) =
-    always_to origin at to row.number condition disp areas old memory (ap (λ (c : ℕ). holds c old.icc) (sym first) ∙ told) (sym first ∙ always) reach number
-always_turns row origin at to old is told always reach (instr.Branch condition false disp) areas memory (kind, first, number) = absurd (omega (arith, is, kind))
-always_turns row origin at to old is told always reach (instr.Sethi rd imm) areas memory (kind, result, first, second, number) = absurd (omega (arith, is, kind))
-always_turns row origin at to old is told always reach (instr.Arith operation rd rs1 source) areas memory does = absurd (arith_rare operation row.kind does.work (omega (arith, is)) (omega (arith, is)))
-always_turns row origin at to old is told always reach (instr.ReadY rd) areas memory (kind, result) = absurd (omega (arith, is, kind))
-always_turns row origin at to old is told always reach instr.Barrier areas memory kind = absurd (omega (arith, is, kind))
-always_turns row origin at to old is told always reach (instr.WriteY rs1 source) areas memory does = absurd (omega (arith, is, does.work))
-always_turns row origin at to old is told always reach (instr.Jump rd rs1 source) areas memory does = absurd (omega (arith, is, does.work))
-always_turns row origin at to old is told always reach (instr.Trap condition rs1 source) areas memory kind = absurd (omega (arith, is, kind))
-always_turns row origin at to old is told always reach instr.Flush areas memory kind = absurd (omega (arith, is, kind))
-always_turns row origin at to old is told always reach (instr.Save rd rs1 source) areas memory does = absurd (omega (arith, is, does.work))
-always_turns row origin at to old is told always reach (instr.Restore rd rs1 source) areas memory does = absurd (omega (arith, is, does.work))
-always_turns row origin at to old is told always reach (instr.Mem operation rd rs1 source) areas memory does = absurd (transfer_apart operation row.kind does.work (omega (arith, is)) (omega (arith, is)))
-always_turns row origin at to old is told always reach instr.Privileged areas memory kind = absurd (omega (arith, is, kind))
-always_turns row origin at to old is told always reach instr.Float areas memory kind = absurd (omega (arith, is, kind))
-always_turns row origin at to old is told always reach instr.Coproc areas memory kind = absurd (omega (arith, is, kind))
-always_turns row origin at to old is told always reach instr.Illegal areas memory kind = absurd (omega (arith, is, kind))
+always_turns row origin at to old is told always reach i areas memory = of_annulling (λ i. executed i areas (at_place origin at old) memory ≡ done (at_place origin to old) memory) row is (λ condition disp first number.
+    always_to origin at to row.number condition disp areas old memory (ap (λ (c : ℕ). holds c old.icc) (sym first) ∙ told) (sym first ∙ always) reach number) i
 
 -- kind 36, which is not taken
 pub skipping_turns : (row : Row) (origin at : ℕ) (old : Registers) → row.kind ≡ 36 → holds row.rs1 old.icc ≡ false
     → (i : Instr) (areas : List Area) (memory : Memory) → IsRowOf row i → executed i areas (at_place origin at old) memory ≡ done (at_place origin (at + 2) old) memory
-skipping_turns row origin at old is told (instr.Call disp) areas memory (kind, number) = absurd (omega (arith, is, kind))
-skipping_turns row origin at old is told (instr.Branch condition true disp) areas memory (kind, first, number) =
-    skipped_to origin at condition disp areas old memory (ap (λ (c : ℕ). holds c old.icc) (sym first) ∙ told)
-skipping_turns row origin at old is told (instr.Branch condition false disp) areas memory (kind, first, number) = absurd (omega (arith, is, kind))
-skipping_turns row origin at old is told (instr.Sethi rd imm) areas memory (kind, result, first, second, number) = absurd (omega (arith, is, kind))
-skipping_turns row origin at old is told (instr.Arith operation rd rs1 source) areas memory does = absurd (arith_rare operation row.kind does.work (omega (arith, is)) (omega (arith, is)))
-skipping_turns row origin at old is told (instr.ReadY rd) areas memory (kind, result) = absurd (omega (arith, is, kind))
-skipping_turns row origin at old is told instr.Barrier areas memory kind = absurd (omega (arith, is, kind))
-skipping_turns row origin at old is told (instr.WriteY rs1 source) areas memory does = absurd (omega (arith, is, does.work))
-skipping_turns row origin at old is told (instr.Jump rd rs1 source) areas memory does = absurd (omega (arith, is, does.work))
-skipping_turns row origin at old is told (instr.Trap condition rs1 source) areas memory kind = absurd (omega (arith, is, kind))
-skipping_turns row origin at old is told instr.Flush areas memory kind = absurd (omega (arith, is, kind))
-skipping_turns row origin at old is told (instr.Save rd rs1 source) areas memory does = absurd (omega (arith, is, does.work))
-skipping_turns row origin at old is told (instr.Restore rd rs1 source) areas memory does = absurd (omega (arith, is, does.work))
-skipping_turns row origin at old is told (instr.Mem operation rd rs1 source) areas memory does = absurd (transfer_apart operation row.kind does.work (omega (arith, is)) (omega (arith, is)))
-skipping_turns row origin at old is told instr.Privileged areas memory kind = absurd (omega (arith, is, kind))
-skipping_turns row origin at old is told instr.Float areas memory kind = absurd (omega (arith, is, kind))
-skipping_turns row origin at old is told instr.Coproc areas memory kind = absurd (omega (arith, is, kind))
-skipping_turns row origin at old is told instr.Illegal areas memory kind = absurd (omega (arith, is, kind))
+skipping_turns row origin at old is told i areas memory = of_annulling (λ i. executed i areas (at_place origin at old) memory ≡ done (at_place origin (at + 2) old) memory) row is (λ condition disp first number.
+    skipped_to origin at condition disp areas old memory (ap (λ (c : ℕ). holds c old.icc) (sym first) ∙ told)) i
 
 -- kind 34
 pub call_turns : (row : Row) (origin at to : ℕ) (old new : Registers) → row.kind ≡ 34 → new ≡ with_register old 15 (word_address origin at) → word_address origin to ≡ (word_address origin at + 4 * row.number) % 2 ^ 32

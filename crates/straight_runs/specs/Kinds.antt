@@ -1,5 +1,7 @@
 -- What a row does, as a number: the frequent ones first, so that few compares tell them.
 use Rattle.std.specs.Prelude.{ℕ, Bool, ◌==◌, if◌then◌else◌}
+use Rattle.guest_bus.specs.declared.bus.Size.{Size}
+use Rattle.guest_bus.specs.declared.bus.Size.TheVariants.{One, Two, Four, Eight}
 use Rattle.sparc_code.specs.declared.instruction.Arith.{Arith}
 use Rattle.sparc_code.specs.declared.instruction.Arith.TheVariants.{Add, And, Or, Xor, Sub, AndN, OrN, XNor, AddX, UMul, SMul, SubX, UDiv, SDiv, AddCc, AndCc, OrCc, XorCc, SubCc, AndNCc, OrNCc, XNorCc, AddXCc, UMulCc, SMulCc, SubXCc, UDivCc, SDivCc, TAddCc, TSubCc, TAddCcTv, TSubCcTv, MulSCc, Sll, Srl, Sra}
 use Rattle.sparc_code.specs.declared.instruction.MemOp.{MemOp}
@@ -80,3 +82,16 @@ transfer_of kind =
     else if kind == 20 then StB
     else if kind == 21 then StH
     else StD
+
+-- the load that extends its value by zeros, and the store, of a size below a double word
+abbrev pub load_of : Size → MemOp
+load_of One = LdUb
+load_of Two = LdUh
+load_of Four = Ld
+load_of Eight = LdD
+
+abbrev pub store_of : Size → MemOp
+store_of One = StB
+store_of Two = StH
+store_of Four = St
+store_of Eight = StD

@@ -14,7 +14,7 @@ use Rattle.sparc_step.specs.Registers.{Registers, advanced, in_window, placed, r
 use Rattle.straight_runs.specs.Effects.{y_of}
 use Rattle.straight_runs.specs.Kinds.{row_kind_of}
 use Rattle.straight_runs.specs.PlacedLemmas.{advanced-placed, register_at-placed, sum_of-placed, value_of-placed, with_result-placed, with_y-placed}
-use Rattle.straight_runs.specs.Rows.{HasSource, IsRowOf}
+use Rattle.straight_runs.specs.Rows.{HasSource, IsRowOf, RowDoes}
 use Rattle.straight_runs.specs.StepLemmas.{branch_apart, transfer_apart}
 use Rattle.straight_runs.specs.Steps.{Goes}
 use Rattle.straight_runs.specs.WindowLemmas.{moved-placed, window_above-placed, window_below-placed}
@@ -84,29 +84,33 @@ read_y_goes rd areas old new memory after is same = λ pc npc.
     ∙ ap (λ (core : Registers). done (placed npc ((npc + 4) % 2 ^ 32) core) memory) (sym is)
     ∙ ap (done (placed npc ((npc + 4) % 2 ^ 32) new)) (sym same)
 
+-- a window that is entered from the one beside it
+window_goes : (i : Instr) (trap rd rs1 window : ℕ) (source : Src) (toward : Registers → ℕ) (areas : List Area) (old new : Registers) (memory after : Memory)
+    → ((core : Registers) → executed i areas core memory ≡ keeping_memory memory (moved (toward core) trap rd (sum_of rs1 source core) core)) → ((pc npc : ℕ) → toward (placed pc npc old) ≡ window)
+    → window ≢ old.inv → new ≡ with_register (in_window old window) rd (sum_of rs1 source old) → after ≡ memory → Goes i areas old new memory after
+window_goes i trap rd rs1 window source toward areas old new memory after row beside valid is same = λ pc npc.
+    row (placed pc npc old)
+    ∙ ap (λ (w : ℕ). keeping_memory memory (moved w trap rd (sum_of rs1 source (placed pc npc old)) (placed pc npc old))) (beside pc npc)
+    ∙ ap (λ (value : ℕ). keeping_memory memory (moved window trap rd value (placed pc npc old))) (sum_of-placed rs1 source old pc npc)
+    ∙ ap (keeping_memory memory) (moved-placed old pc npc window trap rd (sum_of rs1 source old) valid)
+    ∙ ap (λ (core : Registers). done (placed npc ((npc + 4) % 2 ^ 32) core) memory) (sym is)
+    ∙ ap (done (placed npc ((npc + 4) % 2 ^ 32) new)) (sym same)
+
 -- SAVE
 save_goes : (rd rs1 window : ℕ) (source : Src) (areas : List Area) (old new : Registers) (memory after : Memory)
     → window ≡ (old.cwp + 7) % 8 → window ≢ old.inv → new ≡ with_register (in_window old window) rd (sum_of rs1 source old) → after ≡ memory
     → Goes (instr.Save rd rs1 source) areas old new memory after
 unfolding window_below
-save_goes rd rs1 window source areas old new memory after below valid is same = λ pc npc.
-    ap (λ (w : ℕ). keeping_memory memory (moved w 0x05 rd (sum_of rs1 source (placed pc npc old)) (placed pc npc old))) (window_below-placed old pc npc ∙ sym below)
-    ∙ ap (λ (value : ℕ). keeping_memory memory (moved window 0x05 rd value (placed pc npc old))) (sum_of-placed rs1 source old pc npc)
-    ∙ ap (keeping_memory memory) (moved-placed old pc npc window 0x05 rd (sum_of rs1 source old) valid)
-    ∙ ap (λ (core : Registers). done (placed npc ((npc + 4) % 2 ^ 32) core) memory) (sym is)
-    ∙ ap (done (placed npc ((npc + 4) % 2 ^ 32) new)) (sym same)
+save_goes rd rs1 window source areas old new memory after below valid is same =
+    window_goes (instr.Save rd rs1 source) 0x05 rd rs1 window source window_below areas old new memory after (λ core. refl) (λ pc npc. window_below-placed old pc npc ∙ sym below) valid is same
 
 -- RESTORE
 restore_goes : (rd rs1 window : ℕ) (source : Src) (areas : List Area) (old new : Registers) (memory after : Memory)
     → window ≡ (old.cwp + 1) % 8 → window ≢ old.inv → new ≡ with_register (in_window old window) rd (sum_of rs1 source old) → after ≡ memory
     → Goes (instr.Restore rd rs1 source) areas old new memory after
 unfolding window_above
-restore_goes rd rs1 window source areas old new memory after above valid is same = λ pc npc.
-    ap (λ (w : ℕ). keeping_memory memory (moved w 0x06 rd (sum_of rs1 source (placed pc npc old)) (placed pc npc old))) (window_above-placed old pc npc ∙ sym above)
-    ∙ ap (λ (value : ℕ). keeping_memory memory (moved window 0x06 rd value (placed pc npc old))) (sum_of-placed rs1 source old pc npc)
-    ∙ ap (keeping_memory memory) (moved-placed old pc npc window 0x06 rd (sum_of rs1 source old) valid)
-    ∙ ap (λ (core : Registers). done (placed npc ((npc + 4) % 2 ^ 32) core) memory) (sym is)
-    ∙ ap (done (placed npc ((npc + 4) % 2 ^ 32) new)) (sym same)
+restore_goes rd rs1 window source areas old new memory after above valid is same =
+    window_goes (instr.Restore rd rs1 source) 0x06 rd rs1 window source window_above areas old new memory after (λ core. refl) (λ pc npc. window_above-placed old pc npc ∙ sym above) valid is same
 
 -- kind 30
 pub write_y_kind : (row : Row) (areas : List Area) (old new : Registers) (memory after : Memory)
@@ -152,54 +156,49 @@ read_y_kind row areas old new memory after is left same instr.Float kind = absur
 read_y_kind row areas old new memory after is left same instr.Coproc kind = absurd (omega (arith, is, kind))
 read_y_kind row areas old new memory after is left same instr.Illegal kind = absurd (omega (arith, is, kind))
 
+-- what holds of each SAVE and RESTORE that a row does holds of its instruction
+pub of_window : (P : Instr → Type 0) (row : Row) → 32 ≤ row.kind → row.kind < 34 → ((rd rs1 : ℕ) (source : Src) → RowDoes row 32 rd rs1 source → P (instr.Save rd rs1 source))
+    → ((rd rs1 : ℕ) (source : Src) → RowDoes row 33 rd rs1 source → P (instr.Restore rd rs1 source)) → (i : Instr) → IsRowOf row i → P i
+of_window P row from below save restore (instr.Call disp) (kind, number) = absurd (omega (arith, below, kind))
+of_window P row from below save restore (instr.Branch condition annul disp) (kind, first, number) = absurd (branch_apart annul row.kind kind (omega (arith, from)) (omega (arith, below)))
+of_window P row from below save restore (instr.Sethi rd imm) (kind, result, first, second, number) = absurd (omega (arith, from, kind))
+of_window P row from below save restore (instr.Arith operation rd rs1 source) does = absurd (arith_rare operation row.kind does.work (omega (arith, from)) (omega (arith, below)))
+of_window P row from below save restore (instr.ReadY rd) (kind, result) = absurd (omega (arith, from, kind))
+of_window P row from below save restore instr.Barrier kind = absurd (omega (arith, below, kind))
+of_window P row from below save restore (instr.WriteY rs1 source) does = absurd (omega (arith, from, does.work))
+of_window P row from below save restore (instr.Jump rd rs1 source) does = absurd (omega (arith, below, does.work))
+of_window P row from below save restore (instr.Trap condition rs1 source) kind = absurd (omega (arith, below, kind))
+of_window P row from below save restore instr.Flush kind = absurd (omega (arith, below, kind))
+of_window P row from below save restore (instr.Save rd rs1 source) does = save rd rs1 source does
+of_window P row from below save restore (instr.Restore rd rs1 source) does = restore rd rs1 source does
+of_window P row from below save restore (instr.Mem operation rd rs1 source) does = absurd (transfer_apart operation row.kind does.work (omega (arith, from)) (omega (arith, below)))
+of_window P row from below save restore instr.Privileged kind = absurd (omega (arith, below, kind))
+of_window P row from below save restore instr.Float kind = absurd (omega (arith, below, kind))
+of_window P row from below save restore instr.Coproc kind = absurd (omega (arith, below, kind))
+of_window P row from below save restore instr.Illegal kind = absurd (omega (arith, below, kind))
+
+-- what one of them sets, by its row
+window_left : (row : Row) (kind rd rs1 window : ℕ) (source : Src) (old new : Registers) → RowDoes row kind rd rs1 source
+    → ((source : Src) → HasSource source row → new ≡ with_register (in_window old window) row.rd (sum_of row.rs1 source old)) → new ≡ with_register (in_window old window) rd (sum_of rs1 source old)
+window_left row kind rd rs1 window source old new does left =
+    left source does.second
+    ∙ ap (λ (r : ℕ). with_register (in_window old window) r (sum_of row.rs1 source old)) does.result
+    ∙ ap (λ (r : ℕ). with_register (in_window old window) rd (sum_of r source old)) does.first
+
 -- kind 32
 pub save_kind : (row : Row) (window : ℕ) (areas : List Area) (old new : Registers) (memory after : Memory)
     → row.kind ≡ 32 → window ≡ (old.cwp + 7) % 8 → window ≢ old.inv
     → ((source : Src) → HasSource source row → new ≡ with_register (in_window old window) row.rd (sum_of row.rs1 source old))
     → after ≡ memory → (i : Instr) → IsRowOf row i → Goes i areas old new memory after
-save_kind row window areas old new memory after is entered valid left same (instr.Call disp) (kind, number) = absurd (omega (arith, is, kind))
-save_kind row window areas old new memory after is entered valid left same (instr.Branch condition annul disp) (kind, first, number) = absurd (branch_apart annul row.kind kind (omega (arith, is)) (omega (arith, is)))
-save_kind row window areas old new memory after is entered valid left same (instr.Sethi rd imm) (kind, result, first, second, number) = absurd (omega (arith, is, kind))
-save_kind row window areas old new memory after is entered valid left same (instr.Arith operation rd rs1 source) does = absurd (arith_rare operation row.kind does.work (omega (arith, is)) (omega (arith, is)))
-save_kind row window areas old new memory after is entered valid left same (instr.ReadY rd) (kind, result) = absurd (omega (arith, is, kind))
-save_kind row window areas old new memory after is entered valid left same instr.Barrier kind = absurd (omega (arith, is, kind))
-save_kind row window areas old new memory after is entered valid left same (instr.WriteY rs1 source) does = absurd (omega (arith, is, does.work))
-save_kind row window areas old new memory after is entered valid left same (instr.Jump rd rs1 source) does = absurd (omega (arith, is, does.work))
-save_kind row window areas old new memory after is entered valid left same (instr.Trap condition rs1 source) kind = absurd (omega (arith, is, kind))
-save_kind row window areas old new memory after is entered valid left same instr.Flush kind = absurd (omega (arith, is, kind))
-save_kind row window areas old new memory after is entered valid left same (instr.Save rd rs1 source) does =
-    save_goes rd rs1 window source areas old new memory after entered valid
-    (left source does.second ∙ ap (λ (r : ℕ). with_register (in_window old window) r (sum_of row.rs1 source old)) does.result ∙ ap (λ (r : ℕ). with_register (in_window old window) rd (sum_of r source old)) does.first)
-    same
-save_kind row window areas old new memory after is entered valid left same (instr.Restore rd rs1 source) does = absurd (omega (arith, is, does.work))
-save_kind row window areas old new memory after is entered valid left same (instr.Mem operation rd rs1 source) does = absurd (transfer_apart operation row.kind does.work (omega (arith, is)) (omega (arith, is)))
-save_kind row window areas old new memory after is entered valid left same instr.Privileged kind = absurd (omega (arith, is, kind))
-save_kind row window areas old new memory after is entered valid left same instr.Float kind = absurd (omega (arith, is, kind))
-save_kind row window areas old new memory after is entered valid left same instr.Coproc kind = absurd (omega (arith, is, kind))
-save_kind row window areas old new memory after is entered valid left same instr.Illegal kind = absurd (omega (arith, is, kind))
+save_kind row window areas old new memory after is entered valid left same = of_window (λ i. Goes i areas old new memory after) row (omega (arith, is)) (omega (arith, is))
+    (λ rd rs1 source does. save_goes rd rs1 window source areas old new memory after entered valid (window_left row 32 rd rs1 window source old new does left) same)
+    (λ rd rs1 source does. absurd (omega (arith, is, does.work)))
 
 -- kind 33
 pub restore_kind : (row : Row) (window : ℕ) (areas : List Area) (old new : Registers) (memory after : Memory)
     → row.kind ≡ 33 → window ≡ (old.cwp + 1) % 8 → window ≢ old.inv
     → ((source : Src) → HasSource source row → new ≡ with_register (in_window old window) row.rd (sum_of row.rs1 source old))
     → after ≡ memory → (i : Instr) → IsRowOf row i → Goes i areas old new memory after
-restore_kind row window areas old new memory after is entered valid left same (instr.Call disp) (kind, number) = absurd (omega (arith, is, kind))
-restore_kind row window areas old new memory after is entered valid left same (instr.Branch condition annul disp) (kind, first, number) = absurd (branch_apart annul row.kind kind (omega (arith, is)) (omega (arith, is)))
-restore_kind row window areas old new memory after is entered valid left same (instr.Sethi rd imm) (kind, result, first, second, number) = absurd (omega (arith, is, kind))
-restore_kind row window areas old new memory after is entered valid left same (instr.Arith operation rd rs1 source) does = absurd (arith_rare operation row.kind does.work (omega (arith, is)) (omega (arith, is)))
-restore_kind row window areas old new memory after is entered valid left same (instr.ReadY rd) (kind, result) = absurd (omega (arith, is, kind))
-restore_kind row window areas old new memory after is entered valid left same instr.Barrier kind = absurd (omega (arith, is, kind))
-restore_kind row window areas old new memory after is entered valid left same (instr.WriteY rs1 source) does = absurd (omega (arith, is, does.work))
-restore_kind row window areas old new memory after is entered valid left same (instr.Jump rd rs1 source) does = absurd (omega (arith, is, does.work))
-restore_kind row window areas old new memory after is entered valid left same (instr.Trap condition rs1 source) kind = absurd (omega (arith, is, kind))
-restore_kind row window areas old new memory after is entered valid left same instr.Flush kind = absurd (omega (arith, is, kind))
-restore_kind row window areas old new memory after is entered valid left same (instr.Save rd rs1 source) does = absurd (omega (arith, is, does.work))
-restore_kind row window areas old new memory after is entered valid left same (instr.Restore rd rs1 source) does =
-    restore_goes rd rs1 window source areas old new memory after entered valid
-    (left source does.second ∙ ap (λ (r : ℕ). with_register (in_window old window) r (sum_of row.rs1 source old)) does.result ∙ ap (λ (r : ℕ). with_register (in_window old window) rd (sum_of r source old)) does.first)
-    same
-restore_kind row window areas old new memory after is entered valid left same (instr.Mem operation rd rs1 source) does = absurd (transfer_apart operation row.kind does.work (omega (arith, is)) (omega (arith, is)))
-restore_kind row window areas old new memory after is entered valid left same instr.Privileged kind = absurd (omega (arith, is, kind))
-restore_kind row window areas old new memory after is entered valid left same instr.Float kind = absurd (omega (arith, is, kind))
-restore_kind row window areas old new memory after is entered valid left same instr.Coproc kind = absurd (omega (arith, is, kind))
-restore_kind row window areas old new memory after is entered valid left same instr.Illegal kind = absurd (omega (arith, is, kind))
+restore_kind row window areas old new memory after is entered valid left same = of_window (λ i. Goes i areas old new memory after) row (omega (arith, is)) (omega (arith, is))
+    (λ rd rs1 source does. absurd (omega (arith, is, does.work)))
+    (λ rd rs1 source does. restore_goes rd rs1 window source areas old new memory after entered valid (window_left row 33 rd rs1 window source old new does left) same)

@@ -16,10 +16,9 @@ use Rattle.sparc_step.specs.Registers.{Registers, in_window, placed, with_regist
 use Rattle.virt_traps.specs.Moves.{Moved, fill_address, filled, move_made, move_refused, spill_address, spill_window, spilled}
 use Rattle.virt_traps.specs.SaveArea.{is_usable, saved, with_registers}
 use Rattle.virt_traps.specs.Settled.{after_trap, again_or_trap, answered, made_again, settled}
-use Rattle.straight_runs.specs.RareLemmas.{arith_rare, restore_kind, save_kind}
+use Rattle.straight_runs.specs.RareLemmas.{of_window, restore_kind, save_kind}
 use Rattle.straight_runs.specs.Rows.{HasSource, IsRowOf, row_as_done}
 use Rattle.straight_runs.specs.Shifts.{IsFilled, IsShift, IsSpilled}
-use Rattle.straight_runs.specs.StepLemmas.{branch_apart, transfer_apart}
 use Rattle.straight_runs.specs.TurnLemmas.{turned-word}
 use Rattle.straight_runs.specs.declared.rows.Row.{Row}
 
@@ -42,44 +41,16 @@ restore_trapped rd rs1 pc npc source areas old memory needed =
 -- kind 32
 save_row_traps : (row : Row) (pc npc : ℕ) (areas : List Area) (old : Registers) (memory : Memory) → row.kind ≡ 32 → (old.cwp + 7) % 8 ≡ old.inv → (i : Instr) → IsRowOf row i
     → executed i areas (placed pc npc old) memory ≡ refused_by 5 (placed pc npc old) memory
-save_row_traps row pc npc areas old memory is needed (instr.Call disp) (kind, number) = absurd (omega (arith, is, kind))
-save_row_traps row pc npc areas old memory is needed (instr.Branch condition annul disp) (kind, first, number) = absurd (branch_apart annul row.kind kind (omega (arith, is)) (omega (arith, is)))
-save_row_traps row pc npc areas old memory is needed (instr.Sethi rd imm) (kind, result, first, second, number) = absurd (omega (arith, is, kind))
-save_row_traps row pc npc areas old memory is needed (instr.Arith operation rd rs1 source) does = absurd (arith_rare operation row.kind does.work (omega (arith, is)) (omega (arith, is)))
-save_row_traps row pc npc areas old memory is needed (instr.ReadY rd) (kind, result) = absurd (omega (arith, is, kind))
-save_row_traps row pc npc areas old memory is needed instr.Barrier kind = absurd (omega (arith, is, kind))
-save_row_traps row pc npc areas old memory is needed (instr.WriteY rs1 source) does = absurd (omega (arith, is, does.work))
-save_row_traps row pc npc areas old memory is needed (instr.Jump rd rs1 source) does = absurd (omega (arith, is, does.work))
-save_row_traps row pc npc areas old memory is needed (instr.Trap condition rs1 source) kind = absurd (omega (arith, is, kind))
-save_row_traps row pc npc areas old memory is needed instr.Flush kind = absurd (omega (arith, is, kind))
-save_row_traps row pc npc areas old memory is needed (instr.Save rd rs1 source) does = save_trapped rd rs1 pc npc source areas old memory needed
-save_row_traps row pc npc areas old memory is needed (instr.Restore rd rs1 source) does = absurd (omega (arith, is, does.work))
-save_row_traps row pc npc areas old memory is needed (instr.Mem operation rd rs1 source) does = absurd (transfer_apart operation row.kind does.work (omega (arith, is)) (omega (arith, is)))
-save_row_traps row pc npc areas old memory is needed instr.Privileged kind = absurd (omega (arith, is, kind))
-save_row_traps row pc npc areas old memory is needed instr.Float kind = absurd (omega (arith, is, kind))
-save_row_traps row pc npc areas old memory is needed instr.Coproc kind = absurd (omega (arith, is, kind))
-save_row_traps row pc npc areas old memory is needed instr.Illegal kind = absurd (omega (arith, is, kind))
+save_row_traps row pc npc areas old memory is needed = of_window (λ i. executed i areas (placed pc npc old) memory ≡ refused_by 5 (placed pc npc old) memory) row (omega (arith, is)) (omega (arith, is))
+    (λ rd rs1 source does. save_trapped rd rs1 pc npc source areas old memory needed)
+    (λ rd rs1 source does. absurd (omega (arith, is, does.work)))
 
 -- kind 33
 restore_row_traps : (row : Row) (pc npc : ℕ) (areas : List Area) (old : Registers) (memory : Memory) → row.kind ≡ 33 → (old.cwp + 1) % 8 ≡ old.inv → (i : Instr) → IsRowOf row i
     → executed i areas (placed pc npc old) memory ≡ refused_by 6 (placed pc npc old) memory
-restore_row_traps row pc npc areas old memory is needed (instr.Call disp) (kind, number) = absurd (omega (arith, is, kind))
-restore_row_traps row pc npc areas old memory is needed (instr.Branch condition annul disp) (kind, first, number) = absurd (branch_apart annul row.kind kind (omega (arith, is)) (omega (arith, is)))
-restore_row_traps row pc npc areas old memory is needed (instr.Sethi rd imm) (kind, result, first, second, number) = absurd (omega (arith, is, kind))
-restore_row_traps row pc npc areas old memory is needed (instr.Arith operation rd rs1 source) does = absurd (arith_rare operation row.kind does.work (omega (arith, is)) (omega (arith, is)))
-restore_row_traps row pc npc areas old memory is needed (instr.ReadY rd) (kind, result) = absurd (omega (arith, is, kind))
-restore_row_traps row pc npc areas old memory is needed instr.Barrier kind = absurd (omega (arith, is, kind))
-restore_row_traps row pc npc areas old memory is needed (instr.WriteY rs1 source) does = absurd (omega (arith, is, does.work))
-restore_row_traps row pc npc areas old memory is needed (instr.Jump rd rs1 source) does = absurd (omega (arith, is, does.work))
-restore_row_traps row pc npc areas old memory is needed (instr.Trap condition rs1 source) kind = absurd (omega (arith, is, kind))
-restore_row_traps row pc npc areas old memory is needed instr.Flush kind = absurd (omega (arith, is, kind))
-restore_row_traps row pc npc areas old memory is needed (instr.Save rd rs1 source) does = absurd (omega (arith, is, does.work))
-restore_row_traps row pc npc areas old memory is needed (instr.Restore rd rs1 source) does = restore_trapped rd rs1 pc npc source areas old memory needed
-restore_row_traps row pc npc areas old memory is needed (instr.Mem operation rd rs1 source) does = absurd (transfer_apart operation row.kind does.work (omega (arith, is)) (omega (arith, is)))
-restore_row_traps row pc npc areas old memory is needed instr.Privileged kind = absurd (omega (arith, is, kind))
-restore_row_traps row pc npc areas old memory is needed instr.Float kind = absurd (omega (arith, is, kind))
-restore_row_traps row pc npc areas old memory is needed instr.Coproc kind = absurd (omega (arith, is, kind))
-restore_row_traps row pc npc areas old memory is needed instr.Illegal kind = absurd (omega (arith, is, kind))
+restore_row_traps row pc npc areas old memory is needed = of_window (λ i. executed i areas (placed pc npc old) memory ≡ refused_by 6 (placed pc npc old) memory) row (omega (arith, is)) (omega (arith, is))
+    (λ rd rs1 source does. absurd (omega (arith, is, does.work)))
+    (λ rd rs1 source does. restore_trapped rd rs1 pc npc source areas old memory needed)
 
 -- a spill or a fill with other program counters
 shifted-placed : (pc npc : ℕ) (m : Moved) → Moved

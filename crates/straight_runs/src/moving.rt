@@ -1,12 +1,13 @@
 //! Loads and stores, by their kind.
 
-ghost use Rattle.std.specs.Prelude.{◌≡◌, ◌+◌, ◌<◌, ◌≤◌, false, None};
+ghost use Rattle.std.specs.Prelude.{◌≡◌, ◌≢◌, ◌+◌, ◌<◌, ◌≤◌, false, None};
 ghost use Rattle.std.specs.Bool.{OnTrue};
 ghost use Rattle.guest_bus.specs.Access.{after_store, store_fault};
-ghost use Rattle.sparc_code.specs.declared.instruction.MemOp.TheVariants.{Ld, LdD, LdSb, LdSh, LdUb, LdUh, St, StB, StD, StH};
+ghost use Rattle.guest_bus.specs.declared.bus.Size.TheVariants.{Eight};
+ghost use Rattle.sparc_code.specs.declared.instruction.MemOp.TheVariants.{LdD, LdSb, LdSh, StD};
 ghost use Rattle.sparc_step.specs.Transfers.{pair_at, with_pair};
 ghost use Rattle.straight_runs.specs.Effects.{IsTransferred};
-ghost use Rattle.straight_runs.specs.Kinds.{transfer_of};
+ghost use Rattle.straight_runs.specs.Kinds.{load_of, store_of, transfer_of};
 
 use crate::kinds;
 use guest_bus::{Bus, Size};
@@ -34,16 +35,16 @@ pub(crate) fn transfer<B: Bus>(
 {
     if kind < kinds::ST {
         if kind == kinds::LD {
-            load_word(own, bus, rd, address)
+            load(own, bus, rd, address, Size::Four)
         } else if kind == kinds::LDUB {
-            load_byte(own, bus, rd, address)
+            load(own, bus, rd, address, Size::One)
         } else {
             other_load(own, bus, kind, rd, address)
         }
     } else if kind == kinds::ST {
-        store_word(own, bus, rd, address)
+        store_register(own, bus, rd, address, Size::Four)
     } else if kind == kinds::STB {
-        store_byte(own, bus, rd, address)
+        store_register(own, bus, rd, address, Size::One)
     } else {
         other_store(own, bus, kind, rd, address)
     }
@@ -64,7 +65,7 @@ fn other_load<B: Bus>(own: &mut Processor, bus: &mut B, kind: u8, rd: u8, addres
 {
     if kind < kinds::LDSH {
         if kind == kinds::LDUH {
-            load_half(own, bus, rd, address)
+            load(own, bus, rd, address, Size::Two)
         } else {
             load_signed_byte(own, bus, rd, address)
         }
@@ -89,61 +90,24 @@ fn other_store<B: Bus>(own: &mut Processor, bus: &mut B, kind: u8, rd: u8, addre
     ensures others { B.others bus.new ≡ B.others bus.old }
 {
     if kind == kinds::STH {
-        store_half(own, bus, rd, address)
+        store_register(own, bus, rd, address, Size::Two)
     } else {
         store_double(own, bus, rd, address)
     }
 }
 
-// LD.
+// LDUB, LDUH and LD, by their size.
 #[inline(always)]
-fn load_word<B: Bus>(own: &mut Processor, bus: &mut B, rd: u8, address: u32) -> bool
-    requires { rd < 32 }
-    ensures done { OnTrue result (IsTransferred Ld rd address (B.areas bus.old) own.old own.new (B.memory bus.old) (B.memory bus.new)) }
+fn load<B: Bus>(own: &mut Processor, bus: &mut B, rd: u8, address: u32, size: Size) -> bool
+    requires rd { rd < 32 }
+    requires size { size ≢ Eight }
+    ensures done { OnTrue result (IsTransferred (load_of size) rd address (B.areas bus.old) own.old own.new (B.memory bus.old) (B.memory bus.new)) }
     ensures not_done { result ≡ false → own.new ≡ own.old }
     ensures untouched { result ≡ false → B.memory bus.new ≡ B.memory bus.old }
     ensures areas { B.areas bus.new ≡ B.areas bus.old }
     ensures others { B.others bus.new ≡ B.others bus.old }
 {
-    match bus.load(address, Size::Four) {
-        Ok(value) => {
-            own.set(rd, (value % 0x1_0000_0000) as u32);
-            true
-        }
-        Err(_) => false,
-    }
-}
-
-// LDUB.
-#[inline(always)]
-fn load_byte<B: Bus>(own: &mut Processor, bus: &mut B, rd: u8, address: u32) -> bool
-    requires { rd < 32 }
-    ensures done { OnTrue result (IsTransferred LdUb rd address (B.areas bus.old) own.old own.new (B.memory bus.old) (B.memory bus.new)) }
-    ensures not_done { result ≡ false → own.new ≡ own.old }
-    ensures untouched { result ≡ false → B.memory bus.new ≡ B.memory bus.old }
-    ensures areas { B.areas bus.new ≡ B.areas bus.old }
-    ensures others { B.others bus.new ≡ B.others bus.old }
-{
-    match bus.load(address, Size::One) {
-        Ok(value) => {
-            own.set(rd, (value % 0x1_0000_0000) as u32);
-            true
-        }
-        Err(_) => false,
-    }
-}
-
-// LDUH.
-#[inline(always)]
-fn load_half<B: Bus>(own: &mut Processor, bus: &mut B, rd: u8, address: u32) -> bool
-    requires { rd < 32 }
-    ensures done { OnTrue result (IsTransferred LdUh rd address (B.areas bus.old) own.old own.new (B.memory bus.old) (B.memory bus.new)) }
-    ensures not_done { result ≡ false → own.new ≡ own.old }
-    ensures untouched { result ≡ false → B.memory bus.new ≡ B.memory bus.old }
-    ensures areas { B.areas bus.new ≡ B.areas bus.old }
-    ensures others { B.others bus.new ≡ B.others bus.old }
-{
-    match bus.load(address, Size::Two) {
+    match bus.load(address, size) {
         Ok(value) => {
             own.set(rd, (value % 0x1_0000_0000) as u32);
             true
@@ -231,46 +195,25 @@ fn pair(own: &Processor, rd: u8) -> u64
     (u64::from(own.get(rd)) << 32) + u64::from(own.get(rd + 1))
 }
 
-// ST.
+// STB, STH and ST, by their size.
 #[inline(always)]
-fn store_word<B: Bus>(own: &mut Processor, bus: &mut B, rd: u8, address: u32) -> bool
-    requires { rd < 32 }
-    ensures done { OnTrue result (IsTransferred St rd address (B.areas bus.old) own.old own.new (B.memory bus.old) (B.memory bus.new)) }
+fn store_register<B: Bus>(
+    own: &mut Processor,
+    bus: &mut B,
+    rd: u8,
+    address: u32,
+    size: Size,
+) -> bool
+    requires rd { rd < 32 }
+    requires size { size ≢ Eight }
+    ensures done { OnTrue result (IsTransferred (store_of size) rd address (B.areas bus.old) own.old own.new (B.memory bus.old) (B.memory bus.new)) }
     ensures not_done { result ≡ false → own.new ≡ own.old }
     ensures untouched { result ≡ false → B.memory bus.new ≡ B.memory bus.old }
     ensures areas { B.areas bus.new ≡ B.areas bus.old }
     ensures others { B.others bus.new ≡ B.others bus.old }
 {
     let value = u64::from(own.get(rd));
-    store(bus, address, Size::Four, value)
-}
-
-// STB.
-#[inline(always)]
-fn store_byte<B: Bus>(own: &mut Processor, bus: &mut B, rd: u8, address: u32) -> bool
-    requires { rd < 32 }
-    ensures done { OnTrue result (IsTransferred StB rd address (B.areas bus.old) own.old own.new (B.memory bus.old) (B.memory bus.new)) }
-    ensures not_done { result ≡ false → own.new ≡ own.old }
-    ensures untouched { result ≡ false → B.memory bus.new ≡ B.memory bus.old }
-    ensures areas { B.areas bus.new ≡ B.areas bus.old }
-    ensures others { B.others bus.new ≡ B.others bus.old }
-{
-    let value = u64::from(own.get(rd));
-    store(bus, address, Size::One, value)
-}
-
-// STH.
-#[inline(always)]
-fn store_half<B: Bus>(own: &mut Processor, bus: &mut B, rd: u8, address: u32) -> bool
-    requires { rd < 32 }
-    ensures done { OnTrue result (IsTransferred StH rd address (B.areas bus.old) own.old own.new (B.memory bus.old) (B.memory bus.new)) }
-    ensures not_done { result ≡ false → own.new ≡ own.old }
-    ensures untouched { result ≡ false → B.memory bus.new ≡ B.memory bus.old }
-    ensures areas { B.areas bus.new ≡ B.areas bus.old }
-    ensures others { B.others bus.new ≡ B.others bus.old }
-{
-    let value = u64::from(own.get(rd));
-    store(bus, address, Size::Two, value)
+    store(bus, address, size, value)
 }
 
 // STD.
