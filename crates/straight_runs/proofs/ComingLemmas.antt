@@ -1,5 +1,5 @@
 -- What came of a word of a run, by what its row and its instruction did.
-use Rattle.std.proofs.Common.{◌≡◌, ℕ, ◌+◌, ◌%◌, ◌^◌, List, Ok, refl, sym, ap, ◌∙◌, subst}
+use Rattle.std.proofs.Common.{◌≡◌, ℕ, ◌+◌, ◌%◌, ◌^◌, List, Ok, sym, ap, ◌∙◌, subst}
 use Rattle.guest_bus.specs.Access.{fetched}
 use Rattle.guest_bus.specs.Memory.{Area, Memory}
 use Rattle.guest_bus.specs.Words.{swapped, word_address}
@@ -17,7 +17,7 @@ use Rattle.straight_runs.specs.TurnLemmas.{turned-word}
 use Rattle.straight_runs.specs.Turning.{Turns, at_place, at_slot}
 use Rattle.straight_runs.proofs.TurningLemmas.{next_address}
 use Rattle.straight_runs.specs.declared.one.Came.{Came}
-use Rattle.straight_runs.specs.declared.one.Came.TheVariants.{Next, Jump, Turn, Slot, Stays}
+use Rattle.straight_runs.specs.declared.one.Came.TheVariants.{Next, Jump, Turn, Slot}
 use Rattle.straight_runs.specs.declared.rows.Row.{Row}
 use Rattle.straight_runs.specs.declared.simple.Step.TheVariants as step
 use Rattle.straight_runs.specs.declared.turning.Goal.TheVariants as goal

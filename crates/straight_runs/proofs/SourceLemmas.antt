@@ -1,5 +1,5 @@
 -- The row of an instruction that is in range.
-use Rattle.std.proofs.Common.{◌≡◌, ℕ, ◌∙◌, sym, subst}
+use Rattle.std.proofs.Common.{◌≡◌, ℕ, sym, subst}
 use Rattle.guest_bus.specs.Words.{swapped}
 use Rattle.sparc_code.specs.Decoded.{decoded}
 use Rattle.sparc_code.specs.DecodedLemmas.{decoded-spells}

@@ -8,11 +8,11 @@ use Rattle.guest_bus.specs.declared.bus.Size.TheVariants.{One, Two, Four, Eight}
 use Rattle.sparc_code.specs.declared.instruction.MemOp.{MemOp}
 use Rattle.sparc_code.specs.declared.instruction.MemOp.TheVariants.{LdD}
 use Rattle.sparc_step.specs.Registers.{Registers, advanced, placed, register_at, with_register}
-use Rattle.sparc_step.specs.Transfers.{Turned, done, loaded_into, low_word, pair_at, pair_loaded, store_of, stored_from, transfer, with_pair}
+use Rattle.sparc_step.specs.Transfers.{done, loaded_into, low_word, pair_at, pair_loaded, store_of, stored_from, transfer, with_pair}
 use Rattle.straight_runs.specs.Effects.{IsTransferred}
 use Rattle.straight_runs.specs.Kinds.{load_of}
 use Rattle.straight_runs.specs.Kinds as kinds
-use Rattle.straight_runs.specs.PlacedLemmas.{advanced-placed, register_at-placed, with_register-placed, with_result-placed}
+use Rattle.straight_runs.specs.PlacedLemmas.{advanced-placed, with_register-placed, with_result-placed}
 
 -- the load of a size below a double word, and the store
 pub load_row : (size : Size) (rd address : ℕ) (areas : List Area) (core : Registers) (memory : Memory) → size ≢ Eight → transfer (load_of size) rd address areas core memory ≡ loaded_into (loaded areas memory address size) low_word rd core memory

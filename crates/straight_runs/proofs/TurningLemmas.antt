@@ -1,14 +1,11 @@
 -- Where branches that are taken, calls and jumps go, by their kinds.
-use Rattle.std.proofs.Common.{◌≡◌, ◌≢◌, ℕ, ◌+◌, ◌*◌, ◌%◌, ◌^◌, ◌<◌, ◌≤◌, ℤ, Bool, true, false, List, refl, sym, ap, ◌∙◌, arith}
+use Rattle.std.proofs.Common.{◌≡◌, ◌≢◌, ℕ, ◌+◌, ◌*◌, ◌%◌, ◌^◌, ℤ, Bool, true, false, List, refl, sym, ap, ◌∙◌, arith}
 use Rattle.std.proofs.lemmas.Bool.Decides.{nat_tests}
 use Rattle.std.specs.Prelude.{if◌then◌else◌, ◌&&◌, ◌==◌}
 use Rattle.guest_bus.specs.Memory.{Area, Memory}
 use Rattle.guest_bus.specs.Words.{word_address}
-use Rattle.sparc_code.specs.declared.instruction.Arith.{Arith}
-use Rattle.sparc_code.specs.declared.instruction.Arith.TheVariants as arith
 use Rattle.sparc_code.specs.declared.instruction.Instr.{Instr}
 use Rattle.sparc_code.specs.declared.instruction.Instr.TheVariants as instr
-use Rattle.sparc_code.specs.declared.instruction.MemOp.{MemOp}
 use Rattle.sparc_code.specs.declared.instruction.Src.{Src}
 use Rattle.sparc_step.specs.Conditions.{holds}
 use Rattle.sparc_step.specs.Execution.{done, executed}
@@ -16,7 +13,6 @@ use Rattle.sparc_step.specs.Flow.{branch_row, passed, taken, branch_target}
 use Rattle.sparc_step.specs.Operands.{sum_of}
 use Rattle.sparc_step.specs.Registers.{Registers, branched, placed, sent, skipped, with_register}
 use Rattle.sparc_step.specs.Words.{residue}
-use Rattle.straight_runs.specs.Kinds.{row_kind_of, kind_of_transfer}
 use Rattle.straight_runs.specs.RareLemmas.{arith_rare}
 use Rattle.straight_runs.specs.Rows.{HasSource, IsRowOf}
 use Rattle.straight_runs.specs.StepLemmas.{arith_not_two, branch_apart, transfer_apart, transfer_kinds}

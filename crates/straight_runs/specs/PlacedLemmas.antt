@@ -1,5 +1,5 @@
 -- Registers at other program counters: work on registers is the same wherever it stands.
-use Rattle.std.proofs.Common.{◌≡◌, ◌≢◌, ℕ, ◌+◌, ◌*◌, ◌/◌, ◌%◌, ◌^◌, ◌<◌, ◌≤◌, Bool, true, false, refl, sym, ap, ◌∙◌, arith}
+use Rattle.std.proofs.Common.{◌≡◌, ◌≢◌, ℕ, ◌+◌, ◌*◌, ◌/◌, ◌%◌, ◌^◌, ◌<◌, ◌≤◌, Bool, true, false, refl, ap, ◌∙◌, arith}
 use Rattle.std.proofs.lemmas.Bool.Decides.{nat_tests}
 use Rattle.std.specs.Prelude.{◌==◌, if◌then◌else◌, nat_lt, slice_set, bit_and, bit_or, bit_xor}
 use Rattle.std.specs.Int.{w32, bit_not}
@@ -11,7 +11,7 @@ use Rattle.sparc_step.specs.Arithmetic.{dividend, arith_outcome}
 use Rattle.sparc_step.specs.Conditions.{codes_of_difference, codes_of_result, codes_of_sum}
 use Rattle.sparc_step.specs.Operands.{sum_of, value_of}
 use Rattle.sparc_step.specs.Outcome.{RegisterOutcome, went, with_result, with_result_and_codes}
-use Rattle.sparc_step.specs.Registers.{Registers, advanced, in_window, place_in_windows, placed, register_at, with_icc, with_register, with_y}
+use Rattle.sparc_step.specs.Registers.{Registers, advanced, place_in_windows, placed, register_at, with_icc, with_register, with_y}
 use Rattle.sparc_step.specs.Words.{difference, quotient, shifted_arithmetically, shifted_left, shifted_right, signed_product, signed_quotient, sum}
 use Rattle.straight_runs.specs.Effects.{worked_by_kind}
 use Rattle.straight_runs.specs.Kinds.{row_kind_of, other}

@@ -10,13 +10,12 @@ use Rattle.sparc_code.specs.declared.instruction.Instr.TheVariants as instr
 use Rattle.sparc_code.specs.declared.instruction.MemOp.{MemOp}
 use Rattle.sparc_code.specs.declared.instruction.MemOp.TheVariants as memory
 use Rattle.sparc_code.specs.declared.instruction.Src.{Src}
-use Rattle.sparc_code.specs.declared.instruction.Src.TheVariants.{Reg, Imm}
+use Rattle.sparc_code.specs.declared.instruction.Src.TheVariants.{Imm}
 use Rattle.sparc_step.specs.Arithmetic.{arith_outcome}
 use Rattle.sparc_step.specs.Conditions.{holds}
-use Rattle.sparc_step.specs.Execution.{keeping_memory, done, executed}
+use Rattle.sparc_step.specs.Execution.{keeping_memory, done}
 use Rattle.sparc_step.specs.Flow.{branch_row, passed, sethi_row, taken, branch_target}
 use Rattle.sparc_step.specs.Operands.{sum_of, value_of}
-use Rattle.sparc_step.specs.Outcome.{with_result}
 use Rattle.sparc_step.specs.Registers.{Registers, placed, register_at, with_register}
 use Rattle.sparc_step.specs.Transfers.{transfer}
 use Rattle.straight_runs.specs.Effects.{IsTransferred, worked_by_kind}

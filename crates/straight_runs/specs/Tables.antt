@@ -1,5 +1,5 @@
 -- A table of rows beside their words.
-use Rattle.std.specs.Prelude.{◌≡◌, ℕ, ◌<◌, List, length, slice_index, slice_get, Some}
+use Rattle.std.specs.Prelude.{◌≡◌, ℕ, List, length, slice_index, slice_get, Some}
 use Rattle.guest_bus.specs.Words.{swapped}
 use Rattle.sparc_code.specs.Decoded.{decoded}
 use Rattle.straight_runs.specs.Rows.{AreRegisterNumbers, IsRowOf, as_done}

@@ -1,5 +1,5 @@
 -- Branches that are taken, calls and jumps, and whole steps.
-use Rattle.std.proofs.Common.{◌≡◌, ◌≢◌, ℕ, ◌+◌, ◌%◌, ◌^◌, ℤ, Bool, true, false, List, Result, Ok, refl, sym, ap, ◌∙◌, arith}
+use Rattle.std.proofs.Common.{◌≡◌, ℕ, ◌%◌, ℤ, Bool, true, false, List, Result, Ok, refl, ap, ◌∙◌, arith}
 use Rattle.std.proofs.lemmas.Bool.Decides.{nat_tests}
 use Rattle.std.specs.Prelude.{if◌then◌else◌, ◌&&◌, ◌==◌}
 use Rattle.guest_bus.specs.Access.{fetched}
@@ -15,7 +15,6 @@ use Rattle.sparc_step.specs.Operands.{sum_of}
 use Rattle.sparc_step.specs.Outcome.{trapped, went}
 use Rattle.sparc_step.specs.Registers.{Registers, branched, placed, sent, with_register}
 use Rattle.straight_runs.specs.PlacedLemmas.{sum_of-placed, with_register-placed}
-use Rattle.straight_runs.specs.Steps.{Goes}
 
 -- a target
 branched-placed : (core : Registers) (pc npc to : ℕ) → branched (placed pc npc core) to ≡ placed npc to core

@@ -1,4 +1,4 @@
-use Rattle.std.proofs.Common.{sym, subst}
+use Rattle.std.proofs.Common.{subst}
 use Rattle.sparc_step.specs.Registers.{Registers}
 use Rattle.straight_runs.specs.Runs.{AreSteps}
 use Rattle.straight_runs.proofs.RunningLemmas.{at_start}

@@ -1,5 +1,4 @@
 use Rattle.std.proofs.Common.{ℕ, ◌<◌, refl, ap, ◌∙◌, subst, arith}
-use Rattle.sparc_step.specs.Operands.{value_of}
 use Rattle.sparc_step.specs.Registers.{register_at}
 use Rattle.straight_runs.specs.Effects.{worked_by_kind}
 use Rattle.straight_runs.specs.StepLemmas.{more_go}
