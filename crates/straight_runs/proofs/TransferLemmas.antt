@@ -1,5 +1,5 @@
 -- Loads and stores are the same wherever they stand.
-use Rattle.std.proofs.Common.{◌≡◌, ◌≢◌, ℕ, ◌+◌, ◌/◌, ◌%◌, ◌^◌, List, Result, Ok, Err, Option, Some, None, refl, sym, ap, ◌∙◌}
+use Rattle.std.proofs.Common.{◌≡◌, ◌≢◌, ℕ, ◌+◌, ◌/◌, ◌%◌, ◌^◌, Bool, true, false, List, Result, Ok, Err, Option, Some, None, refl, sym, ap, ◌∙◌}
 use Rattle.guest_bus.specs.Access.{Stores, after_store, loaded, memory_unless_refused, store_fault}
 use Rattle.guest_bus.specs.Memory.{Area, Memory}
 use Rattle.guest_bus.specs.declared.bus.BusFault.{BusFault}
@@ -8,20 +8,22 @@ use Rattle.guest_bus.specs.declared.bus.Size.TheVariants.{One, Two, Four, Eight}
 use Rattle.sparc_code.specs.declared.instruction.MemOp.{MemOp}
 use Rattle.sparc_code.specs.declared.instruction.MemOp.TheVariants.{LdD}
 use Rattle.sparc_step.specs.Registers.{Registers, advanced, placed, register_at, with_register}
-use Rattle.sparc_step.specs.Transfers.{done, loaded_into, low_word, pair_at, pair_loaded, store_of, stored_from, transfer, with_pair}
-use Rattle.straight_runs.specs.Effects.{IsTransferred}
-use Rattle.straight_runs.specs.Kinds.{load_of}
-use Rattle.straight_runs.specs.Kinds as kinds
+use Rattle.sparc_step.specs.Transfers.{done, loaded_into, pair_at, pair_loaded, store_of, stored_from, transfer, with_pair}
+use Rattle.straight_runs.specs.Effects.{IsTransferred, extended_by}
+use Rattle.straight_runs.specs.Kinds.{load_by_size, store_by_size}
 use Rattle.straight_runs.specs.PlacedLemmas.{advanced-placed, with_register-placed, with_result-placed}
 
 -- the load of a size below a double word, and the store
-pub load_row : (size : Size) (rd address : ℕ) (areas : List Area) (core : Registers) (memory : Memory) → size ≢ Eight → transfer (load_of size) rd address areas core memory ≡ loaded_into (loaded areas memory address size) low_word rd core memory
-load_row One rd address areas core memory single = refl
-load_row Two rd address areas core memory single = refl
-load_row Four rd address areas core memory single = refl
-load_row Eight rd address areas core memory single = absurd (single refl)
+pub load_row : (signed : Bool) (size : Size) (rd address : ℕ) (areas : List Area) (core : Registers) (memory : Memory) → size ≢ Eight → transfer (load_by_size signed size) rd address areas core memory ≡ loaded_into (loaded areas memory address size) (extended_by signed size) rd core memory
+load_row true One rd address areas core memory single = refl
+load_row false One rd address areas core memory single = refl
+load_row true Two rd address areas core memory single = refl
+load_row false Two rd address areas core memory single = refl
+load_row true Four rd address areas core memory single = refl
+load_row false Four rd address areas core memory single = refl
+load_row signed Eight rd address areas core memory single = absurd (single refl)
 
-pub store_row : (size : Size) (rd address : ℕ) (areas : List Area) (core : Registers) (memory : Memory) → size ≢ Eight → transfer (kinds.store_of size) rd address areas core memory ≡ store_of (register_at core rd) address size areas core memory
+pub store_row : (size : Size) (rd address : ℕ) (areas : List Area) (core : Registers) (memory : Memory) → size ≢ Eight → transfer (store_by_size size) rd address areas core memory ≡ store_of (register_at core rd) address size areas core memory
 store_row One rd address areas core memory single = refl
 store_row Two rd address areas core memory single = refl
 store_row Four rd address areas core memory single = refl

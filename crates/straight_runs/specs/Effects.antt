@@ -1,12 +1,14 @@
 -- What a row leaves of the registers, but for the program counters.
-use Rattle.std.specs.Prelude.{◌≡◌, ℕ, ◌+◌, ◌*◌, ◌/◌, ◌%◌, ◌^◌, false, ◌==◌, if◌then◌else◌, bit_and, bit_or, bit_xor, List}
+use Rattle.std.specs.Prelude.{◌≡◌, ℕ, ◌+◌, ◌*◌, ◌/◌, ◌%◌, ◌^◌, Bool, true, false, ◌==◌, if◌then◌else◌, bit_and, bit_or, bit_xor, List}
 use Rattle.std.specs.Int.{w32, bit_not}
 use Rattle.guest_bus.specs.Memory.{Area, Memory}
+use Rattle.guest_bus.specs.declared.bus.Size.{Size}
+use Rattle.guest_bus.specs.declared.bus.Size.TheVariants.{One, Two, Four, Eight}
 use Rattle.sparc_code.specs.declared.instruction.MemOp.{MemOp}
 use Rattle.sparc_step.specs.Arithmetic.{dividend}
 use Rattle.sparc_step.specs.Conditions.{codes_of_difference, codes_of_result, codes_of_sum}
 use Rattle.sparc_step.specs.Registers.{Registers, placed, with_icc, with_register, with_y}
-use Rattle.sparc_step.specs.Transfers.{done, transfer}
+use Rattle.sparc_step.specs.Transfers.{done, low_word, signed_byte, signed_half, transfer}
 use Rattle.sparc_step.specs.Words.{difference, quotient, shifted_arithmetically, shifted_left, shifted_right, signed_product, signed_quotient, sum}
 
 -- a result of logic with its condition codes
@@ -44,6 +46,15 @@ worked_by_kind kind rd a b core =
 -- what WRY makes Y
 unfoldable pub y_of : ℕ → ℕ → ℕ
 y_of a b = bit_xor a b
+
+-- what a load sets its register to
+abbrev pub extended_by : Bool → Size → ℕ → ℕ
+extended_by true One value = signed_byte value
+extended_by true Two value = signed_half value
+extended_by false One value = low_word value
+extended_by false Two value = low_word value
+extended_by signed Four value = low_word value
+extended_by signed Eight value = low_word value
 
 -- a load or a store was done, wherever it stands
 abbrev pub IsTransferred : MemOp → ℕ → ℕ → List Area → Registers → Registers → Memory → Memory → Type 0

@@ -1,5 +1,5 @@
 -- What a row does, as a number: the frequent ones first, so that few compares tell them.
-use Rattle.std.specs.Prelude.{ℕ, Bool, ◌==◌, if◌then◌else◌}
+use Rattle.std.specs.Prelude.{ℕ, Bool, true, false, ◌==◌, if◌then◌else◌}
 use Rattle.guest_bus.specs.declared.bus.Size.{Size}
 use Rattle.guest_bus.specs.declared.bus.Size.TheVariants.{One, Two, Four, Eight}
 use Rattle.sparc_code.specs.declared.instruction.Arith.{Arith}
@@ -83,15 +83,17 @@ transfer_of kind =
     else if kind == 21 then StH
     else StD
 
--- the load that extends its value by zeros, and the store, of a size below a double word
-abbrev pub load_of : Size → MemOp
-load_of One = LdUb
-load_of Two = LdUh
-load_of Four = Ld
-load_of Eight = LdD
+-- the load of a size, which may extend the sign of less than a word, and the store
+abbrev pub load_by_size : Bool → Size → MemOp
+load_by_size true One = LdSb
+load_by_size true Two = LdSh
+load_by_size false One = LdUb
+load_by_size false Two = LdUh
+load_by_size signed Four = Ld
+load_by_size signed Eight = LdD
 
-abbrev pub store_of : Size → MemOp
-store_of One = StB
-store_of Two = StH
-store_of Four = St
-store_of Eight = StD
+abbrev pub store_by_size : Size → MemOp
+store_by_size One = StB
+store_by_size Two = StH
+store_by_size Four = St
+store_by_size Eight = StD

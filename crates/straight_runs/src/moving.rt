@@ -4,10 +4,10 @@ ghost use Rattle.std.specs.Prelude.{◌≡◌, ◌≢◌, ◌+◌, ◌<◌, ◌�
 ghost use Rattle.std.specs.Bool.{OnTrue};
 ghost use Rattle.guest_bus.specs.Access.{after_store, store_fault};
 ghost use Rattle.guest_bus.specs.declared.bus.Size.TheVariants.{Eight};
-ghost use Rattle.sparc_code.specs.declared.instruction.MemOp.TheVariants.{LdD, LdSb, LdSh, StD};
+ghost use Rattle.sparc_code.specs.declared.instruction.MemOp.TheVariants.{LdD, StD};
 ghost use Rattle.sparc_step.specs.Transfers.{pair_at, with_pair};
-ghost use Rattle.straight_runs.specs.Effects.{IsTransferred};
-ghost use Rattle.straight_runs.specs.Kinds.{load_of, store_of, transfer_of};
+ghost use Rattle.straight_runs.specs.Effects.{IsTransferred, extended_by};
+ghost use Rattle.straight_runs.specs.Kinds.{load_by_size, store_by_size, transfer_of};
 
 use crate::kinds;
 use guest_bus::{Bus, Size};
@@ -35,9 +35,9 @@ pub(crate) fn transfer<B: Bus>(
 {
     if kind < kinds::ST {
         if kind == kinds::LD {
-            load(own, bus, rd, address, Size::Four)
+            load(own, bus, rd, address, Size::Four, false)
         } else if kind == kinds::LDUB {
-            load(own, bus, rd, address, Size::One)
+            load(own, bus, rd, address, Size::One, false)
         } else {
             other_load(own, bus, kind, rd, address)
         }
@@ -65,12 +65,12 @@ fn other_load<B: Bus>(own: &mut Processor, bus: &mut B, kind: u8, rd: u8, addres
 {
     if kind < kinds::LDSH {
         if kind == kinds::LDUH {
-            load(own, bus, rd, address, Size::Two)
+            load(own, bus, rd, address, Size::Two, false)
         } else {
-            load_signed_byte(own, bus, rd, address)
+            load(own, bus, rd, address, Size::One, true)
         }
     } else if kind == kinds::LDSH {
-        load_signed_half(own, bus, rd, address)
+        load(own, bus, rd, address, Size::Two, true)
     } else {
         load_double(own, bus, rd, address)
     }
@@ -96,12 +96,19 @@ fn other_store<B: Bus>(own: &mut Processor, bus: &mut B, kind: u8, rd: u8, addre
     }
 }
 
-// LDUB, LDUH and LD, by their size.
+// The loads of less than a double word, by their size, and whether they extend a sign.
 #[inline(always)]
-fn load<B: Bus>(own: &mut Processor, bus: &mut B, rd: u8, address: u32, size: Size) -> bool
+fn load<B: Bus>(
+    own: &mut Processor,
+    bus: &mut B,
+    rd: u8,
+    address: u32,
+    size: Size,
+    signed: bool,
+) -> bool
     requires rd { rd < 32 }
     requires size { size ≢ Eight }
-    ensures done { OnTrue result (IsTransferred (load_of size) rd address (B.areas bus.old) own.old own.new (B.memory bus.old) (B.memory bus.new)) }
+    ensures done { OnTrue result (IsTransferred (load_by_size signed size) rd address (B.areas bus.old) own.old own.new (B.memory bus.old) (B.memory bus.new)) }
     ensures not_done { result ≡ false → own.new ≡ own.old }
     ensures untouched { result ≡ false → B.memory bus.new ≡ B.memory bus.old }
     ensures areas { B.areas bus.new ≡ B.areas bus.old }
@@ -109,48 +116,27 @@ fn load<B: Bus>(own: &mut Processor, bus: &mut B, rd: u8, address: u32, size: Si
 {
     match bus.load(address, size) {
         Ok(value) => {
-            own.set(rd, (value % 0x1_0000_0000) as u32);
+            own.set(rd, extended(value, size, signed));
             true
         }
         Err(_) => false,
     }
 }
 
-// LDSB.
+// A value of so many bytes as a word.
 #[inline(always)]
-fn load_signed_byte<B: Bus>(own: &mut Processor, bus: &mut B, rd: u8, address: u32) -> bool
-    requires { rd < 32 }
-    ensures done { OnTrue result (IsTransferred LdSb rd address (B.areas bus.old) own.old own.new (B.memory bus.old) (B.memory bus.new)) }
-    ensures not_done { result ≡ false → own.new ≡ own.old }
-    ensures untouched { result ≡ false → B.memory bus.new ≡ B.memory bus.old }
-    ensures areas { B.areas bus.new ≡ B.areas bus.old }
-    ensures others { B.others bus.new ≡ B.others bus.old }
+fn extended(value: u64, size: Size, signed: bool) -> u32
+    ensures { result ≡ extended_by signed size value }
 {
-    match bus.load(address, Size::One) {
-        Ok(value) => {
-            own.set(rd, signed_byte(value));
-            true
+    if signed {
+        match size {
+            Size::One => signed_byte(value),
+            Size::Two => signed_half(value),
+            Size::Four => (value % 0x1_0000_0000) as u32,
+            Size::Eight => (value % 0x1_0000_0000) as u32,
         }
-        Err(_) => false,
-    }
-}
-
-// LDSH.
-#[inline(always)]
-fn load_signed_half<B: Bus>(own: &mut Processor, bus: &mut B, rd: u8, address: u32) -> bool
-    requires { rd < 32 }
-    ensures done { OnTrue result (IsTransferred LdSh rd address (B.areas bus.old) own.old own.new (B.memory bus.old) (B.memory bus.new)) }
-    ensures not_done { result ≡ false → own.new ≡ own.old }
-    ensures untouched { result ≡ false → B.memory bus.new ≡ B.memory bus.old }
-    ensures areas { B.areas bus.new ≡ B.areas bus.old }
-    ensures others { B.others bus.new ≡ B.others bus.old }
-{
-    match bus.load(address, Size::Two) {
-        Ok(value) => {
-            own.set(rd, signed_half(value));
-            true
-        }
-        Err(_) => false,
+    } else {
+        (value % 0x1_0000_0000) as u32
     }
 }
 
@@ -206,7 +192,7 @@ fn store_register<B: Bus>(
 ) -> bool
     requires rd { rd < 32 }
     requires size { size ≢ Eight }
-    ensures done { OnTrue result (IsTransferred (store_of size) rd address (B.areas bus.old) own.old own.new (B.memory bus.old) (B.memory bus.new)) }
+    ensures done { OnTrue result (IsTransferred (store_by_size size) rd address (B.areas bus.old) own.old own.new (B.memory bus.old) (B.memory bus.new)) }
     ensures not_done { result ≡ false → own.new ≡ own.old }
     ensures untouched { result ≡ false → B.memory bus.new ≡ B.memory bus.old }
     ensures areas { B.areas bus.new ≡ B.areas bus.old }
