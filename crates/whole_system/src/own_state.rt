@@ -1,6 +1,6 @@
 //! The state of one partition.
 
-ghost use Rattle.std.specs.Prelude.{◌≡◌, ◌%◌, IfOk};
+ghost use Rattle.std.specs.Prelude.{◌≡◌, ◌%◌, ◌||◌, IfOk};
 ghost use Rattle.std.specs.List.{list_any};
 ghost use Rattle.whole_system.specs.State.{booted_own, is_timed};
 
@@ -82,8 +82,29 @@ impl PartState {
     }
 }
 
-/// Whether the hardware timer of one of these partitions is armed.
+/// Whether the hardware timer of one of these partitions is armed. Four are looked at in one turn of the loop.
 pub(crate) fn any_timed(parts: &[PartState]) -> bool
+    ensures { result ≡ list_any (λ own. is_timed own.clocks) parts.now }
+{
+    let mut at = 0;
+    while parts.len() - at >= 4 {
+        if are_timed(&parts[at], &parts[at + 1], &parts[at + 2], &parts[at + 3]) {
+            return true;
+        }
+        at += 4;
+    }
+    any_left(&parts[at..])
+}
+
+// Whether the timer of one of these four is.
+fn are_timed(first: &PartState, second: &PartState, third: &PartState, fourth: &PartState) -> bool
+    ensures { result ≡ (is_timed first.now.clocks || (is_timed second.now.clocks || (is_timed third.now.clocks || is_timed fourth.now.clocks))) }
+{
+    first.is_timed() || second.is_timed() || third.is_timed() || fourth.is_timed()
+}
+
+// The same of partitions one after the other.
+fn any_left(parts: &[PartState]) -> bool
     ensures { result ≡ list_any (λ own. is_timed own.clocks) parts.now }
 {
     parts.iter().any(|own| own.is_timed())
