@@ -44,7 +44,7 @@ pub fn serve(sys: &mut Sys, p: PartId, pc: u32, npc: u32) -> Served
 
 // Serves the hypercall of a caller.
 #[inline(always)]
-#[tactic(auto, unfolding(machine_model::specs::Hypercalls::served))]
+#[tactic(auto, unfolding(whole_system::specs::Serving::caller_of, whole_system::specs::Serving::caller_at, machine_model::specs::Hypercalls::served))]
 fn serve_site(sys: &mut Sys, site: CallSite) -> Served
     requires caller { IsCaller site sys.old }
     requires pc { site.pc % 4 ≡ 0 }
@@ -58,7 +58,7 @@ fn serve_site(sys: &mut Sys, site: CallSite) -> Served
     if !is_call(number) {
         return answer(sys, site, UNKNOWN_CALL);
     }
-    serve_numbered(sys, site, number)
+    serve_at(sys, site.part, site.pc, site.npc, number)
 }
 
 // Whether a call has this number.
@@ -70,8 +70,26 @@ fn is_call(number: u32) -> bool
     number.wrapping_sub(1) < 38
 }
 
-// Serves the call of a number.
+// Serves the call of a number. The caller is given by values, so that nothing is put into memory for a number that no call has.
 #[inline(never)]
+#[tactic(auto, unfolding(whole_system::specs::Serving::caller_of, whole_system::specs::Serving::caller_at))]
+fn serve_at(sys: &mut Sys, part: PartId, pc: u32, npc: u32, number: u32) -> Served
+    requires partition { part < length sys.old.machine.parts }
+    requires number { register_at (caller_at part pc npc sys.old).state.core 8 ≡ number }
+    requires from { 1 ≤ number }
+    requires to { number ≤ 38 }
+    requires pc { pc % 4 ≡ 0 }
+    requires npc { npc % 4 ≡ 0 }
+    requires traces { (part_at part sys.old.machine).traces.next < 4294967295 }
+    requires shapes { sys.old.shapes ≡ shapes_of sys.old.machine.system.conf }
+    requires frame { IsInFrame sys.old.machine.system.conf sys.old.machine.clock sys.old.machine.time }
+    ensures { IsServed part (caller_at part pc npc sys.old).sight (call_numbered number (caller_at part pc npc sys.old)) result sys.old sys.new }
+{
+    serve_numbered(sys, CallSite { part, pc, npc }, number)
+}
+
+// Serves the call of a number of a caller.
+#[inline(always)]
 fn serve_numbered(sys: &mut Sys, site: CallSite, number: u32) -> Served
     requires caller { IsCaller site sys.old }
     requires number { register_at (caller_of site sys.old).state.core 8 ≡ number }

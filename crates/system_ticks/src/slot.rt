@@ -1,6 +1,6 @@
 //! The ticks of one slot or gap.
 
-ghost use Rattle.std.specs.Prelude.{◌≡◌, ℕ, ◌+◌, ◌-◌, ◌%◌, ◌^◌, ◌<◌, ◌≤◌, ◌++◌, Bool, true, false, if◌then◌else◌, [], IfSome, None, Some, length};
+ghost use Rattle.std.specs.Prelude.{◌≡◌, ℕ, ◌+◌, ◌-◌, ◌%◌, ◌^◌, ◌<◌, ◌≤◌, ◌++◌, Bool, true, false, if◌then◌else◌, ◌||◌, [], IfSome, None, Some, is_some, length};
 ghost use Rattle.std.specs.Bool.{OnTrue};
 ghost use Rattle.cyclic_plans.specs.PlanClock.{IsInFrame};
 ghost use Rattle.whole_system.specs.State.{with_machine};
@@ -271,8 +271,16 @@ pub fn goes_on(sys: &Sys, p: PartId, first: bool) -> bool
     requires turns { takes_turns (part_at p sys.now.machine).state ≡ true }
     ensures { result ≡ goes_on (part_at p sys.now.machine).state first (due (part_at p sys.now.machine).traps) }
 {
-    let own = sys.part(p);
-    own.state == State::Ready || first || own.virt.due().is_some()
+    sys.part(p).state == State::Ready || is_woken(sys, p, first)
+}
+
+// Whether an idle partition is woken. It stands by itself, so that a ready one is told by one test.
+#[inline(never)]
+fn is_woken(sys: &Sys, p: PartId, first: bool) -> bool
+    requires partition { p < length sys.now.machine.parts }
+    ensures { result ≡ (first || is_some (due (part_at p sys.now.machine).traps)) }
+{
+    first || sys.part(p).virt.due().is_some()
 }
 
 // How many ticks there are, at most so many, in which no timer of the partition falls due after the first.
