@@ -155,11 +155,11 @@ fn run_part(sys: &mut Sys, lines: &mut Lines, span: &mut Span, place: Place, mos
     requires place { IsAt place sys.old.machine }
     requires running { sys.old.machine.halted ≡ false }
     requires some { 0 < most }
+    requires left { most ≤ place.left }
     requires ticks { sys.old.machine.ticks + most ≤ 4000000000 }
     requires empty { lines.old ≡ [] }
     ensures done { IsSpanDone span.new most sys.old sys.new lines.new }
 {
-    let most = most.min(place.left);
     match place.slot {
         Some(slot) => run_slot(sys, lines, span, slot, most),
         None => wait(sys, lines, span, most),

@@ -59,3 +59,9 @@ loop-goes-preserved c =
       ended = λ ends. span_on c.loop-goes.done c.args.most c.loop-goes.at c.run_part.new.span c.args.sys.now c.loop-goes.sys c.run_part.new.sys c.loop-goes.lines c.run_part.new.lines
           is c.requires.running c.run_part.ensures.done;
     }
+
+pub run_part-requires-clause-left : goal.run_part-requires-clause-left
+run_part-requires-clause-left c =
+    let is = c.loop-goes.invariant.begun c.loop-goes-test.true in
+    let room = is.room in
+    omega (arith, room)

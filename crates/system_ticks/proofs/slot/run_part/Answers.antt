@@ -5,10 +5,10 @@ use Rattle.system_ticks.proofs.slot.run_part.Goals as goal
 
 pub run_slot-requires-clause-take : goal.run_slot-requires-clause-take
 run_slot-requires-clause-take c =
-    can_take c.args.sys.now _ c.min-most.result c.requires.machine c.requires.running (owned_here c.args.sys.now _ c.args.place.slot c.requires.machine c.in-Some.is c.requires.place.covers)
-    (omega (arith, c.requires.some, c.requires.place.some, c.min-most.ensures))
-    (omega (arith, c.requires.ticks, c.min-most.ensures))
-    (omega (arith, c.requires.place.stretch.within, c.min-most.ensures))
+    can_take c.args.sys.now _ c.args.most c.requires.machine c.requires.running (owned_here c.args.sys.now _ c.args.place.slot c.requires.machine c.in-Some.is c.requires.place.covers)
+    c.requires.some
+    c.requires.ticks
+    (omega (arith, c.requires.place.stretch.within, c.requires.left))
 
 pub run_slot-requires-clause-slot : goal.run_slot-requires-clause-slot
 run_slot-requires-clause-slot c =
@@ -21,10 +21,7 @@ pub wait-requires-clause-parts : goal.wait-requires-clause-parts
 wait-requires-clause-parts c = some_part c.args.sys.now c.requires.machine
 
 pub run_slot-requires-clause-stretch : goal.run_slot-requires-clause-stretch
-run_slot-requires-clause-stretch c = fewer_ticks c.args.sys.now.machine c.args.place.left c.min-most.result (omega (arith, c.min-most.ensures)) c.requires.place.stretch
+run_slot-requires-clause-stretch c = fewer_ticks c.args.sys.now.machine c.args.place.left c.args.most c.requires.left c.requires.place.stretch
 
 pub wait-requires-clause-stretch : goal.wait-requires-clause-stretch
-wait-requires-clause-stretch c = fewer_ticks c.args.sys.now.machine c.args.place.left c.min-most.result (omega (arith, c.min-most.ensures)) c.requires.place.stretch
-
-pub wait-requires-clause-some : goal.wait-requires-clause-some
-wait-requires-clause-some c = omega (arith, c.requires.some, c.requires.place.some, c.min-most.ensures)
+wait-requires-clause-stretch c = fewer_ticks c.args.sys.now.machine c.args.place.left c.args.most c.requires.left c.requires.place.stretch
