@@ -1,8 +1,8 @@
 -- The input words of the partition that is replayed.
-use Rattle.std.proofs.Common.{◌≡◌, ◌≢◌, ◌↔◌, ℕ, ◌%◌, Bool, true, false, nat_eq, if◌then◌else◌, List, [], length, replicate, slice_set, Ok, Err, refl, sym, ap, ◌∙◌, arith}
+use Rattle.std.proofs.Common.{◌≡◌, ◌≢◌, ◌↔◌, ℕ, ◌%◌, Bool, true, false, nat_eq, List, [], length, replicate, slice_set, Ok, Err, refl, sym, ap, ◌∙◌, arith}
 use Rattle.std.proofs.lemmas.Bool.Decides.{nat_tests}
 use Rattle.whole_system.specs.Inputs.{words_in}
-use Rattle.alone_replay.specs.Ready.{OddInput, inputs_given}
+use Rattle.file_maker.specs.Ready.{OddInput, inputs_given}
 
 -- bytes whose number is not refused are whole words
 whole_words : {T E : Type 0} (count : ℕ) (x : T) (e : E) → (Ok x ≡ Err e) ↔ (count % 4 ≢ 0) → nat_eq (count % 4) 0 ≡ true

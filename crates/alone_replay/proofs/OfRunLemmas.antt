@@ -30,19 +30,19 @@ use Rattle.machine_model.specs.CoreFile.{core_file}
 use Rattle.machine_model.specs.Cue.{Cue, script}
 use Rattle.machine_model.specs.Laws.{OwnLines, SameCoreFile}
 use Rattle.machine_model.specs.Lines.{end_line}
-use Rattle.machine_model.specs.Machine.{run, start}
+use Rattle.machine_model.specs.Machine.{start}
 use Rattle.machine_model.specs.View.{PartitionView, System, view_of}
 use Rattle.told_scripts.specs.Telling.{TellsBootedScripts}
 use Rattle.whole_system.specs.Inputs.{words_in}
 use Rattle.whole_system.specs.State.{with_inputs}
-use Rattle.xm_alone.specs.Replay.{cue_lines, replay_lines, replayed}
+use Rattle.told_scripts.specs.Replayed.{cue_lines, replay_lines, replayed}
 use Rattle.loaded_system.specs.Inside.{first_outside}
 use Rattle.xm_container.specs.Entries.{Entries}
 use Rattle.xm_container.specs.Numbers.{extra, missing}
 use Rattle.xm_container.specs.Reading.{as_config, assigned, box_faults, box_short, conf_at, container_fields, length_at, system_in, image_table_at, unless_some, unpacked, version_in}
 use Rattle.xm_container.specs.declared.fault.BoxFault.{BoxFault}
 use Rattle.alone_replay.specs.OfRun.{RunIsReplayed}
-use Rattle.alone_replay.specs.Ready.{NoPartition, fitting, inputs_given, replay_of, with_container, with_input, with_script, with_system}
+use Rattle.file_maker.specs.Ready.{NoPartition, fitting, inputs_given, replay_of, with_container, with_input, with_script, with_system}
 
 -- What is unpacked meets the rules.
 

@@ -1,3 +1,2 @@
 pub mod OfRun
 pub mod Readied
-pub mod Ready

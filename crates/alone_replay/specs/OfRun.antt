@@ -13,9 +13,9 @@ use Rattle.machine_model.specs.View.{System, view_of}
 use Rattle.told_scripts.specs.Telling.{HasNumbers}
 use Rattle.whole_system.specs.Inputs.{words_in}
 use Rattle.whole_system.specs.State.{with_inputs}
-use Rattle.xm_alone.specs.Replay.{replay_lines, replayed}
+use Rattle.told_scripts.specs.Replayed.{replay_lines, replayed}
 use Rattle.xm_container.specs.Reading.{unpacked}
-use Rattle.alone_replay.specs.Ready.{Replay, Unready, replay_of}
+use Rattle.file_maker.specs.Ready.{Replay, Unready, replay_of}
 
 -- the bytes of a container, of a script and of input words are those of a run: the container is that of the system, the partition is in it and has
 -- there the input words that the bytes spell, and the script is all that the partition is told in so many ticks; bytes in it are bytes, and a

@@ -6,7 +6,7 @@ use Rattle.file_maker.specs.declared.unmade.Unmade.{Unmade}
 use Rattle.file_maker.specs.declared.unmade.Unmade.TheVariants as unmade
 use Rattle.machine_model.specs.Cue.{Cue}
 use Rattle.xm_alone.specs.Replay.{Lone, TakesAll, booted_alone, own_view}
-use Rattle.alone_replay.specs.Ready.{NoContainer, NoPartition, NoScript, OddInput, Replay, Unready}
+use Rattle.file_maker.specs.Ready.{NoContainer, NoPartition, NoScript, OddInput, Replay, Unready}
 use Rattle.alone_replay.specs.declared.ready.Replay as code
 use Rattle.alone_replay.specs.declared.unready.Unready as why
 use Rattle.alone_replay.specs.declared.unready.Unready.TheVariants as variant

@@ -1,7 +1,7 @@
 //! The input words of the one partition that is replayed.
 
 ghost use Rattle.std.specs.Prelude.{◌<◌, ◌≡◌, ◌^◌, IfOk, length};
-ghost use Rattle.alone_replay.specs.Ready.{inputs_given};
+ghost use Rattle.file_maker.specs.Ready.{inputs_given};
 ghost use Rattle.alone_replay.specs.Readied.{GivesOr};
 
 use crate::unready::Unready;

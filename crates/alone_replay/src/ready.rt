@@ -8,7 +8,7 @@ ghost use Rattle.machine_model.specs.View.{view_of};
 ghost use Rattle.whole_system.specs.State.{with_inputs};
 ghost use Rattle.xm_alone.specs.Replay.{TakesAll, booted_alone};
 ghost use Rattle.xm_container.specs.Reading.{unpacked};
-ghost use Rattle.alone_replay.specs.Ready.{fitting, inputs_given, replay_of, with_input, with_script, with_system};
+ghost use Rattle.file_maker.specs.Ready.{fitting, inputs_given, replay_of, with_input, with_script, with_system};
 ghost use Rattle.alone_replay.specs.Readied.{Readies};
 
 use crate::inputs::inputs_given;
@@ -31,7 +31,7 @@ pub struct Replay {
 }
 
 /// The replay of partition `p` by a container, a script and input words, which are bytes of files; or the first reason why there is none.
-#[tactic(auto, unfolding(crate::specs::Ready::replay_of))]
+#[tactic(auto, unfolding(file_maker::specs::Ready::replay_of))]
 pub fn make_ready(
     alloc: Global,
     container: &[u8],

@@ -1,7 +1,7 @@
 //! Why no replay can begin.
 
 ghost use Rattle.std.specs.Prelude.{◌≡◌};
-ghost use Rattle.alone_replay.specs.Ready.{NoContainer, NoScript};
+ghost use Rattle.file_maker.specs.Ready.{NoContainer, NoScript};
 ghost use Rattle.alone_replay.specs.Readied.{unready_for, unready_of};
 
 use file_maker::Unmade;

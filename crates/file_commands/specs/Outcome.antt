@@ -9,13 +9,12 @@ use Rattle.machine_model.specs.Cue.{Cue, script}
 use Rattle.machine_model.specs.Lines.{report}
 use Rattle.machine_model.specs.Machine.{Machine, run, start}
 use Rattle.machine_model.specs.View.{System as Booted, view_of}
-use Rattle.generated_runs.specs.Told.{generated_text}
+use Rattle.generated_system.specs.Told.{generated_text}
 use Rattle.whole_system.specs.State.{part_at, with_inputs}
 use Rattle.cue_scripts.specs.Spelling.{script_text}
 use Rattle.cue_scripts.specs.Texts.{script_fault_text}
 use Rattle.cue_scripts.specs.declared.fault.ScriptFault.TheVariants as script_fault
-use Rattle.xm_alone.specs.Replay.{replay_lines, replayed}
-use Rattle.alone_replay.specs.Ready.{NoContainer, NoPartition, NoScript, OddInput, Replay as Readied, Unready, replay_of}
+use Rattle.told_scripts.specs.Replayed.{replay_lines, replayed}
 use Rattle.loaded_system.specs.Bare.{bare_system}
 use Rattle.loaded_system.specs.System.{System}
 use Rattle.xm_container.specs.Reading.{unpacked}
@@ -32,6 +31,7 @@ use Rattle.file_commands.specs.Inputs.{inputs_for, no_inputs}
 use Rattle.file_commands.specs.Packing.{container_of, denial, file_names}
 use Rattle.file_maker.specs.Parsing.{upgraded_of, xmc_of}
 use Rattle.file_maker.specs.Planning.{plan_lines_of, verdicts_of}
+use Rattle.file_maker.specs.Ready.{NoContainer, NoPartition, NoScript, OddInput, Replay as Readied, Unready, replay_of}
 
 -- a file that is written
 pub record Output : Type 0 where

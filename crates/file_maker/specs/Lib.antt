@@ -5,4 +5,5 @@ pub mod Makes
 pub mod Parsing
 pub mod ParsingLemmas
 pub mod Planning
+pub mod Ready
 pub mod Telling

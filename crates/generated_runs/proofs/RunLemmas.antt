@@ -17,7 +17,7 @@ use Rattle.xm_machine.specs.declared.run.Ran.{Ran}
 use Rattle.xm_outside.specs.Causes.{Rose}
 use Rattle.xm_report.specs.Report.{ReportLine}
 use Rattle.generated_system.specs.Generated.{all_chans, all_parts, generated_conf, conf_with, generated}
-use Rattle.generated_runs.specs.Told.{generated_text, run_length, told_of, told_of_run, without_inputs}
+use Rattle.generated_system.specs.Told.{generated_text, run_length, told_of, told_of_run, without_inputs}
 
 -- an output that takes all never fails
 pub never_rose : Rose 0 0 → ⊥

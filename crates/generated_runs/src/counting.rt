@@ -1,7 +1,8 @@
 //! What is counted at the end of a run.
 
 ghost use Rattle.std.specs.Prelude.{◌≡◌, ◌<◌, ◌≤◌, ℕ, length};
-ghost use Rattle.generated_runs.specs.Told.{AreShort, exec_in, waiting_in};
+ghost use Rattle.generated_system.specs.Told.{exec_in, waiting_in};
+ghost use Rattle.generated_runs.specs.Short.{AreShort};
 ghost use Rattle.slot_runs.specs.Passes.{part_at};
 ghost use Rattle.xm_ports.specs.Channels.{HasQueue, content_at, messages_of};
 
@@ -23,7 +24,7 @@ pub(crate) fn exec_in(machine: &Machine) -> u64
 }
 
 // The sum of the partitions' clocks.
-#[tactic(auto, unfolding(crate::specs::Told::exec_in))]
+#[tactic(auto, unfolding(generated_system::specs::Told::exec_in))]
 fn exec_of(sys: &Sys) -> u64
     requires { AreShort sys.now.machine }
     ensures { result ≡ exec_in sys.now.machine }
@@ -44,7 +45,7 @@ fn exec_at(sys: &Sys, p: PartId) -> u64
 }
 
 /// How many messages wait in all channels, each of which is a queue.
-#[tactic(auto, unfolding(crate::specs::Told::waiting_in))]
+#[tactic(auto, unfolding(generated_system::specs::Told::waiting_in))]
 pub(crate) fn waiting_in(channels: &Channels) -> u64
     requires queues { (c : ℕ) → c < 8 → HasQueue c channels.now }
     requires count { length channels.now.contents ≡ 8 }

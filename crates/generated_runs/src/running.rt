@@ -2,7 +2,7 @@
 
 ghost use Rattle.std.specs.Prelude.{◌≡◌, false, IfOk, None, Ok, length};
 ghost use Rattle.bin_config.specs.declared.version.Version.TheVariants.{Two};
-ghost use Rattle.generated_runs.specs.Told.{generated_text, run_length, told_of};
+ghost use Rattle.generated_system.specs.Told.{generated_text, run_length, told_of};
 ghost use Rattle.generated_system.specs.Generated.{generated_conf, generated};
 ghost use Rattle.xm_container.specs.Box.{box_text};
 ghost use Rattle.xm_container.specs.Reading.{unpacked};
@@ -59,7 +59,7 @@ fn run_frames(machine: &mut Machine) -> Ran
 }
 
 // The two lines of a machine that has run and whose report has so many lines.
-#[tactic(auto, unfolding(crate::specs::Told::told_of))]
+#[tactic(auto, unfolding(generated_system::specs::Told::told_of))]
 fn lines_of(
     alloc: Global,
     number: u32,

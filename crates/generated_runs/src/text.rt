@@ -1,7 +1,7 @@
 //! The two lines that tell of a run.
 
 ghost use Rattle.std.specs.Prelude.{◌≡◌, [], ◌++◌, IfOk};
-ghost use Rattle.generated_runs.specs.Told.{came_line, made_line};
+ghost use Rattle.generated_system.specs.Told.{came_line, made_line};
 
 use std::alloc::Global;
 use xm_base::Memory;
@@ -30,7 +30,7 @@ pub(crate) fn two_lines(
 }
 
 // The line of what was made and run.
-#[tactic(auto, unfolding(crate::specs::Told::made_line))]
+#[tactic(auto, unfolding(generated_system::specs::Told::made_line))]
 fn write_made(pen: &mut Pen, number: u32, container: usize, ticks: u64)
     requires { pen.old ≡ [] }
     ensures { pen.new ≡ made_line number container ticks }
@@ -45,7 +45,7 @@ fn write_made(pen: &mut Pen, number: u32, container: usize, ticks: u64)
 }
 
 // The line of what came of it.
-#[tactic(auto, unfolding(crate::specs::Told::came_line))]
+#[tactic(auto, unfolding(generated_system::specs::Told::came_line))]
 fn write_came(pen: &mut Pen, exec: u64, lines: u64, waiting: u64)
     requires { pen.old ≡ [] }
     ensures { pen.new ≡ came_line exec lines waiting }

@@ -1,5 +1,5 @@
 -- A partition alone that follows the cues of a script, one after the other.
-use Rattle.std.proofs.Common.{◌≡◌, ℕ, suc, ◌+◌, ◌<◌, ◌≤◌, Bool, true, false, if◌then◌else◌, List, [], ◌∷◌, ◌++◌, length, Option, Some, Result, Ok, Err, is_err, refl, sym, ap, subst, ◌∙◌, arith, append_assoc, length-append}
+use Rattle.std.proofs.Common.{◌≡◌, ℕ, suc, ◌+◌, ◌≤◌, Bool, true, false, if◌then◌else◌, List, [], ◌∷◌, ◌++◌, length, Option, Some, Result, Ok, Err, is_err, refl, sym, ap, subst, ◌∙◌, arith, append_assoc, length-append}
 use Rattle.std.proofs.lemmas.List.{append-nil}
 use Rattle.std.specs.List.{AllByRecursion}
 use Rattle.machine_model.specs.Alone.{Alone, alone_after, alone_from, alone_lines, alone_said, alone_start, alone_step, alone_step_lines, alone_step_said}
@@ -14,7 +14,7 @@ use Rattle.alone_passes.specs.Taking.{first_untaken, takes_cue}
 use Rattle.cue_scripts.specs.Script.{HaltsLast, IsCue, IsScript}
 use Rattle.xm_machine.specs.AloneStep.{StepsAlone}
 use Rattle.xm_machine.specs.declared.alone_fault.AloneFault.{AloneFault}
-use Rattle.xm_alone.specs.Replay.{replayed}
+use Rattle.told_scripts.specs.Replayed.{replayed}
 use Rattle.xm_alone.proofs.RunLemmas.{event_most}
 
 -- cues of two parts: what they leave, print and say

@@ -2,9 +2,8 @@
 use Rattle.std.proofs.Common.{◌≡◌, ℕ, zero, suc, ◌+◌, ◌-◌, ◌<◌, ◌≤◌, Bool, true, false, if◌then◌else◌, is_err, List, [], ◌∷◌, ◌++◌, length, replicate, Option, Some, None, Result, Ok, Err, refl, sym, ap, subst, ◌∙◌, arith, append_assoc, length-append}
 use Rattle.std.proofs.lemmas.List.{append-nil, length-replicate}
 use Rattle.xm_outside.specs.Causes.{Rose}
-use Rattle.xm_outside.specs.Growth.{GrewByPrefix, grown}
+use Rattle.xm_outside.specs.Growth.{grown}
 use Rattle.xm_report.specs.Report.{texts}
-use Rattle.uart_board.specs.Heard.{IsHeard}
 use Rattle.uart_board.specs.Views.{BoardView}
 use Rattle.cue_scripts.specs.Entries.{bare_cue}
 use Rattle.cue_scripts.specs.Script.{HaltsLast, IsScript}
@@ -12,9 +11,9 @@ use Rattle.machine_model.specs.Alone.{Alone, alone_from, alone_lines, alone_said
 use Rattle.machine_model.specs.Cue.{Cue}
 use Rattle.machine_model.specs.Lists.{is_number}
 use Rattle.machine_model.specs.Machine.{Machine}
-use Rattle.machine_model.specs.View.{PartitionView, System, part_of, view_of}
+use Rattle.machine_model.specs.View.{PartitionView, part_of, view_of}
 use Rattle.alone_passes.specs.Passes.{part_in}
-use Rattle.alone_passes.specs.Step.{IsLone, IsOfSystem}
+use Rattle.alone_passes.specs.Step.{IsOfSystem}
 use Rattle.alone_passes.specs.Taking.{first_untaken, takes_cue}
 use Rattle.lone_ticks.specs.LoneSpan.{AreSilent, AreTaken}
 use Rattle.system_ticks.specs.CueValues.{cue_value}
@@ -24,7 +23,8 @@ use Rattle.xm_machine.specs.AloneStep.{HasStepCause, IsSaidAlone, StepsAlone}
 use Rattle.xm_machine.specs.declared.alone_fault.AloneFault.{AloneFault}
 use Rattle.xm_machine.specs.declared.alone_fault.AloneFault.TheVariants as fault
 use Rattle.xm_alone.specs.Cues.{ComesNext, Follows, IsNextCue, cues_left, next_cues, next_left}
-use Rattle.xm_alone.specs.Replay.{IsCutReplay, TakesAll, cue_lines, lone_in, replay_said, replayed}
+use Rattle.told_scripts.specs.Replayed.{cue_lines, replayed}
+use Rattle.xm_alone.specs.Replay.{IsCutReplay, TakesAll, lone_in, replay_said}
 use Rattle.xm_alone.specs.declared.cues.Cues as code
 use Rattle.xm_alone.specs.declared.cues.Next as code_next
 use Rattle.xm_alone.specs.declared.cues.Next.TheVariants as next

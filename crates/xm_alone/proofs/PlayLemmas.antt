@@ -18,7 +18,8 @@ use Rattle.slot_runs.specs.Passes.{part_at}
 use Rattle.alone_passes.specs.Passes.{part_in}
 use Rattle.alone_passes.specs.Step.{IsLone, IsOfSystem}
 use Rattle.xm_machine.specs.AloneStep.{said_alone}
-use Rattle.xm_alone.specs.Replay.{IsCutReplay, IsReplay, IsWholeReplay, Lone, cue_lines, lone_in, own_view, replay_lines, replay_said, replayed}
+use Rattle.told_scripts.specs.Replayed.{cue_lines, replay_lines, replayed}
+use Rattle.xm_alone.specs.Replay.{IsCutReplay, IsReplay, IsWholeReplay, Lone, lone_in, own_view, replay_said}
 use Rattle.xm_alone.proofs.FollowLemmas.{IsFollowing, lines_add, lines_more, one_followed, said_more}
 
 -- the same bytes to each UART

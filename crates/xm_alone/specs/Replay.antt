@@ -1,18 +1,18 @@
--- A partition that is replayed: which script fits it, what a replay leaves of it, what it prints, and what it says.
-use Rattle.std.specs.Prelude.{◌≡◌, ℕ, ◌<◌, ◌≤◌, Bool, false, List, [], ◌∷◌, ◌++◌, length, take, if◌then◌else◌, Option, Some, None, Result, Ok, Err}
+-- A partition that is replayed: which script fits it, what a replay says, and whether it was one of these cues.
+use Rattle.std.specs.Prelude.{◌≡◌, ℕ, ◌<◌, ◌≤◌, Bool, false, List, [], length, take, if◌then◌else◌, Option, Some, None, Result, Ok, Err}
 use Rattle.xm_outside.specs.Growth.{grown, GrewByPrefix}
 use Rattle.xm_report.specs.Report.{ReportLine, texts}
 use Rattle.xm_report.specs.declared.output.WriteFault.{WriteFault}
 use Rattle.uart_board.specs.Heard.{IsHeard}
 use Rattle.uart_board.specs.Views.{BoardView}
-use Rattle.machine_model.specs.Alone.{Alone, alone_from, alone_lines, alone_said, alone_start}
+use Rattle.machine_model.specs.Alone.{Alone, alone_said, alone_start}
 use Rattle.machine_model.specs.Cue.{Cue}
-use Rattle.machine_model.specs.Lines.{end_line}
 use Rattle.machine_model.specs.Lists.{is_number}
 use Rattle.machine_model.specs.Machine.{Machine}
 use Rattle.machine_model.specs.View.{PartitionView, System, part_of, view_of}
 use Rattle.alone_passes.specs.Passes.{part_in}
 use Rattle.alone_passes.specs.Taking.{first_untaken}
+use Rattle.told_scripts.specs.Replayed.{cue_lines, replayed}
 use Rattle.cue_scripts.specs.declared.fault.ScriptFault.{ScriptFault}
 use Rattle.cue_scripts.specs.declared.fault.ScriptFault.TheVariants as fault
 
@@ -51,18 +51,6 @@ TellsFit view cues (Err (fault.Trailing at)) = ⊥
 TellsFit view cues (Err (fault.Field at)) = ⊥
 TellsFit view cues (Err (fault.Length found)) = ⊥
 TellsFit view cues (Err (fault.Cue tick)) = first_untaken view (alone_start view) 0 cues ≡ Some tick
-
--- what a replay leaves of the partition
-abbrev pub replayed : PartitionView → List Cue → Alone
-replayed view cues = alone_from view (alone_start view) cues
-
--- the lines of its cues
-abbrev pub cue_lines : PartitionView → List Cue → List ReportLine
-cue_lines view cues = alone_lines view (alone_start view) cues
-
--- what a replay prints: the lines of its cues, and that of the partition's end
-abbrev pub replay_lines : PartitionView → List Cue → List ReportLine
-replay_lines view cues = cue_lines view cues ++ end_line view.id (replayed view cues).state ∷ []
 
 -- the console bytes of a replay that each UART gets
 abbrev pub replay_said : Lone → List Cue → ℕ → List ℕ

@@ -8,7 +8,8 @@ ghost use Rattle.machine_model.specs.Lines.{end_line};
 ghost use Rattle.machine_model.specs.View.{view_of};
 ghost use Rattle.slot_runs.specs.Passes.{part_at};
 ghost use Rattle.whole_system.specs.State.{with_inputs};
-ghost use Rattle.xm_alone.specs.Replay.{IsReplay, TakesAll, booted_alone, cue_lines, lone_in, own_view, replay_lines};
+ghost use Rattle.told_scripts.specs.Replayed.{cue_lines, replay_lines};
+ghost use Rattle.xm_alone.specs.Replay.{IsReplay, TakesAll, booted_alone, lone_in, own_view};
 ghost use Rattle.xm_machine.specs.Outcome.{HasWriteCause};
 ghost use Rattle.xm_report.specs.Report.{line_value};
 

@@ -26,7 +26,7 @@ use Rattle.file_commands.specs.Inputs.{no_inputs}
 use Rattle.file_commands.specs.Packing.{container_of}
 use Rattle.file_maker.specs.Parsing.{upgraded_of, xmc_of}
 use Rattle.file_maker.specs.Planning.{plan_lines_of, verdicts_of}
-use Rattle.alone_replay.specs.Ready.{Replay as Readied, Unready, replay_of}
+use Rattle.file_maker.specs.Ready.{Replay as Readied, Unready, replay_of}
 use Rattle.file_commands.specs.Denial.{Denial}
 use Rattle.file_commands.specs.Outcome.{Output, bare_outcome, content, first_long, input_bytes, file_made, packed_to, played, outcome_of_run, ran_for, ran_scripted, ran_with, ran_within, command_refused, refused_by, replay_outcome_by, replay_outcome, run_by, run_outcome, text_reported, inputs_of, outcome_of, scripts_for, ticks_asked, unless_long, outcome_of_contents}
 use Rattle.xm_commands.specs.Top.{AreContents}

@@ -7,10 +7,11 @@ use Rattle.xm_outside.specs.Files.{Files}
 use Rattle.uart_board.specs.Heard.{IsHeard}
 use Rattle.uart_board.specs.Views.{BoardView, without_marks}
 use Rattle.alone_replay.specs.Readied.{IsUnready}
-use Rattle.alone_replay.specs.Ready.{Replay as Readied, Unready}
+use Rattle.file_maker.specs.Ready.{Replay as Readied, Unready}
 use Rattle.machine_model.specs.Cue.{Cue}
 use Rattle.machine_model.specs.View.{view_of}
-use Rattle.xm_alone.specs.Replay.{IsCutReplay, IsReplayed, IsWholeReplay, Lone, booted_alone, own_view, replay_lines, replay_said}
+use Rattle.told_scripts.specs.Replayed.{replay_lines}
+use Rattle.xm_alone.specs.Replay.{IsCutReplay, IsReplayed, IsWholeReplay, Lone, booted_alone, own_view, replay_said}
 use Rattle.xm_words.specs.Words.{ReplayFiles}
 use Rattle.xm_commands.specs.Behind.{EndsBehind}
 use Rattle.xm_commands.specs.Boards.{IsRunTo, LeavesBoard}

@@ -5,14 +5,14 @@ use Rattle.xm_outside.specs.Files.{Files}
 use Rattle.xm_outside.specs.Growth.{grown}
 use Rattle.xm_report.specs.Report.{ReportLine, texts}
 use Rattle.alone_replay.specs.OfRun.{RunIsReplayed}
-use Rattle.alone_replay.specs.Ready.{Replay as Readied, replay_of}
+use Rattle.file_maker.specs.Ready.{Replay as Readied, replay_of}
 use Rattle.machine_model.specs.CoreFile.{core_file}
 use Rattle.machine_model.specs.Laws.{core_file_of}
 use Rattle.machine_model.specs.Lines.{own, report}
 use Rattle.machine_model.specs.Machine.{run, start}
 use Rattle.machine_model.specs.View.{System, view_of}
 use Rattle.whole_system.specs.State.{with_inputs}
-use Rattle.xm_alone.specs.Replay.{replay_lines, replayed}
+use Rattle.told_scripts.specs.Replayed.{replay_lines, replayed}
 use Rattle.xm_words.specs.Words.{Command, ReplayFiles, Bare, Parse, Upgrade, BuildImage, ReadImage, Pack, ListContainer, CheckContainer, MakePlan, CheckPlan, TellGroups, Generate, Run, Replay, replay_core, replay_input}
 use Rattle.xm_commands.specs.Answer.{read_all}
 use Rattle.file_commands.specs.Denial.{Denial}

@@ -9,7 +9,8 @@ use Rattle.xm_machine.specs.Outcome.{report_to}
 use Rattle.xm_outside.specs.Files.{Files}
 use Rattle.xm_outside.specs.Growth.{GrewByPrefix}
 use Rattle.xm_report.specs.Report.{ReportLine, texts}
-use Rattle.xm_alone.specs.Replay.{booted_alone, cue_lines, replay_lines, replay_said}
+use Rattle.told_scripts.specs.Replayed.{cue_lines, replay_lines}
+use Rattle.xm_alone.specs.Replay.{booted_alone, replay_said}
 use Rattle.xm_words.specs.Words.{Command}
 use Rattle.file_commands.specs.Ending.{Ending, Finished, Misused, Unread, Denied, Unwritten, Unsaved, Unheard, Starved, complaint, status_of}
 use Rattle.file_commands.specs.Outcome.{Running, Together, Apart, inputs_of, outcome_of}

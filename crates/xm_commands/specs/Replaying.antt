@@ -1,6 +1,6 @@
 -- A replay as it is played, and how one ends that cannot begin.
 use Rattle.std.specs.Prelude.{◌≡◌, ℕ, List, Option, Some, None}
-use Rattle.alone_replay.specs.Ready.{Replay, Unready}
+use Rattle.file_maker.specs.Ready.{Replay, Unready}
 use Rattle.machine_model.specs.CoreFile.{core_file}
 use Rattle.machine_model.specs.Cue.{Cue}
 use Rattle.xm_alone.specs.Replay.{Lone, own_view}

@@ -3,7 +3,7 @@
 ghost use Rattle.std.specs.Prelude.{◌≡◌, ◌≤◌, ◌∷◌, None, Some, length, map, option_copied};
 ghost use Rattle.xm_base.specs.declared.limits.TheConstants.{FILE_BYTES};
 ghost use Rattle.alone_replay.specs.Readied.{IsReady, Readies, unready_of};
-ghost use Rattle.alone_replay.specs.Ready.{replay_of};
+ghost use Rattle.file_maker.specs.Ready.{replay_of};
 ghost use Rattle.xm_commands.specs.Boards.{IsLeft, LeavesBoard};
 ghost use Rattle.file_commands.specs.Outcome.{content, first_long, input_bytes, input_name, name_if_any, outcome_of, played, replay_outcome};
 ghost use Rattle.core_files.specs.Length.{core_length_of};

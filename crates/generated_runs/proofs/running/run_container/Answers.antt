@@ -2,7 +2,7 @@ use Rattle.std.proofs.Common.{ℕ, List, length, ap, ◌∙◌, sym}
 use Rattle.machine_model.specs.Machine.{Machine, run}
 use Rattle.whole_system.specs.State.{with_inputs}
 use Rattle.generated_system.specs.Generated.{generated}
-use Rattle.generated_runs.specs.Told.{run_length}
+use Rattle.generated_system.specs.Told.{run_length}
 use Rattle.generated_runs.proofs.RunLemmas.{keeps_system, one_system, sixteen, starts_fresh, starts_running, told_so}
 use Rattle.generated_runs.proofs.running.run_container.Goals as goal
 

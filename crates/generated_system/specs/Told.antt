@@ -1,5 +1,5 @@
 -- What is reported of the run of a generated system.
-use Rattle.std.specs.Prelude.{ℕ, ◌≤◌, All, List, [], ◌++◌, length, codes, decimal, replicate, sum_by}
+use Rattle.std.specs.Prelude.{ℕ, List, [], ◌++◌, length, codes, decimal, replicate, sum_by}
 use Rattle.bin_config.specs.declared.version.Version.TheVariants.{Two}
 use Rattle.xm_ports.specs.Channels.{Content, messages_of}
 use Rattle.xm_container.specs.Box.{box_text}
@@ -30,10 +30,6 @@ exec_in g = sum_by (λ ps. ps.clocks.execution) g.parts
 -- how many messages wait in channels
 unfoldable pub waiting_in : List Content → ℕ
 waiting_in contents = sum_by (λ content. length (messages_of content)) contents
-
--- no partition ran for more ticks than a word can count
-abbrev pub AreShort : Machine → Type 0
-AreShort g = All (λ ps. ps.clocks.execution ≤ 4294967296) g.parts
 
 -- the two lines, of a machine that has run and whose report has so many lines
 unfoldable pub told_of : ℕ → ℕ → ℕ → Machine → List ℕ
