@@ -309,6 +309,12 @@ def replays():
         row("the line of the end", fails=fails(out=[0]), status='"WriteFault"', err=quoted("xm_run: report: cannot write\n"), absent='["c"]'),
         row("no call that is made", fails=fails(files=[4], out=[1]), out=loops_0, same='{ c = "core 0 of loops" }'),
     ])
+    warm = own(1, FOUR)
+    yield group("replays that print, where a device fails", {"call": '"alone reset.box 1 s --core c"', "file": '["reset.box", "s=script 1 of reset"]'}, [
+        row("the core file", fails=fails(files=[2]), status='"WriteFault"', out=quoted(warm), err=quoted("xm_run: c: cannot write\n"), absent='["c"]'),
+        row("the line of a cue", fails=fails(out=[0]), status='"WriteFault"', err=quoted("xm_run: report: cannot write\n"), absent='["c"]'),
+        row("the line of the end", fails=fails(out=[1]), status='"WriteFault"', out=quoted(warm[:warm.index("END")]), err=quoted("xm_run: report: cannot write\n"), absent='["c"]'),
+    ])
 
 
 def main():

@@ -1,2 +1,3 @@
 pub mod InputLemmas
 pub mod OfRunLemmas
+pub mod SilentLemmas

@@ -1,11 +1,11 @@
 -- What is answered where a replay is made ready.
-use Rattle.std.specs.Prelude.{◌≡◌, ℕ, ◌<◌, ⊤, List, length, Option, Some, None, Result, Ok, Err}
+use Rattle.std.specs.Prelude.{◌≡◌, ℕ, ◌<◌, ⊤, Bool, true, false, List, length, Option, Some, None, Result, Ok, Err}
 use Rattle.std.specs.String.{string_bytes}
 use Rattle.cue_scripts.specs.Script.{IsScript}
 use Rattle.file_maker.specs.declared.unmade.Unmade.{Unmade}
 use Rattle.file_maker.specs.declared.unmade.Unmade.TheVariants as unmade
 use Rattle.machine_model.specs.Cue.{Cue}
-use Rattle.xm_alone.specs.Replay.{Lone, TakesAll, booted_alone, own_view}
+use Rattle.xm_alone.specs.Replay.{IsSilentReplay, Lone, TakesAll, booted_alone, own_view}
 use Rattle.file_maker.specs.Ready.{NoContainer, NoPartition, NoScript, OddInput, Replay, Unready}
 use Rattle.alone_replay.specs.declared.ready.Replay as code
 use Rattle.alone_replay.specs.declared.unready.Unready as why
@@ -34,14 +34,19 @@ abbrev pub GivesOr : {X Y : Type 0} → (X → Y) → Result X why.Unready → R
 GivesOr view (Ok value) made = made ≡ Ok (view value)
 GivesOr view (Err reason) made = IsUnready (unready_of reason) made
 
--- a partition as it boots, with a script that fits it
-pub record IsReady (alone : Lone) (cues : List Cue) : Type 0 where
+-- a partition as it boots; or, where its cues were seen to print nothing, as they left it
+abbrev pub IsBootedOrLeft : Bool → Lone → List Cue → Type 0
+IsBootedOrLeft false alone cues = alone ≡ booted_alone alone.system alone.p
+IsBootedOrLeft true alone cues = IsSilentReplay cues (booted_alone alone.system alone.p) alone
+
+-- a partition that stands so, with a script that fits it
+pub record IsReady (silent : Bool) (alone : Lone) (cues : List Cue) : Type 0 where
   pub there : alone.p < length alone.system.conf.parts
-  pub booted : alone ≡ booted_alone alone.system alone.p
+  pub stands : IsBootedOrLeft silent alone cues
   pub told : IsScript alone.system.conf alone.p cues
   pub fits : TakesAll (own_view alone) cues
 
 -- the replay is that of the definition and may begin, or the reason is that of the definition
 abbrev pub Readies : Result code.Replay why.Unready → Result Replay Unready → Type 0
-Readies (Ok replay) made = (made ≡ Ok (record { system = replay.alone.system; p = replay.alone.p; cues = replay.script })) × IsReady replay.alone replay.script
+Readies (Ok replay) made = (made ≡ Ok (record { system = replay.alone.system; p = replay.alone.p; cues = replay.script })) × IsReady replay.silent replay.alone replay.script
 Readies (Err reason) made = IsUnready (unready_of reason) made

@@ -1,12 +1,12 @@
 //! A replay is made ready: the container is unpacked, the script is read and tried, and the partition boots.
 
-ghost use Rattle.std.specs.Prelude.{◌≡◌, ◌<◌, ◌≤◌, ◌^◌, Err, IfOk, Ok, List, ℕ, length};
+ghost use Rattle.std.specs.Prelude.{◌≡◌, ◌<◌, ◌≤◌, ◌^◌, Err, IfOk, IfSome, None, Ok, List, ℕ, length};
 ghost use Rattle.cue_scripts.specs.Reading.{script_read};
 ghost use Rattle.cue_scripts.specs.Script.{IsScript};
 ghost use Rattle.loaded_system.specs.System.{System as Loaded};
 ghost use Rattle.machine_model.specs.View.{view_of};
 ghost use Rattle.whole_system.specs.State.{with_inputs};
-ghost use Rattle.xm_alone.specs.Replay.{TakesAll, booted_alone};
+ghost use Rattle.xm_alone.specs.Replay.{IsSilentReplay, TakesAll, booted_alone};
 ghost use Rattle.xm_container.specs.Reading.{unpacked};
 ghost use Rattle.file_maker.specs.Ready.{fitting, inputs_given, replay_of, with_input, with_script, with_system};
 ghost use Rattle.alone_replay.specs.Readied.{Readies};
@@ -17,17 +17,19 @@ use crate::unready::{Unready, bad_container, bad_script};
 use cue_scripts::{Script, read_script};
 use file_maker::no_container;
 use std::alloc::Global;
-use xm_alone::{Alone, fits};
+use xm_alone::Alone;
 use xm_base::{Memory, PartId};
 use xm_conf::Conf;
 use xm_container::{System, unpack};
 use xm_machine::Inputs;
 
-/// A replay that may begin: the partition as it boots, and a script that fits it.
+/// A replay that may begin: the partition as it boots, and a script that fits it. Where the script's cues were seen to print and say
+/// nothing, the partition stands as they left it, and the line of its end is all that is to be shown.
 #[derive(Debug, Drop)]
 pub struct Replay {
     pub alone: Alone,
     pub script: Script,
+    pub silent: bool,
 }
 
 /// The replay of partition `p` by a container, a script and input words, which are bytes of files; or the first reason why there is none.
@@ -109,12 +111,41 @@ fn tried(
     requires count { length inputs ≡ length system.conf.parts }
     ensures { Readies result (with_input system p script (Ok inputs)) }
 {
-    match fits(alloc, system, inputs, p, &script) {
-        Ok(()) => match booted(alloc, container, p, input) {
-            Ok(alone) => Ok(Replay { alone, script }),
+    match Alone::tried(alloc, system, inputs, p, &script) {
+        Ok(silent) => standing(alloc, container, silent, p, script, input),
+        Err(fault) => Err(bad_script(no_script(alloc, fault))),
+    }
+}
+
+// The replay by a script that fits: of the partition as its cues left it, where they printed nothing, else as it boots.
+#[tactic(auto, using(crate::proofs::SilentLemmas::silent_ready))]
+fn standing(
+    alloc: Global,
+    container: &[u8],
+    silent: Option<Alone>,
+    p: PartId,
+    script: Script,
+    input: &[u8],
+) -> Result<Replay, Unready>
+    requires few { length input.now < 2 ^ 34 }
+    ensures { (system : Loaded) (inputs : List (List ℕ)) → unpacked container.now ≡ Ok system → inputs_given (length system.conf.parts) p input.now ≡ Ok inputs
+        → p < length system.conf.parts → IsScript system.conf p script → TakesAll (view_of (with_inputs system inputs) p) script
+        → IfSome silent (IsSilentReplay script (booted_alone (with_inputs system inputs) p)) → Readies result (fitting (with_inputs system inputs) p script None) }
+{
+    match silent {
+        Some(alone) => Ok(Replay {
+            alone,
+            script,
+            silent: true,
+        }),
+        None => match booted(alloc, container, p, input) {
+            Ok(alone) => Ok(Replay {
+                alone,
+                script,
+                silent: false,
+            }),
             Err(Memory) => Err(Unready::Memory),
         },
-        Err(fault) => Err(bad_script(no_script(alloc, fault))),
     }
 }
 

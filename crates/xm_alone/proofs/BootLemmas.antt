@@ -6,6 +6,7 @@ use Rattle.machine_model.specs.Alone.{Alone, alone_start}
 use Rattle.machine_model.specs.CoreFile.{core_file}
 use Rattle.machine_model.specs.Facts.{BootsComplete}
 use Rattle.machine_model.specs.Laws.{BootsAlone, part, alone_part_at}
+use Rattle.machine_model.specs.Lines.{end_line}
 use Rattle.machine_model.specs.Machine.{Machine, booted_part, start}
 use Rattle.machine_model.specs.View.{System, view_of}
 use Rattle.slot_runs.specs.Passes as passes
@@ -58,3 +59,8 @@ booted-same system g is = ap (λ (m : Machine). m.system) is ∙ booted-system s
 pub core-same : (lone : Lone) (g : Machine) (p : ℕ) → lone_in g p ≡ lone → core_file (view_of g.system p) (passes.part_at p g) ≡ core_file (own_view lone) lone.part.state
 unfolding part
 core-same lone g p is = ap (λ (l : Lone). core_file (own_view l) l.part.state) is
+
+-- and so is the line of its end
+pub end-same : (lone : Lone) (g : Machine) (p : ℕ) → lone_in g p ≡ lone → end_line p (passes.part_at p g) ≡ end_line lone.p lone.part.state
+unfolding part
+end-same lone g p is = ap (λ (l : Lone). end_line l.p l.part.state) is

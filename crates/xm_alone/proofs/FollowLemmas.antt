@@ -1,5 +1,5 @@
 -- A partition alone that follows the cues of a script, one after the other.
-use Rattle.std.proofs.Common.{◌≡◌, ℕ, suc, ◌+◌, ◌≤◌, Bool, true, false, if◌then◌else◌, List, [], ◌∷◌, ◌++◌, length, Option, Some, Result, Ok, Err, is_err, refl, sym, ap, subst, ◌∙◌, arith, append_assoc, length-append}
+use Rattle.std.proofs.Common.{◌≡◌, ℕ, suc, ◌+◌, ◌≤◌, Bool, true, false, if◌then◌else◌, List, [], ◌∷◌, ◌++◌, length, Some, refl, sym, ap, subst, ◌∙◌, arith, append_assoc, length-append}
 use Rattle.std.proofs.lemmas.List.{append-nil}
 use Rattle.std.specs.List.{AllByRecursion}
 use Rattle.machine_model.specs.Alone.{Alone, alone_after, alone_from, alone_lines, alone_said, alone_start, alone_step, alone_step_lines, alone_step_said}
@@ -12,8 +12,6 @@ use Rattle.alone_passes.specs.Passes.{part_in}
 use Rattle.alone_passes.specs.Step.{IsLone, IsOfSystem}
 use Rattle.alone_passes.specs.Taking.{first_untaken, takes_cue}
 use Rattle.cue_scripts.specs.Script.{HaltsLast, IsCue, IsScript}
-use Rattle.xm_machine.specs.AloneStep.{StepsAlone}
-use Rattle.xm_machine.specs.declared.alone_fault.AloneFault.{AloneFault}
 use Rattle.told_scripts.specs.Replayed.{replayed}
 use Rattle.xm_alone.proofs.RunLemmas.{event_most}
 
@@ -91,7 +89,7 @@ taken_on view a next tick after cue later taken steps counts =
     ∙ ap (λ (b : Alone). first_untaken view b (suc tick) later) (sym steps) ∙ ap (λ n. first_untaken view next n later) (sym counts)
 
 -- the number of a cue after others
-one_behind : (xs : List Cue) (x : Cue) → length (xs ++ x ∷ []) ≡ suc (length xs)
+pub one_behind : (xs : List Cue) (x : Cue) → length (xs ++ x ∷ []) ≡ suc (length xs)
 one_behind xs x = omega (arith, length-append xs (x ∷ []))
 
 -- partition p has followed the first cues of a script, those before, and these are left
@@ -148,16 +146,3 @@ pub record IsFitting (p tick : ℕ) (cues left : List Cue) (old now : Machine) :
   pub before : List Cue
   pub following : IsFollowing p cues before left old now
   pub count : tick ≡ length before
-
--- one more
-pub one_fits : {T : Type 0} (result : Result T AloneFault) (p tick : ℕ) (cues left : List Cue) (cue : Cue) (later : List Cue) (old now next : Machine) (had got : Option (List ℕ)) → left ≡ cue ∷ later
-    → is_err result ≡ false → IsFitting p tick cues left old now → StepsAlone result p cue now next had got → IsOfSystem now next → IsFitting p (tick + 1) cues later old next
-one_fits (Ok done) p tick cues left cue later old now next had got first right is steps same = record {
-  before = is.before ++ cue ∷ [];
-  following = one_followed p cues is.before left cue later old now next first is.following steps.0 same;
-  count = omega (arith, is.count, one_behind is.before cue);
-}
-one_fits (Err fault) p tick cues left cue later old now next had got first right is steps same = absurd (wrong right)
-  where
-    wrong : true ≡ false → ⊥
-    wrong e = cc

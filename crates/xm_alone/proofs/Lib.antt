@@ -3,4 +3,5 @@ mod FollowLemmas
 mod NextLemmas
 mod PlayLemmas
 mod RunLemmas
+mod SilentLemmas
 mod TickLemmas

@@ -1,5 +1,5 @@
 -- A partition alone that follows many cues, all but the last of which are silent.
-use Rattle.std.proofs.Common.{◌≡◌, ℕ, zero, suc, ◌+◌, ◌-◌, ◌<◌, ◌≤◌, Bool, true, false, if◌then◌else◌, is_err, List, [], ◌∷◌, ◌++◌, length, replicate, Option, Some, None, Result, Ok, Err, refl, sym, ap, subst, ◌∙◌, arith, append_assoc, length-append}
+use Rattle.std.proofs.Common.{◌≡◌, ℕ, zero, suc, ◌+◌, ◌-◌, ◌<◌, ◌≤◌, Bool, true, false, if◌then◌else◌, List, [], ◌∷◌, ◌++◌, length, replicate, Option, Some, None, Result, Ok, Err, refl, sym, ap, subst, ◌∙◌, arith, append_assoc, length-append}
 use Rattle.std.proofs.lemmas.List.{append-nil, length-replicate}
 use Rattle.xm_outside.specs.Causes.{Rose}
 use Rattle.xm_outside.specs.Growth.{grown}
@@ -7,7 +7,7 @@ use Rattle.xm_report.specs.Report.{texts}
 use Rattle.uart_board.specs.Views.{BoardView}
 use Rattle.cue_scripts.specs.Entries.{bare_cue}
 use Rattle.cue_scripts.specs.Script.{HaltsLast, IsScript}
-use Rattle.machine_model.specs.Alone.{Alone, alone_from, alone_lines, alone_said, alone_start, alone_step}
+use Rattle.machine_model.specs.Alone.{Alone, alone_from, alone_lines, alone_said, alone_start, alone_step, alone_step_lines}
 use Rattle.machine_model.specs.Cue.{Cue}
 use Rattle.machine_model.specs.Lists.{is_number}
 use Rattle.machine_model.specs.Machine.{Machine}
@@ -24,12 +24,13 @@ use Rattle.xm_machine.specs.declared.alone_fault.AloneFault.{AloneFault}
 use Rattle.xm_machine.specs.declared.alone_fault.AloneFault.TheVariants as fault
 use Rattle.xm_alone.specs.Cues.{ComesNext, Follows, IsNextCue, cues_left, next_cues, next_left}
 use Rattle.told_scripts.specs.Replayed.{cue_lines, replayed}
-use Rattle.xm_alone.specs.Replay.{IsCutReplay, TakesAll, lone_in, replay_said}
+use Rattle.xm_alone.specs.Replay.{IsCutReplay, TakesAll, is_refused, lone_in, replay_said, still_silent}
 use Rattle.xm_alone.specs.declared.cues.Cues as code
 use Rattle.xm_alone.specs.declared.cues.Next as code_next
 use Rattle.xm_alone.specs.declared.cues.Next.TheVariants as next
-use Rattle.xm_alone.proofs.FollowLemmas.{IsFitting, IsFollowing, from_add, left_cue, left_runs, left_ticks, lines_add, one_fits, said_add, still_runs}
+use Rattle.xm_alone.proofs.FollowLemmas.{IsFitting, IsFollowing, from_add, left_cue, left_runs, left_ticks, lines_add, said_add, still_runs}
 use Rattle.xm_alone.proofs.PlayLemmas.{IsPlaying, heard_as, one_cut, one_played}
+use Rattle.xm_alone.proofs.SilentLemmas.{IsTrying, none_taken, one_tried}
 
 -- so many of the same, one, and the others
 same_split : {X : Type 0} (x : X) (j k : ℕ) → replicate (j + suc k) x ≡ replicate j x ++ x ∷ replicate k x
@@ -141,6 +142,25 @@ many_fit p tick cues quiet cue later old now mid script is silent = record {
   count = omega (arith, is.count, length-append is.before quiet);
 }
 
+many_tried : (p tick : ℕ) (silent : Bool) (cues quiet : List Cue) (cue : Cue) (later : List Cue) (old now mid : Machine) → IsScript old.system.conf p cues
+    → IsTrying p tick silent cues (quiet ++ cue ∷ later) old now → AreSilent p quiet now mid → IsTrying p (tick + length quiet) silent cues (cue ∷ later) old mid
+many_tried p tick silent cues quiet cue later old now mid script is quiets =
+    let view = view_of old.system p in
+    let fit = is.fitting in
+    let seen : view_of now.system p ≡ view_of old.system p = ap (λ system. view_of system p) fit.following.system.system in
+    let none : alone_lines view (replayed view fit.before) quiet ≡ [] =
+    ap (λ (a : Alone). alone_lines view a quiet) (sym fit.following.part) ∙ ap (λ (v : PartitionView). alone_lines v (part_in now p) quiet) (sym seen) ∙ quiets.lines in
+    let same : cue_lines view (fit.before ++ quiet) ≡ cue_lines view fit.before =
+    lines_add view (alone_start view) fit.before quiet ∙ ap (λ more. cue_lines view fit.before ++ more) none ∙ append-nil (cue_lines view fit.before) in
+    record {
+      fitting = record {
+        before = fit.before ++ quiet;
+        following = many_followed p cues fit.before quiet cue later old now mid script fit.following quiets;
+        count = omega (arith, fit.count, length-append fit.before quiet);
+      };
+      quiet = λ says. ap texts same ∙ is.quiet says;
+    }
+
 -- what is left of the cues before and after those that come next
 rest_is : {T : Type 0} (ended : Result T AloneFault) (ticks p : ℕ) (all : List Cue) (first : code_next.Next) (others : code.Cues) (old new : Machine) (had got : Option (List ℕ)) (begun board : BoardView)
     → ComesNext all first others → (f : Follows ended ticks p first old new had got begun board) → all ≡ f.quiet ++ f.cue ∷ (next_left first ticks ++ cues_left others)
@@ -177,17 +197,33 @@ module _ (p ticks : ℕ) (cues all : List Cue) (first : code_next.Next) (others 
       f.step.0 (same_on now f.before new f.silent.system same) f.step.1 f.heard
 
   -- the partition can take them
-  pub next_fits : {T : Type 0} (ended : Result T AloneFault) (tick : ℕ) (had got : Option (List ℕ)) (begun board : BoardView) → is_err ended ≡ false → IsFitting p tick cues all old now
-      → Follows ended ticks p first now new had got begun board → IsFitting p (tick + ticks) cues (next_left first ticks ++ cues_left others) old new
-  next_fits ended tick had got begun board right is f =
-      subst (λ n. IsFitting p n cues (next_left first ticks ++ cues_left others) old new) (sum tick ticks (length f.quiet) f.count)
-      (one_fits ended p (tick + length f.quiet) cues (f.cue ∷ (next_left first ticks ++ cues_left others)) f.cue (next_left first ticks ++ cues_left others) old f.before new had got refl right
-      (many_fit p tick cues f.quiet f.cue (next_left first ticks ++ cues_left others) old now f.before script
-      (subst (λ left. IsFitting p tick cues left old now) (rest_is ended ticks p all first others now new had got begun board next f) is) f.silent)
-      f.step (same_on now f.before new f.silent.system same))
+  pub next_tried : {T : Type 0} (ended : Result T AloneFault) (tick : ℕ) (silent : Bool) (begun board : BoardView) → is_refused ended ≡ false → IsTrying p tick silent cues all old now
+      → Follows ended ticks p first now new (Some []) (Some []) begun board → IsTrying p (tick + ticks) (still_silent silent ended) cues (next_left first ticks ++ cues_left others) old new
+  next_tried (Ok done) tick silent begun board right is f =
+      subst (λ n. IsTrying p n silent cues (next_left first ticks ++ cues_left others) old new) (sum tick ticks (length f.quiet) f.count)
+      (one_tried p (tick + length f.quiet) silent silent cues f.cue (next_left first ticks ++ cues_left others) old f.before new
+      (many_tried p tick silent cues f.quiet f.cue (next_left first ticks ++ cues_left others) old now f.before script
+      (subst (λ left. IsTrying p tick silent cues left old now) (rest_is (Ok done) ticks p all first others now new (Some []) (Some []) begun board next f) is) f.silent)
+      f.step.0 (same_on now f.before new f.silent.system same) (λ says. says) (λ says. none_taken (texts (alone_step_lines (view_of f.before.system p) (part_in f.before p) f.cue)) f.step.1))
     where
       sum : (n j k : ℕ) → j ≡ k + 1 → (n + k) + 1 ≡ n + j
       sum n j k is = omega (arith, is)
+  next_tried {T = T} (Err fault.Write) tick silent begun board right is f =
+      subst (λ n. IsTrying p n false cues (next_left first ticks ++ cues_left others) old new) (sum tick ticks (length f.quiet) f.count)
+      (one_tried p (tick + length f.quiet) silent false cues f.cue (next_left first ticks ++ cues_left others) old f.before new
+      (many_tried p tick silent cues f.quiet f.cue (next_left first ticks ++ cues_left others) old now f.before script
+      (subst (λ left. IsTrying p tick silent cues left old now) (rest_is {T = T} (Err fault.Write) ticks p all first others now new (Some []) (Some []) begun board next f) is) f.silent)
+      f.step.0 (same_on now f.before new f.silent.system same) (λ says. absurd (not_so says)) (λ says. absurd (not_so says)))
+    where
+      sum : (n j k : ℕ) → j ≡ k + 1 → (n + k) + 1 ≡ n + j
+      sum n j k is = omega (arith, is)
+
+      not_so : false ≡ true → ⊥
+      not_so e = cc
+  next_tried (Err fault.Cue) tick silent begun board right is f = absurd (not_so right)
+    where
+      not_so : true ≡ false → ⊥
+      not_so e = cc
 
   -- or the last of those that were followed is the first that it cannot
   pub next_untaken : {T : Type 0} (tick : ℕ) (had got : Option (List ℕ)) (begun board : BoardView) → IsFitting p tick cues all old now
@@ -205,16 +241,19 @@ module _ (p ticks : ℕ) (cues all : List Cue) (first : code_next.Next) (others 
       sum : (n j k b : ℕ) → n + k ≡ b → j ≡ k + 1 → b ≡ n + j - 1
       sum n j k b whole is = omega (arith, whole, is)
 
-  -- what refused them is the cue, where the sink took all
-  pub next_refused : {T : Type 0} (ended : Result T AloneFault) (tick : ℕ) (had got : Option (List ℕ)) (begun board : BoardView) → is_err ended ≡ true → HasStepCause ended 0 0
+  -- what refused them is the cue
+  pub next_refused : {T : Type 0} (ended : Result T AloneFault) (tick : ℕ) (had got : Option (List ℕ)) (begun board : BoardView) → is_refused ended ≡ true
       → IsFitting p tick cues all old now → Follows ended ticks p first now new had got begun board
       → first_untaken (view_of old.system p) (alone_start (view_of old.system p)) 0 cues ≡ Some (tick + ticks - 1)
-  next_refused (Ok done) tick had got begun board wrong cause is f = absurd (not_err wrong)
+  next_refused (Ok done) tick had got begun board wrong is f = absurd (not_so wrong)
     where
-      not_err : false ≡ true → ⊥
-      not_err e = cc
-  next_refused (Err fault.Write) tick had got begun board wrong cause is f = absurd (omega (arith, cause))
-  next_refused (Err fault.Cue) tick had got begun board wrong cause is f = next_untaken tick had got begun board is f
+      not_so : false ≡ true → ⊥
+      not_so e = cc
+  next_refused (Err fault.Write) tick had got begun board wrong is f = absurd (not_so wrong)
+    where
+      not_so : false ≡ true → ⊥
+      not_so e = cc
+  next_refused (Err fault.Cue) tick had got begun board wrong is f = next_untaken tick had got begun board is f
 
   -- and none is refused of a script that fits
   pub next_taken : {T : Type 0} (had mid got : Option (List ℕ)) (start between board : BoardView) (why : AloneFault) → why ≡ fault.Cue → IsPlaying p cues all old now had mid start between

@@ -2,10 +2,10 @@
 use Rattle.std.proofs.Common.{◌≡◌, ℕ, ◌+◌, ◌<◌, ◌≤◌, Bool, true, false, if◌then◌else◌, List, [], ◌∷◌, ◌++◌, length, drop, take, Option, Result, Ok, Err, refl, sym, ap, subst, ◌∙◌, arith, length-append}
 use Rattle.std.proofs.Math.Seq.{take-append-add, take-append_seam, take-length}
 use Rattle.std.proofs.lemmas.List.{append-nil, take-append-drop, take-append-le}
-use Rattle.xm_outside.specs.Growth.{GrewByPrefix, Writes, grown, grown_grown}
+use Rattle.xm_outside.specs.Growth.{GrewByPrefix, Writes, grown, grown-nothing, grown_grown}
 use Rattle.xm_report.specs.Report.{ReportLine, text_of, texts, texts-append}
 use Rattle.xm_report.specs.declared.output.WriteFault.{WriteFault}
-use Rattle.uart_board.specs.Heard.{IsHeard, IsHeardAt, heard_then}
+use Rattle.uart_board.specs.Heard.{IsHeard, IsHeardAt, heard_nothing, heard_then}
 use Rattle.uart_board.specs.Views.{BoardView, mark_at, view_at}
 use Rattle.machine_model.specs.Alone.{Alone, alone_lines, alone_said, alone_start, alone_step_lines, alone_step_said}
 use Rattle.machine_model.specs.Cue.{Cue}
@@ -19,7 +19,7 @@ use Rattle.alone_passes.specs.Passes.{part_in}
 use Rattle.alone_passes.specs.Step.{IsLone, IsOfSystem}
 use Rattle.xm_machine.specs.AloneStep.{said_alone}
 use Rattle.told_scripts.specs.Replayed.{cue_lines, replay_lines, replayed}
-use Rattle.xm_alone.specs.Replay.{IsCutReplay, IsReplay, IsWholeReplay, Lone, lone_in, own_view, replay_said}
+use Rattle.xm_alone.specs.Replay.{IsCutReplay, IsReplay, IsReplayed, IsSilentReplay, IsWholeReplay, Lone, lone_in, own_view, replay_said}
 use Rattle.xm_alone.proofs.FollowLemmas.{IsFollowing, lines_add, lines_more, one_followed, said_more}
 
 -- the same bytes to each UART
@@ -171,7 +171,39 @@ end_is p old now cues is = ap (λ (a : Alone). end_line p a.state) is
 none_more : (n : ℕ) → n < n → ⊥
 none_more n more = omega (arith, more)
 
--- and then the line of the end
+-- and then the line of the end, by what the replay leaves of the partition by itself
+end_shown : {T : Type 0} (result : Result T WriteFault) (cues : List Cue) (old now : Lone) (had mid got : Option (List ℕ)) (first board : BoardView)
+    → IsWholeReplay cues (cue_lines (own_view old) cues) old now had mid first board → Writes result mid (texts (end_line (own_view old).id (replayed (own_view old) cues).state ∷ [])) got
+    → IsReplay result cues (replay_lines (own_view old) cues) old now had got first board
+end_shown (Ok done) cues old now had mid got first board is wrote =
+    let view = own_view old in
+    let last = end_line view.id (replayed view cues).state ∷ [] in
+    record {
+      left = is.left;
+      report = wrote ∙ ap (λ m. grown m (texts last)) is.report ∙ grown_grown had (texts (cue_lines view cues)) (texts last) ∙ ap (grown had) (sym (texts-append (cue_lines view cues) last));
+      heard = is.heard;
+    }
+end_shown (Err unwritten) cues old now had mid got first board is wrote =
+    let view = own_view old in
+    let last = end_line view.id (replayed view cues).state ∷ [] in
+    let all : (texts (cue_lines view cues) ++ texts last) ++ [] ≡ texts (replay_lines view cues) = append-nil (texts (cue_lines view cues) ++ texts last) ∙ sym (texts-append (cue_lines view cues) last) in
+    record {
+      done = length cues;
+      within = omega arith;
+      left = record { part = is.left.part ∙ ap (replayed view) (sym (take-length cues)); system = is.left.system; p = is.left.p };
+      report = record {
+        count = length (texts (cue_lines view cues)) + wrote.count;
+        short = omega (arith, wrote.short, ap (λ (bytes : List ℕ). length bytes) (texts-append (cue_lines view cues) last), length-append (texts (cue_lines view cues)) (texts last));
+        grew = behind had mid got (texts (cue_lines view cues)) (texts last) [] (texts (replay_lines view cues)) is.report wrote all;
+      };
+      heard = subst (λ some. IsHeard (replay_said old some) first board) (sym (take-length cues)) is.heard;
+      whole = λ k earlier.
+          let within : k ≤ length cues = omega (arith, earlier) in
+          let same : length (texts (cue_lines view (take k (cues ++ [])))) ≡ length (texts (cue_lines view (take k cues))) = ap (λ script. length (texts (cue_lines view (take k script)))) (append-nil cues) in
+          omega (arith, same, fewer_lines view k cues [] within);
+      cut = λ more. absurd (none_more (length cues) more);
+    }
+
 pub end_played : {T : Type 0} (result : Result T WriteFault) (p : ℕ) (cues : List Cue) (old now : Machine) (had mid got : Option (List ℕ)) (first board : BoardView)
     → IsWholeReplay cues (cue_lines (view_of old.system p) cues) (lone_in old p) (lone_in now p) had mid first board → Writes result mid (text_of (end_line p (part_at p now))) got
     → IsReplay result cues (replay_lines (view_of old.system p) cues) (lone_in old p) (lone_in now p) had got first board
@@ -179,35 +211,29 @@ end_played result p cues old now had mid got first board is writes =
     let view = view_of old.system p in
     let last = end_line view.id (replayed view cues).state in
     let one : text_of (end_line p (part_at p now)) ≡ texts (last ∷ []) = ap text_of (end_is p old now cues is.left.part) ∙ sym (append-nil (text_of last)) in
-    by_answer result (subst (λ bytes. Writes result mid bytes got) one writes)
-  where
-    by_answer : {T : Type 0} (answer : Result T WriteFault) → Writes answer mid (texts (end_line (view_of old.system p).id (replayed (view_of old.system p) cues).state ∷ [])) got
-        → IsReplay answer cues (replay_lines (view_of old.system p) cues) (lone_in old p) (lone_in now p) had got first board
-    by_answer (Ok done) wrote =
-        let view = view_of old.system p in
-        let last = end_line view.id (replayed view cues).state ∷ [] in
-        record {
-          left = is.left;
-          report = wrote ∙ ap (λ m. grown m (texts last)) is.report ∙ grown_grown had (texts (cue_lines view cues)) (texts last) ∙ ap (grown had) (sym (texts-append (cue_lines view cues) last));
-          heard = is.heard;
-        }
-    by_answer (Err unwritten) wrote =
-        let view = view_of old.system p in
-        let last = end_line view.id (replayed view cues).state ∷ [] in
-        let all : (texts (cue_lines view cues) ++ texts last) ++ [] ≡ texts (replay_lines view cues) = append-nil (texts (cue_lines view cues) ++ texts last) ∙ sym (texts-append (cue_lines view cues) last) in
-        record {
-          done = length cues;
-          within = omega arith;
-          left = record { part = is.left.part ∙ ap (replayed view) (sym (take-length cues)); system = is.left.system; p = is.left.p };
-          report = record {
-            count = length (texts (cue_lines view cues)) + wrote.count;
-            short = omega (arith, wrote.short, ap (λ (bytes : List ℕ). length bytes) (texts-append (cue_lines view cues) last), length-append (texts (cue_lines view cues)) (texts last));
-            grew = behind had mid got (texts (cue_lines view cues)) (texts last) [] (texts (replay_lines view cues)) is.report wrote all;
-          };
-          heard = subst (λ some. IsHeard (replay_said (lone_in old p) some) first board) (sym (take-length cues)) is.heard;
-          whole = λ k earlier.
-              let within : k ≤ length cues = omega (arith, earlier) in
-              let same : length (texts (cue_lines view (take k (cues ++ [])))) ≡ length (texts (cue_lines view (take k cues))) = ap (λ script. length (texts (cue_lines view (take k script)))) (append-nil cues) in
-              omega (arith, same, fewer_lines view k cues [] within);
-          cut = λ more. absurd (none_more (length cues) more);
-        }
+    end_shown result cues (lone_in old p) (lone_in now p) had mid got first board is (subst (λ bytes. Writes result mid bytes got) one writes)
+
+-- what a silent replay says to a UART
+unsaid : (is : Bool) → ◌≡◌ {A = List ℕ} [] (if is then [] else [])
+unsaid true = refl
+unsaid false = refl
+
+-- and the line of its end
+silent_end : (cues : List Cue) (old now : Lone) → IsReplayed cues old now → end_line now.p now.part.state ≡ end_line (own_view old).id (replayed (own_view old) cues).state
+unfolding view_of
+silent_end cues old now is = ap (λ p. end_line p now.part.state) is.p ∙ ap (λ (a : Alone). end_line old.p a.state) is.part
+
+-- the line of the end is all that a silent replay prints
+pub silent_shown : {T : Type 0} (result : Result T WriteFault) (cues : List Cue) (old now : Lone) (had got : Option (List ℕ)) (board : BoardView) → IsSilentReplay cues old now
+    → Writes result had (text_of (end_line now.p now.part.state)) got → IsReplay result cues (replay_lines (own_view old) cues) old now had got board board
+silent_shown result cues old now had got board is writes =
+    let last = end_line (own_view old).id (replayed (own_view old) cues).state in
+    let one : text_of (end_line now.p now.part.state) ≡ texts (last ∷ []) = ap text_of (silent_end cues old now is.left) ∙ sym (append-nil (text_of last)) in
+    end_shown result cues old now had had got board board
+    (record {
+      left = is.left;
+      report = sym (grown-nothing had) ∙ ap (λ lines. grown had (texts lines)) (sym is.lines);
+      heard = heard_as (λ uart. []) (replay_said old cues) board board
+          (λ uart. unsaid (is_number (part_of old.system.conf old.p).console uart) ∙ ap (λ bytes. if is_number (part_of old.system.conf old.p).console uart then bytes else []) (sym is.said)) (heard_nothing board);
+    })
+    (subst (λ bytes. Writes result had bytes got) one writes)

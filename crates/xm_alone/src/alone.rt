@@ -1,21 +1,24 @@
 //! One partition of a system, replayed without the others.
 
-ghost use Rattle.std.specs.Prelude.{◌≡◌, ◌<◌, IfOk, length};
+ghost use Rattle.std.specs.Prelude.{◌≡◌, ◌<◌, IfOk, IfSome, List, length};
 ghost use Rattle.core_files.specs.Length.{core_length_of};
 ghost use Rattle.cue_scripts.specs.Script.{IsScript};
 ghost use Rattle.machine_model.specs.CoreFile.{core_file};
+ghost use Rattle.machine_model.specs.Cue.{Cue};
 ghost use Rattle.machine_model.specs.Lines.{end_line};
 ghost use Rattle.machine_model.specs.View.{view_of};
 ghost use Rattle.slot_runs.specs.Passes.{part_at};
+ghost use Rattle.uart_board.specs.Views.{BoardView};
 ghost use Rattle.whole_system.specs.State.{with_inputs};
 ghost use Rattle.told_scripts.specs.Replayed.{cue_lines, replay_lines};
-ghost use Rattle.xm_alone.specs.Replay.{IsReplay, TakesAll, booted_alone, lone_in, own_view};
+ghost use Rattle.xm_alone.specs.Replay.{IsReplay, IsSilentReplay, Lone, TakesAll, TellsFit, booted_alone, lone_in, own_view};
 ghost use Rattle.xm_machine.specs.Outcome.{HasWriteCause};
 ghost use Rattle.xm_report.specs.Report.{line_value};
 
 use crate::cues::Cues;
+use crate::fitting::takes_all;
 use crate::following::follow;
-use cue_scripts::Script;
+use cue_scripts::{Script, ScriptFault};
 use loaded_system::System;
 use machine_model::{boots_alone, keeps_numbers};
 use std::alloc::Global;
@@ -61,6 +64,45 @@ impl Alone {
             machine: Machine::boot(alloc, system, inputs)?,
             p,
         })
+    }
+
+    /// Whether partition `p` of a system with these input words can take each cue of a script in the state which the cues before it leave;
+    /// else the number of the first that it cannot, counted from 0. All of them are done, and nothing goes out. Where none printed or said
+    /// anything the partition is given back as they left it, so that nothing of the replay is left but `end`.
+    pub fn tried(
+        alloc: Global,
+        system: System,
+        inputs: Inputs,
+        p: PartId,
+        script: &Script,
+    ) -> Result<Option<Alone>, ScriptFault>
+        requires partition { p < length system.conf.parts }
+        requires inputs { length inputs ≡ length system.conf.parts }
+        requires script { IsScript system.conf p script.now }
+        ensures fits { TellsFit (view_of (with_inputs system inputs) p) script.now result }
+        ensures silent { IfOk result (λ silent. IfSome silent (IsSilentReplay script.now (booted_alone (with_inputs system inputs) p))) }
+    {
+        boots_alone();
+        keeps_numbers();
+        let mut machine = Machine::boot(alloc, system, inputs)?;
+        match takes_all(&mut machine, p, script) {
+            Ok(silent) => {
+                if silent {
+                    Ok(Some(Alone { machine, p }))
+                } else {
+                    Ok(None)
+                }
+            }
+            Err(fault) => Err(fault),
+        }
+    }
+
+    /// The line of the partition's end goes out. It is the whole report of a replay whose cues printed and said nothing.
+    pub fn end<O: Sink>(&self, out: &mut O) -> Result<(), WriteFault>
+        ensures replay { (old : Lone) (cues : List Cue) (board : BoardView) → IsSilentReplay cues old self.now → IsReplay result cues (replay_lines (own_view old) cues) old self.now (O.got out.old) (O.got out.new) board board }
+        ensures cause { HasWriteCause result (O.faults out.old) (O.faults out.new) }
+    {
+        put_line(out, &end_line(&self.machine, self.p))
     }
 
     /// Replays a script that fits: the partition's lines and the line of its end go out, and its console bytes go to their UART. After

@@ -1,21 +1,21 @@
 //! Whether a script fits a partition.
 
-ghost use Rattle.std.specs.Prelude.{◌≡◌, ◌<◌, length};
+ghost use Rattle.std.specs.Prelude.{◌≡◌, ◌<◌, IfOk, length, true};
 ghost use Rattle.cue_scripts.specs.Script.{IsScript};
 ghost use Rattle.machine_model.specs.View.{view_of};
 ghost use Rattle.whole_system.specs.State.{with_inputs};
-ghost use Rattle.xm_alone.specs.Replay.{TellsFit, booted_alone, lone_in};
+ghost use Rattle.xm_alone.specs.Replay.{IsSilentReplay, TellsFit, booted_alone, is_refused, lone_in, still_silent};
 
+use crate::alone::Alone;
 use crate::cues::Cues;
 use crate::following::follow;
+use crate::unprinted::NoSink;
 use cue_scripts::{Script, ScriptFault};
 use loaded_system::System;
-use machine_model::{boots_alone, keeps_numbers};
 use std::alloc::Global;
 use uart_board::Board;
 use xm_base::PartId;
-use xm_machine::{Inputs, Machine};
-use xm_outside::SureSink;
+use xm_machine::{AloneFault, Inputs, Machine};
 
 /// Whether partition `p` of a system can take each cue of a script in the state which the cues before it leave; else the number of the
 /// first that it cannot, counted from 0. A machine of its own does the ticks, and its lines and console bytes go nowhere.
@@ -31,32 +31,61 @@ pub fn fits(
     requires script { IsScript system.conf p script.now }
     ensures { TellsFit (view_of (with_inputs system inputs) p) script.now result }
 {
-    boots_alone();
-    keeps_numbers();
-    let mut machine = Machine::boot(alloc, system, inputs)?;
-    takes_all(&mut machine, p, script)
+    match Alone::tried(alloc, system, inputs, p, script) {
+        Ok(_) => Ok(()),
+        Err(fault) => Err(fault),
+    }
 }
 
 /// Whether partition `p` of a machine that was only booted can take each cue of a script; else the number of the first that it cannot.
-fn takes_all(machine: &mut Machine, p: PartId, script: &Script) -> Result<(), ScriptFault>
+/// Where it can, all of them were done, and the answer is whether nothing was printed under them.
+pub(crate) fn takes_all(
+    machine: &mut Machine,
+    p: PartId,
+    script: &Script,
+) -> Result<bool, ScriptFault>
     requires partition { p < length machine.old.state.parts }
     requires fresh { lone_in machine.old.state p ≡ booted_alone machine.old.state.system p }
     requires script { IsScript machine.old.state.system.conf p script.now }
-    ensures { TellsFit (view_of machine.old.state.system p) script.now result }
+    ensures fits { TellsFit (view_of machine.old.state.system p) script.now result }
+    ensures silent { IfOk result (λ silent. silent ≡ true → IsSilentReplay script.now (lone_in machine.old.state p) (lone_in machine.new.state p)) }
+    ensures parts { IfOk result (λ _. length machine.new.state.parts ≡ length machine.old.state.parts) }
 {
+    let mut sink = NoSink::new();
     let mut board = Board::new();
     let mut rest = Cues::of(script);
     let mut tick = 0;
+    let mut silent = true;
     while let Some((next, later)) = rest.next() {
-        // The sink takes all bytes, so that the cue alone can be refused.
-        let done = follow(machine, p, next, &mut SureSink::new(), &mut board);
-        if done.ended.is_err() {
+        let done = follow(machine, p, next, &mut sink, &mut board);
+        if is_refused(done.ended) {
             return Err(ScriptFault::Cue {
                 tick: tick + done.ticks - 1,
             });
         }
+        silent = still_silent(silent, done.ended);
         tick += done.ticks;
         rest = later.after(next, done.ticks);
     }
-    Ok(())
+    Ok(silent)
+}
+
+/// Whether the partition could not take the cue of a tick.
+fn is_refused(ended: Result<(), AloneFault>) -> bool
+    ensures { result ≡ is_refused ended }
+{
+    match ended {
+        Ok(()) | Err(AloneFault::Write) => false,
+        Err(AloneFault::Cue) => true,
+    }
+}
+
+/// Whether nothing was printed, after ticks that a sink that takes no byte ended so.
+fn still_silent(silent: bool, ended: Result<(), AloneFault>) -> bool
+    ensures { result ≡ still_silent silent ended }
+{
+    match ended {
+        Ok(()) => silent,
+        Err(_) => false,
+    }
 }

@@ -7,6 +7,7 @@ mod fitting;
 mod following;
 mod recording;
 mod told;
+mod unprinted;
 
 pub use alone::Alone;
 pub use cue_scripts::{Script, ScriptFault, read_script};

@@ -4,6 +4,8 @@ use Rattle.std.specs.Prelude.{IsSome}
 use Rattle.std.proofs.lemmas.List.{take_all}
 use Rattle.xm_outside.specs.Causes.{Rose}
 use Rattle.xm_outside.specs.Files.{Files}
+use Rattle.xm_report.specs.Report.{ReportLine}
+use Rattle.xm_report.specs.declared.output.WriteFault.{WriteFault}
 use Rattle.uart_board.specs.Heard.{IsHeard}
 use Rattle.uart_board.specs.Views.{BoardView, without_marks}
 use Rattle.alone_replay.specs.Readied.{IsUnready}
@@ -11,7 +13,7 @@ use Rattle.file_maker.specs.Ready.{Replay as Readied, Unready}
 use Rattle.machine_model.specs.Cue.{Cue}
 use Rattle.machine_model.specs.View.{view_of}
 use Rattle.told_scripts.specs.Replayed.{replay_lines}
-use Rattle.xm_alone.specs.Replay.{IsCutReplay, IsReplayed, IsWholeReplay, Lone, booted_alone, own_view, replay_said}
+use Rattle.xm_alone.specs.Replay.{IsCutReplay, IsReplay, IsReplayed, IsWholeReplay, Lone, booted_alone, own_view, replay_said}
 use Rattle.xm_words.specs.Words.{ReplayFiles}
 use Rattle.xm_commands.specs.Behind.{EndsBehind}
 use Rattle.xm_commands.specs.Boards.{IsRunTo, LeavesBoard}
@@ -69,6 +71,11 @@ pub cut_comes : (lone new : Lone) (cues : List Cue) (core : Option (List ℕ)) (
     → Comes Unwritten (played core (ready_of lone cues)) (outside files reads writes calls had before) (outside files reads writes calls got now)
 unfolding played
 cut_comes lone new cues core had got before now files reads writes calls mid after is rose = (rose, is.report, refl)
+
+-- one that was played from a state is one from the state that is the same
+pub played_from : {T : Type 0} (result : Result T WriteFault) (cues : List Cue) (lines : List ReportLine) (lone from new : Lone) (had got : Option (List ℕ)) (mid after : BoardView) → lone ≡ from
+    → IsReplay result cues lines lone new had got mid after → IsReplay result cues lines from new had got mid after
+played_from result cues lines lone from new had got mid after same is = subst (λ (old : Lone). IsReplay result cues lines old new had got mid after) same is
 
 -- What it leaves of the board.
 

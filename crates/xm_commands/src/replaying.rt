@@ -7,7 +7,9 @@ ghost use Rattle.file_maker.specs.Ready.{replay_of};
 ghost use Rattle.xm_commands.specs.Boards.{IsLeft, LeavesBoard};
 ghost use Rattle.file_commands.specs.Outcome.{content, first_long, input_bytes, input_name, name_if_any, outcome_of, played, replay_outcome};
 ghost use Rattle.core_files.specs.Length.{core_length_of};
-ghost use Rattle.xm_alone.specs.Replay.{own_view};
+ghost use Rattle.told_scripts.specs.Replayed.{replay_lines};
+ghost use Rattle.xm_alone.specs.Replay.{IsReplay, booted_alone, own_view};
+ghost use Rattle.xm_machine.specs.Outcome.{HasWriteCause};
 ghost use Rattle.xm_commands.specs.Replaying.{HasCoreRoom, ready_of, unready_ending};
 ghost use Rattle.file_commands.specs.Told.{vector_bytes, ending_of};
 ghost use Rattle.file_commands.specs.Work.{Comes, IsDone, outside};
@@ -140,14 +142,18 @@ fn play_owned<'a, S: Store, O: Sink>(
     out: &mut O,
     board: &mut Board,
 ) -> Ending<'a>
-    requires { IsReady replay.alone replay.script }
+    requires { IsReady replay.silent replay.alone replay.script }
     ensures comes { Comes (ending_of result) (played (option_copied core.entry) (ready_of replay.alone replay.script))
         (outside (S.files files.old) (S.read_faults files.old) (S.write_faults files.old) (S.calls files.old) (O.got out.old) (O.faults out.old))
         (outside (S.files files.new) (S.read_faults files.new) (S.write_faults files.new) (S.calls files.new) (O.got out.new) (O.faults out.new)) }
     ensures board { LeavesBoard (ending_of result) (played (option_copied core.entry) (ready_of replay.alone replay.script)).run (O.got out.old) (O.got out.new) (⟦<Board as ViewBoard>⟧.board_view board.old) (⟦<Board as ViewBoard>⟧.board_view board.new) }
 {
-    let Replay { mut alone, script } = replay;
-    play_ready(alloc, &mut alone, &script, core, files, out, board)
+    let Replay {
+        mut alone,
+        script,
+        silent,
+    } = replay;
+    play_ready(alloc, &mut alone, &script, silent, core, files, out, board)
 }
 
 // Plays a replay that is ready, where there is memory for its core file.
@@ -155,19 +161,20 @@ fn play_ready<'a, S: Store, O: Sink>(
     alloc: Global,
     alone: &mut Alone,
     script: &Script,
+    silent: bool,
     core: Option<&'a str>,
     files: &mut S,
     out: &mut O,
     board: &mut Board,
 ) -> Ending<'a>
-    requires { IsReady alone.old script.now }
+    requires { IsReady silent alone.old script.now }
     ensures comes { Comes (ending_of result) (played (option_copied core.entry) (ready_of alone.old script.now))
         (outside (S.files files.old) (S.read_faults files.old) (S.write_faults files.old) (S.calls files.old) (O.got out.old) (O.faults out.old))
         (outside (S.files files.new) (S.read_faults files.new) (S.write_faults files.new) (S.calls files.new) (O.got out.new) (O.faults out.new)) }
     ensures board { LeavesBoard (ending_of result) (played (option_copied core.entry) (ready_of alone.old script.now)).run (O.got out.old) (O.got out.new) (⟦<Board as ViewBoard>⟧.board_view board.old) (⟦<Board as ViewBoard>⟧.board_view board.new) }
 {
     match lone_room(alloc, alone, core) {
-        Ok(mut room) => play_into(alone, script, core, &mut room, files, out, board),
+        Ok(mut room) => play_into(alone, script, silent, core, &mut room, files, out, board),
         Err(Memory) => Ending::Starved,
     }
 }
@@ -176,13 +183,14 @@ fn play_ready<'a, S: Store, O: Sink>(
 fn play_into<'a, S: Store, O: Sink>(
     alone: &mut Alone,
     script: &Script,
+    silent: bool,
     core: Option<&'a str>,
     room: &mut [u8],
     files: &mut S,
     out: &mut O,
     board: &mut Board,
 ) -> Ending<'a>
-    requires ready { IsReady alone.old script.now }
+    requires ready { IsReady silent alone.old script.now }
     requires room { HasCoreRoom (option_copied core) (core_length_of (own_view alone.old)) (length room.old) }
     ensures comes { Comes (ending_of result) (played (option_copied core.entry) (ready_of alone.old script.now))
         (outside (S.files files.old) (S.read_faults files.old) (S.write_faults files.old) (S.calls files.old) (O.got out.old) (O.faults out.old))
@@ -190,9 +198,28 @@ fn play_into<'a, S: Store, O: Sink>(
     ensures board { LeavesBoard (ending_of result) (played (option_copied core.entry) (ready_of alone.old script.now)).run (O.got out.old) (O.got out.new) (⟦<Board as ViewBoard>⟧.board_view board.old) (⟦<Board as ViewBoard>⟧.board_view board.new) }
 {
     board.begin();
-    match alone.play(script, out, board) {
+    match show(alone, script, silent, out, board) {
         Ok(()) => ended(write_lone_core(alone, core, room, files), board),
         Err(WriteFault) => Ending::Unwritten,
+    }
+}
+
+// Shows a replay that is ready: the line of the end is all that is left where its cues were seen to print nothing.
+fn show<O: Sink>(
+    alone: &mut Alone,
+    script: &Script,
+    silent: bool,
+    out: &mut O,
+    board: &mut Board,
+) -> Result<(), WriteFault>
+    requires { IsReady silent alone.old script.now }
+    ensures replay { IsReplay result script.now (replay_lines (own_view alone.old) script.now) (booted_alone alone.old.system alone.old.p) alone.new (O.got out.old) (O.got out.new) (⟦<Board as ViewBoard>⟧.board_view board.old) (⟦<Board as ViewBoard>⟧.board_view board.new) }
+    ensures cause { HasWriteCause result (O.faults out.old) (O.faults out.new) }
+{
+    if silent {
+        alone.end(out)
+    } else {
+        alone.play(script, out, board)
     }
 }
 

@@ -1,4 +1,5 @@
 use Rattle.std.proofs.Common.{map, option_copied}
+use Rattle.xm_alone.specs.Replay.{booted_alone}
 use Rattle.file_commands.specs.Outcome.{name_if_any}
 use Rattle.file_commands.specs.Told.{ending_of}
 use Rattle.xm_commands.specs.Replaying.{lone_output}
@@ -7,18 +8,18 @@ use Rattle.xm_commands.proofs.replaying.play_into.Goals as goal
 
 pub returns-in-Ok-clause-comes : goal.returns-in-Ok-clause-comes
 returns-in-Ok-clause-comes g c =
-    let saved = c.write_lone_core.ensures (g.O.Sink.got c.play.new.out) (g.O.Sink.faults c.play.new.out) in
-    behind_replay (ending_of c.ended.result) (record { places = _; marks = _ }) c.args.alone.now c.play.new.self c.args.script.now (option_copied c.args.core) _ _ _ _ _ _ _ _ (record { places = _; marks = _ }) (record { places = _; marks = _ }) _ c.in-Ok.ensures.replay c.in-Ok.ensures.cause
-    (c.ended.ensures (map (lone_output c.play.new.self) (name_if_any (option_copied c.args.core))) _ _ saved)
+    let saved = c.write_lone_core.ensures (g.O.Sink.got c.show.new.out) (g.O.Sink.faults c.show.new.out) in
+    behind_replay (ending_of c.ended.result) (record { places = _; marks = _ }) (booted_alone c.args.alone.now.system c.args.alone.now.p) c.show.new.alone c.args.script.now (option_copied c.args.core) _ _ _ _ _ _ _ _ (record { places = _; marks = _ }) (record { places = _; marks = _ }) _ c.in-Ok.ensures.replay c.in-Ok.ensures.cause
+    (c.ended.ensures (map (lone_output c.show.new.alone) (name_if_any (option_copied c.args.core))) _ _ saved)
 
 pub returns-in-Ok-clause-board : goal.returns-in-Ok-clause-board
 returns-in-Ok-clause-board g c =
-    let saved = c.write_lone_core.ensures (g.O.Sink.got c.play.new.out) (g.O.Sink.faults c.play.new.out) in
-    lone_behind (ending_of c.ended.result) (map (lone_output c.play.new.self) (name_if_any (option_copied c.args.core))) _ _ c.args.alone.now c.play.new.self c.args.script.now (option_copied c.args.core) _ _ (record { places = _; marks = _ }) (record { places = _; marks = _ }) (record { places = _; marks = _ })
-    (c.ended.ensures (map (lone_output c.play.new.self) (name_if_any (option_copied c.args.core))) _ _ saved) c.in-Ok.ensures.replay c.begin.ensures.view
+    let saved = c.write_lone_core.ensures (g.O.Sink.got c.show.new.out) (g.O.Sink.faults c.show.new.out) in
+    lone_behind (ending_of c.ended.result) (map (lone_output c.show.new.alone) (name_if_any (option_copied c.args.core))) _ _ (booted_alone c.args.alone.now.system c.args.alone.now.p) c.show.new.alone c.args.script.now (option_copied c.args.core) _ _ (record { places = _; marks = _ }) (record { places = _; marks = _ }) (record { places = _; marks = _ })
+    (c.ended.ensures (map (lone_output c.show.new.alone) (name_if_any (option_copied c.args.core))) _ _ saved) c.in-Ok.ensures.replay c.begin.ensures.view
 
 pub returns-in-Err-clause-comes : goal.returns-in-Err-clause-comes
-returns-in-Err-clause-comes g c = cut_comes c.args.alone.now c.play.new.self c.args.script.now (option_copied c.args.core) _ _ _ _ _ _ _ _ (record { places = _; marks = _ }) (record { places = _; marks = _ }) c.in-Err.ensures.replay c.in-Err.ensures.cause
+returns-in-Err-clause-comes g c = cut_comes (booted_alone c.args.alone.now.system c.args.alone.now.p) c.show.new.alone c.args.script.now (option_copied c.args.core) _ _ _ _ _ _ _ _ (record { places = _; marks = _ }) (record { places = _; marks = _ }) c.in-Err.ensures.replay c.in-Err.ensures.cause
 
 pub returns-in-Err-clause-board : goal.returns-in-Err-clause-board
-returns-in-Err-clause-board g c = lone_cut c.args.alone.now c.play.new.self c.args.script.now (option_copied c.args.core) _ _ (record { places = _; marks = _ }) (record { places = _; marks = _ }) (record { places = _; marks = _ }) c.in-Err.ensures.replay c.begin.ensures.view
+returns-in-Err-clause-board g c = lone_cut (booted_alone c.args.alone.now.system c.args.alone.now.p) c.show.new.alone c.args.script.now (option_copied c.args.core) _ _ (record { places = _; marks = _ }) (record { places = _; marks = _ }) (record { places = _; marks = _ }) c.in-Err.ensures.replay c.begin.ensures.view

@@ -1,0 +1,44 @@
+use Rattle.std.proofs.Common.{ℕ, ◌<◌, Bool, Option, Err, subst, sym}
+use Rattle.cue_scripts.specs.Script.{IsScript}
+use Rattle.machine_model.specs.View.{System, view_of}
+use Rattle.whole_system.specs.State.{with_inputs}
+use Rattle.xm_alone.specs.Replay.{IsSilentReplay, Lone, TakesAll, TellsFit, lone_in}
+use Rattle.xm_alone.proofs.BootLemmas.{booted-fresh, booted-lone, booted-same, booted-there}
+use Rattle.xm_alone.proofs.SilentLemmas.{fault_fits}
+use Rattle.xm_alone.proofs.alone.Alone.tried.Goals as goal
+
+pub takes_all-requires-clause-partition : goal.takes_all-requires-clause-partition
+takes_all-requires-clause-partition c =
+    booted-there c.keeps_numbers.ensures.boots (with_inputs c.args.system c.args.inputs) c.in_ok-machine.machine.state c.args.p c.requires.partition c.in_ok-machine.ensures.state
+
+pub takes_all-requires-clause-fresh : goal.takes_all-requires-clause-fresh
+takes_all-requires-clause-fresh c =
+    booted-fresh c.boots_alone.ensures.law c.keeps_numbers.ensures.boots (with_inputs c.args.system c.args.inputs) c.in_ok-machine.machine.state c.args.p c.requires.partition c.in_ok-machine.ensures.state
+
+pub takes_all-requires-clause-script : goal.takes_all-requires-clause-script
+takes_all-requires-clause-script c =
+    subst (λ (system : System). IsScript system.conf c.args.p c.args.script.now) (sym (booted-same (with_inputs c.args.system c.args.inputs) c.in_ok-machine.machine.state c.in_ok-machine.ensures.state)) c.requires.script
+
+pub invariant_of-result : goal.invariant_of-result
+invariant_of-result c =
+    subst (λ (n : ℕ). c.args.p < n) (sym c.in-Ok.ensures.parts)
+    (booted-there c.keeps_numbers.ensures.boots (with_inputs c.args.system c.args.inputs) c.in_ok-machine.machine.state c.args.p c.requires.partition c.in_ok-machine.ensures.state)
+
+pub returns-then-silent-clause-fits : goal.returns-then-silent-clause-fits
+returns-then-silent-clause-fits c =
+    subst (λ (system : System). TakesAll (view_of system c.args.p) c.args.script.now) (booted-same (with_inputs c.args.system c.args.inputs) c.in_ok-machine.machine.state c.in_ok-machine.ensures.state) c.in-Ok.ensures.fits
+
+pub returns-then-silent-clause-silent : goal.returns-then-silent-clause-silent
+returns-then-silent-clause-silent c =
+    subst (λ (old : Lone). IsSilentReplay c.args.script.now old (lone_in c.takes_all.new.machine.state c.args.p))
+    (booted-lone c.boots_alone.ensures.law c.keeps_numbers.ensures.boots (with_inputs c.args.system c.args.inputs) c.in_ok-machine.machine.state c.args.p c.requires.partition c.in_ok-machine.ensures.state)
+    (c.in-Ok.ensures.silent c.if-silent.true)
+
+pub returns-else-silent-clause-fits : goal.returns-else-silent-clause-fits
+returns-else-silent-clause-fits c =
+    subst (λ (system : System). TakesAll (view_of system c.args.p) c.args.script.now) (booted-same (with_inputs c.args.system c.args.inputs) c.in_ok-machine.machine.state c.in_ok-machine.ensures.state) c.in-Ok.ensures.fits
+
+pub returns-in-Err-clause-fits : goal.returns-in-Err-clause-fits
+returns-in-Err-clause-fits c =
+    fault_fits Bool (Option Lone) (view_of (with_inputs c.args.system c.args.inputs) c.args.p) c.args.script.now c.in-Err.fault
+    (subst (λ (system : System). TellsFit {T = Bool} (view_of system c.args.p) c.args.script.now (Err c.in-Err.fault)) (booted-same (with_inputs c.args.system c.args.inputs) c.in_ok-machine.machine.state c.in_ok-machine.ensures.state) c.in-Err.ensures.fits)
