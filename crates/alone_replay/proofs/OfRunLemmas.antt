@@ -17,7 +17,7 @@ use Rattle.xm_conf.specs.declared.item.Broken.{Broken}
 use Rattle.bin_config.specs.RangeLemmas.{parts_few}
 use Rattle.bin_config.specs.Reading as bin
 use Rattle.bin_config.specs.Version.{parts_in_version}
-use Rattle.bin_config.specs.declared.fault.XmcFault.{XmcFault}
+use Rattle.file_texts.specs.declared.fault.XmcFault.{XmcFault}
 use Rattle.bin_config.specs.declared.version.Version.{Version}
 use Rattle.cue_scripts.specs.Laws.{WrittenScriptIsRead}
 use Rattle.cue_scripts.specs.Reading.{script_read as read_script}
@@ -40,7 +40,7 @@ use Rattle.loaded_system.specs.Inside.{first_outside}
 use Rattle.xm_container.specs.Entries.{Entries}
 use Rattle.xm_container.specs.Numbers.{extra, missing}
 use Rattle.xm_container.specs.Reading.{as_config, assigned, box_faults, box_short, conf_at, container_fields, length_at, system_in, image_table_at, unless_some, unpacked, version_in}
-use Rattle.xm_container.specs.declared.fault.BoxFault.{BoxFault}
+use Rattle.file_texts.specs.declared.fault.BoxFault.{BoxFault}
 use Rattle.alone_replay.specs.OfRun.{RunIsReplayed}
 use Rattle.file_maker.specs.Ready.{NoPartition, fitting, inputs_given, replay_of, with_container, with_input, with_script, with_system}
 

@@ -1,7 +1,7 @@
 //! What is said of a script that is refused.
 
 ghost use Rattle.std.specs.Prelude.{◌≡◌};
-ghost use Rattle.cue_scripts.specs.Texts.{script_fault_text};
+ghost use Rattle.file_texts.specs.Texts.{script_fault_text};
 ghost use Rattle.file_maker.specs.Makes.{IsRefusalText};
 
 use cue_scripts::ScriptFault;

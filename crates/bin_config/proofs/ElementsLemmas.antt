@@ -7,8 +7,8 @@ use Rattle.xm_base.specs.Cursor.{Place}
 use Rattle.sealed_files.specs.Steps.{◌>>=◌}
 use Rattle.bin_config.specs.Reading.{Read, elements_at}
 use Rattle.bin_config.specs.Gives.{Fails, with_front}
-use Rattle.bin_config.specs.declared.fault.XmcFault.{XmcFault}
-use Rattle.bin_config.specs.declared.fault.XmcFault.TheVariants as fault
+use Rattle.file_texts.specs.declared.fault.XmcFault.{XmcFault}
+use Rattle.file_texts.specs.declared.fault.XmcFault.TheVariants as fault
 
 -- one more element after a prefix
 pub with_front-more : {X : Type 0} (front : List X) (x : X) (read : Read (List X)) → with_front (front ++ x ∷ []) read ≡ with_front front (read >>= λ xs. Ok (x ∷ xs.0, xs.1))
@@ -38,12 +38,7 @@ elements_fault element count n old front f r below read sofar =
 pub elements_fails : {X : Type 0} (element : Place → Read X) (count n : ℕ) (old : Place) (front : List X) (f : XmcFault) (r : Read (List X))
     → n < count → Fails f (element old) → with_front front (elements_at element (count - n) old) ≡ r → Fails f r
 elements_fails element count n old front fault.Memory r below read sofar = tt
-elements_fails element count n old front fault.Magic r below read sofar = elements_fault element count n old front fault.Magic r below read sofar
-elements_fails element count n old front (fault.Version found) r below read sofar = elements_fault element count n old front (fault.Version found) r below read sofar
-elements_fails element count n old front (fault.Short at) r below read sofar = elements_fault element count n old front (fault.Short at) r below read sofar
-elements_fails element count n old front (fault.Trailing at) r below read sofar = elements_fault element count n old front (fault.Trailing at) r below read sofar
-elements_fails element count n old front (fault.Field at) r below read sofar = elements_fault element count n old front (fault.Field at) r below read sofar
-elements_fails element count n old front (fault.NotFit rule) r below read sofar = elements_fault element count n old front (fault.NotFit rule) r below read sofar
+elements_fails element count n old front other r below read sofar = elements_fault element count n old front other r below read sofar
 
 -- after the last element
 pub elements_all : {X : Type 0} (element : Place → Read X) (count n : ℕ) (place : Place) (front : List X) (r : Read (List X))

@@ -1,5 +1,5 @@
 -- What reading gives is what the bytes spell.
-use Rattle.std.proofs.Common.{◌≡◌, List, ℕ, Option, Some, None, Result, Ok, Err, sym, subst}
+use Rattle.std.proofs.Common.{◌≡◌, List, ℕ, Some, None, Result, Ok, Err, sym, subst}
 use Rattle.std.specs.Prelude.{IfOk}
 use Rattle.xm_base.specs.Bytes.{AreBytes}
 use Rattle.xm_conf.specs.Configuration.{Conf}
@@ -10,7 +10,7 @@ use Rattle.bin_config.specs.Reading.{read_as, read_of}
 use Rattle.bin_config.specs.Spelled.{HasConfRanges}
 use Rattle.bin_config.specs.Version.{FitsVersion}
 use Rattle.bin_config.specs.Xmc.{xmc}
-use Rattle.bin_config.specs.declared.fault.XmcFault.{XmcFault}
+use Rattle.file_texts.specs.declared.fault.XmcFault.{XmcFault}
 use Rattle.bin_config.specs.declared.version.Version.{Version}
 use Rattle.bin_config.specs.declared.version.Version.TheVariants.{Two}
 

@@ -7,7 +7,7 @@ use Rattle.sealed_files.specs.StepLemmas.{ok_is, stepped}
 use Rattle.sealed_files.specs.Steps.{◌>>=◌}
 use Rattle.bin_config.specs.Reading.{Read}
 use Rattle.bin_config.specs.FieldLemmas.{IsReaderOf}
-use Rattle.bin_config.specs.declared.fault.XmcFault.{XmcFault}
+use Rattle.file_texts.specs.declared.fault.XmcFault.{XmcFault}
 
 -- fields before something: their values go to what follows, with the place after them
 abbrev pub LeadingFields : Type 0 → Type 1

@@ -1,12 +1,12 @@
 -- The laws of the binary form.
-use Rattle.std.specs.Prelude.{◌≡◌, ◌≢◌, ℕ, ◌<◌, ◌≤◌, ◌^◌, List, [], ◌++◌, length, Option, Some, Ok, Err}
+use Rattle.std.specs.Prelude.{◌≡◌, ◌≢◌, ℕ, ◌<◌, ◌≤◌, ◌^◌, List, [], ◌++◌, length, Option, Ok, Err}
 use Rattle.xm_base.specs.Bytes.{AreBytes}
 use Rattle.xm_conf.specs.Configuration.{Conf}
 use Rattle.bin_config.specs.Reading.{read_as, read_within}
 use Rattle.bin_config.specs.Spelled.{HasConfRanges, IsSpelledConf}
 use Rattle.bin_config.specs.Version.{FitsVersion, IsWanted, version_number}
 use Rattle.bin_config.specs.Xmc.{xmc}
-use Rattle.bin_config.specs.declared.fault.XmcFault.TheVariants as fault
+use Rattle.file_texts.specs.declared.fault.XmcFault.TheVariants as fault
 use Rattle.bin_config.specs.declared.version.Version.{Version}
 
 -- no spelling, of either version, has another one as its prefix: what follows a spelling in a spelling is nothing

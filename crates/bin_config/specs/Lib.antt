@@ -8,7 +8,6 @@ pub mod Reading
 pub mod RecordLemmas
 pub mod ShortLemmas
 pub mod Spelled
-pub mod Texts
 pub mod Version
 pub mod Xmc
 pub mod XmcLemmas

@@ -30,8 +30,8 @@ use Rattle.bin_config.specs.Version.{wanted, parts_in_version}
 use Rattle.bin_config.specs.declared.identity.Identity.{Identity}
 use Rattle.bin_config.specs.declared.version.Version.{Version}
 use Rattle.bin_config.specs.declared.version.Version.TheVariants as version
-use Rattle.bin_config.specs.declared.fault.XmcFault.{XmcFault}
-use Rattle.bin_config.specs.declared.fault.XmcFault.TheVariants as fault
+use Rattle.file_texts.specs.declared.fault.XmcFault.{XmcFault}
+use Rattle.file_texts.specs.declared.fault.XmcFault.TheVariants as fault
 
 -- a value with the place after it, or a fault
 abbrev pub Read : Type 0 → Type 0

@@ -31,7 +31,7 @@ use Rattle.bin_config.specs.FrontLemmas.{first, then, followed, made_of_fields}
 use Rattle.bin_config.specs.declared.identity.Identity.{Identity}
 use Rattle.bin_config.specs.declared.version.Version.{Version}
 use Rattle.bin_config.specs.declared.version.Version.TheVariants as version
-use Rattle.bin_config.specs.declared.fault.XmcFault.TheVariants.{Short}
+use Rattle.file_texts.specs.declared.fault.XmcFault.TheVariants.{Short}
 
 -- a region
 pub region_spells : IsReaderOf reading.region_at xmc.region_record IsSpelledRegion

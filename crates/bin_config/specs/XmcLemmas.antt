@@ -23,14 +23,14 @@ use Rattle.sealed_files.specs.Steps.{◌>>=◌}
 use Rattle.bin_config.specs.Laws.{IsPrefixFree, ReadIsSpelled, SpelledIsRead, OtherIsRefused, MoreIsTrailing, CutIsShort, FitsItsLength}
 use Rattle.bin_config.specs.Reading.{half_word_at, or_version, wanted_version_at, is_whole, head_at, conf_body_at, nothing_left, unbroken, fields_at, read_within, conf_short, word_field_at}
 use Rattle.bin_config.specs.Spelled.{IsSpelledConf, AreSpelledLinks}
-use Rattle.bin_config.specs.Version.{version_number, parts_in_version, version_numbered, wanted, IsWanted, MayHaveLinks, FitsVersion}
+use Rattle.bin_config.specs.Version.{version_number, parts_in_version, version_numbered, wanted, IsWanted, MayHaveLinks}
 use Rattle.bin_config.specs.Xmc.{half_word, word_field, body, head, xmc}
 use Rattle.bin_config.specs.FieldLemmas.{IsReaderOf, half_word_spells, word_spells}
 use Rattle.bin_config.specs.FrontLemmas.{Reached, first, then}
 use Rattle.bin_config.specs.RangeLemmas.{spelled_if_fits}
 use Rattle.bin_config.specs.RecordLemmas.{conf_spells}
 use Rattle.bin_config.specs.ShortLemmas.{body_short}
-use Rattle.bin_config.specs.declared.fault.XmcFault.TheVariants as fault
+use Rattle.file_texts.specs.declared.fault.XmcFault.TheVariants as fault
 use Rattle.bin_config.specs.declared.version.Version.{Version}
 use Rattle.bin_config.specs.declared.version.Version.TheVariants as version
 

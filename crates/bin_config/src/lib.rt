@@ -1,7 +1,6 @@
 //! The binary form of a configuration.
 #![tactic(auto)]
 
-mod fault;
 mod identity;
 mod law;
 mod put;
@@ -9,7 +8,7 @@ mod reading;
 mod version;
 mod writing;
 
-pub use fault::XmcFault;
+pub use file_texts::XmcFault;
 pub use law::{
     cut_is_short, more_is_trailing, other_is_refused, prefix_free, read_is_spelled,
     spelled_is_read, spelling_is_short,

@@ -10,13 +10,13 @@ ghost use Rattle.bin_config.specs.Gives.{Fails};
 ghost use Rattle.bin_config.specs.Reading as reading;
 ghost use Rattle.bin_config.specs.Version.{parts_in_version};
 ghost use Rattle.bin_config.specs.Xmc.{xmc};
-ghost use Rattle.bin_config.specs.declared.fault.XmcFault.TheVariants as fault;
+ghost use Rattle.file_texts.specs.declared.fault.XmcFault.TheVariants as fault;
 ghost use Rattle.bin_config.specs.declared.version.Version.{Version as AVersion};
 
-use crate::fault::XmcFault;
 use crate::identity::Identity;
 use crate::law::read_is_spelled;
 use crate::version::Version;
+use file_texts::XmcFault;
 use std::alloc::Global;
 use xm_base::Cursor;
 use xm_conf::{

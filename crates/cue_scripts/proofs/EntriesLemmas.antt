@@ -11,8 +11,8 @@ use Rattle.cue_scripts.specs.Gives.{Fails}
 use Rattle.cue_scripts.specs.Reading.{ScriptRead, script_entries_at, script_entry_at}
 use Rattle.cue_scripts.specs.Values.{entry_value, entry_values}
 use Rattle.cue_scripts.specs.declared.cue.ScriptEntry.{ScriptEntry}
-use Rattle.cue_scripts.specs.declared.fault.ScriptFault.{ScriptFault}
-use Rattle.cue_scripts.specs.declared.fault.ScriptFault.TheVariants as fault
+use Rattle.file_texts.specs.declared.fault.ScriptFault.{ScriptFault}
+use Rattle.file_texts.specs.declared.fault.ScriptFault.TheVariants as fault
 
 -- what was read before, and what is still read
 abbrev pub with_front : {X : Type 0} → List X → ScriptRead (List X) → ScriptRead (List X)
@@ -27,13 +27,9 @@ pub record IsLeft (conf : Conf) (p cues : ℕ) (last : Option Bool) (place : Pla
 -- a fault that is met in a part is that of the whole
 pub fails_on : {Y Z : Type 0} (fault : ScriptFault) (part : Result Y ScriptFault) (whole : Result Z ScriptFault) → ((f : ScriptFault) → part ≡ Err f → whole ≡ Err f) → Fails fault part → Fails fault whole
 fails_on fault.Memory part whole so e = tt
-fails_on fault.Magic part whole so e = so _ e
-fails_on (fault.Version found) part whole so e = so _ e
-fails_on (fault.Short at) part whole so e = so _ e
-fails_on (fault.Trailing at) part whole so e = so _ e
-fails_on (fault.Field at) part whole so e = so _ e
 fails_on (fault.Length found) part whole so e = e
 fails_on (fault.Cue tick) part whole so e = e
+fails_on other part whole so e = so _ e
 
 -- an item more is at the end of the prefix
 regroup : {X : Type 0} (front : List X) (x : X) (read : ScriptRead (List X)) → with_front front (read >>= λ xs. Ok (x ∷ xs.0, xs.1)) ≡ with_front (front ++ x ∷ []) read

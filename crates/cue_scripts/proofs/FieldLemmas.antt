@@ -10,7 +10,7 @@ use Rattle.sealed_files.specs.Steps.{◌>>=◌}
 use Rattle.sealed_files.specs.StepLemmas.{stepped}
 use Rattle.sealed_files.specs.Fields.{listed_at}
 use Rattle.cue_scripts.specs.Reading.{script_field, script_short}
-use Rattle.cue_scripts.specs.declared.fault.ScriptFault.{ScriptFault}
+use Rattle.file_texts.specs.declared.fault.ScriptFault.{ScriptFault}
 
 -- the bytes at the beginning are bytes
 pub AreBytes-front : (xs ys : List ℕ) → AreBytes (xs ++ ys) → AreBytes xs

@@ -19,7 +19,7 @@ use Rattle.cue_scripts.specs.Script.{HaltsLast, IsCue, IsScript}
 use Rattle.cue_scripts.specs.Gives.{Fails}
 use Rattle.cue_scripts.specs.Spelling.{IsSpelledScript, entry_text, script_head_text, script_text}
 use Rattle.cue_scripts.specs.Reading.{body_at, script_entries_at, entries_of, partition_at, script_read, cue_count_at, script_field, script_short}
-use Rattle.cue_scripts.specs.declared.fault.ScriptFault.{ScriptFault}
+use Rattle.file_texts.specs.declared.fault.ScriptFault.{ScriptFault}
 use Rattle.cue_scripts.proofs.EntriesLemmas.{fails_on}
 use Rattle.cue_scripts.proofs.FieldLemmas.{one_byte, wide64}
 use Rattle.cue_scripts.proofs.RunLemmas.{runs_expand, runs_longest}

@@ -20,7 +20,7 @@ use Rattle.cue_scripts.specs.Entries.{Entry, expanded, runs}
 use Rattle.cue_scripts.specs.Script.{IsScript}
 use Rattle.cue_scripts.specs.Spelling.{IsSpelledScript, entry_text, script_head_text, script_text}
 use Rattle.cue_scripts.specs.Reading.{body_at, script_entries_at, entries_of, partition_at, script_read, cue_count_at, script_field, script_short, script_version}
-use Rattle.cue_scripts.specs.declared.fault.ScriptFault.TheVariants.{Magic, Trailing}
+use Rattle.file_texts.specs.declared.fault.ScriptFault.TheVariants.{Magic, Trailing}
 use Rattle.cue_scripts.proofs.FieldLemmas.{one_byte, wide64}
 use Rattle.cue_scripts.proofs.RunLemmas.{runs_again}
 use Rattle.cue_scripts.proofs.ScriptLemmas.{are_longest, are_script, have_cues}

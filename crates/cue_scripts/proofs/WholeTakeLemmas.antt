@@ -23,7 +23,7 @@ use Rattle.cue_scripts.specs.Entries.{Alike, AreLongest, Entry, MayFollow, Other
 use Rattle.cue_scripts.specs.Script.{HearsNothing, IsCue, is_system_partition}
 use Rattle.cue_scripts.specs.Spelling.{alike_byte, cue_text, entry_text, event_byte, order_text, sight_text, slot_byte, traffic_text}
 use Rattle.cue_scripts.specs.Reading.{alike_at, cue_at, script_entries_at, script_entry_at, entry_of_kind, event_at, is_entry_kind, order_at, other_at, cue_sight_at, cue_slot_at, traffic_at, script_field, script_short}
-use Rattle.cue_scripts.specs.declared.fault.ScriptFault.TheVariants.{Field}
+use Rattle.file_texts.specs.declared.fault.ScriptFault.TheVariants.{Field}
 use Rattle.cue_scripts.proofs.FieldLemmas.{begins}
 use Rattle.cue_scripts.proofs.TakeLemmas.{is_this, slot_takes, two}
 use Rattle.cue_scripts.proofs.TakePartLemmas.{InOwn, event_takes, order_takes, sight_takes, traffic_takes}

@@ -1,15 +1,11 @@
 -- What a reader of a script answers, against what reading gives.
 use Rattle.std.specs.Prelude.{◌≡◌, Result, Err}
-use Rattle.cue_scripts.specs.declared.fault.ScriptFault.{ScriptFault}
-use Rattle.cue_scripts.specs.declared.fault.ScriptFault.TheVariants as fault
+use Rattle.file_texts.specs.declared.fault.ScriptFault.{ScriptFault}
+use Rattle.file_texts.specs.declared.fault.ScriptFault.TheVariants as fault
 
 -- the fault is what reading gives, unless there was no memory; a script is never found too long or untakable when it is read
 abbrev pub Fails : {Y : Type 0} → ScriptFault → Result Y ScriptFault → Type 0
 Fails fault.Memory read = Unit {0}
-Fails fault.Magic read = read ≡ Err fault.Magic
-Fails (fault.Version found) read = read ≡ Err (fault.Version found)
-Fails (fault.Short at) read = read ≡ Err (fault.Short at)
-Fails (fault.Trailing at) read = read ≡ Err (fault.Trailing at)
-Fails (fault.Field at) read = read ≡ Err (fault.Field at)
 Fails (fault.Length found) read = ⊥
 Fails (fault.Cue tick) read = ⊥
+Fails other read = read ≡ Err other

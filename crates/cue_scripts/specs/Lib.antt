@@ -5,6 +5,5 @@ pub mod Laws
 pub mod Reading
 pub mod Script
 pub mod Spelling
-pub mod Texts
 pub mod Values
 pub mod Written

@@ -15,8 +15,8 @@ use Rattle.machine_model.specs.Told.{AllHalted, AllReset, NoEvent, NotKept, OwnP
 use Rattle.cue_scripts.specs.Entries.{Alike, Entry, Other, cue_count, expanded, is_away, plain_cue_of, plain_kind}
 use Rattle.cue_scripts.specs.Script.{gives_queue, is_length, is_shown, is_system_partition, most_heard, signals}
 use Rattle.cue_scripts.specs.Spelling.{alike_byte}
-use Rattle.cue_scripts.specs.declared.fault.ScriptFault.{ScriptFault}
-use Rattle.cue_scripts.specs.declared.fault.ScriptFault.TheVariants as fault
+use Rattle.file_texts.specs.declared.fault.ScriptFault.{ScriptFault}
+use Rattle.file_texts.specs.declared.fault.ScriptFault.TheVariants as fault
 
 -- a value with the place after it, or a fault
 abbrev pub ScriptRead : Type 0 → Type 0

@@ -5,8 +5,8 @@ use Rattle.xm_base.specs.declared.limits.TheConstants.{FILE_BYTES}
 use Rattle.machine_model.specs.Cue.{Cue}
 use Rattle.cue_scripts.specs.Entries.{Alike, Entry, Other, is_same, plain_cue_of, plain_kind, runs}
 use Rattle.cue_scripts.specs.Spelling.{entry_text}
-use Rattle.cue_scripts.specs.declared.fault.ScriptFault.{ScriptFault}
-use Rattle.cue_scripts.specs.declared.fault.ScriptFault.TheVariants as fault
+use Rattle.file_texts.specs.declared.fault.ScriptFault.{ScriptFault}
+use Rattle.file_texts.specs.declared.fault.ScriptFault.TheVariants as fault
 
 -- what is written of a script: the text of the entries that are whole, as far as a file may have it, and how long that text is; which plain
 -- cue is repeated last, so that there may be more of it, and how often; and how many cues there are
@@ -98,10 +98,5 @@ pub record IsWritten (cues : List Cue) (w : Written) : Type 0 where
 abbrev pub IsScriptFile : {X : Type 0} → (X → List ℕ) → List ℕ → Result X ScriptFault → Type 0
 IsScriptFile view text (Ok file) = (view file ≡ text) × (length text ≤ FILE_BYTES)
 IsScriptFile view text (Err fault.Memory) = Unit {0}
-IsScriptFile view text (Err fault.Magic) = ⊥
-IsScriptFile view text (Err (fault.Version found)) = ⊥
-IsScriptFile view text (Err (fault.Short at)) = ⊥
-IsScriptFile view text (Err (fault.Trailing at)) = ⊥
-IsScriptFile view text (Err (fault.Field at)) = ⊥
 IsScriptFile view text (Err (fault.Length found)) = (found ≡ length text) × (FILE_BYTES < length text)
-IsScriptFile view text (Err (fault.Cue tick)) = ⊥
+IsScriptFile view text (Err other) = ⊥

@@ -3,9 +3,7 @@
 
 mod channels;
 mod cue;
-mod fault;
 mod law;
-mod put;
 mod reading;
 mod script;
 mod sizes;
@@ -15,7 +13,7 @@ mod writer;
 mod writing;
 
 pub use cue::{ScriptCue, ScriptEntry, ScriptEvent, ScriptSight, ScriptSlot, ScriptTraffic};
-pub use fault::ScriptFault;
+pub use file_texts::ScriptFault;
 pub use law::{none_is_prefix, read_is_written, written_is_read};
 pub use reading::read_script;
 pub use script::Script;

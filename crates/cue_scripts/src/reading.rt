@@ -11,7 +11,7 @@ ghost use Rattle.cue_scripts.specs.Gives.{Fails};
 ghost use Rattle.cue_scripts.specs.Reading as reading;
 ghost use Rattle.cue_scripts.specs.Script.{is_length, is_shown, most_heard};
 ghost use Rattle.cue_scripts.specs.Spelling.{IsSpelledScript, alike_byte};
-ghost use Rattle.cue_scripts.specs.declared.fault.ScriptFault.TheVariants as fault;
+ghost use Rattle.file_texts.specs.declared.fault.ScriptFault.TheVariants as fault;
 ghost use Rattle.cue_scripts.specs.Values.{script_cue_value, entry_value, entry_values, event_value, script_sight_value, script_slot_value, script_traffic_value};
 
 use crate::channels::{gives_queue, is_system, most_heard, signals};
@@ -19,9 +19,9 @@ use crate::cue::{
     ScriptCue, ScriptEntry, ScriptEvent, ScriptSight, ScriptSlot, ScriptTraffic, entry_of,
     plain_kind,
 };
-use crate::fault::ScriptFault;
 use crate::script::Script;
 use crate::writing::{ALIKE, MAGIC, OTHER, OWN_ALIKE, VERSION};
+use file_texts::ScriptFault;
 use std::alloc::Global;
 use xm_base::{Cursor, Mode, Order, PartId, TICKS};
 use xm_conf::Conf;

@@ -9,9 +9,9 @@ ghost use Rattle.cue_scripts.specs.Values.{script_cue_value};
 ghost use Rattle.cue_scripts.specs.Written.{IsScriptFile, IsWithin, IsWritten, entry_closed, is_open, nothing_written, plain_repeated, with_cue, with_script_entry};
 
 use crate::cue::{ScriptCue, plain_kind};
-use crate::fault::ScriptFault;
 use crate::sizes::other_length;
 use crate::writing::{put_alike, put_head, put_other};
+use file_texts::ScriptFault;
 use std::alloc::Global;
 use std::marker::Model;
 use xm_base::{FILE_BYTES, Memory, PartId, TICKS};

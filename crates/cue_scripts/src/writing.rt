@@ -8,8 +8,8 @@ ghost use Rattle.cue_scripts.specs.Spelling.{cue_text, entry_text, event_byte, s
 ghost use Rattle.cue_scripts.specs.Values.{script_cue_value, entry_value, event_value, script_sight_value, script_slot_value, script_traffic_value};
 
 use crate::cue::{ScriptCue, ScriptEntry, ScriptEvent, ScriptSight, ScriptSlot, ScriptTraffic};
-use crate::put::{put_double, put_half, put_word};
 use crate::script::Script;
+use sealed_files::{put_double, put_half, put_word};
 use std::alloc::Global;
 use xm_base::{Memory, Mode, Order, PartId};
 

@@ -3,7 +3,7 @@ use Rattle.std.proofs.Common.{◌≡◌, ℕ, ◌≤◌, ◌⊎◌, inl, inr, �
 use Rattle.std.proofs.lemmas.List.{length-map, map-append}
 use Rattle.xm_base.specs.declared.limits.TheConstants.{IMAGE_BYTES, TICKS}
 use Rattle.xm_container.specs.Reading.{unpacked}
-use Rattle.xm_container.specs.declared.fault.BoxFault.{BoxFault}
+use Rattle.file_texts.specs.declared.fault.BoxFault.{BoxFault}
 use Rattle.loaded_system.specs.Bare.{bare_system}
 use Rattle.loaded_system.specs.System.{System}
 use Rattle.machine_model.specs.Machine.{Machine}

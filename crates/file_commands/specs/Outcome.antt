@@ -12,14 +12,14 @@ use Rattle.machine_model.specs.View.{System as Booted, view_of}
 use Rattle.generated_system.specs.Told.{generated_text}
 use Rattle.whole_system.specs.State.{part_at, with_inputs}
 use Rattle.cue_scripts.specs.Spelling.{script_text}
-use Rattle.cue_scripts.specs.Texts.{script_fault_text}
-use Rattle.cue_scripts.specs.declared.fault.ScriptFault.TheVariants as script_fault
+use Rattle.file_texts.specs.Texts.{script_fault_text}
+use Rattle.file_texts.specs.declared.fault.ScriptFault.TheVariants as script_fault
 use Rattle.told_scripts.specs.Replayed.{replay_lines, replayed}
 use Rattle.loaded_system.specs.Bare.{bare_system}
 use Rattle.loaded_system.specs.System.{System}
 use Rattle.xm_container.specs.Reading.{unpacked}
-use Rattle.xm_container.specs.Texts.{box_fault_text}
-use Rattle.xm_container.specs.declared.fault.BoxFault.{BoxFault}
+use Rattle.file_texts.specs.Texts.{box_fault_text}
+use Rattle.file_texts.specs.declared.fault.BoxFault.{BoxFault}
 use Rattle.xm_words.specs.Words.{Command, PartFile, RunOption, Bare, Parse, Upgrade, BuildImage, ReadImage, Pack, ListContainer, CheckContainer, MakePlan, CheckPlan, TellGroups, Generate, Run, Replay, ReplayFiles, cores_in, inputs_in, replay_core, replay_input, span_in, scripts_in}
 use Rattle.xm_words.specs.declared.commands.Span.{Span}
 use Rattle.xm_words.specs.declared.commands.Span.TheVariants.{Frames, Ticks}

@@ -2,15 +2,15 @@
 use Rattle.std.specs.Prelude.{ℕ, List, [], ◌∷◌, map, codes, Option, Some, None, Result, Ok, Err}
 use Rattle.xm_conf.specs.Configuration.{Conf}
 use Rattle.bin_config.specs.Reading.{read_of}
-use Rattle.bin_config.specs.Texts.{xmc_fault_text}
-use Rattle.bin_config.specs.declared.fault.XmcFault.{XmcFault}
+use Rattle.file_texts.specs.Texts.{xmc_fault_text}
+use Rattle.file_texts.specs.declared.fault.XmcFault.{XmcFault}
 use Rattle.xef_images.specs.Image.{Image}
 use Rattle.xef_images.specs.Reading.{xef}
-use Rattle.xef_images.specs.Texts.{xef_fault_text}
-use Rattle.xef_images.specs.declared.fault.XefFault.{XefFault}
+use Rattle.file_texts.specs.Texts.{xef_fault_text}
+use Rattle.file_texts.specs.declared.fault.XefFault.{XefFault}
 use Rattle.xm_container.specs.Pack.{packed}
-use Rattle.xm_container.specs.Texts.{pack_fault_text}
-use Rattle.xm_container.specs.declared.fault.PackFault.{PackFault}
+use Rattle.file_texts.specs.Texts.{pack_fault_text}
+use Rattle.file_texts.specs.declared.fault.PackFault.{PackFault}
 use Rattle.xm_container.specs.declared.image.Image.{Image as Given}
 use Rattle.xm_words.specs.Words.{PartFile}
 use Rattle.file_commands.specs.Denial.{Denial}

@@ -3,7 +3,7 @@
 ghost use Rattle.std.specs.Prelude.{◌≡◌, ◌∷◌, drop, map};
 ghost use Rattle.xef_images.specs.Reading.{xef};
 ghost use Rattle.xm_container.specs.Pack.{packed};
-ghost use Rattle.xm_container.specs.Texts.{pack_fault_text};
+ghost use Rattle.file_texts.specs.Texts.{pack_fault_text};
 ghost use Rattle.file_maker.specs.Makes.{IsRefusalText};
 ghost use Rattle.file_commands.specs.Outcome.{content, first_long};
 ghost use Rattle.file_commands.specs.Packing.{container_by, container_of, container_with, image_by, images_of, limited, file_names};

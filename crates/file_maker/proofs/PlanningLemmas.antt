@@ -15,11 +15,11 @@ use Rattle.xm_conf.specs.declared.plan.Slot.{Slot}
 use Rattle.plan_maker.specs.Needed.{longest_common}
 use Rattle.plan_maker.specs.Planned.{GivesPlan, IsAnswer, IsEnough, IsMet, IsMissed}
 use Rattle.plan_maker.specs.Served.{window_time}
-use Rattle.plan_maker.specs.Texts.{plan_fault_text}
+use Rattle.file_texts.specs.Texts.{plan_fault_text}
 use Rattle.plan_maker.specs.declared.answer.Met.{Met}
 use Rattle.plan_maker.specs.declared.answer.Met.TheVariants as met
-use Rattle.plan_maker.specs.declared.fault.PlanFault.{PlanFault}
-use Rattle.plan_maker.specs.declared.fault.PlanFault.TheVariants as variant
+use Rattle.file_texts.specs.declared.fault.PlanFault.{PlanFault}
+use Rattle.file_texts.specs.declared.fault.PlanFault.TheVariants as variant
 use Rattle.file_maker.specs.Makes.{IsRefusalText, IsUnmade}
 use Rattle.file_maker.specs.Planning.{first_plan, frame_text, met_by, met_from, plan_lines_by, verdicts_by}
 use Rattle.file_maker.specs.declared.unmade.Unmade.{Unmade}

@@ -4,13 +4,15 @@ use Rattle.xef_images.specs.Elf.{elf}
 use Rattle.xef_images.specs.Image.{Image}
 use Rattle.xef_images.specs.Reading.{xef}
 use Rattle.xef_images.specs.Spelling.{xef_text}
-use Rattle.xef_images.specs.Texts.{elf_fault_text, xef_fault_text, xef_lines}
-use Rattle.xef_images.specs.declared.fault.ElfFault.{ElfFault}
-use Rattle.xef_images.specs.declared.fault.XefFault.{XefFault}
+use Rattle.file_texts.specs.Texts.{elf_fault_text, xef_fault_text}
+use Rattle.xef_images.specs.Texts.{xef_lines}
+use Rattle.file_texts.specs.declared.fault.ElfFault.{ElfFault}
+use Rattle.file_texts.specs.declared.fault.XefFault.{XefFault}
 use Rattle.loaded_system.specs.System.{System}
 use Rattle.xm_container.specs.Reading.{unpacked}
-use Rattle.xm_container.specs.Texts.{box_fault_text, box_lines}
-use Rattle.xm_container.specs.declared.fault.BoxFault.{BoxFault}
+use Rattle.file_texts.specs.Texts.{box_fault_text}
+use Rattle.xm_container.specs.Texts.{box_lines}
+use Rattle.file_texts.specs.declared.fault.BoxFault.{BoxFault}
 
 -- the file of an image, or the text of a program's fault
 abbrev pub xef_by : Result Image ElfFault → Result (List ℕ) (List ℕ)

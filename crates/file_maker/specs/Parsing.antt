@@ -2,18 +2,18 @@
 use Rattle.std.specs.Prelude.{ℕ, List, Option, Some, None, Result, Ok, Err}
 use Rattle.xm_conf.specs.Configuration.{Conf}
 use Rattle.bin_config.specs.Reading.{read_of}
-use Rattle.bin_config.specs.Texts.{xmc_fault_text}
+use Rattle.file_texts.specs.Texts.{xmc_fault_text}
 use Rattle.bin_config.specs.Xmc.{xmc}
-use Rattle.bin_config.specs.declared.fault.XmcFault.{XmcFault}
+use Rattle.file_texts.specs.declared.fault.XmcFault.{XmcFault}
 use Rattle.bin_config.specs.declared.version.Version.TheVariants.{Two}
 use Rattle.xmcf_reader.specs.Faults.{draft_of, xmcf_fault}
 use Rattle.xmcf_reader.specs.Texts.{read_fault_text}
 use Rattle.xmcf_reader.specs.declared.draft.Entry.{Entry}
 use Rattle.xmcf_reader.specs.declared.fault.ReadFault.{ReadFault}
 use Rattle.xmcf_check.specs.Described.{description_of}
-use Rattle.xmcf_check.specs.Texts.{check_fault_text}
+use Rattle.file_texts.specs.Texts.{check_fault_text}
 use Rattle.xmcf_check.specs.Verdict.{verdict_of}
-use Rattle.xmcf_check.specs.declared.fault.CheckFault.{CheckFault}
+use Rattle.file_texts.specs.declared.fault.CheckFault.{CheckFault}
 
 -- the configuration that a draft describes, or the text of the first broken rule
 abbrev pub conf_by_verdict : Option CheckFault → List Entry → Result Conf (List ℕ)

@@ -2,18 +2,18 @@
 use Rattle.std.proofs.Common.{◌≡◌, ◌⊎◌, ⊎_elim, ℕ, List, Option, Some, Result, Err, refl, sym, ap, ◌∙◌}
 use Rattle.xm_conf.specs.Configuration.{Conf}
 use Rattle.bin_config.specs.Gives as binary
-use Rattle.bin_config.specs.Texts.{xmc_fault_text}
-use Rattle.bin_config.specs.declared.fault.XmcFault.{XmcFault}
-use Rattle.bin_config.specs.declared.fault.XmcFault.TheVariants as xmc
+use Rattle.file_texts.specs.Texts.{xmc_fault_text}
+use Rattle.file_texts.specs.declared.fault.XmcFault.{XmcFault}
+use Rattle.file_texts.specs.declared.fault.XmcFault.TheVariants as xmc
 use Rattle.xmcf_reader.specs.Faults.{xmcf_fault}
 use Rattle.xmcf_reader.specs.Texts.{read_fault_text}
 use Rattle.xmcf_reader.specs.declared.draft.Entry.{Entry}
 use Rattle.xmcf_reader.specs.declared.fault.ReadFault.{ReadFault}
 use Rattle.xmcf_reader.specs.declared.fault.ReadFault.TheVariants as read
-use Rattle.xmcf_check.specs.Texts.{check_fault_text}
+use Rattle.file_texts.specs.Texts.{check_fault_text}
 use Rattle.xmcf_check.specs.Verdict.{IsVerdict, verdict_of}
-use Rattle.xmcf_check.specs.declared.fault.CheckFault.{CheckFault}
-use Rattle.xmcf_check.specs.declared.fault.CheckFault.TheVariants as check
+use Rattle.file_texts.specs.declared.fault.CheckFault.{CheckFault}
+use Rattle.file_texts.specs.declared.fault.CheckFault.TheVariants as check
 use Rattle.file_maker.specs.Makes.{IsRefusalText, IsUnmade}
 use Rattle.file_maker.specs.Parsing.{conf_by_reading, conf_by_verdict, conf_of, of_conf, upgraded}
 use Rattle.file_maker.specs.declared.unmade.Unmade.{Unmade}
@@ -48,9 +48,4 @@ unread_makes fault text why cause told memory =
 -- a fault of a binary configuration
 pub configuration_unmade : (fault : XmcFault) (read : Result Conf XmcFault) (why : Unmade) → binary.Fails fault read → IsRefusalText why (xmc_fault_text fault) → (fault ≡ xmc.Memory → why ≡ Memory) → IsUnmade why (upgraded read)
 configuration_unmade xmc.Memory read why fails told memory = starved_makes why _ (memory refl)
-configuration_unmade xmc.Magic read why fails told memory = told_makes why _ _ (ap upgraded fails) told
-configuration_unmade (xmc.Version found) read why fails told memory = told_makes why _ _ (ap upgraded fails) told
-configuration_unmade (xmc.Short at) read why fails told memory = told_makes why _ _ (ap upgraded fails) told
-configuration_unmade (xmc.Trailing at) read why fails told memory = told_makes why _ _ (ap upgraded fails) told
-configuration_unmade (xmc.Field at) read why fails told memory = told_makes why _ _ (ap upgraded fails) told
-configuration_unmade (xmc.NotFit rule) read why fails told memory = told_makes why _ _ (ap upgraded fails) told
+configuration_unmade other read why fails told memory = told_makes why _ _ (ap upgraded fails) told

@@ -8,10 +8,10 @@ use Rattle.cyclic_plans.specs.Slots.{frame_of, slots_of}
 use Rattle.plan_maker.specs.Needed.{longest_common, requirements}
 use Rattle.plan_maker.specs.Planned.{planned}
 use Rattle.plan_maker.specs.Served.{window_time}
-use Rattle.plan_maker.specs.Texts.{plan_fault_text}
+use Rattle.file_texts.specs.Texts.{plan_fault_text}
 use Rattle.plan_maker.specs.declared.answer.Met.{Met}
 use Rattle.plan_maker.specs.declared.answer.Met.TheVariants as met
-use Rattle.plan_maker.specs.declared.fault.PlanFault.{PlanFault}
+use Rattle.file_texts.specs.declared.fault.PlanFault.{PlanFault}
 use Rattle.file_maker.specs.Parsing.{conf_of, of_conf}
 
 -- the line of a plan, by its frame and its number of slots

@@ -2,9 +2,9 @@
 use Rattle.std.specs.Prelude.{ℕ, ◌%◌, nat_eq, nat_le, if◌then◌else◌, List, [], length, replicate, slice_set, Option, Some, None, Result, Ok, Err}
 use Rattle.alone_passes.specs.Taking.{first_untaken}
 use Rattle.cue_scripts.specs.Reading.{script_read}
-use Rattle.cue_scripts.specs.Texts.{script_fault_text}
-use Rattle.cue_scripts.specs.declared.fault.ScriptFault.{ScriptFault}
-use Rattle.cue_scripts.specs.declared.fault.ScriptFault.TheVariants as fault
+use Rattle.file_texts.specs.Texts.{script_fault_text}
+use Rattle.file_texts.specs.declared.fault.ScriptFault.{ScriptFault}
+use Rattle.file_texts.specs.declared.fault.ScriptFault.TheVariants as fault
 use Rattle.loaded_system.specs.System as loaded
 use Rattle.machine_model.specs.Alone.{alone_start}
 use Rattle.machine_model.specs.Cue.{Cue}
@@ -12,8 +12,8 @@ use Rattle.machine_model.specs.View.{System, view_of}
 use Rattle.whole_system.specs.Inputs.{words_in}
 use Rattle.whole_system.specs.State.{with_inputs}
 use Rattle.xm_container.specs.Reading.{unpacked}
-use Rattle.xm_container.specs.Texts.{box_fault_text}
-use Rattle.xm_container.specs.declared.fault.BoxFault.{BoxFault}
+use Rattle.file_texts.specs.Texts.{box_fault_text}
+use Rattle.file_texts.specs.declared.fault.BoxFault.{BoxFault}
 
 -- why there is no replay: the container or the script is refused, as a text says; the system does not have the partition; or the input words
 -- have so many bytes, no multiple of 4

@@ -1,8 +1,8 @@
 //! The image of a program, and what is told of images and containers.
 
 ghost use Rattle.std.specs.Prelude.{◌≡◌, [], IfErr, IfOk, length};
-ghost use Rattle.xef_images.specs.Texts.{elf_fault_text, xef_fault_text};
-ghost use Rattle.xm_container.specs.Texts.{box_fault_text};
+ghost use Rattle.file_texts.specs.Texts.{elf_fault_text, xef_fault_text};
+ghost use Rattle.file_texts.specs.Texts.{box_fault_text};
 ghost use Rattle.file_maker.specs.Imaging.{checked_text, container_lines_of, container_verdict_of, image_lines_of, xef_of};
 ghost use Rattle.file_maker.specs.Makes.{IsRefusalText, Makes};
 

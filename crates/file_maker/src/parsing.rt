@@ -5,7 +5,7 @@ ghost use Rattle.xm_conf.specs.Fits.{IsNeed};
 ghost use Rattle.xm_conf.specs.Limits.{most_parts};
 ghost use Rattle.file_maker.specs.Makes.{Describes, IsRefusalText, Makes};
 ghost use Rattle.file_maker.specs.Parsing.{conf_by_verdict, conf_of, xmc_of};
-ghost use Rattle.xmcf_check.specs.Texts.{check_fault_text};
+ghost use Rattle.file_texts.specs.Texts.{check_fault_text};
 ghost use Rattle.xmcf_check.specs.Verdict.{verdict_of};
 ghost use Rattle.xmcf_reader.specs.Texts.{read_fault_text};
 

@@ -1,7 +1,7 @@
 //! Plans are made from the requirements of a system description, and its own plan is checked against them.
 
 ghost use Rattle.std.specs.Prelude.{◌≡◌, ◌++◌, ◌<◌, ◌≤◌, ◌^◌, [], All, IfErr, IfOk, IfSome, OnOk, length};
-ghost use Rattle.plan_maker.specs.Texts.{plan_fault_text};
+ghost use Rattle.file_texts.specs.Texts.{plan_fault_text};
 ghost use Rattle.xm_conf.specs.Along.{added_by_each};
 ghost use Rattle.xm_conf.specs.Fits.{InFrame, InTurn, IsNeed, IsTime};
 ghost use Rattle.xm_conf.specs.Limits.{most_parts};

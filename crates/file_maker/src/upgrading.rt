@@ -1,7 +1,7 @@
 //! A binary configuration of either version is made again in version 2.
 
 ghost use Rattle.std.specs.Prelude.{◌≡◌};
-ghost use Rattle.bin_config.specs.Texts.{xmc_fault_text};
+ghost use Rattle.file_texts.specs.Texts.{xmc_fault_text};
 ghost use Rattle.file_maker.specs.Makes.{IsRefusalText, Makes};
 ghost use Rattle.file_maker.specs.Parsing.{upgraded_of};
 

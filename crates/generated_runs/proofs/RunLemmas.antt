@@ -11,7 +11,7 @@ use Rattle.whole_system.specs.State.{with_inputs}
 use Rattle.xm_conf.specs.Configuration.{Conf}
 use Rattle.xm_container.specs.Box.{box_text}
 use Rattle.xm_container.specs.Reading.{unpacked}
-use Rattle.xm_container.specs.declared.fault.BoxFault.{BoxFault}
+use Rattle.file_texts.specs.declared.fault.BoxFault.{BoxFault}
 use Rattle.xm_machine.specs.Outcome.{IsWholeRun, report_of}
 use Rattle.xm_machine.specs.declared.run.Ran.{Ran}
 use Rattle.xm_outside.specs.Causes.{Rose}

@@ -9,8 +9,8 @@ use Rattle.loaded_system.specs.Inside.{first_outside, has_segment, is_inside}
 use Rattle.xm_container.specs.Box.{box_length, box_text, fields_text, sealed_text}
 use Rattle.xm_container.specs.Numbers.{extra, has_id, missing}
 use Rattle.xm_container.specs.Pack.{Packs, partition_numbers, in_order, packed, sealed, system_of}
-use Rattle.xm_container.specs.declared.fault.PackFault.{PackFault}
-use Rattle.xm_container.specs.declared.fault.PackFault.TheVariants as variant
+use Rattle.file_texts.specs.declared.fault.PackFault.{PackFault}
+use Rattle.file_texts.specs.declared.fault.PackFault.TheVariants as variant
 use Rattle.xm_container.specs.declared.image.Image.{Image}
 use Rattle.generated_system.specs.Generated.{all_images, all_parts, area_start, image_bytes, generated_conf, conf_with, first_word, generated, generated_image, generated_part, program_of, receiving_code, sending_code}
 use Rattle.generated_system.specs.Given.{all_given, generated_given}

@@ -7,4 +7,4 @@ mod system;
 
 pub use inside::outside_of;
 pub use raw_image::{BareFault, bare};
-pub use system::{Outside, System};
+pub use system::{Outside, System, parts};

@@ -73,7 +73,7 @@ impl System {
 
 /// The partitions of a configuration.
 #[tactic(auto, unfolding(xm_conf::specs::Description::described))]
-fn parts(conf: &Conf) -> &[Part]
+pub fn parts(conf: &Conf) -> &[Part]
     ensures value { result.now ≡ conf.now.parts }
     ensures few { length result.now ≤ most_parts }
     ensures fits { Fits (described conf.now) }

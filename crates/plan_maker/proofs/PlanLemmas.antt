@@ -9,8 +9,8 @@ use Rattle.xm_conf.specs.declared.plan.Slot.{Slot}
 use Rattle.plan_maker.specs.Needed.{ArePossible, common_period, demand, longest_common}
 use Rattle.plan_maker.specs.Planned.{GivesPlan, AreNeverMet, IsHopeless, IsMet, IsPlanRefused, IsRequirementServed, KeepsRules, frame_slots, most_slots, need_of, plan_in, plan_over, plan_with, planned}
 use Rattle.plan_maker.specs.Served.{window_time}
-use Rattle.plan_maker.specs.declared.fault.PlanFault.{PlanFault}
-use Rattle.plan_maker.specs.declared.fault.PlanFault.TheVariants.{NoNeed, Period, Overload, Slots, Memory}
+use Rattle.file_texts.specs.declared.fault.PlanFault.{PlanFault}
+use Rattle.file_texts.specs.declared.fault.PlanFault.TheVariants.{NoNeed, Period, Overload, Slots, Memory}
 use Rattle.plan_maker.specs.declared.jobs.Requirement.{Requirement}
 use Rattle.plan_maker.proofs.CourseLemmas.{laid_in_turn, laid_inside}
 use Rattle.plan_maker.proofs.EachLemmas.{all_from_each, each_both, each_from_all}

@@ -3,5 +3,4 @@ pub mod Needed
 pub mod Planned
 pub mod Rows
 pub mod Served
-pub mod Texts
 pub mod Turns

@@ -2,7 +2,7 @@
 use Rattle.std.specs.Prelude.{◌≡◌, ℕ, List, [], ◌∷◌, Ok, Err}
 use Rattle.xm_conf.specs.declared.plan.Slot.{Slot}
 use Rattle.plan_maker.specs.Planned.{planned}
-use Rattle.plan_maker.specs.declared.fault.PlanFault.TheVariants.{NoNeed, Period, Overload}
+use Rattle.file_texts.specs.declared.fault.PlanFault.TheVariants.{NoNeed, Period, Overload}
 use Rattle.plan_maker.specs.declared.jobs.Requirement.{Requirement}
 
 -- a partition needs so many ticks in each period

@@ -3,7 +3,6 @@
 
 mod answer;
 mod course;
-mod fault;
 mod jobs;
 mod making;
 mod meeting;
@@ -12,7 +11,7 @@ mod period;
 mod rows;
 
 pub use answer::Met;
-pub use fault::PlanFault;
+pub use file_texts::PlanFault;
 pub use making::make;
 pub use meeting::met;
 pub use rows::worked_rows;

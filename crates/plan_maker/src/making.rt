@@ -8,10 +8,10 @@ ghost use Rattle.xm_conf.specs.Fits.{Fits};
 ghost use Rattle.plan_maker.specs.Needed.{ArePossible, common_period, required, required_by, requirements};
 ghost use Rattle.plan_maker.specs.Planned.{GivesPlan, IsHopeless, IsPlanRefused, IsRequirementServed, KeepsRules, frame_slots, plan_in, plan_with, planned};
 
-use crate::fault::PlanFault;
 use crate::jobs::Requirement;
 use crate::moment::Moment;
 use crate::period::{common_period, demand};
+use file_texts::PlanFault;
 use std::alloc::Global;
 use xm_base::Memory;
 use xm_conf::{Conf, Need, Part, Plan, Slot};

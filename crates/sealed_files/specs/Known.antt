@@ -1,7 +1,7 @@
 -- The faults of heads as the code has them.
 use Rattle.sealed_files.specs.Faults.{HeadFaults}
-use Rattle.sealed_files.specs.declared.fault.HeadFault.{HeadFault}
-use Rattle.sealed_files.specs.declared.fault.HeadFault.TheVariants as fault
+use Rattle.file_texts.specs.declared.fault.HeadFault.{HeadFault}
+use Rattle.file_texts.specs.declared.fault.HeadFault.TheVariants as fault
 
 -- how they are made
 abbrev pub head_faults : HeadFaults HeadFault

@@ -1,11 +1,11 @@
 //! The head of a file, and its digest.
 
-ghost use Rattle.std.specs.Prelude.{◌≡◌, ◌+◌, IfOk, length};
+ghost use Rattle.std.specs.Prelude.{◌≡◌, ◌+◌, ◌-◌, ◌≤◌, IfOk, drop, length};
 ghost use Rattle.sealed_files.specs.Gives.{IsRead, IsReadAt};
 ghost use Rattle.sealed_files.specs.Heads.{before_digest, count_before, magic_at, stated_length, stated_version, unsealed, version_at};
 ghost use Rattle.sealed_files.specs.Known.{head_faults};
 
-use crate::fault::HeadFault;
+use file_texts::HeadFault;
 use md5::{DIGEST_LEN, Digest, Md5};
 use xm_base::Cursor;
 
@@ -97,4 +97,13 @@ fn version(cursor: &mut Cursor<'_>, latest: u16) -> Result<u16, HeadFault>
     } else {
         Err(HeadFault::Version { found })
     }
+}
+
+/// The digest at the end of a file.
+pub fn stored_digest(bytes: &[u8]) -> &[u8]
+    requires { 16 ≤ length bytes.now }
+    ensures value { result.now ≡ drop (length bytes.now - 16) bytes.now }
+    ensures size { length result.now ≡ 16 }
+{
+    &bytes[bytes.len() - DIGEST_LEN..]
 }

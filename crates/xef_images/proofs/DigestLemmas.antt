@@ -14,8 +14,8 @@ use Rattle.xef_images.specs.Image.{Image}
 use Rattle.xef_images.specs.Tests.{is_entry}
 use Rattle.xef_images.specs.Reading.{xef_field, xef_short, xef_faults, address_at, memory_at, count_at, row_at, rows_at, segment_at, segments_at, size_at, segment_table_at, entry_point_at, image_fields}
 use Rattle.xef_images.specs.declared.row.Row.{Row}
-use Rattle.xef_images.specs.declared.fault.XefFault.{XefFault}
-use Rattle.xef_images.specs.declared.fault.XefFault.TheVariants as fault
+use Rattle.file_texts.specs.declared.fault.XefFault.{XefFault}
+use Rattle.file_texts.specs.declared.fault.XefFault.TheVariants as fault
 
 -- a fault of a field is none of digests
 pub apart : AreApart xef_faults
@@ -86,13 +86,8 @@ plain_image front =
 -- what comes of the fields reports no digests
 plain_given : {X : Type 0} (view : X → Image) (front : List ℕ) (result : Result X XefFault) → Gives Fails view result (image_fields front) → IsPlain xef_faults result
 plain_given view front (Ok value) given = value_is_none xef_faults value
-plain_given view front (Err fault.Memory) given = plain_fault xef_faults fault.Memory (λ s f e. absurd cc)
-plain_given view front (Err fault.Magic) given = plain_fault xef_faults fault.Magic (λ s f e. absurd cc)
-plain_given view front (Err (fault.Version found)) given = plain_fault xef_faults (fault.Version found) (λ s f e. absurd cc)
-plain_given view front (Err (fault.Short at)) given = plain_fault xef_faults (fault.Short at) (λ s f e. absurd cc)
-plain_given view front (Err (fault.Trailing at)) given = plain_fault xef_faults (fault.Trailing at) (λ s f e. absurd cc)
-plain_given view front (Err (fault.Field at)) given = plain_fault xef_faults (fault.Field at) (λ s f e. absurd cc)
 plain_given view front (Err (fault.Digest stored found)) given = absurd ((plain_image front).none stored found given)
+plain_given view front (Err other) given = plain_fault xef_faults other (λ s f e. absurd cc)
 
 -- where the first step does not fail, whatever follows
 pub reports_given : {X : Type 0} (view : X → Image) (bytes front : List ℕ) (result : Result X XefFault) → unsealed xef_faults (codes "XMEF") 1 bytes ≡ Ok front → Gives Fails view result (image_fields front)

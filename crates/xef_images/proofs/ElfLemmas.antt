@@ -16,8 +16,8 @@ use Rattle.xef_images.proofs.SortLemmas.{all_sorted, length-sorted}
 use Rattle.sealed_files.specs.Steps.{◌>>=◌}
 use Rattle.xef_images.specs.Elf.{elf_word, header_count, header_at, is_loaded, is_cut, segment_of, segment_from, load_at, loads, sorted, overlap, overlap_fault, verdict, elf}
 use Rattle.xef_images.specs.declared.header.Header.{Header}
-use Rattle.xef_images.specs.declared.fault.ElfFault.{ElfFault}
-use Rattle.xef_images.specs.declared.fault.ElfFault.TheVariants as fault
+use Rattle.file_texts.specs.declared.fault.ElfFault.{ElfFault}
+use Rattle.file_texts.specs.declared.fault.ElfFault.TheVariants as fault
 
 -- a number of four bytes is a word's
 word_below : (bytes : List ℕ) (place : ℕ) → AreBytes bytes → elf_word bytes place < 2 ^ 32

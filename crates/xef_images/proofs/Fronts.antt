@@ -8,8 +8,8 @@ use Rattle.sealed_files.specs.Steps.{◌>>=◌}
 use Rattle.xef_images.specs.Reading.{row_at, rows_at, segment_at, segments_at}
 use Rattle.xef_images.specs.Gives.{Fails}
 use Rattle.xef_images.specs.declared.row.Row.{Row}
-use Rattle.xef_images.specs.declared.fault.XefFault.{XefFault}
-use Rattle.xef_images.specs.declared.fault.XefFault.TheVariants as fault
+use Rattle.file_texts.specs.declared.fault.XefFault.{XefFault}
+use Rattle.file_texts.specs.declared.fault.XefFault.TheVariants as fault
 
 -- what was read before, and what is still read
 abbrev pub with_front : {X : Type 0} → List X → Result (List X × Place) XefFault → Result (List X × Place) XefFault
@@ -18,22 +18,12 @@ with_front front read = read >>= λ x. Ok (front ++ x.0, x.1)
 -- the fault that reading gives is the fault that was met
 pub fails_so : {Y : Type 0} (fault : XefFault) (read : Result Y XefFault) → read ≡ Err fault → Fails fault read
 fails_so fault.Memory read e = tt
-fails_so fault.Magic read e = e
-fails_so (fault.Version found) read e = e
-fails_so (fault.Short at) read e = e
-fails_so (fault.Trailing at) read e = e
-fails_so (fault.Digest stored found) read e = e
-fails_so (fault.Field at) read e = e
+fails_so other read e = e
 
 -- a fault that is met in a part is that of the whole
 pub fails_on : {Y Z : Type 0} (fault : XefFault) (part : Result Y XefFault) (whole : Result Z XefFault) → ((f : XefFault) → part ≡ Err f → whole ≡ Err f) → Fails fault part → Fails fault whole
 fails_on fault.Memory part whole so e = tt
-fails_on fault.Magic part whole so e = so _ e
-fails_on (fault.Version found) part whole so e = so _ e
-fails_on (fault.Short at) part whole so e = so _ e
-fails_on (fault.Trailing at) part whole so e = so _ e
-fails_on (fault.Digest stored found) part whole so e = so _ e
-fails_on (fault.Field at) part whole so e = so _ e
+fails_on other part whole so e = so _ e
 
 -- an item more is at the end of the prefix
 regroup : {X : Type 0} (front : List X) (x : X) (read : Result (List X × Place) XefFault) → with_front front (read >>= λ xs. Ok (x ∷ xs.0, xs.1)) ≡ with_front (front ++ x ∷ []) read

@@ -1,4 +1,3 @@
-pub mod Ascii
 pub mod DigestLemmas
 pub mod ElfLemmas
 pub mod Fronts

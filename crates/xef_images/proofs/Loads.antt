@@ -5,8 +5,8 @@ use Rattle.xef_images.specs.Image.{Segment}
 use Rattle.sealed_files.specs.Steps.{◌>>=◌}
 use Rattle.xef_images.specs.Elf.{load_at, loads}
 use Rattle.xef_images.specs.ElfGives.{ElfFails}
-use Rattle.xef_images.specs.declared.fault.ElfFault.{ElfFault}
-use Rattle.xef_images.specs.declared.fault.ElfFault.TheVariants as fault
+use Rattle.file_texts.specs.declared.fault.ElfFault.{ElfFault}
+use Rattle.file_texts.specs.declared.fault.ElfFault.TheVariants as fault
 
 -- what was loaded before, and what is still loaded
 abbrev pub with_loaded : List Segment → Result (List Segment) ElfFault → Result (List Segment) ElfFault
@@ -20,16 +20,7 @@ pub record Loaded (bytes : List ℕ) (start count done place : ℕ) (front : Lis
 -- a fault that is met in a part is that of the whole
 pub elf_fails_on : {Y Z : Type 0} (told : ElfFault) (part : Result Y ElfFault) (whole : Result Z ElfFault) → ((f : ElfFault) → part ≡ Err f → whole ≡ Err f) → ElfFails told part → ElfFails told whole
 elf_fails_on fault.Memory part whole so e = tt
-elf_fails_on fault.Magic part whole so e = so _ e
-elf_fails_on fault.Class part whole so e = so _ e
-elf_fails_on fault.Machine part whole so e = so _ e
-elf_fails_on (fault.Headers found) part whole so e = so _ e
-elf_fails_on (fault.Short at) part whole so e = so _ e
-elf_fails_on (fault.Size at) part whole so e = so _ e
-elf_fails_on fault.NoLoad part whole so e = so _ e
-elf_fails_on (fault.Entry found) part whole so e = so _ e
-elf_fails_on (fault.Overlap address) part whole so e = so _ e
-elf_fails_on (fault.Limit at) part whole so e = so _ e
+elf_fails_on other part whole so e = so _ e
 
 -- what a header loads is at the end of the prefix
 regroup : (front first : List Segment) (read : Result (List Segment) ElfFault) → with_loaded front (read >>= λ others. Ok (first ++ others)) ≡ with_loaded (front ++ first) read

@@ -6,8 +6,8 @@ use Rattle.xef_images.specs.Image.{Image, Segment, end_of, xef_length}
 use Rattle.sealed_files.specs.Steps.{◌>>=◌}
 use Rattle.xef_images.specs.Tests.{is_entry}
 use Rattle.xef_images.specs.declared.header.Header.{Header}
-use Rattle.xef_images.specs.declared.fault.ElfFault.{ElfFault}
-use Rattle.xef_images.specs.declared.fault.ElfFault.TheVariants as fault
+use Rattle.file_texts.specs.declared.fault.ElfFault.{ElfFault}
+use Rattle.file_texts.specs.declared.fault.ElfFault.TheVariants as fault
 use Rattle.xm_base.specs.declared.limits.TheConstants.{FILE_BYTES}
 
 -- the number of two bytes at a place

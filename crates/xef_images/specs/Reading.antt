@@ -2,28 +2,20 @@
 use Rattle.std.specs.Prelude.{ℕ, zero, suc, ◌+◌, ◌^◌, ◌==◌, ◌&&◌, nat_le, List, [], ◌∷◌, codes, Result, Ok}
 use Rattle.std.specs.Int.{w8, w32}
 use Rattle.xm_base.specs.Cursor.{Place, left, past, cursor_start}
+use Rattle.file_texts.specs.OfHeads.{xef_fault}
 use Rattle.sealed_files.specs.Faults.{HeadFaults}
 use Rattle.sealed_files.specs.Fields.{field_bytes, listed_at, number_at}
 use Rattle.sealed_files.specs.Heads.{unsealed}
 use Rattle.sealed_files.specs.Known.{head_faults}
 use Rattle.sealed_files.specs.Lifted.{lifted_faults}
 use Rattle.sealed_files.specs.Steps.{◌>>=◌, unless}
-use Rattle.sealed_files.specs.declared.fault.HeadFault.{HeadFault}
-use Rattle.sealed_files.specs.declared.fault.HeadFault.TheVariants as head
 use Rattle.xef_images.specs.Image.{Image, Segment}
 use Rattle.xef_images.specs.Tests.{is_entry}
 use Rattle.xef_images.specs.declared.row.Row.{Row}
-use Rattle.xef_images.specs.declared.fault.XefFault.{XefFault}
-use Rattle.xef_images.specs.declared.fault.XefFault.TheVariants.{Magic, Version, Short, Trailing, Digest, Field}
+use Rattle.file_texts.specs.declared.fault.XefFault.{XefFault}
+use Rattle.file_texts.specs.declared.fault.XefFault.TheVariants.{Short, Trailing, Field}
 
 -- how the faults of its head and its digest are made
-abbrev pub xef_fault : HeadFault → XefFault
-xef_fault head.Magic = Magic
-xef_fault (head.Version found) = Version found
-xef_fault (head.Short at) = Short at
-xef_fault (head.Trailing at) = Trailing at
-xef_fault (head.Digest stored found) = Digest stored found
-
 abbrev pub xef_faults : HeadFaults XefFault
 xef_faults = lifted_faults xef_fault head_faults
 

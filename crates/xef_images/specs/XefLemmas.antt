@@ -22,7 +22,7 @@ use Rattle.sealed_files.specs.Heads.{lead_text, stated_length, unsealed}
 use Rattle.xef_images.specs.Reading.{xef_field, xef_short, xef_faults, rows_at, segments_at, size_at, segment_table_at, entry_point_at, image_fields, xef}
 use Rattle.sealed_files.specs.FieldLemmas.{Takes, takes_both, wide8, wide32, number_takes, listed_takes, Reads, number_again, listed_again, AreBytes-drop, AreBytes-take}
 use Rattle.xef_images.specs.TableLemmas.{row_of, row_line, RowsRise, rows_take, segments_take, lines_are_rows, rise_of_rows, rows_of_rise, rows_again, segments_again}
-use Rattle.xef_images.specs.declared.fault.XefFault.TheVariants.{Trailing, Field}
+use Rattle.file_texts.specs.declared.fault.XefFault.TheVariants.{Trailing, Field}
 
 -- the table of segments: their number, their rows and their bytes
 abbrev pub table_text : List Segment → List ℕ

@@ -5,10 +5,10 @@ ghost use Rattle.std.specs.Option.{option_to_list};
 ghost use Rattle.xef_images.specs.Elf.{elf, header_count, is_class, is_magic, is_machine, load_at, loads, overlap, segment_from, sorted, verdict, elf_word};
 ghost use Rattle.xef_images.specs.ElfGives.{ElfGives};
 
-use crate::fault::ElfFault;
 use crate::header::{HEADER, Header, half, word};
 use crate::segment::{ADDRESSES, Segment};
 use crate::xef::{SEGMENTS, Xef, fits, is_entry};
+use file_texts::ElfFault;
 use std::alloc::Global;
 use xm_base::FILE_BYTES;
 

@@ -1,9 +1,7 @@
 //! Images of partitions: the XEF format both ways, and the program files of a linker as images.
 #![tactic(auto)]
 
-mod digits;
 mod elf;
-mod fault;
 mod header;
 mod law;
 mod lines;
@@ -14,7 +12,7 @@ mod writing;
 mod xef;
 
 pub use elf::read_elf;
-pub use fault::{ElfFault, XefFault};
+pub use file_texts::{ElfFault, XefFault};
 pub use law::{length_is_told, none_goes_on, written_is_read};
 pub use lines::describe;
 pub use reading::read_xef;

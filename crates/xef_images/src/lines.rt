@@ -3,12 +3,13 @@
 ghost use Rattle.std.specs.Prelude.{◌≡◌, ◌++◌, ◌-◌, ◌≤◌, IfOk, OnOk, decimal, drop, length};
 ghost use Rattle.std.specs.List.{flat_map};
 ghost use Rattle.xef_images.specs.Spelling.{xef_text};
-ghost use Rattle.xef_images.specs.Texts.{address_text, digest_line, entry_line, segment_line, xef_lines};
+ghost use Rattle.file_texts.specs.Texts.{address_text};
+ghost use Rattle.xef_images.specs.Texts.{digest_line, entry_line, segment_line, xef_lines};
 
-use crate::digits::{address_digits, digest_digits};
 use crate::segment::Segment;
 use crate::xef::Xef;
-use md5::DIGEST_LEN;
+use file_texts::{put_address, put_digest, put_number};
+use sealed_files::stored_digest;
 use std::alloc::Global;
 use xm_base::Memory;
 
@@ -22,17 +23,8 @@ pub fn describe(alloc: Global, bytes: &[u8], image: &Xef) -> Result<Vec<u8>, Mem
     let mut lines = Vec::new(alloc);
     put_entry(&mut lines, image.entry())?;
     put_segments(alloc, &mut lines, image.segments())?;
-    put_digest(&mut lines, stored(bytes))?;
+    put_digest_line(&mut lines, stored_digest(bytes))?;
     Ok(lines)
-}
-
-/// The digest at the end of a file.
-fn stored(bytes: &[u8]) -> &[u8]
-    requires { 16 ≤ length bytes.now }
-    ensures value { result.now ≡ drop (length bytes.now - 16) bytes.now }
-    ensures size { length result.now ≡ 16 }
-{
-    &bytes[bytes.len() - DIGEST_LEN..]
 }
 
 /// Writes the line of the entry.
@@ -67,33 +59,13 @@ fn put_segment(alloc: Global, lines: &mut Vec<u8>, segment: &Segment) -> Result<
     Ok(())
 }
 
-/// Writes an address with eight hexadecimal digits, after its name.
-fn put_address(lines: &mut Vec<u8>, name: &[u8], address: u32) -> Result<(), Memory>
-    ensures { OnOk result (lines.new.items ≡ lines.old.items ++ (name.now ++ address_text address)) }
-{
-    lines.extend_from_slice(name)?;
-    lines.extend_from_slice(&address_digits(address))?;
-    Ok(())
-}
-
-/// Writes a number with decimal digits, after its name.
-fn put_number(alloc: Global, lines: &mut Vec<u8>, name: &[u8], number: usize) -> Result<(), Memory>
-    ensures { OnOk result (lines.new.items ≡ lines.old.items ++ (name.now ++ decimal number)) }
-{
-    let digits = format!(in alloc; "{number}")?;
-    lines.extend_from_slice(name)?;
-    lines.extend_from_slice(digits.as_bytes())?;
-    Ok(())
-}
-
 /// Writes the line of the digest.
 #[tactic(auto, unfolding(crate::specs::Texts::digest_line))]
-fn put_digest(lines: &mut Vec<u8>, digest: &[u8]) -> Result<(), Memory>
+fn put_digest_line(lines: &mut Vec<u8>, digest: &[u8]) -> Result<(), Memory>
     requires { length digest.now ≡ 16 }
     ensures { OnOk result (lines.new.items ≡ lines.old.items ++ digest_line digest.now) }
 {
-    lines.extend_from_slice(b"md5=")?;
-    lines.extend_from_slice(&digest_digits(digest))?;
+    put_digest(lines, b"md5=", digest)?;
     lines.extend_from_slice(b"\n")?;
     Ok(())
 }

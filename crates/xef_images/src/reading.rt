@@ -8,11 +8,11 @@ ghost use Rattle.xef_images.specs.Spelling.{IsSpelledImage};
 ghost use Rattle.xef_images.specs.Gives.{Fails};
 ghost use Rattle.xef_images.specs.Reading.{address_at, count_at, entry_point_at, image_fields, memory_at, row_at, rows_at, segment_at, segments_at, size_at, segment_table_at, xef, xef_faults};
 
-use crate::fault::XefFault;
 use crate::row::Row;
 use crate::segment::{ADDRESSES, Segment};
 use crate::writing::{MAGIC, VERSION};
 use crate::xef::{SEGMENTS, Xef, is_entry};
+use file_texts::XefFault;
 use sealed_files::unsealed;
 use std::alloc::Global;
 use xm_base::Cursor;

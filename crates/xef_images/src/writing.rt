@@ -1,15 +1,14 @@
 //! The writing of an image's file.
 
 ghost use Rattle.std.specs.Prelude.{◌≡◌, ◌^◌, ◌<◌, ◌++◌, All, IfOk, OnOk, length};
-ghost use Rattle.std.specs.Int.{to_be_bytes, w16, w32};
 ghost use Rattle.std.specs.List.{flat_map};
 ghost use Rattle.xef_images.specs.Image.{contents};
 ghost use Rattle.xef_images.specs.Spelling.{before_text, image_head_text, row_text, xef_text};
 
 use crate::segment::Segment;
 use crate::xef::{Xef, file_length};
-use byteorder::{BigEndian, ByteOrder};
 use md5::{Digest, Md5};
+use sealed_files::{put_half, put_word};
 use std::alloc::Global;
 use xm_base::Memory;
 
@@ -90,25 +89,5 @@ fn put_contents(out: &mut Vec<u8>, segments: &[Segment]) -> Result<(), Memory>
     for segment in segments {
         out.extend_from_slice(&segment.bytes)?;
     }
-    Ok(())
-}
-
-/// Writes a number of two bytes.
-fn put_half(out: &mut Vec<u8>, number: u16) -> Result<(), Memory>
-    ensures { OnOk result (out.new.items ≡ out.old.items ++ to_be_bytes w16 number) }
-{
-    let mut bytes = [0; 2];
-    BigEndian::write_u16(&mut bytes, number);
-    out.extend_from_slice(&bytes)?;
-    Ok(())
-}
-
-/// Writes a number of four bytes.
-fn put_word(out: &mut Vec<u8>, number: u32) -> Result<(), Memory>
-    ensures { OnOk result (out.new.items ≡ out.old.items ++ to_be_bytes w32 number) }
-{
-    let mut bytes = [0; 4];
-    BigEndian::write_u32(&mut bytes, number);
-    out.extend_from_slice(&bytes)?;
     Ok(())
 }

@@ -15,8 +15,8 @@ use Rattle.machine_model.specs.View.{PartitionView, System, view_of}
 use Rattle.alone_passes.specs.Passes.{part_in}
 use Rattle.alone_passes.specs.Step.{IsLone, IsOfSystem}
 use Rattle.alone_passes.specs.Taking.{first_untaken}
-use Rattle.cue_scripts.specs.declared.fault.ScriptFault.{ScriptFault}
-use Rattle.cue_scripts.specs.declared.fault.ScriptFault.TheVariants as fault
+use Rattle.file_texts.specs.declared.fault.ScriptFault.{ScriptFault}
+use Rattle.file_texts.specs.declared.fault.ScriptFault.TheVariants as fault
 use Rattle.told_scripts.specs.Replayed.{cue_lines, replayed}
 use Rattle.xm_alone.specs.Replay.{IsSilentReplay, Lone, TellsFit, booted_alone, lone_in}
 use Rattle.xm_alone.proofs.FollowLemmas.{IsFitting, lines_more, one_behind, one_followed}

@@ -13,8 +13,8 @@ use Rattle.machine_model.specs.View.{PartitionView, System, part_of, view_of}
 use Rattle.alone_passes.specs.Passes.{part_in}
 use Rattle.alone_passes.specs.Taking.{first_untaken}
 use Rattle.told_scripts.specs.Replayed.{cue_lines, replayed}
-use Rattle.cue_scripts.specs.declared.fault.ScriptFault.{ScriptFault}
-use Rattle.cue_scripts.specs.declared.fault.ScriptFault.TheVariants as fault
+use Rattle.file_texts.specs.declared.fault.ScriptFault.{ScriptFault}
+use Rattle.file_texts.specs.declared.fault.ScriptFault.TheVariants as fault
 use Rattle.xm_machine.specs.declared.alone_fault.AloneFault.{AloneFault}
 use Rattle.xm_machine.specs.declared.alone_fault.AloneFault.TheVariants as alone
 

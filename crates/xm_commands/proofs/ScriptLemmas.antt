@@ -10,10 +10,10 @@ use Rattle.machine_model.specs.View.{System as Booted}
 use Rattle.whole_system.specs.State.{with_inputs}
 use Rattle.xm_words.specs.Words.{PartFile, RunOption, cores_in, scripts_in, span_in}
 use Rattle.std.specs.String.{string_bytes}
-use Rattle.cue_scripts.specs.Texts.{script_fault_text}
+use Rattle.file_texts.specs.Texts.{script_fault_text}
 use Rattle.cue_scripts.specs.Written.{IsScriptFile}
-use Rattle.cue_scripts.specs.declared.fault.ScriptFault.{ScriptFault}
-use Rattle.cue_scripts.specs.declared.fault.ScriptFault.TheVariants as fault
+use Rattle.file_texts.specs.declared.fault.ScriptFault.{ScriptFault}
+use Rattle.file_texts.specs.declared.fault.ScriptFault.TheVariants as fault
 use Rattle.file_maker.specs.Makes.{IsRefusalText}
 use Rattle.file_maker.specs.declared.unmade.Unmade.{Unmade}
 use Rattle.file_maker.specs.declared.unmade.Unmade.TheVariants as unmade

@@ -14,7 +14,7 @@ use Rattle.xm_report.specs.Report.{ReportLine, text_of, texts}
 use Rattle.loaded_system.specs.Bare.{bare_system}
 use Rattle.loaded_system.specs.System.{System as Loaded}
 use Rattle.xm_container.specs.Reading.{unpacked}
-use Rattle.xm_container.specs.declared.fault.BoxFault.{BoxFault}
+use Rattle.file_texts.specs.declared.fault.BoxFault.{BoxFault}
 use Rattle.machine_model.specs.CoreFile.{core_file}
 use Rattle.machine_model.specs.Laws.{OwnLines, SameCoreFile, core_file_of}
 use Rattle.machine_model.specs.Lists.{is_number}

@@ -22,8 +22,8 @@ use Rattle.uart_board.specs.Views.{BoardView}
 use Rattle.xm_report.specs.Report.{ReportLine, texts}
 use Rattle.xm_report.specs.declared.output.WriteFault.{WriteFault}
 use Rattle.xm_container.specs.Reading.{unpacked}
-use Rattle.xm_container.specs.Texts.{box_fault_text}
-use Rattle.xm_container.specs.declared.fault.BoxFault.{BoxFault}
+use Rattle.file_texts.specs.Texts.{box_fault_text}
+use Rattle.file_texts.specs.declared.fault.BoxFault.{BoxFault}
 use Rattle.xm_words.specs.Words.{PartFile, RunOption, Bare, Run, command_of}
 use Rattle.xm_words.specs.RunLemmas.{span_within}
 use Rattle.xm_words.specs.Grammar.{CommandsAreSpelled}

@@ -5,14 +5,14 @@ use Rattle.std.specs.Int.{w8, w32}
 use Rattle.xm_base.specs.Cursor.{Place, left, past, cursor_start}
 use Rattle.xm_conf.specs.Configuration.{Conf}
 use Rattle.bin_config.specs.Reading.{read_as}
-use Rattle.bin_config.specs.declared.fault.XmcFault.{XmcFault}
-use Rattle.bin_config.specs.declared.fault.XmcFault.TheVariants as xmc
+use Rattle.file_texts.specs.declared.fault.XmcFault.{XmcFault}
+use Rattle.file_texts.specs.declared.fault.XmcFault.TheVariants as xmc
 use Rattle.bin_config.specs.Version.{version_numbered}
 use Rattle.bin_config.specs.declared.version.Version.{Version}
 use Rattle.xef_images.specs.Image.{Image}
 use Rattle.xef_images.specs.Reading.{xef}
-use Rattle.xef_images.specs.declared.fault.XefFault.{XefFault}
-use Rattle.xef_images.specs.declared.fault.XefFault.TheVariants as xef_fault
+use Rattle.file_texts.specs.declared.fault.XefFault.{XefFault}
+use Rattle.file_texts.specs.declared.fault.XefFault.TheVariants as xef_fault
 use Rattle.loaded_system.specs.Inside.{first_outside}
 use Rattle.loaded_system.specs.System.{System}
 use Rattle.sealed_files.specs.Fields.{number_at, field_bytes}
@@ -25,8 +25,8 @@ use Rattle.xm_container.specs.Entries.{Entries}
 use Rattle.xm_container.specs.Gives.{Fails}
 use Rattle.xm_container.specs.Numbers.{extra, missing}
 use Rattle.xm_container.specs.Reading.{as_config, as_image, length_at, conf_at, id_at, image_at, image_entry_at, with_entry, image_entries_at, image_table_at, container_fields, unless_some, assigned, system_in, box_faults, box_field, box_short, or_container_version, version_in}
-use Rattle.xm_container.specs.declared.fault.BoxFault.{BoxFault}
-use Rattle.xm_container.specs.declared.fault.BoxFault.TheVariants as fault
+use Rattle.file_texts.specs.declared.fault.BoxFault.{BoxFault}
+use Rattle.file_texts.specs.declared.fault.BoxFault.TheVariants as fault
 
 -- no other fault is one of digests
 pub apart : AreApart box_faults

@@ -13,8 +13,8 @@ use Rattle.xm_container.specs.Entries.{Entries, RiseFrom}
 use Rattle.xm_container.specs.Gives.{Fails}
 use Rattle.xm_container.specs.Reading.{id_at, image_at, image_entry_at, image_entries_at, with_entry, box_field, box_short}
 use Rattle.xm_container.specs.declared.image.Image.{Image as Given}
-use Rattle.xm_container.specs.declared.fault.BoxFault.{BoxFault}
-use Rattle.xm_container.specs.declared.fault.BoxFault.TheVariants as fault
+use Rattle.file_texts.specs.declared.fault.BoxFault.{BoxFault}
+use Rattle.file_texts.specs.declared.fault.BoxFault.TheVariants as fault
 
 -- what was read before, and what is still read
 abbrev pub with_front : List ℕ → List Image → Result (Entries × Place) BoxFault → Result (Entries × Place) BoxFault
@@ -23,17 +23,7 @@ with_front ids images read = read >>= λ x. Ok (record { ids = ids ++ x.0.ids; i
 -- a fault that is met in a part is that of the whole
 fails_on : {Y Z : Type 0} (told : BoxFault) (part : Result Y BoxFault) (whole : Result Z BoxFault) → ((f : BoxFault) → part ≡ Err f → whole ≡ Err f) → Fails told part → Fails told whole
 fails_on fault.Memory part whole so e = tt
-fails_on fault.Magic part whole so e = so _ e
-fails_on (fault.Version found) part whole so e = so _ e
-fails_on (fault.Short at) part whole so e = so _ e
-fails_on (fault.Trailing at) part whole so e = so _ e
-fails_on (fault.Digest stored found) part whole so e = so _ e
-fails_on (fault.Field at) part whole so e = so _ e
-fails_on (fault.Config inner) part whole so e = so _ e
-fails_on (fault.Image id inner) part whole so e = so _ e
-fails_on (fault.Missing id) part whole so e = so _ e
-fails_on (fault.Extra id) part whole so e = so _ e
-fails_on (fault.Outside id address) part whole so e = so _ e
+fails_on other part whole so e = so _ e
 
 -- an image more is at the end of the prefix
 regroup : (ids : List ℕ) (images : List Image) (entry : Given) (read : Result (Entries × Place) BoxFault)

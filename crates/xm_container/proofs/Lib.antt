@@ -1,4 +1,3 @@
-pub mod Ascii
 pub mod AssignedLemmas
 pub mod BoxLemmas
 pub mod DigestLemmas

@@ -58,7 +58,3 @@ spelled_line id entry image bytes is is_entry =
     ap (λ e. file_line id (length bytes) e (drop (length bytes - 16) bytes)) is_entry
     ∙ ap (λ digest. file_line id (length bytes) image.entry digest) (digest_at_end bytes image is).1
     ∙ ap (λ b. file_line id (length b) image.entry (md5 (before_text image))) is
-
--- four pieces, one after the other
-pub four_pieces : (a b c d : List ℕ) → ((a ++ b) ++ c) ++ d ≡ a ++ (b ++ (c ++ d))
-four_pieces a b c d = simp append_assoc

@@ -22,7 +22,7 @@ use Rattle.bin_config.specs.Laws.{IsSpellingOf}
 use Rattle.bin_config.specs.Spelled.{HasConfRanges}
 use Rattle.bin_config.specs.Xmc.{xmc}
 use Rattle.bin_config.specs.XmcLemmas.{read_spelled, numbered_there}
-use Rattle.bin_config.specs.declared.fault.XmcFault.{XmcFault}
+use Rattle.file_texts.specs.declared.fault.XmcFault.{XmcFault}
 use Rattle.sealed_files.specs.FieldLemmas.{AreBytes-drop, AreBytes-take, Takes, takes_both, wide8, wide32}
 use Rattle.xef_images.specs.Image.{Image, IsImage}
 use Rattle.xef_images.specs.ImageLemmas.{Decides-nat_le}
@@ -31,7 +31,7 @@ use Rattle.xef_images.specs.Spelling.{xef_text}
 use Rattle.sealed_files.specs.StepLemmas.{stepped, ok_is, passed}
 use Rattle.sealed_files.specs.Steps.{◌>>=◌, unless}
 use Rattle.xef_images.specs.XefLemmas.{xef_takes}
-use Rattle.xef_images.specs.declared.fault.XefFault.{XefFault}
+use Rattle.file_texts.specs.declared.fault.XefFault.{XefFault}
 use Rattle.loaded_system.specs.Inside.{first_outside}
 use Rattle.loaded_system.specs.InsideLemmas.{inside_if_none}
 use Rattle.loaded_system.specs.System.{System, IsSystem}
@@ -47,8 +47,8 @@ use Rattle.xm_container.proofs.NumberLemmas.{numbers, all_below, all_counted, al
 use Rattle.xm_container.specs.Numbers.{extra, missing}
 use Rattle.xm_container.specs.Reading.{as_config, as_image, length_at, conf_at, id_at, image_at, image_entry_at, with_entry, image_entries_at, image_table_at, container_fields, unless_some, assigned, version_in, system_in, unpacked, box_faults, box_field, box_short, or_container_version}
 use Rattle.xm_container.specs.declared.image.Image.{Image as Given}
-use Rattle.xm_container.specs.declared.fault.BoxFault.{BoxFault}
-use Rattle.xm_container.specs.declared.fault.BoxFault.TheVariants as fault
+use Rattle.file_texts.specs.declared.fault.BoxFault.{BoxFault}
+use Rattle.file_texts.specs.declared.fault.BoxFault.TheVariants as fault
 
 -- the bytes of a prefix are bytes
 bytes_front : (xs ys : List ℕ) → AreBytes (xs ++ ys) → AreBytes xs

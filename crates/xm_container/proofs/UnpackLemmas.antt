@@ -9,7 +9,7 @@ use Rattle.sealed_files.specs.Gives.{Gives}
 use Rattle.xm_container.specs.Gives.{Fails}
 use Rattle.xm_container.specs.Laws.{PackedIsUnpacked, UnpackedIsPacked}
 use Rattle.xm_container.specs.Reading.{unpacked}
-use Rattle.xm_container.specs.declared.fault.BoxFault.{BoxFault}
+use Rattle.file_texts.specs.declared.fault.BoxFault.{BoxFault}
 
 -- what is unpacked is what the bytes spell
 pub found_spelled : UnpackedIsPacked → (bytes : List ℕ) (result : Result System BoxFault) → AreBytes bytes → Gives Fails (λ found. found) result (unpacked bytes) → IfOk result (λ system. (v : Version) × IsSpelledContainer v bytes system)

@@ -11,8 +11,8 @@ use Rattle.loaded_system.specs.declared.system.Outside.{Outside}
 use Rattle.xm_container.specs.Box.{box_length, fields_text, sealed_text}
 use Rattle.xm_container.specs.Numbers.{extra, missing}
 use Rattle.xm_container.specs.declared.image.Image.{Image as Given}
-use Rattle.xm_container.specs.declared.fault.PackFault.{PackFault}
-use Rattle.xm_container.specs.declared.fault.PackFault.TheVariants as fault
+use Rattle.file_texts.specs.declared.fault.PackFault.{PackFault}
+use Rattle.file_texts.specs.declared.fault.PackFault.TheVariants as fault
 
 -- the numbers of images
 abbrev pub partition_numbers : List Given → List ℕ

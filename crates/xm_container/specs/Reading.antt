@@ -3,39 +3,31 @@ use Rattle.std.specs.Prelude.{ℕ, zero, suc, ◌+◌, ◌==◌, nat_le, List, [
 use Rattle.std.specs.Int.{w8, w32}
 use Rattle.xm_base.specs.Cursor.{Place, left, past, cursor_start}
 use Rattle.xm_conf.specs.Configuration.{Conf}
+use Rattle.file_texts.specs.OfHeads.{box_fault}
 use Rattle.sealed_files.specs.Faults.{HeadFaults}
 use Rattle.sealed_files.specs.Fields.{field_bytes, listed_at, number_at}
 use Rattle.sealed_files.specs.Heads.{stated_version, unsealed}
 use Rattle.sealed_files.specs.Known.{head_faults}
 use Rattle.sealed_files.specs.Lifted.{lifted_faults}
 use Rattle.sealed_files.specs.Steps.{◌>>=◌, unless}
-use Rattle.sealed_files.specs.declared.fault.HeadFault.{HeadFault}
-use Rattle.sealed_files.specs.declared.fault.HeadFault.TheVariants as head
 use Rattle.bin_config.specs.Reading.{read_as}
 use Rattle.bin_config.specs.Version.{version_numbered}
 use Rattle.bin_config.specs.declared.version.Version.{Version}
-use Rattle.bin_config.specs.declared.fault.XmcFault.{XmcFault}
-use Rattle.bin_config.specs.declared.fault.XmcFault.TheVariants as xmc
+use Rattle.file_texts.specs.declared.fault.XmcFault.{XmcFault}
+use Rattle.file_texts.specs.declared.fault.XmcFault.TheVariants as xmc
 use Rattle.xef_images.specs.Image.{Image}
 use Rattle.xef_images.specs.Reading.{xef}
-use Rattle.xef_images.specs.declared.fault.XefFault.{XefFault}
-use Rattle.xef_images.specs.declared.fault.XefFault.TheVariants as xef_fault
+use Rattle.file_texts.specs.declared.fault.XefFault.{XefFault}
+use Rattle.file_texts.specs.declared.fault.XefFault.TheVariants as xef_fault
 use Rattle.loaded_system.specs.Inside.{first_outside}
 use Rattle.loaded_system.specs.System.{System}
 use Rattle.xm_container.specs.Entries.{Entries}
 use Rattle.xm_container.specs.Numbers.{extra, missing}
 use Rattle.xm_container.specs.declared.image.Image.{Image as Given}
-use Rattle.xm_container.specs.declared.fault.BoxFault.{BoxFault}
-use Rattle.xm_container.specs.declared.fault.BoxFault.TheVariants as fault
+use Rattle.file_texts.specs.declared.fault.BoxFault.{BoxFault}
+use Rattle.file_texts.specs.declared.fault.BoxFault.TheVariants as fault
 
--- the fault of a head or of a digest as that of its container
-abbrev pub box_fault : HeadFault → BoxFault
-box_fault head.Magic = fault.Magic
-box_fault (head.Version found) = fault.Version found
-box_fault (head.Short at) = fault.Short at
-box_fault (head.Trailing at) = fault.Trailing at
-box_fault (head.Digest stored found) = fault.Digest stored found
-
+-- how the faults of its head and its digest are made
 abbrev pub box_faults : HeadFaults BoxFault
 box_faults = lifted_faults box_fault head_faults
 
@@ -48,13 +40,8 @@ box_field at = fault.Field at
 
 -- the fault of a configuration as that of its container
 abbrev pub config_fault : XmcFault → BoxFault
-config_fault xmc.Magic = fault.Config xmc.Magic
-config_fault (xmc.Version found) = fault.Config (xmc.Version found)
-config_fault (xmc.Short at) = fault.Config (xmc.Short at)
-config_fault (xmc.Trailing at) = fault.Config (xmc.Trailing at)
-config_fault (xmc.Field at) = fault.Config (xmc.Field at)
-config_fault (xmc.NotFit rule) = fault.Config (xmc.NotFit rule)
 config_fault xmc.Memory = fault.Memory
+config_fault other = fault.Config other
 
 -- a configuration that was read, with its fault as that of the container
 abbrev pub as_config : Result Conf XmcFault → Result Conf BoxFault
@@ -63,13 +50,8 @@ as_config (Err told_fault) = Err (config_fault told_fault)
 
 -- the fault of an image as that of its container
 abbrev pub image_fault : ℕ → XefFault → BoxFault
-image_fault id xef_fault.Magic = fault.Image id xef_fault.Magic
-image_fault id (xef_fault.Version found) = fault.Image id (xef_fault.Version found)
-image_fault id (xef_fault.Short at) = fault.Image id (xef_fault.Short at)
-image_fault id (xef_fault.Trailing at) = fault.Image id (xef_fault.Trailing at)
-image_fault id (xef_fault.Digest stored found) = fault.Image id (xef_fault.Digest stored found)
-image_fault id (xef_fault.Field at) = fault.Image id (xef_fault.Field at)
 image_fault id xef_fault.Memory = fault.Memory
+image_fault id other = fault.Image id other
 
 -- an image that was read, with its fault as that of the container
 abbrev pub as_image : ℕ → Result Image XefFault → Result Image BoxFault

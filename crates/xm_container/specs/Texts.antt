@@ -1,39 +1,11 @@
--- What is printed: the faults, and the lines that describe a container.
+-- The lines that describe a container.
 use Rattle.std.specs.Prelude.{ℕ, ◌+◌, ◌-◌, List, [], ◌∷◌, ◌++◌, length, drop, codes, decimal}
 use Rattle.hex.specs.Hex.{encode_lower}
 use Rattle.md5.specs.Md5.{md5}
-use Rattle.bin_config.specs.Texts.{xmc_fault_text}
+use Rattle.file_texts.specs.Texts.{address_text}
 use Rattle.xef_images.specs.Image.{Image}
 use Rattle.xef_images.specs.Spelling.{before_text, xef_text}
-use Rattle.xef_images.specs.Texts.{address_text, xef_fault_text}
 use Rattle.loaded_system.specs.System.{System}
-use Rattle.xm_container.specs.declared.fault.BoxFault.{BoxFault}
-use Rattle.xm_container.specs.declared.fault.BoxFault.TheVariants as box
-use Rattle.xm_container.specs.declared.fault.PackFault.{PackFault}
-use Rattle.xm_container.specs.declared.fault.PackFault.TheVariants as pack
-
--- the text of each cause for which nothing is packed
-abbrev pub pack_fault_text : PackFault → List ℕ
-pack_fault_text (pack.Missing id) = codes "missing id=" ++ decimal id
-pack_fault_text (pack.Extra id) = codes "extra id=" ++ decimal id
-pack_fault_text (pack.Outside id address) = codes "outside id=" ++ decimal id ++ codes " address=" ++ address_text address
-pack_fault_text (pack.Long length) = codes "long length=" ++ decimal length
-pack_fault_text pack.Memory = codes "memory"
-
--- the text of each fault of a container: its name, and where or what it found; a digest as 32 hexadecimal digits
-abbrev pub box_fault_text : BoxFault → List ℕ
-box_fault_text box.Magic = codes "magic"
-box_fault_text (box.Version found) = codes "version found=" ++ decimal found
-box_fault_text (box.Short at) = codes "short at=" ++ decimal at
-box_fault_text (box.Trailing at) = codes "trailing at=" ++ decimal at
-box_fault_text (box.Digest stored found) = codes "digest stored=" ++ encode_lower stored ++ codes " found=" ++ encode_lower found
-box_fault_text (box.Field at) = codes "field at=" ++ decimal at
-box_fault_text (box.Config inner) = codes "config " ++ xmc_fault_text inner
-box_fault_text (box.Image id inner) = codes "image id=" ++ decimal id ++ codes " " ++ xef_fault_text inner
-box_fault_text (box.Missing id) = codes "missing id=" ++ decimal id
-box_fault_text (box.Extra id) = codes "extra id=" ++ decimal id
-box_fault_text (box.Outside id address) = codes "outside id=" ++ decimal id ++ codes " address=" ++ address_text address
-box_fault_text box.Memory = codes "memory"
 
 -- the line of a container: its length, and the digest at its end
 unfoldable pub container_line : ℕ → List ℕ → List ℕ

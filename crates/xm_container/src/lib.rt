@@ -1,9 +1,7 @@
 //! Containers: a configuration and its images in one file, and the system that runs one raw image.
 #![tactic(auto)]
 
-mod digits;
 mod entries;
-mod fault;
 mod image;
 mod law;
 mod lines;
@@ -12,7 +10,7 @@ mod put;
 mod reading;
 mod writing;
 
-pub use fault::{BoxFault, PackFault};
+pub use file_texts::{BoxFault, PackFault};
 pub use image::Image;
 pub use law::{none_goes_on, packed_is_unpacked, unpacked_is_packed};
 pub use lines::list_lines;

@@ -2,13 +2,13 @@
 
 ghost use Rattle.std.specs.Prelude.{◌≡◌, ◌++◌, ◌-◌, ◌≤◌, IfOk, OnOk, Ok, decimal, drop, length};
 ghost use Rattle.hex.specs.Hex.{encode_lower};
-ghost use Rattle.xef_images.specs.Texts.{address_text};
+ghost use Rattle.file_texts.specs.Texts.{address_text};
 ghost use Rattle.xm_container.specs.Reading.{unpacked};
 ghost use Rattle.xm_container.specs.Texts.{box_lines, container_line, file_line, image_line, image_lines, system_line};
 
-use crate::digits::{address_digits, digest_digits};
+use file_texts::{put_address, put_digest, put_number};
 use loaded_system::System;
-use md5::DIGEST_LEN;
+use sealed_files::stored_digest;
 use std::alloc::Global;
 use xef_images::{Xef, build_xef};
 use xm_base::Memory;
@@ -22,7 +22,7 @@ pub fn list_lines(alloc: Global, bytes: &[u8], system: &System) -> Result<Vec<u8
     ensures { IfOk result (λ lines. lines.items ≡ box_lines bytes.now system.now) }
 {
     let mut lines = Vec::new(alloc);
-    put_container(alloc, &mut lines, bytes.len(), stored(bytes))?;
+    put_container(alloc, &mut lines, bytes.len(), stored_digest(bytes))?;
     let raw = system.conf().raw();
     put_system(alloc, &mut lines, raw.name.bytes(), counts_of(raw))?;
     put_images(alloc, &mut lines, system)?;
@@ -48,15 +48,6 @@ fn counts_of(raw: &RawConf) -> Counts
         plans: raw.plans.len(),
         channels: raw.chans.len(),
     }
-}
-
-/// The digest at the end of a file.
-fn stored(bytes: &[u8]) -> &[u8]
-    requires { 16 ≤ length bytes.now }
-    ensures value { result.now ≡ drop (length bytes.now - 16) bytes.now }
-    ensures size { length result.now ≡ 16 }
-{
-    &bytes[bytes.len() - DIGEST_LEN..]
 }
 
 /// Writes the line of a container.
@@ -129,7 +120,7 @@ fn put_spelled(
     requires { 16 ≤ length file.now }
     ensures { OnOk result (lines.new.items ≡ lines.old.items ++ file_line id (length file.now) entry (drop (length file.now - 16) file.now)) }
 {
-    put_file(alloc, lines, id, file.len(), entry, stored(file))
+    put_file(alloc, lines, id, file.len(), entry, stored_digest(file))
 }
 
 /// Writes the line of an image's file.
@@ -150,34 +141,5 @@ fn put_file(
     put_address(lines, b" entry=", entry)?;
     put_digest(lines, b" md5=", digest)?;
     lines.extend_from_slice(b"\n")?;
-    Ok(())
-}
-
-/// Writes an address with eight hexadecimal digits, after its name.
-fn put_address(lines: &mut Vec<u8>, name: &[u8], address: u32) -> Result<(), Memory>
-    ensures { OnOk result (lines.new.items ≡ lines.old.items ++ (name.now ++ address_text address)) }
-{
-    lines.extend_from_slice(name)?;
-    lines.extend_from_slice(&address_digits(address))?;
-    Ok(())
-}
-
-/// Writes a number with decimal digits, after its name.
-fn put_number(alloc: Global, lines: &mut Vec<u8>, name: &[u8], number: usize) -> Result<(), Memory>
-    ensures { OnOk result (lines.new.items ≡ lines.old.items ++ (name.now ++ decimal number)) }
-{
-    let digits = format!(in alloc; "{number}")?;
-    lines.extend_from_slice(name)?;
-    lines.extend_from_slice(digits.as_bytes())?;
-    Ok(())
-}
-
-/// Writes a digest with 32 hexadecimal digits, after its name.
-fn put_digest(lines: &mut Vec<u8>, name: &[u8], digest: &[u8]) -> Result<(), Memory>
-    requires { length digest.now ≡ 16 }
-    ensures { OnOk result (lines.new.items ≡ lines.old.items ++ (name.now ++ encode_lower digest.now)) }
-{
-    lines.extend_from_slice(name)?;
-    lines.extend_from_slice(&digest_digits(digest))?;
     Ok(())
 }

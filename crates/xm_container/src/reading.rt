@@ -16,11 +16,11 @@ ghost use Rattle.xm_container.specs.Gives.{Fails};
 ghost use Rattle.xm_container.specs.Reading.{as_config, as_image, assigned, conf_at, config_fault, image_entries_at, image_entry_at, container_fields, id_at, image_at, image_fault, length_at, system_in, image_table_at, unpacked, version_in, box_faults};
 
 use crate::entries::Entries;
-use crate::fault::BoxFault;
 use crate::image::Image;
 use crate::law::{packed_is_unpacked, unpacked_is_packed};
 use crate::numbers::{extra, missing};
 use bin_config::{Version, XmcFault, read_version};
+use file_texts::BoxFault;
 use loaded_system::System;
 use sealed_files::{stated_version, unsealed};
 use std::alloc::Global;

@@ -8,19 +8,18 @@ ghost use Rattle.xm_container.specs.Box.{entries_text, image_entry_text, fields_
 ghost use Rattle.xm_container.specs.Numbers.{missing as missing_of};
 ghost use Rattle.xm_container.specs.Pack.{Packs, partition_numbers, image_of, in_order, packed, sealed, system_of};
 ghost use Rattle.xm_container.specs.Reading.{unpacked};
-ghost use Rattle.xm_conf.specs.Description.{described};
-ghost use Rattle.xm_conf.specs.Fits.{Fits};
 ghost use Rattle.xm_conf.specs.Limits.{most_parts};
 ghost use Rattle.bin_config.specs.declared.version.Version.TheVariants.{Two};
 
-use crate::fault::PackFault;
 use crate::image::Image;
 use crate::law::packed_is_unpacked;
 use crate::numbers::{extra, missing};
-use crate::put::{put_half, put_sized, put_word};
+use crate::put::put_sized;
 use bin_config::{Version, write_xmc};
-use loaded_system::{Outside, outside_of};
+use file_texts::PackFault;
+use loaded_system::{Outside, outside_of, parts};
 use md5::{Digest, Md5};
+use sealed_files::{put_half, put_word};
 use std::alloc::Global;
 use xef_images::{Xef, build_xef};
 use xm_base::{FILE_BYTES, Memory};
@@ -184,14 +183,4 @@ pub fn pack(alloc: Global, conf: &Conf, images: &[Image]) -> Result<Vec<u8>, Pac
     }
     let fields = fields(alloc, conf, parts.len(), images)?;
     sealed(alloc, &fields)
-}
-
-/// The partitions of a configuration.
-#[tactic(auto, unfolding(xm_conf::specs::Description::described))]
-fn parts(conf: &Conf) -> &[Part]
-    ensures value { result.now ≡ conf.now.parts }
-    ensures few { length result.now ≤ most_parts }
-    ensures fits { Fits (described conf.now) }
-{
-    &conf.raw().parts
 }

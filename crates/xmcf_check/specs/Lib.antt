@@ -8,6 +8,5 @@ pub mod Judged
 pub mod Misplaced
 pub mod Numbers
 pub mod Places
-pub mod Texts
 pub mod Told
 pub mod Verdict

@@ -5,10 +5,10 @@ ghost use Rattle.xm_conf.specs.Fits.{Fits};
 ghost use Rattle.xmcf_check.specs.Described.{description_of};
 ghost use Rattle.xmcf_check.specs.Verdict.{IsVerdict, broken_with_places};
 
-use crate::fault::CheckFault;
 use crate::gathering::gather;
 use crate::judging::judge;
 use crate::places::place;
+use file_texts::CheckFault;
 use std::alloc::Global;
 use xm_conf::{Broken, Conf, broken_unless_fits};
 use xmcf_reader::Draft;

@@ -6,7 +6,6 @@ mod broken;
 mod checking;
 mod elements;
 mod family;
-mod fault;
 mod gathered;
 mod gathering;
 mod ids;
@@ -16,4 +15,4 @@ mod places;
 mod sorts;
 
 pub use checking::check;
-pub use fault::CheckFault;
+pub use file_texts::CheckFault;

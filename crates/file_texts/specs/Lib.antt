@@ -1,0 +1,2 @@
+pub mod OfHeads
+pub mod Texts
