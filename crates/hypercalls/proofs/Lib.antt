@@ -1,1 +1,4 @@
+pub mod CallLemmas
+pub mod MildLemmas
+pub mod ServedLemmas
 pub mod ServingLemmas

@@ -22,9 +22,9 @@ use Rattle.machine_model.specs.View.{PartitionView, view_of}
 use Rattle.machine_model.specs.Whole.{event_of}
 use Rattle.slot_runs.specs.Passes.{part_at, traded, traffic_in, with_part}
 use Rattle.alone_passes.specs.Taking.{asks_entry, takes_sight}
-use Rattle.system_ticks.specs.Span.{CanTake}
+use Rattle.tick_pieces.specs.Span.{CanTake}
 use Rattle.lone_ticks.specs.LoneWork.{IsLoneDone, IsLoneWork, IsWorkUndone, asked_of, shown_state, shows_this}
-use Rattle.system_ticks.specs.declared.beyond.Beyond.TheVariants as beyond
+use Rattle.tick_pieces.specs.declared.beyond.Beyond.TheVariants as beyond
 use Rattle.lone_ticks.specs.declared.call.Asked.{Asked}
 use Rattle.lone_ticks.specs.declared.work.LoneWork.{LoneWork}
 use Rattle.lone_ticks.proofs.LoneWorkLemmas.{lone_as, undone_same}

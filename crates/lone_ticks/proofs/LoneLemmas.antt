@@ -28,13 +28,13 @@ use Rattle.alone_passes.specs.Passes.{away_passed, event_met, part_in, rested_in
 use Rattle.alone_passes.specs.Taking.{is_no_sight, is_same_event, takes_cue, takes_traffic}
 use Rattle.alone_passes.specs.TakingLaws.{TakesAway, TakesResting}
 use Rattle.alone_passes.specs.Step.{IsLone, IsOfSystem}
-use Rattle.system_ticks.specs.CueValues.{slot_value}
-use Rattle.system_ticks.specs.declared.cue.Mine as code_mine
-use Rattle.system_ticks.specs.declared.cue.Mine.TheVariants as its
+use Rattle.tick_pieces.specs.CueValues.{slot_value}
+use Rattle.tick_pieces.specs.declared.cue.Mine as code_mine
+use Rattle.tick_pieces.specs.declared.cue.Mine.TheVariants as its
 use Rattle.lone_ticks.specs.LoneWork.{IsLoneTick, IsLoneTicked, most_lines, traffic_done}
-use Rattle.system_ticks.specs.Machine.{IsMachine}
+use Rattle.tick_pieces.specs.Machine.{IsMachine}
 use Rattle.lone_ticks.proofs.PutLemmas.{is_told}
-use Rattle.system_ticks.specs.KeptLemmas.{facts_at}
+use Rattle.tick_pieces.specs.KeptLemmas.{facts_at}
 
 -- what a message of others is on is a channel that the partition has
 length_some : (most : Option ℕ) (count : ℕ) → is_length most count ≡ true → (m : ℕ) × (most ≡ Some m)

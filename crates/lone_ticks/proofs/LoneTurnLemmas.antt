@@ -13,7 +13,7 @@ use Rattle.xm_report.specs.Report.{ReportLine}
 use Rattle.xm_traces.specs.Ring.{Kept}
 use Rattle.xm_traces.specs.declared.entry.TraceEntry.{TraceEntry}
 use Rattle.cue_scripts.specs.Script.{HearsNothing, IsCue}
-use Rattle.system_ticks.specs.PartLemmas.{traded_memory}
+use Rattle.tick_pieces.specs.PartLemmas.{traded_memory}
 use Rattle.machine_model.specs.Alone.{Alone, alone_local, alone_local_in, alone_step_lines}
 use Rattle.machine_model.specs.Cue.{Cue, Mine, CueSlot}
 use Rattle.machine_model.specs.Facts.{AreEnds, AreFacts, AreLast, HaveEight, IsItsOwn, KeepsFactsAlone, begun}
@@ -36,16 +36,16 @@ use Rattle.alone_passes.specs.Step.{IsOfSystem}
 use Rattle.alone_passes.specs.Taking.{is_same_event, is_same_mode, takes_cue, takes_sight}
 use Rattle.alone_passes.specs.TakingLaws.{TakesWorking}
 use Rattle.lone_ticks.specs.LoneWork.{IsLoneDone, IsLoneTick, IsUncounted, IsWorkUndone, most_lines}
-use Rattle.system_ticks.specs.CueValues.{cue_value, slot_value}
-use Rattle.system_ticks.specs.Machine.{IsMachine}
-use Rattle.system_ticks.specs.Span.{CanTake}
-use Rattle.system_ticks.specs.Work.{TellsAlone, act_beyond, console_told}
-use Rattle.system_ticks.specs.declared.beyond.Beyond.{Beyond}
-use Rattle.system_ticks.specs.declared.cue.Cue as code
-use Rattle.system_ticks.specs.declared.cue.Mine.TheVariants as its
+use Rattle.tick_pieces.specs.CueValues.{cue_value, slot_value}
+use Rattle.tick_pieces.specs.Machine.{IsMachine}
+use Rattle.tick_pieces.specs.Span.{CanTake}
+use Rattle.tick_pieces.specs.Work.{TellsAlone, act_beyond, console_told}
+use Rattle.tick_pieces.specs.declared.beyond.Beyond.{Beyond}
+use Rattle.tick_pieces.specs.declared.cue.Cue as code
+use Rattle.tick_pieces.specs.declared.cue.Mine.TheVariants as its
 use Rattle.lone_ticks.specs.declared.work.LoneWork.{LoneWork}
 use Rattle.lone_ticks.proofs.PutLemmas.{IsTraded, is_traded}
-use Rattle.system_ticks.specs.KeptLemmas.{facts_at, facts_with}
+use Rattle.tick_pieces.specs.KeptLemmas.{facts_at, facts_with}
 use Rattle.lone_ticks.proofs.LoneLemmas.{alone_in, machine_kept, of_system}
 
 -- traffic leaves the memory of a partition that was put

@@ -19,7 +19,7 @@ use Rattle.whole_system.specs.StateLemmas.{part_set}
 use Rattle.whole_system.specs.declared.served.Note.{Note}
 use Rattle.whole_system.specs.declared.served.Note.TheVariants as note
 use Rattle.xm_report.specs.Report.{ReportLine}
-use Rattle.system_ticks.specs.PartLemmas.{part_put_back}
+use Rattle.tick_pieces.specs.PartLemmas.{part_put_back}
 use Rattle.machine_model.specs.Caller.{Caller}
 use Rattle.machine_model.specs.Facts.{AreEnds}
 use Rattle.machine_model.specs.Health.{Worked, event_handled, interrupt_delivered, quiet}
@@ -35,10 +35,10 @@ use Rattle.slot_runs.specs.Meeting.{awake}
 use Rattle.slot_runs.specs.Passes.{part_at, traded, traffic_in, with_part}
 use Rattle.alone_passes.specs.Taking.{is_no_sight, takes_sight}
 use Rattle.lone_ticks.specs.LoneWork.{IsLoneDone, IsLoneWork, IsUncounted, IsWorkUndone}
-use Rattle.system_ticks.specs.Span.{CanTake}
-use Rattle.system_ticks.specs.Work.{IsTickWorked, TellsAlone, console_told}
-use Rattle.system_ticks.specs.declared.beyond.Beyond.{Beyond}
-use Rattle.system_ticks.specs.declared.beyond.Beyond.TheVariants as beyond
+use Rattle.tick_pieces.specs.Span.{CanTake}
+use Rattle.tick_pieces.specs.Work.{IsTickWorked, TellsAlone, console_told}
+use Rattle.tick_pieces.specs.declared.beyond.Beyond.{Beyond}
+use Rattle.tick_pieces.specs.declared.beyond.Beyond.TheVariants as beyond
 use Rattle.lone_ticks.specs.declared.work.LoneWork.{LoneWork}
 use Rattle.lone_ticks.proofs.PutLemmas.{put_then}
 

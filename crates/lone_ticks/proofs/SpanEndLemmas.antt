@@ -31,12 +31,12 @@ use Rattle.alone_passes.specs.Laws.{WorkingTicks}
 use Rattle.alone_passes.specs.Passes.{event_met, tick_past}
 use Rattle.alone_passes.specs.Taking.{is_same_event}
 use Rattle.alone_passes.specs.TakingLaws.{TakesWorking}
-use Rattle.system_ticks.specs.Span.{CanTake}
-use Rattle.system_ticks.specs.Work.{act_beyond}
+use Rattle.tick_pieces.specs.Span.{CanTake}
+use Rattle.tick_pieces.specs.Work.{act_beyond}
 use Rattle.lone_ticks.specs.LoneSpan.{CanEnd, HasTurnedAlone, HasWorked, IsLoneSpanEnded}
 use Rattle.lone_ticks.specs.LoneWork.{IsLoneDone, IsLoneWork, most_lines}
 use Rattle.lone_ticks.specs.declared.work.LoneWork.{LoneWork}
-use Rattle.system_ticks.specs.GoesOnLemmas.{call_goes_on}
+use Rattle.tick_pieces.specs.GoesOnLemmas.{call_goes_on}
 use Rattle.lone_ticks.proofs.LoneTurnLemmas.{IsTurn, can_take, frame_traded, not_seen, turn_machine, turn_noted, turn_system, undone_machine, undone_system}
 use Rattle.lone_ticks.proofs.LoneWorkLemmas.{call_as, lone_as, observed_as, trap_as, turned_work, uncounted_takes}
 use Rattle.lone_ticks.proofs.PutLemmas.{IsTraded, is_traded}

@@ -36,9 +36,9 @@ use Rattle.whole_system.specs.declared.served.Note.TheVariants as note
 use Rattle.alone_passes.specs.Passes.{part_in}
 use Rattle.alone_passes.specs.Step.{IsOfSystem}
 use Rattle.alone_passes.specs.Taking.{takes_cue}
-use Rattle.system_ticks.specs.KeptLemmas.{facts_at, facts_with}
-use Rattle.system_ticks.specs.Machine.{IsMachine}
-use Rattle.system_ticks.specs.Span.{counted_on}
+use Rattle.tick_pieces.specs.KeptLemmas.{facts_at, facts_with}
+use Rattle.tick_pieces.specs.Machine.{IsMachine}
+use Rattle.tick_pieces.specs.Span.{counted_on}
 use Rattle.lone_ticks.specs.LoneSpan.{AreSilent, AreTaken, CanSpan, DoesSpan, HasTurnedAlone, IsLoneSpanEnded, IsLoneSpan, NoneDueAfter, NoneDueIn, aged, ended_at}
 use Rattle.lone_ticks.specs.LoneWork.{IsLoneTick}
 use Rattle.lone_ticks.specs.declared.span.LoneSpan.{LoneSpan}

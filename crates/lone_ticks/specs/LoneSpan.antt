@@ -23,7 +23,7 @@ use Rattle.whole_system.specs.declared.served.Note.{Note}
 use Rattle.alone_passes.specs.Passes.{part_in}
 use Rattle.alone_passes.specs.Step.{IsOfSystem}
 use Rattle.alone_passes.specs.Taking.{takes_cue}
-use Rattle.system_ticks.specs.Machine.{IsMachine}
+use Rattle.tick_pieces.specs.Machine.{IsMachine}
 use Rattle.lone_ticks.specs.LoneWork.{IsLoneTick, IsLoneWork, most_lines}
 use Rattle.lone_ticks.specs.declared.span.LoneSpan.{LoneSpan}
 use Rattle.lone_ticks.specs.declared.work.LoneWork.{LoneWork}

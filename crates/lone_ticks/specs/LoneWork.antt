@@ -22,8 +22,8 @@ use Rattle.whole_system.specs.declared.served.Note.{Note}
 use Rattle.alone_passes.specs.Passes.{part_in, told_traffic}
 use Rattle.alone_passes.specs.Step.{IsLone}
 use Rattle.alone_passes.specs.Taking.{is_empty_copy, asks_entry, is_queue_full, takes_cue, takes_sight}
-use Rattle.system_ticks.specs.Machine.{IsMachine}
-use Rattle.system_ticks.specs.Work.{TellsAlone, act_beyond, console_told}
+use Rattle.tick_pieces.specs.Machine.{IsMachine}
+use Rattle.tick_pieces.specs.Work.{TellsAlone, act_beyond, console_told}
 use Rattle.lone_ticks.specs.declared.call.Asked.{Asked}
 use Rattle.lone_ticks.specs.declared.work.LoneWork.{LoneWork}
 

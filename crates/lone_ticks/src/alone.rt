@@ -11,13 +11,13 @@ ghost use Rattle.machine_model.specs.Whole.{event_lines, event_of};
 ghost use Rattle.slot_runs.specs.Passes.{part_at};
 ghost use Rattle.whole_system.specs.State.{with_machine};
 ghost use Rattle.alone_passes.specs.Step.{IsOfSystem};
-ghost use Rattle.system_ticks.specs.CueValues.{cue_value, whole_value};
+ghost use Rattle.tick_pieces.specs.CueValues.{cue_value, whole_value};
 ghost use Rattle.alone_passes.specs.Passes.{event_met, rested_in, tick_past};
 ghost use Rattle.lone_ticks.specs.LoneSpan.{CanEnd};
 ghost use Rattle.lone_ticks.specs.LoneWork.{CanTickAlone, IsLoneTick, most_lines};
-ghost use Rattle.system_ticks.specs.Machine.{IsMachine};
+ghost use Rattle.tick_pieces.specs.Machine.{IsMachine};
 ghost use Rattle.alone_passes.specs.Taking.{is_same_event};
-ghost use Rattle.system_ticks.specs.Work.{IsPartDone, act_beyond};
+ghost use Rattle.tick_pieces.specs.Work.{IsPartDone, act_beyond};
 
 use crate::traffic::hear;
 use crate::work::{is_unseen, work_alone};
@@ -25,7 +25,7 @@ use alone_passes::{away_ticks, passes_keep, resting_ticks_alone, takes_cues, wor
 use cyclic_plans::PlanClock;
 use hypercalls::{Note, Sys};
 use machine_model::{acts_within_bounds, keeps_facts_alone};
-use system_ticks::{
+use tick_pieces::{
     Beyond, Cue, Lines, Mine, WholeCue, obey, reset, reset_move, rest_one, takes_turns, whole_of,
 };
 use xm_base::{Mode, Order, PartId};

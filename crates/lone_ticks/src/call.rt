@@ -9,14 +9,14 @@ ghost use Rattle.slot_runs.specs.Passes.{part_at, with_part};
 ghost use Rattle.sparc_step.specs.Registers.{register_at};
 ghost use Rattle.whole_system.specs.Serving.{IsCaller, caller_at, caller_of};
 ghost use Rattle.whole_system.specs.State.{with_machine};
-ghost use Rattle.system_ticks.specs.CueValues.{sight_value};
+ghost use Rattle.tick_pieces.specs.CueValues.{sight_value};
 ghost use Rattle.lone_ticks.specs.LoneWork.{IsLoneWork, asked_of, shown_state, shows_this};
-ghost use Rattle.system_ticks.specs.Span.{CanTake};
+ghost use Rattle.tick_pieces.specs.Span.{CanTake};
 
 use crate::work::{LoneWork, is_unseen, silent};
-use hypercalls::Sys;
+use hypercalls::{Sys, call_told};
 use machine_model::observes_as_tested;
-use system_ticks::{Beyond, Lines, Sight, call_told, count_tick, program_counter};
+use tick_pieces::{Beyond, Lines, Sight, count_tick, program_counter};
 use whole_system::CallSite;
 use whole_system::answering::{
     A, B, C, INVALID_PARAMETER, NOT_AVAILABLE, answer, answer_written, argument, is_system,

@@ -11,9 +11,9 @@ ghost use Rattle.slot_runs.specs.Passes.{part_at, with_part};
 ghost use Rattle.virt_traps.specs.Virtual.{due};
 ghost use Rattle.whole_system.specs.State.{SysState, with_machine};
 ghost use Rattle.alone_passes.specs.Step.{IsOfSystem};
-ghost use Rattle.system_ticks.specs.CueValues.{cue_value};
-ghost use Rattle.system_ticks.specs.Machine.{IsMachine};
-ghost use Rattle.system_ticks.specs.Span.{CanTake, counted_on};
+ghost use Rattle.tick_pieces.specs.CueValues.{cue_value};
+ghost use Rattle.tick_pieces.specs.Machine.{IsMachine};
+ghost use Rattle.tick_pieces.specs.Span.{CanTake, counted_on};
 ghost use Rattle.lone_ticks.specs.LoneSpan.{CanEnd, CanSpan, DoesSpan, HasTurnedAlone, HasWorked, IsLoneSpanEnded, IsLoneSpan, NoneDueAfter, NoneDueIn, ended_at};
 
 use crate::alone::{end_turn, is_same_event, note_if, turn_in_slot};
@@ -24,7 +24,7 @@ use hypercalls::{Note, Sys};
 use machine_model::{acts_within_bounds, keeps_facts_alone};
 use slot_runs::late_rest;
 use sparc_step::Turn;
-use system_ticks::{
+use tick_pieces::{
     Cue, Lines, Mine, Sight, Traffic, WholeCue, goes_on, interrupt, rest_one, takes_turns,
 };
 use xm_base::{PartId, State};

@@ -7,14 +7,14 @@ ghost use Rattle.machine_model.specs.Told.{OwnPuts, OwnSignals, OwnTakes};
 ghost use Rattle.machine_model.specs.View.{view_of};
 ghost use Rattle.whole_system.specs.State.{with_machine};
 ghost use Rattle.xm_base.specs.Options.{on};
-ghost use Rattle.system_ticks.specs.CueValues.{traffic_value};
+ghost use Rattle.tick_pieces.specs.CueValues.{traffic_value};
 ghost use Rattle.lone_ticks.specs.LoneWork.{IsChannelFor, IsChannelOfKind, has_first, has_room, put_in, taken_in, traffic_done};
 ghost use Rattle.alone_passes.specs.Taking.{takes_traffic};
 ghost use Rattle.xm_ports.specs.Channels.{IsQueuing, IsSampling, shapes_of};
 
 use hypercalls::Sys;
 use port_calls::{drop_first, put_sampling, send, signal};
-use system_ticks::Traffic;
+use tick_pieces::Traffic;
 use xm_base::PartId;
 use xm_conf::ChanKind;
 use xm_ports::Full;

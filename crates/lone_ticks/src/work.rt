@@ -10,15 +10,15 @@ ghost use Rattle.machine_model.specs.Partition.{takes_turns};
 ghost use Rattle.machine_model.specs.View.{view_of};
 ghost use Rattle.slot_runs.specs.Passes.{part_at};
 ghost use Rattle.virt_traps.specs.Virtual.{due};
-ghost use Rattle.system_ticks.specs.CueValues.{sight_value};
+ghost use Rattle.tick_pieces.specs.CueValues.{sight_value};
 ghost use Rattle.lone_ticks.specs.LoneWork.{IsLoneWork};
-ghost use Rattle.system_ticks.specs.Span.{CanTake};
+ghost use Rattle.tick_pieces.specs.Span.{CanTake};
 ghost use Rattle.alone_passes.specs.Taking.{is_no_sight};
 
 use crate::call::call_alone;
 use hypercalls::{Note, Sys};
 use sparc_step::Turn;
-use system_ticks::{
+use tick_pieces::{
     Beyond, Lines, Sight, count_tick, goes_on, interrupt, meet, meet_trap, program_counter,
     take_interrupt, wake,
 };

@@ -10,7 +10,7 @@ use Rattle.whole_system.specs.State.{SysState, areas_in, memory_of, with_machine
 use Rattle.whole_system.specs.declared.served.Note.{Note}
 use Rattle.whole_system.specs.declared.served.Note.TheVariants as note
 use Rattle.xm_report.specs.Report.{ReportLine}
-use Rattle.system_ticks.specs.PartLemmas.{traded_memory}
+use Rattle.tick_pieces.specs.PartLemmas.{traded_memory}
 use Rattle.machine_model.specs.Facts.{IsAsMany, RunsKeepNumbers}
 use Rattle.machine_model.specs.Health.{Worked}
 use Rattle.machine_model.specs.Laws.{ActsWithinBounds}
@@ -32,17 +32,17 @@ use Rattle.slot_runs.specs.PassLaws.{IsInPasses, IsPassedNext, PassedNext, TickI
 use Rattle.slot_runs.specs.Passes.{rest_but, traded, traffic_in, with_part, worked_lines, worked_through}
 use Rattle.slot_runs.specs.SpanLaws.{IsAwake, its_areas, met}
 use Rattle.slot_runs.specs.Undisturbed.{IsUndisturbed, UndisturbedNext, gone_parts, next_instruction}
-use Rattle.system_ticks.specs.Kept.{kept_by, kept_tick}
-use Rattle.system_ticks.specs.Quiet.{AreQuiet, ends_in}
-use Rattle.system_ticks.specs.Span.{AreDoneFrom, ends_so}
-use Rattle.system_ticks.specs.Work.{ReachIsUponOne, IsTickWorked, TellsAlone, act_beyond, console_told, ended_by, ending_lines}
-use Rattle.system_ticks.specs.declared.beyond.Beyond.{Beyond}
-use Rattle.system_ticks.specs.declared.beyond.Beyond.TheVariants as beyond
+use Rattle.tick_pieces.specs.Kept.{kept_by, kept_tick}
+use Rattle.tick_pieces.specs.Quiet.{AreQuiet, ends_in}
+use Rattle.tick_pieces.specs.Span.{AreDoneFrom, ends_so}
+use Rattle.tick_pieces.specs.Work.{ReachIsUponOne, IsTickWorked, TellsAlone, act_beyond, console_told, ended_by, ending_lines}
+use Rattle.tick_pieces.specs.declared.beyond.Beyond.{Beyond}
+use Rattle.tick_pieces.specs.declared.beyond.Beyond.TheVariants as beyond
 use Rattle.system_ticks.proofs.KeepingLemmas.{IsNoted, same_order, worked_kept}
 use Rattle.system_ticks.proofs.QuietLemmas.{acts_so, quiet_gone, same_end}
-use Rattle.system_ticks.proofs.SlotLemmas.{at_next, its_before, within_bounds}
+use Rattle.tick_pieces.specs.SlotLemmas.{at_next, its_before, within_bounds}
 use Rattle.system_ticks.proofs.TickLemmas.{tick_lines, tick_state}
-use Rattle.system_ticks.specs.ListLemmas.{each_at}
+use Rattle.tick_pieces.specs.ListLemmas.{each_at}
 
 -- the rest of all others leaves the memory of a partition
 rest_memory : (p time : ℕ) (g : Machine) → memory_of p (rest_but (Some p) time g) ≡ memory_of p g

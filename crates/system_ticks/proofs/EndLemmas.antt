@@ -19,8 +19,8 @@ use Rattle.machine_model.specs.Told.{AllHalted, AllReset, Maintenance, Nothing, 
 use Rattle.machine_model.specs.Whole.{event_lines}
 use Rattle.slot_runs.specs.Passes.{part_at}
 use Rattle.slot_runs.specs.Spans.{plan_line}
-use Rattle.system_ticks.specs.Work.{IsPartDone, added_below, ending_lines, reset_lines}
-use Rattle.system_ticks.specs.ListLemmas.{none_told}
+use Rattle.tick_pieces.specs.Work.{IsPartDone, added_below, ending_lines, reset_lines}
+use Rattle.tick_pieces.specs.ListLemmas.{none_told}
 
 -- the line of a plan that starts after tick n, where one does
 abbrev pub plan_told : ℕ → Option ℕ → List ReportLine

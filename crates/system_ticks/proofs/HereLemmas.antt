@@ -18,8 +18,8 @@ use Rattle.machine_model.specs.View.{view_of}
 use Rattle.slot_runs.specs.Passes.{part_at}
 use Rattle.slot_runs.specs.SpanLaws.{IsNobodys}
 use Rattle.slot_runs.specs.Spans.{IsSlotOf}
-use Rattle.system_ticks.specs.Machine.{IsMachine}
-use Rattle.system_ticks.specs.Span.{CanTake}
+use Rattle.tick_pieces.specs.Machine.{IsMachine}
+use Rattle.tick_pieces.specs.Span.{CanTake}
 
 -- the slots of a plan are those of partitions
 plan_owned : (conf : Conf) (plan : ℕ) → Fits (described conf) → plan < length conf.plans → All (λ slot. slot.part < length conf.parts) (slots_of conf plan)

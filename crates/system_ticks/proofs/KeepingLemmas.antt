@@ -18,10 +18,10 @@ use Rattle.slot_runs.specs.Passes.{traffic_in}
 use Rattle.whole_system.specs.Serving.{sight_by, traffic_by, without_traffic}
 use Rattle.whole_system.specs.declared.served.Note.{Note}
 use Rattle.whole_system.specs.declared.served.Note.TheVariants as note
-use Rattle.system_ticks.specs.Kept.{KeptTick, kept_by, kept_from, kept_in, kept_tick, shown_to}
-use Rattle.system_ticks.specs.Work.{act_beyond}
-use Rattle.system_ticks.specs.declared.beyond.Beyond.{Beyond}
-use Rattle.system_ticks.specs.declared.beyond.Beyond.TheVariants as beyond
+use Rattle.tick_pieces.specs.Kept.{KeptTick, kept_by, kept_from, kept_in, kept_tick, shown_to}
+use Rattle.tick_pieces.specs.Work.{act_beyond}
+use Rattle.tick_pieces.specs.declared.beyond.Beyond.{Beyond}
+use Rattle.tick_pieces.specs.declared.beyond.Beyond.TheVariants as beyond
 
 kept_as : (m : Machine) (turn : Option SlotTurn) (worked : Bool) (act : Act) (traffic : Traffic) (seen : Sight) → turn_of m ≡ turn → is_some (local m) ≡ worked
     → machine.act_of (local m) ≡ act → system_traffic m.system.conf turn (traffic_of act) ≡ traffic → shown_to m turn ≡ seen → kept_tick m ≡ kept_from turn worked act traffic seen

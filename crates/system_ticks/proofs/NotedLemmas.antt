@@ -12,12 +12,12 @@ use Rattle.whole_system.specs.Serving.{sight_by, traffic_by}
 use Rattle.whole_system.specs.State.{SysState, memory_of, with_machine}
 use Rattle.whole_system.specs.declared.served.Note.{Note}
 use Rattle.whole_system.specs.declared.served.Note.TheVariants as note
-use Rattle.system_ticks.specs.Kept.{KeptTick, bytes_noted, kept_by, kept_in, kept_tick, kept_with, shown_to}
-use Rattle.system_ticks.specs.Machine.{IsMachine}
-use Rattle.system_ticks.specs.Span.{IsSpanDone}
-use Rattle.system_ticks.specs.declared.beyond.Beyond.{Beyond}
-use Rattle.system_ticks.specs.declared.slot.Span.{Span}
-use Rattle.system_ticks.specs.KeptLemmas.{kept_ticks}
+use Rattle.tick_pieces.specs.Kept.{KeptTick, bytes_noted, kept_by, kept_in, kept_tick, kept_with, shown_to}
+use Rattle.tick_pieces.specs.Machine.{IsMachine}
+use Rattle.tick_pieces.specs.Span.{IsSpanDone}
+use Rattle.tick_pieces.specs.declared.beyond.Beyond.{Beyond}
+use Rattle.tick_pieces.specs.declared.span.Span.{Span}
+use Rattle.tick_pieces.specs.KeptLemmas.{kept_ticks}
 
 -- what is kept of a tick names the bytes of its note
 with_bytes : (turn : Option SlotTurn) (worked : Bool) (a_note : Note) (reach : Beyond) (memory : Memory)

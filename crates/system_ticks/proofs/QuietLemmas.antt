@@ -23,10 +23,10 @@ use Rattle.whole_system.specs.Serving.{traffic_by, without_traffic}
 use Rattle.whole_system.specs.declared.served.Note.{Note}
 use Rattle.whole_system.specs.declared.served.Note.TheVariants as note
 use Rattle.xm_conf.specs.Configuration.{Conf}
-use Rattle.system_ticks.specs.Quiet.{AreQuiet, ends_in, ends_stretch, is_signal}
-use Rattle.system_ticks.specs.Span.{ends_so, notes_signal}
-use Rattle.system_ticks.specs.Work.{act_beyond}
-use Rattle.system_ticks.specs.declared.beyond.Beyond.{Beyond}
+use Rattle.tick_pieces.specs.Quiet.{AreQuiet, ends_in, ends_stretch, is_signal}
+use Rattle.tick_pieces.specs.Span.{ends_so, notes_signal}
+use Rattle.tick_pieces.specs.Work.{act_beyond}
+use Rattle.tick_pieces.specs.declared.beyond.Beyond.{Beyond}
 
 -- a tick with this act
 pub acts_so : (g : Machine) (act : Act) → machine.act_of (local g) ≡ act → ends_in g ≡ ends_stretch act

@@ -13,16 +13,16 @@ use Rattle.slot_runs.specs.RunLemmas.{lines_add, run_add}
 use Rattle.whole_system.specs.State.{SysState, memory_of, with_machine}
 use Rattle.whole_system.specs.declared.served.Note.{Note}
 use Rattle.whole_system.specs.declared.served.Note.TheVariants as note
-use Rattle.system_ticks.specs.Kept.{kept_by, kept_tick}
-use Rattle.system_ticks.specs.KeptLemmas.{ticks_exact}
+use Rattle.tick_pieces.specs.Kept.{kept_by, kept_tick}
+use Rattle.tick_pieces.specs.KeptLemmas.{ticks_exact}
 use Rattle.system_ticks.specs.LaterLemmas.{later_at}
 use Rattle.system_ticks.specs.Place.{IsAt, past_first_tick, place_after}
-use Rattle.system_ticks.specs.Quiet.{ends_in}
-use Rattle.system_ticks.specs.QuietRunLemmas.{AllQuiet, all_quiet, quiet_on, quiet_runs}
-use Rattle.system_ticks.specs.Span.{IsSilent, IsSpanDone, ends_so}
-use Rattle.system_ticks.specs.Work.{console_told}
+use Rattle.tick_pieces.specs.Quiet.{ends_in}
+use Rattle.tick_pieces.specs.QuietRunLemmas.{AllQuiet, all_quiet, quiet_on, quiet_runs}
+use Rattle.tick_pieces.specs.Span.{IsSilent, IsSpanDone, ends_so}
+use Rattle.tick_pieces.specs.Work.{console_told}
 use Rattle.system_ticks.specs.declared.place.Place.{Place}
-use Rattle.system_ticks.specs.declared.slot.Span.{Span}
+use Rattle.tick_pieces.specs.declared.span.Span.{Span}
 
 -- the first so many ticks of a slot or gap were done, and nothing was told of them; more of it are left
 pub record AreSilent (done left : ℕ) (place : Place) (old mid : SysState) (had : List ReportLine) : Type 0 where

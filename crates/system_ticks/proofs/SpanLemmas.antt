@@ -27,15 +27,15 @@ use Rattle.slot_runs.specs.Passes.{part_at, rest_but, traded, traffic_in, with_p
 use Rattle.slot_runs.specs.SpanLaws.{IsNobodys, RestingTicks, all_rested, its_areas, met, others_rested}
 use Rattle.slot_runs.specs.Spans.{IsQuietSpan, IsSpan, IsStretch, after_span, plan_line}
 use Rattle.slot_runs.specs.Undisturbed.{IsUndisturbed, NoneFallsDue, UndisturbedIdle, UndisturbedNext, gone_parts, next_instruction}
-use Rattle.system_ticks.specs.Span.{AreDoneFrom, CanTakeAfter, IsIdle, machine_underway}
-use Rattle.system_ticks.specs.Work.{IsTickWorked}
-use Rattle.system_ticks.specs.declared.beyond.Beyond.{Beyond}
-use Rattle.system_ticks.specs.declared.beyond.Beyond.TheVariants as beyond
-use Rattle.system_ticks.specs.declared.slot.Span.{Span}
+use Rattle.tick_pieces.specs.Span.{AreDoneFrom, CanTakeAfter, IsIdle, machine_underway}
+use Rattle.tick_pieces.specs.Work.{IsTickWorked}
+use Rattle.tick_pieces.specs.declared.beyond.Beyond.{Beyond}
+use Rattle.tick_pieces.specs.declared.beyond.Beyond.TheVariants as beyond
+use Rattle.tick_pieces.specs.declared.span.Span.{Span}
 use Rattle.system_ticks.proofs.KeepingLemmas.{calm_kept}
-use Rattle.system_ticks.specs.ListLemmas.{each_at}
+use Rattle.tick_pieces.specs.ListLemmas.{each_at}
 use Rattle.system_ticks.proofs.QuietLemmas.{calm_goes, earlier_bound}
-use Rattle.system_ticks.proofs.WorkLemmas.{put_there}
+use Rattle.tick_pieces.specs.WorkLemmas.{put_there}
 
 -- so many ticks of partition p in which no call reported anything
 abbrev pub quiet_span : ℕ → ℕ → Bool → Beyond → Span

@@ -25,13 +25,13 @@ use Rattle.slot_runs.specs.SpanLaws.{its_areas, met, others_rested}
 use Rattle.slot_runs.specs.Spans.{IsQuietSpan, after_span, plan_line}
 use Rattle.virt_traps.specs.Stepping.{stepped}
 use Rattle.slot_runs.specs.Undisturbed.{IsUndisturbed, NoneFallsDue, UndisturbedTicks}
-use Rattle.system_ticks.specs.Span.{AreDoneFrom, HasTurned, HasMetInterrupts, counted_on}
-use Rattle.system_ticks.specs.declared.beyond.Beyond.TheVariants as beyond
-use Rattle.system_ticks.specs.declared.slot.Span.{Span}
-use Rattle.system_ticks.specs.GoesOnLemmas.{call_goes_on}
+use Rattle.tick_pieces.specs.Span.{AreDoneFrom, HasTurned, HasMetInterrupts, counted_on}
+use Rattle.tick_pieces.specs.declared.beyond.Beyond.TheVariants as beyond
+use Rattle.tick_pieces.specs.declared.span.Span.{Span}
+use Rattle.tick_pieces.specs.GoesOnLemmas.{call_goes_on}
 use Rattle.system_ticks.proofs.QuietLemmas.{earlier_bound, earlier_gone}
 use Rattle.system_ticks.proofs.SpanLemmas.{AreCalm, quiet_span, slot_done}
-use Rattle.system_ticks.proofs.WorkLemmas.{put_there}
+use Rattle.tick_pieces.specs.WorkLemmas.{put_there}
 
 -- the areas of a partition's memory
 areas_same : (p : ℕ) (g : Machine) → areas_in p g ≡ its_areas g p

@@ -23,10 +23,10 @@ use Rattle.slot_runs.specs.Meeting.{awake}
 use Rattle.slot_runs.specs.Passes.{part_at, with_part}
 use Rattle.slot_runs.specs.SpanLaws.{met}
 use Rattle.slot_runs.specs.Spans.{IsSlotOf, IsStretch}
-use Rattle.system_ticks.specs.Span.{AreDoneFrom, CanTake, IsIdle, HasMetInterrupts, NoneDue}
-use Rattle.system_ticks.specs.declared.slot.Span.{Span}
-use Rattle.system_ticks.proofs.SightLemmas.{met_state}
-use Rattle.system_ticks.proofs.WorkLemmas.{put_there}
+use Rattle.tick_pieces.specs.Span.{AreDoneFrom, CanTake, IsIdle, HasMetInterrupts, NoneDue}
+use Rattle.tick_pieces.specs.declared.span.Span.{Span}
+use Rattle.tick_pieces.specs.SightLemmas.{met_state}
+use Rattle.tick_pieces.specs.WorkLemmas.{put_there}
 
 -- a timer that was looked at is not due
 looked_not_due : NextDeadlineIsLeast → (t : ℕ) (x : Option Timer) → is_due t (looked_at t x) ≡ false

@@ -14,9 +14,9 @@ use Rattle.machine_model.specs.Told.{Act, Nothing, OwnTraffic, Plans, Trades, Up
 use Rattle.machine_model.specs.Traffic.{Puts, Signals, Still, Takes, Traffic, told_as}
 use Rattle.machine_model.specs.Whole.{event_lines, event_of, whole_lines}
 use Rattle.slot_runs.specs.Passes.{evented, obeyed_in, obeyed_lines, rest_but, tick_ended, traded, traffic_in, with_part, worked_lines, worked_through}
-use Rattle.system_ticks.specs.Work.{IsTickWorked, act_beyond, console_told, ended_by, ending_lines}
-use Rattle.system_ticks.specs.declared.beyond.Beyond.{Beyond}
-use Rattle.system_ticks.specs.ListLemmas.{none_told, same_set}
+use Rattle.tick_pieces.specs.Work.{IsTickWorked, act_beyond, console_told, ended_by, ending_lines}
+use Rattle.tick_pieces.specs.declared.beyond.Beyond.{Beyond}
+use Rattle.tick_pieces.specs.ListLemmas.{none_told, same_set}
 
 -- the end of a tick does not look at the traffic of its act
 ended_alike : (act : Act) (p : ℕ) (g : Machine) → ended_by act p g ≡ ended_by (without_traffic act) p g

@@ -27,17 +27,17 @@ use Rattle.slot_runs.specs.PassLaws.{OthersRest, PassedNext, TickInPasses}
 use Rattle.slot_runs.specs.Passes.{part_at, traffic_in, with_part}
 use Rattle.slot_runs.specs.SpanLaws.{its_areas, met}
 use Rattle.slot_runs.specs.Undisturbed.{UndisturbedNext, gone_parts, next_instruction}
-use Rattle.system_ticks.specs.Span.{AreDoneFrom, HasTurned, HasMetInterrupts, machine_underway}
-use Rattle.system_ticks.specs.Work.{IsToldBy, IsTickWorked, TellsAlone, act_beyond, ended_by, ending_lines}
-use Rattle.system_ticks.specs.declared.beyond.Beyond.{Beyond}
-use Rattle.system_ticks.specs.declared.beyond.Beyond.TheVariants as beyond
-use Rattle.system_ticks.specs.declared.slot.Span.{Span}
+use Rattle.tick_pieces.specs.Span.{AreDoneFrom, HasTurned, HasMetInterrupts, machine_underway}
+use Rattle.tick_pieces.specs.Work.{IsToldBy, IsTickWorked, TellsAlone, act_beyond, ended_by, ending_lines}
+use Rattle.tick_pieces.specs.declared.beyond.Beyond.{Beyond}
+use Rattle.tick_pieces.specs.declared.beyond.Beyond.TheVariants as beyond
+use Rattle.tick_pieces.specs.declared.span.Span.{Span}
 use Rattle.system_ticks.proofs.DoneLemmas.{met_done, next_done}
-use Rattle.system_ticks.proofs.InstructionLemmas.{call_sight, call_work, handled_still, trap_sight, trap_work, worked_on}
+use Rattle.tick_pieces.specs.InstructionLemmas.{call_sight, call_work, handled_still, trap_sight, trap_work, worked_on}
 use Rattle.system_ticks.proofs.KeepingLemmas.{IsNoted}
-use Rattle.system_ticks.proofs.ReachLemmas.{interrupt_act}
-use Rattle.system_ticks.proofs.SightLemmas.{delivered_unseen}
-use Rattle.system_ticks.proofs.SlotLemmas.{at_next, its_before}
+use Rattle.tick_pieces.specs.ReachLemmas.{interrupt_act}
+use Rattle.tick_pieces.specs.SightLemmas.{delivered_unseen}
+use Rattle.tick_pieces.specs.SlotLemmas.{at_next, its_before}
 use Rattle.system_ticks.proofs.SpanLemmas.{quiet_span, turned_behind}
 
 -- the partition before its instruction, and after it

@@ -17,10 +17,10 @@ use Rattle.machine_model.specs.View.{System}
 use Rattle.machine_model.specs.Whole.{event_of, time_after}
 use Rattle.slot_runs.specs.RunLemmas.{run_more}
 use Rattle.system_ticks.specs.Place.{IsAt, past_first_tick, place_after}
-use Rattle.system_ticks.specs.Quiet.{ends_in, ends_stretch}
+use Rattle.tick_pieces.specs.Quiet.{ends_in, ends_stretch}
 use Rattle.system_ticks.specs.declared.place.Place.{Place}
 use Rattle.system_ticks.specs.PlaceLemmas.{runs_now, told_so}
-use Rattle.system_ticks.specs.QuietRunLemmas.{AllQuiet, quiet_runs}
+use Rattle.tick_pieces.specs.QuietRunLemmas.{AllQuiet, quiet_runs}
 
 -- an act that ends no stretch leaves the plan clock to itself, and the hardware clock goes on
 clock_goes : (conf : Conf) (clock : CyclicClock) (time : ℕ) (act : Act) → ends_stretch act ≡ false → clock_after (event_of act) conf act clock time ≡ ended conf clock time

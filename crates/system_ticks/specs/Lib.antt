@@ -1,15 +1,3 @@
-pub mod CueValues
-pub mod GoesOnLemmas
-pub mod Kept
-pub mod KeptLemmas
 pub mod LaterLemmas
-pub mod ListLemmas
-pub mod Machine
-pub mod PartLemmas
 pub mod Place
 pub mod PlaceLemmas
-pub mod Quiet
-pub mod QuietRunLemmas
-pub mod Span
-pub mod TickLines
-pub mod Work

@@ -11,15 +11,12 @@ ghost use Rattle.machine_model.specs.Told.{AllHalted, AllReset, Maintenance, Not
 ghost use Rattle.machine_model.specs.View.{view_of};
 ghost use Rattle.slot_runs.specs.Passes.{evented};
 ghost use Rattle.slot_runs.specs.Spans.{after_span, plan_line};
-ghost use Rattle.system_ticks.specs.Work.{ReachIsUponOne, act_beyond, ended_by, ending_lines, reset_lines};
+ghost use Rattle.tick_pieces.specs.Work.{ReachIsUponOne, act_beyond, ended_by, ending_lines, reset_lines};
 
-use crate::beyond::Beyond;
-use crate::lines::Lines;
-use crate::order::{obey, reset, reset_move};
-use crate::rest::rest;
 use cyclic_plans::PlanClock;
 use health_monitor::Whole;
 use hypercalls::Sys;
+use tick_pieces::{Beyond, Lines, obey, reset, reset_move, rest};
 use xm_base::{Mode, PartId};
 use xm_report::{Line, Move};
 

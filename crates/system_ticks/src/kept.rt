@@ -7,19 +7,15 @@ ghost use Rattle.slot_runs.specs.Calm.{turn_after};
 ghost use Rattle.slot_runs.specs.Meeting.{first_after};
 ghost use Rattle.whole_system.specs.Serving.{CanBeTold};
 ghost use Rattle.whole_system.specs.State.{areas_in, memory_of};
-ghost use Rattle.system_ticks.specs.CueValues.{cue_value};
-ghost use Rattle.system_ticks.specs.Kept.{bytes_noted, kept_by, kept_cue, no_kept, slot_partition};
-ghost use Rattle.system_ticks.specs.Machine.{IsMachine};
+ghost use Rattle.tick_pieces.specs.CueValues.{cue_value};
+ghost use Rattle.tick_pieces.specs.Kept.{bytes_noted, kept_by, kept_cue, no_kept, slot_partition};
+ghost use Rattle.tick_pieces.specs.Machine.{IsMachine};
 ghost use Rattle.system_ticks.specs.Place.{IsAt, IsPlace};
-ghost use Rattle.system_ticks.specs.Span.{IsSpanDone};
+ghost use Rattle.tick_pieces.specs.Span.{IsSpanDone};
 
-use crate::beyond::Beyond;
-use crate::cue::{
-    Cue, Sight, Traffic, is_slot_of, mine_of, order_for, sight_of, traffic_heard, whole_of,
-};
-use crate::lines::Lines;
 use crate::place::{Place, place_of};
-use crate::slot::{Span, run_span};
+use crate::slot::run_span;
+use crate::telling::{is_slot_of, mine_of, order_for, sight_of, traffic_heard};
 use cyclic_plans::Here;
 use hypercalls::{Note, Sys};
 use machine_model::{
@@ -27,6 +23,7 @@ use machine_model::{
 };
 use std::alloc::Global;
 use std::marker::Model;
+use tick_pieces::{Beyond, Cue, Lines, Sight, Span, Traffic, whole_of};
 use whole_system::read_memory;
 use xm_base::{Memory, PartId, TICKS};
 use xm_conf::Conf;
@@ -50,8 +47,8 @@ pub struct Kept {
 impl Model for Kept {
     ghost use Rattle.std.specs.Prelude.{◌≡◌, ◌≤◌, length, take};
     ghost use Rattle.machine_model.specs.Machine.{turn_here};
-    ghost use Rattle.system_ticks.specs.Kept as plain;
-    ghost use Rattle.system_ticks.specs.Kept.{kept_with};
+    ghost use Rattle.tick_pieces.specs.Kept as plain;
+    ghost use Rattle.tick_pieces.specs.Kept.{kept_with};
 
     ghost Value = { plain.KeptTick };
 
@@ -115,7 +112,7 @@ impl Kept {
     }
 
     /// What partition `p` was told in the last tick.
-    #[tactic(auto, unfolding(crate::specs::Kept::kept_cue))]
+    #[tactic(auto, unfolding(tick_pieces::specs::Kept::kept_cue))]
     pub fn cue(&self, conf: &Conf, p: PartId) -> Cue<'_>
         requires { p < length conf.now.parts }
         ensures { cue_value result ≡ kept_cue conf.now self.now p }

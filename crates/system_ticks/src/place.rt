@@ -3,7 +3,7 @@
 ghost use Rattle.std.specs.Prelude.{◌≡◌, ℕ, ◌+◌, ◌<◌, ◌≤◌, IfSome, slice_get};
 ghost use Rattle.cyclic_plans.specs.PlanClock.{IsInFrame, here, moment, slot_at, ticks_left};
 ghost use Rattle.cyclic_plans.specs.Slots.{IsHere, frame_of, slots_of};
-ghost use Rattle.system_ticks.specs.Machine.{IsMachine};
+ghost use Rattle.tick_pieces.specs.Machine.{IsMachine};
 ghost use Rattle.system_ticks.specs.Place.{IsPlace, past_first_tick, place_after, place_in, place_numbered};
 
 use cyclic_plans::Here;

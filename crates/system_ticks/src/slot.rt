@@ -1,31 +1,27 @@
 //! The ticks of one slot or gap.
 
-ghost use Rattle.std.specs.Prelude.{◌≡◌, ℕ, ◌+◌, ◌-◌, ◌%◌, ◌^◌, ◌<◌, ◌≤◌, ◌++◌, Bool, true, false, if◌then◌else◌, ◌||◌, [], IfSome, None, Some, is_some, length};
+ghost use Rattle.std.specs.Prelude.{◌≡◌, ℕ, ◌+◌, ◌-◌, ◌%◌, ◌^◌, ◌<◌, ◌≤◌, ◌++◌, Bool, true, false, [], None, Some, length};
 ghost use Rattle.std.specs.Bool.{OnTrue};
 ghost use Rattle.cyclic_plans.specs.PlanClock.{IsInFrame};
 ghost use Rattle.whole_system.specs.State.{with_machine};
-ghost use Rattle.machine_model.specs.LocalTick.{goes_on, with_interrupts};
+ghost use Rattle.machine_model.specs.LocalTick.{goes_on};
 ghost use Rattle.machine_model.specs.Machine.{Machine};
 ghost use Rattle.machine_model.specs.Partition.{PartitionState, takes_turns};
-ghost use Rattle.slot_runs.specs.Meeting.{NoDelivery, awake};
+ghost use Rattle.slot_runs.specs.Meeting.{NoDelivery};
 ghost use Rattle.slot_runs.specs.Passes.{part_at, rest_but, with_part};
 ghost use Rattle.slot_runs.specs.SpanLaws.{IsNobodys};
 ghost use Rattle.slot_runs.specs.Spans.{IsSlotOf, IsStretch, after_span, plan_line};
 ghost use Rattle.slot_runs.specs.Undisturbed.{NoneFallsDue};
 ghost use Rattle.virt_traps.specs.Virtual.{due};
-ghost use Rattle.system_ticks.specs.Machine.{IsMachine};
+ghost use Rattle.tick_pieces.specs.Machine.{IsMachine};
 ghost use Rattle.system_ticks.specs.Place.{IsAt};
-ghost use Rattle.system_ticks.specs.Work.{ReachIsUponOne, act_beyond, ended_by, ending_lines};
-ghost use Rattle.system_ticks.specs.Span.{IsSilent, AreDoneFrom, CanTake, CanTakeAfter, HasTurned, IsIdle, HasMetInterrupts, IsSpanDone, NoneDue, machine_underway, counted_on};
+ghost use Rattle.tick_pieces.specs.Work.{ReachIsUponOne, act_beyond, ended_by, ending_lines};
+ghost use Rattle.tick_pieces.specs.Span.{IsSilent, AreDoneFrom, CanTake, CanTakeAfter, HasTurned, IsIdle, HasMetInterrupts, IsSpanDone, NoneDue, machine_underway, counted_on};
 
-use crate::beyond::Beyond;
 use crate::ending::{end_tick, end_ticks};
-use crate::lines::Lines;
 use crate::place::{Place, later};
-use crate::rest::rest;
-use crate::work::{call_told, meet_trap, take_interrupt};
 use cyclic_plans::Here;
-use hypercalls::{Note, Sys};
+use hypercalls::{Note, Sys, call_told};
 use machine_model::{
     acts_within_bounds, keeps_facts, keeps_hardware_clock, keeps_numbers, keeps_plans,
 };
@@ -33,45 +29,12 @@ use slot_runs::{
     calm_ticks, next_tick, resting_ticks, slot_goes_on, tick_in_passes, undisturbed_ticks,
 };
 use sparc_step::Turn;
+use tick_pieces::{
+    Beyond, Lines, Span, goes_on, interrupt, meet, meet_trap, rest, take_interrupt, takes_turns,
+    wake,
+};
 use virt_clocks::next_deadline_is_least;
-use xm_base::{PartId, State};
-
-/// The interrupts that ticks bring.
-const HARDWARE_TIMER: u8 = 0;
-
-const EXECUTION_TIMER: u8 = 1;
-
-const SLOT_START: u8 = 5;
-
-/// Ticks of one slot or gap that were done, of which only the last may have lines.
-#[derive(Clone, Copy, Debug)]
-pub struct Span {
-    /// How many there were, with the last: at least one, once they were done.
-    pub ticks: u64,
-    /// The partition that worked in the last; in a gap, any.
-    pub part: PartId,
-    /// Whether it worked, and not merely rested.
-    pub worked: bool,
-    /// What its call told.
-    pub note: Note,
-    /// How its work reached beyond it.
-    pub reach: Beyond,
-}
-
-impl Span {
-    /// So many ticks in which no call reported anything, with how the last reached beyond its partition.
-    pub(crate) fn quiet(ticks: u64, part: PartId, worked: bool, reach: Beyond) -> Span
-        ensures { result ≡ record { ticks = ticks; part = part; worked = worked; note = Note.Nothing; reach = reach } }
-    {
-        Span {
-            ticks,
-            part,
-            worked,
-            note: Note::Nothing,
-            reach,
-        }
-    }
-}
+use xm_base::PartId;
 
 /// The ticks of the slot or gap that it is, at most so many, up to the first of which something is told, or that reaches beyond its
 /// partition. Their lines are those of the last.
@@ -182,17 +145,6 @@ fn run_slot(sys: &mut Sys, lines: &mut Lines, span: &mut Span, slot: Here, most:
     }
 }
 
-/// Whether a partition takes its turn in its slots: it is not suspended, and has not halted.
-pub fn takes_turns(sys: &Sys, p: PartId) -> bool
-    requires partition { p < length sys.now.machine.parts }
-    ensures { result ≡ takes_turns (part_at p sys.now.machine).state }
-{
-    match sys.part(p).state {
-        State::Ready | State::Idle => true,
-        State::Suspended | State::Halted => false,
-    }
-}
-
 // So many ticks in which all partitions rest.
 fn wait(sys: &mut Sys, lines: &mut Lines, span: &mut Span, most: u64)
     requires nobodys { IsNobodys sys.old.machine }
@@ -235,52 +187,6 @@ fn take_slot(sys: &mut Sys, lines: &mut Lines, span: &mut Span, p: PartId, first
     } else {
         stay_idle(sys, lines, span, p, most)
     }
-}
-
-/// A partition that goes on is ready.
-pub fn wake(sys: &mut Sys, p: PartId)
-    requires partition { p < length sys.old.machine.parts }
-    ensures { sys.new ≡ with_machine (with_part p (awake (part_at p sys.old.machine)) sys.old.machine) sys.old }
-{
-    sys.part_mut(p).state = State::Ready;
-}
-
-/// The interrupts of a tick become pending: the start of a slot, and those of the timers that are due.
-#[inline(always)]
-#[tactic(auto, unfolding(machine_model::specs::LocalTick::with_interrupts, machine_model::specs::Partition::hardware_looked_at, machine_model::specs::Partition::execution_looked_at))]
-pub fn meet(sys: &mut Sys, p: PartId, first: bool)
-    requires partition { p < length sys.old.machine.parts }
-    ensures { sys.new ≡ with_machine (with_part p (with_interrupts sys.old.machine.time first (part_at p sys.old.machine)) sys.old.machine) sys.old }
-{
-    let now = sys.now();
-    let own = sys.part_mut(p);
-    if first {
-        own.virt.raise(SLOT_START);
-    }
-    if own.clocks.hw_due(now) {
-        own.virt.raise(HARDWARE_TIMER);
-    }
-    if own.clocks.exec_due() {
-        own.virt.raise(EXECUTION_TIMER);
-    }
-}
-
-/// Whether the partition goes on: an idle one is woken by the start of its slot or an interrupt that is due.
-pub fn goes_on(sys: &Sys, p: PartId, first: bool) -> bool
-    requires partition { p < length sys.now.machine.parts }
-    requires turns { takes_turns (part_at p sys.now.machine).state ≡ true }
-    ensures { result ≡ goes_on (part_at p sys.now.machine).state first (due (part_at p sys.now.machine).traps) }
-{
-    sys.part(p).state == State::Ready || is_woken(sys, p, first)
-}
-
-// Whether an idle partition is woken. It stands by itself, so that a ready one is told by one test.
-#[inline(never)]
-fn is_woken(sys: &Sys, p: PartId, first: bool) -> bool
-    requires partition { p < length sys.now.machine.parts }
-    ensures { result ≡ (first || is_some (due (part_at p sys.now.machine).traps)) }
-{
-    first || sys.part(p).virt.due().is_some()
 }
 
 // How many ticks there are, at most so many, in which no timer of the partition falls due after the first.
@@ -345,16 +251,6 @@ fn go_on(sys: &mut Sys, lines: &mut Lines, span: &mut Span, p: PartId, most: u64
         Some(n) => deliver(sys, lines, span, p, n),
         None => execute(sys, lines, span, p, most),
     }
-}
-
-/// The interrupt that is delivered to the partition, where one is due and traps are enabled.
-pub fn interrupt(sys: &Sys, p: PartId) -> Option<u8>
-    requires partition { p < length sys.now.machine.parts }
-    ensures value { result ≡ (if (part_at p sys.now.machine).traps.enabled then due (part_at p sys.now.machine).traps else None) }
-    ensures below { IfSome result (λ n. n < 32) }
-{
-    let virt = &sys.part(p).virt;
-    if virt.enabled { virt.due() } else { None }
 }
 
 // A tick in which a partition takes an interrupt.

@@ -16,8 +16,8 @@ use Rattle.alone_passes.specs.Passes.{part_in}
 use Rattle.alone_passes.specs.Step.{IsOfSystem}
 use Rattle.alone_passes.specs.Taking.{first_untaken, takes_cue}
 use Rattle.lone_ticks.specs.LoneSpan.{AreSilent, AreTaken}
-use Rattle.system_ticks.specs.CueValues.{cue_value}
-use Rattle.system_ticks.specs.declared.cue.Cue as code_cue
+use Rattle.tick_pieces.specs.CueValues.{cue_value}
+use Rattle.tick_pieces.specs.declared.cue.Cue as code_cue
 use Rattle.xm_machine.specs.AloneSpan.{SpansAlone}
 use Rattle.xm_machine.specs.AloneStep.{HasStepCause, IsSaidAlone, StepsAlone}
 use Rattle.xm_machine.specs.declared.alone_fault.AloneFault.{AloneFault}

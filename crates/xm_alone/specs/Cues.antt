@@ -7,7 +7,7 @@ use Rattle.cue_scripts.specs.Entries.{expanded, bare_cue}
 use Rattle.cue_scripts.specs.Script.{IsCue}
 use Rattle.cue_scripts.specs.Values.{entry_values}
 use Rattle.lone_ticks.specs.LoneSpan.{AreSilent}
-use Rattle.system_ticks.specs.CueValues.{cue_value}
+use Rattle.tick_pieces.specs.CueValues.{cue_value}
 use Rattle.uart_board.specs.Views.{BoardView}
 use Rattle.xm_machine.specs.AloneStep.{IsSaidAlone, StepsAlone}
 use Rattle.xm_machine.specs.declared.alone_fault.AloneFault.{AloneFault}

@@ -4,7 +4,7 @@ ghost use Rattle.std.specs.Prelude.{◌≡◌, ◌++◌, [], MatchOption};
 ghost use Rattle.cue_scripts.specs.Entries.{first_cue};
 ghost use Rattle.cue_scripts.specs.Values as kept;
 ghost use Rattle.xm_alone.specs.Cues.{ComesNext, HasNext, cues_left, next_left};
-ghost use Rattle.system_ticks.specs.CueValues.{cue_value, sight_value, slot_value, traffic_value, whole_value};
+ghost use Rattle.tick_pieces.specs.CueValues.{cue_value, sight_value, slot_value, traffic_value, whole_value};
 
 use cue_scripts::{
     Script, ScriptCue, ScriptEntry, ScriptEvent, ScriptSight, ScriptSlot, ScriptTraffic,

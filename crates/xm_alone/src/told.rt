@@ -2,7 +2,7 @@
 
 ghost use Rattle.std.specs.Prelude.{◌≡◌, IfOk};
 ghost use Rattle.cue_scripts.specs.Values as kept;
-ghost use Rattle.system_ticks.specs.CueValues.{cue_value, sight_value, slot_value, traffic_value, whole_value};
+ghost use Rattle.tick_pieces.specs.CueValues.{cue_value, sight_value, slot_value, traffic_value, whole_value};
 
 use cue_scripts::{ScriptCue, ScriptEvent, ScriptSight, ScriptSlot, ScriptTraffic};
 use std::alloc::Global;

@@ -9,7 +9,7 @@ use Rattle.machine_model.specs.Machine.{Happened, Machine, SlotTurn, happened, h
 use Rattle.machine_model.specs.Partition.{PartitionState}
 use Rattle.machine_model.specs.Told.{Sight, Unseen}
 use Rattle.machine_model.specs.Traffic.{heard_as}
-use Rattle.system_ticks.specs.Kept.{kept_cue, kept_in, kept_tick, shown_to}
+use Rattle.tick_pieces.specs.Kept.{kept_cue, kept_in, kept_tick, shown_to}
 
 -- whether the tick of a partition is there
 is_its_tick : (b : Bool) (tick : Option LocalTick) → (b && is_some tick) ≡ is_some (if_its_turn b tick)

@@ -10,15 +10,15 @@ use Rattle.machine_model.specs.Machine.{Machine, run, step}
 use Rattle.machine_model.specs.View.{System}
 use Rattle.whole_system.specs.State.{SysState}
 use Rattle.xm_machine.specs.Cues.{AreCued, AreCuedUpTo, KeepsLastTick, KeepsUpTo, last_or, told_to}
-use Rattle.system_ticks.specs.Kept.{KeptTick, kept_after, kept_cue, kept_tick, kept_unless}
+use Rattle.tick_pieces.specs.Kept.{KeptTick, kept_after, kept_cue, kept_tick, kept_unless}
 use Rattle.xm_machine.specs.Machine.{Meaning}
-use Rattle.system_ticks.specs.Span.{IsSpanDone}
+use Rattle.tick_pieces.specs.Span.{IsSpanDone}
 use Rattle.xm_machine.specs.Stretch.{AreStepped, KeepsStepped, stepped_by}
-use Rattle.system_ticks.specs.declared.slot.Span.{Span}
+use Rattle.tick_pieces.specs.declared.span.Span.{Span}
 use Rattle.xm_machine.specs.declared.stretch.Stepped.{Stepped}
 use Rattle.xm_machine.proofs.CueLemmas.{kept_cues}
 use Rattle.xm_machine.proofs.GoingLemmas.{state_on}
-use Rattle.system_ticks.specs.KeptLemmas.{ran_on, run_halted, ticks_exact}
+use Rattle.tick_pieces.specs.KeptLemmas.{ran_on, run_halted, ticks_exact}
 
 -- a machine that has halted keeps what was kept before
 kept_halted : (count : ℕ) (g : Machine) (before : KeptTick) → g.halted ≡ true → kept_after g count before ≡ before

@@ -13,12 +13,12 @@ use Rattle.machine_model.specs.Structures.{flag}
 use Rattle.whole_system.specs.State.{SysState}
 use Rattle.slot_runs.specs.RunLemmas.{lines_add, run_add}
 use Rattle.xm_machine.proofs.FrontLemmas.{front_of_all}
-use Rattle.system_ticks.specs.KeptLemmas.{run_halted, ticks_exact, ticks_least}
+use Rattle.tick_pieces.specs.KeptLemmas.{run_halted, ticks_exact, ticks_least}
 use Rattle.xm_machine.specs.Outcome.{HasWriteCause, IsTick}
-use Rattle.system_ticks.specs.Span.{IsSpanDone, console_lines, ends_so}
+use Rattle.tick_pieces.specs.Span.{IsSpanDone, console_lines, ends_so}
 use Rattle.xm_machine.specs.Steps.{AreCut, AreRun, IsStep, IsStepCut, Tells}
 use Rattle.xm_machine.specs.Stretch.{AreStepped, IsStretchCut, Steps, stepped_by}
-use Rattle.system_ticks.specs.declared.slot.Span.{Span}
+use Rattle.tick_pieces.specs.declared.span.Span.{Span}
 
 -- the lines of a run, and of more ticks
 texts_add : (g mid : Machine) (j k : ℕ) → mid ≡ run g j → texts (lines g (j + k)) ≡ texts (lines g j) ++ texts (lines mid k)

@@ -34,12 +34,12 @@ use Rattle.machine_model.specs.Whole.{AllHalted, AllReset, NoEvent, WholeEvent, 
 use Rattle.slot_runs.specs.Passes.{part_at}
 use Rattle.slot_runs.specs.RunLemmas.{console_add, run_add}
 use Rattle.xm_machine.proofs.GoingLemmas.{lines_halted, state_on}
-use Rattle.system_ticks.specs.KeptLemmas.{ticks_exact}
-use Rattle.system_ticks.specs.TickLines.{IsOtherLine}
+use Rattle.tick_pieces.specs.KeptLemmas.{ticks_exact}
+use Rattle.tick_pieces.specs.TickLines.{IsOtherLine}
 use Rattle.xm_machine.specs.AloneStep.{said_alone}
 use Rattle.xm_machine.specs.Heard.{IsRunHeard, console_to, line_to, lines_to}
-use Rattle.system_ticks.specs.Span.{IsSpanDone, console_lines}
-use Rattle.system_ticks.specs.declared.slot.Span.{Span}
+use Rattle.tick_pieces.specs.Span.{IsSpanDone, console_lines}
+use Rattle.tick_pieces.specs.declared.span.Span.{Span}
 
 -- nothing, whatever is asked
 if_none : (b : Bool) (bytes : List ℕ) → bytes ≡ [] → (if b then bytes else []) ≡ []

@@ -4,7 +4,7 @@ use Rattle.machine_model.specs.Facts.{RunsKeepNumbers}
 use Rattle.machine_model.specs.Machine.{Machine, run}
 use Rattle.system_ticks.specs.LaterLemmas.{later_at}
 use Rattle.system_ticks.specs.Place.{IsAt, place_after}
-use Rattle.system_ticks.specs.QuietRunLemmas.{all_quiet}
+use Rattle.tick_pieces.specs.QuietRunLemmas.{all_quiet}
 use Rattle.system_ticks.specs.declared.place.Place.{Place}
 use Rattle.xm_machine.specs.Stretch.{AreStepped}
 use Rattle.xm_machine.specs.declared.stretch.Stepped.{Stepped}

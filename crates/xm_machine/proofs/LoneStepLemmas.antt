@@ -16,7 +16,7 @@ use Rattle.uart_board.specs.Views.{BoardView}
 use Rattle.alone_passes.specs.Passes.{part_in}
 use Rattle.alone_passes.specs.Step.{IsLone}
 use Rattle.lone_ticks.specs.LoneWork.{IsLoneTick, IsLoneTicked}
-use Rattle.system_ticks.specs.Work.{console_told}
+use Rattle.tick_pieces.specs.Work.{console_told}
 use Rattle.xm_machine.specs.AloneStep.{HasStepCause, IsSaidAlone, IsToldAlone, StepsAlone, said_alone, told_alone}
 use Rattle.xm_machine.specs.Heard.{lines_to}
 use Rattle.xm_machine.specs.Outcome.{HasWriteCause}

@@ -7,9 +7,9 @@ use Rattle.xm_report.specs.Report.{ReportLine}
 use Rattle.machine_model.specs.Machine.{Machine, SlotTurn, run, turn_here, turn_of}
 use Rattle.slot_runs.specs.Calm.{turn_after}
 use Rattle.whole_system.specs.State.{SysState, memory_of}
-use Rattle.system_ticks.specs.Kept.{KeptTick, kept_by, kept_tick}
-use Rattle.system_ticks.specs.Span.{IsSpanDone}
-use Rattle.system_ticks.specs.declared.slot.Span.{Span}
+use Rattle.tick_pieces.specs.Kept.{KeptTick, kept_by, kept_tick}
+use Rattle.tick_pieces.specs.Span.{IsSpanDone}
+use Rattle.tick_pieces.specs.declared.span.Span.{Span}
 
 -- whose slot it is
 pub turn_at : (g : Machine) (slot : Option Here) → slot ≡ here g.system.conf g.clock g.time → turn_here slot ≡ turn_of g

@@ -12,17 +12,17 @@ use Rattle.machine_model.specs.Lines.{lines}
 use Rattle.machine_model.specs.Machine.{Machine, run}
 use Rattle.xm_machine.specs.Alone.{AreAlone, AreAloneUpTo}
 use Rattle.xm_machine.specs.Cues.{AreCued, AreCuedUpTo, KeepsLastTick}
-use Rattle.system_ticks.specs.Kept.{kept_after}
+use Rattle.tick_pieces.specs.Kept.{kept_after}
 use Rattle.xm_machine.specs.Machine.{Meaning}
-use Rattle.system_ticks.specs.Quiet.{AreQuiet, ends_in}
-use Rattle.system_ticks.specs.QuietRunLemmas.{AllQuiet, all_quiet, quiet_on, quiet_runs, run_from}
+use Rattle.tick_pieces.specs.Quiet.{AreQuiet, ends_in}
+use Rattle.tick_pieces.specs.QuietRunLemmas.{AllQuiet, all_quiet, quiet_on, quiet_runs, run_from}
 use Rattle.xm_machine.specs.Steps.{AreRun}
 use Rattle.xm_machine.specs.Stretch.{AreStepped, IsStretchCut, IsStretched, left_of}
 use Rattle.xm_machine.specs.declared.stretch.Stepped.{Stepped}
 use Rattle.xm_machine.proofs.AloneLemmas.{ticks_alone}
 use Rattle.xm_machine.proofs.CuedLemmas.{cued, kept_add}
 use Rattle.xm_machine.proofs.GoingLemmas.{cut_on, run_on, state_on}
-use Rattle.system_ticks.specs.KeptLemmas.{ticks_exact}
+use Rattle.tick_pieces.specs.KeptLemmas.{ticks_exact}
 
 -- a stretch is on its way: so many of its ticks were done, and whether it ends with the last of them
 pub record GoesStretch (ticks told : ℕ) (ends : Bool) (most : ℕ) (old new : Meaning) (had got : Option (List ℕ)) : Type 0 where

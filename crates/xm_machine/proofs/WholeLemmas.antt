@@ -10,7 +10,7 @@ use Rattle.machine_model.specs.Machine.{Machine, run}
 use Rattle.slot_runs.specs.RunLemmas.{lines_add}
 use Rattle.xm_machine.proofs.FrontLemmas.{front_of_all}
 use Rattle.xm_machine.proofs.GoingLemmas.{lines_grow}
-use Rattle.system_ticks.specs.KeptLemmas.{ticks_exact, ticks_fewer, ticks_most}
+use Rattle.tick_pieces.specs.KeptLemmas.{ticks_exact, ticks_fewer, ticks_most}
 use Rattle.xm_machine.proofs.OutLemmas.{both_out, first_cut, one_cut, one_line, rest_cut}
 use Rattle.xm_machine.specs.Outcome.{IsCutRun, IsWholeRun, first_line, last_line, report_of, report_to}
 use Rattle.xm_machine.specs.Steps.{AreRun, IsStepCut}

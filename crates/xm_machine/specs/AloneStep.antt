@@ -12,7 +12,7 @@ use Rattle.machine_model.specs.Told.{line_of}
 use Rattle.machine_model.specs.View.{view_of}
 use Rattle.whole_system.specs.State.{memory_of}
 use Rattle.whole_system.specs.declared.served.Note.{Note}
-use Rattle.system_ticks.specs.Work.{console_told}
+use Rattle.tick_pieces.specs.Work.{console_told}
 use Rattle.alone_passes.specs.Passes.{part_in}
 use Rattle.alone_passes.specs.Step.{IsLone}
 use Rattle.alone_passes.specs.Taking.{takes_cue}

@@ -3,7 +3,7 @@ use Rattle.std.specs.Prelude.{◌≡◌, ℕ, ◌<◌, ◌≤◌, List, [], ◌�
 use Rattle.xm_report.specs.declared.output.WriteFault.{WriteFault}
 use Rattle.machine_model.specs.Cue.{Cue, script}
 use Rattle.machine_model.specs.Machine.{run}
-use Rattle.system_ticks.specs.Kept.{kept_after, kept_cue}
+use Rattle.tick_pieces.specs.Kept.{kept_after, kept_cue}
 use Rattle.xm_machine.specs.Machine.{Meaning}
 use Rattle.xm_machine.specs.declared.run.Ran.{Ran}
 

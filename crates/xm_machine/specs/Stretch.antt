@@ -8,9 +8,9 @@ use Rattle.machine_model.specs.Lines.{lines}
 use Rattle.machine_model.specs.Machine.{Machine, run}
 use Rattle.xm_machine.specs.Alone.{AreAlone, AreAloneUpTo}
 use Rattle.xm_machine.specs.Cues.{AreCued, AreCuedUpTo, KeepsLastTick}
-use Rattle.system_ticks.specs.Kept.{kept_after}
+use Rattle.tick_pieces.specs.Kept.{kept_after}
 use Rattle.xm_machine.specs.Machine.{Meaning}
-use Rattle.system_ticks.specs.Quiet.{AreQuiet, ends_in}
+use Rattle.tick_pieces.specs.Quiet.{AreQuiet, ends_in}
 use Rattle.xm_machine.specs.Steps.{IsStep, IsStepCut}
 use Rattle.xm_machine.specs.declared.stretch.Stepped.{Stepped}
 

@@ -1,6 +1,6 @@
 //! What a machine keeps of a tick.
 
-ghost use Rattle.system_ticks.specs.Kept.{KeepsCues};
+ghost use Rattle.tick_pieces.specs.Kept.{KeepsCues};
 
 /// What is kept of a tick tells each partition its cue.
 pub fn keeps_cues()

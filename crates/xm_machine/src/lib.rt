@@ -16,5 +16,5 @@ pub use law::keeps_cues;
 pub use machine::Machine;
 pub use machine_model::two_runs;
 pub use run::Ran;
-pub use system_ticks::{Cue, Mine, Sight, Traffic, WholeCue};
+pub use tick_pieces::{Cue, Mine, Sight, Traffic, WholeCue};
 pub use xm_report::{Line, Move, WriteFault, put_line};

@@ -17,11 +17,11 @@ ghost use Rattle.cue_scripts.specs.Script.{IsCue};
 ghost use Rattle.xm_machine.specs.AloneSpan.{SpansAlone};
 ghost use Rattle.xm_machine.specs.AloneStep.{HasStepCause, IsSaidAlone, StepsAlone};
 ghost use Rattle.xm_machine.specs.Alone.{AreAlone, AreBootedAlone, RunsEachAlone};
-ghost use Rattle.system_ticks.specs.CueValues.{cue_value};
+ghost use Rattle.tick_pieces.specs.CueValues.{cue_value};
 ghost use Rattle.xm_machine.specs.Cues.{AreCued, KeepsTicks, RunsCued, told_to};
 ghost use Rattle.xm_machine.specs.Heard.{IsRunHeard};
-ghost use Rattle.system_ticks.specs.Kept.{no_kept};
-ghost use Rattle.system_ticks.specs.Machine.{IsCounted};
+ghost use Rattle.tick_pieces.specs.Kept.{no_kept};
+ghost use Rattle.tick_pieces.specs.Machine.{IsCounted};
 ghost use Rattle.xm_machine.specs.Outcome.{HasWriteCause, IsRun, IsTick, first_line, last_line};
 ghost use Rattle.system_ticks.specs.Place.{IsAt};
 ghost use Rattle.xm_machine.specs.Steps.{RunsTicks, Tells};
@@ -45,7 +45,8 @@ use machine_model::{
 };
 use std::alloc::Global;
 use std::marker::Model;
-use system_ticks::{Cue, Kept, Lines, Place, later, reset, reset_all};
+use system_ticks::{Kept, Place, later, reset_all};
+use tick_pieces::{Cue, Lines, reset};
 use uart_board::{Board, ViewBoard};
 use xm_base::{Memory, Mode, PartId, TICKS};
 use xm_outside::Sink;
@@ -63,7 +64,7 @@ pub struct Machine {
 impl Model for Machine {
     ghost use Rattle.std.specs.Coded.{codes};
     ghost use Rattle.guest_bus.specs.Memory.{memory_code};
-    ghost use Rattle.system_ticks.specs.Machine.{IsMachine};
+    ghost use Rattle.tick_pieces.specs.Machine.{IsMachine};
     ghost use Rattle.xm_machine.specs.Machine.{Meaning};
 
     ghost Value = { Meaning };

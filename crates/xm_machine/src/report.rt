@@ -14,12 +14,12 @@ ghost use Rattle.xm_machine.specs.AloneStep.{IsToldAlone};
 ghost use Rattle.xm_machine.specs.Heard.{console_to, lines_to};
 ghost use Rattle.xm_machine.specs.Outcome.{HasWriteCause};
 ghost use Rattle.xm_machine.specs.Steps.{Tells};
-ghost use Rattle.system_ticks.specs.Work.{console_told};
+ghost use Rattle.tick_pieces.specs.Work.{console_told};
 ghost use Rattle.xm_report.specs.Report.{IsShort, line_value};
 
 use crate::alone_fault::{AloneFault, told_alone};
 use hypercalls::{Note, Sys};
-use system_ticks::Lines;
+use tick_pieces::Lines;
 use uart_board::{Board, ViewBoard};
 use whole_system::read_memory;
 use xm_base::{CONSOLE_BYTES, PartId};

@@ -2,14 +2,14 @@
 
 ghost use Rattle.std.specs.Prelude.{◌≡◌};
 ghost use Rattle.machine_model.specs.Health.{done_to_all};
-ghost use Rattle.system_ticks.specs.Quiet.{ends_stretch};
+ghost use Rattle.tick_pieces.specs.Quiet.{ends_stretch};
 ghost use Rattle.xm_machine.specs.Stretch.{stepped_by};
-ghost use Rattle.system_ticks.specs.Span.{ends_so, notes_signal};
-ghost use Rattle.system_ticks.specs.Work.{act_beyond};
+ghost use Rattle.tick_pieces.specs.Span.{ends_so, notes_signal};
+ghost use Rattle.tick_pieces.specs.Work.{act_beyond};
 
 use health_monitor::Whole;
 use hypercalls::Note;
-use system_ticks::Beyond;
+use tick_pieces::Beyond;
 use xm_report::WriteFault;
 
 /// Ticks of a stretch that were done.

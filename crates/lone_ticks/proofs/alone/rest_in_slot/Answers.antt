@@ -1,7 +1,7 @@
 use Rattle.std.proofs.Common.{sym, ◌∙◌}
 use Rattle.machine_model.specs.Told.{NoEvent}
 use Rattle.alone_passes.specs.Passes.{rested_in, tick_past}
-use Rattle.system_ticks.specs.CueValues.{cue_value}
+use Rattle.tick_pieces.specs.CueValues.{cue_value}
 use Rattle.lone_ticks.proofs.LoneLemmas.{its_own, machine_kept, own_slot, rest_done, rest_part}
 use Rattle.lone_ticks.proofs.alone.rest_in_slot.Goals as goal
 

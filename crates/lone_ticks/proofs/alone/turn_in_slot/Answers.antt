@@ -1,5 +1,5 @@
 use Rattle.std.proofs.Common.{arith, refl, sym, ◌∙◌}
-use Rattle.system_ticks.specs.CueValues.{cue_value, whole_value}
+use Rattle.tick_pieces.specs.CueValues.{cue_value, whole_value}
 use Rattle.lone_ticks.proofs.SpanEndLemmas.{work_can_end}
 use Rattle.lone_ticks.proofs.LoneTurnLemmas.{can_take, few_room, is_turn, not_seen, turn_machine, turn_noted, turn_system, undone_machine, undone_system}
 use Rattle.lone_ticks.proofs.alone.turn_in_slot.Goals as goal

@@ -1,5 +1,5 @@
 use Rattle.std.proofs.Common.{refl, sym, ◌∙◌}
-use Rattle.system_ticks.specs.CueValues.{sight_value}
+use Rattle.tick_pieces.specs.CueValues.{sight_value}
 use Rattle.lone_ticks.proofs.LoneCallLemmas.{asks_nothing, site_asks, site_calls}
 use Rattle.lone_ticks.proofs.LoneWorkLemmas.{lone_as, lone_silent}
 use Rattle.lone_ticks.proofs.call.call_alone.Goals as goal

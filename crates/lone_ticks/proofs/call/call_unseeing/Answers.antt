@@ -1,7 +1,7 @@
 use Rattle.std.proofs.Common.{refl, sym, ◌∙◌}
 use Rattle.slot_runs.specs.Passes.{part_at}
-use Rattle.system_ticks.specs.CueValues.{sight_value}
-use Rattle.system_ticks.specs.declared.beyond.Beyond.TheVariants as beyond
+use Rattle.tick_pieces.specs.CueValues.{sight_value}
+use Rattle.tick_pieces.specs.declared.beyond.Beyond.TheVariants as beyond
 use Rattle.whole_system.specs.declared.served.Note.TheVariants as note
 use Rattle.lone_ticks.proofs.LoneWorkLemmas.{undone_same, unseeing_done}
 use Rattle.lone_ticks.proofs.call.call_unseeing.Goals as goal

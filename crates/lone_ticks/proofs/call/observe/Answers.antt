@@ -1,5 +1,5 @@
 use Rattle.std.proofs.Common.{sym, ◌∙◌}
-use Rattle.system_ticks.specs.CueValues.{sight_value}
+use Rattle.tick_pieces.specs.CueValues.{sight_value}
 use Rattle.lone_ticks.proofs.LoneCallLemmas.{shown_few, shows_done, shows_not}
 use Rattle.lone_ticks.proofs.call.observe.Goals as goal
 

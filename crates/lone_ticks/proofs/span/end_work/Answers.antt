@@ -1,5 +1,5 @@
 use Rattle.std.proofs.Common.{Option, arith, subst}
-use Rattle.system_ticks.specs.CueValues.{whole_value}
+use Rattle.tick_pieces.specs.CueValues.{whole_value}
 use Rattle.lone_ticks.specs.LoneSpan.{HasWorked}
 use Rattle.lone_ticks.specs.declared.work.LoneWork.{LoneWork}
 use Rattle.lone_ticks.proofs.SpanEndLemmas.{work_ended, work_missed}

@@ -1,6 +1,6 @@
 use Rattle.std.proofs.Common.{refl, sym, ◌∙◌}
 use Rattle.sparc_step.specs.declared.outcome.Turn.TheVariants.{Call, Trap, Went}
-use Rattle.system_ticks.specs.CueValues.{sight_value}
+use Rattle.tick_pieces.specs.CueValues.{sight_value}
 use Rattle.lone_ticks.proofs.LoneWorkLemmas.{call_as, lone_silent, observed_as, trap_as, turned_work}
 use Rattle.lone_ticks.proofs.work.execute_alone.Goals as goal
 

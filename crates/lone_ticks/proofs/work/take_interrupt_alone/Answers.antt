@@ -1,6 +1,6 @@
 use Rattle.std.proofs.Common.{refl, sym, ◌∙◌, arith}
 use Rattle.whole_system.specs.declared.served.Note.TheVariants as note
-use Rattle.system_ticks.specs.declared.beyond.Beyond.TheVariants as beyond
+use Rattle.tick_pieces.specs.declared.beyond.Beyond.TheVariants as beyond
 use Rattle.lone_ticks.proofs.LoneWorkLemmas.{lone_done, undone_same}
 use Rattle.lone_ticks.proofs.work.take_interrupt_alone.Goals as goal
 

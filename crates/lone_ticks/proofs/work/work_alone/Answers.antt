@@ -1,5 +1,5 @@
 use Rattle.std.proofs.Common.{sym, ◌∙◌}
-use Rattle.system_ticks.specs.CueValues.{sight_value}
+use Rattle.tick_pieces.specs.CueValues.{sight_value}
 use Rattle.lone_ticks.proofs.LoneWorkLemmas.{lone_silent, turns_met, woken_takes, work_stays, work_went}
 use Rattle.lone_ticks.proofs.work.work_alone.Goals as goal
 

@@ -3,7 +3,7 @@ use Rattle.whole_system.specs.State.{SysState}
 use Rattle.machine_model.specs.Partition.{reset}
 use Rattle.machine_model.specs.View.{view_of}
 use Rattle.slot_runs.specs.Passes.{part_at}
-use Rattle.system_ticks.proofs.PassLemmas.{passed_end, passed_length, passed_more}
+use Rattle.tick_pieces.specs.PassLemmas.{passed_end, passed_length, passed_more}
 use Rattle.system_ticks.proofs.ending.reset_parts.Goals as goal
 
 pub reset-requires : goal.reset-requires

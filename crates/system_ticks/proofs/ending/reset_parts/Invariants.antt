@@ -1,7 +1,7 @@
 use Rattle.std.proofs.Common.{◌≡◌}
 use Rattle.machine_model.specs.Partition.{reset}
 use Rattle.machine_model.specs.View.{view_of}
-use Rattle.system_ticks.proofs.PassLemmas.{passed}
+use Rattle.tick_pieces.specs.PassLemmas.{passed}
 use Rattle.system_ticks.proofs.ending.reset_parts.Given as goal
 
 abbrev pub invariant-loop-p : goal.invariant-loop-p

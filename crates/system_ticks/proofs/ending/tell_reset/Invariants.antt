@@ -1,5 +1,5 @@
 use Rattle.std.proofs.Common.{◌≡◌, ◌+◌, ◌≤◌, ◌++◌, length}
-use Rattle.system_ticks.specs.Work.{reset_lines}
+use Rattle.tick_pieces.specs.Work.{reset_lines}
 use Rattle.system_ticks.proofs.ending.tell_reset.Given as goal
 
 abbrev pub invariant-loop-p : goal.invariant-loop-p

@@ -1,8 +1,8 @@
 use Rattle.std.proofs.Common.{subst, sym}
 use Rattle.whole_system.specs.declared.served.Note.TheVariants as note
-use Rattle.system_ticks.specs.Span.{AreDoneFrom}
-use Rattle.system_ticks.specs.declared.beyond.Beyond.TheVariants as beyond
-use Rattle.system_ticks.specs.declared.slot.Span.{Span}
+use Rattle.tick_pieces.specs.Span.{AreDoneFrom}
+use Rattle.tick_pieces.specs.declared.beyond.Beyond.TheVariants as beyond
+use Rattle.tick_pieces.specs.declared.span.Span.{Span}
 use Rattle.system_ticks.proofs.SpanLemmas.{can_work, stands, worked_frame}
 use Rattle.system_ticks.proofs.TurnedLemmas.{call_done, next_stays}
 use Rattle.system_ticks.proofs.slot.call_after.Goals as goal

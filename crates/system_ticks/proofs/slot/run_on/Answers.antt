@@ -1,5 +1,5 @@
 use Rattle.std.proofs.Common.{arith}
-use Rattle.system_ticks.specs.KeptLemmas.{kept_ticks}
+use Rattle.tick_pieces.specs.KeptLemmas.{kept_ticks}
 use Rattle.system_ticks.proofs.SilentLemmas.{its_ticks, span_on, still_runs, silent_begins, silent_on}
 use Rattle.system_ticks.proofs.slot.run_on.Goals as goal
 

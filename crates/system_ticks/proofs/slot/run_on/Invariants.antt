@@ -1,5 +1,5 @@
 use Rattle.std.proofs.Common.{◌≡◌, ◌-◌, false, true}
-use Rattle.system_ticks.specs.Span.{IsSpanDone}
+use Rattle.tick_pieces.specs.Span.{IsSpanDone}
 use Rattle.system_ticks.proofs.SilentLemmas.{AreSilent}
 use Rattle.system_ticks.proofs.slot.run_on.Given as goal
 

@@ -1,6 +1,6 @@
 use Rattle.std.proofs.Common.{arith}
 use Rattle.std.proofs.Math.Nat.{min-le_left, min-le_right}
-use Rattle.system_ticks.specs.KeptLemmas.{kept_ticks}
+use Rattle.tick_pieces.specs.KeptLemmas.{kept_ticks}
 use Rattle.system_ticks.proofs.SilentLemmas.{its_ticks, span_behind, still_runs, silent_after}
 use Rattle.system_ticks.proofs.slot.run_span.Goals as goal
 

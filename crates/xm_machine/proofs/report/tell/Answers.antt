@@ -2,7 +2,7 @@ use Rattle.std.proofs.Common.{map}
 use Rattle.std.proofs.lemmas.Result.{err_from_is_err_and}
 use Rattle.whole_system.specs.State.{memory_of}
 use Rattle.machine_model.specs.Told as told
-use Rattle.system_ticks.specs.Work.{console_told}
+use Rattle.tick_pieces.specs.Work.{console_told}
 use Rattle.xm_machine.proofs.HeardLemmas.{others_heard}
 use Rattle.xm_machine.proofs.OutLemmas.{rest_cut}
 use Rattle.xm_machine.proofs.report.tell.Goals as goal

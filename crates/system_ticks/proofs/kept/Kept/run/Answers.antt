@@ -2,7 +2,7 @@ use Rattle.std.proofs.Common.{◌≡◌, ◌≤◌, ap, arith, length, rules, ta
 use Rattle.std.proofs.lemmas.List.{with_items_is}
 use Rattle.std.specs.Vec.{with_items}
 use Rattle.whole_system.specs.State.{memory_of}
-use Rattle.system_ticks.specs.Kept.{bytes_noted}
+use Rattle.tick_pieces.specs.Kept.{bytes_noted}
 use Rattle.system_ticks.proofs.NotedLemmas.{few_noted, kept_so}
 use Rattle.system_ticks.proofs.kept.Kept.run.Goals as goal
 

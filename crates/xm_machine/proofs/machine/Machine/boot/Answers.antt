@@ -1,5 +1,5 @@
 use Rattle.whole_system.specs.State.{with_inputs}
-use Rattle.system_ticks.specs.KeptLemmas.{kept_boot}
+use Rattle.tick_pieces.specs.KeptLemmas.{kept_boot}
 use Rattle.xm_machine.proofs.machine.Machine.boot.Goals as goal
 
 pub invariant_of-result : goal.invariant_of-result

@@ -3,7 +3,7 @@ use Rattle.std.proofs.Math.Nat.{min-le_left, min-le_right}
 use Rattle.std.proofs.lemmas.Result.{err_from_is_err_and}
 use Rattle.cyclic_plans.specs.PlanClock.{ticks_left}
 use Rattle.xm_machine.specs.Cues.{KeepsLastTick}
-use Rattle.system_ticks.specs.Machine.{IsCounted}
+use Rattle.tick_pieces.specs.Machine.{IsCounted}
 use Rattle.xm_machine.specs.Machine.{Meaning}
 use Rattle.system_ticks.specs.Place.{IsAt}
 use Rattle.xm_machine.specs.Stretch.{AreStepped, IsStretchCut}

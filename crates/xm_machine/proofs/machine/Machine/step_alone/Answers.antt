@@ -1,5 +1,5 @@
 use Rattle.std.proofs.Common.{◌<◌, ℕ, subst, sym}
-use Rattle.system_ticks.specs.CueValues.{cue_value}
+use Rattle.tick_pieces.specs.CueValues.{cue_value}
 use Rattle.xm_machine.proofs.LoneStepLemmas.{are_few, can_be_told, told_cause, told_said, told_steps}
 use Rattle.xm_machine.proofs.machine.Machine.step_alone.Goals as goal
 

@@ -1,7 +1,7 @@
 use Rattle.xm_machine.proofs.CuedLemmas.{keeps_so}
 use Rattle.xm_machine.proofs.GoingLemmas.{cause_so, few_so, step_so}
 use Rattle.xm_machine.proofs.HeardLemmas.{span_heard}
-use Rattle.system_ticks.specs.KeptLemmas.{kept_ticks}
+use Rattle.tick_pieces.specs.KeptLemmas.{kept_ticks}
 use Rattle.xm_machine.proofs.NotedLemmas.{span_kept}
 use Rattle.xm_machine.proofs.machine.Machine.step_at.Goals as goal
 

@@ -1,0 +1,172 @@
+-- What ticks of one slot or gap come to.
+use Rattle.std.specs.Prelude.{◌≡◌, ℕ, zero, suc, ◌+◌, ◌-◌, ◌<◌, ◌≤◌, Bool, false, true, if◌then◌else◌, List, [], ◌++◌, length, map, None, Some}
+use Rattle.cyclic_plans.specs.PlanClock.{AsksPlan, IsInFrame}
+use Rattle.cyclic_plans.specs.Slots.{frame_of}
+use Rattle.sparc_step.specs.declared.outcome.Turn.{Turn}
+use Rattle.virt_clocks.specs.Clocks.{PartitionClocks, is_due}
+use Rattle.virt_traps.specs.Settled.{settled}
+use Rattle.virt_traps.specs.Virtual.{due}
+use Rattle.xm_base.specs.declared.partition.State.TheVariants.{Idle}
+use Rattle.xm_ports.specs.Channels.{shapes_of}
+use Rattle.xm_report.specs.Report.{ReportLine}
+use Rattle.whole_system.specs.Serving.{CanBeTold}
+use Rattle.whole_system.specs.State.{SysState, areas_in, memory_of, with_machine}
+use Rattle.whole_system.specs.declared.served.Note.{Note}
+use Rattle.whole_system.specs.declared.served.Note.TheVariants as note
+use Rattle.machine_model.specs.Facts.{AreEnds}
+use Rattle.machine_model.specs.Lines.{lines}
+use Rattle.machine_model.specs.LocalTick.{turned_state, with_interrupts}
+use Rattle.machine_model.specs.Machine.{Machine, run, turn_of}
+use Rattle.machine_model.specs.Partition.{PartitionState}
+use Rattle.machine_model.specs.Told.{line_of}
+use Rattle.machine_model.specs.View.{view_of}
+use Rattle.slot_runs.specs.Calm.{turn_after}
+use Rattle.slot_runs.specs.Meeting.{HasGone, gone_on}
+use Rattle.slot_runs.specs.Passes.{part_at, rest_but, with_part}
+use Rattle.slot_runs.specs.SpanLaws.{IsAwake, its_areas, met}
+use Rattle.slot_runs.specs.Spans.{IsSlotOf, IsStretch}
+use Rattle.slot_runs.specs.Undisturbed.{IsUndisturbed}
+use Rattle.tick_pieces.specs.Kept.{kept_by, kept_tick}
+use Rattle.tick_pieces.specs.Quiet.{AreQuiet, ends_in, ends_stretch}
+use Rattle.tick_pieces.specs.Work.{act_beyond, console_told}
+use Rattle.tick_pieces.specs.declared.beyond.Beyond.{Beyond}
+use Rattle.tick_pieces.specs.declared.beyond.Beyond.TheVariants as beyond
+use Rattle.tick_pieces.specs.declared.span.Span.{Span}
+
+-- the line of bytes for the console of the last of the ticks of a span
+abbrev pub console_lines : Span → Machine → Machine → List ReportLine
+console_lines span old new = map (line_of (old.ticks + span.ticks - 1) span.part) (console_told span.note (memory_of span.part new))
+
+-- what is to be kept of the last of the ticks of a span is told by the span
+abbrev pub IsLastKept : Span → Machine → Machine → Type 0
+IsLastKept span old new =
+    kept_tick (run old (span.ticks - 1))
+    ≡ kept_by (turn_after (span.ticks - 1) (turn_of old)) span.worked span.note span.reach (memory_of span.part new)
+
+-- whether a note reports of a signal
+abbrev pub notes_signal : Note → Bool
+notes_signal note.Nothing = false
+notes_signal (note.Console at size) = false
+notes_signal (note.Trace entry) = false
+notes_signal (note.Put chan at size) = false
+notes_signal (note.Take chan) = false
+notes_signal (note.Saw at size) = false
+notes_signal note.NotKept = false
+notes_signal (note.Signal number) = true
+
+-- whether an act ends a stretch that is told by this note and reaches so beyond its partition
+abbrev pub ends_so : Note → Beyond → Bool
+ends_so a_note reach = if notes_signal a_note then true else ends_stretch (act_beyond reach)
+
+-- ticks of the machine were done, in the last of which the hypervisor may have halted; only the last has lines, which are these, but for
+-- one of bytes for the console, and only the last may have an act that ends a stretch
+pub record IsSpanDone (span : Span) (most : ℕ) (old new : SysState) (got : List ReportLine) : Type 0 where
+  pub some : 0 < span.ticks
+  pub within : span.ticks ≤ most
+  pub running : (run old.machine (span.ticks - 1)).halted ≡ false
+  pub state : new ≡ with_machine (run old.machine span.ticks) old
+  pub silent : lines old.machine (span.ticks - 1) ≡ []
+  pub lines : lines old.machine span.ticks ≡ console_lines span old.machine new.machine ++ got
+  pub few : length got ≤ 40
+  pub part : span.part < length new.machine.parts
+  pub readable : CanBeTold span.note (areas_in span.part new.machine)
+  pub kept : IsLastKept span old.machine new.machine
+  pub quiet : AreQuiet span.ticks old.machine
+  pub ends : ends_in (run old.machine (span.ticks - 1)) ≡ ends_so span.note span.reach
+
+-- the same, of a machine that stands before the system's
+pub record AreDoneFrom (span : Span) (most : ℕ) (g : Machine) (old new : SysState) (got : List ReportLine) : Type 0 where
+  pub some : 0 < span.ticks
+  pub within : span.ticks ≤ most
+  pub running : (run g (span.ticks - 1)).halted ≡ false
+  pub state : new ≡ with_machine (run g span.ticks) old
+  pub silent : lines g (span.ticks - 1) ≡ []
+  pub lines : lines g span.ticks ≡ console_lines span g new.machine ++ got
+  pub few : length got ≤ 40
+  pub part : span.part < length new.machine.parts
+  pub readable : CanBeTold span.note (areas_in span.part new.machine)
+  pub kept : IsLastKept span g new.machine
+  pub quiet : AreQuiet span.ticks g
+  pub ends : ends_in (run g (span.ticks - 1)) ≡ ends_so span.note span.reach
+
+-- nothing is told of the last of the ticks of a span, it has no lines, and it reaches beyond no partition
+pub record IsSilent (span : Span) (got : List ReportLine) : Type 0 where
+  pub note : span.note ≡ note.Nothing
+  pub reach : span.reach ≡ beyond.Nothing
+  pub lines : got ≡ []
+
+-- what ticks of a slot of partition p need, so many at most
+pub record CanTake (p most : ℕ) (sys : SysState) : Type 0 where
+  pub partition : p < length sys.machine.parts
+  pub running : sys.machine.halted ≡ false
+  pub shapes : sys.shapes ≡ shapes_of sys.machine.system.conf
+  pub frame : IsInFrame sys.machine.system.conf sys.machine.clock sys.machine.time
+  pub within : sys.machine.time + most ≤ sys.machine.clock.frame_start + frame_of sys.machine.system.conf sys.machine.clock.plan
+  pub asked : AsksPlan sys.machine.system.conf sys.machine.clock
+  pub some : 0 < most
+  pub few : sys.machine.ticks + most ≤ 4000000000
+  pub timed : sys.machine.time ≤ sys.machine.ticks
+  pub traces : (part_at p sys.machine).traces.next ≤ sys.machine.ticks
+  pub health : (part_at p sys.machine).health.next ≤ sys.machine.ticks + 1
+  pub execution : (part_at p sys.machine).clocks.execution ≤ sys.machine.ticks
+  pub made : AreEnds (view_of sys.machine.system p) (part_at p sys.machine).made
+
+-- no timer is due
+pub record NoneDue (time : ℕ) (clocks : PartitionClocks) : Type 0 where
+  pub hardware : is_due time clocks.hardware_timer ≡ false
+  pub execution : is_due clocks.execution clocks.execution_timer ≡ false
+
+-- the partition of a slot that goes on, of the machine before the slot's ticks: the interrupts of the first have come, and it is awake
+pub record HasMetInterrupts (g : Machine) (p : ℕ) (first : Bool) (ps : PartitionState) (most : ℕ) (sys : SysState) : Type 0 where
+  pub goes : IsAwake g p first ps
+  pub running : g.halted ≡ false
+  pub frame : IsInFrame g.system.conf g.clock g.time
+  pub stretch : IsStretch g most
+  pub there : p < length g.parts
+  pub met : sys ≡ with_machine (with_part p (met g first ps) g) sys
+
+-- it went in so many ticks, and the registers and the memory are those that the next instruction left, which came to this turn
+pub record HasTurned (turn : Turn) (g : Machine) (p : ℕ) (first : Bool) (ps : PartitionState) (went most pc : ℕ) (sys : SysState) : Type 0 where
+  pub is : IsUndisturbed g p first ps went
+  pub gone : HasGone went (view_of g.system p) (met g first ps)
+  pub there : p < length g.parts
+  pub fewer : went < most
+  pub came : (settled (its_areas g p) (gone_on went (its_areas g p) (met g first ps)).core (gone_on went (its_areas g p) (met g first ps)).memory).turn ≡ turn
+  pub state : sys ≡ with_machine (with_part p (turned_state
+      (settled (its_areas g p) (gone_on went (its_areas g p) (met g first ps)).core (gone_on went (its_areas g p) (met g first ps)).memory)
+      (gone_on went (its_areas g p) (met g first ps))) g) sys
+  pub at : pc ≡ (gone_on went (its_areas g p) (met g first ps)).core.pc
+
+-- the machine when so many ticks of a slot have passed in which its partition p only went: all others have rested
+abbrev pub machine_underway : ℕ → ℕ → Machine → Machine
+machine_underway p zero g = g
+machine_underway p (suc k) g = record g { parts = (rest_but (Some p) (g.time + k) g).parts; time = g.time + suc k; ticks = g.ticks + suc k }
+
+-- a partition with so many ticks more on its execution clock
+abbrev pub counted_on : ℕ → PartitionState → PartitionState
+counted_on count ps = record ps { clocks = record ps.clocks { execution = ps.clocks.execution + count } }
+
+-- what the tick after so many needs, in which the partition of the slot only went
+pub record CanTakeAfter (p went : ℕ) (sys : SysState) : Type 0 where
+  pub partition : p < length sys.machine.parts
+  pub running : sys.machine.halted ≡ false
+  pub shapes : sys.shapes ≡ shapes_of sys.machine.system.conf
+  pub frame : IsInFrame sys.machine.system.conf sys.machine.clock (sys.machine.time + went)
+  pub asked : AsksPlan sys.machine.system.conf sys.machine.clock
+  pub few : sys.machine.ticks + went < 4000000000
+  pub timed : sys.machine.time ≤ sys.machine.ticks
+  pub traces : (part_at p sys.machine).traces.next ≤ sys.machine.ticks
+  pub health : (part_at p sys.machine).health.next ≤ sys.machine.ticks + 1
+  pub execution : (part_at p sys.machine).clocks.execution ≤ sys.machine.ticks + went
+  pub made : AreEnds (view_of sys.machine.system p) (part_at p sys.machine).made
+
+-- the slot of an idle partition that nothing wakes, of the machine before its ticks: the interrupts of the first have come
+pub record IsIdle (g : Machine) (p : ℕ) (ps : PartitionState) (most : ℕ) (sys : SysState) : Type 0 where
+  pub slot : IsSlotOf g p false ps
+  pub idle : ps.state ≡ Idle
+  pub none : due (with_interrupts g.time false ps).traps ≡ None
+  pub running : g.halted ≡ false
+  pub frame : IsInFrame g.system.conf g.clock g.time
+  pub stretch : IsStretch g most
+  pub there : p < length g.parts
+  pub met : sys ≡ with_machine (with_part p (with_interrupts g.time false ps) g) sys

@@ -1,0 +1,86 @@
+//! How a tick of a partition's slot begins: interrupts become pending, and the partition goes on or does not.
+
+ghost use Rattle.std.specs.Prelude.{◌≡◌, ◌<◌, ◌||◌, IfSome, None, if◌then◌else◌, is_some, length, true};
+ghost use Rattle.machine_model.specs.LocalTick.{goes_on, with_interrupts};
+ghost use Rattle.machine_model.specs.Partition.{takes_turns};
+ghost use Rattle.slot_runs.specs.Meeting.{awake};
+ghost use Rattle.slot_runs.specs.Passes.{part_at, with_part};
+ghost use Rattle.virt_traps.specs.Virtual.{due};
+ghost use Rattle.whole_system.specs.State.{with_machine};
+
+use whole_system::Sys;
+use xm_base::{PartId, State};
+
+/// The interrupts that ticks bring.
+const HARDWARE_TIMER: u8 = 0;
+
+const EXECUTION_TIMER: u8 = 1;
+
+const SLOT_START: u8 = 5;
+
+/// Whether a partition takes its turn in its slots: it is not suspended, and has not halted.
+pub fn takes_turns(sys: &Sys, p: PartId) -> bool
+    requires partition { p < length sys.now.machine.parts }
+    ensures { result ≡ takes_turns (part_at p sys.now.machine).state }
+{
+    match sys.part(p).state {
+        State::Ready | State::Idle => true,
+        State::Suspended | State::Halted => false,
+    }
+}
+
+/// The interrupts of a tick become pending: the start of a slot, and those of the timers that are due.
+#[inline(always)]
+#[tactic(auto, unfolding(machine_model::specs::LocalTick::with_interrupts, machine_model::specs::Partition::hardware_looked_at, machine_model::specs::Partition::execution_looked_at))]
+pub fn meet(sys: &mut Sys, p: PartId, first: bool)
+    requires partition { p < length sys.old.machine.parts }
+    ensures { sys.new ≡ with_machine (with_part p (with_interrupts sys.old.machine.time first (part_at p sys.old.machine)) sys.old.machine) sys.old }
+{
+    let now = sys.now();
+    let own = sys.part_mut(p);
+    if first {
+        own.virt.raise(SLOT_START);
+    }
+    if own.clocks.hw_due(now) {
+        own.virt.raise(HARDWARE_TIMER);
+    }
+    if own.clocks.exec_due() {
+        own.virt.raise(EXECUTION_TIMER);
+    }
+}
+
+/// Whether the partition goes on: an idle one is woken by the start of its slot or an interrupt that is due.
+pub fn goes_on(sys: &Sys, p: PartId, first: bool) -> bool
+    requires partition { p < length sys.now.machine.parts }
+    requires turns { takes_turns (part_at p sys.now.machine).state ≡ true }
+    ensures { result ≡ goes_on (part_at p sys.now.machine).state first (due (part_at p sys.now.machine).traps) }
+{
+    sys.part(p).state == State::Ready || is_woken(sys, p, first)
+}
+
+// Whether an idle partition is woken. It stands by itself, so that a ready one is told by one test.
+#[inline(never)]
+fn is_woken(sys: &Sys, p: PartId, first: bool) -> bool
+    requires partition { p < length sys.now.machine.parts }
+    ensures { result ≡ (first || is_some (due (part_at p sys.now.machine).traps)) }
+{
+    first || sys.part(p).virt.due().is_some()
+}
+
+/// A partition that goes on is ready.
+pub fn wake(sys: &mut Sys, p: PartId)
+    requires partition { p < length sys.old.machine.parts }
+    ensures { sys.new ≡ with_machine (with_part p (awake (part_at p sys.old.machine)) sys.old.machine) sys.old }
+{
+    sys.part_mut(p).state = State::Ready;
+}
+
+/// The interrupt that is delivered to the partition, where one is due and traps are enabled.
+pub fn interrupt(sys: &Sys, p: PartId) -> Option<u8>
+    requires partition { p < length sys.now.machine.parts }
+    ensures value { result ≡ (if (part_at p sys.now.machine).traps.enabled then due (part_at p sys.now.machine).traps else None) }
+    ensures below { IfSome result (λ n. n < 32) }
+{
+    let virt = &sys.part(p).virt;
+    if virt.enabled { virt.due() } else { None }
+}
