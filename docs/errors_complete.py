@@ -3,7 +3,7 @@
 no text of the code has. Ends with 1 where there is one of either, else with 0.
 
 The texts are those of crates/file_commands/src/complaint.rt, those that another file of that crate or of
-xm_commands, file_maker or alone_replay makes itself, and those of each `Display` of a type named ..Fault in a crate.
+run_commands, xm_commands, file_maker or alone_replay makes itself, and those of each `Display` of a type named ..Fault in a crate.
 A row is a line of a table whose first column has the text as code, behind a paragraph that begins with
 `Texts of` and the type; values are one word each. The variant `Memory` is left out: want of memory is told by the program as `no memory`.
 """
@@ -13,7 +13,7 @@ from pathlib import Path
 
 ROOT = Path(__file__).resolve().parent.parent
 COMPLAINTS = "complaint.rt"
-MAKERS = ("file_commands", "xm_commands", "file_maker", "alone_replay")
+MAKERS = ("file_commands", "run_commands", "xm_commands", "file_maker", "alone_replay")
 
 
 def spelled(text):

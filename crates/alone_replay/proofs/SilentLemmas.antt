@@ -5,7 +5,8 @@ use Rattle.file_maker.specs.Ready.{Replay, Unready}
 use Rattle.cue_scripts.specs.Script.{IsScript}
 use Rattle.machine_model.specs.Cue.{Cue}
 use Rattle.machine_model.specs.View.{System, view_of}
-use Rattle.xm_alone.specs.Replay.{IsSilentReplay, Lone, TakesAll, booted_alone}
+use Rattle.xm_alone.specs.Replay.{IsSilentReplay, TakesAll}
+use Rattle.told_scripts.specs.Lone.{Lone, booted_alone}
 
 -- by what runs and the partition's number
 record Fits (made : Result Replay Unready) (cues : List Cue) (lone : Lone) (system : System) (p : ℕ) : Type 0 where

@@ -5,7 +5,8 @@ use Rattle.cue_scripts.specs.Script.{IsScript}
 use Rattle.file_maker.specs.declared.unmade.Unmade.{Unmade}
 use Rattle.file_maker.specs.declared.unmade.Unmade.TheVariants as unmade
 use Rattle.machine_model.specs.Cue.{Cue}
-use Rattle.xm_alone.specs.Replay.{IsSilentReplay, Lone, TakesAll, booted_alone, own_view}
+use Rattle.xm_alone.specs.Replay.{IsSilentReplay, TakesAll}
+use Rattle.told_scripts.specs.Lone.{Lone, booted_alone, own_view}
 use Rattle.file_maker.specs.Ready.{NoContainer, NoPartition, NoScript, OddInput, Replay, Unready}
 use Rattle.alone_replay.specs.declared.ready.Replay as code
 use Rattle.alone_replay.specs.declared.unready.Unready as why

@@ -4,10 +4,8 @@
 mod inputs;
 mod law;
 mod ready;
-mod texts;
 mod unready;
 
 pub use law::run_is_replayed;
 pub use ready::{Replay, make_ready};
-pub use texts::no_script;
 pub use unready::Unready;

@@ -5,12 +5,14 @@ mod grouping;
 mod imaging;
 mod parsing;
 mod planning;
+mod scripting;
 mod telling;
 mod unmade;
 mod upgrading;
 
 pub use imaging::{make_xef, no_container, no_image};
 pub use parsing::make_xmc;
+pub use scripting::no_script;
 pub use telling::{Telling, text_telling};
 pub use unmade::Unmade;
 pub use upgrading::{make_upgraded, no_configuration};

@@ -1,2 +1,3 @@
+pub mod Lone
 pub mod Replayed
 pub mod Telling

@@ -2,7 +2,7 @@
 #![tactic(auto)]
 
 use std::process::ExitCode;
-use xm_program::program;
+use xm_commands::program;
 
 fn main(rt: HostRuntime) -> ExitCode {
     program(&rt, rt.stdout(), rt.stderr())

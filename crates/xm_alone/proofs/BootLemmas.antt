@@ -11,7 +11,8 @@ use Rattle.machine_model.specs.Machine.{Machine, booted_part, start}
 use Rattle.machine_model.specs.View.{System, view_of}
 use Rattle.slot_runs.specs.Passes as passes
 use Rattle.alone_passes.specs.Passes.{part_in}
-use Rattle.xm_alone.specs.Replay.{Lone, booted_alone, lone_in, own_view}
+use Rattle.xm_alone.specs.Replay.{lone_in}
+use Rattle.told_scripts.specs.Lone.{Lone, booted_alone, own_view}
 
 -- what is there is one thing
 some_is : (a b : Alone) → Some a ≡ Some b → a ≡ b

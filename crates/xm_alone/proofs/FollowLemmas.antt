@@ -13,7 +13,13 @@ use Rattle.alone_passes.specs.Step.{IsLone, IsOfSystem}
 use Rattle.alone_passes.specs.Taking.{first_untaken, takes_cue}
 use Rattle.cue_scripts.specs.Script.{HaltsLast, IsCue, IsScript}
 use Rattle.told_scripts.specs.Replayed.{replayed}
-use Rattle.xm_alone.proofs.RunLemmas.{event_most}
+use Rattle.machine_model.specs.Whole.{ticks_after}
+
+-- a tick counts once at most
+event_most : (e : WholeEvent) (n : ℕ) → ticks_after e n ≤ n + 1
+event_most NoEvent n = omega arith
+event_most (AllReset mode) n = omega arith
+event_most AllHalted n = omega arith
 
 -- cues of two parts: what they leave, print and say
 pub from_add : (view : PartitionView) (a : Alone) (xs ys : List Cue) → alone_from view a (xs ++ ys) ≡ alone_from view (alone_from view a xs) ys

@@ -2,6 +2,4 @@ mod BootLemmas
 mod FollowLemmas
 mod NextLemmas
 mod PlayLemmas
-mod RunLemmas
 mod SilentLemmas
-mod TickLemmas

@@ -24,7 +24,8 @@ use Rattle.xm_machine.specs.declared.alone_fault.AloneFault.{AloneFault}
 use Rattle.xm_machine.specs.declared.alone_fault.AloneFault.TheVariants as fault
 use Rattle.xm_alone.specs.Cues.{ComesNext, Follows, IsNextCue, cues_left, next_cues, next_left}
 use Rattle.told_scripts.specs.Replayed.{cue_lines, replayed}
-use Rattle.xm_alone.specs.Replay.{IsCutReplay, TakesAll, is_refused, lone_in, replay_said, still_silent}
+use Rattle.xm_alone.specs.Replay.{IsCutReplay, TakesAll, is_refused, lone_in, still_silent}
+use Rattle.told_scripts.specs.Lone.{replay_said}
 use Rattle.xm_alone.specs.declared.cues.Cues as code
 use Rattle.xm_alone.specs.declared.cues.Next as code_next
 use Rattle.xm_alone.specs.declared.cues.Next.TheVariants as next

@@ -19,7 +19,8 @@ use Rattle.alone_passes.specs.Passes.{part_in}
 use Rattle.alone_passes.specs.Step.{IsLone, IsOfSystem}
 use Rattle.xm_machine.specs.AloneStep.{said_alone}
 use Rattle.told_scripts.specs.Replayed.{cue_lines, replay_lines, replayed}
-use Rattle.xm_alone.specs.Replay.{IsCutReplay, IsReplay, IsReplayed, IsSilentReplay, IsWholeReplay, Lone, lone_in, own_view, replay_said}
+use Rattle.xm_alone.specs.Replay.{IsCutReplay, IsReplay, IsReplayed, IsSilentReplay, IsWholeReplay, lone_in}
+use Rattle.told_scripts.specs.Lone.{Lone, own_view, replay_said}
 use Rattle.xm_alone.proofs.FollowLemmas.{IsFollowing, lines_add, lines_more, one_followed, said_more}
 
 -- the same bytes to each UART

@@ -18,7 +18,8 @@ use Rattle.alone_passes.specs.Taking.{first_untaken}
 use Rattle.file_texts.specs.declared.fault.ScriptFault.{ScriptFault}
 use Rattle.file_texts.specs.declared.fault.ScriptFault.TheVariants as fault
 use Rattle.told_scripts.specs.Replayed.{cue_lines, replayed}
-use Rattle.xm_alone.specs.Replay.{IsSilentReplay, Lone, TellsFit, booted_alone, lone_in}
+use Rattle.xm_alone.specs.Replay.{IsSilentReplay, TellsFit, lone_in}
+use Rattle.told_scripts.specs.Lone.{Lone, booted_alone}
 use Rattle.xm_alone.proofs.FollowLemmas.{IsFitting, lines_more, one_behind, one_followed}
 
 -- each line has a text

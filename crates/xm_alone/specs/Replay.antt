@@ -1,15 +1,14 @@
 -- A partition that is replayed: which script fits it, what a replay says, and whether it was one of these cues.
-use Rattle.std.specs.Prelude.{◌≡◌, ℕ, ◌<◌, ◌≤◌, Bool, false, true, List, [], length, take, if◌then◌else◌, Option, Some, None, Result, Ok, Err}
+use Rattle.std.specs.Prelude.{◌≡◌, ℕ, ◌<◌, ◌≤◌, Bool, false, true, List, [], length, take, Option, Some, None, Result, Ok, Err}
 use Rattle.xm_outside.specs.Growth.{grown, GrewByPrefix}
 use Rattle.xm_report.specs.Report.{ReportLine, texts}
 use Rattle.xm_report.specs.declared.output.WriteFault.{WriteFault}
 use Rattle.uart_board.specs.Heard.{IsHeard}
 use Rattle.uart_board.specs.Views.{BoardView}
-use Rattle.machine_model.specs.Alone.{Alone, alone_said, alone_start}
+use Rattle.machine_model.specs.Alone.{alone_said, alone_start}
 use Rattle.machine_model.specs.Cue.{Cue}
-use Rattle.machine_model.specs.Lists.{is_number}
 use Rattle.machine_model.specs.Machine.{Machine}
-use Rattle.machine_model.specs.View.{PartitionView, System, part_of, view_of}
+use Rattle.machine_model.specs.View.{PartitionView}
 use Rattle.alone_passes.specs.Passes.{part_in}
 use Rattle.alone_passes.specs.Taking.{first_untaken}
 use Rattle.told_scripts.specs.Replayed.{cue_lines, replayed}
@@ -17,26 +16,11 @@ use Rattle.file_texts.specs.declared.fault.ScriptFault.{ScriptFault}
 use Rattle.file_texts.specs.declared.fault.ScriptFault.TheVariants as fault
 use Rattle.xm_machine.specs.declared.alone_fault.AloneFault.{AloneFault}
 use Rattle.xm_machine.specs.declared.alone_fault.AloneFault.TheVariants as alone
-
--- a partition by itself: what runs, its number, its own part of the machine's state, and whether the hypervisor has halted. Nothing is said
--- of the other partitions
-pub record Lone : Type 0 where
-  pub system : System
-  pub p : ℕ
-  pub part : Alone
-  pub halted : Bool
+use Rattle.told_scripts.specs.Lone.{Lone, own_view, replay_said}
 
 -- partition p of a machine by itself
 abbrev pub lone_in : Machine → ℕ → Lone
 lone_in g p = record { system = g.system; p = p; part = part_in g p; halted = g.halted }
-
--- what the partition has of its own
-abbrev pub own_view : Lone → PartitionView
-own_view lone = view_of lone.system lone.p
-
--- a partition as it boots
-abbrev pub booted_alone : System → ℕ → Lone
-booted_alone system p = record { system = system; p = p; part = alone_start (view_of system p); halted = false }
 
 -- a script fits: the partition can take each cue in the state which the cues before it leave
 abbrev pub TakesAll : PartitionView → List Cue → Type 0
@@ -53,11 +37,6 @@ TellsFit view cues (Err (fault.Trailing at)) = ⊥
 TellsFit view cues (Err (fault.Field at)) = ⊥
 TellsFit view cues (Err (fault.Length found)) = ⊥
 TellsFit view cues (Err (fault.Cue tick)) = first_untaken view (alone_start view) 0 cues ≡ Some tick
-
--- the console bytes of a replay that each UART gets
-abbrev pub replay_said : Lone → List Cue → ℕ → List ℕ
-replay_said lone cues uart =
-    if is_number (part_of lone.system.conf lone.p).console uart then alone_said (own_view lone) (alone_start (own_view lone)) cues else []
 
 -- the partition's part is that of these cues, and it is the same partition of the same system
 pub record IsReplayed (cues : List Cue) (old new : Lone) : Type 0 where

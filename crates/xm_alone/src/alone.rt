@@ -11,7 +11,8 @@ ghost use Rattle.slot_runs.specs.Passes.{part_at};
 ghost use Rattle.uart_board.specs.Views.{BoardView};
 ghost use Rattle.whole_system.specs.State.{with_inputs};
 ghost use Rattle.told_scripts.specs.Replayed.{cue_lines, replay_lines};
-ghost use Rattle.xm_alone.specs.Replay.{IsReplay, IsSilentReplay, Lone, TakesAll, TellsFit, booted_alone, lone_in, own_view};
+ghost use Rattle.xm_alone.specs.Replay.{IsReplay, IsSilentReplay, TakesAll, TellsFit, lone_in};
+ghost use Rattle.told_scripts.specs.Lone.{Lone, booted_alone, own_view};
 ghost use Rattle.xm_machine.specs.Outcome.{HasWriteCause};
 ghost use Rattle.xm_report.specs.Report.{line_value};
 
@@ -40,7 +41,8 @@ impl Model for Alone {
     ghost use Rattle.std.specs.Coded.{codes};
     ghost use Rattle.std.specs.Prelude.{◌<◌, length};
     ghost use Rattle.guest_bus.specs.Memory.{memory_code};
-    ghost use Rattle.xm_alone.specs.Replay.{Lone, lone_in};
+    ghost use Rattle.xm_alone.specs.Replay.{lone_in};
+    ghost use Rattle.told_scripts.specs.Lone.{Lone};
 
     ghost Value = { Lone };
 

@@ -4,7 +4,8 @@ ghost use Rattle.std.specs.Prelude.{◌≡◌, ◌<◌, IfOk, length, true};
 ghost use Rattle.cue_scripts.specs.Script.{IsScript};
 ghost use Rattle.machine_model.specs.View.{view_of};
 ghost use Rattle.whole_system.specs.State.{with_inputs};
-ghost use Rattle.xm_alone.specs.Replay.{IsSilentReplay, TellsFit, booted_alone, is_refused, lone_in, still_silent};
+ghost use Rattle.xm_alone.specs.Replay.{IsSilentReplay, TellsFit, is_refused, lone_in, still_silent};
+ghost use Rattle.told_scripts.specs.Lone.{booted_alone};
 
 use crate::alone::Alone;
 use crate::cues::Cues;

@@ -1,109 +1,20 @@
 -- What commands leave of the board of UARTs.
-use Rattle.std.proofs.Common.{◌≡◌, ℕ, ◌<◌, List, length, take, Option, Some, None, Result, Ok, Err, refl, sym, subst, ap, ◌∙◌}
+use Rattle.std.proofs.Common.{◌≡◌, ℕ, List, Option, Some, None, Result, Ok, Err, refl, sym, subst}
 use Rattle.std.specs.Prelude.{IsSome}
-use Rattle.machine_model.specs.Lines.{console}
-use Rattle.machine_model.specs.Machine.{Machine, start}
-use Rattle.loaded_system.specs.System.{System}
-use Rattle.uart_board.specs.Heard.{IsHeard}
-use Rattle.uart_board.specs.Views.{BoardView, without_marks}
-use Rattle.whole_system.specs.State.{with_inputs}
-use Rattle.xm_machine.specs.Heard.{IsRunHeard}
-use Rattle.xm_machine.specs.Outcome.{IsRun}
-use Rattle.xm_machine.specs.declared.run.Ran.{Ran}
-use Rattle.xm_report.specs.Report.{ReportLine, texts}
+use Rattle.uart_board.specs.Views.{BoardView}
 use Rattle.xm_report.specs.declared.output.WriteFault.{WriteFault}
 use Rattle.xm_outside.specs.Files.{Files}
-use Rattle.xm_outside.specs.Growth.{grown}
 use Rattle.xm_words.specs.Words.{Command, PartFile, Parse, Upgrade, BuildImage, ReadImage, Pack, ListContainer, CheckContainer, MakePlan, CheckPlan, TellGroups, Generate}
-use Rattle.xm_commands.specs.Behind.{EndsBehind}
-use Rattle.xm_commands.proofs.BehindLemmas.{behind_leaves}
-use Rattle.xm_commands.specs.Boards.{IsLeft, IsMarked, IsRunTo, LeavesBoard}
+use Rattle.run_commands.specs.Boards.{IsLeft, LeavesBoard}
+use Rattle.xm_commands.specs.Played.{IsMarked}
 use Rattle.file_commands.specs.Denial.{Denial}
 use Rattle.file_commands.specs.Ending.{Ending, Finished, Misused, Unread, Denied, Unwritten, Unsaved, Unheard, Starved, status_of}
-use Rattle.file_commands.specs.Makes.{IsUnmadeOf}
-use Rattle.file_commands.specs.Outcome.{Output, Running, Together, first_long, inputs_of, file_made, outcome_of, packed_to, outcome_of_run, text_reported, unless_long, outcome_of_contents}
+use Rattle.file_commands.specs.Outcome.{Running, first_long, inputs_of, file_made, outcome_of, packed_to, text_reported, unless_long, outcome_of_contents}
 use Rattle.xm_commands.specs.Top.{IsQuiet}
-use Rattle.file_commands.specs.Work.{AreNotRead, IsDone, IsNotRead, Outside, ReadsFiles}
+use Rattle.file_commands.specs.Work.{IsDone, Outside}
 use Rattle.file_commands.specs.declared.status.Status.TheVariants as status
 use Rattle.file_commands.specs.declared.status.Status.TheVariants.{Done, Usage, UartFault}
-use Rattle.file_maker.specs.declared.unmade.Unmade.{Unmade}
-use Rattle.file_maker.specs.declared.unmade.Unmade.TheVariants as unmade
 use Rattle.xm_commands.proofs.TopLemmas.{loud}
-use Rattle.xm_commands.proofs.WorkLemmas.{reports_same}
-
--- what is run
-abbrev running : ℕ → System → List (List ℕ) → Running
-running ticks system inputs = Together (with_inputs system inputs) ticks
-
--- a run that reached its end
-whole : (r : Ran) (system : System) (inputs : List (List ℕ)) (ticks : ℕ) (new : Machine) (had got : Option (List ℕ)) (before mid after : BoardView)
-    → IsRun (Ok r) ticks (start (with_inputs system inputs)) new had got → mid ≡ without_marks before → IsRunHeard (start (with_inputs system inputs)) new mid after
-    → IsRunTo ticks (running ticks system inputs) before after
-whole r system inputs ticks new had got before mid after is begins heard =
-    subst (λ (board : BoardView). IsHeard (console (start (with_inputs system inputs)) ticks) board after) begins (heard ticks is.state)
-
--- where its whole report went out
-pub left_behind : (e : Ending) (outputs : List Output) (from to : Outside) (r : Ran) (cores : List PartFile) (scripts : List Output) (system : System) (inputs : List (List ℕ)) (ticks : ℕ) (new : Machine) (had got : Option (List ℕ)) (before mid after : BoardView)
-    → EndsBehind e outputs after from to → IsRun (Ok r) ticks (start (with_inputs system inputs)) new had got → mid ≡ without_marks before → IsRunHeard (start (with_inputs system inputs)) new mid after
-    → LeavesBoard e (outcome_of_run ticks cores scripts system inputs).run had got before after
-unfolding outcome_of_run
-left_behind e outputs from to r cores scripts system inputs ticks new had got before mid after ends is begins heard =
-    behind_leaves e outputs (running ticks system inputs) had got from to before after (whole r system inputs ticks new had got before mid after is begins heard) ends
-
--- a run whose report was cut
-pub left_cut : (fault : WriteFault) (cores : List PartFile) (scripts : List Output) (system : System) (inputs : List (List ℕ)) (ticks : ℕ) (new : Machine) (had got : Option (List ℕ)) (before mid after : BoardView)
-    → IsRun (Err fault) ticks (start (with_inputs system inputs)) new had got → mid ≡ without_marks before → IsRunHeard (start (with_inputs system inputs)) new mid after
-    → LeavesBoard Unwritten (outcome_of_run ticks cores scripts system inputs).run had got before after
-unfolding outcome_of_run
-left_cut fault cores scripts system inputs ticks new had got before mid after is begins heard = record {
-  front = record {
-    count = is.report.count;
-    short = subst (λ (lines : List ReportLine). is.report.count < length (texts lines)) (reports_same (with_inputs system inputs) ticks) is.report.short;
-    grew = is.report.grew ∙ ap (λ (lines : List ReportLine). grown had (take is.report.count (texts lines))) (reports_same (with_inputs system inputs) ticks);
-  };
-  ticks = is.ticks;
-  within = is.within;
-  cut = (is.whole, is.cut);
-  heard = subst (λ (board : BoardView). IsHeard (console (start (with_inputs system inputs)) is.ticks) board after) begins (heard is.ticks is.state);
-}
-
--- where nothing was made, the board is left as it was
-pub unmade_leaves : (e : Ending) (file : List ℕ) (why : Unmade) (run : Option Running) (had got : Option (List ℕ)) (board : BoardView) → IsUnmadeOf e file why → LeavesBoard e run had got board board
-unmade_leaves e file (unmade.Refused text) run had got board ends = rw ends refl
-unmade_leaves e file unmade.Memory run had got board ends = rw ends refl
-
--- a command whose files were read
-pub left_by : (e : Ending) (command : Command) (files : Option Files) (contents : List (List ℕ)) (had got : Option (List ℕ)) (before after : BoardView) → ReadsFiles files (inputs_of command) contents
-    → LeavesBoard e (outcome_of command contents).run had got before after → IsLeft e (Some command) files had got before after
-left_by Finished command files contents had got before after read leaves = record { contents = contents; read = read; leaves = leaves }
-left_by Misused command files contents had got before after read leaves = leaves
-left_by (Unread file) command files contents had got before after read leaves = leaves
-left_by (Denied file text) command files contents had got before after read leaves = leaves
-left_by Unwritten command files contents had got before after read leaves = record { contents = contents; read = read; leaves = leaves }
-left_by (Unsaved file) command files contents had got before after read leaves = record { contents = contents; read = read; leaves = leaves }
-left_by (Unheard place) command files contents had got before after read leaves = record { contents = contents; read = read; leaves = leaves }
-left_by Starved command files contents had got before after read leaves = leaves
-
--- one whose one file was not read, or whose files were not all read
-pub left_unread : (e : Ending) (command : Command) (file : List ℕ) (files : Option Files) (before after : Outside) (had got : Option (List ℕ)) (board : BoardView) → IsNotRead e file before after → IsLeft e (Some command) files had got board board
-left_unread Finished command file files before after had got board not_read = absurd not_read
-left_unread Misused command file files before after had got board not_read = absurd not_read
-left_unread (Unread other) command file files before after had got board not_read = refl
-left_unread (Denied other text) command file files before after had got board not_read = absurd not_read
-left_unread Unwritten command file files before after had got board not_read = absurd not_read
-left_unread (Unsaved other) command file files before after had got board not_read = absurd not_read
-left_unread (Unheard place) command file files before after had got board not_read = absurd not_read
-left_unread Starved command file files before after had got board not_read = refl
-
-pub left_not_all_read : (e : Ending) (command : Command) (names : List (List ℕ)) (files : Option Files) (before after : Outside) (had got : Option (List ℕ)) (board : BoardView) → AreNotRead e names before after → IsLeft e (Some command) files had got board board
-left_not_all_read Finished command names files before after had got board not_read = absurd not_read
-left_not_all_read Misused command names files before after had got board not_read = absurd not_read
-left_not_all_read (Unread other) command names files before after had got board not_read = refl
-left_not_all_read (Denied other text) command names files before after had got board not_read = absurd not_read
-left_not_all_read Unwritten command names files before after had got board not_read = absurd not_read
-left_not_all_read (Unsaved other) command names files before after had got board not_read = absurd not_read
-left_not_all_read (Unheard place) command names files before after had got board not_read = absurd not_read
-left_not_all_read Starved command names files before after had got board not_read = refl
 
 -- a command that runs nothing
 pub left_still : (e : Ending) (command : Command) (before after : Outside) (had got : Option (List ℕ)) (board : BoardView) → ((contents : List (List ℕ)) → (outcome_of command contents).run ≡ None)

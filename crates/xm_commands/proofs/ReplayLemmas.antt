@@ -13,18 +13,19 @@ use Rattle.file_maker.specs.Ready.{Replay as Readied, Unready}
 use Rattle.machine_model.specs.Cue.{Cue}
 use Rattle.machine_model.specs.View.{view_of}
 use Rattle.told_scripts.specs.Replayed.{replay_lines}
-use Rattle.xm_alone.specs.Replay.{IsCutReplay, IsReplay, IsReplayed, IsWholeReplay, Lone, booted_alone, own_view, replay_said}
+use Rattle.xm_alone.specs.Replay.{IsCutReplay, IsReplay, IsReplayed, IsWholeReplay}
+use Rattle.told_scripts.specs.Lone.{Lone, booted_alone, own_view, replay_said}
 use Rattle.xm_words.specs.Words.{ReplayFiles}
-use Rattle.xm_commands.specs.Behind.{EndsBehind}
-use Rattle.xm_commands.specs.Boards.{IsRunTo, LeavesBoard}
-use Rattle.xm_commands.proofs.BehindLemmas.{behind_leaves, behind_outcome}
+use Rattle.run_commands.specs.Behind.{EndsBehind}
+use Rattle.run_commands.specs.Boards.{IsRunTo, LeavesBoard}
+use Rattle.run_commands.specs.BehindLemmas.{behind_leaves, behind_outcome}
 use Rattle.file_commands.specs.Ending.{Ending, Unwritten}
 use Rattle.xm_base.specs.declared.limits.TheConstants.{FILE_BYTES}
 use Rattle.file_commands.specs.Outcome.{Output, Running, Apart, content, first_long, input_bytes, name_if_any, played, replay_outcome_by, replay_output, unready_denial}
 use Rattle.xm_commands.specs.Replaying.{lone_output, ready_of, unready_ending}
 use Rattle.file_commands.specs.Work.{Outside, Comes, outside, told_all}
 use Rattle.std.proofs.lemmas.Bool.Decides.{nat_tests}
-use Rattle.xm_commands.proofs.InputLemmas.{rest_short}
+use Rattle.run_commands.specs.InputLemmas.{rest_short}
 use Rattle.file_commands.specs.CommandLemmas.{refused_comes}
 
 -- A replay.

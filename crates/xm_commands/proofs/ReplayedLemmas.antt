@@ -14,7 +14,7 @@ use Rattle.machine_model.specs.View.{System, view_of}
 use Rattle.whole_system.specs.State.{with_inputs}
 use Rattle.told_scripts.specs.Replayed.{replay_lines, replayed}
 use Rattle.xm_words.specs.Words.{Command, ReplayFiles, Bare, Parse, Upgrade, BuildImage, ReadImage, Pack, ListContainer, CheckContainer, MakePlan, CheckPlan, TellGroups, Generate, Run, Replay, replay_core, replay_input}
-use Rattle.xm_commands.specs.Answer.{read_all}
+use Rattle.run_commands.specs.Contents.{read_all}
 use Rattle.file_commands.specs.Denial.{Denial}
 use Rattle.file_commands.specs.Ending.{Ending, status_of}
 use Rattle.file_commands.specs.Outcome.{Output, Outcome, content, core_output, first_long, input_bytes, inputs_of, name_if_any, outcome_of, played, replay_outcome_by, replay_outcome, replay_output, unless_long, outcome_of_contents}

@@ -24,7 +24,7 @@ use Rattle.machine_model.specs.Partition.{PartitionState}
 use Rattle.machine_model.specs.View.{System, view_of}
 use Rattle.whole_system.specs.State.{part_at, with_inputs}
 use Rattle.xm_words.specs.Words.{Command, PartFile, RunOption, Bare, Parse, Upgrade, BuildImage, ReadImage, Pack, ListContainer, CheckContainer, MakePlan, CheckPlan, TellGroups, Generate, Run, Replay, cores_in, inputs_in, span_in, scripts_in}
-use Rattle.xm_commands.specs.Cores.{AreForPartitions}
+use Rattle.run_commands.specs.Cores.{AreForPartitions}
 use Rattle.file_commands.specs.Denial.{Denial}
 use Rattle.file_commands.specs.Ending.{Ending, length_text, status_of, ticks_text}
 use Rattle.file_commands.specs.Inputs.{first_beyond, inputs_for, inputs_with, no_inputs, unless_beyond}
@@ -32,8 +32,8 @@ use Rattle.file_commands.specs.Outcome.{Output, Outcome, bare_outcome, content, 
 use Rattle.xm_commands.specs.Separation.{AreShownAlone, CommandAlone, ContainerAlone, PrintsAlone, ShowsAlone, ShowsFront, ShowsPart, ShowsSome, alone_output, alone_outputs}
 use Rattle.xm_commands.specs.Top.{AreContents, IsCompleteStatus, IsCutShort, IsNotWritten, IsLostAfter, IsWriteCause}
 use Rattle.file_commands.specs.Work.{Outside, IsCarriedOut, IsWorked, called_for, did, told_all, wrote, wrote_all}
-use Rattle.xm_commands.specs.Numbers.{CommandTells, HasScripts, WordsTell, TellsOf}
-use Rattle.xm_commands.proofs.CoreLemmas.{cores_inside}
+use Rattle.run_commands.specs.Numbers.{CommandTells, HasScripts, WordsTell, TellsOf}
+use Rattle.run_commands.specs.CoreLemmas.{cores_inside}
 use Rattle.file_commands.specs.OutputLemmas.{called_for-is}
 use Rattle.xm_commands.proofs.OutsideLemmas.{told_outcome}
 use Rattle.xm_commands.proofs.NumberLemmas.{complete_made}

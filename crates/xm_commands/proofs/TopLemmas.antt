@@ -4,7 +4,8 @@ use Rattle.xm_outside.specs.Causes.{HasCause, Rose}
 use Rattle.xm_outside.specs.Files.{Files, IsAbsent, OthersStay}
 use Rattle.xm_outside.specs.Growth.{grown, grown-nothing, GrewByPrefix, Writes}
 use Rattle.xm_words.specs.Words.{Command, command_of}
-use Rattle.xm_commands.specs.Answer.{Answer, answer, ending_answer, command_answer, answer_to_read, ending_by, read_all, files_saved, saved_all}
+use Rattle.xm_commands.specs.Answer.{Answer, answer, ending_answer, command_answer, answer_to_read, ending_by, files_saved, saved_all}
+use Rattle.run_commands.specs.Contents.{read_all}
 use Rattle.file_commands.specs.Ending.{Ending, Finished, Misused, Unread, Denied, Unwritten, Unsaved, Unheard, Starved, complaint, status_of}
 use Rattle.file_commands.specs.Denial.{Denial}
 use Rattle.file_commands.specs.Outcome.{Output, Outcome, inputs_of, outcome_of, output_of}

@@ -1,12 +1,13 @@
 -- What the program answers to words and files in a world without faults.
 use Rattle.std.specs.Prelude.{ℕ, List, [], ◌∷◌, Option, Some, None, Result, Ok, Err}
-use Rattle.std.specs.FinMap.{get, insert}
+use Rattle.std.specs.FinMap.{insert}
 use Rattle.xm_outside.specs.Files.{Files}
 use Rattle.xm_words.specs.Words.{Command, command_of}
 use Rattle.file_commands.specs.Ending.{Ending, Finished, Misused, Unread, Denied, complaint, status_of}
 use Rattle.file_commands.specs.Denial.{Denial}
 use Rattle.file_commands.specs.Outcome.{Output, Outcome, inputs_of, outcome_of}
 use Rattle.file_commands.specs.declared.status.Status.{Status}
+use Rattle.run_commands.specs.Contents.{read_all}
 
 -- how a command ends that met no fault
 abbrev pub ending_by : Option Denial → Ending
@@ -33,17 +34,6 @@ pub record Answer : Type 0 where
 -- the answer of an ending, with what went to the report, and the files
 abbrev pub ending_answer : Ending → List ℕ → Files → Answer
 ending_answer ending out files = record { status = status_of ending; out = out; err = complaint ending; files = files }
-
--- a file's content before those of others, or the first file that is not there
-abbrev pub read_before : List ℕ → Option (List ℕ) → Result (List (List ℕ)) (List ℕ) → Result (List (List ℕ)) (List ℕ)
-read_before file None rest = Err file
-read_before file (Some bytes) (Ok contents) = Ok (bytes ∷ contents)
-read_before file (Some bytes) (Err absent) = Err absent
-
--- the contents of files, or the first of them that is not there
-abbrev pub read_all : Files → List (List ℕ) → Result (List (List ℕ)) (List ℕ)
-read_all files [] = Ok []
-read_all files (file ∷ others) = read_before file (get files file) (read_all files others)
 
 -- the answer of a command that comes to this
 abbrev pub outcome_answer : Outcome → Files → Answer

@@ -1,11 +1,9 @@
 pub mod Answer
-pub mod Behind
-pub mod Boards
-pub mod Cores
-pub mod Numbers
-pub mod ReadyRuns
+pub mod Arguments
+pub mod Called
+pub mod Ended
+pub mod Played
 pub mod Replaying
-pub mod Scripts
 pub mod Separation
 pub mod Ticks
 pub mod Top

@@ -3,7 +3,7 @@ use Rattle.std.specs.Prelude.{◌≡◌, ℕ, List, Option, Some, None}
 use Rattle.file_maker.specs.Ready.{Replay, Unready}
 use Rattle.machine_model.specs.CoreFile.{core_file}
 use Rattle.machine_model.specs.Cue.{Cue}
-use Rattle.xm_alone.specs.Replay.{Lone, own_view}
+use Rattle.told_scripts.specs.Lone.{Lone, own_view}
 use Rattle.xm_words.specs.Words.{ReplayFiles}
 use Rattle.file_commands.specs.Ending.{Ending, Denied, Starved}
 use Rattle.file_commands.specs.Outcome.{Output, unready_denial}

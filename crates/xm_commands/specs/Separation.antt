@@ -17,8 +17,8 @@ use Rattle.whole_system.specs.State.{with_inputs}
 use Rattle.xm_words.specs.Words.{Command, PartFile, RunOption, Bare, Parse, Upgrade, BuildImage, ReadImage, Pack, ListContainer, CheckContainer, MakePlan, CheckPlan, TellGroups, Generate, Run, Replay, cores_in, replay_core, replay_input, span_in, scripts_in}
 use Rattle.file_commands.specs.Inputs.{inputs_for, no_inputs}
 use Rattle.file_commands.specs.Outcome.{Output, content, core_output, first_long, input_bytes, name_if_any, script_output, ticks_asked}
-use Rattle.xm_commands.specs.Answer.{read_all}
-use Rattle.xm_commands.specs.Numbers.{HaveTold}
+use Rattle.run_commands.specs.Contents.{read_all}
+use Rattle.run_commands.specs.Numbers.{HaveTold}
 use Rattle.xm_commands.specs.Top.{AreContents, IsCompleteStatus}
 use Rattle.file_commands.specs.Work.{Outside, wrote_all}
 use Rattle.file_commands.specs.declared.status.Status.{Status}

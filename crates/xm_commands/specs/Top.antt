@@ -5,7 +5,8 @@ use Rattle.xm_outside.specs.Causes.{Rose}
 use Rattle.xm_outside.specs.Files.{Files, IsAbsent, OthersStay}
 use Rattle.xm_outside.specs.Growth.{grown, GrewByPrefix}
 use Rattle.xm_words.specs.Words.{Command}
-use Rattle.xm_commands.specs.Answer.{answer, read_all}
+use Rattle.xm_commands.specs.Answer.{answer}
+use Rattle.run_commands.specs.Contents.{read_all}
 use Rattle.file_commands.specs.Ending.{Ending, complaint, status_of}
 use Rattle.file_commands.specs.Outcome.{Output, inputs_of, later_of, name_if_any, outcome_of, output_of}
 use Rattle.file_commands.specs.Work.{Outside, IsWorked, told_all, wrote, wrote_all, counted_by}

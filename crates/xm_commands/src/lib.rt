@@ -1,18 +1,15 @@
-//! The commands: files are read, made and written, systems are run, and each call ends with a status.
+//! The commands: files are read, made and written, systems are run, and each call ends with a status. And the program over them, below its
+//! `main`: what the arguments of a process say is done, over the system's files and streams.
 #![tactic(auto)]
 
-mod cores;
-mod generating;
-mod inputs;
-mod later;
+mod arguments;
+mod edge;
 mod lone_core;
-mod readiness;
 mod replaying;
-mod running;
-mod scripts;
 mod top;
-mod unpacking;
 mod work;
 
+pub use arguments::{carry_out, words_after_name};
+pub use edge::{program, run};
 pub use file_commands::Status;
 pub use top::{misused, xm_main};

@@ -2,7 +2,7 @@
 
 ghost use Rattle.std.specs.Prelude.{ℕ, ◌≡◌, List, IfOk, Option, length, map, option_copied};
 ghost use Rattle.core_files.specs.Length.{core_length_of};
-ghost use Rattle.xm_alone.specs.Replay.{own_view};
+ghost use Rattle.told_scripts.specs.Lone.{own_view};
 ghost use Rattle.file_commands.specs.Outcome.{name_if_any};
 ghost use Rattle.xm_commands.specs.Replaying.{HasCoreRoom, lone_output};
 ghost use Rattle.file_commands.specs.Told.{AreSaved};

@@ -4,11 +4,12 @@ ghost use Rattle.std.specs.Prelude.{◌≡◌, ◌≤◌, ◌∷◌, None, Some,
 ghost use Rattle.xm_base.specs.declared.limits.TheConstants.{FILE_BYTES};
 ghost use Rattle.alone_replay.specs.Readied.{IsReady, Readies, unready_of};
 ghost use Rattle.file_maker.specs.Ready.{replay_of};
-ghost use Rattle.xm_commands.specs.Boards.{IsLeft, LeavesBoard};
+ghost use Rattle.run_commands.specs.Boards.{IsLeft, LeavesBoard};
 ghost use Rattle.file_commands.specs.Outcome.{content, first_long, input_bytes, input_name, name_if_any, outcome_of, played, replay_outcome};
 ghost use Rattle.core_files.specs.Length.{core_length_of};
 ghost use Rattle.told_scripts.specs.Replayed.{replay_lines};
-ghost use Rattle.xm_alone.specs.Replay.{IsReplay, booted_alone, own_view};
+ghost use Rattle.xm_alone.specs.Replay.{IsReplay};
+ghost use Rattle.told_scripts.specs.Lone.{booted_alone, own_view};
 ghost use Rattle.xm_machine.specs.Outcome.{HasWriteCause};
 ghost use Rattle.xm_commands.specs.Replaying.{HasCoreRoom, ready_of, unready_ending};
 ghost use Rattle.file_commands.specs.Told.{vector_bytes, ending_of};
@@ -16,11 +17,11 @@ ghost use Rattle.file_commands.specs.Work.{Comes, IsDone, outside};
 ghost use Rattle.xm_words.specs.Seen.{seen_further};
 ghost use Rattle.xm_words.specs.Words.{Replay as ReplayPart, replay_input};
 
-use crate::later::ended;
 use crate::lone_core::{lone_room, write_lone_core};
 use alone_replay::{Replay, Unready, make_ready};
 use cue_scripts::Script;
 use file_commands::{Ending, Refusal, first_long_of_three, read_three, split_contents};
+use run_commands::ended;
 use std::alloc::Global;
 use uart_board::{Board, ViewBoard};
 use xm_alone::Alone;

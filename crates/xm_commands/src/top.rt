@@ -1,7 +1,7 @@
 //! The top call: from words and files to a report and a status.
 
 ghost use Rattle.std.specs.Prelude.{◌≡◌, ◌≢◌, ◌↔◌, None};
-ghost use Rattle.xm_commands.specs.Boards.{IsMarked, IsPlayed};
+ghost use Rattle.xm_commands.specs.Played.{IsMarked, IsPlayed};
 ghost use Rattle.file_commands.specs.Ending.{Misused, complaint};
 ghost use Rattle.xm_commands.specs.Separation.{AreShownAlone, ReplaysAlone, ShowsAlone, ShowsPart};
 ghost use Rattle.xm_commands.specs.Top.{Answers, HasCauses, IsCompleteStatus, IsExplained, IsQuiet, IsSaid, OtherFilesStay};

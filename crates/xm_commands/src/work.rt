@@ -1,20 +1,18 @@
 //! What the words say is done.
 
 ghost use Rattle.std.specs.Prelude.{Some};
-ghost use Rattle.xm_commands.specs.Boards.{IsLeft};
+ghost use Rattle.run_commands.specs.Boards.{IsLeft};
 ghost use Rattle.file_commands.specs.Told.{ending_of};
 ghost use Rattle.xm_commands.specs.Ticks.{HasTicks};
 ghost use Rattle.file_commands.specs.Work.{IsWorked, outside};
-ghost use Rattle.xm_commands.specs.Numbers.{HasScripts, WordsTell};
+ghost use Rattle.run_commands.specs.Numbers.{HasScripts, WordsTell};
 ghost use Rattle.xm_words.specs.Seen.{command_seen};
 ghost use Rattle.xm_words.specs.Words.{command_of};
 
-use crate::generating::generate;
 use crate::replaying::replay_container;
-use crate::running::run_file;
-use crate::unpacking::run_container;
 use file_commands::{Ending, build_image, pack_files, parse, tell, upgrade};
 use file_maker::Telling;
+use run_commands::{generate, run_container, run_file};
 use std::alloc::Global;
 use uart_board::{Board, ViewBoard};
 use xm_outside::{Sink, Store};

@@ -1,5 +1,5 @@
 use Rattle.std.proofs.Common.{map, option_copied}
-use Rattle.xm_alone.specs.Replay.{booted_alone}
+use Rattle.told_scripts.specs.Lone.{booted_alone}
 use Rattle.file_commands.specs.Outcome.{name_if_any}
 use Rattle.file_commands.specs.Told.{ending_of}
 use Rattle.xm_commands.specs.Replaying.{lone_output}

@@ -2,7 +2,7 @@ use Rattle.std.proofs.Common.{map}
 use Rattle.xm_words.specs.Seen.{seen_further}
 use Rattle.xm_words.specs.Words.{Replay}
 use Rattle.file_commands.specs.Told.{vector_bytes, ending_of}
-use Rattle.xm_commands.proofs.BoardLemmas.{left_by, left_not_all_read}
+use Rattle.run_commands.specs.BoardLemmas.{left_by, left_not_all_read}
 use Rattle.file_commands.specs.CommandLemmas.{comes_from, done_by, not_all_read_done}
 use Rattle.xm_commands.proofs.replaying.replay_container.Goals as goal
 

@@ -1,4 +1,4 @@
-use Rattle.xm_commands.proofs.WorkLemmas.{has_ticks}
+use Rattle.xm_commands.proofs.TickLemmas.{has_ticks}
 use Rattle.xm_commands.proofs.work.work.Goals as goal
 
 pub carry_out-requires : goal.carry_out-requires

@@ -2,7 +2,8 @@ use Rattle.std.proofs.Common.{ℕ, ◌<◌, Bool, Option, Err, subst, sym}
 use Rattle.cue_scripts.specs.Script.{IsScript}
 use Rattle.machine_model.specs.View.{System, view_of}
 use Rattle.whole_system.specs.State.{with_inputs}
-use Rattle.xm_alone.specs.Replay.{IsSilentReplay, Lone, TakesAll, TellsFit, lone_in}
+use Rattle.xm_alone.specs.Replay.{IsSilentReplay, TakesAll, TellsFit, lone_in}
+use Rattle.told_scripts.specs.Lone.{Lone}
 use Rattle.xm_alone.proofs.BootLemmas.{booted-fresh, booted-lone, booted-same, booted-there}
 use Rattle.xm_alone.proofs.SilentLemmas.{fault_fits}
 use Rattle.xm_alone.proofs.alone.Alone.tried.Goals as goal

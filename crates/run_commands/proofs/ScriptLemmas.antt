@@ -1,0 +1,212 @@
+-- Scripts that are made before a run, and written after its core files.
+use Rattle.std.proofs.Common.{◌≡◌, ℕ, ◌+◌, ◌<◌, ◌≤◌, Bool, true, false, nat_lt, if◌then◌else◌, List, [], ◌∷◌, ◌++◌, length, map, drop, Option, Some, None, Result, Ok, Err, get_or, refl, sym, ap, ◌∙◌, subst, arith, append_assoc}
+use Rattle.std.proofs.lemmas.Bool.Decides.{nat_tests}
+use Rattle.std.proofs.lemmas.List.{append-nil, at_drop_more}
+use Rattle.xm_base.specs.declared.limits.TheConstants.{FILE_BYTES, TICKS}
+use Rattle.xm_outside.specs.Causes.{Rose}
+use Rattle.xm_outside.specs.Files.{OthersStay}
+use Rattle.loaded_system.specs.System.{System}
+use Rattle.machine_model.specs.View.{System as Booted}
+use Rattle.whole_system.specs.State.{with_inputs}
+use Rattle.xm_words.specs.Words.{PartFile, RunOption, cores_in, scripts_in, span_in}
+use Rattle.std.specs.String.{string_bytes}
+use Rattle.file_texts.specs.Texts.{script_fault_text}
+use Rattle.cue_scripts.specs.Written.{IsScriptFile}
+use Rattle.file_texts.specs.declared.fault.ScriptFault.{ScriptFault}
+use Rattle.file_texts.specs.declared.fault.ScriptFault.TheVariants as fault
+use Rattle.file_maker.specs.Makes.{IsRefusalText}
+use Rattle.file_maker.specs.declared.unmade.Unmade.{Unmade}
+use Rattle.file_maker.specs.declared.unmade.Unmade.TheVariants as unmade
+use Rattle.file_commands.specs.Makes.{IsUnmadeOf}
+use Rattle.file_commands.specs.Denial.{Denial}
+use Rattle.file_commands.specs.Ending.{Ending, Finished, Misused, Unread, Denied, Unwritten, Unsaved, Unheard, Starved, ticks_text}
+use Rattle.file_commands.specs.Outcome.{Output, ran_for, ran_scripted, ran_within, command_refused, script_before, script_bytes, script_denial, script_output, scripts_for, ticks_asked, unless_denied}
+use Rattle.run_commands.specs.Scripts.{script_or}
+use Rattle.file_commands.specs.Told.{AreSaved, IsDenied, ending_of}
+use Rattle.file_commands.specs.declared.ending.Ending as code
+use Rattle.file_commands.specs.Work.{Outside, AreNotSaved, IsLostOf, SavesAll, after_store_call, with_files, wrote}
+use Rattle.run_commands.specs.CoreLemmas.{saves_after}
+
+-- One script.
+
+-- one that is not too long
+pub script_made : (system : Booted) (ticks part : ℕ) (file bytes : List ℕ) → bytes ≡ script_bytes system ticks part → length (script_bytes system ticks part) ≤ FILE_BYTES
+    → script_or (script_denial system ticks (record { part = part; file = file })) (script_output system ticks (record { part = part; file = file })) ≡ Ok (record { file = file; bytes = bytes })
+script_made system ticks part file bytes is few =
+    let test : nat_lt FILE_BYTES (length (script_bytes system ticks part)) ≡ false = grind (arith, nat_tests, few) in
+    rw test (ap (λ (b : List ℕ). Ok (record { file = file; bytes = b })) (sym is))
+
+-- one that is
+pub script_long : (system : Booted) (ticks part : ℕ) (file : List ℕ) (found : ℕ) → found ≡ length (script_bytes system ticks part) → FILE_BYTES < length (script_bytes system ticks part)
+    → script_or (script_denial system ticks (record { part = part; file = file })) (script_output system ticks (record { part = part; file = file })) ≡ Err (record { file = file; text = script_fault_text (fault.Length found) })
+script_long system ticks part file found is long =
+    let test : nat_lt FILE_BYTES (length (script_bytes system ticks part)) ≡ true = grind (arith, nat_tests, long) in
+    rw test (ap (λ (n : ℕ). Err (record { file = file; text = script_fault_text (fault.Length n) })) (sym is))
+
+-- one that was not made
+pub script_unmade : {X : Type 0} (view : X → List ℕ) (system : Booted) (ticks part : ℕ) (file : List ℕ) (why : ScriptFault) (said : Unmade) (e : Ending)
+    → IsScriptFile view (script_bytes system ticks part) (Err why) → IsRefusalText said (script_fault_text why) → (why ≡ fault.Memory → said ≡ unmade.Memory) → IsUnmadeOf e file said
+    → IsDenied e (script_or (script_denial system ticks (record { part = part; file = file })) (script_output system ticks (record { part = part; file = file })))
+script_unmade view system ticks part file (fault.Length found) (unmade.Refused words) e is told memory ends =
+    let text_is : string_bytes words ≡ script_fault_text (fault.Length found) = told in
+    rw (ends, text_is) (script_long system ticks part file found is.0 is.1)
+script_unmade view system ticks part file (fault.Length found) unmade.Memory e is told memory ends = rw ends tt
+script_unmade view system ticks part file fault.Memory said e is told memory ends =
+    let starved : said ≡ unmade.Memory = memory refl in
+    let ended : e ≡ Starved = subst (IsUnmadeOf e file) starved ends in
+    rw ended tt
+script_unmade view system ticks part file fault.Magic said e is told memory ends = absurd is
+script_unmade view system ticks part file (fault.Version found) said e is told memory ends = absurd is
+script_unmade view system ticks part file (fault.Short at) said e is told memory ends = absurd is
+script_unmade view system ticks part file (fault.Trailing at) said e is told memory ends = absurd is
+script_unmade view system ticks part file (fault.Field at) said e is told memory ends = absurd is
+script_unmade view system ticks part file (fault.Cue tick) said e is told memory ends = absurd is
+
+-- Scripts, one after another.
+
+-- scripts before others
+abbrev pub scripts_before : List Output → Result (List Output) Denial → Result (List Output) Denial
+scripts_before first (Ok outputs) = Ok (first ++ outputs)
+scripts_before first (Err refusal) = Err refusal
+
+-- before the first there is none
+none_before : (made : Result (List Output) Denial) → made ≡ scripts_before [] made
+none_before (Ok outputs) = refl
+none_before (Err refusal) = refl
+
+-- so it begins
+pub scripts_begun : (system : Booted) (ticks : ℕ) (all rest : List PartFile) (first : List Output) → rest ≡ all → first ≡ []
+    → scripts_for system ticks all ≡ scripts_before first (scripts_for system ticks rest)
+scripts_begun system ticks all rest first same none =
+    none_before (scripts_for system ticks all) ∙ ap (λ (outputs : List Output). scripts_before outputs (scripts_for system ticks all)) (sym none)
+    ∙ ap (λ (names : List PartFile). scripts_before first (scripts_for system ticks names)) (sym same)
+
+-- one before others, after the first
+one_before : (first : List Output) (output : Output) (made : Result (List Output) Denial) → scripts_before first (script_before output made) ≡ scripts_before (first ++ output ∷ []) made
+one_before first output (Ok outputs) = ap Ok (sym (append_assoc first (output ∷ []) outputs))
+one_before first output (Err refusal) = refl
+
+-- the next one was made
+pub next_made : (system : Booted) (ticks : ℕ) (all rest others : List PartFile) (named : PartFile) (first next : List Output) (output : Output)
+    → rest ≡ named ∷ others → script_or (script_denial system ticks named) (script_output system ticks named) ≡ Ok output → next ≡ first ++ output ∷ []
+    → scripts_for system ticks all ≡ scripts_before first (scripts_for system ticks rest)
+    → scripts_for system ticks all ≡ scripts_before next (scripts_for system ticks others)
+next_made system ticks all rest others named first next output is made more goes =
+    at (script_denial system ticks named) made (goes ∙ ap (λ (names : List PartFile). scripts_before first (scripts_for system ticks names)) is)
+    ∙ ap (λ (outputs : List Output). scripts_before outputs (scripts_for system ticks others)) (sym more)
+  where
+    at : (refusal : Option Denial) → script_or refusal (script_output system ticks named) ≡ Ok output
+        → scripts_for system ticks all ≡ scripts_before first (unless_denied refusal (script_before (script_output system ticks named) (scripts_for system ticks others)))
+        → scripts_for system ticks all ≡ scripts_before (first ++ output ∷ []) (scripts_for system ticks others)
+    at None made goes =
+        let same : script_output system ticks named ≡ output = cc in
+        goes ∙ one_before first (script_output system ticks named) (scripts_for system ticks others)
+        ∙ ap (λ (o : Output). scripts_before (first ++ o ∷ []) (scripts_for system ticks others)) same
+    at (Some refusal) made goes = absurd (cc)
+
+-- the next one is refused, or there was no memory for it
+pub next_denied : (system : Booted) (ticks : ℕ) (all rest others : List PartFile) (named : PartFile) (first : List Output) (e : Ending)
+    → rest ≡ named ∷ others → IsDenied e (script_or (script_denial system ticks named) (script_output system ticks named))
+    → scripts_for system ticks all ≡ scripts_before first (scripts_for system ticks rest)
+    → IsDenied e (scripts_for system ticks all)
+next_denied system ticks all rest others named first Finished is denied goes = absurd denied
+next_denied system ticks all rest others named first Misused is denied goes = absurd denied
+next_denied system ticks all rest others named first (Unread file) is denied goes = absurd denied
+next_denied system ticks all rest others named first (Denied file text) is denied goes =
+    at (script_denial system ticks named) denied (goes ∙ ap (λ (names : List PartFile). scripts_before first (scripts_for system ticks names)) is)
+  where
+    at : (refusal : Option Denial) → script_or refusal (script_output system ticks named) ≡ Err (record { file = file; text = text })
+        → scripts_for system ticks all ≡ scripts_before first (unless_denied refusal (script_before (script_output system ticks named) (scripts_for system ticks others)))
+        → scripts_for system ticks all ≡ Err (record { file = file; text = text })
+    at None denied goes = absurd (cc)
+    at (Some refusal) denied goes = (let same : refusal ≡ record { file = file; text = text } = cc in goes ∙ ap Err same)
+next_denied system ticks all rest others named first Unwritten is denied goes = absurd denied
+next_denied system ticks all rest others named first (Unsaved file) is denied goes = absurd denied
+next_denied system ticks all rest others named first (Unheard place) is denied goes = absurd denied
+next_denied system ticks all rest others named first Starved is denied goes = tt
+
+-- all were made
+pub all_made : (system : Booted) (ticks : ℕ) (all rest : List PartFile) (first : List Output) → rest ≡ [] → scripts_for system ticks all ≡ scripts_before first (scripts_for system ticks rest)
+    → scripts_for system ticks all ≡ Ok first
+all_made system ticks all rest first none goes =
+    goes ∙ ap (λ (names : List PartFile). scripts_before first (scripts_for system ticks names)) none ∙ ap Ok (append-nil first)
+
+-- A run with scripts.
+
+-- a run that may have so many ticks comes to what it comes to with its scripts
+pub within_is : (file : List ℕ) (options : List RunOption) (system : System) (inputs : List (List ℕ)) (asked : ℕ) (made : Result (List Output) Denial) → asked ≡ ticks_asked (span_in options) system.conf → asked ≤ TICKS
+    → scripts_for (with_inputs system inputs) asked (scripts_in options) ≡ made → ran_within file options system inputs ≡ ran_scripted asked (cores_in options) system inputs made
+unfolding ran_within
+within_is file options system inputs asked made is few are =
+    let test : nat_lt TICKS asked ≡ false = grind (arith, nat_tests, few) in
+    let by_test : ran_for file asked options system inputs ≡ ran_scripted asked (cores_in options) system inputs made =
+    ap (λ (t : Bool). if t then command_refused file (ticks_text asked) else ran_scripted asked (cores_in options) system inputs (scripts_for (with_inputs system inputs) asked (scripts_in options))) test
+    ∙ ap (ran_scripted asked (cores_in options) system inputs) are in
+    ap (λ (n : ℕ). ran_for file n options system inputs) (sym is) ∙ by_test
+
+-- Files that are written.
+
+-- the next one of those that are left
+pub next_left : {X : Type 0} (f : X → Output) (xs : List X) (n : ℕ) (d x : X) → n < length xs → x ≡ get_or xs n d → map f (drop n xs) ≡ f x ∷ map f (drop (n + 1) xs)
+next_left f xs n d x below is = at_drop_more (map f) xs n d below ∙ ap (λ y. f y ∷ map f (drop (n + 1) xs)) (sym is)
+
+-- the next script was written, and the others were or were not
+pub script_saved : (lost : Option (List ℕ)) (rest others : List Output) (output : Output) (before mid after : Outside) → rest ≡ output ∷ others → mid ≡ wrote (Some output) before
+    → SavesAll lost others mid after → SavesAll lost rest before after
+script_saved lost rest others output before mid after is one saves =
+    subst (λ (outputs : List Output). SavesAll lost outputs before after) (sym is)
+    (saves_after lost output others before after (subst (λ (x : Outside). SavesAll lost others x after) one saves))
+
+-- it was not
+pub script_lost : (rest others : List Output) (output : Output) (before after : Outside) → rest ≡ output ∷ others → Rose before.write_faults after.write_faults → OthersStay before.files output.file after.files
+    → after ≡ with_files after.files after.write_faults (after_store_call before) → SavesAll (Some output.file) rest before after
+script_lost rest others output before after is rose stay outside =
+    subst (λ (outputs : List Output). SavesAll (Some output.file) outputs before after) (sym is)
+    (record { first = []; output = output; rest = others; split = refl; named = refl; cause = rose; others = stay; outside = outside })
+
+-- there was none left
+pub no_script_left : (rest : List Output) (before : Outside) → rest ≡ [] → SavesAll None rest before before
+no_script_left rest before none = subst (λ (outputs : List Output). SavesAll None outputs before before) (sym none) refl
+
+-- files after files that all were
+pub saves_both : (lost : Option (List ℕ)) (first later : List Output) (before mid after : Outside) → SavesAll None first before mid → SavesAll lost later mid after → SavesAll lost (first ++ later) before after
+saves_both lost [] later before mid after one two = subst (λ (x : Outside). SavesAll lost later x after) one two
+saves_both lost (output ∷ first) later before mid after one two = saves_after lost output (first ++ later) before after (saves_both lost first later (wrote (Some output) before) mid after one two)
+
+-- files before others, of which one was not
+lost_before : (file : List ℕ) (first later : List Output) (before after : Outside) → IsLostOf file first before after → IsLostOf file (first ++ later) before after
+lost_before file first later before after lost = record {
+  first = lost.first;
+  output = lost.output;
+  rest = lost.rest ++ later;
+  split = ap (λ (outputs : List Output). outputs ++ later) lost.split ∙ append_assoc lost.first (lost.output ∷ lost.rest) later;
+  named = lost.named;
+  cause = lost.cause;
+  others = lost.others;
+  outside = lost.outside;
+}
+
+pub not_saved_before : (e : Ending) (first later : List Output) (before after : Outside) → AreNotSaved e first before after → AreNotSaved e (first ++ later) before after
+not_saved_before Finished first later before after lost = absurd lost
+not_saved_before Misused first later before after lost = absurd lost
+not_saved_before (Unread file) first later before after lost = absurd lost
+not_saved_before (Denied file text) first later before after lost = absurd lost
+not_saved_before Unwritten first later before after lost = absurd lost
+not_saved_before (Unsaved file) first later before after lost = lost_before file first later before after lost
+not_saved_before (Unheard place) first later before after lost = absurd lost
+not_saved_before Starved first later before after lost = absurd lost
+
+not_saved_behind : (e : Ending) (first later : List Output) (before mid after : Outside) → SavesAll None first before mid → AreNotSaved e later mid after → AreNotSaved e (first ++ later) before after
+not_saved_behind Finished first later before mid after saved lost = absurd lost
+not_saved_behind Misused first later before mid after saved lost = absurd lost
+not_saved_behind (Unread file) first later before mid after saved lost = absurd lost
+not_saved_behind (Denied file text) first later before mid after saved lost = absurd lost
+not_saved_behind Unwritten first later before mid after saved lost = absurd lost
+not_saved_behind (Unsaved file) first later before mid after saved lost = saves_both (Some file) first later before mid after saved lost
+not_saved_behind (Unheard place) first later before mid after saved lost = absurd lost
+not_saved_behind Starved first later before mid after saved lost = absurd lost
+
+-- files after files that all were, by how that ended
+pub saved_behind : {T : Type 0} (result : Result T code.Ending) (first later : List Output) (before mid after : Outside) → SavesAll None first before mid → AreSaved result later mid after → AreSaved result (first ++ later) before after
+saved_behind (Ok done) first later before mid after saved more = saves_both None first later before mid after saved more
+saved_behind (Err ending) first later before mid after saved lost = not_saved_behind (ending_of ending) first later before mid after saved lost

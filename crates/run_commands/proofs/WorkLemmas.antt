@@ -1,0 +1,139 @@
+-- What a run comes to.
+use Rattle.std.proofs.Common.{◌≡◌, ℕ, ◌<◌, ◌≤◌, ◌⊎◌, ⊎_elim, true, false, ◌||◌, nat_lt, nat_eq, List, [], ◌∷◌, ◌++◌, length, Option, None, Result, Ok, Err, refl, ap, ◌∙◌, subst, arith}
+use Rattle.std.specs.Prelude.{IsSome}
+use Rattle.std.specs.String.{string_bytes}
+use Rattle.std.proofs.lemmas.Bool.Decides.{nat_tests}
+use Rattle.xm_base.specs.declared.limits.TheConstants.{FILE_BYTES, IMAGE_BYTES}
+use Rattle.xm_outside.specs.Causes.{Rose}
+use Rattle.xm_outside.specs.Files.{Files}
+use Rattle.xm_outside.specs.Growth.{grown, GrewByPrefix}
+use Rattle.xm_conf.specs.Configuration.{Conf}
+use Rattle.xm_conf.specs.Description.{described}
+use Rattle.xm_conf.specs.Fits.{Fits}
+use Rattle.whole_system.specs.State.{with_inputs}
+use Rattle.xm_machine.specs.Outcome.{IsRun}
+use Rattle.machine_model.specs.Lines.{report}
+use Rattle.machine_model.specs.Machine.{Machine, run, start}
+use Rattle.machine_model.specs.View.{System as Booted}
+use Rattle.loaded_system.specs.Bare.{IsImageLength, bare_system}
+use Rattle.loaded_system.specs.System.{System}
+use Rattle.xm_machine.specs.declared.run.Ran.{Ran}
+use Rattle.uart_board.specs.Views.{BoardView}
+use Rattle.xm_report.specs.Report.{ReportLine, texts}
+use Rattle.xm_report.specs.declared.output.WriteFault.{WriteFault}
+use Rattle.xm_container.specs.Reading.{unpacked}
+use Rattle.file_texts.specs.Texts.{box_fault_text}
+use Rattle.file_texts.specs.declared.fault.BoxFault.{BoxFault}
+use Rattle.xm_words.specs.Words.{PartFile, RunOption, Bare}
+use Rattle.run_commands.specs.Behind.{EndsBehind}
+use Rattle.run_commands.specs.BehindLemmas.{behind_outcome}
+use Rattle.file_commands.specs.Ending.{Ending, Unwritten, length_text}
+use Rattle.file_commands.specs.Outcome.{Output, bare_outcome, core_outputs, outcome_of, outcome_of_run, ran_with, command_refused, run_by, run_outcome}
+use Rattle.file_commands.specs.Inputs.{inputs_for, no_inputs}
+use Rattle.file_maker.specs.Makes.{IsUnmade}
+use Rattle.file_commands.specs.Makes.{IsUnmadeOf}
+use Rattle.file_maker.specs.declared.unmade.Unmade.{Unmade}
+use Rattle.file_maker.specs.declared.unmade.Unmade.TheVariants as unmade
+use Rattle.file_commands.specs.Work.{Outside, Comes, outside, told_all}
+use Rattle.file_commands.specs.CommandLemmas.{one-short, refused_comes}
+use Rattle.run_commands.specs.BoardLemmas.{reports_same}
+
+-- Runs.
+
+-- a machine boots with no tick done
+pub started-ticks : (system : Booted) → (start system).ticks ≡ 0
+unfolding start
+started-ticks system = refl
+
+-- a machine that boots has not halted
+pub started-halted : (system : Booted) → (start system).halted ≡ false
+unfolding start
+started-halted system = refl
+
+-- a run that reached its end told its report
+pub finished : (r : Ran) (cores : List PartFile) (scripts : List Output) (system : System) (inputs : List (List ℕ)) (ticks : ℕ) (new : Machine) (had got : Option (List ℕ)) → IsRun (Ok r) ticks (start (with_inputs system inputs)) new had got → got ≡ grown had (outcome_of_run ticks cores scripts system inputs).report
+unfolding outcome_of_run
+finished r cores scripts system inputs ticks new had got is = is.report ∙ ap (λ (lines : List ReportLine). grown had (texts lines)) (reports_same (with_inputs system inputs) ticks)
+
+-- a run whose report was not taken whole
+pub unwritten : (fault : WriteFault) (cores : List PartFile) (scripts : List Output) (system : System) (inputs : List (List ℕ)) (ticks : ℕ) (new : Machine) (had got : Option (List ℕ)) (before now : ℕ) (files : Option Files) (reads writes calls : ℕ)
+    → IsRun (Err fault) ticks (start (with_inputs system inputs)) new had got → Rose before now
+    → Comes Unwritten (outcome_of_run ticks cores scripts system inputs) (outside files reads writes calls had before) (outside files reads writes calls got now)
+unfolding outcome_of_run
+unwritten fault cores scripts system inputs ticks new had got before now files reads writes calls is rose =
+    (rose, subst (λ (lines : List ReportLine). GrewByPrefix had (texts lines) got) (reports_same (with_inputs system inputs) ticks) is.report, refl)
+
+-- what is run is granted, and is a run
+granted : (ticks : ℕ) (cores : List PartFile) (scripts : List Output) (system : System) (inputs : List (List ℕ)) → (outcome_of_run ticks cores scripts system inputs).denial ≡ None
+unfolding outcome_of_run
+granted ticks cores scripts system inputs = refl
+
+runs : (ticks : ℕ) (cores : List PartFile) (scripts : List Output) (system : System) (inputs : List (List ℕ)) → IsSome (outcome_of_run ticks cores scripts system inputs).run
+unfolding outcome_of_run
+runs ticks cores scripts system inputs = refl
+
+-- the files after its report
+behind_files : (cores : List PartFile) (scripts : List Output) (system : System) (inputs : List (List ℕ)) (ticks : ℕ) (new : Machine) → new ≡ run (start (with_inputs system inputs)) ticks
+    → core_outputs new cores ++ scripts ≡ (outcome_of_run ticks cores scripts system inputs).later
+unfolding outcome_of_run
+behind_files cores scripts system inputs ticks new is = ap (λ (g : Machine). core_outputs g cores ++ scripts) is
+
+-- the outside as its report leaves it
+behind_report : (r : Ran) (cores : List PartFile) (scripts : List Output) (system : System) (inputs : List (List ℕ)) (ticks : ℕ) (new : Machine) (had got : Option (List ℕ)) (before now : ℕ) (files : Option Files) (reads writes calls : ℕ)
+    → IsRun (Ok r) ticks (start (with_inputs system inputs)) new had got → now ≡ before → outside files reads writes calls got now ≡ told_all (outcome_of_run ticks cores scripts system inputs) (outside files reads writes calls had before)
+unfolding outcome_of_run
+behind_report r cores scripts system inputs ticks new had got before now files reads writes calls is same =
+    let told = finished r cores scripts system inputs ticks new had got is in
+    rw (told, same) refl
+
+-- a run whose whole report went out comes to what is done after it
+pub behind_run : (e : Ending) (board : BoardView) (r : Ran) (cores : List PartFile) (scripts : List Output) (system : System) (inputs : List (List ℕ)) (ticks : ℕ) (new : Machine) (had got : Option (List ℕ)) (before now : ℕ) (files : Option Files) (reads writes calls : ℕ) (after : Outside)
+    → EndsBehind e (core_outputs new cores ++ scripts) board (outside files reads writes calls got now) after → IsRun (Ok r) ticks (start (with_inputs system inputs)) new had got → now ≡ before
+    → Comes e (outcome_of_run ticks cores scripts system inputs) (outside files reads writes calls had before) after
+behind_run e board r cores scripts system inputs ticks new had got before now files reads writes calls after ends is same =
+    behind_outcome e board (outcome_of_run ticks cores scripts system inputs) (outside files reads writes calls had before) (outside files reads writes calls got now) after
+    (granted ticks cores scripts system inputs) (runs ticks cores scripts system inputs)
+    (behind_report r cores scripts system inputs ticks new had got before now files reads writes calls is same)
+    (subst (λ (os : List Output). EndsBehind e os board (outside files reads writes calls got now) after) (behind_files cores scripts system inputs ticks new is.state) ends)
+
+-- a configuration has a plan
+pub has_plan : (conf : Conf) → Fits (described conf) → 0 < length conf.plans
+unfolding described
+has_plan conf fits = fits.counts.plans.some
+
+-- the test of an image's length
+length_test : (n : ℕ) → ((n ≡ 0) ⊎ (IMAGE_BYTES < n)) → (nat_eq n 0 || nat_lt IMAGE_BYTES n) ≡ true
+length_test n wrong = ⊎_elim (λ h. grind (arith, nat_tests)) (λ h. grind (arith, nat_tests)) wrong
+
+-- a file that is no image
+pub outcome-length : (file : List ℕ) (ticks : ℕ) (bytes : List ℕ) → length bytes ≤ FILE_BYTES → ((length bytes ≡ 0) ⊎ (IMAGE_BYTES < length bytes)) → outcome_of (Bare file ticks) (bytes ∷ []) ≡ command_refused file (length_text (length bytes))
+unfolding bare_outcome
+outcome-length file ticks bytes short wrong = one-short (Bare file ticks) file bytes refl short ∙ (let test = length_test (length bytes) wrong in rw test refl)
+
+-- a file that is an image
+pub outcome-image : (file : List ℕ) (ticks : ℕ) (bytes : List ℕ) → IsImageLength (length bytes) → outcome_of (Bare file ticks) (bytes ∷ []) ≡ outcome_of_run ticks [] [] (bare_system bytes) (no_inputs 1)
+unfolding bare_outcome
+outcome-image file ticks bytes is =
+    let short : length bytes ≤ FILE_BYTES = omega (arith, is.most) in
+    let test : (nat_eq (length bytes) 0 || nat_lt IMAGE_BYTES (length bytes)) ≡ false = grind (arith, nat_tests, is.most, is.some) in
+    one-short (Bare file ticks) file bytes refl short ∙ rw test refl
+
+-- a container that is one
+pub outcome-unpacked : (file : List ℕ) (options : List RunOption) (bytes : List ℕ) (contents : List (List ℕ)) (system : System) → unpacked bytes ≡ Ok system
+    → run_outcome file options bytes contents ≡ ran_with file options system (inputs_for (length system.conf.parts) options contents)
+unfolding run_outcome
+outcome-unpacked file options bytes contents system is = ap (run_by file options contents) is
+
+-- the text of a container's fault
+abbrev pub fault_text_by : Result System BoxFault → Result (List ℕ) (List ℕ)
+fault_text_by (Ok system) = Ok []
+fault_text_by (Err fault) = Err (box_fault_text fault)
+
+-- and nothing is run
+pub unmade_runs : (e : Ending) (file : List ℕ) (options : List RunOption) (contents : List (List ℕ)) (why : Unmade) (read : Result System BoxFault) (before : Outside) → IsUnmadeOf e file why → IsUnmade why (fault_text_by read)
+    → Comes e (run_by file options contents read) before before
+unmade_runs e file options contents (unmade.Refused text) (Ok system) before ends is = absurd (cc)
+unmade_runs e file options contents (unmade.Refused text) (Err fault) before ends is =
+    let same : box_fault_text fault ≡ string_bytes text = cc in
+    rw (ends, same) (refused_comes file _ before)
+unmade_runs e file options contents unmade.Memory read before ends is = rw ends refl

@@ -1,0 +1,17 @@
+use Rattle.xm_words.specs.Seen.{seen_options}
+use Rattle.xm_words.specs.Words.{scripts_in, span_in}
+use Rattle.file_commands.specs.Outcome.{ticks_asked}
+use Rattle.file_commands.specs.Told.{ending_of}
+use Rattle.run_commands.proofs.NumberLemmas.{told_ready}
+use Rattle.run_commands.proofs.ReadyLemmas.{inputs_refuse}
+use Rattle.run_commands.proofs.readiness.ready_run.Goals as goal
+
+pub returns-in-Err-clause-value : goal.returns-in-Err-clause-value
+returns-in-Err-clause-value c =
+    let denied = rw (c.part_count.ensures, c.conf.ensures.value, c.split_contents.ensures.others) at c.in-Err.ensures.value in
+    inputs_refuse (ending_of c.in-Err.ending) c.args.container.now (seen_options c.args.options) c.args.system.now _ denied
+
+pub returns-in-Ok-clause-numbers : goal.returns-in-Ok-clause-numbers
+returns-in-Ok-clause-numbers c = λ inputs given.
+    let words = rw (c.part_count.ensures, c.conf.ensures.value, c.split_contents.ensures.others) at c.in-Ok.ensures.value in
+    told_ready c.ready_with.result c.args.system.now (ticks_asked (span_in (seen_options c.args.options)) c.args.system.now.conf) (scripts_in (seen_options c.args.options)) _ c.in-Ok.inputs inputs words c.ready_with.ensures.numbers given

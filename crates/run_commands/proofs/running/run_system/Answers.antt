@@ -1,0 +1,22 @@
+use Rattle.std.proofs.Common.{◌∙◌, ap}
+use Rattle.machine_model.specs.Machine.{Machine}
+use Rattle.whole_system.specs.State.{with_inputs}
+use Rattle.xm_words.specs.Seen.{seen_files}
+use Rattle.run_commands.specs.CoreLemmas.{booted_inside}
+use Rattle.run_commands.proofs.WorkLemmas.{started-ticks, started-halted}
+use Rattle.run_commands.proofs.running.run_system.Goals as goal
+
+pub run_booted-requires-clause-fresh : goal.run_booted-requires-clause-fresh
+run_booted-requires-clause-fresh g c = ap (λ (s : Machine). s.ticks) c.in-Ok.ensures.state ∙ started-ticks (with_inputs c.args.system c.args.inputs)
+
+pub run_booted-requires-clause-running : goal.run_booted-requires-clause-running
+run_booted-requires-clause-running g c = ap (λ (s : Machine). s.halted) c.in-Ok.ensures.state ∙ started-halted (with_inputs c.args.system c.args.inputs)
+
+pub run_booted-requires-clause-inside : goal.run_booted-requires-clause-inside
+run_booted-requires-clause-inside g c = booted_inside c.args.system c.args.inputs (seen_files c.args.cores) c.in-Ok.machine.state c.keeps_numbers.ensures.boots c.in-Ok.ensures.state c.requires.inside
+
+pub returns-in-Ok-clause-comes : goal.returns-in-Ok-clause-comes
+returns-in-Ok-clause-comes g c = c.run_booted.ensures.comes c.args.system c.args.inputs c.in-Ok.ensures.state
+
+pub returns-in-Ok-clause-board : goal.returns-in-Ok-clause-board
+returns-in-Ok-clause-board g c = c.run_booted.ensures.board c.args.system c.args.inputs c.in-Ok.ensures.state

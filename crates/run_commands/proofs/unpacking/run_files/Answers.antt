@@ -1,0 +1,29 @@
+use Rattle.std.proofs.Common.{map, codes, sym}
+use Rattle.xm_words.specs.Seen.{seen_options}
+use Rattle.xm_words.specs.Words.{Run}
+use Rattle.file_commands.specs.Told.{vector_bytes}
+use Rattle.file_commands.specs.CommandLemmas.{outcome-long, outcome-short, refused_comes}
+use Rattle.run_commands.proofs.unpacking.run_files.Goals as goal
+
+pub returns-in-Some-clause-comes : goal.returns-in-Some-clause-comes
+returns-in-Some-clause-comes g c =
+    let command = Run c.args.container.now (seen_options c.args.options) in
+    let long = rw c.inputs.ensures.value at c.in-Some.ensures.value in
+    rw (outcome-long command (map vector_bytes c.args.contents.now) c.in-Some.file.now (sym long)) (refused_comes c.in-Some.file.now (codes "too-long") _)
+
+pub returns-in-None-clause-comes : goal.returns-in-None-clause-comes
+returns-in-None-clause-comes g c =
+    let command = Run c.args.container.now (seen_options c.args.options) in
+    let short = rw c.inputs.ensures.value at c.in-None.ensures.value in
+    rw (outcome-short command (map vector_bytes c.args.contents.now) (sym short)) c.run_packed.ensures.comes
+
+pub returns-in-None-clause-board : goal.returns-in-None-clause-board
+returns-in-None-clause-board g c =
+    let command = Run c.args.container.now (seen_options c.args.options) in
+    let short = rw c.inputs.ensures.value at c.in-None.ensures.value in
+    rw (outcome-short command (map vector_bytes c.args.contents.now) (sym short)) c.run_packed.ensures.board
+
+pub returns-in-None-clause-numbers : goal.returns-in-None-clause-numbers
+returns-in-None-clause-numbers g c = λ made.
+    let short = rw c.inputs.ensures.value at c.in-None.ensures.value in
+    record { short = sym short; told = c.run_packed.ensures.numbers made }

@@ -1,0 +1,46 @@
+use Rattle.std.proofs.Common.{map, refl}
+use Rattle.xm_words.specs.Seen.{seen_options}
+use Rattle.xm_words.specs.Words.{inputs_in}
+use Rattle.file_commands.specs.Outcome.{run_outcome}
+use Rattle.file_commands.specs.Packing.{file_names}
+use Rattle.file_commands.specs.Told.{vector_bytes}
+use Rattle.run_commands.specs.BoardLemmas.{unmade_leaves}
+use Rattle.file_maker.specs.ImagingLemmas.{container_unmade}
+use Rattle.run_commands.specs.InputLemmas.{rest_short}
+use Rattle.run_commands.proofs.NumberLemmas.{never_unpacked, told_system}
+use Rattle.run_commands.proofs.WorkLemmas.{fault_text_by, outcome-unpacked, unmade_runs}
+use Rattle.run_commands.proofs.unpacking.run_packed.Goals as goal
+
+pub run_unpacked-requires-clause-short : goal.run_unpacked-requires-clause-short
+run_unpacked-requires-clause-short g c = rest_short c.args.container.now (file_names (inputs_in (seen_options c.args.options))) (map vector_bytes c.args.contents.now) c.requires.short
+
+pub run_unpacked-requires-clause-same : goal.run_unpacked-requires-clause-same
+run_unpacked-requires-clause-same g c = rw c.split_contents.ensures.first at c.in-Ok.ensures.exact
+
+pub returns-in-Ok-clause-comes : goal.returns-in-Ok-clause-comes
+returns-in-Ok-clause-comes g c =
+    let exact = rw c.split_contents.ensures.first at c.in-Ok.ensures.exact in
+    rw (outcome-unpacked c.args.container.now (seen_options c.args.options) _ _ c.in-Ok.system exact) c.run_unpacked.ensures.comes
+
+pub returns-in-Err-clause-comes : goal.returns-in-Err-clause-comes
+unfolding run_outcome
+returns-in-Err-clause-comes g c =
+    let exact = rw c.split_contents.ensures.first at c.in-Err.ensures.exact in
+    let unmade = container_unmade fault_text_by (λ fault. refl) c.in-Err.fault _ c.no_container.result exact c.no_container.ensures.text c.no_container.ensures.memory in
+    unmade_runs _ c.args.container.now (seen_options c.args.options) _ c.no_container.result _ _ c.unmade.ensures unmade
+
+pub returns-in-Ok-clause-board : goal.returns-in-Ok-clause-board
+returns-in-Ok-clause-board g c =
+    let exact = rw c.split_contents.ensures.first at c.in-Ok.ensures.exact in
+    rw (outcome-unpacked c.args.container.now (seen_options c.args.options) _ _ c.in-Ok.system exact) c.run_unpacked.ensures.board
+
+pub returns-in-Err-clause-board : goal.returns-in-Err-clause-board
+returns-in-Err-clause-board g c = unmade_leaves _ c.args.container.now c.no_container.result _ _ _ (record { places = _; marks = _ }) c.unmade.ensures
+
+pub returns-in-Ok-clause-numbers : goal.returns-in-Ok-clause-numbers
+returns-in-Ok-clause-numbers g c = λ made system inputs unpacks given.
+    let exact = rw c.split_contents.ensures.first at c.in-Ok.ensures.exact in
+    told_system (seen_options c.args.options) (map vector_bytes c.args.contents.now) c.in-Ok.system exact (c.run_unpacked.ensures.numbers made) system inputs unpacks given
+
+pub returns-in-Err-clause-numbers : goal.returns-in-Err-clause-numbers
+returns-in-Err-clause-numbers g c = λ made system inputs unpacks given. absurd (never_unpacked _ c.args.container.now c.no_container.result c.unmade.ensures made)

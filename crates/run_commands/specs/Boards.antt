@@ -1,0 +1,118 @@
+-- What a command makes of the board of UARTs, by how it ends.
+use Rattle.std.specs.Prelude.{◌≡◌, ℕ, ◌<◌, ◌≤◌, List, length, take, Option, Some, None, IsNone, IsSome}
+use Rattle.machine_model.specs.Lines.{console, report}
+use Rattle.machine_model.specs.Machine.{start}
+use Rattle.machine_model.specs.View.{view_of}
+use Rattle.uart_board.specs.Heard.{IsHeard}
+use Rattle.uart_board.specs.Views.{BoardView, without_marks, mark_at}
+use Rattle.xm_machine.specs.Outcome.{report_to}
+use Rattle.xm_outside.specs.Files.{Files}
+use Rattle.xm_outside.specs.Growth.{GrewByPrefix}
+use Rattle.xm_report.specs.Report.{ReportLine, texts}
+use Rattle.told_scripts.specs.Replayed.{cue_lines, replay_lines}
+use Rattle.told_scripts.specs.Lone.{booted_alone, replay_said}
+use Rattle.xm_words.specs.Words.{Command}
+use Rattle.file_commands.specs.Ending.{Ending, Finished, Misused, Unread, Denied, Unwritten, Unsaved, Unheard, Starved}
+use Rattle.file_commands.specs.Outcome.{Running, Together, Apart, inputs_of, outcome_of}
+use Rattle.file_commands.specs.Work.{ReadsFiles}
+
+-- no place has a mark
+abbrev pub HasNoMark : BoardView → Type 0
+HasNoMark board = (place : ℕ) → IsNone (mark_at place board.marks)
+
+-- this is the lowest place that has a mark
+pub record IsLowestMark (place : ℕ) (board : BoardView) : Type 0 where
+  pub marked : IsSome (mark_at place board.marks)
+  pub lowest : (lower : ℕ) → lower < place → IsNone (mark_at lower board.marks)
+
+-- how many ticks a run has
+abbrev pub ticks_of_run : Running → ℕ
+ticks_of_run (Together system ticks) = ticks
+ticks_of_run (Apart system p cues) = length cues
+
+-- the console bytes of so many ticks of a run that each UART gets
+abbrev pub said_in_run : Running → ℕ → ℕ → List ℕ
+said_in_run (Together system ticks) done = console (start system) done
+said_in_run (Apart system p cues) done = replay_said (booted_alone system p) (take done cues)
+
+-- the whole report of a run
+abbrev pub lines_in : Running → List ReportLine
+lines_in (Together system ticks) = report system ticks
+lines_in (Apart system p cues) = replay_lines (view_of system p) cues
+
+-- from a board without marks on, each UART got the console bytes of so many ticks of the run
+abbrev pub IsRunTo : ℕ → Running → BoardView → BoardView → Type 0
+IsRunTo done run before after = IsHeard (said_in_run run done) (without_marks before) after
+
+-- those of all its ticks, and none failed
+pub record IsRunWell (run : Running) (before after : BoardView) : Type 0 where
+  pub heard : IsRunTo (ticks_of_run run) run before after
+  pub well : HasNoMark after
+
+-- those of all its ticks, and the one at this place failed, and none at a lower one
+pub record IsRunMarked (place : ℕ) (run : Running) (before after : BoardView) : Type 0 where
+  pub heard : IsRunTo (ticks_of_run run) run before after
+  pub marked : IsLowestMark place after
+
+-- the sink of the report, which took so many bytes of it, took all lines of the ticks before this one, and not all that it has with those of this
+-- one, unless these are all ticks of the run: then lines of the end may be all that is missing
+abbrev pub IsCutAt : Running → ℕ → ℕ → Type 0
+IsCutAt (Together system ticks) done count =
+    ((earlier : ℕ) → earlier < done → length (texts (report_to (start system) ticks earlier)) ≤ count)
+    × (done < ticks → count < length (texts (report_to (start system) ticks done)))
+IsCutAt (Apart system p cues) done count =
+    ((earlier : ℕ) → earlier < done → length (texts (cue_lines (view_of system p) (take earlier cues))) ≤ count)
+    × (done < length cues → count < length (texts (cue_lines (view_of system p) (take done cues))))
+
+-- those of its ticks up to the one in which the report was cut
+pub record IsRunCut (run : Running) (had got : Option (List ℕ)) (before after : BoardView) : Type 0 where
+  pub front : GrewByPrefix had (texts (lines_in run)) got
+  pub ticks : ℕ
+  pub within : ticks ≤ ticks_of_run run
+  pub cut : IsCutAt run ticks front.count
+  pub heard : IsRunTo ticks run before after
+
+-- a run all of whose writes are done ends so: well where no place has a mark, else with the lowest that has one
+abbrev pub EndsRun : Ending → BoardView → Type 0
+EndsRun Finished board = HasNoMark board
+EndsRun Misused board = ⊥
+EndsRun (Unread file) board = ⊥
+EndsRun (Denied file text) board = ⊥
+EndsRun Unwritten board = ⊥
+EndsRun (Unsaved file) board = ⊥
+EndsRun (Unheard place) board = IsLowestMark place board
+EndsRun Starved board = ⊥
+
+-- a call that ended so leaves this of the board: a command that runs nothing, and a call that ended before its first tick, leave it
+-- as it was; where a file was not written after a run, the run had reached its end
+abbrev pub LeavesBoard : Ending → Option Running → Option (List ℕ) → Option (List ℕ) → BoardView → BoardView → Type 0
+LeavesBoard Finished None had got before after = after ≡ before
+LeavesBoard Finished (Some run) had got before after = IsRunWell run before after
+LeavesBoard Misused run had got before after = after ≡ before
+LeavesBoard (Unread file) run had got before after = after ≡ before
+LeavesBoard (Denied file text) run had got before after = after ≡ before
+LeavesBoard Unwritten None had got before after = after ≡ before
+LeavesBoard Unwritten (Some run) had got before after = IsRunCut run had got before after
+LeavesBoard (Unsaved file) None had got before after = after ≡ before
+LeavesBoard (Unsaved file) (Some run) had got before after = IsRunTo (ticks_of_run run) run before after
+LeavesBoard (Unheard place) None had got before after = ⊥
+LeavesBoard (Unheard place) (Some run) had got before after = IsRunMarked place run before after
+LeavesBoard Starved run had got before after = after ≡ before
+
+-- the files of a command were read, and what they come to left this of the board
+pub record HasLeft (ending : Ending) (command : Command) (files : Option Files) (had got : Option (List ℕ)) (before after : BoardView) : Type 0 where
+  pub contents : List (List ℕ)
+  pub read : ReadsFiles files (inputs_of command) contents
+  pub leaves : LeavesBoard ending (outcome_of command contents).run had got before after
+
+-- what a call leaves of the board, by its command and its ending, and by what the sink of the report had and has got
+abbrev pub IsLeft : Ending → Option Command → Option Files → Option (List ℕ) → Option (List ℕ) → BoardView → BoardView → Type 0
+IsLeft ending None files had got before after = after ≡ before
+IsLeft Finished (Some command) files had got before after = HasLeft Finished command files had got before after
+IsLeft Misused (Some command) files had got before after = after ≡ before
+IsLeft (Unread file) (Some command) files had got before after = after ≡ before
+IsLeft (Denied file text) (Some command) files had got before after = after ≡ before
+IsLeft Unwritten (Some command) files had got before after = HasLeft Unwritten command files had got before after
+IsLeft (Unsaved file) (Some command) files had got before after = HasLeft (Unsaved file) command files had got before after
+IsLeft (Unheard place) (Some command) files had got before after = HasLeft (Unheard place) command files had got before after
+IsLeft Starved (Some command) files had got before after = after ≡ before

@@ -1,0 +1,19 @@
+//! The commands that run a system: its report goes out, and core files and scripts of its partitions are written after it.
+#![tactic(auto)]
+
+mod cores;
+mod generating;
+mod inputs;
+mod later;
+mod readiness;
+mod recording;
+mod running;
+mod scripts;
+mod told;
+mod unpacking;
+
+pub use generating::generate;
+pub use later::ended;
+pub use recording::script_of;
+pub use running::run_file;
+pub use unpacking::run_container;

@@ -1,0 +1,176 @@
+//! The scripts of partitions, as a run writes them.
+
+ghost use Rattle.std.specs.Prelude.{◌≡◌, ◌<◌, ◌≤◌, ◌++◌, ◌∷◌, [], ℕ, List, IfOk, None, Ok, OnOk, Option, drop, length, map};
+ghost use Rattle.xm_base.specs.declared.limits.TheConstants.{TICKS};
+ghost use Rattle.whole_system.specs.State.{with_inputs};
+ghost use Rattle.cue_scripts.specs.Written.{IsScriptFile};
+ghost use Rattle.machine_model.specs.View.{System as Booted};
+ghost use Rattle.xm_container.specs.Reading.{unpacked};
+ghost use Rattle.run_commands.specs.Cores.{AreForPartitions};
+ghost use Rattle.file_commands.specs.Inputs.{inputs_for};
+ghost use Rattle.run_commands.specs.Numbers.{HasTold, HaveTold};
+ghost use Rattle.file_commands.specs.Outcome.{content, first_long, script_bytes, script_denial, script_output, scripts_for};
+ghost use Rattle.file_commands.specs.Packing.{file_names};
+ghost use Rattle.run_commands.specs.Scripts.{made_output, made_outputs, script_or};
+ghost use Rattle.file_commands.specs.Told.{AreSaved, MakesOr, vector_bytes};
+ghost use Rattle.file_commands.specs.Work.{Saves, outside};
+ghost use Rattle.xm_words.specs.Seen.{seen_file, seen_options};
+ghost use Rattle.xm_words.specs.Words.{inputs_in, scripts_in};
+
+use crate::inputs::inputs_for;
+use crate::readiness::part_count;
+use crate::recording::script_of;
+use cue_scripts::ScriptFault;
+use file_commands::{Ending, split_contents, unmade};
+use file_maker::no_script;
+use std::alloc::Global;
+use xm_base::Memory;
+use xm_container::{System, unpack};
+use xm_machine::Inputs;
+use xm_outside::{Failed, Store};
+use xm_words::{PartFile, RunOptions};
+
+/// A script, and where it is written.
+#[derive(Debug, Drop)]
+pub(crate) struct MadeScript<'a> {
+    pub(crate) file: &'a str,
+    pub(crate) bytes: Vec<u8>,
+}
+
+/// The scripts that options of a run of so many ticks ask for, in their order; or the first that is too long for a file. A run of its own
+/// makes each, of the same files.
+pub(crate) fn make_scripts<'a>(
+    alloc: Global,
+    ticks: u64,
+    options: RunOptions<'a>,
+    contents: &[Vec<u8>],
+    system: &System,
+) -> Result<Vec<MadeScript<'a>>, Ending<'a>>
+    requires most { ticks ≤ TICKS }
+    requires short { first_long (file_names (inputs_in (seen_options options))) (drop 1 (map vector_bytes contents.now)) ≡ None }
+    requires same { unpacked (content 0 (map vector_bytes contents.now)) ≡ Ok system.now }
+    requires inside { AreForPartitions (length system.now.conf.parts) (scripts_in (seen_options options)) }
+    ensures numbers { (inputs : List (List ℕ)) → inputs_for (length system.now.conf.parts) (seen_options options.entry) (drop 1 (map vector_bytes contents.now)) ≡ Ok inputs
+        → IfOk result (λ _. HaveTold (with_inputs system.now inputs) ticks (scripts_in (seen_options options.entry))) }
+    ensures made { (inputs : List (List ℕ)) → inputs_for (length system.now.conf.parts) (seen_options options.entry) (drop 1 (map vector_bytes contents.now)) ≡ Ok inputs
+        → MakesOr made_outputs result (scripts_for (with_inputs system.now inputs) ticks (scripts_in (seen_options options.entry))) }
+{
+    let mut made = Vec::new(alloc);
+    let mut rest = options.scripts();
+    while let Some((first, others)) = rest.split_first() {
+        let script = match make_script(alloc, ticks, options, contents, system, first) {
+            Ok(script) => script,
+            Err(ending) => return Err(ending),
+        };
+        match put_made(&mut made, script) {
+            Ok(()) => {}
+            Err(Memory) => return Err(Ending::Starved),
+        }
+        rest = others;
+    }
+    Ok(made)
+}
+
+// Puts a script after others.
+fn put_made<'a>(made: &mut Vec<MadeScript<'a>>, script: MadeScript<'a>) -> Result<(), Memory>
+    ensures { OnOk result (map made_output made.new.items ≡ map made_output made.old.items ++ made_output script.entry ∷ []) }
+{
+    match made.push(script) {
+        Ok(()) => Ok(()),
+        Err(_) => Err(Memory),
+    }
+}
+
+// The script of a partition in a run of so many ticks of these files.
+fn make_script<'a>(
+    alloc: Global,
+    ticks: u64,
+    options: RunOptions<'a>,
+    contents: &[Vec<u8>],
+    system: &System,
+    named: PartFile<'a>,
+) -> Result<MadeScript<'a>, Ending<'a>>
+    requires most { ticks ≤ TICKS }
+    requires short { first_long (file_names (inputs_in (seen_options options))) (drop 1 (map vector_bytes contents.now)) ≡ None }
+    requires same { unpacked (content 0 (map vector_bytes contents.now)) ≡ Ok system.now }
+    requires inside { (seen_file named).part < length system.now.conf.parts }
+    ensures numbers { (inputs : List (List ℕ)) → inputs_for (length system.now.conf.parts) (seen_options options.entry) (drop 1 (map vector_bytes contents.now)) ≡ Ok inputs
+        → IfOk result (λ _. HasTold (with_inputs system.now inputs) ticks (seen_file named.entry).part) }
+    ensures made { (inputs : List (List ℕ)) → inputs_for (length system.now.conf.parts) (seen_options options.entry) (drop 1 (map vector_bytes contents.now)) ≡ Ok inputs
+        → MakesOr made_output result (script_or (script_denial (with_inputs system.now inputs) ticks (seen_file named.entry)) (script_output (with_inputs system.now inputs) ticks (seen_file named.entry))) }
+{
+    match made_again(alloc, options, contents, system) {
+        Ok((system, inputs)) => tell_script(
+            alloc,
+            named.file,
+            script_of(alloc, system, inputs, named.part, ticks),
+        ),
+        Err(Memory) => Err(Ending::Starved),
+    }
+}
+
+// The system of these files and its inputs, made once more.
+fn made_again(
+    alloc: Global,
+    options: RunOptions<'_>,
+    contents: &[Vec<u8>],
+    system: &System,
+) -> Result<(System, Inputs), Memory>
+    requires short { first_long (file_names (inputs_in (seen_options options))) (drop 1 (map vector_bytes contents.now)) ≡ None }
+    requires same { unpacked (content 0 (map vector_bytes contents.now)) ≡ Ok system.now }
+    ensures system { IfOk result (λ again. again.0 ≡ system.now) }
+    ensures inputs { IfOk result (λ again. inputs_for (length system.now.conf.parts) (seen_options options.entry) (drop 1 (map vector_bytes contents.now)) ≡ Ok again.1) }
+    ensures count { IfOk result (λ again. length again.1 ≡ length system.now.conf.parts) }
+{
+    let (bytes, words) = split_contents(contents);
+    let Ok(inputs) = inputs_for(alloc, part_count(system.conf()), options, words) else {
+        return Err(Memory);
+    };
+    match unpack(alloc, bytes) {
+        Ok(system) => Ok((system, inputs)),
+        Err(_) => Err(Memory),
+    }
+}
+
+// A script that was made, or how the call ends without it.
+fn tell_script<'a>(
+    alloc: Global,
+    file: &'a str,
+    script: Result<Vec<u8>, ScriptFault>,
+) -> Result<MadeScript<'a>, Ending<'a>>
+    ensures numbers { (system : Booted) (ticks : ℕ) (part : ℕ) → IfOk script (λ _. HasTold system ticks part) → IfOk result (λ _. HasTold system ticks part) }
+    ensures made { (system : Booted) (ticks : ℕ) (part : ℕ) → IsScriptFile vector_bytes (script_bytes system ticks part) script
+        → MakesOr made_output result (script_or (script_denial system ticks (record { part = part; file = file.now })) (script_output system ticks (record { part = part; file = file.now }))) }
+{
+    match script {
+        Ok(bytes) => Ok(MadeScript { file, bytes }),
+        Err(fault) => Err(unmade(file, no_script(alloc, fault))),
+    }
+}
+
+/// Writes scripts, one after another; or how the call ends at the first that is not written.
+pub(crate) fn write_scripts<'a, S: Store>(
+    scripts: &[MadeScript<'a>],
+    files: &mut S,
+) -> Result<(), Ending<'a>>
+    ensures { (got : Option (List ℕ)) (faults : ℕ) → AreSaved result (map made_output scripts.now)
+        (outside (S.files files.old) (S.read_faults files.old) (S.write_faults files.old) (S.calls files.old) got faults)
+        (outside (S.files files.new) (S.read_faults files.new) (S.write_faults files.new) (S.calls files.new) got faults) }
+{
+    for script in scripts {
+        match write_script(script, files) {
+            Ok(()) => {}
+            Err(Failed) => return Err(Ending::Unsaved { file: script.file }),
+        }
+    }
+    Ok(())
+}
+
+// Writes a script.
+fn write_script<S: Store>(script: &MadeScript<'_>, files: &mut S) -> Result<(), Failed>
+    ensures { (got : Option (List ℕ)) (faults : ℕ) → Saves result (made_output script.now)
+        (outside (S.files files.old) (S.read_faults files.old) (S.write_faults files.old) (S.calls files.old) got faults)
+        (outside (S.files files.new) (S.read_faults files.new) (S.write_faults files.new) (S.calls files.new) got faults) }
+{
+    files.write(script.file, &script.bytes)
+}

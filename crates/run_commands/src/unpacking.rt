@@ -1,0 +1,161 @@
+//! A container is unpacked, and its system is run.
+
+ghost use Rattle.std.specs.Prelude.{◌≡◌, ◌≤◌, ◌∷◌, ℕ, List, None, Ok, Some, drop, length, map};
+ghost use Rattle.xm_base.specs.declared.limits.TheConstants.{TICKS};
+ghost use Rattle.xm_container.specs.Reading.{unpacked};
+ghost use Rattle.whole_system.specs.State.{with_inputs};
+ghost use Rattle.run_commands.specs.Boards.{IsLeft, LeavesBoard};
+ghost use Rattle.run_commands.specs.Cores.{AreForPartitions};
+ghost use Rattle.run_commands.specs.Numbers.{HaveTold, HasScripts, TellsIn, TellsOf, TellsShort};
+ghost use Rattle.run_commands.specs.Scripts.{made_output};
+ghost use Rattle.file_commands.specs.Inputs.{inputs_for};
+ghost use Rattle.file_commands.specs.Outcome.{content, first_long, outcome_of, outcome_of_run, ran_with, run_outcome, ticks_asked};
+ghost use Rattle.file_commands.specs.Packing.{file_names};
+ghost use Rattle.file_commands.specs.Told.{vector_bytes, ending_of};
+ghost use Rattle.file_commands.specs.Work.{Comes, IsDone, outside};
+ghost use Rattle.xm_words.specs.Grammar.{count_of};
+ghost use Rattle.xm_words.specs.Seen.{seen_files, seen_options};
+ghost use Rattle.xm_words.specs.Words.{Run, inputs_in, scripts_in, span_in};
+
+use crate::readiness::{ReadyRun, ready_run};
+use crate::running::run_system;
+use file_commands::{Ending, Refusal, first_long, read_files, split_contents, unmade};
+use file_maker::no_container;
+use std::alloc::Global;
+use uart_board::{Board, ViewBoard};
+use xm_container::{System, unpack};
+use xm_outside::{Sink, Store};
+use xm_words::{PartFiles, RunOptions};
+
+/// Reads a container and the inputs of a run, and runs it.
+pub fn run_container<'a, S: Store, O: Sink>(
+    alloc: Global,
+    container: &'a str,
+    options: RunOptions<'a>,
+    files: &mut S,
+    out: &mut O,
+    board: &mut Board,
+) -> Ending<'a>
+    requires { count_of (span_in (seen_options options)) ≤ TICKS }
+    ensures done { IsDone (ending_of result) (Run container.now (seen_options options.entry))
+        (outside (S.files files.old) (S.read_faults files.old) (S.write_faults files.old) (S.calls files.old) (O.got out.old) (O.faults out.old))
+        (outside (S.files files.new) (S.read_faults files.new) (S.write_faults files.new) (S.calls files.new) (O.got out.new) (O.faults out.new)) }
+    ensures board { IsLeft (ending_of result) (Some (Run container.now (seen_options options.entry))) (S.files files.old) (O.got out.old) (O.got out.new) (⟦<Board as ViewBoard>⟧.board_view board.old) (⟦<Board as ViewBoard>⟧.board_view board.new) }
+    ensures numbers { HasScripts (ending_of result) → TellsOf container.now (seen_options options.entry) (S.files files.old) }
+{
+    match read_files(alloc, container, options.inputs(), files) {
+        Ok(contents) => run_files(alloc, container, options, &contents, files, out, board),
+        Err(ending) => ending,
+    }
+}
+
+// Runs a container with inputs, by the contents of their files.
+fn run_files<'a, S: Store, O: Sink>(
+    alloc: Global,
+    container: &'a str,
+    options: RunOptions<'a>,
+    contents: &[Vec<u8>],
+    files: &mut S,
+    out: &mut O,
+    board: &mut Board,
+) -> Ending<'a>
+    requires { count_of (span_in (seen_options options)) ≤ TICKS }
+    ensures comes { Comes (ending_of result) (outcome_of (Run container.now (seen_options options.entry)) (map vector_bytes contents.now))
+        (outside (S.files files.old) (S.read_faults files.old) (S.write_faults files.old) (S.calls files.old) (O.got out.old) (O.faults out.old))
+        (outside (S.files files.new) (S.read_faults files.new) (S.write_faults files.new) (S.calls files.new) (O.got out.new) (O.faults out.new)) }
+    ensures board { LeavesBoard (ending_of result) (outcome_of (Run container.now (seen_options options.entry)) (map vector_bytes contents.now)).run (O.got out.old) (O.got out.new) (⟦<Board as ViewBoard>⟧.board_view board.old) (⟦<Board as ViewBoard>⟧.board_view board.new) }
+    ensures numbers { HasScripts (ending_of result) → TellsShort container.now (seen_options options.entry) (map vector_bytes contents.now) }
+{
+    match first_long(container, options.inputs(), contents) {
+        Some(file) => Ending::Denied {
+            file,
+            why: Refusal::TooLong,
+        },
+        None => run_packed(alloc, container, options, contents, files, out, board),
+    }
+}
+
+// Runs a container with inputs, where none of their files is too long.
+fn run_packed<'a, S: Store, O: Sink>(
+    alloc: Global,
+    container: &'a str,
+    options: RunOptions<'a>,
+    contents: &[Vec<u8>],
+    files: &mut S,
+    out: &mut O,
+    board: &mut Board,
+) -> Ending<'a>
+    requires most { count_of (span_in (seen_options options)) ≤ TICKS }
+    requires short { first_long (container.now ∷ file_names (inputs_in (seen_options options))) (map vector_bytes contents.now) ≡ None }
+    ensures comes { Comes (ending_of result) (run_outcome container.now (seen_options options.entry) (content 0 (map vector_bytes contents.now)) (drop 1 (map vector_bytes contents.now)))
+        (outside (S.files files.old) (S.read_faults files.old) (S.write_faults files.old) (S.calls files.old) (O.got out.old) (O.faults out.old))
+        (outside (S.files files.new) (S.read_faults files.new) (S.write_faults files.new) (S.calls files.new) (O.got out.new) (O.faults out.new)) }
+    ensures board { LeavesBoard (ending_of result) (run_outcome container.now (seen_options options.entry) (content 0 (map vector_bytes contents.now)) (drop 1 (map vector_bytes contents.now))).run (O.got out.old) (O.got out.new)
+        (⟦<Board as ViewBoard>⟧.board_view board.old) (⟦<Board as ViewBoard>⟧.board_view board.new) }
+    ensures numbers { HasScripts (ending_of result) → TellsIn (seen_options options.entry) (map vector_bytes contents.now) }
+{
+    let (bytes, _) = split_contents(contents);
+    match unpack(alloc, bytes) {
+        Ok(system) => run_unpacked(
+            alloc, container, options, system, contents, files, out, board,
+        ),
+        Err(fault) => unmade(container, no_container(alloc, fault)),
+    }
+}
+
+// Runs the system of a container with inputs, by the contents of their files.
+fn run_unpacked<'a, S: Store, O: Sink>(
+    alloc: Global,
+    container: &'a str,
+    options: RunOptions<'a>,
+    system: System,
+    contents: &[Vec<u8>],
+    files: &mut S,
+    out: &mut O,
+    board: &mut Board,
+) -> Ending<'a>
+    requires most { count_of (span_in (seen_options options)) ≤ TICKS }
+    requires short { first_long (file_names (inputs_in (seen_options options))) (drop 1 (map vector_bytes contents.now)) ≡ None }
+    requires same { unpacked (content 0 (map vector_bytes contents.now)) ≡ Ok system }
+    ensures comes { Comes (ending_of result)
+        (ran_with container.now (seen_options options.entry) system (inputs_for (length system.conf.parts) (seen_options options.entry) (drop 1 (map vector_bytes contents.now))))
+        (outside (S.files files.old) (S.read_faults files.old) (S.write_faults files.old) (S.calls files.old) (O.got out.old) (O.faults out.old))
+        (outside (S.files files.new) (S.read_faults files.new) (S.write_faults files.new) (S.calls files.new) (O.got out.new) (O.faults out.new)) }
+    ensures board { LeavesBoard (ending_of result)
+        (ran_with container.now (seen_options options.entry) system (inputs_for (length system.conf.parts) (seen_options options.entry) (drop 1 (map vector_bytes contents.now)))).run (O.got out.old) (O.got out.new) (⟦<Board as ViewBoard>⟧.board_view board.old) (⟦<Board as ViewBoard>⟧.board_view board.new) }
+    ensures numbers { HasScripts (ending_of result) → (inputs : List (List ℕ)) → inputs_for (length system.conf.parts) (seen_options options.entry) (drop 1 (map vector_bytes contents.now)) ≡ Ok inputs
+        → HaveTold (with_inputs system inputs) (ticks_asked (span_in (seen_options options.entry)) system.conf) (scripts_in (seen_options options.entry)) }
+{
+    match ready_run(alloc, container, options, contents, &system) {
+        Ok(ready) => run_ready(alloc, ready, options.cores(), system, files, out, board),
+        Err(ending) => ending,
+    }
+}
+
+// Runs a system with what its run is given, and gives it back.
+fn run_ready<'a, S: Store, O: Sink>(
+    alloc: Global,
+    ready: ReadyRun<'a>,
+    cores: PartFiles<'a>,
+    system: System,
+    files: &mut S,
+    out: &mut O,
+    board: &mut Board,
+) -> Ending<'a>
+    requires most { ready.ticks ≤ TICKS }
+    requires given { length ready.inputs ≡ length system.conf.parts }
+    requires inside { AreForPartitions (length system.conf.parts) (seen_files cores) }
+    ensures comes { Comes (ending_of result) (outcome_of_run ready.entry.ticks (seen_files cores.entry) (map made_output ready.entry.scripts.items) system ready.entry.inputs)
+        (outside (S.files files.old) (S.read_faults files.old) (S.write_faults files.old) (S.calls files.old) (O.got out.old) (O.faults out.old))
+        (outside (S.files files.new) (S.read_faults files.new) (S.write_faults files.new) (S.calls files.new) (O.got out.new) (O.faults out.new)) }
+    ensures board { LeavesBoard (ending_of result) (outcome_of_run ready.entry.ticks (seen_files cores.entry) (map made_output ready.entry.scripts.items) system ready.entry.inputs).run (O.got out.old) (O.got out.new) (⟦<Board as ViewBoard>⟧.board_view board.old) (⟦<Board as ViewBoard>⟧.board_view board.new) }
+{
+    let ReadyRun {
+        ticks,
+        inputs,
+        scripts,
+    } = ready;
+    run_system(
+        alloc, ticks, cores, &scripts, system, inputs, files, out, board,
+    )
+}

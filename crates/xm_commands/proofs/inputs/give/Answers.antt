@@ -1,6 +1,0 @@
-use Rattle.xm_words.specs.Seen.{seen_file}
-use Rattle.xm_commands.proofs.InputLemmas.{words_given}
-use Rattle.xm_commands.proofs.inputs.give.Goals as goal
-
-pub returns-in-Ok-clause-given : goal.returns-in-Ok-clause-given
-returns-in-Ok-clause-given c = words_given c.args.inputs.now c.set.new.self (seen_file c.args.named) c.args.bytes.now _ _ c.in-Ok.ensures.length c.in-Ok.ensures.set

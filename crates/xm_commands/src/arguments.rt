@@ -1,0 +1,91 @@
+//! The arguments of a process, and the command line that they hold.
+
+ghost use Rattle.std.specs.Prelude.{◌≡◌, IfOk};
+ghost use Rattle.xm_commands.specs.Top.{Answers};
+ghost use Rattle.file_commands.specs.Work.{outside};
+ghost use Rattle.xm_commands.specs.Arguments.{after_name};
+ghost use Rattle.xm_commands.specs.Called.{IsCall};
+ghost use Rattle.xm_words.specs.Texts.{texts_of};
+ghost use Rattle.xm_words.specs.Words.{command_of};
+
+use crate::top::xm_main;
+use file_commands::Status;
+use std::alloc::Global;
+use uart_board::{Board, ViewBoard};
+use xm_base::Memory;
+use xm_outside::{Sink, Store};
+use xm_words::Words;
+
+/// The words of the command line: all arguments but the first, which is the program's name.
+pub fn words_after_name(alloc: Global, given: &[String]) -> Result<Words, Memory>
+    ensures words { IfOk result (λ words. words ≡ after_name given.now) }
+{
+    match given.split_first() {
+        Some((_name, rest)) => words_of(alloc, rest),
+        None => Ok(Words::new(alloc)),
+    }
+}
+
+// A word for each text, in their order.
+fn words_of(alloc: Global, texts: &[String]) -> Result<Words, Memory>
+    ensures words { IfOk result (λ words. words ≡ texts_of texts.now) }
+{
+    let mut words = Words::new(alloc);
+    for text in texts {
+        words.push(text.as_str())?;
+    }
+    Ok(words)
+}
+
+/// Does what the arguments after the program's name say. Out of memory for the words themselves is told by
+/// the status alone.
+pub fn carry_out<S: Store, O: Sink, E: Sink>(
+    alloc: Global,
+    given: &[String],
+    files: &mut S,
+    out: &mut O,
+    err: &mut E,
+    board: &mut Board,
+) -> Status
+    ensures answers { Answers result (after_name given.now)
+        (outside (S.files files.old) (S.read_faults files.old) (S.write_faults files.old) (S.calls files.old) (O.got out.old) (O.faults out.old))
+        (outside (S.files files.new) (S.read_faults files.new) (S.write_faults files.new) (S.calls files.new) (O.got out.new) (O.faults out.new))
+        (E.got err.old) (E.faults err.old) (E.got err.new) (E.faults err.new) }
+    ensures called { IsCall result (command_of (after_name given.now))
+        (outside (S.files files.old) (S.read_faults files.old) (S.write_faults files.old) (S.calls files.old) (O.got out.old) (O.faults out.old))
+        (outside (S.files files.new) (S.read_faults files.new) (S.write_faults files.new) (S.calls files.new) (O.got out.new) (O.faults out.new))
+        (E.got err.old) (E.faults err.old) (E.got err.new) (E.faults err.new)
+        (⟦<Board as ViewBoard>⟧.board_view board.old) (⟦<Board as ViewBoard>⟧.board_view board.new) }
+    ensures silent { result ≡ Status.Done → err.new ≡ err.old }
+{
+    let Ok(words) = words_after_name(alloc, given) else {
+        return Status::NoMemory;
+    };
+    follow(alloc, &words, given, files, out, err, board)
+}
+
+// Does what the words say, which are those after the program's name. By its `requires` it is stated for a board of
+// any UARTs. Without one it would be stated only for UARTs that are known where `xm_main` is, and so would its callers.
+fn follow<S: Store, O: Sink, E: Sink>(
+    alloc: Global,
+    words: &Words,
+    given: &[String],
+    files: &mut S,
+    out: &mut O,
+    err: &mut E,
+    board: &mut Board,
+) -> Status
+    requires words { words.now ≡ after_name given.now }
+    ensures answers { Answers result (after_name given.now)
+        (outside (S.files files.old) (S.read_faults files.old) (S.write_faults files.old) (S.calls files.old) (O.got out.old) (O.faults out.old))
+        (outside (S.files files.new) (S.read_faults files.new) (S.write_faults files.new) (S.calls files.new) (O.got out.new) (O.faults out.new))
+        (E.got err.old) (E.faults err.old) (E.got err.new) (E.faults err.new) }
+    ensures called { IsCall result (command_of (after_name given.now))
+        (outside (S.files files.old) (S.read_faults files.old) (S.write_faults files.old) (S.calls files.old) (O.got out.old) (O.faults out.old))
+        (outside (S.files files.new) (S.read_faults files.new) (S.write_faults files.new) (S.calls files.new) (O.got out.new) (O.faults out.new))
+        (E.got err.old) (E.faults err.old) (E.got err.new) (E.faults err.new)
+        (⟦<Board as ViewBoard>⟧.board_view board.old) (⟦<Board as ViewBoard>⟧.board_view board.new) }
+    ensures silent { result ≡ Status.Done → err.new ≡ err.old }
+{
+    xm_main(alloc, words, files, out, err, board)
+}
