@@ -180,7 +180,7 @@ fn first_unfit(raw: &RawConf) -> Option<Broken>
     requires { HasCounts raw.now }
     ensures { result ≡ head_of (rules.rule_15 raw.now) }
 {
-    first_of_each(&raw.chans, |n, chan| unfit_chan(n, chan))
+    first_of_each(&raw.chans, unfit_chan)
 }
 
 /// The first channel with messages or destinations that are none.

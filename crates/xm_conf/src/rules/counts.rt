@@ -67,7 +67,7 @@ fn plan_counts(n: u8, plan: &Plan) -> Option<Broken>
 fn plans_counts(plans: &[Plan]) -> Option<Broken>
     ensures { result ≡ head_of (added_by_each rules.plan_counts plans.now) }
 {
-    first_of_each(plans, |n, plan| plan_counts(n, plan))
+    first_of_each(plans, plan_counts)
 }
 
 /// A partition past so many, and too few or too many areas and ports.
@@ -111,7 +111,7 @@ fn chan_counts(n: u8, chan: &Chan) -> Option<Broken>
 fn chans_counts(chans: &[Chan]) -> Option<Broken>
     ensures { result ≡ head_of (added_by_each rules.chan_counts chans.now) }
 {
-    first_of_each(chans, |n, chan| chan_counts(n, chan))
+    first_of_each(chans, chan_counts)
 }
 
 /// The first item that is missing, or past its limit, where so many partitions are the most.

@@ -156,5 +156,5 @@ pub(super) fn rule_18(raw: &RawConf) -> Option<Broken>
     requires messages { All IsChan raw.now.chans }
     ensures { result ≡ head_of (rules.rule_18 raw.now) }
 {
-    first_along(&raw.chans, |before, chan| chan_meets(before, chan))
+    first_along(&raw.chans, chan_meets)
 }

@@ -53,7 +53,7 @@ fn repeated_link(before: &[Link], link: &Link) -> Option<Broken>
     requires { length before.now ≤ most_links }
     ensures { result ≡ head_of (rules.repeated 22 item.Link rules.same_link before.now link.now) }
 {
-    repeated(22, before, link, |a, b| same_link(a, b), |n| Item::Link(n))
+    repeated(22, before, link, same_link, Item::Link)
 }
 
 /// The first link that may not stand.
@@ -71,5 +71,5 @@ pub(super) fn rule_22(raw: &RawConf) -> Option<Broken>
     requires { HasCounts raw.now }
     ensures { result ≡ head_of (rules.rule_22 raw.now) }
 {
-    first_along(&raw.links, |before, link| repeated_link(before, link))
+    first_along(&raw.links, repeated_link)
 }

@@ -56,13 +56,7 @@ fn overlapping_region(before: &[Region], region: &Region) -> Option<Broken>
     requires { length before.now ≤ 8 }
     ensures { result ≡ head_of (rules.repeated 5 item.Region rules.overlaps before.now region.now) }
 {
-    repeated(
-        5,
-        before,
-        region,
-        |a, b| overlaps(a, b),
-        |n| Item::Region(n),
-    )
+    repeated(5, before, region, overlaps, Item::Region)
 }
 
 /// Whether a size is at most that of region 0.
@@ -91,7 +85,7 @@ pub(super) fn rule_4(raw: &RawConf) -> Option<Broken>
     requires { HasCounts raw.now }
     ensures { result ≡ head_of (rules.rule_4 raw.now) }
 {
-    first_of_each(&raw.regions, |n, region| unsized_region(n, region))
+    first_of_each(&raw.regions, unsized_region)
 }
 
 /// The first region that overlaps an earlier one.
@@ -100,8 +94,5 @@ pub(super) fn rule_5(raw: &RawConf) -> Option<Broken>
     requires { HasCounts raw.now }
     ensures { result ≡ head_of (rules.rule_5 raw.now) }
 {
-    first_along(
-        &raw.regions,
-        |before, region| overlapping_region(before, region),
-    )
+    first_along(&raw.regions, overlapping_region)
 }

@@ -21,7 +21,7 @@ fn uart_name(before: &[Name], name: &Name) -> Option<Broken>
     requires { length before.now ≤ 8 }
     ensures { result ≡ head_of (rules.repeated 3 item.Uart bytes_eq before.now name.now) }
 {
-    repeated(3, before, name, |a, b| *a == *b, |n| Item::Uart(n))
+    repeated(3, before, name, |a, b| *a == *b, Item::Uart)
 }
 
 /// The first UART with an earlier one's name.
@@ -29,7 +29,7 @@ fn uart_names(uarts: &[Name]) -> Option<Broken>
     requires { length uarts.now ≤ 8 }
     ensures { result ≡ head_of (along (rules.repeated 3 item.Uart bytes_eq) uarts.now) }
 {
-    first_along(uarts, |before, name| uart_name(before, name))
+    first_along(uarts, uart_name)
 }
 
 /// Whether two ports have one name.
@@ -44,13 +44,7 @@ fn port_name(p: u8, before: &[Port], port: &Port) -> Option<Broken>
     requires { length before.now ≤ 32 }
     ensures { result ≡ head_of (rules.repeated 3 (item.Port p) rules.same_port before.now port.now) }
 {
-    repeated(
-        3,
-        before,
-        port,
-        |a, b| same_port(a, b),
-        |n| Item::Port(p, n),
-    )
+    repeated(3, before, port, same_port, |n| Item::Port(p, n))
 }
 
 /// The first port of a partition with an earlier one's name.
@@ -75,7 +69,7 @@ fn part_names(before: &[Part], part: &Part) -> Option<Broken>
     requires ports { length part.now.ports ≤ 32 }
     ensures { result ≡ head_of (rules.part_names before.now part.now) }
 {
-    let broken = repeated(3, before, part, |a, b| same_part(a, b), |n| Item::Part(n));
+    let broken = repeated(3, before, part, same_part, Item::Part);
     if broken.is_some() {
         return broken;
     }
@@ -88,7 +82,7 @@ fn parts_names(parts: &[Part]) -> Option<Broken>
     requires ports { All (λ part. length part.ports ≤ 32) parts.now }
     ensures { result ≡ head_of (along rules.part_names parts.now) }
 {
-    first_along(parts, |before, part| part_names(before, part))
+    first_along(parts, part_names)
 }
 
 /// The first UART, partition or port with an earlier one's name.

@@ -132,5 +132,5 @@ pub(super) fn rule_20(raw: &RawConf) -> Option<Broken>
     requires { HasCounts raw.now }
     ensures { result ≡ head_of (rules.rule_20 raw.now) }
 {
-    first_of_each(&raw.parts, |n, part| unfit_need(n, part))
+    first_of_each(&raw.parts, unfit_need)
 }

@@ -117,7 +117,7 @@ pub(super) fn rule_11(raw: &RawConf) -> Option<Broken>
     requires { HasCounts raw.now }
     ensures { result ≡ head_of (rules.rule_11 raw.now) }
 {
-    first_of_each(&raw.plans, |n, plan| frame_broken(n, plan))
+    first_of_each(&raw.plans, frame_broken)
 }
 
 /// The first slot that starts before the end of the one before it.
