@@ -1,2 +1,3 @@
 mod ConditionLemmas
+mod EnteringLemmas
 mod StoreLemmas

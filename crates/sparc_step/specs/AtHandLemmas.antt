@@ -217,24 +217,24 @@ with_register_gathered pc npc y icc cwp inv hand windows r value window small co
         gathered-same pc npc y icc cwp inv (put_at hand r value) windows _ _ (globals-put_at_other hand r value zero_first low (omega arith)) (windowed low (nat_lt r 24) refl)
 
 -- a part of a list that was written, and the rest of it
-get_or-put_mid : (xs ys : List ℕ) (from count k : ℕ) → length ys ≡ count → from + count ≤ length xs → from ≤ k → k < from + count → slice_index (put_mid from count xs ys) k ≡ slice_index ys (k - from)
+pub get_or-put_mid : (xs ys : List ℕ) (from count k : ℕ) → length ys ≡ count → from + count ≤ length xs → from ≤ k → k < from + count → slice_index (put_mid from count xs ys) k ≡ slice_index ys (k - from)
 get_or-put_mid xs ys from count k counted fits low high = grind (arith, places)
 
-get_or-put_mid_other : (xs ys : List ℕ) (from count k : ℕ) → length ys ≡ count → from + count ≤ length xs → (k < from) ⊎ (from + count ≤ k) → slice_index (put_mid from count xs ys) k ≡ slice_index xs k
+pub get_or-put_mid_other : (xs ys : List ℕ) (from count k : ℕ) → length ys ≡ count → from + count ≤ length xs → (k < from) ⊎ (from + count ≤ k) → slice_index (put_mid from count xs ys) k ≡ slice_index xs k
 get_or-put_mid_other xs ys from count k counted fits (inl low) = grind (arith, places)
 get_or-put_mid_other xs ys from count k counted fits (inr high) = grind (arith, places)
 
-length-put_mid : (xs ys : List ℕ) (from count : ℕ) → length ys ≡ count → from + count ≤ length xs → length (put_mid from count xs ys) ≡ length xs
+pub length-put_mid : (xs ys : List ℕ) (from count : ℕ) → length ys ≡ count → from + count ≤ length xs → length (put_mid from count xs ys) ≡ length xs
 length-put_mid xs ys from count counted fits = grind (arith, places)
 
 -- a part of a list, and its length
-get_or-part : (xs : List ℕ) (from count j k : ℕ) → j < count → from + j ≡ k → slice_index (take count (drop from xs)) j ≡ slice_index xs k
+pub get_or-part : (xs : List ℕ) (from count j k : ℕ) → j < count → from + j ≡ k → slice_index (take count (drop from xs)) j ≡ slice_index xs k
 get_or-part xs from count j k small is = get_or-take count (drop from xs) j 0 small ∙ get_or-drop from xs j 0 ∙ ap (slice_index xs) is
 
 get_or-rest : (xs : List ℕ) (from j k : ℕ) → from + j ≡ k → slice_index (drop from xs) j ≡ slice_index xs k
 get_or-rest xs from j k is = get_or-drop from xs j 0 ∙ ap (slice_index xs) is
 
-length-part : (xs : List ℕ) (from count : ℕ) → from + count ≤ length xs → length (take count (drop from xs)) ≡ count
+pub length-part : (xs : List ℕ) (from count : ℕ) → from + count ≤ length xs → length (take count (drop from xs)) ≡ count
 length-part xs from count fits = grind (arith, places)
 
 length-rest : (xs : List ℕ) (from count : ℕ) → from + count ≡ length xs → length (drop from xs) ≡ count

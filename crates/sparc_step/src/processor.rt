@@ -294,6 +294,30 @@ impl Processor {
         self.cwp = window;
     }
 
+    /// Enters the window below, which is valid: what a SAVE does.
+    #[inline(always)]
+    #[tactic(auto, unfolding(crate::specs::Registers::in_window, crate::specs::AtHand::gathered))]
+    pub fn enter_below(&mut self)
+        requires valid { (self.old.cwp + 7) % 8 ≢ self.old.inv }
+        ensures { self.new ≡ in_window self.old ((self.old.cwp + 7) % 8) }
+    {
+        let below = (self.cwp + 7) % 8;
+        go_below(&mut self.hand, &mut self.windows, self.cwp, below);
+        self.cwp = below;
+    }
+
+    /// Enters the window above, which is valid: what a RESTORE does.
+    #[inline(always)]
+    #[tactic(auto, unfolding(crate::specs::Registers::in_window, crate::specs::AtHand::gathered))]
+    pub fn enter_above(&mut self)
+        requires valid { (self.old.cwp + 1) % 8 ≢ self.old.inv }
+        ensures { self.new ≡ in_window self.old ((self.old.cwp + 1) % 8) }
+    {
+        let above = (self.cwp + 1) % 8;
+        go_above(&mut self.hand, &mut self.windows, self.cwp, above);
+        self.cwp = above;
+    }
+
     /// Sets Y.
     #[tactic(auto, unfolding(crate::specs::Registers::with_y, crate::specs::AtHand::gathered))]
     pub fn set_y(&mut self, y: u32)
@@ -374,6 +398,50 @@ fn write_window(windows: &mut [u32], hand: &[u32], window: u8)
 {
     copy_words(windows, 16 * usize::from(window), hand, 8, 16);
     copy_words(windows, 16 * usize::from((window + 1) % 8), hand, 24, 8);
+}
+
+// Takes the window below to hand. Its ins are the outs of the one that is cached, and stay in hand.
+#[inline(always)]
+fn go_below(hand: &mut [u32], windows: &mut [u32], window: u8, below: u8)
+    requires hand { length hand.old ≡ 32 }
+    requires windows { length windows.old ≡ 128 }
+    requires window { window < 8 }
+    requires below { below ≡ (window + 7) % 8 }
+    ensures windows { windows_with below hand.new windows.new ≡ windows_with window hand.old windows.old }
+    ensures globals { take 8 hand.new ≡ take 8 hand.old }
+{
+    copy_words(windows, 16 * usize::from(window) + 8, hand, 16, 8);
+    copy_words(windows, 16 * usize::from((window + 1) % 8), hand, 24, 8);
+    move_eight(hand, 8, 24);
+    copy_words(hand, 8, windows, 16 * usize::from(below), 16);
+}
+
+// Takes the window above to hand. Its outs are the ins of the one that is cached, and stay in hand.
+#[inline(always)]
+fn go_above(hand: &mut [u32], windows: &mut [u32], window: u8, above: u8)
+    requires hand { length hand.old ≡ 32 }
+    requires windows { length windows.old ≡ 128 }
+    requires window { window < 8 }
+    requires above { above ≡ (window + 1) % 8 }
+    ensures windows { windows_with above hand.new windows.new ≡ windows_with window hand.old windows.old }
+    ensures globals { take 8 hand.new ≡ take 8 hand.old }
+{
+    copy_words(windows, 16 * usize::from(window), hand, 8, 16);
+    move_eight(hand, 24, 8);
+    copy_words(hand, 16, windows, 16 * usize::from(above) + 8, 8);
+    copy_words(hand, 24, windows, 16 * usize::from((above + 1) % 8), 8);
+}
+
+// Copies eight words from a place on to another place of the same.
+#[inline(always)]
+fn move_eight(words: &mut [u32], from: usize, to: usize)
+    requires from { from + 8 ≤ length words.old }
+    requires to { to + 8 ≤ length words.old }
+    ensures { words.new ≡ put_mid to 8 words.old (take 8 (drop from words.old)) }
+{
+    let mut eight = [0; 8];
+    eight.copy_from_slice(&words[from..from + 8]);
+    words[to..to + 8].copy_from_slice(&eight);
 }
 
 // Takes eight words of the windows from a place on as the first of sixteen.

@@ -1,0 +1,217 @@
+-- The window below or above taken to hand, of which eight words are in hand already.
+use borrow.Rule.Slice.PartMut.{put_mid}
+use Rattle.std.proofs.Common.{◌≡◌, ◌≢◌, ◌⊎◌, inl, inr, ⊎_elim, ◌∙◌, sym, ap, refl, arith}
+use Rattle.std.proofs.lemmas.Bool.{cases_lt}
+use Rattle.std.proofs.lemmas.List.{length-drop}
+use Rattle.std.proofs.lemmas.Slice.{take-put_mid_below}
+use Rattle.std.specs.Prelude.{ℕ, ◌+◌, ◌-◌, ◌*◌, ◌%◌, ◌<◌, ◌≤◌, List, length, take, drop, slice_index}
+use Rattle.sparc_step.specs.AtHand.{listed_below, own_place, windows_with, word_at}
+use Rattle.sparc_step.specs.AtHandLemmas.{get_or-part, get_or-put_mid, get_or-put_mid_other, length-part, length-put_mid, lies_or, table-same, word_at-ins, word_at-other, word_at-own}
+use Rattle.sparc_step.specs.Registers.{ins_place, locals_place}
+
+-- a place of one block of sixteen is none of another
+other_block : (a b k : ℕ) → a ≢ b → 16 * a ≤ k → k < 16 * a + 16 → (k < 16 * b) ⊎ (16 * b + 16 ≤ k)
+other_block a b k differ low high = ⊎_elim (λ below. inl below) (λ from. inr (omega arith)) (cases_lt k (16 * b))
+
+-- what lies apart from a block lies apart from a part of it
+apart_of : (from to start count k : ℕ) → from ≤ start → start + count ≤ to → (k < from) ⊎ (to ≤ k) → (k < start) ⊎ (start + count ≤ k)
+apart_of from to start count k low high (inl below) = inl (omega arith)
+apart_of from to start count k low high (inr above) = inr (omega arith)
+
+-- two windows with the same words at each place
+same_windows : (a b : ℕ) (hand windows words places : List ℕ)
+    → ((k : ℕ) → own_place a ≤ k → k < own_place a + 16 → slice_index hand (k - own_place a + 8) ≡ word_at b words places k)
+    → ((k : ℕ) → (k < own_place a) ⊎ (own_place a + 16 ≤ k) → ins_place a ≤ k → k < ins_place a + 8 → slice_index hand (k - ins_place a + 24) ≡ word_at b words places k)
+    → ((k : ℕ) → (k < own_place a) ⊎ (own_place a + 16 ≤ k) → (k < ins_place a) ⊎ (ins_place a + 8 ≤ k) → slice_index windows k ≡ word_at b words places k)
+    → windows_with a hand windows ≡ windows_with b words places
+unfolding windows_with
+same_windows a b hand windows words places own ins rest = table-same (word_at a hand windows) (word_at b words places) 128 each
+  where
+    each : (k : ℕ) → k < 128 → word_at a hand windows k ≡ word_at b words places k
+    each k small = lies_or (own_place a) 16 k
+        (λ low high. word_at-own a hand windows k low high ∙ own k low high)
+        (λ apart. lies_or (ins_place a) 8 k
+        (λ low high. word_at-ins a hand windows k apart low high ∙ ins k apart low high)
+        (λ other. word_at-other a hand windows k apart other ∙ rest k apart other))
+
+-- the window below: the locals and ins are put back, the outs become its ins
+module _ (window below : ℕ) (hand windows once twice moved taken : List ℕ)
+    (small : window < 8) (below_is : below ≡ (window + 7) % 8) (counted : length hand ≡ 32) (whole : length windows ≡ 128)
+    (once_is : once ≡ put_mid (locals_place window) 8 windows (take 8 (drop 16 hand)))
+    (twice_is : twice ≡ put_mid (ins_place window) 8 once (take 8 (drop 24 hand)))
+    (moved_is : moved ≡ put_mid 24 8 hand (take 8 (drop 8 hand)))
+    (taken_is : taken ≡ put_mid 8 16 moved (take 16 (drop (own_place below) twice))) where
+  eight_at : (from : ℕ) → from + 8 ≤ 32 → length (take 8 (drop from hand)) ≡ 8
+  eight_at from fits = length-part hand from 8 (omega (arith, counted))
+
+  once_whole : length once ≡ 128
+  once_whole = ap length once_is ∙ length-put_mid windows (take 8 (drop 16 hand)) (locals_place window) 8 (eight_at 16 (omega arith)) (omega (arith, whole)) ∙ whole
+
+  twice_whole : length twice ≡ 128
+  twice_whole = ap length twice_is ∙ length-put_mid once (take 8 (drop 24 hand)) (ins_place window) 8 (eight_at 24 (omega arith)) (omega (arith, once_whole)) ∙ once_whole
+
+  moved_counted : length moved ≡ 32
+  moved_counted = ap length moved_is ∙ length-put_mid hand (take 8 (drop 8 hand)) 24 8 (eight_at 8 (omega arith)) (omega (arith, counted)) ∙ counted
+
+  sixteen : length (take 16 (drop (own_place below) twice)) ≡ 16
+  sixteen = length-part twice (own_place below) 16 (omega (arith, twice_whole))
+
+  -- the windows as they are put back
+  put_apart : (k : ℕ) → (k < locals_place window) ⊎ (locals_place window + 8 ≤ k) → (k < ins_place window) ⊎ (ins_place window + 8 ≤ k) → slice_index twice k ≡ slice_index windows k
+  put_apart k apart_locals apart_ins =
+      ap (λ (xs : List ℕ). slice_index xs k) twice_is
+      ∙ get_or-put_mid_other once (take 8 (drop 24 hand)) (ins_place window) 8 k (eight_at 24 (omega arith)) (omega (arith, once_whole)) apart_ins
+      ∙ ap (λ (xs : List ℕ). slice_index xs k) once_is
+      ∙ get_or-put_mid_other windows (take 8 (drop 16 hand)) (locals_place window) 8 k (eight_at 16 (omega arith)) (omega (arith, whole)) apart_locals
+
+  put_locals : (k : ℕ) → locals_place window ≤ k → k < locals_place window + 8 → (k < ins_place window) ⊎ (ins_place window + 8 ≤ k) → slice_index twice k ≡ slice_index hand (k - own_place window + 8)
+  put_locals k low high apart_ins =
+      ap (λ (xs : List ℕ). slice_index xs k) twice_is
+      ∙ get_or-put_mid_other once (take 8 (drop 24 hand)) (ins_place window) 8 k (eight_at 24 (omega arith)) (omega (arith, once_whole)) apart_ins
+      ∙ ap (λ (xs : List ℕ). slice_index xs k) once_is
+      ∙ get_or-put_mid windows (take 8 (drop 16 hand)) (locals_place window) 8 k (eight_at 16 (omega arith)) (omega (arith, whole)) low high
+      ∙ get_or-part hand 16 8 (k - locals_place window) (k - own_place window + 8) (omega arith) (omega arith)
+
+  put_ins : (k : ℕ) → ins_place window ≤ k → k < ins_place window + 8 → slice_index twice k ≡ slice_index hand (k - ins_place window + 24)
+  put_ins k low high =
+      ap (λ (xs : List ℕ). slice_index xs k) twice_is
+      ∙ get_or-put_mid once (take 8 (drop 24 hand)) (ins_place window) 8 k (eight_at 24 (omega arith)) (omega (arith, once_whole)) low high
+      ∙ get_or-part hand 24 8 (k - ins_place window) (k - ins_place window + 24) (omega arith) (omega arith)
+
+  own_below : (k : ℕ) → own_place below ≤ k → k < own_place below + 16 → slice_index taken (k - own_place below + 8) ≡ word_at window hand windows k
+  own_below k low high =
+      let apart : (k < own_place window) ⊎ (own_place window + 16 ≤ k) = other_block below window k (omega arith) low high in
+      let apart_above : (k < ins_place window) ⊎ (ins_place window + 16 ≤ k) = other_block below ((window + 1) % 8) k (omega arith) low high in
+      let apart_ins : (k < ins_place window) ⊎ (ins_place window + 8 ≤ k) = apart_of (ins_place window) (ins_place window + 16) (ins_place window) 8 k (omega arith) (omega arith) apart_above in
+      ap (λ (xs : List ℕ). slice_index xs (k - own_place below + 8)) taken_is
+      ∙ get_or-put_mid moved (take 16 (drop (own_place below) twice)) 8 16 (k - own_place below + 8) sixteen (omega (arith, moved_counted)) (omega arith) (omega arith)
+      ∙ get_or-part twice (own_place below) 16 (k - own_place below + 8 - 8) k (omega arith) (omega arith)
+      ∙ put_apart k (apart_of (own_place window) (own_place window + 16) (locals_place window) 8 k (omega arith) (omega arith) apart) apart_ins
+      ∙ sym (word_at-other window hand windows k apart apart_ins)
+
+  ins_below : (k : ℕ) → (k < own_place below) ⊎ (own_place below + 16 ≤ k) → ins_place below ≤ k → k < ins_place below + 8 → slice_index taken (k - ins_place below + 24) ≡ word_at window hand windows k
+  ins_below k other low high =
+      let same : ins_place below ≡ own_place window = omega arith in
+      ap (λ (xs : List ℕ). slice_index xs (k - ins_place below + 24)) taken_is
+      ∙ get_or-put_mid_other moved (take 16 (drop (own_place below) twice)) 8 16 (k - ins_place below + 24) sixteen (omega (arith, moved_counted)) (inr (omega arith))
+      ∙ ap (λ (xs : List ℕ). slice_index xs (k - ins_place below + 24)) moved_is
+      ∙ get_or-put_mid hand (take 8 (drop 8 hand)) 24 8 (k - ins_place below + 24) (eight_at 8 (omega arith)) (omega (arith, counted)) (omega arith) (omega arith)
+      ∙ get_or-part hand 8 8 (k - ins_place below + 24 - 24) (k - own_place window + 8) (omega arith) (omega (arith, same))
+      ∙ sym (word_at-own window hand windows k (omega (arith, same)) (omega (arith, same)))
+
+  rest_below : (k : ℕ) → (k < own_place below) ⊎ (own_place below + 16 ≤ k) → (k < ins_place below) ⊎ (ins_place below + 8 ≤ k) → slice_index twice k ≡ word_at window hand windows k
+  rest_below k apart_own apart_ins =
+      lies_or (own_place window) 16 k
+      (λ low high. put_locals k (from_locals apart_ins low) (omega arith) (apart_of (ins_place window) (ins_place window + 16) (ins_place window) 8 k (omega arith) (omega arith) (other_block window ((window + 1) % 8) k (omega arith) low high))
+      ∙ sym (word_at-own window hand windows k low high))
+      (λ other. lies_or (ins_place window) 8 k
+      (λ low high. put_ins k low high ∙ sym (word_at-ins window hand windows k other low high))
+      (λ neither. put_apart k (apart_of (own_place window) (own_place window + 16) (locals_place window) 8 k (omega arith) (omega arith) other) neither
+      ∙ sym (word_at-other window hand windows k other neither)))
+    where
+      from_locals : (k < ins_place below) ⊎ (ins_place below + 8 ≤ k) → own_place window ≤ k → locals_place window ≤ k
+      from_locals (inl before) low = absurd (omega arith)
+      from_locals (inr after) low = omega arith
+
+  pub gone_below : windows_with below taken twice ≡ windows_with window hand windows
+  gone_below = same_windows below window taken twice hand windows own_below ins_below rest_below
+
+  pub gone_below_globals : take 8 taken ≡ take 8 hand
+  gone_below_globals =
+      ap (take 8) taken_is ∙ take-put_mid_below 8 16 moved (take 16 (drop (own_place below) twice)) 8 (omega arith) (omega (arith, moved_counted))
+      ∙ ap (take 8) moved_is ∙ take-put_mid_below 24 8 hand (take 8 (drop 8 hand)) 8 (omega arith) (omega (arith, counted))
+
+-- the window above: the outs and locals are put back, the ins become its outs
+module _ (window above : ℕ) (hand windows put moved half taken : List ℕ)
+    (small : window < 8) (above_is : above ≡ (window + 1) % 8) (counted : length hand ≡ 32) (whole : length windows ≡ 128)
+    (put_is : put ≡ put_mid (own_place window) 16 windows (take 16 (drop 8 hand)))
+    (moved_is : moved ≡ put_mid 8 8 hand (take 8 (drop 24 hand)))
+    (half_is : half ≡ put_mid 16 8 moved (take 8 (drop (locals_place above) put)))
+    (taken_is : taken ≡ put_mid 24 8 half (take 8 (drop (ins_place above) put))) where
+  outs_and_locals : length (take 16 (drop 8 hand)) ≡ 16
+  outs_and_locals = length-part hand 8 16 (omega (arith, counted))
+
+  ins_counted : length (take 8 (drop 24 hand)) ≡ 8
+  ins_counted = length-part hand 24 8 (omega (arith, counted))
+
+  put_whole : length put ≡ 128
+  put_whole = ap length put_is ∙ length-put_mid windows (take 16 (drop 8 hand)) (own_place window) 16 outs_and_locals (omega (arith, whole)) ∙ whole
+
+  moved_whole : length moved ≡ 32
+  moved_whole = ap length moved_is ∙ length-put_mid hand (take 8 (drop 24 hand)) 8 8 ins_counted (omega (arith, counted)) ∙ counted
+
+  locals_counted : length (take 8 (drop (locals_place above) put)) ≡ 8
+  locals_counted = length-part put (locals_place above) 8 (omega (arith, put_whole))
+
+  next_counted : length (take 8 (drop (ins_place above) put)) ≡ 8
+  next_counted = length-part put (ins_place above) 8 (omega (arith, put_whole))
+
+  half_whole : length half ≡ 32
+  half_whole = ap length half_is ∙ length-put_mid moved (take 8 (drop (locals_place above) put)) 16 8 locals_counted (omega (arith, moved_whole)) ∙ moved_whole
+
+  kept : (k : ℕ) → (k < own_place window) ⊎ (own_place window + 16 ≤ k) → slice_index put k ≡ slice_index windows k
+  kept k apart =
+      ap (λ (xs : List ℕ). slice_index xs k) put_is
+      ∙ get_or-put_mid_other windows (take 16 (drop 8 hand)) (own_place window) 16 k outs_and_locals (omega (arith, whole)) apart
+
+  -- a word of the window above at hand
+  outs_above : (k : ℕ) → own_place above ≤ k → k < locals_place above → slice_index taken (k - own_place above + 8) ≡ slice_index hand (k - own_place above + 24)
+  outs_above k low high =
+      ap (λ (xs : List ℕ). slice_index xs (k - own_place above + 8)) taken_is
+      ∙ get_or-put_mid_other half (take 8 (drop (ins_place above) put)) 24 8 (k - own_place above + 8) next_counted (omega (arith, half_whole)) (inl (omega arith))
+      ∙ ap (λ (xs : List ℕ). slice_index xs (k - own_place above + 8)) half_is
+      ∙ get_or-put_mid_other moved (take 8 (drop (locals_place above) put)) 16 8 (k - own_place above + 8) locals_counted (omega (arith, moved_whole)) (inl (omega arith))
+      ∙ ap (λ (xs : List ℕ). slice_index xs (k - own_place above + 8)) moved_is
+      ∙ get_or-put_mid hand (take 8 (drop 24 hand)) 8 8 (k - own_place above + 8) ins_counted (omega (arith, counted)) (omega arith) (omega arith)
+      ∙ get_or-part hand 24 8 (k - own_place above + 8 - 8) (k - own_place above + 24) (omega arith) (omega arith)
+
+  locals_above : (k : ℕ) → locals_place above ≤ k → k < locals_place above + 8 → slice_index taken (k - own_place above + 8) ≡ slice_index put k
+  locals_above k low high =
+      ap (λ (xs : List ℕ). slice_index xs (k - own_place above + 8)) taken_is
+      ∙ get_or-put_mid_other half (take 8 (drop (ins_place above) put)) 24 8 (k - own_place above + 8) next_counted (omega (arith, half_whole)) (inl (omega arith))
+      ∙ ap (λ (xs : List ℕ). slice_index xs (k - own_place above + 8)) half_is
+      ∙ get_or-put_mid moved (take 8 (drop (locals_place above) put)) 16 8 (k - own_place above + 8) locals_counted (omega (arith, moved_whole)) (omega arith) (omega arith)
+      ∙ get_or-part put (locals_place above) 8 (k - own_place above + 8 - 16) k (omega arith) (omega arith)
+
+  own_above : (k : ℕ) → own_place above ≤ k → k < own_place above + 16 → slice_index taken (k - own_place above + 8) ≡ word_at window hand windows k
+  own_above k low high =
+      let apart : (k < own_place window) ⊎ (own_place window + 16 ≤ k) = other_block above window k (omega arith) low high in
+      let same : ins_place window ≡ own_place above = omega arith in
+      ⊎_elim
+      (λ outs. outs_above k low outs
+      ∙ ap (slice_index hand) (omega (arith, same))
+      ∙ sym (word_at-ins window hand windows k apart (omega (arith, same)) (omega (arith, same))))
+      (λ locals. locals_above k locals (omega arith)
+      ∙ kept k apart
+      ∙ sym (word_at-other window hand windows k apart (inr (omega (arith, same)))))
+      (cases_lt k (locals_place above))
+
+  ins_above : (k : ℕ) → (k < own_place above) ⊎ (own_place above + 16 ≤ k) → ins_place above ≤ k → k < ins_place above + 8 → slice_index taken (k - ins_place above + 24) ≡ word_at window hand windows k
+  ins_above k other low high =
+      let apart : (k < own_place window) ⊎ (own_place window + 16 ≤ k) = other_block ((above + 1) % 8) window k (omega arith) low (omega arith) in
+      let apart_above : (k < ins_place window) ⊎ (ins_place window + 16 ≤ k) = other_block ((above + 1) % 8) ((window + 1) % 8) k (omega arith) low (omega arith) in
+      ap (λ (xs : List ℕ). slice_index xs (k - ins_place above + 24)) taken_is
+      ∙ get_or-put_mid half (take 8 (drop (ins_place above) put)) 24 8 (k - ins_place above + 24) next_counted (omega (arith, half_whole)) (omega arith) (omega arith)
+      ∙ get_or-part put (ins_place above) 8 (k - ins_place above + 24 - 24) k (omega arith) (omega arith)
+      ∙ kept k apart
+      ∙ sym (word_at-other window hand windows k apart (apart_of (ins_place window) (ins_place window + 16) (ins_place window) 8 k (omega arith) (omega arith) apart_above))
+
+  rest_above : (k : ℕ) → (k < own_place above) ⊎ (own_place above + 16 ≤ k) → (k < ins_place above) ⊎ (ins_place above + 8 ≤ k) → slice_index put k ≡ word_at window hand windows k
+  rest_above k apart_own apart_ins =
+      let same : ins_place window ≡ own_place above = omega arith in
+      lies_or (own_place window) 16 k
+      (λ low high. ap (λ (xs : List ℕ). slice_index xs k) put_is
+      ∙ get_or-put_mid windows (take 16 (drop 8 hand)) (own_place window) 16 k outs_and_locals (omega (arith, whole)) low high
+      ∙ get_or-part hand 8 16 (k - own_place window) (k - own_place window + 8) (omega arith) (omega arith)
+      ∙ sym (word_at-own window hand windows k low high))
+      (λ other. kept k other
+      ∙ sym (word_at-other window hand windows k other (apart_of (own_place above) (own_place above + 16) (ins_place window) 8 k (omega (arith, same)) (omega (arith, same)) apart_own)))
+
+  pub gone_above : windows_with above taken put ≡ windows_with window hand windows
+  gone_above = same_windows above window taken put hand windows own_above ins_above rest_above
+
+  pub gone_above_globals : take 8 taken ≡ take 8 hand
+  gone_above_globals =
+      ap (take 8) taken_is ∙ take-put_mid_below 24 8 half (take 8 (drop (ins_place above) put)) 8 (omega arith) (omega (arith, half_whole))
+      ∙ ap (take 8) half_is ∙ take-put_mid_below 16 8 moved (take 8 (drop (locals_place above) put)) 8 (omega arith) (omega (arith, moved_whole))
+      ∙ ap (take 8) moved_is ∙ take-put_mid_below 8 8 hand (take 8 (drop 24 hand)) 8 (omega arith) (omega (arith, counted))
