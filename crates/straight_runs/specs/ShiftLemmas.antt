@@ -88,27 +88,27 @@ settled_filled areas core mid memory there t trap moves again =
     ap (λ (x : Turned). answered x.turn x areas core memory) trap ∙ ap (λ (m : Moved). again_or_trap m.answer 6 areas m.core m.memory) moves ∙ again
 
 -- a SAVE with its spill
-pub shift_save : (row : Row) (pc window : ℕ) (areas : List Area) (old mid new : Registers) (memory there : Memory) → row.kind ≡ 32 → (old.cwp + 7) % 8 ≡ old.inv → window ≡ (old.cwp + 7) % 8 → IsSpilled pc areas old mid memory there
-    → ((source : Src) → HasSource source row → new ≡ with_register (in_window mid window) row.rd (sum_of row.rs1 source mid)) → IsShift row pc areas old new memory there
+pub shift_save : (row : Row) (pc : ℕ) (areas : List Area) (old mid new : Registers) (memory there : Memory) → row.kind ≡ 32 → (old.cwp + 7) % 8 ≡ old.inv → IsSpilled pc areas old mid memory there
+    → ((source : Src) → HasSource source row → new ≡ with_register (in_window mid ((mid.cwp + 7) % 8)) row.rd (sum_of row.rs1 source mid)) → IsShift row pc areas old new memory there
 unfolding shifted-placed
-shift_save row pc window areas old mid new memory there kind needed window_is is left = λ npc word stands done_row.
+shift_save row pc areas old mid new memory there kind needed is left = λ npc word stands done_row.
     let is_row = row_as_done (decoded word) row (λ two. absurd (omega (arith, kind, two))) done_row in
     let trap = turned-word word pc npc areas old memory (refused_by 5 (placed pc npc old) memory) stands (save_row_traps row pc npc areas old memory kind needed (decoded word) is_row) in
     let moves : spilled areas (placed pc npc old) memory ≡ move_made (placed pc npc mid) there = spilled-placed areas old memory pc npc ∙ ap (shifted-placed pc npc) is.moved in
-    let below : window ≡ (mid.cwp + 7) % 8 = window_is ∙ ap (λ (n : ℕ). (n + 7) % 8) (sym is.current) in
-    let goes = save_kind row window areas mid new there there kind below (λ e. is.valid (sym window_is ∙ e)) left refl (decoded word) is_row in
+    let same : (old.cwp + 7) % 8 ≡ (mid.cwp + 7) % 8 = ap (λ (n : ℕ). (n + 7) % 8) (sym is.current) in
+    let goes = save_kind row ((mid.cwp + 7) % 8) areas mid new there there kind refl (λ e. is.valid (same ∙ e)) left refl (decoded word) is_row in
     settled_spilled areas (placed pc npc old) (placed pc npc mid) memory there (done (placed npc ((npc + 4) % 2 ^ 32) new) there) trap moves
     (turned-word word pc npc areas mid there (done (placed npc ((npc + 4) % 2 ^ 32) new) there) (is.word ∙ stands) (goes pc npc))
 
 -- a RESTORE with its fill
-pub shift_restore : (row : Row) (pc window : ℕ) (areas : List Area) (old mid new : Registers) (memory : Memory) → row.kind ≡ 33 → (old.cwp + 1) % 8 ≡ old.inv → window ≡ (old.cwp + 1) % 8 → IsFilled areas old mid memory
-    → ((source : Src) → HasSource source row → new ≡ with_register (in_window mid window) row.rd (sum_of row.rs1 source mid)) → IsShift row pc areas old new memory memory
+pub shift_restore : (row : Row) (pc : ℕ) (areas : List Area) (old mid new : Registers) (memory : Memory) → row.kind ≡ 33 → (old.cwp + 1) % 8 ≡ old.inv → IsFilled areas old mid memory
+    → ((source : Src) → HasSource source row → new ≡ with_register (in_window mid ((mid.cwp + 1) % 8)) row.rd (sum_of row.rs1 source mid)) → IsShift row pc areas old new memory memory
 unfolding shifted-placed
-shift_restore row pc window areas old mid new memory kind needed window_is is left = λ npc word stands done_row.
+shift_restore row pc areas old mid new memory kind needed is left = λ npc word stands done_row.
     let is_row = row_as_done (decoded word) row (λ two. absurd (omega (arith, kind, two))) done_row in
     let trap = turned-word word pc npc areas old memory (refused_by 6 (placed pc npc old) memory) stands (restore_row_traps row pc npc areas old memory kind needed (decoded word) is_row) in
     let moves : filled areas (placed pc npc old) memory ≡ move_made (placed pc npc mid) memory = filled-placed areas old memory pc npc ∙ ap (shifted-placed pc npc) is.moved in
-    let above : window ≡ (mid.cwp + 1) % 8 = window_is ∙ ap (λ (n : ℕ). (n + 1) % 8) (sym is.current) in
-    let goes = restore_kind row window areas mid new memory memory kind above (λ e. is.valid (sym window_is ∙ e)) left refl (decoded word) is_row in
+    let same : (old.cwp + 1) % 8 ≡ (mid.cwp + 1) % 8 = ap (λ (n : ℕ). (n + 1) % 8) (sym is.current) in
+    let goes = restore_kind row ((mid.cwp + 1) % 8) areas mid new memory memory kind refl (λ e. is.valid (same ∙ e)) left refl (decoded word) is_row in
     settled_filled areas (placed pc npc old) (placed pc npc mid) memory memory (done (placed npc ((npc + 4) % 2 ^ 32) new) memory) trap moves
     (turned-word word pc npc areas mid memory (done (placed npc ((npc + 4) % 2 ^ 32) new) memory) stands (goes pc npc))

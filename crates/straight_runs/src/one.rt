@@ -9,7 +9,6 @@ ghost use Rattle.straight_runs.specs.Runs.{AreSteps};
 ghost use Rattle.straight_runs.specs.Tables.{AreRows};
 ghost use Rattle.straight_runs.specs.Turning.{at_place, at_slot};
 
-use crate::kinds;
 use crate::places::{Code, address, number};
 use crate::rows::Row;
 use crate::shifting::shift;
@@ -65,23 +64,18 @@ pub(crate) fn one<B: HasWords>(
             let displacement = taken(own, row);
             behind(own, bus, words, rows, code, at, displacement)
         }
-        Step::Stays => {
-            if row.kind < kinds::CALL {
-                if shift(own, bus, *row, address(code.words, at)) {
-                    Came::Next
-                } else {
-                    Came::Stays
-                }
+        Step::Shifts => {
+            if shift(own, bus, *row, address(code.words, at)) {
+                Came::Next
             } else {
-                match turn(own, row, code.words, at) {
-                    Goal::Behind(displacement) => {
-                        behind(own, bus, words, rows, code, at, displacement)
-                    }
-                    Goal::Now(displacement) => Came::Jump(displacement),
-                    Goal::Stays => Came::Stays,
-                }
+                Came::Stays
             }
         }
+        Step::Stays => match turn(own, row, code.words, at) {
+            Goal::Behind(displacement) => behind(own, bus, words, rows, code, at, displacement),
+            Goal::Now(displacement) => Came::Jump(displacement),
+            Goal::Stays => Came::Stays,
+        },
     }
 }
 
@@ -114,12 +108,13 @@ fn behind<B: HasWords>(
     match execute(own, bus, row) {
         Step::Next => Came::Turn(displacement),
         Step::Taken => Came::Slot(displacement),
-        Step::Stays => {
+        Step::Shifts => {
             if shift(own, bus, *row, address(code.words, at + 1)) {
                 Came::Turn(displacement)
             } else {
                 Came::Slot(displacement)
             }
         }
+        Step::Stays => Came::Slot(displacement),
     }
 }

@@ -16,7 +16,7 @@ use crate::simple::Step;
 use crate::working::{first, second, sum_of};
 use sparc_step::Processor;
 
-/// The kinds from 30 on. Those that do not go on to the next word are left.
+/// The kinds from 30 on. Those that do not go on to the next word are left, as are windows that have to be spilled or filled.
 #[inline(always)]
 pub(crate) fn rare(own: &mut Processor, row: &Row) -> Step
     requires from { 30 ≤ row.now.kind }
@@ -94,7 +94,7 @@ fn save(own: &mut Processor, row: &Row) -> Step
     if enter(own, row, window) {
         Step::Next
     } else {
-        Step::Stays
+        Step::Shifts
     }
 }
 
@@ -109,7 +109,7 @@ fn restore(own: &mut Processor, row: &Row) -> Step
     if enter(own, row, window) {
         Step::Next
     } else {
-        Step::Stays
+        Step::Shifts
     }
 }
 

@@ -55,7 +55,7 @@ fn save<B: HasWords>(own: &mut Processor, bus: &mut B, row: &Row, here: u32) -> 
         return false;
     }
     if spill(own, bus, here) {
-        enter(own, row, window);
+        enter_below(own, row);
         true
     } else {
         false
@@ -75,7 +75,7 @@ fn restore<B: HasWords>(own: &mut Processor, bus: &B, row: &Row) -> bool
         return false;
     }
     if fill(own, bus) {
-        enter(own, row, window);
+        enter_above(own, row);
         true
     } else {
         false
@@ -126,15 +126,26 @@ fn fill<B: HasWords>(own: &mut Processor, bus: &B) -> bool
     }
 }
 
-// The sum of the operands becomes a register of another window, which is valid.
+// The sum of the operands becomes a register of the window below, which is valid.
 #[inline(always)]
-fn enter(own: &mut Processor, row: &Row, window: u8)
-    requires window { window < 8 }
-    requires valid { window ≢ own.old.inv }
+fn enter_below(own: &mut Processor, row: &Row)
+    requires valid { (own.old.cwp + 7) % 8 ≢ own.old.inv }
     requires registers { AreRegisterNumbers row.now }
-    ensures { (source : Src) → HasSource source row.now → own.new ≡ with_register (in_window own.old window) row.now.rd (sum_of_operands row.now.rs1 source own.old) }
+    ensures { (source : Src) → HasSource source row.now → own.new ≡ with_register (in_window own.old ((own.old.cwp + 7) % 8)) row.now.rd (sum_of_operands row.now.rs1 source own.old) }
 {
     let value = sum_of(own, row);
-    own.enter(window);
+    own.enter_below();
+    own.set(row.rd, value);
+}
+
+// The sum of the operands becomes a register of the window above, which is valid.
+#[inline(always)]
+fn enter_above(own: &mut Processor, row: &Row)
+    requires valid { (own.old.cwp + 1) % 8 ≢ own.old.inv }
+    requires registers { AreRegisterNumbers row.now }
+    ensures { (source : Src) → HasSource source row.now → own.new ≡ with_register (in_window own.old ((own.old.cwp + 1) % 8)) row.now.rd (sum_of_operands row.now.rs1 source own.old) }
+{
+    let value = sum_of(own, row);
+    own.enter_above();
     own.set(row.rd, value);
 }

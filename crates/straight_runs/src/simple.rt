@@ -26,6 +26,8 @@ pub(crate) enum Step {
     Next,
     /// It is a branch that is taken, which was not done.
     Taken,
+    /// It is a SAVE or a RESTORE that needs a window spilled or filled, and was not done.
+    Shifts,
     /// It was not done.
     Stays,
 }

@@ -26,4 +26,4 @@ returns-in-Now-clause-came g c =
 pub returns-then-shift-clause-came : goal.returns-then-shift-clause-came
 returns-then-shift-clause-came g c =
     came_shifted c.word.result c.args.code.words.origin c.args.at c.address.result c.row_at-row.result.now (g.B.Bus.areas c.execute.new.bus) (g.B.Bus.areas c.args.bus.now) c.args.own.now c.execute.new.own c.shift.new.own (g.B.Bus.memory c.args.bus.now) (g.B.Bus.memory c.execute.new.bus) (g.B.Bus.memory c.shift.new.bus)
-    c.word.ensures (c.prepare.ensures.row c.row_at-row.result.now c.row_at-row.ensures) c.in-Stays.ensures.step.0 c.in-Stays.ensures.step.1 c.execute.ensures.areas c.address.ensures.value c.if-shift.ensures.done
+    c.word.ensures (c.prepare.ensures.row c.row_at-row.result.now c.row_at-row.ensures) c.in-Shifts.ensures.step.0 c.in-Shifts.ensures.step.1 c.execute.ensures.areas c.address.ensures.value c.if-shift.ensures.done
