@@ -6,8 +6,8 @@ use Rattle.std.proofs.lemmas.List.{length-drop}
 use Rattle.std.proofs.lemmas.Slice.{take-put_mid_below}
 use Rattle.std.specs.Prelude.{ℕ, ◌+◌, ◌-◌, ◌*◌, ◌%◌, ◌<◌, ◌≤◌, List, length, take, drop, slice_index}
 use Rattle.sparc_step.specs.AtHand.{listed_below, own_place, windows_with, word_at}
-use Rattle.sparc_step.specs.AtHandLemmas.{get_or-part, get_or-put_mid, get_or-put_mid_other, length-part, length-put_mid, lies_or, table-same, word_at-ins, word_at-other, word_at-own}
-use Rattle.sparc_step.specs.Registers.{ins_place, locals_place}
+use Rattle.sparc_step.specs.AtHandLemmas.{get_or-part, get_or-put_mid, get_or-put_mid_other, get_or-rest, get_or-table, length-part, length-put_mid, length-rest, length-table, lies_or, table-of, table-same, word_at-ins, word_at-other, word_at-own}
+use Rattle.sparc_step.specs.Registers.{ins_place, locals_place, with_locals_and_ins}
 
 -- a place of one block of sixteen is none of another
 other_block : (a b k : ℕ) → a ≢ b → 16 * a ≤ k → k < 16 * a + 16 → (k < 16 * b) ⊎ (16 * b + 16 ≤ k)
@@ -121,80 +121,20 @@ module _ (window below : ℕ) (hand windows once twice moved taken : List ℕ)
       ap (take 8) taken_is ∙ take-put_mid_below 8 16 moved (take 16 (drop (own_place below) twice)) 8 (omega arith) (omega (arith, moved_counted))
       ∙ ap (take 8) moved_is ∙ take-put_mid_below 24 8 hand (take 8 (drop 8 hand)) 8 (omega arith) (omega (arith, counted))
 
--- the window above: the outs and locals are put back, the ins become its outs
-module _ (window above : ℕ) (hand windows put moved half taken : List ℕ)
+-- the outs and locals of a window put back
+module _ (window above : ℕ) (hand windows put : List ℕ)
     (small : window < 8) (above_is : above ≡ (window + 1) % 8) (counted : length hand ≡ 32) (whole : length windows ≡ 128)
-    (put_is : put ≡ put_mid (own_place window) 16 windows (take 16 (drop 8 hand)))
-    (moved_is : moved ≡ put_mid 8 8 hand (take 8 (drop 24 hand)))
-    (half_is : half ≡ put_mid 16 8 moved (take 8 (drop (locals_place above) put)))
-    (taken_is : taken ≡ put_mid 24 8 half (take 8 (drop (ins_place above) put))) where
+    (put_is : put ≡ put_mid (own_place window) 16 windows (take 16 (drop 8 hand))) where
   outs_and_locals : length (take 16 (drop 8 hand)) ≡ 16
   outs_and_locals = length-part hand 8 16 (omega (arith, counted))
 
-  ins_counted : length (take 8 (drop 24 hand)) ≡ 8
-  ins_counted = length-part hand 24 8 (omega (arith, counted))
-
   put_whole : length put ≡ 128
   put_whole = ap length put_is ∙ length-put_mid windows (take 16 (drop 8 hand)) (own_place window) 16 outs_and_locals (omega (arith, whole)) ∙ whole
-
-  moved_whole : length moved ≡ 32
-  moved_whole = ap length moved_is ∙ length-put_mid hand (take 8 (drop 24 hand)) 8 8 ins_counted (omega (arith, counted)) ∙ counted
-
-  locals_counted : length (take 8 (drop (locals_place above) put)) ≡ 8
-  locals_counted = length-part put (locals_place above) 8 (omega (arith, put_whole))
-
-  next_counted : length (take 8 (drop (ins_place above) put)) ≡ 8
-  next_counted = length-part put (ins_place above) 8 (omega (arith, put_whole))
-
-  half_whole : length half ≡ 32
-  half_whole = ap length half_is ∙ length-put_mid moved (take 8 (drop (locals_place above) put)) 16 8 locals_counted (omega (arith, moved_whole)) ∙ moved_whole
 
   kept : (k : ℕ) → (k < own_place window) ⊎ (own_place window + 16 ≤ k) → slice_index put k ≡ slice_index windows k
   kept k apart =
       ap (λ (xs : List ℕ). slice_index xs k) put_is
       ∙ get_or-put_mid_other windows (take 16 (drop 8 hand)) (own_place window) 16 k outs_and_locals (omega (arith, whole)) apart
-
-  -- a word of the window above at hand
-  outs_above : (k : ℕ) → own_place above ≤ k → k < locals_place above → slice_index taken (k - own_place above + 8) ≡ slice_index hand (k - own_place above + 24)
-  outs_above k low high =
-      ap (λ (xs : List ℕ). slice_index xs (k - own_place above + 8)) taken_is
-      ∙ get_or-put_mid_other half (take 8 (drop (ins_place above) put)) 24 8 (k - own_place above + 8) next_counted (omega (arith, half_whole)) (inl (omega arith))
-      ∙ ap (λ (xs : List ℕ). slice_index xs (k - own_place above + 8)) half_is
-      ∙ get_or-put_mid_other moved (take 8 (drop (locals_place above) put)) 16 8 (k - own_place above + 8) locals_counted (omega (arith, moved_whole)) (inl (omega arith))
-      ∙ ap (λ (xs : List ℕ). slice_index xs (k - own_place above + 8)) moved_is
-      ∙ get_or-put_mid hand (take 8 (drop 24 hand)) 8 8 (k - own_place above + 8) ins_counted (omega (arith, counted)) (omega arith) (omega arith)
-      ∙ get_or-part hand 24 8 (k - own_place above + 8 - 8) (k - own_place above + 24) (omega arith) (omega arith)
-
-  locals_above : (k : ℕ) → locals_place above ≤ k → k < locals_place above + 8 → slice_index taken (k - own_place above + 8) ≡ slice_index put k
-  locals_above k low high =
-      ap (λ (xs : List ℕ). slice_index xs (k - own_place above + 8)) taken_is
-      ∙ get_or-put_mid_other half (take 8 (drop (ins_place above) put)) 24 8 (k - own_place above + 8) next_counted (omega (arith, half_whole)) (inl (omega arith))
-      ∙ ap (λ (xs : List ℕ). slice_index xs (k - own_place above + 8)) half_is
-      ∙ get_or-put_mid moved (take 8 (drop (locals_place above) put)) 16 8 (k - own_place above + 8) locals_counted (omega (arith, moved_whole)) (omega arith) (omega arith)
-      ∙ get_or-part put (locals_place above) 8 (k - own_place above + 8 - 16) k (omega arith) (omega arith)
-
-  own_above : (k : ℕ) → own_place above ≤ k → k < own_place above + 16 → slice_index taken (k - own_place above + 8) ≡ word_at window hand windows k
-  own_above k low high =
-      let apart : (k < own_place window) ⊎ (own_place window + 16 ≤ k) = other_block above window k (omega arith) low high in
-      let same : ins_place window ≡ own_place above = omega arith in
-      ⊎_elim
-      (λ outs. outs_above k low outs
-      ∙ ap (slice_index hand) (omega (arith, same))
-      ∙ sym (word_at-ins window hand windows k apart (omega (arith, same)) (omega (arith, same))))
-      (λ locals. locals_above k locals (omega arith)
-      ∙ kept k apart
-      ∙ sym (word_at-other window hand windows k apart (inr (omega (arith, same)))))
-      (cases_lt k (locals_place above))
-
-  ins_above : (k : ℕ) → (k < own_place above) ⊎ (own_place above + 16 ≤ k) → ins_place above ≤ k → k < ins_place above + 8 → slice_index taken (k - ins_place above + 24) ≡ word_at window hand windows k
-  ins_above k other low high =
-      let apart : (k < own_place window) ⊎ (own_place window + 16 ≤ k) = other_block ((above + 1) % 8) window k (omega arith) low (omega arith) in
-      let apart_above : (k < ins_place window) ⊎ (ins_place window + 16 ≤ k) = other_block ((above + 1) % 8) ((window + 1) % 8) k (omega arith) low (omega arith) in
-      ap (λ (xs : List ℕ). slice_index xs (k - ins_place above + 24)) taken_is
-      ∙ get_or-put_mid half (take 8 (drop (ins_place above) put)) 24 8 (k - ins_place above + 24) next_counted (omega (arith, half_whole)) (omega arith) (omega arith)
-      ∙ get_or-part put (ins_place above) 8 (k - ins_place above + 24 - 24) k (omega arith) (omega arith)
-      ∙ kept k apart
-      ∙ sym (word_at-other window hand windows k apart (apart_of (ins_place window) (ins_place window + 16) (ins_place window) 8 k (omega arith) (omega arith) apart_above))
 
   rest_above : (k : ℕ) → (k < own_place above) ⊎ (own_place above + 16 ≤ k) → (k < ins_place above) ⊎ (ins_place above + 8 ≤ k) → slice_index put k ≡ word_at window hand windows k
   rest_above k apart_own apart_ins =
@@ -207,11 +147,94 @@ module _ (window above : ℕ) (hand windows put moved half taken : List ℕ)
       (λ other. kept k other
       ∙ sym (word_at-other window hand windows k other (apart_of (own_place above) (own_place above + 16) (ins_place window) 8 k (omega (arith, same)) (omega (arith, same)) apart_own)))
 
-  pub gone_above : windows_with above taken put ≡ windows_with window hand windows
-  gone_above = same_windows above window taken put hand windows own_above ins_above rest_above
+  -- the ins, at hand as the outs of the window above
+  module _ (moved : List ℕ) (moved_is : moved ≡ put_mid 8 8 hand (take 8 (drop 24 hand))) where
+    ins_counted : length (take 8 (drop 24 hand)) ≡ 8
+    ins_counted = length-part hand 24 8 (omega (arith, counted))
 
-  pub gone_above_globals : take 8 taken ≡ take 8 hand
-  gone_above_globals =
-      ap (take 8) taken_is ∙ take-put_mid_below 24 8 half (take 8 (drop (ins_place above) put)) 8 (omega arith) (omega (arith, half_whole))
-      ∙ ap (take 8) half_is ∙ take-put_mid_below 16 8 moved (take 8 (drop (locals_place above) put)) 8 (omega arith) (omega (arith, moved_whole))
-      ∙ ap (take 8) moved_is ∙ take-put_mid_below 8 8 hand (take 8 (drop 24 hand)) 8 (omega arith) (omega (arith, counted))
+    moved_whole : length moved ≡ 32
+    moved_whole = ap length moved_is ∙ length-put_mid hand (take 8 (drop 24 hand)) 8 8 ins_counted (omega (arith, counted)) ∙ counted
+
+    moved_outs : (k : ℕ) → own_place above ≤ k → k < locals_place above → slice_index moved (k - own_place above + 8) ≡ word_at window hand windows k
+    moved_outs k low high =
+        let same : ins_place window ≡ own_place above = omega arith in
+        let apart : (k < own_place window) ⊎ (own_place window + 16 ≤ k) = other_block above window k (omega arith) low (omega arith) in
+        ap (λ (xs : List ℕ). slice_index xs (k - own_place above + 8)) moved_is
+        ∙ get_or-put_mid hand (take 8 (drop 24 hand)) 8 8 (k - own_place above + 8) ins_counted (omega (arith, counted)) (omega arith) (omega arith)
+        ∙ get_or-part hand 24 8 (k - own_place above + 8 - 8) (k - ins_place window + 24) (omega arith) (omega (arith, same))
+        ∙ sym (word_at-ins window hand windows k apart (omega (arith, same)) (omega (arith, same)))
+
+    moved_globals : take 8 moved ≡ take 8 hand
+    moved_globals = ap (take 8) moved_is ∙ take-put_mid_below 8 8 hand (take 8 (drop 24 hand)) 8 (omega arith) (omega (arith, counted))
+
+    -- its locals and ins are sixteen words
+    module _ (words filled : List ℕ) (sixteen : length words ≡ 16) (filled_is : filled ≡ put_mid 16 16 moved (take 16 (drop 0 words))) where
+      abbrev all : List ℕ
+      all = listed_below (word_at window hand windows) 128
+
+      abbrev with_locals : List ℕ
+      with_locals = put_mid (locals_place above) 8 all (take 8 words)
+
+      all_whole : length all ≡ 128
+      all_whole = length-table (word_at window hand windows) 128
+
+      front : length (take 8 words) ≡ 8
+      front = length-part words 0 8 (omega (arith, sixteen))
+
+      back : length (drop 8 words) ≡ 8
+      back = length-rest words 8 8 (omega (arith, sixteen))
+
+      locals_whole : length with_locals ≡ 128
+      locals_whole = length-put_mid all (take 8 words) (locals_place above) 8 front (omega (arith, all_whole)) ∙ all_whole
+
+      counted_words : length (take 16 (drop 0 words)) ≡ 16
+      counted_words = length-part words 0 16 (omega (arith, sixteen))
+
+      -- a word that neither was put
+      stays : (k : ℕ) → k < 128 → (k < locals_place above) ⊎ (locals_place above + 8 ≤ k) → (k < ins_place above) ⊎ (ins_place above + 8 ≤ k)
+          → slice_index (put_mid (ins_place above) 8 with_locals (drop 8 words)) k ≡ word_at window hand windows k
+      stays k inside apart_locals apart_ins =
+          get_or-put_mid_other with_locals (drop 8 words) (ins_place above) 8 k back (omega (arith, locals_whole)) apart_ins
+          ∙ get_or-put_mid_other all (take 8 words) (locals_place above) 8 k front (omega (arith, all_whole)) apart_locals
+          ∙ get_or-table (word_at window hand windows) 128 k 0 inside
+
+      own_filled : (k : ℕ) → k < 128 → own_place above ≤ k → k < own_place above + 16 → slice_index filled (k - own_place above + 8) ≡ slice_index (put_mid (ins_place above) 8 with_locals (drop 8 words)) k
+      own_filled k inside low high =
+          let apart : (k < ins_place above) ⊎ (ins_place above + 8 ≤ k) = apart_of (ins_place above) (ins_place above + 16) (ins_place above) 8 k (omega arith) (omega arith) (other_block above ((above + 1) % 8) k (omega arith) low high) in
+          ⊎_elim
+          (λ outs. ap (λ (xs : List ℕ). slice_index xs (k - own_place above + 8)) filled_is
+          ∙ get_or-put_mid_other moved (take 16 (drop 0 words)) 16 16 (k - own_place above + 8) counted_words (omega (arith, moved_whole)) (inl (omega arith))
+          ∙ moved_outs k low outs
+          ∙ sym (stays k inside (inl outs) apart))
+          (λ locals. ap (λ (xs : List ℕ). slice_index xs (k - own_place above + 8)) filled_is
+          ∙ get_or-put_mid moved (take 16 (drop 0 words)) 16 16 (k - own_place above + 8) counted_words (omega (arith, moved_whole)) (omega arith) (omega arith)
+          ∙ get_or-part words 0 16 (k - own_place above + 8 - 16) (k - locals_place above) (omega arith) (omega arith)
+          ∙ sym (get_or-put_mid_other with_locals (drop 8 words) (ins_place above) 8 k back (omega (arith, locals_whole)) apart
+          ∙ get_or-put_mid all (take 8 words) (locals_place above) 8 k front (omega (arith, all_whole)) locals (omega arith)
+          ∙ get_or-part words 0 8 (k - locals_place above) (k - locals_place above) (omega arith) (omega arith)))
+          (cases_lt k (locals_place above))
+
+      ins_filled : (k : ℕ) → ins_place above ≤ k → k < ins_place above + 8 → slice_index filled (k - ins_place above + 24) ≡ slice_index (put_mid (ins_place above) 8 with_locals (drop 8 words)) k
+      ins_filled k low high =
+          ap (λ (xs : List ℕ). slice_index xs (k - ins_place above + 24)) filled_is
+          ∙ get_or-put_mid moved (take 16 (drop 0 words)) 16 16 (k - ins_place above + 24) counted_words (omega (arith, moved_whole)) (omega arith) (omega arith)
+          ∙ get_or-part words 0 16 (k - ins_place above + 24 - 16) (k - ins_place above + 8) (omega arith) (omega arith)
+          ∙ sym (get_or-put_mid with_locals (drop 8 words) (ins_place above) 8 k back (omega (arith, locals_whole)) low high
+          ∙ get_or-rest words 8 (k - ins_place above) (k - ins_place above + 8) (omega arith))
+
+      pub gone_filled : windows_with above filled put ≡ with_locals_and_ins (windows_with window hand windows) above words
+      unfolding windows_with with_locals_and_ins
+      gone_filled = table-of (word_at above filled put) _ 128 (length-put_mid with_locals (drop 8 words) (ins_place above) 8 back (omega (arith, locals_whole)) ∙ locals_whole) each
+        where
+          each : (k : ℕ) → k < 128 → word_at above filled put k ≡ slice_index (put_mid (ins_place above) 8 with_locals (drop 8 words)) k
+          each k inside = lies_or (own_place above) 16 k
+              (λ low high. word_at-own above filled put k low high ∙ own_filled k inside low high)
+              (λ apart. lies_or (ins_place above) 8 k
+              (λ low high. word_at-ins above filled put k apart low high ∙ ins_filled k low high)
+              (λ other. word_at-other above filled put k apart other ∙ rest_above k apart other
+              ∙ sym (stays k inside (apart_of (own_place above) (own_place above + 16) (locals_place above) 8 k (omega arith) (omega arith) apart) other)))
+
+      pub gone_filled_globals : take 8 filled ≡ take 8 hand
+      gone_filled_globals =
+          ap (take 8) filled_is ∙ take-put_mid_below 16 16 moved (take 16 (drop 0 words)) 8 (omega arith) (omega (arith, moved_whole))
+          ∙ moved_globals

@@ -231,13 +231,13 @@ length-put_mid xs ys from count counted fits = grind (arith, places)
 pub get_or-part : (xs : List ℕ) (from count j k : ℕ) → j < count → from + j ≡ k → slice_index (take count (drop from xs)) j ≡ slice_index xs k
 get_or-part xs from count j k small is = get_or-take count (drop from xs) j 0 small ∙ get_or-drop from xs j 0 ∙ ap (slice_index xs) is
 
-get_or-rest : (xs : List ℕ) (from j k : ℕ) → from + j ≡ k → slice_index (drop from xs) j ≡ slice_index xs k
+pub get_or-rest : (xs : List ℕ) (from j k : ℕ) → from + j ≡ k → slice_index (drop from xs) j ≡ slice_index xs k
 get_or-rest xs from j k is = get_or-drop from xs j 0 ∙ ap (slice_index xs) is
 
 pub length-part : (xs : List ℕ) (from count : ℕ) → from + count ≤ length xs → length (take count (drop from xs)) ≡ count
 length-part xs from count fits = grind (arith, places)
 
-length-rest : (xs : List ℕ) (from count : ℕ) → from + count ≡ length xs → length (drop from xs) ≡ count
+pub length-rest : (xs : List ℕ) (from count : ℕ) → from + count ≡ length xs → length (drop from xs) ≡ count
 length-rest xs from count fits = grind (arith, places)
 
 -- the windows with what is cached, written back: first the outs and locals, then the ins
@@ -568,3 +568,17 @@ module _ (pc npc y icc cwp inv : ℕ) (hand windows : List ℕ) (now : Registers
       ∙ sym (gathered-same pc npc y icc cwp inv hand (put_mid (ins_place window) 8 (put_mid (locals_place window) 8 windows (take 8 words)) (drop 8 words)) (take 8 hand) (with_locals_and_ins (windows_with cwp hand windows) window words) refl
       (sym (with_saved_away cwp window hand windows words at_hand.current_window small at_hand.eight_windows sixteen (other_is other) (below_is below))))
       ∙ ap (λ (r : Registers). with_saved r window words) seen
+
+  -- the registers of the current window are no locals or ins of another that is not the one below
+  pub apart_seen : (words : List ℕ) (r : ℕ) → window ≢ now.cwp → (window + 1) % 8 ≢ now.cwp → length words ≡ 16 → r < 32 → register_at (with_saved now window words) r ≡ register_at now r
+  apart_seen words r other below sixteen low =
+      sym (ap (λ (registers : Registers). register_at registers r) (put_seen (locals_place window) (ins_place window) words once twice other below refl refl sixteen refl refl))
+      ∙ register_at_gathered pc npc y icc cwp inv hand twice r at_hand.current_window low
+      ∙ sym (register_at_gathered pc npc y icc cwp inv hand windows r at_hand.current_window low)
+      ∙ ap (λ (registers : Registers). register_at registers r) seen
+    where
+      once : List ℕ
+      once = put_mid (locals_place window) 8 windows (take 8 words)
+
+      twice : List ℕ
+      twice = put_mid (ins_place window) 8 once (take 8 (drop 8 words))

@@ -109,3 +109,7 @@ with_locals_and_ins windows window words =
 -- the registers with other locals and ins of a window
 unfoldable pub with_saved : Registers → ℕ → List ℕ → Registers
 with_saved r window words = record r { windows = with_locals_and_ins r.windows window words }
+
+-- the registers with the invalid window filled: the one above it is invalid then
+unfoldable pub window_filled : Registers → List ℕ → Registers
+window_filled r words = with_inv (with_saved r r.inv words) ((r.inv + 1) % 8)

@@ -1,7 +1,7 @@
 //! The registers as a processor has them cached.
 
 ghost use borrow.Rule.Slice.PartMut.{put_mid};
-ghost use Rattle.std.specs.Prelude.{◌≡◌, ◌≢◌, ◌*◌, ◌+◌, ◌%◌, ◌<◌, ◌≤◌, ◌++◌, drop, length, slice_index, take};
+ghost use Rattle.std.specs.Prelude.{ℕ, ◌≡◌, ◌≢◌, ◌*◌, ◌+◌, ◌%◌, ◌<◌, ◌≤◌, ◌++◌, drop, length, slice_index, take};
 ghost use Rattle.sparc_step.specs.AtHand.{own_place, windows_with, with_first};
 ghost use Rattle.sparc_step.specs.AtHandLemmas.{put_at};
 ghost use Rattle.sparc_step.specs.Registers.{
@@ -16,8 +16,10 @@ ghost use Rattle.sparc_step.specs.Registers.{
   register_at,
   sent,
   skipped,
+  window_filled,
   with_icc,
   with_inv,
+  with_locals_and_ins,
   with_register,
   with_saved,
   with_y,
@@ -306,15 +308,19 @@ impl Processor {
         self.cwp = below;
     }
 
-    /// Enters the window above, which is valid: what a RESTORE does.
+    /// Enters the window above, which is the invalid one, with its locals and after them its ins: what a RESTORE does whose window is
+    /// filled. The window above it becomes the invalid one.
     #[inline(always)]
-    #[tactic(auto, unfolding(crate::specs::Registers::in_window, crate::specs::AtHand::gathered))]
-    pub fn enter_above(&mut self)
-        requires valid { (self.old.cwp + 1) % 8 ≢ self.old.inv }
-        ensures { self.new ≡ in_window self.old ((self.old.cwp + 1) % 8) }
+    #[tactic(auto, unfolding(crate::specs::Registers::in_window, crate::specs::Registers::with_inv, crate::specs::Registers::with_saved, crate::specs::Registers::window_filled, crate::specs::AtHand::gathered))]
+    pub fn enter_filled(&mut self, words: &[u32; 16])
+        requires needed { (self.old.cwp + 1) % 8 ≡ self.old.inv }
+        ensures entered { self.new ≡ in_window (window_filled self.old words.now) self.old.inv }
+        ensures apart { (r : ℕ) → r < 32 → register_at (window_filled self.old words.now) r ≡ register_at self.old r }
+        ensures whole { length self.old.windows ≡ 128 }
     {
-        let above = (self.cwp + 1) % 8;
-        go_above(&mut self.hand, &mut self.windows, self.cwp, above);
+        let above = self.inv;
+        go_filled(&mut self.hand, &mut self.windows, self.cwp, above, words);
+        self.inv = (above + 1) % 8;
         self.cwp = above;
     }
 
@@ -416,20 +422,20 @@ fn go_below(hand: &mut [u32], windows: &mut [u32], window: u8, below: u8)
     copy_words(hand, 8, windows, 16 * usize::from(below), 16);
 }
 
-// Takes the window above to hand. Its outs are the ins of the one that is cached, and stay in hand.
+// Takes the window above to hand with other locals and ins. Its outs are the ins of the one that is cached, and stay in hand.
 #[inline(always)]
-fn go_above(hand: &mut [u32], windows: &mut [u32], window: u8, above: u8)
+fn go_filled(hand: &mut [u32], windows: &mut [u32], window: u8, above: u8, words: &[u32])
     requires hand { length hand.old ≡ 32 }
     requires windows { length windows.old ≡ 128 }
+    requires words { length words.now ≡ 16 }
     requires window { window < 8 }
     requires above { above ≡ (window + 1) % 8 }
-    ensures windows { windows_with above hand.new windows.new ≡ windows_with window hand.old windows.old }
+    ensures windows { windows_with above hand.new windows.new ≡ with_locals_and_ins (windows_with window hand.old windows.old) above words.now }
     ensures globals { take 8 hand.new ≡ take 8 hand.old }
 {
     copy_words(windows, 16 * usize::from(window), hand, 8, 16);
     move_eight(hand, 24, 8);
-    copy_words(hand, 16, windows, 16 * usize::from(above) + 8, 8);
-    copy_words(hand, 24, windows, 16 * usize::from((above + 1) % 8), 8);
+    copy_words(hand, 16, words, 0, 16);
 }
 
 // Copies eight words from a place on to another place of the same.

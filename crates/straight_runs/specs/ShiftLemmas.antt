@@ -1,5 +1,5 @@
 -- A SAVE with its spill, and a RESTORE with its fill, as one step.
-use Rattle.std.proofs.Common.{◌≡◌, ℕ, ◌+◌, ◌%◌, ◌^◌, Bool, true, false, List, refl, sym, ap, ◌∙◌, arith}
+use Rattle.std.proofs.Common.{◌≡◌, ℕ, ◌+◌, ◌%◌, ◌^◌, ◌<◌, Bool, true, false, List, refl, sym, ap, ◌∙◌, arith}
 use Rattle.std.proofs.lemmas.Bool.Decides.{nat_tests}
 use Rattle.std.specs.Prelude.{if◌then◌else◌, ◌==◌}
 use Rattle.guest_bus.specs.Memory.{Area, Memory, is_readable, is_writable, with_bytes}
@@ -8,16 +8,18 @@ use Rattle.sparc_code.specs.Decoded.{decoded}
 use Rattle.sparc_code.specs.declared.instruction.Instr.{Instr}
 use Rattle.sparc_code.specs.declared.instruction.Instr.TheVariants as instr
 use Rattle.sparc_code.specs.declared.instruction.Src.{Src}
+use Rattle.sparc_code.specs.declared.instruction.Src.TheVariants as source
 use Rattle.sparc_step.specs.Execution.{Turned, keeping_memory, done, executed, refused as refused_by, turned}
 use Rattle.sparc_step.specs.Flow.{window_entered, moved, window_above, window_below}
 use Rattle.sparc_step.specs.Operands.{sum_of}
 use Rattle.sparc_step.specs.Outcome.{trapped, went}
-use Rattle.sparc_step.specs.Registers.{Registers, in_window, placed, with_register}
+use Rattle.sparc_step.specs.Registers.{Registers, in_window, placed, register_at, window_filled, with_register}
+use Rattle.sparc_step.specs.Words.{residue}
 use Rattle.virt_traps.specs.Moves.{Moved, fill_address, filled, move_made, move_refused, spill_address, spill_window, spilled}
 use Rattle.virt_traps.specs.SaveArea.{is_usable, saved, with_registers}
 use Rattle.virt_traps.specs.Settled.{after_trap, again_or_trap, answered, made_again, settled}
 use Rattle.straight_runs.specs.RareLemmas.{of_window, restore_kind, save_kind}
-use Rattle.straight_runs.specs.Rows.{HasSource, IsRowOf, row_as_done}
+use Rattle.straight_runs.specs.Rows.{AreRegisterNumbers, HasSource, IsRowOf, row_as_done}
 use Rattle.straight_runs.specs.Shifts.{IsFilled, IsShift, IsSpilled}
 use Rattle.straight_runs.specs.TurnLemmas.{turned-word}
 use Rattle.straight_runs.specs.declared.rows.Row.{Row}
@@ -112,3 +114,26 @@ shift_restore row pc areas old mid new memory kind needed is left = λ npc word 
     let goes = restore_kind row ((mid.cwp + 1) % 8) areas mid new memory memory kind refl (λ e. is.valid (same ∙ e)) left refl (decoded word) is_row in
     settled_filled areas (placed pc npc old) (placed pc npc mid) memory memory (done (placed npc ((npc + 4) % 2 ^ 32) new) memory) trap moves
     (turned-word word pc npc areas mid memory (done (placed npc ((npc + 4) % 2 ^ 32) new) memory) stands (goes pc npc))
+
+-- the sum of the operands is the same where the registers are
+same_sum : (row : Row) (source : Src) (old mid : Registers) → AreRegisterNumbers row → HasSource source row → ((r : ℕ) → r < 32 → register_at mid r ≡ register_at old r) → sum_of row.rs1 source mid ≡ sum_of row.rs1 source old
+unfolding sum_of
+same_sum row (source.Reg register) old mid numbers has same =
+    ap (λ (v : ℕ). (v + register_at mid register) % 2 ^ 32) (same row.rs1 numbers.rs1)
+    ∙ ap (λ (v : ℕ). (register_at old row.rs1 + v) % 2 ^ 32) (same register (omega (arith, numbers.rs2, has.0)))
+same_sum row (source.Imm number) old mid numbers has same = ap (λ (v : ℕ). (v + residue 32 number) % 2 ^ 32) (same row.rs1 numbers.rs1)
+
+-- a RESTORE whose window is filled as it is entered
+pub shift_filled : (row : Row) (pc : ℕ) (areas : List Area) (old new : Registers) (memory : Memory) (words : List ℕ)
+    → row.kind ≡ 33 → AreRegisterNumbers row → (old.cwp + 1) % 8 ≡ old.inv → IsFilled areas old (window_filled old words) memory
+    → ((r : ℕ) → r < 32 → register_at (window_filled old words) r ≡ register_at old r)
+    → ((source : Src) → HasSource source row → new ≡ with_register (in_window (window_filled old words) old.inv) row.rd (sum_of row.rs1 source old)) → IsShift row pc areas old new memory memory
+shift_filled row pc areas old new memory words kind numbers needed is apart left =
+    shift_restore row pc areas old (window_filled old words) new memory kind needed is left_so
+  where
+    left_so : (source : Src) → HasSource source row
+        → new ≡ with_register (in_window (window_filled old words) (((window_filled old words).cwp + 1) % 8)) row.rd (sum_of row.rs1 source (window_filled old words))
+    left_so source has =
+        left source has
+        ∙ ap (λ (w : ℕ). with_register (in_window (window_filled old words) w) row.rd (sum_of row.rs1 source old)) (sym needed ∙ ap (λ (n : ℕ). (n + 1) % 8) (sym is.current))
+        ∙ ap (λ (v : ℕ). with_register (in_window (window_filled old words) (((window_filled old words).cwp + 1) % 8)) row.rd v) (sym (same_sum row source old (window_filled old words) numbers has apart))

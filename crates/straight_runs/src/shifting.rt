@@ -1,12 +1,12 @@
 //! Windows that are spilled and filled within a run.
 
-ghost use Rattle.std.specs.Prelude.{◌≡◌, ◌≢◌, ℕ, ◌+◌, ◌<◌, ◌%◌, false};
+ghost use Rattle.std.specs.Prelude.{◌≡◌, ◌≢◌, ℕ, ◌+◌, ◌<◌, ◌%◌, false, length};
 ghost use Rattle.std.specs.Bool.{OnTrue};
 ghost use Rattle.sparc_code.specs.declared.instruction.Src.{Src};
 ghost use Rattle.sparc_step.specs.Operands.{sum_of as sum_of_operands};
-ghost use Rattle.sparc_step.specs.Registers.{in_window, with_register};
+ghost use Rattle.sparc_step.specs.Registers.{in_window, register_at, window_filled, with_register};
 ghost use Rattle.straight_runs.specs.Rows.{AreRegisterNumbers, HasSource};
-ghost use Rattle.straight_runs.specs.Shifts.{IsFilled, IsShift, IsSpilled};
+ghost use Rattle.straight_runs.specs.Shifts.{IsShift, IsSpilled};
 
 use crate::kinds;
 use crate::rows::Row;
@@ -74,11 +74,12 @@ fn restore<B: HasWords>(own: &mut Processor, bus: &B, row: &Row) -> bool
     if window != own.inv() {
         return false;
     }
-    if fill(own, bus) {
-        enter_above(own, row);
-        true
-    } else {
-        false
+    match bus.get_words(own.get(FRAME)) {
+        Some(words) => {
+            enter_filled(own, row, &words);
+            true
+        }
+        None => false,
     }
 }
 
@@ -108,24 +109,6 @@ fn spill<B: HasWords>(own: &mut Processor, bus: &mut B, here: u32) -> bool
     }
 }
 
-// The fill of the invalid window.
-#[inline(always)]
-fn fill<B: HasWords>(own: &mut Processor, bus: &B) -> bool
-    requires needed { (own.old.cwp + 1) % 8 ≡ own.old.inv }
-    ensures done { OnTrue result (IsFilled (B.areas bus.now) own.old own.new (B.memory bus.now)) }
-    ensures registers { result ≡ false → own.new ≡ own.old }
-{
-    match bus.get_words(own.get(FRAME)) {
-        Some(words) => {
-            let window = own.inv();
-            own.put_saved(window, &words);
-            own.set_inv((window + 1) % 8);
-            true
-        }
-        None => false,
-    }
-}
-
 // The sum of the operands becomes a register of the window below, which is valid.
 #[inline(always)]
 fn enter_below(own: &mut Processor, row: &Row)
@@ -138,14 +121,17 @@ fn enter_below(own: &mut Processor, row: &Row)
     own.set(row.rd, value);
 }
 
-// The sum of the operands becomes a register of the window above, which is valid.
+// The sum of the operands becomes a register of the window above, which is filled.
 #[inline(always)]
-fn enter_above(own: &mut Processor, row: &Row)
-    requires valid { (own.old.cwp + 1) % 8 ≢ own.old.inv }
+fn enter_filled(own: &mut Processor, row: &Row, words: &[u32; 16])
+    requires needed { (own.old.cwp + 1) % 8 ≡ own.old.inv }
     requires registers { AreRegisterNumbers row.now }
-    ensures { (source : Src) → HasSource source row.now → own.new ≡ with_register (in_window own.old ((own.old.cwp + 1) % 8)) row.now.rd (sum_of_operands row.now.rs1 source own.old) }
+    ensures done { (source : Src) → HasSource source row.now → own.new ≡ with_register (in_window (window_filled own.old words.now) own.old.inv) row.now.rd (sum_of_operands row.now.rs1 source own.old) }
+    ensures apart { (r : ℕ) → r < 32 → register_at (window_filled own.old words.now) r ≡ register_at own.old r }
+    ensures whole { length own.old.windows ≡ 128 }
+    ensures counted { length words.now ≡ 16 }
 {
     let value = sum_of(own, row);
-    own.enter_above();
+    own.enter_filled(words);
     own.set(row.rd, value);
 }

@@ -1,11 +1,17 @@
-use Rattle.std.proofs.Common.{ℕ, ◌+◌, ◌%◌, sym, ap, ◌∙◌}
-use Rattle.straight_runs.specs.ShiftLemmas.{shift_restore}
+use Rattle.std.proofs.Common.{ℕ, ◌+◌, ◌%◌, length, refl, sym, ap, ◌∙◌}
+use Rattle.sparc_step.specs.Registers.{window_filled, with_saved}
+use Rattle.straight_runs.specs.SavedLemmas.{filled_by, length-words_at}
+use Rattle.straight_runs.specs.ShiftLemmas.{shift_filled}
 use Rattle.straight_runs.proofs.shifting.restore.Goals as goal
 
-pub enter_above-requires-clause-valid : goal.enter_above-requires-clause-valid
-enter_above-requires-clause-valid g c = λ e. c.if-fill.ensures.done.valid (ap (λ (n : ℕ). (n + 1) % 8) (sym c.if-fill.ensures.done.current) ∙ e)
+pub enter_filled-requires-clause-needed : goal.enter_filled-requires-clause-needed
+enter_filled-requires-clause-needed g c = ap (λ (n : ℕ). (n + 1) % 8) (sym c.cwp.ensures.value) ∙ c.if-window-inv.false ∙ c.inv.ensures.value
 
-pub returns-then-fill-clause-done : goal.returns-then-fill-clause-done
-returns-then-fill-clause-done g c = λ here.
-    shift_restore c.args.row.now here (g.B.Bus.areas c.args.bus.now) c.args.own.now c.fill.new.own c.enter_above.new.own (g.B.Bus.memory c.args.bus.now) c.requires.kind
-    (ap (λ (n : ℕ). (n + 1) % 8) (sym c.cwp.ensures.value) ∙ c.if-window-inv.false ∙ c.inv.ensures.value) c.if-fill.ensures.done c.enter_above.ensures
+pub returns-in-Some-clause-done : goal.returns-in-Some-clause-done
+unfolding window_filled
+returns-in-Some-clause-done g c = λ here.
+    let needed = ap (λ (n : ℕ). (n + 1) % 8) (sym c.cwp.ensures.value) ∙ c.if-window-inv.false ∙ c.inv.ensures.value in
+    shift_filled c.args.row.now here (g.B.Bus.areas c.args.bus.now) c.args.own.now c.enter_filled.new.own (g.B.Bus.memory c.args.bus.now) c.in-Some.words c.requires.kind c.requires.registers needed
+    (filled_by c.args.own.now.inv c.get.result (g.B.Bus.areas c.args.bus.now) c.args.own.now (with_saved c.args.own.now c.args.own.now.inv c.in-Some.words) (window_filled c.args.own.now c.in-Some.words) (g.B.Bus.memory c.args.bus.now) c.in-Some.words
+    refl needed c.enter_filled.ensures.whole c.enter_filled.ensures.counted c.get.ensures.value c.in-Some.ensures.words c.in-Some.ensures.free refl refl)
+    c.enter_filled.ensures.apart c.enter_filled.ensures.done
