@@ -21,7 +21,6 @@ ghost use Rattle.sparc_step.specs.Registers.{
   with_inv,
   with_locals_and_ins,
   with_register,
-  with_saved,
   with_y,
 };
 
@@ -198,21 +197,6 @@ impl Processor {
         let ins = 16 * usize::from((window + 1) % 8);
         copy_words(&mut words, 8, &self.windows, ins, 8);
         words
-    }
-
-    /// Puts the locals of a window, and its ins. The window is neither the current one nor the one below it.
-    #[inline(always)]
-    pub fn put_saved(&mut self, window: u8, words: &[u32; 16])
-        requires window { window < 8 }
-        requires other { window ≢ self.old.cwp }
-        requires below { (window + 1) % 8 ≢ self.old.cwp }
-        ensures put { self.new ≡ with_saved self.old window words.now }
-        ensures current { self.new.cwp ≡ self.old.cwp }
-        ensures whole { length self.old.windows ≡ 128 }
-    {
-        give_first(&mut self.windows, words, 16 * usize::from(window) + 8);
-        let ins = 16 * usize::from((window + 1) % 8);
-        copy_words(&mut self.windows, ins, words, 8, 8);
     }
 
     /// The value of a register of the current window.
@@ -459,17 +443,6 @@ fn take_first(words: &mut [u32], windows: &[u32], at: usize)
     ensures { words.new ≡ with_first words.old (take 8 (drop at windows.now)) }
 {
     copy_words(words, 0, windows, at, 8);
-}
-
-// Puts the first eight of sixteen words into the windows from a place on.
-#[inline(always)]
-fn give_first(windows: &mut [u32], words: &[u32], at: usize)
-    requires words { length words.now ≡ 16 }
-    requires windows { at + 8 ≤ length windows.old }
-    ensures put { windows.new ≡ put_mid at 8 windows.old (take 8 words.now) }
-    ensures counted { length words.now ≡ 16 }
-{
-    copy_words(windows, at, words, 0, 8);
 }
 
 // Copies so many words from a place on to a place.
