@@ -2,24 +2,24 @@
 use Rattle.std.proofs.Common.{◌≡◌, ℕ, ◌+◌, ◌%◌, ◌^◌, List, Ok, sym, ap, ◌∙◌, subst}
 use Rattle.guest_bus.specs.Access.{fetched}
 use Rattle.guest_bus.specs.Memory.{Area, Memory}
-use Rattle.guest_bus.specs.Words.{swapped, word_address}
+use Rattle.guest_bus.specs.Words.{word_address}
 use Rattle.sparc_code.specs.Decoded.{decoded}
 use Rattle.sparc_step.specs.Execution.{done, executed}
 use Rattle.sparc_step.specs.Registers.{Registers, placed}
 use Rattle.straight_runs.specs.Coming.{IsCame}
 use Rattle.straight_runs.specs.Runs.{AreSteps, no_steps, one_more, one_settled, word_more}
 use Rattle.straight_runs.specs.Shifts.{IsShift}
-use Rattle.straight_runs.specs.Rows.{as_done}
-use Rattle.straight_runs.specs.DroppedLemmas.{goes_itself, same_executed}
-use Rattle.straight_runs.specs.Steps.{IsRowStep}
-use Rattle.straight_runs.specs.Tables.{IsRowFor}
+use Rattle.word_rows.specs.Rows.{as_done}
+use Rattle.straight_runs.specs.DroppedLemmas.{same_executed}
+use Rattle.straight_runs.specs.Steps.{Goes}
+use Rattle.word_rows.specs.Kept.{IsRowFor}
 use Rattle.straight_runs.specs.TurnLemmas.{turned-word}
-use Rattle.straight_runs.specs.Turning.{Turns, at_place, at_slot}
+use Rattle.straight_runs.specs.Places.{at_place, at_slot}
+use Rattle.straight_runs.specs.Turning.{Turns}
 use Rattle.straight_runs.proofs.TurningLemmas.{next_address}
 use Rattle.straight_runs.specs.declared.one.Came.{Came}
 use Rattle.straight_runs.specs.declared.one.Came.TheVariants.{Next, Jump, Turn, Slot}
-use Rattle.straight_runs.specs.declared.rows.Row.{Row}
-use Rattle.straight_runs.specs.declared.simple.Step.TheVariants as step
+use Rattle.word_rows.specs.declared.rows.Row.{Row}
 use Rattle.straight_runs.specs.declared.turning.Goal.TheVariants as goal
 
 -- after a place, the next word follows
@@ -28,46 +28,45 @@ followed : (count origin to : ℕ) (areas : List Area) (core new : Registers) (m
 followed count origin to areas core new memory after steps =
     subst (λ (n : ℕ). AreSteps count areas core memory (placed (word_address origin to) n new) after) (next_address origin to) steps
 
--- its row went on to the next word
-pub came_next : (raw origin at : ℕ) (row : Row) (areas : List Area) (old new : Registers) (memory after : Memory)
-    → fetched areas memory (word_address origin at) ≡ Ok (swapped raw) → IsRowFor raw row → IsRowStep step.Next row areas old new memory after
-    → IsCame Next origin at areas old new memory after
-came_next raw origin at row areas old new memory after stands is goes =
+-- its instruction went on to the next word
+pub came_next : (word origin at : ℕ) (areas : List Area) (old new : Registers) (memory after : Memory)
+    → fetched areas memory (word_address origin at) ≡ Ok word → Goes (decoded word) areas old new memory after → IsCame Next origin at areas old new memory after
+came_next word origin at areas old new memory after stands goes =
     followed 1 origin (at + 1) areas (at_place origin at old) new memory after
-    (word_more 0 (swapped raw) (word_address origin at) (word_address origin (at + 1)) areas (at_place origin at old) old new memory memory after
-    (no_steps areas (at_place origin at old) memory) stands (goes_itself (decoded (swapped raw)) areas old new memory after (goes (as_done (decoded (swapped raw))) is.spelled)))
+    (word_more 0 word (word_address origin at) (word_address origin (at + 1)) areas (at_place origin at old) old new memory memory after
+    (no_steps areas (at_place origin at old) memory) stands goes)
 
--- so did the row in its delay slot
-pub came_behind : (raw origin at displacement : ℕ) (row : Row) (areas : List Area) (core old new : Registers) (memory there after : Memory)
-    → fetched areas there (word_address origin (at + 1)) ≡ Ok (swapped raw) → IsRowFor raw row → IsRowStep step.Next row areas old new there after
+-- so did the one in its delay slot
+pub came_behind : (word origin at displacement : ℕ) (areas : List Area) (core old new : Registers) (memory there after : Memory)
+    → fetched areas there (word_address origin (at + 1)) ≡ Ok word → Goes (decoded word) areas old new there after
     → AreSteps 1 areas (at_place origin at core) memory (at_slot origin (at + 1) (at + displacement) old) there → IsCame (Turn displacement) origin at areas core new memory after
-came_behind raw origin at displacement row areas core old new memory there after stands is goes steps =
+came_behind word origin at displacement areas core old new memory there after stands goes steps =
     followed 2 origin (at + displacement) areas (at_place origin at core) new memory after
-    (word_more 1 (swapped raw) (word_address origin (at + 1)) (word_address origin (at + displacement)) areas (at_place origin at core) old new memory there after steps stands (goes_itself (decoded (swapped raw)) areas old new there after (goes (as_done (decoded (swapped raw))) is.spelled)))
+    (word_more 1 word (word_address origin (at + 1)) (word_address origin (at + displacement)) areas (at_place origin at core) old new memory there after steps stands goes)
 
 -- it went on with the spill or the fill that it needed
-pub came_shifted : (raw origin at pc : ℕ) (row : Row) (here areas : List Area) (old mid new : Registers) (memory there after : Memory)
-    → fetched areas memory (word_address origin at) ≡ Ok (swapped raw) → IsRowFor raw row → mid ≡ old → there ≡ memory → here ≡ areas → pc ≡ word_address origin at → IsShift row pc here mid new there after
+pub came_shifted : (word origin at pc : ℕ) (row : Row) (here areas : List Area) (old mid new : Registers) (memory there after : Memory)
+    → fetched areas memory (word_address origin at) ≡ Ok word → IsRowFor word row → mid ≡ old → there ≡ memory → here ≡ areas → pc ≡ word_address origin at → IsShift row pc here mid new there after
     → IsCame Next origin at areas old new memory after
-came_shifted raw origin at pc row here areas old mid new memory there after stands is same bytes areas_same pc_is placed_shifts =
+came_shifted word origin at pc row here areas old mid new memory there after stands is same bytes areas_same pc_is placed_shifts =
     let shifts = subst (λ (a : ℕ). IsShift row a here mid new there after) pc_is placed_shifts in
     let shifted = subst (λ (a : List Area). IsShift row (word_address origin at) a old new memory after) areas_same
     (subst (λ (m : Memory). IsShift row (word_address origin at) here old new m after) bytes (subst (λ (r : Registers). IsShift row (word_address origin at) here r new there after) same shifts)) in
     followed 1 origin (at + 1) areas (at_place origin at old) new memory after
     (one_settled 0 areas (at_place origin at old) (at_place origin at old) (placed (word_address origin (at + 1)) ((word_address origin (at + 1) + 4) % 2 ^ 32) new) memory memory after
-    (no_steps areas (at_place origin at old) memory) (shifted (word_address origin (at + 1)) (swapped raw) stands is.spelled))
+    (no_steps areas (at_place origin at old) memory) (shifted (word_address origin (at + 1)) word stands is.spelled))
 
 -- so did the row in its delay slot
-pub came_behind_shifted : (raw origin at displacement pc : ℕ) (row : Row) (here areas : List Area) (core old mid new : Registers) (memory there now after : Memory)
-    → fetched areas there (word_address origin (at + 1)) ≡ Ok (swapped raw) → IsRowFor raw row → mid ≡ old → now ≡ there → here ≡ areas → pc ≡ word_address origin (at + 1) → IsShift row pc here mid new now after
+pub came_behind_shifted : (word origin at displacement pc : ℕ) (row : Row) (here areas : List Area) (core old mid new : Registers) (memory there now after : Memory)
+    → fetched areas there (word_address origin (at + 1)) ≡ Ok word → IsRowFor word row → mid ≡ old → now ≡ there → here ≡ areas → pc ≡ word_address origin (at + 1) → IsShift row pc here mid new now after
     → AreSteps 1 areas (at_place origin at core) memory (at_slot origin (at + 1) (at + displacement) old) there → IsCame (Turn displacement) origin at areas core new memory after
-came_behind_shifted raw origin at displacement pc row here areas core old mid new memory there now after stands is same bytes areas_same pc_is placed_shifts steps =
+came_behind_shifted word origin at displacement pc row here areas core old mid new memory there now after stands is same bytes areas_same pc_is placed_shifts steps =
     let shifts = subst (λ (a : ℕ). IsShift row a here mid new now after) pc_is placed_shifts in
     let shifted = subst (λ (a : List Area). IsShift row (word_address origin (at + 1)) a old new there after) areas_same
     (subst (λ (m : Memory). IsShift row (word_address origin (at + 1)) here old new m after) bytes (subst (λ (r : Registers). IsShift row (word_address origin (at + 1)) here r new now after) same shifts)) in
     followed 2 origin (at + displacement) areas (at_place origin at core) new memory after
     (one_settled 1 areas (at_place origin at core) (at_slot origin (at + 1) (at + displacement) old) (placed (word_address origin (at + displacement)) ((word_address origin (at + displacement) + 4) % 2 ^ 32) new) memory there after steps
-    (shifted (word_address origin (at + displacement)) (swapped raw) stands is.spelled))
+    (shifted (word_address origin (at + displacement)) word stands is.spelled))
 
 -- it did not, and changed nothing
 pub came_slot : (origin at displacement : ℕ) (areas : List Area) (core old new : Registers) (memory there after : Memory)
@@ -77,42 +76,56 @@ came_slot origin at displacement areas core old new memory there after same byte
     (subst (λ (m : Memory). AreSteps 1 areas (at_place origin at core) memory (at_slot origin (at + 1) (at + displacement) old) m) (sym bytes) steps)
 
 -- its instruction went to other places
-gone : (raw origin at : ℕ) (areas : List Area) (old after : Registers) (memory : Memory)
-    → fetched areas memory (word_address origin at) ≡ Ok (swapped raw) → executed (decoded (swapped raw)) areas (at_place origin at old) memory ≡ done after memory
+gone : (word origin at : ℕ) (areas : List Area) (old after : Registers) (memory : Memory)
+    → fetched areas memory (word_address origin at) ≡ Ok word → executed (decoded word) areas (at_place origin at old) memory ≡ done after memory
     → AreSteps 1 areas (at_place origin at old) memory after memory
-gone raw origin at areas old after memory stands is =
+gone word origin at areas old after memory stands is =
     one_more 0 areas (at_place origin at old) (at_place origin at old) after memory memory memory (no_steps areas (at_place origin at old) memory)
-    (turned-word (swapped raw) (word_address origin at) (word_address origin (at + 1)) areas old memory (done after memory) stands is)
+    (turned-word word (word_address origin at) (word_address origin (at + 1)) areas old memory (done after memory) stands is)
 
 -- to its delay slot, and then to a place
-pub turned_to : (raw origin at displacement : ℕ) (row : Row) (areas : List Area) (old mid new : Registers) (memory there : Memory)
-    → fetched areas memory (word_address origin at) ≡ Ok (swapped raw) → IsRowFor raw row → mid ≡ old → there ≡ memory → Turns (goal.Behind displacement) row origin at mid new
+pub turned_to : (word origin at displacement : ℕ) (row : Row) (areas : List Area) (old mid new : Registers) (memory there : Memory)
+    → fetched areas memory (word_address origin at) ≡ Ok word → IsRowFor word row → mid ≡ old → there ≡ memory → Turns (goal.Behind displacement) row origin at mid new
     → AreSteps 1 areas (at_place origin at old) memory (at_slot origin (at + 1) (at + displacement) new) there
-turned_to raw origin at displacement row areas old mid new memory there stands is same bytes turns =
+turned_to word origin at displacement row areas old mid new memory there stands is same bytes turns =
     subst (λ (m : Memory). AreSteps 1 areas (at_place origin at old) memory (at_slot origin (at + 1) (at + displacement) new) m) (sym bytes)
-    (gone raw origin at areas old (at_slot origin (at + 1) (at + displacement) new) memory stands
-    (ap (λ (r : Registers). executed (decoded (swapped raw)) areas (at_place origin at r) memory) (sym same)
-    ∙ sym (same_executed (decoded (swapped raw)) areas (at_place origin at mid) memory) ∙ turns (as_done (decoded (swapped raw))) areas memory is.spelled))
+    (gone word origin at areas old (at_slot origin (at + 1) (at + displacement) new) memory stands
+    (ap (λ (r : Registers). executed (decoded word) areas (at_place origin at r) memory) (sym same)
+    ∙ sym (same_executed (decoded word) areas (at_place origin at mid) memory) ∙ turns (as_done (decoded word)) areas memory is.spelled))
 
 -- at once to another place
-pub came_jump : (raw origin at displacement : ℕ) (row : Row) (areas : List Area) (old mid new : Registers) (memory there : Memory)
-    → fetched areas memory (word_address origin at) ≡ Ok (swapped raw) → IsRowFor raw row → mid ≡ old → there ≡ memory → Turns (goal.Now displacement) row origin at mid new
+pub came_jump : (word origin at displacement : ℕ) (row : Row) (areas : List Area) (old mid new : Registers) (memory there : Memory)
+    → fetched areas memory (word_address origin at) ≡ Ok word → IsRowFor word row → mid ≡ old → there ≡ memory → Turns (goal.Now displacement) row origin at mid new
     → IsCame (Jump displacement) origin at areas old new memory there
-came_jump raw origin at displacement row areas old mid new memory there stands is same bytes turns =
+came_jump word origin at displacement row areas old mid new memory there stands is same bytes turns =
     subst (λ (m : Memory). AreSteps 1 areas (at_place origin at old) memory (at_place origin (at + displacement) new) m) (sym bytes)
-    (gone raw origin at areas old (at_place origin (at + displacement) new) memory stands
-    (ap (λ (r : Registers). executed (decoded (swapped raw)) areas (at_place origin at r) memory) (sym same)
-    ∙ sym (same_executed (decoded (swapped raw)) areas (at_place origin at mid) memory) ∙ turns (as_done (decoded (swapped raw))) areas memory is.spelled))
+    (gone word origin at areas old (at_place origin (at + displacement) new) memory stands
+    (ap (λ (r : Registers). executed (decoded word) areas (at_place origin at r) memory) (sym same)
+    ∙ sym (same_executed (decoded word) areas (at_place origin at mid) memory) ∙ turns (as_done (decoded word)) areas memory is.spelled))
 
 -- what came after a turn
-pub came_turned : (came : Came) (raw origin at displacement : ℕ) (row : Row) (here areas : List Area) (old mid turned new : Registers) (memory there after : Memory)
-    → fetched areas memory (word_address origin at) ≡ Ok (swapped raw) → IsRowFor raw row → mid ≡ old → there ≡ memory → here ≡ areas → Turns (goal.Behind displacement) row origin at mid turned
+pub came_turned : (came : Came) (word origin at displacement : ℕ) (row : Row) (here areas : List Area) (old mid turned new : Registers) (memory there after : Memory)
+    → fetched areas memory (word_address origin at) ≡ Ok word → IsRowFor word row → mid ≡ old → there ≡ memory → here ≡ areas → Turns (goal.Behind displacement) row origin at mid turned
     → ((core : Registers) (m : Memory) → AreSteps 1 here (at_place origin at core) m (at_slot origin (at + 1) (at + displacement) turned) there → IsCame came origin at here core new m after)
     → IsCame came origin at areas old new memory after
-came_turned came raw origin at displacement row here areas old mid turned new memory there after stands is same bytes areas_same turns follows =
+came_turned came word origin at displacement row here areas old mid turned new memory there after stands is same bytes areas_same turns follows =
     subst (λ (a : List Area). IsCame came origin at a old new memory after) areas_same
     (follows old memory (subst (λ (a : List Area). AreSteps 1 a (at_place origin at old) memory (at_slot origin (at + 1) (at + displacement) turned) there) (sym areas_same)
-    (turned_to raw origin at displacement row areas old mid turned memory there stands is same bytes turns)))
+    (turned_to word origin at displacement row areas old mid turned memory there stands is same bytes turns)))
+
+-- what came after a branch that is taken
+pub came_gone : (came : Came) (word origin at displacement : ℕ) (here areas : List Area) (old mid new : Registers) (memory there after : Memory)
+    → fetched areas memory (word_address origin at) ≡ Ok word → executed (decoded word) areas (at_place origin at old) memory ≡ done (at_slot origin (at + 1) (at + displacement) old) memory
+    → mid ≡ old → there ≡ memory → here ≡ areas
+    → ((core : Registers) (m : Memory) → AreSteps 1 here (at_place origin at core) m (at_slot origin (at + 1) (at + displacement) mid) there → IsCame came origin at here core new m after)
+    → IsCame came origin at areas old new memory after
+came_gone came word origin at displacement here areas old mid new memory there after stands is same bytes areas_same follows =
+    subst (λ (a : List Area). IsCame came origin at a old new memory after) areas_same
+    (follows old memory
+    (subst (λ (a : List Area). AreSteps 1 a (at_place origin at old) memory (at_slot origin (at + 1) (at + displacement) mid) there) (sym areas_same)
+    (subst (λ (r : Registers). AreSteps 1 areas (at_place origin at old) memory (at_slot origin (at + 1) (at + displacement) r) there) (sym same)
+    (subst (λ (m : Memory). AreSteps 1 areas (at_place origin at old) memory (at_slot origin (at + 1) (at + displacement) old) m) (sym bytes)
+    (gone word origin at areas old (at_slot origin (at + 1) (at + displacement) old) memory stands is)))))
 
 -- areas that did not change
 pub same_came : (came : Came) (origin at : ℕ) (here areas : List Area) (old new : Registers) (memory after : Memory)

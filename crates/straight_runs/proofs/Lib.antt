@@ -1,6 +1,5 @@
 pub mod ComingLemmas
 pub mod RunningLemmas
-pub mod SourceLemmas
-pub mod TableLemmas
 pub mod TransferLemmas
 pub mod TurningLemmas
+pub mod WordLemmas

@@ -6,10 +6,10 @@ use Rattle.sparc_step.specs.Registers.{Registers, placed}
 use Rattle.straight_runs.specs.Coming.{IsCame}
 use Rattle.straight_runs.specs.Codes.{IsStart, RunStopsAt}
 use Rattle.straight_runs.specs.Runs.{AreSteps, no_steps, steps_then}
-use Rattle.straight_runs.specs.Turning.{at_place}
+use Rattle.straight_runs.specs.Places.{at_place}
 use Rattle.straight_runs.proofs.TurningLemmas.{next_address}
 use Rattle.straight_runs.specs.declared.one.Came.TheVariants.{Next, Jump, Turn}
-use Rattle.straight_runs.specs.declared.places.Code.{Code}
+use Rattle.guest_bus.specs.declared.words.Words.{Words}
 use Rattle.straight_runs.specs.declared.places.Start.{Start}
 
 -- the steps that are left at a place up to a limit, where both went round together
@@ -17,12 +17,12 @@ abbrev pub left_at : ℕ → ℕ → ℕ
 left_at at limit = (limit + (2 ^ 64 - at)) % 2 ^ 64
 
 -- a run at a place: the steps so far, those that are left up to a limit, and up to where words may be executed
-pub record IsRunning (code : Code) (areas : List Area) (from most at limit last : ℕ) (core : Registers) (memory : Memory) (here : Registers) (there : Memory) : Type 0 where
-  pub steps : AreSteps (most - left_at at limit) areas (at_place code.words.origin from core) memory (at_place code.words.origin at here) there
+pub record IsRunning (words : Words) (areas : List Area) (from most at limit last : ℕ) (core : Registers) (memory : Memory) (here : Registers) (there : Memory) : Type 0 where
+  pub steps : AreSteps (most - left_at at limit) areas (at_place words.origin from core) memory (at_place words.origin at here) there
   pub few : left_at at limit ≤ most
   pub place : at < 2 ^ 64
   pub end : limit < 2 ^ 64
-  pub stops : RunStopsAt code at limit last
+  pub stops : RunStopsAt words at limit last
 
 -- steps that are left before a limit
 pub left_before : (at limit : ℕ) → at < limit → limit < 2 ^ 64 → left_at at limit ≡ limit - at
@@ -45,10 +45,10 @@ moved_place origin at displacement distance core is =
     ∙ ap (λ (n : ℕ). placed (word_address origin ((at + distance) % 2 ^ 64)) n core) (next_address origin ((at + distance) % 2 ^ 64))
 
 -- it begins
-pub begun : (code : Code) (areas : List Area) (from most last : ℕ) (core : Registers) (memory : Memory) → from < 2 ^ 33 → most < 2 ^ 32 → RunStopsAt code from (from + most) last
-    → IsRunning code areas from most from (from + most) last core memory core memory
-begun code areas from most last core memory near few stops = record {
-  steps = subst (λ (n : ℕ). AreSteps n areas (at_place code.words.origin from core) memory (at_place code.words.origin from core) memory) none (no_steps areas (at_place code.words.origin from core) memory);
+pub begun : (words : Words) (areas : List Area) (from most last : ℕ) (core : Registers) (memory : Memory) → from < 2 ^ 33 → most < 2 ^ 32 → RunStopsAt words from (from + most) last
+    → IsRunning words areas from most from (from + most) last core memory core memory
+begun words areas from most last core memory near few stops = record {
+  steps = subst (λ (n : ℕ). AreSteps n areas (at_place words.origin from core) memory (at_place words.origin from core) memory) none (no_steps areas (at_place words.origin from core) memory);
   few = omega arith;
   place = omega arith;
   end = omega arith;
@@ -59,13 +59,13 @@ begun code areas from most last core memory near few stops = record {
     none = omega arith
 
 -- the next word follows
-pub went_on : (code : Code) (areas : List Area) (from most at limit last : ℕ) (core : Registers) (memory : Memory) (here new : Registers) (there after : Memory)
-    → IsRunning code areas from most at limit last core memory here there → at < last
-    → IsCame Next code.words.origin at areas here new there after
-    → IsRunning code areas from most (at + 1) limit last core memory new after
-went_on code areas from most at limit last core memory here new there after is under came = record {
-  steps = subst (λ (n : ℕ). AreSteps n areas (at_place code.words.origin from core) memory (at_place code.words.origin (at + 1) new) after) more
-      (steps_then 1 (most - left_at at limit) areas (at_place code.words.origin from core) (at_place code.words.origin at here) (at_place code.words.origin (at + 1) new) memory there after is.steps came);
+pub went_on : (words : Words) (areas : List Area) (from most at limit last : ℕ) (core : Registers) (memory : Memory) (here new : Registers) (there after : Memory)
+    → IsRunning words areas from most at limit last core memory here there → at < last
+    → IsCame Next words.origin at areas here new there after
+    → IsRunning words areas from most (at + 1) limit last core memory new after
+went_on words areas from most at limit last core memory here new there after is under came = record {
+  steps = subst (λ (n : ℕ). AreSteps n areas (at_place words.origin from core) memory (at_place words.origin (at + 1) new) after) more
+      (steps_then 1 (most - left_at at limit) areas (at_place words.origin from core) (at_place words.origin at here) (at_place words.origin (at + 1) new) memory there after is.steps came);
   few = omega (arith, under, is.stops.short under, is.few, is.end);
   place = omega (arith, under, is.stops.short under, is.end);
   end = is.end;
@@ -80,21 +80,21 @@ went_on code areas from most at limit last core memory here new there after is u
     more = omega (arith, under, is.stops.short under, is.few, is.end)
 
 -- the word at a displacement follows
-moved_on : (count : ℕ) (code : Code) (areas : List Area) (from most at limit last displacement distance next : ℕ) (core : Registers) (memory : Memory) (here new : Registers) (there after : Memory)
+moved_on : (count : ℕ) (words : Words) (areas : List Area) (from most at limit last displacement distance next : ℕ) (core : Registers) (memory : Memory) (here new : Registers) (there after : Memory)
     → 0 < count → count ≤ 2 → at + count ≤ limit
-    → IsRunning code areas from most at limit last core memory here there → distance % 2 ^ 32 ≡ displacement
-    → AreSteps count areas (at_place code.words.origin at here) there (at_place code.words.origin (at + displacement) new) after
-    → RunStopsAt code ((at + distance) % 2 ^ 64) (((limit + distance) % 2 ^ 64 + (2 ^ 64 - count)) % 2 ^ 64) next
-    → IsRunning code areas from most ((at + distance) % 2 ^ 64) (((limit + distance) % 2 ^ 64 + (2 ^ 64 - count)) % 2 ^ 64) next core memory new after
-moved_on count code areas from most at limit last displacement distance next core memory here new there after some small within is reach came stops =
+    → IsRunning words areas from most at limit last core memory here there → distance % 2 ^ 32 ≡ displacement
+    → AreSteps count areas (at_place words.origin at here) there (at_place words.origin (at + displacement) new) after
+    → RunStopsAt words ((at + distance) % 2 ^ 64) (((limit + distance) % 2 ^ 64 + (2 ^ 64 - count)) % 2 ^ 64) next
+    → IsRunning words areas from most ((at + distance) % 2 ^ 64) (((limit + distance) % 2 ^ 64 + (2 ^ 64 - count)) % 2 ^ 64) next core memory new after
+moved_on count words areas from most at limit last displacement distance next core memory here new there after some small within is reach came stops =
     let left = left_after count at limit distance small within is.end in
     let before = left_before at limit (omega arith) is.end in
     let more : count + (most - left_at at limit) ≡ most - left_at ((at + distance) % 2 ^ 64) (((limit + distance) % 2 ^ 64 + (2 ^ 64 - count)) % 2 ^ 64) =
     ap (λ (n : ℕ). count + (most - n)) before ∙ counted (sym before) ∙ ap (λ (n : ℕ). most - n) (sym left) in
     record {
-      steps = subst (λ (n : ℕ). AreSteps n areas (at_place code.words.origin from core) memory (at_place code.words.origin ((at + distance) % 2 ^ 64) new) after) more
-          (steps_then count (most - left_at at limit) areas (at_place code.words.origin from core) (at_place code.words.origin at here) (at_place code.words.origin ((at + distance) % 2 ^ 64) new) memory there after is.steps
-          (subst (λ (r : Registers). AreSteps count areas (at_place code.words.origin at here) there r after) (moved_place code.words.origin at displacement distance new reach) came));
+      steps = subst (λ (n : ℕ). AreSteps n areas (at_place words.origin from core) memory (at_place words.origin ((at + distance) % 2 ^ 64) new) after) more
+          (steps_then count (most - left_at at limit) areas (at_place words.origin from core) (at_place words.origin at here) (at_place words.origin ((at + distance) % 2 ^ 64) new) memory there after is.steps
+          (subst (λ (r : Registers). AreSteps count areas (at_place words.origin at here) there r after) (moved_place words.origin at displacement distance new reach) came));
       few = subst (λ (n : ℕ). n ≤ most) (sym left) (fewer (sym before));
       place = omega arith;
       end = omega arith;
@@ -107,31 +107,31 @@ moved_on count code areas from most at limit last displacement distance next cor
     fewer : limit - at ≡ left_at at limit → limit - (at + count) ≤ most
     fewer before = let few : limit - at ≤ most = subst (λ (n : ℕ). n ≤ most) (sym before) is.few in omega arith
 
-pub jumped_on : (code : Code) (areas : List Area) (from most at limit last displacement distance next : ℕ) (core : Registers) (memory : Memory) (here new : Registers) (there after : Memory)
-    → IsRunning code areas from most at limit last core memory here there → at < last → distance % 2 ^ 32 ≡ displacement
-    → IsCame (Jump displacement) code.words.origin at areas here new there after
-    → RunStopsAt code ((at + distance) % 2 ^ 64) (((limit + distance) % 2 ^ 64 + (2 ^ 64 - 1)) % 2 ^ 64) next
-    → IsRunning code areas from most ((at + distance) % 2 ^ 64) (((limit + distance) % 2 ^ 64 + (2 ^ 64 - 1)) % 2 ^ 64) next core memory new after
-jumped_on code areas from most at limit last displacement distance next core memory here new there after is under reach came stops =
-    moved_on 1 code areas from most at limit last displacement distance next core memory here new there after (omega arith) (omega arith) (omega (arith, under, is.stops.short under)) is reach came stops
+pub jumped_on : (words : Words) (areas : List Area) (from most at limit last displacement distance next : ℕ) (core : Registers) (memory : Memory) (here new : Registers) (there after : Memory)
+    → IsRunning words areas from most at limit last core memory here there → at < last → distance % 2 ^ 32 ≡ displacement
+    → IsCame (Jump displacement) words.origin at areas here new there after
+    → RunStopsAt words ((at + distance) % 2 ^ 64) (((limit + distance) % 2 ^ 64 + (2 ^ 64 - 1)) % 2 ^ 64) next
+    → IsRunning words areas from most ((at + distance) % 2 ^ 64) (((limit + distance) % 2 ^ 64 + (2 ^ 64 - 1)) % 2 ^ 64) next core memory new after
+jumped_on words areas from most at limit last displacement distance next core memory here new there after is under reach came stops =
+    moved_on 1 words areas from most at limit last displacement distance next core memory here new there after (omega arith) (omega arith) (omega (arith, under, is.stops.short under)) is reach came stops
 
 -- the same after a delay slot
-pub turned_on : (code : Code) (areas : List Area) (from most at limit last displacement distance next : ℕ) (core : Registers) (memory : Memory) (here new : Registers) (there after : Memory)
-    → IsRunning code areas from most at limit last core memory here there → at < last → distance % 2 ^ 32 ≡ displacement
-    → IsCame (Turn displacement) code.words.origin at areas here new there after
-    → RunStopsAt code ((at + distance) % 2 ^ 64) (((limit + distance) % 2 ^ 64 + (2 ^ 64 - 2)) % 2 ^ 64) next
-    → IsRunning code areas from most ((at + distance) % 2 ^ 64) (((limit + distance) % 2 ^ 64 + (2 ^ 64 - 2)) % 2 ^ 64) next core memory new after
-turned_on code areas from most at limit last displacement distance next core memory here new there after is under reach came stops =
-    moved_on 2 code areas from most at limit last displacement distance next core memory here new there after (omega arith) (omega arith) (omega (arith, under, is.stops.short under)) is reach came stops
+pub turned_on : (words : Words) (areas : List Area) (from most at limit last displacement distance next : ℕ) (core : Registers) (memory : Memory) (here new : Registers) (there after : Memory)
+    → IsRunning words areas from most at limit last core memory here there → at < last → distance % 2 ^ 32 ≡ displacement
+    → IsCame (Turn displacement) words.origin at areas here new there after
+    → RunStopsAt words ((at + distance) % 2 ^ 64) (((limit + distance) % 2 ^ 64 + (2 ^ 64 - 2)) % 2 ^ 64) next
+    → IsRunning words areas from most ((at + distance) % 2 ^ 64) (((limit + distance) % 2 ^ 64 + (2 ^ 64 - 2)) % 2 ^ 64) next core memory new after
+turned_on words areas from most at limit last displacement distance next core memory here new there after is under reach came stops =
+    moved_on 2 words areas from most at limit last displacement distance next core memory here new there after (omega arith) (omega arith) (omega (arith, under, is.stops.short under)) is reach came stops
 
 -- registers whose program counters are at a place
 placed_own : (core : Registers) → placed core.pc core.npc core ≡ core
 unfolding placed
 placed_own core = refl
 
-pub at_start : (start : Start) (core : Registers) → IsStart core.pc start → core.npc ≡ (core.pc + 4) % 2 ^ 32 → at_place start.code.words.origin start.place core ≡ core
+pub at_start : (start : Start) (core : Registers) → IsStart core.pc start → core.npc ≡ (core.pc + 4) % 2 ^ 32 → at_place start.words.origin start.place core ≡ core
 at_start start core is next =
-    ap (λ (n : ℕ). placed (word_address start.code.words.origin start.place) n core) (sym (next_address start.code.words.origin start.place))
+    ap (λ (n : ℕ). placed (word_address start.words.origin start.place) n core) (sym (next_address start.words.origin start.place))
     ∙ ap (λ (a : ℕ). placed a ((a + 4) % 2 ^ 32) core) is.here
     ∙ ap (λ (n : ℕ). placed core.pc n core) (sym next)
     ∙ placed_own core

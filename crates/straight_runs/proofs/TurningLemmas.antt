@@ -14,11 +14,11 @@ use Rattle.sparc_step.specs.Operands.{sum_of}
 use Rattle.sparc_step.specs.Registers.{Registers, branched, placed, sent, skipped, with_register}
 use Rattle.sparc_step.specs.Words.{residue}
 use Rattle.straight_runs.specs.RareLemmas.{arith_rare}
-use Rattle.straight_runs.specs.Rows.{HasSource, IsRowOf}
+use Rattle.word_rows.specs.Rows.{HasSource, IsRowOf}
 use Rattle.straight_runs.specs.StepLemmas.{arith_not_two, branch_apart, transfer_apart, transfer_kinds}
 use Rattle.straight_runs.specs.TurnLemmas.{branch_taken, call_taken, jump_taken}
-use Rattle.straight_runs.specs.Turning.{at_place, at_slot}
-use Rattle.straight_runs.specs.declared.rows.Row.{Row}
+use Rattle.straight_runs.specs.Places.{at_place, at_slot}
+use Rattle.word_rows.specs.declared.rows.Row.{Row}
 
 -- the address of the next word
 pub next_address : (origin place : ℕ) → (word_address origin place + 4) % 2 ^ 32 ≡ word_address origin (place + 1)

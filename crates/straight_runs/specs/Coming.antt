@@ -3,7 +3,7 @@ use Rattle.std.specs.Prelude.{◌≡◌, ℕ, ◌+◌, List}
 use Rattle.guest_bus.specs.Memory.{Area, Memory}
 use Rattle.sparc_step.specs.Registers.{Registers}
 use Rattle.straight_runs.specs.Runs.{AreSteps}
-use Rattle.straight_runs.specs.Turning.{at_place, at_slot}
+use Rattle.straight_runs.specs.Places.{at_place, at_slot}
 use Rattle.straight_runs.specs.declared.one.Came.{Came}
 use Rattle.straight_runs.specs.declared.one.Came.TheVariants.{Next, Jump, Turn, Slot, Stays}
 

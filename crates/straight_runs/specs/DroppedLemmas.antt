@@ -15,8 +15,8 @@ use Rattle.sparc_step.specs.Flow.{branch_row, passed, sethi_row}
 use Rattle.sparc_step.specs.Operands.{value_of}
 use Rattle.sparc_step.specs.Outcome.{went, with_result}
 use Rattle.sparc_step.specs.Registers.{Registers, advanced, register_at, with_register}
-use Rattle.straight_runs.specs.Kinds.{row_kind_of}
-use Rattle.straight_runs.specs.Rows.{as_done, done_as, is_dropped}
+use Rattle.word_rows.specs.Kinds.{row_kind_of}
+use Rattle.word_rows.specs.Rows.{as_done, done_as, is_dropped}
 use Rattle.straight_runs.specs.Steps.{Goes}
 
 -- a branch that is never taken goes on alone

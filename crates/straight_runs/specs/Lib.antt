@@ -1,11 +1,8 @@
-pub mod Kinds
-pub mod Rows
-pub mod Sources
 pub mod Effects
+pub mod Places
 pub mod Steps
 pub mod DroppedLemmas
 pub mod Codes
-pub mod Tables
 pub mod Turning
 pub mod Runs
 pub mod Coming

@@ -14,7 +14,7 @@ use Rattle.sparc_step.specs.Outcome.{RegisterOutcome, went, with_result, with_re
 use Rattle.sparc_step.specs.Registers.{Registers, advanced, place_in_windows, placed, register_at, with_icc, with_register, with_y}
 use Rattle.sparc_step.specs.Words.{difference, quotient, shifted_arithmetically, shifted_left, shifted_right, signed_product, signed_quotient, sum}
 use Rattle.straight_runs.specs.Effects.{worked_by_kind}
-use Rattle.straight_runs.specs.Kinds.{row_kind_of, other}
+use Rattle.word_rows.specs.Kinds.{row_kind_of, other}
 
 -- a register is the same
 pub register_at-placed : (core : Registers) (pc npc r : ℕ) → register_at (placed pc npc core) r ≡ register_at core r

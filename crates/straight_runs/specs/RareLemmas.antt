@@ -12,13 +12,13 @@ use Rattle.sparc_step.specs.Operands.{sum_of, value_of}
 use Rattle.sparc_step.specs.Outcome.{with_result}
 use Rattle.sparc_step.specs.Registers.{Registers, advanced, in_window, placed, register_at, with_register, with_y}
 use Rattle.straight_runs.specs.Effects.{y_of}
-use Rattle.straight_runs.specs.Kinds.{row_kind_of}
+use Rattle.word_rows.specs.Kinds.{row_kind_of}
 use Rattle.straight_runs.specs.PlacedLemmas.{advanced-placed, register_at-placed, sum_of-placed, value_of-placed, with_result-placed, with_y-placed}
-use Rattle.straight_runs.specs.Rows.{HasSource, IsRowOf, RowDoes}
+use Rattle.word_rows.specs.Rows.{HasSource, IsRowOf, RowDoes}
 use Rattle.straight_runs.specs.StepLemmas.{branch_apart, transfer_apart}
 use Rattle.straight_runs.specs.Steps.{Goes}
 use Rattle.straight_runs.specs.WindowLemmas.{moved-placed, window_above-placed, window_below-placed}
-use Rattle.straight_runs.specs.declared.rows.Row.{Row}
+use Rattle.word_rows.specs.declared.rows.Row.{Row}
 
 -- no work on registers has a kind between its own and those of no row
 pub arith_rare : (operation : Arith) (k : ℕ) → k ≡ row_kind_of operation → 30 ≤ k → k < 37 → ⊥

@@ -19,10 +19,10 @@ use Rattle.virt_traps.specs.Moves.{Moved, fill_address, filled, move_made, move_
 use Rattle.virt_traps.specs.SaveArea.{is_usable, saved, with_registers}
 use Rattle.virt_traps.specs.Settled.{after_trap, again_or_trap, answered, made_again, settled}
 use Rattle.straight_runs.specs.RareLemmas.{of_window, restore_kind, save_kind}
-use Rattle.straight_runs.specs.Rows.{AreRegisterNumbers, HasSource, IsRowOf, row_as_done}
+use Rattle.word_rows.specs.Rows.{AreRegisterNumbers, HasSource, IsRowOf, row_as_done}
 use Rattle.straight_runs.specs.Shifts.{IsFilled, IsShift, IsSpilled}
 use Rattle.straight_runs.specs.TurnLemmas.{turned-word}
-use Rattle.straight_runs.specs.declared.rows.Row.{Row}
+use Rattle.word_rows.specs.declared.rows.Row.{Row}
 
 -- a SAVE to the invalid window traps
 save_trapped : (rd rs1 pc npc : ℕ) (source : Src) (areas : List Area) (old : Registers) (memory : Memory) → (old.cwp + 7) % 8 ≡ old.inv

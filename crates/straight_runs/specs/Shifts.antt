@@ -7,8 +7,8 @@ use Rattle.sparc_step.specs.Execution.{done}
 use Rattle.sparc_step.specs.Registers.{Registers, placed}
 use Rattle.virt_traps.specs.Moves.{filled, move_made, spilled}
 use Rattle.virt_traps.specs.Settled.{settled}
-use Rattle.straight_runs.specs.Rows.{IsRowOf, as_done}
-use Rattle.straight_runs.specs.declared.rows.Row.{Row}
+use Rattle.word_rows.specs.Rows.{IsRowOf, as_done}
+use Rattle.word_rows.specs.declared.rows.Row.{Row}
 
 -- the word at an address goes on to the next one, with the spill or fill that it needs
 abbrev pub IsShift : Row → ℕ → List Area → Registers → Registers → Memory → Memory → Type 0

@@ -19,11 +19,11 @@ use Rattle.sparc_step.specs.Operands.{sum_of, value_of}
 use Rattle.sparc_step.specs.Registers.{Registers, placed, register_at, with_register}
 use Rattle.sparc_step.specs.Transfers.{transfer}
 use Rattle.straight_runs.specs.Effects.{IsTransferred, worked_by_kind}
-use Rattle.straight_runs.specs.Kinds.{row_kind_of, kind_of_branch, kind_of_transfer, other, transfer_of}
+use Rattle.word_rows.specs.Kinds.{row_kind_of, kind_of_branch, kind_of_transfer, other, transfer_of}
 use Rattle.straight_runs.specs.PlacedLemmas.{advanced-placed, register_at-placed, sum_of-placed, value_of-placed, with_result-placed, worked-placed}
-use Rattle.straight_runs.specs.Rows.{RowDoes, HasSource, IsRowOf}
+use Rattle.word_rows.specs.Rows.{RowDoes, HasSource, IsRowOf}
 use Rattle.straight_runs.specs.Steps.{Goes}
-use Rattle.straight_runs.specs.declared.rows.Row.{Row}
+use Rattle.word_rows.specs.declared.rows.Row.{Row}
 
 -- work on registers
 arith_goes : (row : Row) (operation : Arith) (rd rs1 : ℕ) (source : Src) (areas : List Area) (old new : Registers) (memory after : Memory)

@@ -7,16 +7,16 @@ ghost use Rattle.guest_bus.specs.declared.bus.Size.TheVariants.{Eight};
 ghost use Rattle.sparc_code.specs.declared.instruction.MemOp.TheVariants.{LdD, StD};
 ghost use Rattle.sparc_step.specs.Transfers.{pair_at, with_pair};
 ghost use Rattle.straight_runs.specs.Effects.{IsTransferred, extended_by};
-ghost use Rattle.straight_runs.specs.Kinds.{load_by_size, store_by_size, transfer_of};
+ghost use Rattle.word_rows.specs.Kinds.{load_by_size, store_by_size, transfer_of};
 
-use crate::kinds;
 use guest_bus::{Bus, Size};
 use sparc_step::Processor;
 use sparc_step::transfers::{signed_byte, signed_half};
+use word_rows::kinds;
 
 /// The kinds 13 to 22, at an address. One that is refused changes nothing.
 #[inline(always)]
-#[tactic(auto, unfolding(crate::specs::Kinds::transfer_of))]
+#[tactic(auto, unfolding(word_rows::specs::Kinds::transfer_of))]
 pub(crate) fn transfer<B: Bus>(
     own: &mut Processor,
     bus: &mut B,
@@ -52,7 +52,7 @@ pub(crate) fn transfer<B: Bus>(
 
 // The kinds 15 to 18.
 #[inline(never)]
-#[tactic(auto, unfolding(crate::specs::Kinds::transfer_of))]
+#[tactic(auto, unfolding(word_rows::specs::Kinds::transfer_of))]
 fn other_load<B: Bus>(own: &mut Processor, bus: &mut B, kind: u8, rd: u8, address: u32) -> bool
     requires from { 15 ≤ kind }
     requires below { kind < 19 }
@@ -78,7 +78,7 @@ fn other_load<B: Bus>(own: &mut Processor, bus: &mut B, kind: u8, rd: u8, addres
 
 // The kinds 21 and 22.
 #[inline(never)]
-#[tactic(auto, unfolding(crate::specs::Kinds::transfer_of))]
+#[tactic(auto, unfolding(word_rows::specs::Kinds::transfer_of))]
 fn other_store<B: Bus>(own: &mut Processor, bus: &mut B, kind: u8, rd: u8, address: u32) -> bool
     requires from { 21 ≤ kind }
     requires below { kind < 23 }

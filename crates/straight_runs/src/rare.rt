@@ -7,21 +7,21 @@ ghost use Rattle.sparc_code.specs.declared.instruction.Src.{Src};
 ghost use Rattle.sparc_step.specs.Operands.{sum_of as sum_of_operands, value_of};
 ghost use Rattle.sparc_step.specs.Registers.{in_window, register_at, with_register, with_y};
 ghost use Rattle.straight_runs.specs.Effects.{y_of};
-ghost use Rattle.straight_runs.specs.Rows.{AreRegisterNumbers, HasSource};
-ghost use Rattle.straight_runs.specs.Steps.{IsRowStep};
+ghost use Rattle.word_rows.specs.Rows.{AreRegisterNumbers, HasSource};
+ghost use Rattle.straight_runs.specs.Steps.{IsRowStep, Uses};
 
-use crate::kinds;
-use crate::rows::Row;
 use crate::simple::Step;
 use crate::working::{first, second, sum_of};
 use sparc_step::Processor;
+use word_rows::{Row, kinds};
 
 /// The kinds from 30 on. Those that do not go on to the next word are left, as are windows that have to be spilled or filled.
 #[inline(always)]
 pub(crate) fn rare(own: &mut Processor, row: &Row) -> Step
     requires from { 30 ≤ row.now.kind }
     requires registers { AreRegisterNumbers row.now }
-    ensures { (areas : List Area) (memory : Memory) → IsRowStep result row.now areas own.old own.new memory memory }
+    ensures step { (areas : List Area) (memory : Memory) → IsRowStep result row.now areas own.old own.new memory memory }
+    ensures used { Uses result row.now }
 {
     if row.kind < kinds::SAVE {
         if row.kind == kinds::WRY {

@@ -1,18 +1,16 @@
 //! Straight runs.
 
-ghost use Rattle.std.specs.Prelude.{◌≡◌, ◌+◌, ◌%◌, ◌^◌, ◌<◌, ◌≤◌, length};
+ghost use Rattle.std.specs.Prelude.{◌≡◌, ◌+◌, ◌%◌, ◌^◌, ◌<◌, ◌≤◌};
 ghost use Rattle.guest_bus.specs.Words.{AreWords};
-ghost use Rattle.straight_runs.specs.Codes.{IsCode, IsStart, RunStopsAt};
+ghost use Rattle.straight_runs.specs.Codes.{IsStart, RunStopsAt};
 ghost use Rattle.straight_runs.specs.Runs.{AreSteps};
-ghost use Rattle.straight_runs.specs.Tables.{AreRows};
-ghost use Rattle.straight_runs.specs.Turning.{at_place, at_slot};
+ghost use Rattle.straight_runs.specs.Places.{at_place, at_slot};
 
 use crate::one::{Came, one};
-use crate::places::{Code, Start, address, address_after, distance, start_at};
-use crate::rows::Row;
-use crate::table::Rows;
-use guest_bus::{HasWords, Words};
+use crate::places::{Start, address, address_after, distance, start_at};
+use guest_bus::Words;
 use sparc_step::Processor;
+use word_rows::HasRows;
 
 // No run is longer, so that places and steps are small numbers.
 const MOST: u64 = 0x1000_0000;
@@ -20,7 +18,7 @@ const MOST: u64 = 0x1000_0000;
 /// Instructions, at most so many, up to the first that is left to others: one that traps or calls, whose access is refused, that
 /// needs a window spilled or filled by a search, or that stands away from the words around the first. The answer is how many.
 #[inline(always)]
-pub fn run<B: HasWords>(own: &mut Processor, bus: &mut B, table: &mut Rows, most: u64) -> u64
+pub fn run<B: HasRows>(own: &mut Processor, bus: &mut B, most: u64) -> u64
     ensures steps { AreSteps result (B.areas bus.old) own.old (B.memory bus.old) own.new (B.memory bus.new) }
     ensures few { result ≤ most }
     ensures areas { B.areas bus.new ≡ B.areas bus.old }
@@ -31,22 +29,16 @@ pub fn run<B: HasWords>(own: &mut Processor, bus: &mut B, table: &mut Rows, most
         return 0;
     }
     match start_at(bus, pc) {
-        Some(start) => run_from(own, bus, table, start, most.min(MOST)),
+        Some(start) => run_from(own, bus, start, most.min(MOST)),
         None => 0,
     }
 }
 
 // The same from the first word on, whose place is known.
 #[inline(always)]
-fn run_from<B: HasWords>(
-    own: &mut Processor,
-    bus: &mut B,
-    table: &mut Rows,
-    start: Start,
-    most: u64,
-) -> u64
+fn run_from<B: HasRows>(own: &mut Processor, bus: &mut B, start: Start, most: u64) -> u64
     requires start { IsStart own.old.pc start }
-    requires lie { B.lie (B.areas bus.old) (B.others bus.old) start.code.words }
+    requires numbered { B.numbered (B.areas bus.old) (B.others bus.old) start.words }
     requires next { own.old.npc ≡ (own.old.pc + 4) % 2 ^ 32 }
     requires most { most < 2 ^ 32 }
     ensures steps { AreSteps result (B.areas bus.old) own.old (B.memory bus.old) own.new (B.memory bus.new) }
@@ -54,72 +46,52 @@ fn run_from<B: HasWords>(
     ensures areas { B.areas bus.new ≡ B.areas bus.old }
     ensures others { B.others bus.new ≡ B.others bus.old }
 {
-    run_in(
-        own,
-        bus,
-        &mut table.words,
-        &mut table.rows,
-        start.code,
-        start.place,
-        most,
-    )
+    run_in(own, bus, start.words, start.place, most)
 }
 
-// The same of the code around the first word, from its place on.
+// The same over words that have rows, from a place on.
 #[inline(always)]
-fn run_in<B: HasWords>(
-    own: &mut Processor,
-    bus: &mut B,
-    words: &mut [u32],
-    rows: &mut [Row],
-    code: Code,
-    from: usize,
-    most: u64,
-) -> u64
-    requires code { IsCode code }
-    requires lie { B.lie (B.areas bus.old) (B.others bus.old) code.words }
-    requires rows { AreRows words.old rows.old }
-    requires size { length words.old ≡ 131072 }
-    requires from { code.begin ≤ from }
+fn run_in<B: HasRows>(own: &mut Processor, bus: &mut B, words: Words, from: usize, most: u64) -> u64
+    requires words { AreWords words }
+    requires numbered { B.numbered (B.areas bus.old) (B.others bus.old) words }
+    requires from { words.begin ≤ from }
     requires near { from < 2 ^ 33 }
     requires most { most < 2 ^ 32 }
-    ensures steps { AreSteps result (B.areas bus.old) (at_place code.words.origin from own.old) (B.memory bus.old) own.new (B.memory bus.new) }
+    ensures steps { AreSteps result (B.areas bus.old) (at_place words.origin from own.old) (B.memory bus.old) own.new (B.memory bus.new) }
     ensures few { result ≤ most }
-    ensures rows { AreRows words.new rows.new }
-    ensures size { length words.new ≡ length words.old }
     ensures areas { B.areas bus.new ≡ B.areas bus.old }
     ensures others { B.others bus.new ≡ B.others bus.old }
 {
     let mut at = from;
     // The place where the steps that are left would end, and the last place, whose word is left.
     let mut limit = from + most as usize;
-    let mut last = last_at(code, at, limit);
+    let mut last = last_at(words, at, limit);
     while at < last {
-        match one(own, bus, words, rows, code, at) {
+        match one(own, bus, words, at) {
             Came::Next => at += 1,
             Came::Jump(displacement) => {
                 let distance = distance(displacement);
                 limit = limit.wrapping_add(distance).wrapping_sub(1);
                 at = at.wrapping_add(distance);
-                last = last_at(code, at, limit);
+                last = last_at(words, at, limit);
             }
             Came::Turn(displacement) => {
                 let distance = distance(displacement);
                 limit = limit.wrapping_add(distance).wrapping_sub(2);
                 at = at.wrapping_add(distance);
-                last = last_at(code, at, limit);
+                last = last_at(words, at, limit);
             }
             Came::Slot(displacement) => {
-                stand_in_slot(own, code.words, at, displacement);
+                stand_in_slot(own, words, at, displacement);
                 return most - (limit - (at + 1)) as u64;
             }
             Came::Stays => {
-                stand(own, code.words, at);
+                stand(own, words, at);
                 return most - (limit - at) as u64;
             }
         }
     }
-    stand(own, code.words, at);
+    stand(own, words, at);
     most - limit.wrapping_sub(at) as u64
 }
 
@@ -142,14 +114,13 @@ fn stand_in_slot(own: &mut Processor, words: Words, at: usize, displacement: u32
     own.place(address_after(words, at), address(words, to));
 }
 
-// The last place of a run at a place: 0 where that lies before the code.
+// The last place of a run at a place: 0 where that lies before the words.
 #[inline(always)]
-fn last_at(code: Code, at: usize, limit: usize) -> usize
-    requires { IsCode code }
-    ensures { RunStopsAt code at limit result }
+fn last_at(words: Words, at: usize, limit: usize) -> usize
+    ensures { RunStopsAt words at limit result }
 {
-    if code.begin <= at {
-        limit.min(code.end).saturating_sub(1)
+    if words.begin <= at {
+        limit.min(words.end).saturating_sub(1)
     } else {
         0
     }

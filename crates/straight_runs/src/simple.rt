@@ -6,46 +6,51 @@ ghost use Rattle.sparc_code.specs.declared.instruction.Src.{Src};
 ghost use Rattle.sparc_step.specs.Operands.{value_of};
 ghost use Rattle.sparc_step.specs.Registers.{register_at};
 ghost use Rattle.straight_runs.specs.Effects.{worked_by_kind};
-ghost use Rattle.straight_runs.specs.Rows.{AreRegisterNumbers, HasSource};
-ghost use Rattle.straight_runs.specs.Steps.{IsRowStep};
+ghost use Rattle.word_rows.specs.Rows.{AreRegisterNumbers, HasSource};
+ghost use Rattle.straight_runs.specs.Steps.{IsMemoryStep, IsRowStep, IsWordStep};
 ghost use Rattle.straight_runs.specs.declared.simple.Step.TheVariants.{Next};
 
-use crate::kinds;
 use crate::moving::transfer;
 use crate::rare::rare;
-use crate::rows::Row;
 use crate::working::{coded, first, frequent, multiply_or_divide, plain, second, sum_of};
-use guest_bus::Bus;
+use guest_bus::{Bus, Words};
 use sparc_step::Processor;
 use sparc_step::conditions::holds;
+use word_rows::{HasRows, Row, kinds};
 
 /// What an instruction came to.
 #[derive(Clone, Copy, Debug)]
 pub(crate) enum Step {
     /// It was done, and the next word follows.
     Next,
-    /// It is a branch that is taken, which was not done.
-    Taken,
+    /// It is a branch that is taken, by a displacement from its place, which was not done.
+    Taken(u32),
     /// It is a SAVE or a RESTORE that needs a window spilled or filled, and was not done.
     Shifts,
     /// It was not done.
     Stays,
 }
 
-/// Does what a row says, where that goes on to the next word.
+/// Does what the row of a place says, where that goes on to the next word.
 #[inline(always)]
-pub(crate) fn execute<B: Bus>(own: &mut Processor, bus: &mut B, row: &Row) -> Step
-    requires { AreRegisterNumbers row.now }
-    ensures step { IsRowStep result row.now (B.areas bus.old) own.old own.new (B.memory bus.old) (B.memory bus.new) }
+pub(crate) fn execute<B: HasRows>(own: &mut Processor, bus: &mut B, words: Words, at: usize) -> Step
+    requires numbered { B.numbered (B.areas bus.old) (B.others bus.old) words }
+    requires from { words.begin ≤ at }
+    requires under { at < words.end }
+    ensures step { IsWordStep result words.origin at (B.areas bus.old) own.old own.new (B.memory bus.old) (B.memory bus.new) }
     ensures areas { B.areas bus.new ≡ B.areas bus.old }
     ensures others { B.others bus.new ≡ B.others bus.old }
 {
+    let row = bus.row(words, at);
     if row.kind < kinds::OR {
         most_frequent(own, row)
     } else if row.kind < kinds::LD {
         on_registers(own, row)
     } else if row.kind < kinds::ADDCC {
-        on_memory(own, bus, row)
+        let address = sum_of(own, row);
+        let kind = row.kind;
+        let rd = row.rd;
+        on_memory(own, bus, kind, rd, address)
     } else if row.kind < kinds::WRY {
         more(own, row)
     } else {
@@ -75,7 +80,7 @@ fn branch(own: &Processor, row: &Row) -> Step
     ensures { (areas : List Area) (memory : Memory) → IsRowStep result row.now areas own.now own.now memory memory }
 {
     if holds(row.rs1, own.icc()) {
-        Step::Taken
+        Step::Taken(row.number)
     } else {
         Step::Next
     }
@@ -112,18 +117,17 @@ fn work(own: &mut Processor, row: &Row)
     }
 }
 
-// The kinds 13 to 22.
+// The kinds 13 to 22, at an address.
 #[inline(always)]
-fn on_memory<B: Bus>(own: &mut Processor, bus: &mut B, row: &Row) -> Step
-    requires from { 13 ≤ row.now.kind }
-    requires below { row.now.kind < 23 }
-    requires registers { AreRegisterNumbers row.now }
-    ensures step { IsRowStep result row.now (B.areas bus.old) own.old own.new (B.memory bus.old) (B.memory bus.new) }
+fn on_memory<B: Bus>(own: &mut Processor, bus: &mut B, kind: u8, rd: u8, address: u32) -> Step
+    requires from { 13 ≤ kind }
+    requires below { kind < 23 }
+    requires rd { rd < 32 }
+    ensures step { IsMemoryStep result kind rd address (B.areas bus.old) own.old own.new (B.memory bus.old) (B.memory bus.new) }
     ensures areas { B.areas bus.new ≡ B.areas bus.old }
     ensures others { B.others bus.new ≡ B.others bus.old }
 {
-    let address = sum_of(own, row);
-    if transfer(own, bus, row.kind, row.rd, address) {
+    if transfer(own, bus, kind, rd, address) {
         Step::Next
     } else {
         Step::Stays

@@ -1,19 +1,16 @@
 //! Branches that are taken, calls and jumps.
 
-ghost use Rattle.std.specs.Prelude.{◌≡◌, ℕ, ◌<◌, true};
+ghost use Rattle.std.specs.Prelude.{◌≡◌, ℕ, ◌<◌};
 ghost use Rattle.guest_bus.specs.Words.{AreWords};
-ghost use Rattle.sparc_step.specs.Conditions.{holds};
-ghost use Rattle.straight_runs.specs.Rows.{AreRegisterNumbers};
-ghost use Rattle.straight_runs.specs.Turning.{Turns};
-ghost use Rattle.straight_runs.specs.declared.turning.Goal.TheVariants.{Behind};
+ghost use Rattle.word_rows.specs.Rows.{AreRegisterNumbers};
+ghost use Rattle.straight_runs.specs.Turning.{Turns, TurnsBy};
 
-use crate::kinds;
 use crate::places::{address, displacement};
-use crate::rows::Row;
 use crate::working::sum_of;
 use guest_bus::Words;
 use sparc_step::Processor;
 use sparc_step::conditions::holds;
+use word_rows::{Row, kinds};
 
 /// Where an instruction goes that does not go on to the next word.
 #[derive(Clone, Copy, Debug)]
@@ -26,22 +23,13 @@ pub(crate) enum Goal {
     Stays,
 }
 
-/// By which displacement a branch goes that is taken.
-#[inline(always)]
-pub(crate) fn taken(own: &Processor, row: &Row) -> u32
-    requires kind { row.now.kind ≡ 2 }
-    requires holds { holds row.now.rs1 own.now.icc ≡ true }
-    ensures { (origin at : ℕ) → Turns (Behind result) row.now origin at own.now own.now }
-{
-    row.number
-}
-
 /// Where a call, a jump, or a branch that may annul its delay slot goes.
 #[inline(always)]
 pub(crate) fn turn(own: &mut Processor, row: &Row, words: Words, at: usize) -> Goal
     requires registers { AreRegisterNumbers row.now }
     requires words { AreWords words }
-    ensures { Turns result row.now words.origin at own.old own.new }
+    ensures goal { Turns result row.now words.origin at own.old own.new }
+    ensures by { TurnsBy result row.now }
 {
     if row.kind == kinds::CALL {
         call(own, row, words, at)

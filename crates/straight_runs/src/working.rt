@@ -6,16 +6,15 @@ ghost use Rattle.sparc_code.specs.declared.instruction.Src.{Src};
 ghost use Rattle.sparc_step.specs.Operands.{sum_of, value_of};
 ghost use Rattle.sparc_step.specs.Registers.{register_at};
 ghost use Rattle.straight_runs.specs.Effects.{worked_by_kind, set_wide};
-ghost use Rattle.straight_runs.specs.Rows.{AreRegisterNumbers, HasSource};
+ghost use Rattle.word_rows.specs.Rows.{AreRegisterNumbers, HasSource};
 
-use crate::kinds;
-use crate::rows::Row;
 use sparc_step::Processor;
 use sparc_step::conditions::{codes_of_addition, codes_of_comparison, codes_of_result};
 use sparc_step::words::{
     difference, quotient, shifted_arithmetically, shifted_left, shifted_right, signed_product,
     signed_quotient, sum,
 };
+use word_rows::{Row, kinds};
 
 /// The value of operand 1.
 #[inline(always)]

@@ -1,7 +1,7 @@
 use Rattle.std.proofs.Common.{ap, ◌∙◌}
 use Rattle.sparc_step.specs.Registers.{with_register}
 use Rattle.straight_runs.specs.Effects.{extended_by}
-use Rattle.straight_runs.specs.Kinds.{load_by_size}
+use Rattle.word_rows.specs.Kinds.{load_by_size}
 use Rattle.straight_runs.proofs.TransferLemmas.{load-IsTransferred, load_row}
 use Rattle.straight_runs.proofs.moving.load.Goals as goal
 

@@ -1,7 +1,7 @@
 use Rattle.std.proofs.Common.{refl, ◌∙◌}
 use Rattle.std.proofs.lemmas.Bool.{OnTrue_at, OnTrue_from}
 use Rattle.sparc_step.specs.Registers.{Registers, register_at}
-use Rattle.straight_runs.specs.Kinds.{store_by_size}
+use Rattle.word_rows.specs.Kinds.{store_by_size}
 use Rattle.straight_runs.specs.PlacedLemmas.{register_at-placed}
 use Rattle.straight_runs.proofs.TransferLemmas.{store-IsTransferred, store_row}
 use Rattle.straight_runs.proofs.moving.store_register.Goals as goal

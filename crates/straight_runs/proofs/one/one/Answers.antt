@@ -1,29 +1,36 @@
-use Rattle.straight_runs.proofs.ComingLemmas.{came_jump, came_next, came_shifted, came_turned}
+use Rattle.guest_bus.specs.Words.{word_address}
+use Rattle.straight_runs.proofs.ComingLemmas.{came_gone, came_jump, came_next, came_shifted, came_turned}
+use Rattle.straight_runs.proofs.WordLemmas.{row_here}
+use Rattle.word_rows.specs.Kept.{word_there}
+use Rattle.word_rows.specs.KeptLemmas.{row_used}
 use Rattle.straight_runs.proofs.one.one.Goals as goal
 
 pub returns-in-Next-clause-came : goal.returns-in-Next-clause-came
 returns-in-Next-clause-came g c =
-    came_next c.word.result c.args.code.words.origin c.args.at c.row_at-row.result.now (g.B.Bus.areas c.args.bus.now) c.args.own.now c.execute.new.own (g.B.Bus.memory c.args.bus.now) (g.B.Bus.memory c.execute.new.bus)
-    c.word.ensures (c.prepare.ensures.row c.row_at-row.result.now c.row_at-row.ensures) c.in-Next.ensures.step
+    came_next (word_there (g.B.Bus.memory c.args.bus.now) (word_address c.args.words.origin c.args.at)) c.args.words.origin c.args.at (g.B.Bus.areas c.args.bus.now) c.args.own.now c.execute.new.own (g.B.Bus.memory c.args.bus.now) (g.B.Bus.memory c.execute.new.bus)
+    c.in-Next.ensures.step.0 c.in-Next.ensures.step.1
 
 pub returns-in-Taken-clause-came : goal.returns-in-Taken-clause-came
 returns-in-Taken-clause-came g c =
-    came_turned c.behind.result c.word.result c.args.code.words.origin c.args.at c.taken-displacement.result c.row_at-row.result.now (g.B.Bus.areas c.execute.new.bus) (g.B.Bus.areas c.args.bus.now) c.args.own.now c.execute.new.own c.execute.new.own c.behind.new.own
+    came_gone c.behind.result (word_there (g.B.Bus.memory c.args.bus.now) (word_address c.args.words.origin c.args.at)) c.args.words.origin c.args.at c.in-Taken.displacement (g.B.Bus.areas c.execute.new.bus) (g.B.Bus.areas c.args.bus.now) c.args.own.now c.execute.new.own c.behind.new.own
     (g.B.Bus.memory c.args.bus.now) (g.B.Bus.memory c.execute.new.bus) (g.B.Bus.memory c.behind.new.bus)
-    c.word.ensures (c.prepare.ensures.row c.row_at-row.result.now c.row_at-row.ensures) c.in-Taken.ensures.step.2 c.in-Taken.ensures.step.3 c.execute.ensures.areas (c.taken-displacement.ensures c.args.code.words.origin c.args.at) c.behind.ensures.came
+    c.in-Taken.ensures.step.0 c.in-Taken.ensures.step.1 c.in-Taken.ensures.step.2 c.in-Taken.ensures.step.3 c.execute.ensures.areas c.behind.ensures.came
 
 pub returns-in-Behind-clause-came : goal.returns-in-Behind-clause-came
 returns-in-Behind-clause-came g c =
-    came_turned c.behind-in-Behind.result c.word.result c.args.code.words.origin c.args.at c.in-Behind.displacement c.row_at-row.result.now (g.B.Bus.areas c.execute.new.bus) (g.B.Bus.areas c.args.bus.now) c.args.own.now c.execute.new.own c.turn.new.own c.behind-in-Behind.new.own
+    let here = row_here c.row-row.result.now (g.B.Bus.areas c.execute.new.bus) (g.B.Bus.areas c.args.bus.now) (g.B.Bus.memory c.execute.new.bus) (g.B.Bus.memory c.args.bus.now) (word_address c.args.words.origin c.args.at) c.execute.ensures.areas c.in-Stays.ensures.step.1 c.row-row.ensures in
+    came_turned c.behind-in-Behind.result (word_there (g.B.Bus.memory c.args.bus.now) (word_address c.args.words.origin c.args.at)) c.args.words.origin c.args.at c.in-Behind.displacement c.row-row.result.now (g.B.Bus.areas c.execute.new.bus) (g.B.Bus.areas c.args.bus.now) c.args.own.now c.execute.new.own c.turn.new.own c.behind-in-Behind.new.own
     (g.B.Bus.memory c.args.bus.now) (g.B.Bus.memory c.execute.new.bus) (g.B.Bus.memory c.behind-in-Behind.new.bus)
-    c.word.ensures (c.prepare.ensures.row c.row_at-row.result.now c.row_at-row.ensures) c.in-Stays.ensures.step.0 c.in-Stays.ensures.step.1 c.execute.ensures.areas c.in-Behind.ensures c.behind-in-Behind.ensures.came
+    here.stands (row_used c.row-row.result.now (g.B.Bus.areas c.args.bus.now) (g.B.Bus.memory c.args.bus.now) (word_address c.args.words.origin c.args.at) c.in-Behind.ensures.by here) c.in-Stays.ensures.step.0 c.in-Stays.ensures.step.1 c.execute.ensures.areas c.in-Behind.ensures.goal c.behind-in-Behind.ensures.came
 
 pub returns-in-Now-clause-came : goal.returns-in-Now-clause-came
 returns-in-Now-clause-came g c =
-    came_jump c.word.result c.args.code.words.origin c.args.at c.in-Now.displacement c.row_at-row.result.now (g.B.Bus.areas c.args.bus.now) c.args.own.now c.execute.new.own c.turn.new.own (g.B.Bus.memory c.args.bus.now) (g.B.Bus.memory c.execute.new.bus)
-    c.word.ensures (c.prepare.ensures.row c.row_at-row.result.now c.row_at-row.ensures) c.in-Stays.ensures.step.0 c.in-Stays.ensures.step.1 c.in-Now.ensures
+    let here = row_here c.row-row.result.now (g.B.Bus.areas c.execute.new.bus) (g.B.Bus.areas c.args.bus.now) (g.B.Bus.memory c.execute.new.bus) (g.B.Bus.memory c.args.bus.now) (word_address c.args.words.origin c.args.at) c.execute.ensures.areas c.in-Stays.ensures.step.1 c.row-row.ensures in
+    came_jump (word_there (g.B.Bus.memory c.args.bus.now) (word_address c.args.words.origin c.args.at)) c.args.words.origin c.args.at c.in-Now.displacement c.row-row.result.now (g.B.Bus.areas c.args.bus.now) c.args.own.now c.execute.new.own c.turn.new.own (g.B.Bus.memory c.args.bus.now) (g.B.Bus.memory c.execute.new.bus)
+    here.stands (row_used c.row-row.result.now (g.B.Bus.areas c.args.bus.now) (g.B.Bus.memory c.args.bus.now) (word_address c.args.words.origin c.args.at) c.in-Now.ensures.by here) c.in-Stays.ensures.step.0 c.in-Stays.ensures.step.1 c.in-Now.ensures.goal
 
 pub returns-then-shift-clause-came : goal.returns-then-shift-clause-came
 returns-then-shift-clause-came g c =
-    came_shifted c.word.result c.args.code.words.origin c.args.at c.address.result c.row_at-row.result.now (g.B.Bus.areas c.execute.new.bus) (g.B.Bus.areas c.args.bus.now) c.args.own.now c.execute.new.own c.shift.new.own (g.B.Bus.memory c.args.bus.now) (g.B.Bus.memory c.execute.new.bus) (g.B.Bus.memory c.shift.new.bus)
-    c.word.ensures (c.prepare.ensures.row c.row_at-row.result.now c.row_at-row.ensures) c.in-Shifts.ensures.step.0 c.in-Shifts.ensures.step.1 c.execute.ensures.areas c.address.ensures.value c.if-shift.ensures.done
+    let here = row_here c.row-row.result.now (g.B.Bus.areas c.execute.new.bus) (g.B.Bus.areas c.args.bus.now) (g.B.Bus.memory c.execute.new.bus) (g.B.Bus.memory c.args.bus.now) (word_address c.args.words.origin c.args.at) c.execute.ensures.areas c.in-Shifts.ensures.step.1 c.row-row.ensures in
+    came_shifted (word_there (g.B.Bus.memory c.args.bus.now) (word_address c.args.words.origin c.args.at)) c.args.words.origin c.args.at c.address.result c.row-row.result.now (g.B.Bus.areas c.execute.new.bus) (g.B.Bus.areas c.args.bus.now) c.args.own.now c.execute.new.own c.shift.new.own (g.B.Bus.memory c.args.bus.now) (g.B.Bus.memory c.execute.new.bus) (g.B.Bus.memory c.shift.new.bus)
+    here.stands (row_used c.row-row.result.now (g.B.Bus.areas c.args.bus.now) (g.B.Bus.memory c.args.bus.now) (word_address c.args.words.origin c.args.at) c.if-shift.ensures.used here) c.in-Shifts.ensures.step.0 c.in-Shifts.ensures.step.1 c.execute.ensures.areas c.address.ensures.value c.if-shift.ensures.done

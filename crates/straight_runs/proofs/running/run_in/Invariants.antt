@@ -1,13 +1,10 @@
-use Rattle.std.proofs.Common.{◌≡◌, length}
-use Rattle.straight_runs.specs.Tables.{AreRows}
+use Rattle.std.proofs.Common.{◌≡◌}
 use Rattle.straight_runs.proofs.RunningLemmas.{IsRunning, left_at}
 use Rattle.straight_runs.proofs.running.run_in.Given as goal
 
 abbrev pub invariant-loop-at : goal.invariant-loop-at
 invariant-loop-at g l = record {
-  running : IsRunning l.code (g.B.Bus.areas l.fn.bus) l.fn.from l.most l.at l.limit l.last l.fn.own (g.B.Bus.memory l.fn.bus) l.own (g.B.Bus.memory l.bus);
-  rows : AreRows l.words l.rows;
-  size : length l.words ≡ length l.fn.words;
+  running : IsRunning l.words (g.B.Bus.areas l.fn.bus) l.fn.from l.most l.at l.limit l.last l.fn.own (g.B.Bus.memory l.fn.bus) l.own (g.B.Bus.memory l.bus);
   areas : g.B.Bus.areas l.bus ≡ g.B.Bus.areas l.fn.bus;
   others : g.B.Bus.others l.bus ≡ g.B.Bus.others l.fn.bus;
 }

@@ -11,6 +11,10 @@ use Rattle.sparc_code.specs.declared.instruction.MemOp.TheVariants.{Ld, LdUb, Ld
 abbrev pub other : ℕ
 other = 37
 
+-- no row is made yet
+abbrev pub empty : ℕ
+empty = 38
+
 -- work on registers
 abbrev pub row_kind_of : Arith → ℕ
 row_kind_of Add = 0

@@ -6,8 +6,8 @@ use Rattle.sparc_code.specs.declared.instruction.Src.TheVariants.{Reg, Imm}
 use Rattle.sparc_code.specs.declared.instruction.Instr.{Instr}
 use Rattle.sparc_code.specs.declared.instruction.Instr.TheVariants as instr
 use Rattle.sparc_step.specs.Words.{residue}
-use Rattle.straight_runs.specs.Kinds.{row_kind_of, kind_of_branch, kind_of_transfer, other}
-use Rattle.straight_runs.specs.declared.rows.Row.{Row}
+use Rattle.word_rows.specs.Kinds.{row_kind_of, kind_of_branch, kind_of_transfer, other}
+use Rattle.word_rows.specs.declared.rows.Row.{Row}
 
 -- its registers are registers, and the condition of a branch is a condition; work that sets a register alone sets one that holds it
 pub record AreRegisterNumbers (row : Row) : Type 0 where

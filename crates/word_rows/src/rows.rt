@@ -3,9 +3,9 @@
 ghost use Rattle.std.specs.Prelude.{◌≡◌, ◌*◌, ◌≢◌, ◌^◌, ◌<◌, ◌≤◌, false};
 ghost use Rattle.sparc_code.specs.Ranges.{InRange};
 ghost use Rattle.sparc_step.specs.Words.{residue};
-ghost use Rattle.straight_runs.specs.Kinds.{row_kind_of, kind_of_branch, kind_of_transfer};
-ghost use Rattle.straight_runs.specs.Rows.{AreRegisterNumbers, IsRowOf, IsSethiRow, IsWorkRow, RowDoes, as_done, is_dropped};
-ghost use Rattle.straight_runs.specs.Sources.{IsRegisterIn};
+ghost use Rattle.word_rows.specs.Kinds.{row_kind_of, kind_of_branch, kind_of_transfer};
+ghost use Rattle.word_rows.specs.Rows.{AreRegisterNumbers, IsRowOf, IsSethiRow, IsWorkRow, RowDoes, as_done, is_dropped};
+ghost use Rattle.word_rows.specs.Sources.{IsRegisterIn};
 
 use crate::kinds;
 use sparc_code::{Arith, Instr, MemOp, Src};
@@ -13,17 +13,26 @@ use sparc_code::{Arith, Instr, MemOp, Src};
 /// An instruction word, taken apart: what it does, the registers of its result and of its operands, and what is added to
 /// the second. Operand 2 is the sum of a register and a number, of which one is 0.
 #[derive(Clone, Copy, Debug)]
-pub(crate) struct Row {
-    pub(crate) number: u32,
-    pub(crate) kind: u8,
-    pub(crate) rd: u8,
-    pub(crate) rs1: u8,
-    pub(crate) rs2: u8,
+pub struct Row {
+    pub number: u32,
+    pub kind: u8,
+    pub rd: u8,
+    pub rs1: u8,
+    pub rs2: u8,
 }
 
 impl Row {
+    /// A row of a word that was not looked at.
+    pub const EMPTY: Row = Row {
+        number: 0,
+        kind: kinds::EMPTY,
+        rd: 0,
+        rs1: 0,
+        rs2: 0,
+    };
+
     // A row of other instructions.
-    pub(crate) const OTHER: Row = Row {
+    const OTHER: Row = Row {
         number: 0,
         kind: kinds::OTHER,
         rd: 0,

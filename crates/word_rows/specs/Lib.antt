@@ -1,0 +1,5 @@
+pub mod Kinds
+pub mod Rows
+pub mod Sources
+pub mod Kept
+pub mod KeptLemmas
