@@ -7,23 +7,23 @@ ghost use Rattle.whole_system.specs.State.{booted_own, loaded_all};
 ghost use Rattle.xm_conf.specs.Limits.{most_parts};
 
 use crate::own_state::PartState;
-use guest_memory::Ram;
+use kept_rows::Kept;
 use loaded_system::System;
 use std::alloc::Global;
 use xm_base::Memory;
 
 /// The memories of a system's partitions, with their images loaded.
-pub(crate) fn load(alloc: Global, system: &System) -> Result<Ram, Memory>
+pub(crate) fn load(alloc: Global, system: &System) -> Result<Kept, Memory>
     ensures areas { IfOk result (λ ram. ram.areas ≡ map memory_areas system.now.conf.parts) }
     ensures maps { IfOk result (λ ram. ram.maps ≡ loaded_all system.now.conf.parts system.now.images) }
 {
-    let mut ram = Ram::new(alloc, system.conf())?;
+    let mut ram = Kept::new(alloc, system.conf())?;
     load_images(&mut ram, system);
     Ok(ram)
 }
 
 // Loads the image of each partition.
-fn load_images(ram: &mut Ram, system: &System)
+fn load_images(ram: &mut Kept, system: &System)
     requires areas { ram.old.areas ≡ map memory_areas system.now.conf.parts }
     ensures areas { ram.new.areas ≡ ram.old.areas }
     ensures maps { ram.new.maps ≡ loaded_all system.now.conf.parts system.now.images }

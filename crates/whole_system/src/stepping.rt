@@ -10,15 +10,16 @@ ghost use Rattle.machine_model.specs.ProcessorCalls.{flushed};
 ghost use Rattle.whole_system.specs.Stepping.{IsGone, IsMoved};
 
 use crate::gone::Gone;
-use guest_bus::{Bus, HasWords};
-use guest_memory::Ram;
+use guest_bus::Bus;
+use kept_rows::Kept;
 use sparc_step::{Core, Processor, Turn};
-use straight_runs::{Rows, run};
+use straight_runs::run;
 use virt_traps::{IretFault, StackFault, Virt, deliver, iret, settle_at_hand, spill};
+use word_rows::HasRows;
 use xm_base::PartId;
 
 // Selects a partition, unless it is selected already.
-fn select(ram: &mut Ram, p: PartId)
+fn select(ram: &mut Kept, p: PartId)
     requires { p < length ram.old.areas }
     ensures value { ram.new ≡ with_selected p ram.old }
 {
@@ -28,7 +29,7 @@ fn select(ram: &mut Ram, p: PartId)
 }
 
 /// One step of partition `p`, with the window that it needs.
-pub(crate) fn settle_part(core: &mut Processor, ram: &mut Ram, p: PartId) -> Turn
+pub(crate) fn settle_part(core: &mut Processor, ram: &mut Kept, p: PartId) -> Turn
     requires { p < length ram.old.areas }
     ensures turn { result ≡ (settled (areas_at p ram.old) core.old (map_at p ram.old)).turn }
     ensures core { core.new ≡ (settled (areas_at p ram.old) core.old (map_at p ram.old)).core }
@@ -47,7 +48,7 @@ pub(crate) fn settle_part(core: &mut Processor, ram: &mut Ram, p: PartId) -> Tur
 pub(crate) fn deliver_part(
     virt: &mut Virt,
     core: &mut Processor,
-    ram: &mut Ram,
+    ram: &mut Kept,
     p: PartId,
     tt: u8,
 ) -> Result<(), StackFault>
@@ -91,7 +92,7 @@ fn deliver_at_hand<B: Bus>(
 pub(crate) fn return_part(
     virt: &mut Virt,
     core: &mut Processor,
-    ram: &mut Ram,
+    ram: &mut Kept,
     p: PartId,
 ) -> Result<(), IretFault>
     requires { p < length ram.old.areas }
@@ -130,7 +131,7 @@ fn return_at_hand<B: Bus>(
 }
 
 /// Spills the windows of partition `p`, all but the current one.
-pub(crate) fn flush_part(core: &mut Processor, ram: &mut Ram, p: PartId) -> Result<(), StackFault>
+pub(crate) fn flush_part(core: &mut Processor, ram: &mut Kept, p: PartId) -> Result<(), StackFault>
     requires { p < length ram.old.areas }
     ensures answer { result ≡ (flushed 8 (areas_at p ram.old) (move_made core.old (map_at p ram.old))).answer }
     ensures core { core.new ≡ (flushed 8 (areas_at p ram.old) (move_made core.old (map_at p ram.old))).core }
@@ -172,13 +173,7 @@ fn flush<B: Bus>(core: &mut Core, bus: &mut B) -> Result<(), StackFault>
 }
 
 /// Steps of partition `p`, at most so many, up to the first that does more than go.
-pub(crate) fn step_part(
-    core: &mut Processor,
-    ram: &mut Ram,
-    table: &mut Rows,
-    p: PartId,
-    most: u64,
-) -> Gone
+pub(crate) fn step_part(core: &mut Processor, ram: &mut Kept, p: PartId, most: u64) -> Gone
     requires { p < length ram.old.areas }
     ensures went { (stepped result.went (areas_at p ram.old) core.old (map_at p ram.old)).turn ≡ Turn.Went }
     ensures gone { IsGone result.turn result.went most (areas_at p ram.old) (stepped result.went (areas_at p ram.old) core.old (map_at p ram.old)) core.new (map_at p ram.new) }
@@ -189,14 +184,14 @@ pub(crate) fn step_part(
     select(ram, p);
     // It is selected before and after the steps.
     let _before = ram.selected();
-    let gone = go(core, ram, table, most);
+    let gone = go(core, ram, most);
     let _behind = ram.selected();
     gone
 }
 
 // The same over any memory. It stands by itself, so that the compiler has all host registers for the loop.
 #[inline(never)]
-fn go<B: HasWords>(core: &mut Processor, bus: &mut B, table: &mut Rows, most: u64) -> Gone
+fn go<B: HasRows>(core: &mut Processor, bus: &mut B, most: u64) -> Gone
     ensures went { (stepped result.went (B.areas bus.old) core.old (B.memory bus.old)).turn ≡ Turn.Went }
     ensures gone { IsGone result.turn result.went most (B.areas bus.old) (stepped result.went (B.areas bus.old) core.old (B.memory bus.old)) core.new (B.memory bus.new) }
     ensures at { result.pc ≡ (stepped result.went (B.areas bus.old) core.old (B.memory bus.old)).core.pc }
@@ -204,12 +199,12 @@ fn go<B: HasWords>(core: &mut Processor, bus: &mut B, table: &mut Rows, most: u6
     ensures areas { B.areas bus.new ≡ B.areas bus.old }
     ensures others { B.others bus.new ≡ B.others bus.old }
 {
-    go_at_hand(core, bus, table, most)
+    go_at_hand(core, bus, most)
 }
 
 // The same with the cached registers. What a straight run leaves to others is a step of its own.
 #[inline(always)]
-fn go_at_hand<B: HasWords>(own: &mut Processor, bus: &mut B, table: &mut Rows, most: u64) -> Gone
+fn go_at_hand<B: HasRows>(own: &mut Processor, bus: &mut B, most: u64) -> Gone
     ensures went { (stepped result.went (B.areas bus.old) own.old (B.memory bus.old)).turn ≡ Turn.Went }
     ensures gone { IsGone result.turn result.went most (B.areas bus.old) (stepped result.went (B.areas bus.old) own.old (B.memory bus.old)) own.new (B.memory bus.new) }
     ensures at { result.pc ≡ (stepped result.went (B.areas bus.old) own.old (B.memory bus.old)).core.pc }
@@ -219,7 +214,7 @@ fn go_at_hand<B: HasWords>(own: &mut Processor, bus: &mut B, table: &mut Rows, m
 {
     let mut left = most;
     while left > 0 {
-        left -= run(own, bus, table, left);
+        left -= run(own, bus, left);
         let pc = own.pc();
         if left == 0 {
             return Gone {

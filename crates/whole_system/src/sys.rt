@@ -30,11 +30,11 @@ use crate::starting::{boot_parts, count, load};
 use crate::stepping::{deliver_part, flush_part, return_part, settle_part, step_part};
 use cyclic_plans::PlanClock;
 use guest_memory::{Outside, Ram};
+use kept_rows::Kept;
 use loaded_system::System;
 use sparc_step::Turn;
 use std::alloc::Global;
 use std::marker::Model;
-use straight_runs::Rows;
 use virt_traps::{IretFault, StackFault};
 use xef_images::Xef;
 use xm_base::{Memory, Mode, PartId};
@@ -47,9 +47,7 @@ pub struct Sys {
     system: System,
     inputs: Inputs,
     parts: Vec<PartState>,
-    ram: Ram,
-    // What the loop over many steps keeps of words that it has executed. It says nothing of the system.
-    table: Rows,
+    ram: Kept,
     channels: Channels,
     plan_clock: PlanClock,
     time: u64,
@@ -83,14 +81,12 @@ impl Sys {
     {
         let ram = load(alloc, &system)?;
         let parts = boot_parts(alloc, &system)?;
-        let table = Rows::new(alloc)?;
         let channels = Channels::new(alloc, system.conf())?;
         Ok(Sys {
             system,
             inputs,
             parts,
             ram,
-            table,
             channels,
             plan_clock: PlanClock::start(),
             time: 0,
@@ -146,7 +142,7 @@ impl Sys {
         ensures areas { result.now.areas ≡ map memory_areas self.now.machine.system.conf.parts }
         ensures maps { result.now.maps ≡ map (λ part. part.memory) self.now.machine.parts }
     {
-        &self.ram
+        self.ram.ram()
     }
 
     /// Whether a partition may read so many bytes from an address on.
@@ -328,13 +324,7 @@ impl Sys {
         ensures aligned { result.pc % 4 ≡ 0 }
         ensures others { self.new ≡ with_machine (with_part p (with_turned (part_at p self.new.machine).core (memory_of p self.new.machine) (part_at p self.old.machine)) self.old.machine) self.old }
     {
-        step_part(
-            &mut self.parts[usize::from(p)].core,
-            &mut self.ram,
-            &mut self.table,
-            p,
-            most,
-        )
+        step_part(&mut self.parts[usize::from(p)].core, &mut self.ram, p, most)
     }
 
     /// Delivers a trap of a type to a partition, or answers that a window could not be spilled, and then nothing has changed. What is

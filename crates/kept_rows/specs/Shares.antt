@@ -1,0 +1,106 @@
+-- The rows of each partition, and which words they are of.
+use Rattle.std.specs.Prelude.{◌≡◌, ℕ, ◌+◌, ◌-◌, ◌*◌, ◌/◌, ◌%◌, ◌^◌, ◌<◌, ◌≤◌, ◌⊎◌, List, [], ◌∷◌, Some, None, length, map, slice_get, slice_index_or, slice_set}
+use Rattle.guest_bus.specs.Access.{access_fault}
+use Rattle.guest_bus.specs.Memory.{Area, Others, is_readable}
+use Rattle.guest_bus.specs.Words.{word_address}
+use Rattle.guest_bus.specs.declared.bus.Size.{Size}
+use Rattle.guest_bus.specs.declared.bus.Size.TheVariants.{One, Two, Four, Eight}
+use Rattle.guest_bus.specs.declared.words.Words.{Words}
+use Rattle.guest_memory.specs.Memories.{AreMemories, Memories, areas_at, map_at}
+use Rattle.word_rows.specs.Kept.{AreKeptRows}
+use Rattle.word_rows.specs.Kinds.{empty}
+use Rattle.word_rows.specs.declared.rows.Row.{Row}
+
+-- the first address of areas
+abbrev pub first_of : List Area → ℕ
+first_of [] = 0
+first_of (area ∷ areas) = area.start
+
+-- how many words of each of so many partitions have rows
+unfoldable pub share_for : ℕ → ℕ
+share_for count = 393216 / count
+
+-- the share of the selected partition, and how many rows stand before it
+abbrev pub share_of : Others → ℕ
+share_of others = share_for (length others.areas + 1)
+
+abbrev pub base_of : Others → ℕ
+base_of others = others.number * share_of others
+
+-- so many words behind the first one stands the word of an address. The last word of all stands before the one at address 0
+unfoldable pub word_behind : ℕ → ℕ → ℕ
+word_behind first address = (address + (2 ^ 32 - first)) % 2 ^ 32 / 4
+
+-- the row, emptied
+abbrev pub emptied : Row → Row
+emptied row = record { number = row.number; kind = empty; rd = row.rd; rs1 = row.rs1; rs2 = row.rs2 }
+
+-- a row of zeros, which stands where there is none
+abbrev pub row_of_zeros : Row
+row_of_zeros = record { number = 0; kind = 0; rd = 0; rs1 = 0; rs2 = 0 }
+
+-- a row of a word that was not looked at
+abbrev pub empty_row : Row
+empty_row = record { number = 0; kind = empty; rd = 0; rs1 = 0; rs2 = 0 }
+
+-- all rows are such
+abbrev pub AreEmpty : List Row → Type 0
+AreEmpty rows = (number : ℕ) (row : Row) → slice_get rows number ≡ Some row → row ≡ empty_row
+
+-- the rows with one emptied
+unfoldable pub with_empty : ℕ → List Row → List Row
+with_empty number rows = slice_set rows number (emptied (slice_index_or rows number row_of_zeros))
+
+-- a row that stood at a number, emptied
+pub record WasEmptied (old : List Row) (number : ℕ) (row : Row) : Type 0 where
+  pub before : Row
+  pub there : slice_get old number ≡ Some before
+  pub is : row ≡ emptied before
+
+-- each row is an old one emptied, or the old one, and then it has none of these numbers
+pub record AreEmptied (begin end : ℕ) (old new : List Row) : Type 0 where
+  pub counted : length new ≡ length old
+  pub each : (number : ℕ) (row : Row) → slice_get new number ≡ Some row → ((slice_get old number ≡ Some row) × ((number < begin) ⊎ (end ≤ number))) ⊎ WasEmptied old number row
+
+-- a word is one of so many from a place on. The first of all stands behind the last
+abbrev pub IsReached : ℕ → ℕ → ℕ → Type 0
+IsReached place count k = ((place ≤ k) × (k < place + count)) ⊎ (k + 2 ^ 30 < place + count)
+
+-- so many words an access of a size writes
+abbrev pub words_of : Size → ℕ
+words_of One = 1
+words_of Two = 1
+words_of Four = 1
+words_of Eight = 2
+
+-- rows of which those are emptied that so many words from a place on have in a share
+pub record AreReached (base share place count : ℕ) (old new : List Row) : Type 0 where
+  pub begin : ℕ
+  pub end : ℕ
+  pub done : AreEmptied (base + begin) (base + end) old new
+  pub each : (k : ℕ) → k < share → IsReached place count k → (begin ≤ k) × (k < end)
+
+-- the words have rows of a share, whose numbers are their places, and each of them is one of other words
+pub record AreNumbered (whole : Words) (first base share : ℕ) (words : Words) : Type 0 where
+  pub from : base ≤ words.begin
+  pub under : words.end ≤ base + share
+  pub address : (number : ℕ) → words.begin ≤ number → number < words.end → word_address words.origin number ≡ first + 4 * (number - base)
+  pub start : (number : ℕ) → words.begin ≤ number → number < words.end → word_address whole.origin whole.begin ≤ first + 4 * (number - base)
+  pub end : (number : ℕ) → words.begin ≤ number → number < words.end → first + 4 * (number - base) + 4 ≤ word_address whole.origin whole.begin + 4 * (whole.end - whole.begin)
+
+-- words of the selected partition, each of which may be fetched, with rows of its share
+pub record LieNumbered (areas : List Area) (others : Others) (words : Words) : Type 0 where
+  pub from : base_of others ≤ words.begin
+  pub under : words.end ≤ base_of others + share_of others
+  pub address : (number : ℕ) → words.begin ≤ number → number < words.end → word_address words.origin number ≡ first_of areas + 4 * (number - base_of others)
+  pub fetched : (number : ℕ) → words.begin ≤ number → number < words.end → access_fault (is_readable areas) (word_address words.origin number) 4 ≡ None
+
+-- each row is empty or that of its word, and the share of the selected partition is at hand
+pub record AreKept (memories : Memories) (rows : List Row) (firsts : List ℕ) (share base first : ℕ) : Type 0 where
+  pub are : AreMemories memories
+  pub shared : share ≡ share_for (length memories.areas)
+  pub whole : length rows ≡ 393216
+  pub known : firsts ≡ map first_of memories.areas
+  pub place : base ≡ memories.selected * share
+  pub start : first ≡ first_of (areas_at memories.selected memories)
+  pub each : (p : ℕ) → p < length memories.areas → AreKeptRows rows (p * share) share (map_at p memories) (first_of (areas_at p memories))

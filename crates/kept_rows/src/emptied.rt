@@ -1,0 +1,99 @@
+//! Rows that are emptied.
+
+ghost use Rattle.std.specs.Prelude.{◌≡◌, ◌+◌, ◌*◌, ◌^◌, ◌≤◌, ◌<◌, ℕ, length};
+ghost use Rattle.kept_rows.specs.Shares.{AreEmptied, AreReached, IsReached, with_empty, words_of};
+
+use guest_bus::Size;
+use word_rows::{Row, kinds};
+
+// So many words there are.
+const WORDS: usize = 0x4000_0000;
+
+// Empties the row of a number.
+#[inline(always)]
+#[tactic(auto, unfolding(crate::specs::Shares::with_empty))]
+fn empty_row(rows: &mut [Row], number: usize)
+    requires { number < length rows.old }
+    ensures { rows.new ≡ with_empty number rows.old }
+{
+    rows[number].kind = kinds::EMPTY;
+}
+
+// Empties so many rows from a number on.
+#[inline(always)]
+fn empty_rows(rows: &mut [Row], begin: usize, count: usize)
+    requires { begin + count ≤ length rows.old }
+    ensures { AreEmptied begin (begin + count) rows.old rows.new }
+{
+    let mut done = 0;
+    while done < count {
+        empty_row(rows, begin + done);
+        done += 1;
+    }
+}
+
+/// Empties those rows of a share that so many words from a place on have.
+#[inline(always)]
+pub(crate) fn empty_words(rows: &mut [Row], base: usize, share: usize, place: usize, count: usize)
+    requires share { base + share ≤ length rows.old }
+    requires few { length rows.old ≡ 393216 }
+    requires place { place < 2 ^ 30 }
+    requires count { count < 2 ^ 63 }
+    ensures { AreReached base share place count rows.old rows.new }
+{
+    if place + count <= share {
+        empty_rows(rows, base + place, count);
+    } else if place < share {
+        empty_part(rows, base, share, place, count);
+    } else if place + count > WORDS {
+        empty_part(rows, base, share, place, count);
+    }
+}
+
+// The same where not all of the words have rows of the share.
+#[cold]
+#[inline(never)]
+fn empty_part(rows: &mut [Row], base: usize, share: usize, place: usize, count: usize)
+    requires share { base + share ≤ length rows.old }
+    requires few { length rows.old ≡ 393216 }
+    requires place { place < 2 ^ 30 }
+    requires count { count < 2 ^ 63 }
+    ensures { AreReached base share place count rows.old rows.new }
+{
+    let (begin, end) = reached(share, place, count);
+    empty_rows(rows, base + begin, end - begin);
+}
+
+// Where the words of a share begin and end that are among so many from a place on.
+fn reached(share: usize, place: usize, count: usize) -> (usize, usize)
+    requires place { place < 2 ^ 30 }
+    requires count { count < 2 ^ 63 }
+    requires share { share ≤ 393216 }
+    ensures order { result.0 ≤ result.1 }
+    ensures inside { result.1 ≤ share }
+    ensures each { (k : ℕ) → k < share → IsReached place count k → (result.0 ≤ k) × (k < result.1) }
+{
+    if place + count <= WORDS {
+        (place.min(share), (place + count).min(share))
+    } else if place < share {
+        (0, share)
+    } else {
+        (0, (place + count - WORDS).min(share))
+    }
+}
+
+/// Empties the rows of the words that an access of a size at a place writes.
+#[inline(always)]
+pub(crate) fn empty_stored(rows: &mut [Row], base: usize, share: usize, place: usize, size: Size)
+    requires share { base + share ≤ length rows.old }
+    requires few { length rows.old ≡ 393216 }
+    requires place { place < 2 ^ 30 }
+    ensures { AreReached base share place (words_of size) rows.old rows.new }
+{
+    match size {
+        Size::One => empty_words(rows, base, share, place, 1),
+        Size::Two => empty_words(rows, base, share, place, 1),
+        Size::Four => empty_words(rows, base, share, place, 1),
+        Size::Eight => empty_words(rows, base, share, place, 2),
+    }
+}

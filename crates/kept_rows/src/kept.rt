@@ -1,0 +1,320 @@
+//! The memories of all partitions, with rows of their words.
+
+ghost use Rattle.std.specs.Prelude.{◌≡◌, ◌*◌, ◌+◌, ◌<◌, ◌≤◌, IfOk, Ok, OnErr, OnOk, length, map, slice_set};
+ghost use Rattle.guest_bus.specs.Access.{fetched};
+ghost use Rattle.guest_bus.specs.Memory.{all_from, bytes_at, is_readable, is_writable, with_bytes};
+ghost use Rattle.guest_memory.specs.Loading.{LiesInAreas, area_of, areas_with_image, memory_areas, zeros_in};
+ghost use Rattle.guest_memory.specs.Memories.{AreMemories, SameElsewhere, answer_by, areas_at, first_refused, map_at, others_of, with_map, with_selected};
+ghost use Rattle.kept_rows.specs.Shares.{AreEmpty, LieNumbered, first_of};
+
+use crate::emptied::{empty_stored, empty_words};
+use crate::share::{ROWS, behind, numbered_in, share_for};
+use guest_bus::{Bus, BusFault, HasWords, Size, Words};
+use guest_memory::{Outside, Ram};
+use std::alloc::{AllocError, Global};
+use std::marker::Model;
+use word_rows::{HasRows, Row, row_for};
+use xef_images::Xef;
+use xm_base::{Memory, PartId};
+use xm_conf::{Area, Conf, Part};
+
+/// The memories of all partitions, with rows of the words from each partition's first address on. A row is empty, or that of
+/// its word: who writes a word empties its row. What rows there are is no part of what memories mean.
+#[derive(Debug, Drop)]
+pub struct Kept {
+    ram: Ram,
+    // Those of a partition stand one after the other, and after those of the partitions before it.
+    rows: Vec<Row>,
+    // The first address of each partition.
+    firsts: Vec<u32>,
+    // So many words of each partition have rows.
+    share: usize,
+    // How many rows stand before those of the selected partition.
+    base: usize,
+    // Its first address.
+    first: u32,
+}
+
+impl Model for Kept {
+    ghost use Rattle.std.specs.Coded.{codes};
+    ghost use Rattle.guest_bus.specs.Memory.{memory_code};
+    ghost use Rattle.guest_memory.specs.Memories.{Memories};
+    ghost use Rattle.kept_rows.specs.Shares.{AreKept};
+
+    ghost Value = { Memories };
+
+    ghost coded = { Prim.hlevel (codes, memory_code) };
+
+    ghost view = { λ kept. kept.ram };
+
+    ghost invariant = { λ kept. AreKept kept.ram kept.rows.items kept.firsts.items kept.share kept.base kept.first };
+}
+
+impl Kept {
+    /// The memories of a configuration's partitions, all of zeros, with partition 0 selected. All memory is taken
+    /// here: no other call needs any.
+    pub fn new(alloc: Global, conf: &Conf) -> Result<Kept, Memory>
+        ensures value { IfOk result (λ kept. kept ≡ record { areas = map memory_areas conf.now.parts; maps = map zeros_in (map memory_areas conf.now.parts); selected = 0 }) }
+    {
+        let ram = Ram::new(alloc, conf)?;
+        let _zeros = ram.selected();
+        let firsts = firsts_of(alloc, parts_of(conf))?;
+        let rows = empty_rows(alloc, ROWS)?;
+        let share = share_for(firsts.len());
+        let first = firsts[0];
+        Ok(Kept {
+            ram,
+            rows,
+            firsts,
+            share,
+            base: 0,
+            first,
+        })
+    }
+
+    /// The memories without the rows.
+    pub fn ram(&self) -> &Ram
+        ensures { result.now ≡ self.now }
+    {
+        &self.ram
+    }
+
+    /// Selects the partition whose memory a processor sees.
+    pub fn select(&mut self, p: PartId)
+        requires { p < length self.old.areas }
+        ensures value { self.new ≡ with_selected p self.old }
+    {
+        self.ram.select(p);
+        let _now = self.ram.selected();
+        self.base = base_at(p, self.share);
+        self.first = self.firsts[usize::from(p)];
+    }
+
+    /// The partition whose memory a processor sees.
+    pub fn selected(&self) -> PartId
+        ensures value { result ≡ self.now.selected }
+        ensures memories { AreMemories self.now }
+    {
+        self.ram.selected()
+    }
+
+    /// Copies bytes of a partition's memory from an address on, where all of them may be read.
+    pub fn copy_in(&self, p: PartId, address: u32, into: &mut [u8]) -> Result<(), Outside>
+        requires { p < length self.now.areas }
+        ensures answer { result ≡ answer_by (first_refused (is_readable (areas_at p self.now)) address (length into.old)) }
+        ensures read { OnOk result (into.new ≡ bytes_at (map_at p self.now) address (length into.old)) }
+        ensures unchanged { OnErr result (into.new ≡ into.old) }
+    {
+        self.ram.copy_in(p, address, into)
+    }
+
+    /// Writes bytes to a partition's memory from an address on, where all of them may be written.
+    pub fn copy_out(&mut self, p: PartId, address: u32, from: &[u8]) -> Result<(), Outside>
+        requires { p < length self.old.areas }
+        ensures answer { result ≡ answer_by (first_refused (is_writable (areas_at p self.old)) address (length from.now)) }
+        ensures written { OnOk result (self.new ≡ with_map p (with_bytes (map_at p self.old) address from.now) self.old) }
+        ensures unchanged { OnErr result (self.new ≡ self.old) }
+        ensures others { SameElsewhere p self.old self.new }
+    {
+        let place = behind(self.firsts[usize::from(p)], address);
+        let base = base_at(p, self.share);
+        // The bytes begin and end within words.
+        let count = from.len() / 4 + 2;
+        empty_words(&mut self.rows, base, self.share, place, count);
+        let copied = self.ram.copy_out(p, address, from);
+        let _now = self.ram.selected();
+        copied
+    }
+
+    /// Whether so many bytes of a partition's memory from an address on may be read.
+    pub fn may_read(&self, p: PartId, address: u32, size: u32) -> bool
+        requires { p < length self.now.areas }
+        ensures value { result ≡ all_from (is_readable (areas_at p self.now)) address size }
+    {
+        self.ram.may_read(p, address, size)
+    }
+
+    /// Whether so many bytes of a partition's memory from an address on may be written.
+    pub fn may_write(&self, p: PartId, address: u32, size: u32) -> bool
+        requires { p < length self.now.areas }
+        ensures value { result ≡ all_from (is_writable (areas_at p self.now)) address size }
+    {
+        self.ram.may_write(p, address, size)
+    }
+
+    /// Loads an image into a partition's memory, and makes all other bytes of it zero.
+    pub fn reload(&mut self, p: PartId, image: &Xef)
+        requires partition { p < length self.old.areas }
+        requires inside { LiesInAreas (areas_at p self.old) image.now }
+        ensures value { self.new ≡ with_map p (areas_with_image (areas_at p self.old) image.now) self.old }
+        ensures others { SameElsewhere p self.old self.new }
+    {
+        let base = base_at(p, self.share);
+        empty_words(&mut self.rows, base, self.share, 0, self.share);
+        self.ram.reload(p, image);
+        let _now = self.ram.selected();
+    }
+
+    // The row of the word that stands at an address is kept, where there is one.
+    fn keep(&mut self, address: u32, word: u32)
+        requires { fetched (areas_at self.old.selected self.old) (map_at self.old.selected self.old) address ≡ Ok word }
+        ensures { self.new ≡ self.old }
+    {
+        if address >= self.first {
+            let behind = address - self.first;
+            let place = (behind >> 2) as usize;
+            if behind % 4 == 0 && place < self.share {
+                put_row(&mut self.rows, self.base + place, row_for(word));
+            }
+        }
+    }
+}
+
+impl Bus for Kept {
+    ghost areas = { λ kept. areas_at kept.selected kept };
+
+    ghost memory = { λ kept. map_at kept.selected kept };
+
+    ghost others = { λ kept. others_of kept };
+
+    #[inline(always)]
+    fn fetch(&mut self, address: u32) -> Result<u32, BusFault> {
+        let word = self.ram.fetch(address);
+        let _now = self.ram.selected();
+        word
+    }
+
+    #[inline(always)]
+    fn load(&mut self, address: u32, size: Size) -> Result<u64, BusFault> {
+        let value = self.ram.load(address, size);
+        let _now = self.ram.selected();
+        value
+    }
+
+    #[inline(always)]
+    fn store(&mut self, address: u32, size: Size, value: u64) -> Result<(), BusFault> {
+        let place = behind(self.first, address);
+        empty_stored(&mut self.rows, self.base, self.share, place, size);
+        let stored = self.ram.store(address, size, value);
+        let _now = self.ram.selected();
+        stored
+    }
+}
+
+impl HasWords for Kept {
+    ghost use Rattle.guest_memory.specs.Words.{LieIn};
+
+    ghost lie = { LieIn };
+
+    #[inline(always)]
+    fn words(&self, address: u32) -> Option<Words> {
+        self.ram.words(address)
+    }
+
+    #[inline(always)]
+    fn word(&self, words: Words, place: usize) -> u32 {
+        self.ram.word(words, place)
+    }
+
+    #[inline(always)]
+    fn put_words(&mut self, address: u32, words: &[u32; 16]) -> bool {
+        let place = behind(self.first, address);
+        empty_words(&mut self.rows, self.base, self.share, place, 16);
+        let done = self.ram.put_words(address, words);
+        let _now = self.ram.selected();
+        done
+    }
+
+    #[inline(always)]
+    fn get_words(&self, address: u32) -> Option<[u32; 16]> {
+        self.ram.get_words(address)
+    }
+}
+
+impl HasRows for Kept {
+    ghost numbered = { LieNumbered };
+
+    #[inline(always)]
+    fn numbered(&self, address: u32) -> Option<Words> {
+        match self.ram.words(address) {
+            Some(words) => numbered_in(words, self.first, self.base, self.share),
+            None => None,
+        }
+    }
+
+    #[inline(always)]
+    fn row(&self, words: Words, place: usize) -> &Row {
+        &self.rows[place]
+    }
+
+    #[cold]
+    #[inline(never)]
+    fn make(&mut self, address: u32) {
+        let found = self.ram.fetch(address);
+        let _now = self.ram.selected();
+        if let Ok(word) = found {
+            self.keep(address, word);
+        }
+    }
+}
+
+// How many rows stand before those of a partition.
+fn base_at(p: PartId, share: usize) -> usize
+    requires { p * share ≤ 393216 }
+    ensures { result ≡ p * share }
+{
+    usize::from(p) * share
+}
+
+// A row more, in the place of another.
+fn put_row(rows: &mut [Row], number: usize, row: Row)
+    requires { number < length rows.old }
+    ensures { rows.new ≡ slice_set rows.old number row }
+{
+    rows[number] = row;
+}
+
+// So many rows, all of them empty.
+fn empty_rows(alloc: Global, count: usize) -> Result<Vec<Row>, AllocError>
+    ensures counted { IfOk result (λ rows. length rows.items ≡ count) }
+    ensures empty { IfOk result (λ rows. AreEmpty rows.items) }
+{
+    let rows = vec![in alloc; Row::EMPTY; count]?;
+    Ok(rows)
+}
+
+// The partitions of a configuration.
+fn parts_of(conf: &Conf) -> &[Part]
+    ensures { result.now ≡ conf.now.parts }
+{
+    &conf.raw().parts
+}
+
+// The first addresses of partitions.
+fn firsts_of(alloc: Global, parts: &[Part]) -> Result<Vec<u32>, AllocError>
+    ensures { IfOk result (λ firsts. firsts.items ≡ map first_of (map memory_areas parts.now)) }
+{
+    let mut firsts = Vec::with_capacity(alloc, parts.len())?;
+    for part in parts {
+        firsts.push_reserved(first_in(part));
+    }
+    Ok(firsts)
+}
+
+// The first address of a partition.
+#[tactic(auto, unfolding(guest_memory::specs::Loading::memory_areas))]
+fn first_in(part: &Part) -> u32
+    ensures { result ≡ first_of (memory_areas part.now) }
+{
+    first_of(&part.areas)
+}
+
+// The first address of areas.
+fn first_of(areas: &[Area]) -> u32
+    ensures { result ≡ first_of (map area_of areas.now) }
+{
+    match areas.first() {
+        Some(area) => area.start,
+        None => 0,
+    }
+}
