@@ -14,7 +14,7 @@ use Rattle.straight_runs.specs.StepLemmas.{transfers_go}
 use Rattle.straight_runs.specs.Steps.{IsMemoryStep, IsRowStep, IsWordStep, Uses}
 use Rattle.straight_runs.proofs.TurningLemmas.{address_at, taken_turns}
 use Rattle.straight_runs.specs.declared.simple.Step.{Step}
-use Rattle.straight_runs.specs.declared.simple.Step.TheVariants.{Next, Taken, Stays}
+use Rattle.straight_runs.specs.declared.simple.Step.TheVariants.{Next, Taken, Shifts, Stays}
 use Rattle.word_rows.specs.Kept.{IsRowAt, word_there}
 use Rattle.word_rows.specs.Kinds.{empty}
 use Rattle.word_rows.specs.Rows.{HasSource, as_done}
@@ -24,6 +24,7 @@ use Rattle.word_rows.specs.declared.rows.Row.{Row}
 pub used_any : (step : Step) (row : Row) → row.kind ≢ empty → Uses step row
 used_any Next row some = some
 used_any (Taken displacement) row some = tt
+used_any Shifts row some = tt
 used_any Stays row some = tt
 
 -- a kind below that of an empty one
@@ -46,6 +47,7 @@ word_step (Taken displacement) row origin at areas old new memory after is used 
       came.2,
       came.3,
     )
+word_step Shifts row origin at areas old new memory after is used came = came
 word_step Stays row origin at areas old new memory after is used came = came
 
 -- a load or a store, by its row
@@ -53,6 +55,7 @@ pub memory_step : (step : Step) (row : Row) (address : ℕ) (areas : List Area) 
     → ((source : Src) → HasSource source row → address ≡ sum_of row.rs1 source old) → IsMemoryStep step row.kind row.rd address areas old new memory after → IsRowStep step row areas old new memory after
 memory_step Next row address areas old new memory after from below address_is moved = λ i is. transfers_go row address areas old new memory after from below address_is moved i is
 memory_step (Taken displacement) row address areas old new memory after from below address_is moved = absurd moved
+memory_step Shifts row address areas old new memory after from below address_is moved = absurd moved
 memory_step Stays row address areas old new memory after from below address_is moved = moved
 
 -- a row that is read again, where nothing changed

@@ -18,16 +18,16 @@ returns-in-Taken-clause-came g c =
 
 pub returns-in-Behind-clause-came : goal.returns-in-Behind-clause-came
 returns-in-Behind-clause-came g c =
-    let here = row_here c.row-row.result.now (g.B.Bus.areas c.execute.new.bus) (g.B.Bus.areas c.args.bus.now) (g.B.Bus.memory c.execute.new.bus) (g.B.Bus.memory c.args.bus.now) (word_address c.args.words.origin c.args.at) c.execute.ensures.areas c.in-Stays.ensures.step.1 c.row-row.ensures in
-    came_turned c.behind-in-Behind.result (word_there (g.B.Bus.memory c.args.bus.now) (word_address c.args.words.origin c.args.at)) c.args.words.origin c.args.at c.in-Behind.displacement c.row-row.result.now (g.B.Bus.areas c.execute.new.bus) (g.B.Bus.areas c.args.bus.now) c.args.own.now c.execute.new.own c.turn.new.own c.behind-in-Behind.new.own
+    let here = row_here c.row-row-in-Stays.result.now (g.B.Bus.areas c.execute.new.bus) (g.B.Bus.areas c.args.bus.now) (g.B.Bus.memory c.execute.new.bus) (g.B.Bus.memory c.args.bus.now) (word_address c.args.words.origin c.args.at) c.execute.ensures.areas c.in-Stays.ensures.step.1 c.row-row-in-Stays.ensures in
+    came_turned c.behind-in-Behind.result (word_there (g.B.Bus.memory c.args.bus.now) (word_address c.args.words.origin c.args.at)) c.args.words.origin c.args.at c.in-Behind.displacement c.row-row-in-Stays.result.now (g.B.Bus.areas c.execute.new.bus) (g.B.Bus.areas c.args.bus.now) c.args.own.now c.execute.new.own c.turn.new.own c.behind-in-Behind.new.own
     (g.B.Bus.memory c.args.bus.now) (g.B.Bus.memory c.execute.new.bus) (g.B.Bus.memory c.behind-in-Behind.new.bus)
-    here.stands (row_used c.row-row.result.now (g.B.Bus.areas c.args.bus.now) (g.B.Bus.memory c.args.bus.now) (word_address c.args.words.origin c.args.at) c.in-Behind.ensures.by here) c.in-Stays.ensures.step.0 c.in-Stays.ensures.step.1 c.execute.ensures.areas c.in-Behind.ensures.goal c.behind-in-Behind.ensures.came
+    here.stands (row_used c.row-row-in-Stays.result.now (g.B.Bus.areas c.args.bus.now) (g.B.Bus.memory c.args.bus.now) (word_address c.args.words.origin c.args.at) c.in-Behind.ensures.by here) c.in-Stays.ensures.step.0 c.in-Stays.ensures.step.1 c.execute.ensures.areas c.in-Behind.ensures.goal c.behind-in-Behind.ensures.came
 
 pub returns-in-Now-clause-came : goal.returns-in-Now-clause-came
 returns-in-Now-clause-came g c =
-    let here = row_here c.row-row.result.now (g.B.Bus.areas c.execute.new.bus) (g.B.Bus.areas c.args.bus.now) (g.B.Bus.memory c.execute.new.bus) (g.B.Bus.memory c.args.bus.now) (word_address c.args.words.origin c.args.at) c.execute.ensures.areas c.in-Stays.ensures.step.1 c.row-row.ensures in
-    came_jump (word_there (g.B.Bus.memory c.args.bus.now) (word_address c.args.words.origin c.args.at)) c.args.words.origin c.args.at c.in-Now.displacement c.row-row.result.now (g.B.Bus.areas c.args.bus.now) c.args.own.now c.execute.new.own c.turn.new.own (g.B.Bus.memory c.args.bus.now) (g.B.Bus.memory c.execute.new.bus)
-    here.stands (row_used c.row-row.result.now (g.B.Bus.areas c.args.bus.now) (g.B.Bus.memory c.args.bus.now) (word_address c.args.words.origin c.args.at) c.in-Now.ensures.by here) c.in-Stays.ensures.step.0 c.in-Stays.ensures.step.1 c.in-Now.ensures.goal
+    let here = row_here c.row-row-in-Stays.result.now (g.B.Bus.areas c.execute.new.bus) (g.B.Bus.areas c.args.bus.now) (g.B.Bus.memory c.execute.new.bus) (g.B.Bus.memory c.args.bus.now) (word_address c.args.words.origin c.args.at) c.execute.ensures.areas c.in-Stays.ensures.step.1 c.row-row-in-Stays.ensures in
+    came_jump (word_there (g.B.Bus.memory c.args.bus.now) (word_address c.args.words.origin c.args.at)) c.args.words.origin c.args.at c.in-Now.displacement c.row-row-in-Stays.result.now (g.B.Bus.areas c.args.bus.now) c.args.own.now c.execute.new.own c.turn.new.own (g.B.Bus.memory c.args.bus.now) (g.B.Bus.memory c.execute.new.bus)
+    here.stands (row_used c.row-row-in-Stays.result.now (g.B.Bus.areas c.args.bus.now) (g.B.Bus.memory c.args.bus.now) (word_address c.args.words.origin c.args.at) c.in-Now.ensures.by here) c.in-Stays.ensures.step.0 c.in-Stays.ensures.step.1 c.in-Now.ensures.goal
 
 pub returns-then-shift-clause-came : goal.returns-then-shift-clause-came
 returns-then-shift-clause-came g c =
