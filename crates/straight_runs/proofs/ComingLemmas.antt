@@ -7,7 +7,7 @@ use Rattle.sparc_code.specs.Decoded.{decoded}
 use Rattle.sparc_step.specs.Execution.{done, executed}
 use Rattle.sparc_step.specs.Registers.{Registers, placed}
 use Rattle.straight_runs.specs.Coming.{IsCame}
-use Rattle.straight_runs.specs.Runs.{AreSteps, no_steps, one_more, one_settled, word_more}
+use Rattle.straight_runs.specs.Runs.{AreSteps, IsCall, no_steps, one_more, one_settled, settled-call, word_more}
 use Rattle.straight_runs.specs.Shifts.{IsShift}
 use Rattle.word_rows.specs.Rows.{as_done}
 use Rattle.straight_runs.specs.DroppedLemmas.{same_executed}
@@ -15,10 +15,10 @@ use Rattle.straight_runs.specs.Steps.{Goes}
 use Rattle.word_rows.specs.Kept.{IsRowFor}
 use Rattle.straight_runs.specs.TurnLemmas.{turned-word}
 use Rattle.straight_runs.specs.Places.{at_place, at_slot}
-use Rattle.straight_runs.specs.Turning.{Turns}
+use Rattle.straight_runs.specs.Turning.{Turns, calling}
 use Rattle.straight_runs.proofs.TurningLemmas.{next_address}
 use Rattle.straight_runs.specs.declared.one.Came.{Came}
-use Rattle.straight_runs.specs.declared.one.Came.TheVariants.{Next, Jump, Turn, Slot}
+use Rattle.straight_runs.specs.declared.one.Came.TheVariants.{Next, Jump, Turn, Slot, Calls}
 use Rattle.word_rows.specs.declared.rows.Row.{Row}
 use Rattle.straight_runs.specs.declared.turning.Goal.TheVariants as goal
 
@@ -102,6 +102,19 @@ came_jump word origin at displacement row areas old mid new memory there stands 
     (gone word origin at areas old (at_place origin (at + displacement) new) memory stands
     (ap (λ (r : Registers). executed (decoded word) areas (at_place origin at r) memory) (sym same)
     ∙ sym (same_executed (decoded word) areas (at_place origin at mid) memory) ∙ turns (as_done (decoded word)) areas memory is.spelled))
+
+-- it calls the hypervisor
+pub came_call : (word origin at : ℕ) (row : Row) (areas : List Area) (old mid new : Registers) (memory there : Memory)
+    → fetched areas memory (word_address origin at) ≡ Ok word → IsRowFor word row → mid ≡ old → there ≡ memory → Turns (goal.Calls) row origin at mid new
+    → IsCame Calls origin at areas old new memory there
+came_call word origin at row areas old mid new memory there stands is same bytes turns = (
+  turns.0 ∙ same,
+  bytes,
+  subst (λ (m : Memory). IsCall areas (at_place origin at new) m) (sym bytes)
+      (settled-call areas (at_place origin at new) memory
+      (turned-word word (word_address origin at) (word_address origin (at + 1)) areas new memory (calling (at_place origin at new) memory) stands
+      (sym (same_executed (decoded word) areas (at_place origin at new) memory) ∙ turns.1 (as_done (decoded word)) areas memory is.spelled))),
+)
 
 -- what came after a turn
 pub came_turned : (came : Came) (word origin at displacement : ℕ) (row : Row) (here areas : List Area) (old mid turned new : Registers) (memory there after : Memory)

@@ -5,10 +5,10 @@ use Rattle.guest_bus.specs.Words.{word_address}
 use Rattle.sparc_step.specs.Registers.{Registers, placed}
 use Rattle.straight_runs.specs.Coming.{IsCame}
 use Rattle.straight_runs.specs.Codes.{IsStart, RunStopsAt}
-use Rattle.straight_runs.specs.Runs.{AreSteps, no_steps, steps_then}
+use Rattle.straight_runs.specs.Runs.{AreSteps, IsCall, no_steps, steps_then}
 use Rattle.straight_runs.specs.Places.{at_place}
 use Rattle.straight_runs.proofs.TurningLemmas.{next_address}
-use Rattle.straight_runs.specs.declared.one.Came.TheVariants.{Next, Jump, Turn}
+use Rattle.straight_runs.specs.declared.one.Came.TheVariants.{Next, Jump, Turn, Calls}
 use Rattle.guest_bus.specs.declared.words.Words.{Words}
 use Rattle.straight_runs.specs.declared.places.Start.{Start}
 
@@ -123,6 +123,19 @@ pub turned_on : (words : Words) (areas : List Area) (from most at limit last dis
     → IsRunning words areas from most ((at + distance) % 2 ^ 64) (((limit + distance) % 2 ^ 64 + (2 ^ 64 - 2)) % 2 ^ 64) next core memory new after
 turned_on words areas from most at limit last displacement distance next core memory here new there after is under reach came stops =
     moved_on 2 words areas from most at limit last displacement distance next core memory here new there after (omega arith) (omega arith) (omega (arith, under, is.stops.short under)) is reach came stops
+
+-- a call that was met stands where the run ended
+pub call_met : (origin at : ℕ) (here areas : List Area) (core mid ended : Registers) (memory after : Memory) → here ≡ areas → IsCame Calls origin at here core mid memory after → ended ≡ at_place origin at mid → IsCall areas ended after
+call_met origin at here areas core mid ended memory after same came ended_is =
+    subst (λ (r : Registers). IsCall areas r after) (sym ended_is) (subst (λ (a : List Area). IsCall a (at_place origin at mid) after) same came.2)
+
+-- and steps are left for it
+pub some_left : (words : Words) (areas : List Area) (from most at limit last : ℕ) (core : Registers) (memory : Memory) (here : Registers) (there : Memory)
+    → IsRunning words areas from most at limit last core memory here there → at < last → most - (limit - at) < most
+some_left words areas from most at limit last core memory here there is under =
+    let some : at < limit = omega (arith, under, is.stops.short under) in
+    let few : limit - at ≤ most = subst (λ (n : ℕ). n ≤ most) (left_before at limit some is.end) is.few in
+    omega (arith, some, few)
 
 -- registers whose program counters are at a place
 placed_own : (core : Registers) → placed core.pc core.npc core ≡ core

@@ -7,17 +7,22 @@ use Rattle.guest_bus.specs.Words.{word_address}
 use Rattle.sparc_code.specs.declared.instruction.Instr.{Instr}
 use Rattle.sparc_code.specs.declared.instruction.Instr.TheVariants as instr
 use Rattle.sparc_code.specs.declared.instruction.Src.{Src}
-use Rattle.sparc_step.specs.Conditions.{holds}
-use Rattle.sparc_step.specs.Execution.{done, executed}
-use Rattle.sparc_step.specs.Flow.{branch_row, passed, taken, branch_target}
+use Rattle.sparc_step.specs.Conditions.{holds, holds_below_eight}
+use Rattle.sparc_step.specs.Execution.{done, executed, keeping_memory}
+use Rattle.sparc_step.specs.Flow.{branch_row, branch_target, left_by, passed, taken, trap_turn, trap_type, turn_of_type}
 use Rattle.sparc_step.specs.Operands.{sum_of}
 use Rattle.sparc_step.specs.Registers.{Registers, branched, placed, sent, skipped, with_register}
 use Rattle.sparc_step.specs.Words.{residue}
+use Rattle.sparc_step.specs.declared.outcome.Turn.{Turn}
+use Rattle.sparc_step.specs.declared.outcome.Turn.TheVariants.{Call, Went}
+use Rattle.word_rows.specs.Kinds.{kind_of_trap, other}
+use Rattle.straight_runs.specs.PlacedLemmas.{sum_of-placed}
 use Rattle.straight_runs.specs.RareLemmas.{arith_rare}
 use Rattle.word_rows.specs.Rows.{HasSource, IsRowOf}
-use Rattle.straight_runs.specs.StepLemmas.{arith_not_two, branch_apart, transfer_apart, transfer_kinds}
+use Rattle.straight_runs.specs.StepLemmas.{arith_not_two, branch_apart, transfer_apart, transfer_kinds, trap_apart}
 use Rattle.straight_runs.specs.TurnLemmas.{branch_taken, call_taken, jump_taken}
 use Rattle.straight_runs.specs.Places.{at_place, at_slot}
+use Rattle.straight_runs.specs.Turning.{calling}
 use Rattle.word_rows.specs.declared.rows.Row.{Row}
 
 -- the address of the next word
@@ -136,7 +141,7 @@ taken_turns row origin at to old is told reach (instr.ReadY rd) areas memory (ki
 taken_turns row origin at to old is told reach instr.Barrier areas memory kind = absurd (omega (arith, is, kind))
 taken_turns row origin at to old is told reach (instr.WriteY rs1 source) areas memory does = absurd (omega (arith, is, does.work))
 taken_turns row origin at to old is told reach (instr.Jump rd rs1 source) areas memory does = absurd (omega (arith, is, does.work))
-taken_turns row origin at to old is told reach (instr.Trap condition rs1 source) areas memory kind = absurd (omega (arith, is, kind))
+taken_turns row origin at to old is told reach (instr.Trap condition rs1 source) areas memory does = absurd (trap_apart condition row.kind does.work (omega (arith, is)))
 taken_turns row origin at to old is told reach instr.Flush areas memory kind = absurd (omega (arith, is, kind))
 taken_turns row origin at to old is told reach (instr.Save rd rs1 source) areas memory does = absurd (omega (arith, is, does.work))
 taken_turns row origin at to old is told reach (instr.Restore rd rs1 source) areas memory does = absurd (omega (arith, is, does.work))
@@ -157,7 +162,7 @@ of_annulling P row is annulling (instr.ReadY rd) (kind, result) = absurd (omega 
 of_annulling P row is annulling instr.Barrier kind = absurd (omega (arith, is, kind))
 of_annulling P row is annulling (instr.WriteY rs1 source) does = absurd (omega (arith, is, does.work))
 of_annulling P row is annulling (instr.Jump rd rs1 source) does = absurd (omega (arith, is, does.work))
-of_annulling P row is annulling (instr.Trap condition rs1 source) kind = absurd (omega (arith, is, kind))
+of_annulling P row is annulling (instr.Trap condition rs1 source) does = absurd (trap_apart condition row.kind does.work (omega (arith, is)))
 of_annulling P row is annulling instr.Flush kind = absurd (omega (arith, is, kind))
 of_annulling P row is annulling (instr.Save rd rs1 source) does = absurd (omega (arith, is, does.work))
 of_annulling P row is annulling (instr.Restore rd rs1 source) does = absurd (omega (arith, is, does.work))
@@ -196,7 +201,7 @@ call_turns row origin at to old new is left reach (instr.ReadY rd) areas memory 
 call_turns row origin at to old new is left reach instr.Barrier areas memory kind = absurd (omega (arith, is, kind))
 call_turns row origin at to old new is left reach (instr.WriteY rs1 source) areas memory does = absurd (omega (arith, is, does.work))
 call_turns row origin at to old new is left reach (instr.Jump rd rs1 source) areas memory does = absurd (omega (arith, is, does.work))
-call_turns row origin at to old new is left reach (instr.Trap condition rs1 source) areas memory kind = absurd (omega (arith, is, kind))
+call_turns row origin at to old new is left reach (instr.Trap condition rs1 source) areas memory does = absurd (trap_apart condition row.kind does.work (omega (arith, is)))
 call_turns row origin at to old new is left reach instr.Flush areas memory kind = absurd (omega (arith, is, kind))
 call_turns row origin at to old new is left reach (instr.Save rd rs1 source) areas memory does = absurd (omega (arith, is, does.work))
 call_turns row origin at to old new is left reach (instr.Restore rd rs1 source) areas memory does = absurd (omega (arith, is, does.work))
@@ -219,7 +224,7 @@ jump_turns row origin at to old new is goal sums aligned reach left (instr.Write
 jump_turns row origin at to old new is goal sums aligned reach left (instr.Jump rd rs1 source) areas memory does =
     let sum : goal ≡ sum_of rs1 source old = sums source does.second ∙ ap (λ (r : ℕ). sum_of r source old) does.first in
     jump_to origin at to rd rs1 source areas old new memory (left ∙ ap (λ (r : ℕ). with_register old r (word_address origin at)) does.result) (reach ∙ sum) (ap (λ (n : ℕ). n % 4) (sym sum) ∙ aligned)
-jump_turns row origin at to old new is goal sums aligned reach left (instr.Trap condition rs1 source) areas memory kind = absurd (omega (arith, is, kind))
+jump_turns row origin at to old new is goal sums aligned reach left (instr.Trap condition rs1 source) areas memory does = absurd (trap_apart condition row.kind does.work (omega (arith, is)))
 jump_turns row origin at to old new is goal sums aligned reach left instr.Flush areas memory kind = absurd (omega (arith, is, kind))
 jump_turns row origin at to old new is goal sums aligned reach left (instr.Save rd rs1 source) areas memory does = absurd (omega (arith, is, does.work))
 jump_turns row origin at to old new is goal sums aligned reach left (instr.Restore rd rs1 source) areas memory does = absurd (omega (arith, is, does.work))
@@ -228,3 +233,49 @@ jump_turns row origin at to old new is goal sums aligned reach left instr.Privil
 jump_turns row origin at to old new is goal sums aligned reach left instr.Float areas memory kind = absurd (omega (arith, is, kind))
 jump_turns row origin at to old new is goal sums aligned reach left instr.Coproc areas memory kind = absurd (omega (arith, is, kind))
 jump_turns row origin at to old new is goal sums aligned reach left instr.Illegal areas memory kind = absurd (omega (arith, is, kind))
+
+-- a trap of the call's number, which is taken always
+trap_calling : (condition rs1 number : ℕ) (source : Src) (core : Registers) → condition ≡ 8 → number ≡ sum_of rs1 source core → number % 128 ≡ 112 → trap_turn condition rs1 source core ≡ Call
+unfolding trap_turn trap_type holds holds_below_eight
+trap_calling condition rs1 number source core always sum is =
+    let type : 128 + sum_of rs1 source core % 128 ≡ 240 = omega (arith, sum, is) in
+    ap (λ (c : ℕ). if holds c core.icc then turn_of_type (trap_type (sum_of rs1 source core)) else Went) always
+    ∙ ap turn_of_type type
+
+trap_to : (condition rs1 pc npc number : ℕ) (source : Src) (areas : List Area) (core : Registers) (memory : Memory) → condition ≡ 8 → number ≡ sum_of rs1 source core → number % 128 ≡ 112
+    → executed (instr.Trap condition rs1 source) areas (placed pc npc core) memory ≡ calling (placed pc npc core) memory
+trap_to condition rs1 pc npc number source areas core memory always sum is =
+    ap (λ (t : Turn). keeping_memory memory (record { turn = t; core = left_by t (placed pc npc core) }))
+    (trap_calling condition rs1 number source (placed pc npc core) always (sum ∙ sym (sum_of-placed rs1 source core pc npc)) is)
+
+-- a trap's kind tells whether it is taken always
+always_trap : (condition k : ℕ) → k ≡ kind_of_trap condition → k ≡ 37 → condition ≡ 8
+always_trap condition k is taken = at (condition == 8) refl is
+  where
+    at : (always : Bool) → (condition == 8) ≡ always → k ≡ (if always then 37 else other) → condition ≡ 8
+    at true told same = grind (arith, nat_tests)
+    at false told same = absurd (omega (arith, same, taken))
+
+-- kind 37
+pub trap_calls : (row : Row) (origin at number : ℕ) (old : Registers) → row.kind ≡ 37 → ((source : Src) → HasSource source row → number ≡ sum_of row.rs1 source old) → number % 128 ≡ 112
+    → (i : Instr) (areas : List Area) (memory : Memory) → IsRowOf row i → executed i areas (at_place origin at old) memory ≡ calling (at_place origin at old) memory
+trap_calls row origin at number old is sums calls (instr.Call disp) areas memory (kind, n) = absurd (omega (arith, is, kind))
+trap_calls row origin at number old is sums calls (instr.Branch condition true disp) areas memory (kind, first, n) = absurd (omega (arith, is, kind))
+trap_calls row origin at number old is sums calls (instr.Branch condition false disp) areas memory (kind, first, n) = absurd (omega (arith, is, kind))
+trap_calls row origin at number old is sums calls (instr.Sethi rd imm) areas memory (kind, result, first, second, n) = absurd (omega (arith, is, kind))
+trap_calls row origin at number old is sums calls (instr.Arith operation rd rs1 source) areas memory does = absurd (arith_rare operation row.kind does.work (omega (arith, is)) (omega (arith, is)))
+trap_calls row origin at number old is sums calls (instr.ReadY rd) areas memory (kind, result) = absurd (omega (arith, is, kind))
+trap_calls row origin at number old is sums calls instr.Barrier areas memory kind = absurd (omega (arith, is, kind))
+trap_calls row origin at number old is sums calls (instr.WriteY rs1 source) areas memory does = absurd (omega (arith, is, does.work))
+trap_calls row origin at number old is sums calls (instr.Jump rd rs1 source) areas memory does = absurd (omega (arith, is, does.work))
+trap_calls row origin at number old is sums calls (instr.Trap condition rs1 source) areas memory does =
+    trap_to condition rs1 (word_address origin at) (word_address origin (at + 1)) number source areas old memory (always_trap condition row.kind does.work is)
+    (sums source does.second ∙ ap (λ (r : ℕ). sum_of r source old) does.first) calls
+trap_calls row origin at number old is sums calls instr.Flush areas memory kind = absurd (omega (arith, is, kind))
+trap_calls row origin at number old is sums calls (instr.Save rd rs1 source) areas memory does = absurd (omega (arith, is, does.work))
+trap_calls row origin at number old is sums calls (instr.Restore rd rs1 source) areas memory does = absurd (omega (arith, is, does.work))
+trap_calls row origin at number old is sums calls (instr.Mem operation rd rs1 source) areas memory does = absurd (transfer_apart operation row.kind does.work (omega (arith, is)) (omega (arith, is)))
+trap_calls row origin at number old is sums calls instr.Privileged areas memory kind = absurd (omega (arith, is, kind))
+trap_calls row origin at number old is sums calls instr.Float areas memory kind = absurd (omega (arith, is, kind))
+trap_calls row origin at number old is sums calls instr.Coproc areas memory kind = absurd (omega (arith, is, kind))
+trap_calls row origin at number old is sums calls instr.Illegal areas memory kind = absurd (omega (arith, is, kind))

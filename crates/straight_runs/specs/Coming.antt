@@ -2,10 +2,10 @@
 use Rattle.std.specs.Prelude.{◌≡◌, ℕ, ◌+◌, List}
 use Rattle.guest_bus.specs.Memory.{Area, Memory}
 use Rattle.sparc_step.specs.Registers.{Registers}
-use Rattle.straight_runs.specs.Runs.{AreSteps}
+use Rattle.straight_runs.specs.Runs.{AreSteps, IsCall}
 use Rattle.straight_runs.specs.Places.{at_place, at_slot}
 use Rattle.straight_runs.specs.declared.one.Came.{Came}
-use Rattle.straight_runs.specs.declared.one.Came.TheVariants.{Next, Jump, Turn, Slot, Stays}
+use Rattle.straight_runs.specs.declared.one.Came.TheVariants.{Next, Jump, Turn, Slot, Calls, Stays}
 
 -- so many steps from its place led there
 abbrev pub IsCame : Came → ℕ → ℕ → List Area → Registers → Registers → Memory → Memory → Type 0
@@ -13,4 +13,5 @@ IsCame Next origin at areas old new memory after = AreSteps 1 areas (at_place or
 IsCame (Jump displacement) origin at areas old new memory after = AreSteps 1 areas (at_place origin at old) memory (at_place origin (at + displacement) new) after
 IsCame (Turn displacement) origin at areas old new memory after = AreSteps 2 areas (at_place origin at old) memory (at_place origin (at + displacement) new) after
 IsCame (Slot displacement) origin at areas old new memory after = AreSteps 1 areas (at_place origin at old) memory (at_slot origin (at + 1) (at + displacement) new) after
+IsCame Calls origin at areas old new memory after = (new ≡ old) × (after ≡ memory) × IsCall areas (at_place origin at new) after
 IsCame Stays origin at areas old new memory after = (new ≡ old) × (after ≡ memory)

@@ -15,13 +15,13 @@ use Rattle.straight_runs.specs.Effects.{y_of}
 use Rattle.word_rows.specs.Kinds.{row_kind_of}
 use Rattle.straight_runs.specs.PlacedLemmas.{advanced-placed, register_at-placed, sum_of-placed, value_of-placed, with_result-placed, with_y-placed}
 use Rattle.word_rows.specs.Rows.{HasSource, IsRowOf, RowDoes}
-use Rattle.straight_runs.specs.StepLemmas.{branch_apart, transfer_apart}
+use Rattle.straight_runs.specs.StepLemmas.{branch_apart, transfer_apart, trap_apart}
 use Rattle.straight_runs.specs.Steps.{Goes}
 use Rattle.straight_runs.specs.WindowLemmas.{moved-placed, window_above-placed, window_below-placed}
 use Rattle.word_rows.specs.declared.rows.Row.{Row}
 
 -- no work on registers has a kind between its own and those of no row
-pub arith_rare : (operation : Arith) (k : ℕ) → k ≡ row_kind_of operation → 30 ≤ k → k < 37 → ⊥
+pub arith_rare : (operation : Arith) (k : ℕ) → k ≡ row_kind_of operation → 30 ≤ k → k < 38 → ⊥
 arith_rare arith.Add k is from below = absurd (omega (arith, is, from))
 arith_rare arith.And k is from below = absurd (omega (arith, is, from))
 arith_rare arith.Or k is from below = absurd (omega (arith, is, from))
@@ -124,7 +124,7 @@ write_y_kind row areas old new memory after is left same instr.Barrier kind = ab
 write_y_kind row areas old new memory after is left same (instr.WriteY rs1 source) does =
     write_y_goes rs1 source areas old new memory after (left source does.second ∙ ap (λ (r : ℕ). with_y old (y_of (register_at old r) (value_of source old))) does.first) same
 write_y_kind row areas old new memory after is left same (instr.Jump rd rs1 source) does = absurd (omega (arith, is, does.work))
-write_y_kind row areas old new memory after is left same (instr.Trap condition rs1 source) kind = absurd (omega (arith, is, kind))
+write_y_kind row areas old new memory after is left same (instr.Trap condition rs1 source) does = absurd (trap_apart condition row.kind does.work (omega (arith, is)))
 write_y_kind row areas old new memory after is left same instr.Flush kind = absurd (omega (arith, is, kind))
 write_y_kind row areas old new memory after is left same (instr.Save rd rs1 source) does = absurd (omega (arith, is, does.work))
 write_y_kind row areas old new memory after is left same (instr.Restore rd rs1 source) does = absurd (omega (arith, is, does.work))
@@ -146,7 +146,7 @@ read_y_kind row areas old new memory after is left same (instr.ReadY rd) (kind, 
 read_y_kind row areas old new memory after is left same instr.Barrier kind = absurd (omega (arith, is, kind))
 read_y_kind row areas old new memory after is left same (instr.WriteY rs1 source) does = absurd (omega (arith, is, does.work))
 read_y_kind row areas old new memory after is left same (instr.Jump rd rs1 source) does = absurd (omega (arith, is, does.work))
-read_y_kind row areas old new memory after is left same (instr.Trap condition rs1 source) kind = absurd (omega (arith, is, kind))
+read_y_kind row areas old new memory after is left same (instr.Trap condition rs1 source) does = absurd (trap_apart condition row.kind does.work (omega (arith, is)))
 read_y_kind row areas old new memory after is left same instr.Flush kind = absurd (omega (arith, is, kind))
 read_y_kind row areas old new memory after is left same (instr.Save rd rs1 source) does = absurd (omega (arith, is, does.work))
 read_y_kind row areas old new memory after is left same (instr.Restore rd rs1 source) does = absurd (omega (arith, is, does.work))
@@ -167,7 +167,7 @@ of_window P row from below save restore (instr.ReadY rd) (kind, result) = absurd
 of_window P row from below save restore instr.Barrier kind = absurd (omega (arith, below, kind))
 of_window P row from below save restore (instr.WriteY rs1 source) does = absurd (omega (arith, from, does.work))
 of_window P row from below save restore (instr.Jump rd rs1 source) does = absurd (omega (arith, below, does.work))
-of_window P row from below save restore (instr.Trap condition rs1 source) kind = absurd (omega (arith, below, kind))
+of_window P row from below save restore (instr.Trap condition rs1 source) does = absurd (trap_apart condition row.kind does.work (omega (arith, below)))
 of_window P row from below save restore instr.Flush kind = absurd (omega (arith, below, kind))
 of_window P row from below save restore (instr.Save rd rs1 source) does = save rd rs1 source does
 of_window P row from below save restore (instr.Restore rd rs1 source) does = restore rd rs1 source does

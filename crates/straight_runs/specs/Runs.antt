@@ -10,6 +10,7 @@ use Rattle.sparc_step.specs.declared.outcome.Turn.TheVariants.{Went}
 use Rattle.virt_traps.specs.Stepping.{stepped, then_settled}
 use Rattle.straight_runs.specs.Steps.{Goes}
 use Rattle.straight_runs.specs.TurnLemmas.{turned-word}
+use Rattle.straight_runs.specs.Turning.{calling}
 use Rattle.virt_traps.specs.Settled.{answered, settled}
 
 -- so many steps that all went, and what they left
@@ -17,6 +18,10 @@ pub record AreSteps (count : ℕ) (areas : List Area) (core : Registers) (memory
   pub went : (stepped count areas core memory).turn ≡ Went
   pub registers : after ≡ (stepped count areas core memory).core
   pub bytes : new ≡ (stepped count areas core memory).memory
+
+-- the instruction at pc calls the hypervisor, and changes nothing else
+abbrev pub IsCall : List Area → Registers → Memory → Type 0
+IsCall areas core memory = settled areas core memory ≡ calling core memory
 
 -- none
 pub no_steps : (areas : List Area) (core : Registers) (memory : Memory) → AreSteps 0 areas core memory core memory
@@ -95,3 +100,8 @@ steps_then b a areas core here after memory there new one two =
       registers = two.registers ∙ sym (ap (λ (x : Turned). x.core) joined);
       bytes = two.bytes ∙ sym (ap (λ (x : Turned). x.memory) joined);
     }
+
+-- an instruction that calls needs no window
+pub settled-call : (areas : List Area) (core : Registers) (memory : Memory) → turned areas core memory ≡ calling core memory → IsCall areas core memory
+unfolding settled
+settled-call areas core memory is = ap (λ (t : Turned). answered t.turn t areas core memory) is

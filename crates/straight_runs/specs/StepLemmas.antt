@@ -1,6 +1,6 @@
 -- Each kind of row does what its instruction does.
 use Rattle.std.proofs.Common.{◌≡◌, ◌≢◌, ℕ, ◌+◌, ◌*◌, ◌%◌, ◌^◌, ◌<◌, ◌≤◌, ℤ, pos, Bool, true, false, List, refl, sym, ap, ◌∙◌, subst, arith}
-use Rattle.std.specs.Prelude.{if◌then◌else◌, bit_or}
+use Rattle.std.specs.Prelude.{if◌then◌else◌, ◌==◌, bit_or}
 use Rattle.std.specs.Int.Bits.{or_zero_l}
 use Rattle.guest_bus.specs.Memory.{Area, Memory}
 use Rattle.sparc_code.specs.declared.instruction.Arith.{Arith}
@@ -19,7 +19,7 @@ use Rattle.sparc_step.specs.Operands.{sum_of, value_of}
 use Rattle.sparc_step.specs.Registers.{Registers, placed, register_at, with_register}
 use Rattle.sparc_step.specs.Transfers.{transfer}
 use Rattle.straight_runs.specs.Effects.{IsTransferred, worked_by_kind}
-use Rattle.word_rows.specs.Kinds.{row_kind_of, kind_of_branch, kind_of_transfer, other, transfer_of}
+use Rattle.word_rows.specs.Kinds.{row_kind_of, kind_of_branch, kind_of_transfer, kind_of_trap, other, transfer_of}
 use Rattle.straight_runs.specs.PlacedLemmas.{advanced-placed, register_at-placed, sum_of-placed, value_of-placed, with_result-placed, worked-placed}
 use Rattle.word_rows.specs.Rows.{RowDoes, HasSource, IsRowOf}
 use Rattle.straight_runs.specs.Steps.{Goes}
@@ -119,6 +119,14 @@ branch_kinds : (annul : Bool) → (k : ℕ) → k ≡ kind_of_branch annul → k
 branch_kinds true k is some = omega (arith, is)
 branch_kinds false k is some = absurd (some is)
 
+-- a trap's kinds are none of these
+pub trap_apart : (condition k : ℕ) → k ≡ kind_of_trap condition → k < 37 → ⊥
+trap_apart condition k is below = at (condition == 8) is
+  where
+    at : (always : Bool) → k ≡ (if always then 37 else other) → ⊥
+    at true same = absurd (omega (arith, same, below))
+    at false same = absurd (omega (arith, same, below))
+
 -- the kinds 0, 1 and 3 to 12: what is done is what the row's instruction does
 pub registers_go : (row : Row) (areas : List Area) (old new : Registers) (memory after : Memory)
     → row.kind < 13 → row.kind ≢ 2 → row.number < 2 ^ 32 → (row.rs1 ≡ 0 → register_at old row.rs1 ≡ 0)
@@ -137,7 +145,7 @@ registers_go row areas old new memory after below some small zero left same (ins
 registers_go row areas old new memory after below some small zero left same instr.Barrier kind = absurd (omega (arith, below, kind))
 registers_go row areas old new memory after below some small zero left same (instr.WriteY rs1 source) does = absurd (omega (arith, below, does.work))
 registers_go row areas old new memory after below some small zero left same (instr.Jump rd rs1 source) does = absurd (omega (arith, below, does.work))
-registers_go row areas old new memory after below some small zero left same (instr.Trap condition rs1 source) kind = absurd (omega (arith, below, kind))
+registers_go row areas old new memory after below some small zero left same (instr.Trap condition rs1 source) does = absurd (trap_apart condition row.kind does.work (omega (arith, below)))
 registers_go row areas old new memory after below some small zero left same instr.Flush kind = absurd (omega (arith, below, kind))
 registers_go row areas old new memory after below some small zero left same (instr.Save rd rs1 source) does = absurd (omega (arith, below, does.work))
 registers_go row areas old new memory after below some small zero left same (instr.Restore rd rs1 source) does = absurd (omega (arith, below, does.work))
@@ -148,7 +156,7 @@ registers_go row areas old new memory after below some small zero left same inst
 registers_go row areas old new memory after below some small zero left same instr.Illegal kind = absurd (omega (arith, below, kind))
 
 -- the kinds from 23 to 29 are no load's, and no branch's
-pub transfer_apart : (operation : MemOp) (k : ℕ) → k ≡ kind_of_transfer operation → 23 ≤ k → k < 37 → ⊥
+pub transfer_apart : (operation : MemOp) (k : ℕ) → k ≡ kind_of_transfer operation → 23 ≤ k → k < 38 → ⊥
 transfer_apart memory.Ld k is from below = absurd (omega (arith, is, from))
 transfer_apart memory.LdUb k is from below = absurd (omega (arith, is, from))
 transfer_apart memory.LdUh k is from below = absurd (omega (arith, is, from))
@@ -181,7 +189,7 @@ more_go row areas old new memory after from below divisor left same (instr.ReadY
 more_go row areas old new memory after from below divisor left same instr.Barrier kind = absurd (omega (arith, below, kind))
 more_go row areas old new memory after from below divisor left same (instr.WriteY rs1 source) does = absurd (omega (arith, below, does.work))
 more_go row areas old new memory after from below divisor left same (instr.Jump rd rs1 source) does = absurd (omega (arith, below, does.work))
-more_go row areas old new memory after from below divisor left same (instr.Trap condition rs1 source) kind = absurd (omega (arith, below, kind))
+more_go row areas old new memory after from below divisor left same (instr.Trap condition rs1 source) does = absurd (trap_apart condition row.kind does.work (omega (arith, below)))
 more_go row areas old new memory after from below divisor left same instr.Flush kind = absurd (omega (arith, below, kind))
 more_go row areas old new memory after from below divisor left same (instr.Save rd rs1 source) does = absurd (omega (arith, below, does.work))
 more_go row areas old new memory after from below divisor left same (instr.Restore rd rs1 source) does = absurd (omega (arith, below, does.work))
@@ -246,7 +254,7 @@ transfers_go row address areas old new memory after from below is moved (instr.R
 transfers_go row address areas old new memory after from below is moved instr.Barrier kind = absurd (omega (arith, below, kind))
 transfers_go row address areas old new memory after from below is moved (instr.WriteY rs1 source) does = absurd (omega (arith, below, does.work))
 transfers_go row address areas old new memory after from below is moved (instr.Jump rd rs1 source) does = absurd (omega (arith, below, does.work))
-transfers_go row address areas old new memory after from below is moved (instr.Trap condition rs1 source) kind = absurd (omega (arith, below, kind))
+transfers_go row address areas old new memory after from below is moved (instr.Trap condition rs1 source) does = absurd (trap_apart condition row.kind does.work (omega (arith, below)))
 transfers_go row address areas old new memory after from below is moved instr.Flush kind = absurd (omega (arith, below, kind))
 transfers_go row address areas old new memory after from below is moved (instr.Save rd rs1 source) does = absurd (omega (arith, below, does.work))
 transfers_go row address areas old new memory after from below is moved (instr.Restore rd rs1 source) does = absurd (omega (arith, below, does.work))
@@ -308,7 +316,7 @@ branches_go row areas old new memory after two told left same (instr.ReadY rd) (
 branches_go row areas old new memory after two told left same instr.Barrier kind = absurd (omega (arith, two, kind))
 branches_go row areas old new memory after two told left same (instr.WriteY rs1 source) does = absurd (omega (arith, two, does.work))
 branches_go row areas old new memory after two told left same (instr.Jump rd rs1 source) does = absurd (omega (arith, two, does.work))
-branches_go row areas old new memory after two told left same (instr.Trap condition rs1 source) kind = absurd (omega (arith, two, kind))
+branches_go row areas old new memory after two told left same (instr.Trap condition rs1 source) does = absurd (trap_apart condition row.kind does.work (omega (arith, two)))
 branches_go row areas old new memory after two told left same instr.Flush kind = absurd (omega (arith, two, kind))
 branches_go row areas old new memory after two told left same (instr.Save rd rs1 source) does = absurd (omega (arith, two, does.work))
 branches_go row areas old new memory after two told left same (instr.Restore rd rs1 source) does = absurd (omega (arith, two, does.work))

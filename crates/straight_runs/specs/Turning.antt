@@ -4,23 +4,31 @@ use Rattle.word_rows.specs.Kinds.{empty}
 use Rattle.guest_bus.specs.Memory.{Area, Memory}
 use Rattle.straight_runs.specs.Places.{at_place, at_slot}
 use Rattle.sparc_code.specs.declared.instruction.Instr.{Instr}
-use Rattle.sparc_step.specs.Execution.{done, executed}
-use Rattle.sparc_step.specs.Registers.{Registers}
+use Rattle.sparc_step.specs.Execution.{Turned, done, executed}
+use Rattle.sparc_step.specs.Registers.{Registers, advanced}
+use Rattle.sparc_step.specs.declared.outcome.Turn.TheVariants.{Call}
 use Rattle.word_rows.specs.Rows.{IsRowOf}
 use Rattle.word_rows.specs.declared.rows.Row.{Row}
 use Rattle.straight_runs.specs.declared.turning.Goal.{Goal}
-use Rattle.straight_runs.specs.declared.turning.Goal.TheVariants.{Behind, Now, Stays}
+use Rattle.straight_runs.specs.declared.turning.Goal.TheVariants.{Behind, Now, Calls, Stays}
 
--- each instruction whose row it is goes there; one that stays changed nothing
+-- what an instruction comes to that calls the hypervisor: the program goes on after it
+abbrev pub calling : Registers → Memory → Turned
+calling core memory = record { turn = Call; core = advanced core; memory = memory }
+
+-- each instruction whose row it is goes there, or calls; one that was not done changed nothing
 abbrev pub Turns : Goal → Row → ℕ → ℕ → Registers → Registers → Type 0
 Turns (Behind displacement) row origin at old new =
     (i : Instr) (areas : List Area) (memory : Memory) → IsRowOf row i → executed i areas (at_place origin at old) memory ≡ done (at_slot origin (at + 1) (at + displacement) new) memory
 Turns (Now displacement) row origin at old new =
     (i : Instr) (areas : List Area) (memory : Memory) → IsRowOf row i → executed i areas (at_place origin at old) memory ≡ done (at_place origin (at + displacement) new) memory
+Turns Calls row origin at old new =
+    (new ≡ old) × ((i : Instr) (areas : List Area) (memory : Memory) → IsRowOf row i → executed i areas (at_place origin at new) memory ≡ calling (at_place origin at new) memory)
 Turns Stays row origin at old new = new ≡ old
 
 -- a row by which an instruction goes is not empty
 abbrev pub TurnsBy : Goal → Row → Type 0
 TurnsBy (Behind displacement) row = row.kind ≢ empty
 TurnsBy (Now displacement) row = row.kind ≢ empty
+TurnsBy Calls row = row.kind ≢ empty
 TurnsBy Stays row = Unit {0}

@@ -11,4 +11,4 @@ mod simple;
 mod turning;
 mod working;
 
-pub use running::run;
+pub use running::{RunEnd, run};

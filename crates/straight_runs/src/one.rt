@@ -27,6 +27,8 @@ pub(crate) enum Came {
     Turn(u32),
     /// It was done. The one in its delay slot follows, and then the word at a displacement from its own place.
     Slot(u32),
+    /// It calls the hypervisor. It was not done, and nothing changed.
+    Calls,
     /// It was not done, and nothing changed.
     Stays,
 }
@@ -58,6 +60,7 @@ pub(crate) fn one<B: HasRows>(own: &mut Processor, bus: &mut B, words: Words, at
             match turn(own, row, words, at) {
                 Goal::Behind(displacement) => behind(own, bus, words, at, displacement),
                 Goal::Now(displacement) => Came::Jump(displacement),
+                Goal::Calls => Came::Calls,
                 Goal::Stays => {
                     look(bus, words, at);
                     Came::Stays

@@ -1,9 +1,10 @@
 //! Straight runs.
 
-ghost use Rattle.std.specs.Prelude.{◌≡◌, ◌+◌, ◌%◌, ◌^◌, ◌<◌, ◌≤◌};
+ghost use Rattle.std.specs.Prelude.{◌≡◌, ◌+◌, ◌%◌, ◌^◌, ◌<◌, ◌≤◌, false};
+ghost use Rattle.std.specs.Bool.{OnTrue};
 ghost use Rattle.guest_bus.specs.Words.{AreWords};
 ghost use Rattle.straight_runs.specs.Codes.{IsStart, RunStopsAt};
-ghost use Rattle.straight_runs.specs.Runs.{AreSteps};
+ghost use Rattle.straight_runs.specs.Runs.{AreSteps, IsCall};
 ghost use Rattle.straight_runs.specs.Places.{at_place, at_slot};
 
 use crate::one::{Came, one};
@@ -15,34 +16,58 @@ use word_rows::HasRows;
 // No run is longer, so that places and steps are small numbers.
 const MOST: u64 = 0x1000_0000;
 
+/// How a run ended.
+#[derive(Clone, Copy, Debug)]
+pub struct RunEnd {
+    /// How many instructions went.
+    pub went: u64,
+    /// Whether the one after them calls the hypervisor. It was not done.
+    pub calls: bool,
+}
+
+impl RunEnd {
+    // So many, up to one that is left to others.
+    #[inline(always)]
+    fn left(went: u64) -> RunEnd
+        ensures went { result.went ≡ went }
+        ensures calls { result.calls ≡ false }
+    {
+        RunEnd { went, calls: false }
+    }
+}
+
 /// Instructions, at most so many, up to the first that is left to others: one that traps or calls, whose access is refused, that
-/// needs a window spilled or filled by a search, or that stands away from the words around the first. The answer is how many.
+/// needs a window spilled or filled by a search, or that stands away from the words around the first.
 #[inline(always)]
-pub fn run<B: HasRows>(own: &mut Processor, bus: &mut B, most: u64) -> u64
-    ensures steps { AreSteps result (B.areas bus.old) own.old (B.memory bus.old) own.new (B.memory bus.new) }
-    ensures few { result ≤ most }
+pub fn run<B: HasRows>(own: &mut Processor, bus: &mut B, most: u64) -> RunEnd
+    ensures steps { AreSteps result.went (B.areas bus.old) own.old (B.memory bus.old) own.new (B.memory bus.new) }
+    ensures few { result.went ≤ most }
+    ensures room { OnTrue result.calls (result.went < most) }
+    ensures call { OnTrue result.calls (IsCall (B.areas bus.old) own.new (B.memory bus.new)) }
     ensures areas { B.areas bus.new ≡ B.areas bus.old }
     ensures others { B.others bus.new ≡ B.others bus.old }
 {
     let pc = own.pc();
     if own.npc() != pc.wrapping_add(4) {
-        return 0;
+        return RunEnd::left(0);
     }
     match start_at(bus, pc) {
         Some(start) => run_from(own, bus, start, most.min(MOST)),
-        None => 0,
+        None => RunEnd::left(0),
     }
 }
 
 // The same from the first word on, whose place is known.
 #[inline(always)]
-fn run_from<B: HasRows>(own: &mut Processor, bus: &mut B, start: Start, most: u64) -> u64
+fn run_from<B: HasRows>(own: &mut Processor, bus: &mut B, start: Start, most: u64) -> RunEnd
     requires start { IsStart own.old.pc start }
     requires numbered { B.numbered (B.areas bus.old) (B.others bus.old) start.words }
     requires next { own.old.npc ≡ (own.old.pc + 4) % 2 ^ 32 }
     requires most { most < 2 ^ 32 }
-    ensures steps { AreSteps result (B.areas bus.old) own.old (B.memory bus.old) own.new (B.memory bus.new) }
-    ensures few { result ≤ most }
+    ensures steps { AreSteps result.went (B.areas bus.old) own.old (B.memory bus.old) own.new (B.memory bus.new) }
+    ensures few { result.went ≤ most }
+    ensures room { OnTrue result.calls (result.went < most) }
+    ensures call { OnTrue result.calls (IsCall (B.areas bus.old) own.new (B.memory bus.new)) }
     ensures areas { B.areas bus.new ≡ B.areas bus.old }
     ensures others { B.others bus.new ≡ B.others bus.old }
 {
@@ -51,14 +76,22 @@ fn run_from<B: HasRows>(own: &mut Processor, bus: &mut B, start: Start, most: u6
 
 // The same over words that have rows, from a place on.
 #[inline(always)]
-fn run_in<B: HasRows>(own: &mut Processor, bus: &mut B, words: Words, from: usize, most: u64) -> u64
+fn run_in<B: HasRows>(
+    own: &mut Processor,
+    bus: &mut B,
+    words: Words,
+    from: usize,
+    most: u64,
+) -> RunEnd
     requires words { AreWords words }
     requires numbered { B.numbered (B.areas bus.old) (B.others bus.old) words }
     requires from { words.begin ≤ from }
     requires near { from < 2 ^ 33 }
     requires most { most < 2 ^ 32 }
-    ensures steps { AreSteps result (B.areas bus.old) (at_place words.origin from own.old) (B.memory bus.old) own.new (B.memory bus.new) }
-    ensures few { result ≤ most }
+    ensures steps { AreSteps result.went (B.areas bus.old) (at_place words.origin from own.old) (B.memory bus.old) own.new (B.memory bus.new) }
+    ensures few { result.went ≤ most }
+    ensures room { OnTrue result.calls (result.went < most) }
+    ensures call { OnTrue result.calls (IsCall (B.areas bus.old) own.new (B.memory bus.new)) }
     ensures areas { B.areas bus.new ≡ B.areas bus.old }
     ensures others { B.others bus.new ≡ B.others bus.old }
 {
@@ -83,16 +116,26 @@ fn run_in<B: HasRows>(own: &mut Processor, bus: &mut B, words: Words, from: usiz
             }
             Came::Slot(displacement) => {
                 stand_in_slot(own, words, at, displacement);
-                return most - (limit - (at + 1)) as u64;
+                return RunEnd::left(most - (limit - (at + 1)) as u64);
             }
-            Came::Stays => {
-                stand(own, words, at);
-                return most - (limit - at) as u64;
-            }
+            Came::Calls => return ended(own, words, at, most - (limit - at) as u64, true),
+            Came::Stays => return ended(own, words, at, most - (limit - at) as u64, false),
         }
     }
+    let went = most - limit.wrapping_sub(at) as u64;
+    ended(own, words, at, went, false)
+}
+
+// The end of a run before the word at a place, after so many.
+#[inline(always)]
+fn ended(own: &mut Processor, words: Words, at: usize, went: u64, calls: bool) -> RunEnd
+    requires words { AreWords words }
+    ensures at { own.new ≡ at_place words.origin at own.old }
+    ensures went { result.went ≡ went }
+    ensures calls { result.calls ≡ calls }
+{
     stand(own, words, at);
-    most - limit.wrapping_sub(at) as u64
+    RunEnd { went, calls }
 }
 
 // The program counters at the word of a place.

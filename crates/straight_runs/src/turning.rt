@@ -1,6 +1,6 @@
 //! Branches that are taken, calls and jumps.
 
-ghost use Rattle.std.specs.Prelude.{◌≡◌, ℕ, ◌<◌};
+ghost use Rattle.std.specs.Prelude.{◌≡◌, ℕ, ◌<◌, ◌≤◌};
 ghost use Rattle.guest_bus.specs.Words.{AreWords};
 ghost use Rattle.word_rows.specs.Rows.{AreRegisterNumbers};
 ghost use Rattle.straight_runs.specs.Turning.{Turns, TurnsBy};
@@ -12,6 +12,9 @@ use sparc_step::Processor;
 use sparc_step::conditions::holds;
 use word_rows::{Row, kinds};
 
+// The number of the software trap that calls the hypervisor.
+const CALL_NUMBER: u32 = 0x70;
+
 /// Where an instruction goes that does not go on to the next word.
 #[derive(Clone, Copy, Debug)]
 pub(crate) enum Goal {
@@ -19,11 +22,13 @@ pub(crate) enum Goal {
     Behind(u32),
     /// By a displacement from its place, its delay slot being annulled.
     Now(u32),
+    /// It calls the hypervisor, and was not done.
+    Calls,
     /// It was not done.
     Stays,
 }
 
-/// Where a call, a jump, or a branch that may annul its delay slot goes.
+/// Where a call, a jump, or a branch that may annul its delay slot goes, and whether a trap calls the hypervisor.
 #[inline(always)]
 pub(crate) fn turn(own: &mut Processor, row: &Row, words: Words, at: usize) -> Goal
     requires registers { AreRegisterNumbers row.now }
@@ -31,12 +36,19 @@ pub(crate) fn turn(own: &mut Processor, row: &Row, words: Words, at: usize) -> G
     ensures goal { Turns result row.now words.origin at own.old own.new }
     ensures by { TurnsBy result row.now }
 {
-    if row.kind == kinds::CALL {
-        call(own, row, words, at)
-    } else if row.kind == kinds::JUMP {
-        jump(own, row, words, at)
+    // By halves, so that the compiler makes no table of jumps.
+    if row.kind < kinds::ANNULLING {
+        if row.kind == kinds::CALL {
+            call(own, row, words, at)
+        } else if row.kind == kinds::JUMP {
+            jump(own, row, words, at)
+        } else {
+            Goal::Stays
+        }
     } else if row.kind == kinds::ANNULLING {
         annulling(own, row)
+    } else if row.kind == kinds::TRAP {
+        trap(own, row)
     } else {
         Goal::Stays
     }
@@ -83,5 +95,19 @@ fn annulling(own: &Processor, row: &Row) -> Goal
         Goal::Now(row.number)
     } else {
         Goal::Behind(row.number)
+    }
+}
+
+// A trap that is taken always. Any but the call of the hypervisor is left.
+#[inline(always)]
+fn trap(own: &Processor, row: &Row) -> Goal
+    requires kind { row.now.kind ≡ 37 }
+    requires registers { AreRegisterNumbers row.now }
+    ensures { (origin at : ℕ) → Turns result row.now origin at own.now own.now }
+{
+    if sum_of(own, row) % 128 == CALL_NUMBER {
+        Goal::Calls
+    } else {
+        Goal::Stays
     }
 }

@@ -7,10 +7,10 @@ use Rattle.guest_memory.specs.Memories.{AreMemories, Memories, areas_at, map_at,
 use Rattle.guest_memory.specs.SelectedLemmas.{changed_selected}
 use Rattle.machine_model.specs.Partition.{PartitionState}
 use Rattle.sparc_step.specs.Execution.{Turned}
-use Rattle.sparc_step.specs.Registers.{Registers}
+use Rattle.sparc_step.specs.Registers.{Registers, advanced}
 use Rattle.sparc_step.specs.declared.outcome.Turn.{Turn}
 use Rattle.sparc_step.specs.declared.outcome.Turn.TheVariants.{Call, Trap, Went}
-use Rattle.straight_runs.specs.Runs.{AreSteps, steps_then}
+use Rattle.straight_runs.specs.Runs.{AreSteps, IsCall, steps_then}
 use Rattle.virt_traps.specs.Stepping.{stepped, then_settled}
 use Rattle.machine_model.specs.ProcessorCalls.{flushed, flushed_after}
 use Rattle.virt_traps.specs.Moves.{Moved, move_made, spilled}
@@ -72,6 +72,22 @@ called_behind count most areas here core after last memory new newest below same
     let known = step_behind (λ a r m. ((settled a r m).turn ≡ Call) × (last ≡ (settled a r m).core) × (newest ≡ (settled a r m).memory))
     count areas here core after memory new same steps (sym turn_is, last_is, newest_is) in
     (below, known.0, known.1, known.2)
+
+-- a call that a straight run met
+pub call_met : (turn : Turn) (went count most : ℕ) (areas here : List Area) (core after last : Registers) (memory new : Memory) → turn ≡ Call → went ≡ count → count < most → here ≡ areas → AreSteps count areas core memory after new
+    → IsCall here after new → last ≡ advanced after → IsGone turn went most areas (stepped went areas core memory) last new
+call_met turn went count most areas here core after last memory new turn_is went_is below same steps call last_is =
+    subst (λ (t : Turn). IsGone t went most areas (stepped went areas core memory) last new) (sym turn_is)
+    (subst (λ (n : ℕ). IsGone Call n most areas (stepped n areas core memory) last new) (sym went_is)
+    (called_behind count most areas here core after last memory new new below same steps
+    (sym (ap (λ (t : Turned). t.turn) call)) (last_is ∙ sym (ap (λ (t : Turned). t.core) call)) (sym (ap (λ (t : Turned). t.memory) call))))
+
+-- the steps before it went, and left its program counter
+pub call_went : (went count : ℕ) (areas : List Area) (core : Registers) (memory : Memory) (after : Registers) (new : Memory) → went ≡ count → AreSteps count areas core memory after new → (stepped went areas core memory).turn ≡ Went
+call_went went count areas core memory after new went_is steps = ap (λ (n : ℕ). (stepped n areas core memory).turn) went_is ∙ steps.went
+
+pub call_at : (went count : ℕ) (areas : List Area) (core : Registers) (memory : Memory) (after : Registers) (new : Memory) → went ≡ count → AreSteps count areas core memory after new → after.pc ≡ (stepped went areas core memory).core.pc
+call_at went count areas core memory after new went_is steps = ap (λ (r : Registers). r.pc) steps.registers ∙ sym (ap (λ (n : ℕ). (stepped n areas core memory).core.pc) went_is)
 
 -- what steps leave of all memories, where partition p was selected for them
 pub selected_changed : (p : ℕ) (old mid new : Memories) → mid ≡ with_selected p old → AreMemories mid → AreMemories new → others_of new ≡ others_of mid → areas_at new.selected new ≡ areas_at mid.selected mid → new ≡ with_selected p (with_map p (map_at p new) old)

@@ -2,6 +2,7 @@
 
 ghost use Rattle.std.specs.Prelude.{◌≡◌, ◌%◌, ◌<◌, OnErr, length};
 ghost use Rattle.guest_memory.specs.Memories.{areas_at, map_at, with_map, with_selected};
+ghost use Rattle.sparc_step.specs.Registers.{advanced};
 ghost use Rattle.virt_traps.specs.Stepping.{stepped};
 ghost use Rattle.virt_traps.specs.Delivery.{delivered, returned};
 ghost use Rattle.virt_traps.specs.Moves.{move_made};
@@ -202,7 +203,7 @@ fn go<B: HasRows>(core: &mut Processor, bus: &mut B, most: u64) -> Gone
     go_at_hand(core, bus, most)
 }
 
-// The same with the cached registers. What a straight run leaves to others is a step of its own.
+// The same with the cached registers. What a straight run leaves to others is a step of its own, but for a call, which the run has told.
 #[inline(always)]
 fn go_at_hand<B: HasRows>(own: &mut Processor, bus: &mut B, most: u64) -> Gone
     ensures went { (stepped result.went (B.areas bus.old) own.old (B.memory bus.old)).turn ≡ Turn.Went }
@@ -214,30 +215,29 @@ fn go_at_hand<B: HasRows>(own: &mut Processor, bus: &mut B, most: u64) -> Gone
 {
     let mut left = most;
     while left > 0 {
-        left -= run(own, bus, left);
-        let pc = own.pc();
-        if left == 0 {
-            return Gone {
-                went: most,
-                turn: Turn::Went,
-                pc,
-            };
+        let ran = run(own, bus, left);
+        left -= ran.went;
+        if ran.calls {
+            return call_met(own, most - left);
         }
-        match settle_at_hand(own, bus) {
-            Turn::Went => left -= 1,
-            Turn::Trap(trap_type) => {
-                return Gone {
-                    went: most - left,
-                    turn: Turn::Trap(trap_type),
-                    pc,
-                };
-            }
-            Turn::Call => {
-                return Gone {
-                    went: most - left,
-                    turn: Turn::Call,
-                    pc,
-                };
+        if left > 0 {
+            let pc = own.pc();
+            match settle_at_hand(own, bus) {
+                Turn::Went => left -= 1,
+                Turn::Trap(trap_type) => {
+                    return Gone {
+                        went: most - left,
+                        turn: Turn::Trap(trap_type),
+                        pc,
+                    };
+                }
+                Turn::Call => {
+                    return Gone {
+                        went: most - left,
+                        turn: Turn::Call,
+                        pc,
+                    };
+                }
             }
         }
     }
@@ -245,5 +245,25 @@ fn go_at_hand<B: HasRows>(own: &mut Processor, bus: &mut B, most: u64) -> Gone
         went: most,
         turn: Turn::Went,
         pc: own.pc(),
+    }
+}
+
+// The call that the instruction at the program counter makes, after so many steps. The program goes on after it.
+#[inline(always)]
+#[tactic(auto, unfolding(sparc_step::specs::Registers::placed, sparc_step::specs::Registers::advanced))]
+fn call_met(own: &mut Processor, went: u64) -> Gone
+    ensures core { own.new ≡ advanced own.old }
+    ensures went { result.went ≡ went }
+    ensures turn { result.turn ≡ Turn.Call }
+    ensures at { result.pc ≡ own.old.pc }
+    ensures aligned { result.pc % 4 ≡ 0 }
+{
+    let pc = own.pc();
+    let next = own.npc();
+    own.place(next, next.wrapping_add(4));
+    Gone {
+        went,
+        turn: Turn::Call,
+        pc,
     }
 }

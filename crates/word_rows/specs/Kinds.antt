@@ -9,11 +9,11 @@ use Rattle.sparc_code.specs.declared.instruction.MemOp.TheVariants.{Ld, LdUb, Ld
 
 -- an instruction that no row does
 abbrev pub other : ℕ
-other = 37
+other = 38
 
 -- no row is made yet
 abbrev pub empty : ℕ
-empty = 38
+empty = 39
 
 -- work on registers
 abbrev pub row_kind_of : Arith → ℕ
@@ -72,6 +72,10 @@ kind_of_transfer Swap = other
 -- a branch, which may annul its delay slot
 abbrev pub kind_of_branch : Bool → ℕ
 kind_of_branch annul = if annul then 36 else 2
+
+-- a trap, which is taken always or is any other's
+abbrev pub kind_of_trap : ℕ → ℕ
+kind_of_trap condition = if condition == 8 then 37 else other
 
 -- the load or store of a kind
 unfoldable pub transfer_of : ℕ → MemOp

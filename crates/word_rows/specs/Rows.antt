@@ -6,7 +6,7 @@ use Rattle.sparc_code.specs.declared.instruction.Src.TheVariants.{Reg, Imm}
 use Rattle.sparc_code.specs.declared.instruction.Instr.{Instr}
 use Rattle.sparc_code.specs.declared.instruction.Instr.TheVariants as instr
 use Rattle.sparc_step.specs.Words.{residue}
-use Rattle.word_rows.specs.Kinds.{row_kind_of, kind_of_branch, kind_of_transfer, other}
+use Rattle.word_rows.specs.Kinds.{row_kind_of, kind_of_branch, kind_of_transfer, kind_of_trap, other}
 use Rattle.word_rows.specs.declared.rows.Row.{Row}
 
 -- its registers are registers, and the condition of a branch is a condition; work that sets a register alone sets one that holds it
@@ -44,7 +44,7 @@ IsRowOf row (instr.ReadY rd) = (row.kind ≡ 31) × (row.rd ≡ rd)
 IsRowOf row instr.Barrier = IsOtherRow row
 IsRowOf row (instr.WriteY rs1 source) = RowDoes row 30 0 rs1 source
 IsRowOf row (instr.Jump rd rs1 source) = RowDoes row 35 rd rs1 source
-IsRowOf row (instr.Trap condition rs1 source) = IsOtherRow row
+IsRowOf row (instr.Trap condition rs1 source) = RowDoes row (kind_of_trap condition) 0 rs1 source
 IsRowOf row instr.Flush = IsOtherRow row
 IsRowOf row (instr.Save rd rs1 source) = RowDoes row 32 rd rs1 source
 IsRowOf row (instr.Restore rd rs1 source) = RowDoes row 33 rd rs1 source

@@ -74,7 +74,9 @@ pub const JUMP: u8 = 35;
 
 pub const ANNULLING: u8 = 36;
 
-pub const OTHER: u8 = 37;
+pub const TRAP: u8 = 37;
+
+pub const OTHER: u8 = 38;
 
 /// No row is made yet of the word.
-pub const EMPTY: u8 = 38;
+pub const EMPTY: u8 = 39;

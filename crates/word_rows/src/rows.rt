@@ -3,7 +3,7 @@
 ghost use Rattle.std.specs.Prelude.{◌≡◌, ◌*◌, ◌≢◌, ◌^◌, ◌<◌, ◌≤◌, false};
 ghost use Rattle.sparc_code.specs.Ranges.{InRange};
 ghost use Rattle.sparc_step.specs.Words.{residue};
-ghost use Rattle.word_rows.specs.Kinds.{row_kind_of, kind_of_branch, kind_of_transfer};
+ghost use Rattle.word_rows.specs.Kinds.{row_kind_of, kind_of_branch, kind_of_transfer, kind_of_trap};
 ghost use Rattle.word_rows.specs.Rows.{AreRegisterNumbers, IsRowOf, IsSethiRow, IsWorkRow, RowDoes, as_done, is_dropped};
 ghost use Rattle.word_rows.specs.Sources.{IsRegisterIn};
 
@@ -57,7 +57,7 @@ pub(crate) fn row_of(instr: Instr) -> Row
         Instr::Barrier => Row::OTHER,
         Instr::WriteY { rs1, src } => with_source(kinds::WRY, 0, rs1, src),
         Instr::Jump { rd, rs1, src } => with_source(kinds::JUMP, rd, rs1, src),
-        Instr::Trap { .. } => Row::OTHER,
+        Instr::Trap { cond, rs1, src } => with_source(trap_kind(cond), 0, rs1, src),
         Instr::Flush => Row::OTHER,
         Instr::Save { rd, rs1, src } => with_source(kinds::SAVE, rd, rs1, src),
         Instr::Restore { rd, rs1, src } => with_source(kinds::RESTORE, rd, rs1, src),
@@ -170,6 +170,18 @@ fn read_y(rd: u8) -> Row
         rd,
         rs1: 0,
         rs2: 0,
+    }
+}
+
+// The kind of a trap on a condition.
+fn trap_kind(condition: u8) -> u8
+    ensures value { result ≡ kind_of_trap condition }
+    ensures from { 37 ≤ result }
+{
+    if condition == 8 {
+        kinds::TRAP
+    } else {
+        kinds::OTHER
     }
 }
 

@@ -1,5 +1,5 @@
 use Rattle.guest_bus.specs.Words.{word_address}
-use Rattle.straight_runs.proofs.ComingLemmas.{came_gone, came_jump, came_next, came_shifted, came_turned}
+use Rattle.straight_runs.proofs.ComingLemmas.{came_call, came_gone, came_jump, came_next, came_shifted, came_turned}
 use Rattle.straight_runs.proofs.WordLemmas.{row_here}
 use Rattle.word_rows.specs.Kept.{word_there}
 use Rattle.word_rows.specs.KeptLemmas.{row_used}
@@ -34,3 +34,9 @@ returns-then-shift-clause-came g c =
     let here = row_here c.row-row.result.now (g.B.Bus.areas c.execute.new.bus) (g.B.Bus.areas c.args.bus.now) (g.B.Bus.memory c.execute.new.bus) (g.B.Bus.memory c.args.bus.now) (word_address c.args.words.origin c.args.at) c.execute.ensures.areas c.in-Shifts.ensures.step.1 c.row-row.ensures in
     came_shifted (word_there (g.B.Bus.memory c.args.bus.now) (word_address c.args.words.origin c.args.at)) c.args.words.origin c.args.at c.address.result c.row-row.result.now (g.B.Bus.areas c.execute.new.bus) (g.B.Bus.areas c.args.bus.now) c.args.own.now c.execute.new.own c.shift.new.own (g.B.Bus.memory c.args.bus.now) (g.B.Bus.memory c.execute.new.bus) (g.B.Bus.memory c.shift.new.bus)
     here.stands (row_used c.row-row.result.now (g.B.Bus.areas c.args.bus.now) (g.B.Bus.memory c.args.bus.now) (word_address c.args.words.origin c.args.at) c.if-shift.ensures.used here) c.in-Shifts.ensures.step.0 c.in-Shifts.ensures.step.1 c.execute.ensures.areas c.address.ensures.value c.if-shift.ensures.done
+
+pub returns-in-Calls-clause-came : goal.returns-in-Calls-clause-came
+returns-in-Calls-clause-came g c =
+    let here = row_here c.row-row-in-Stays.result.now (g.B.Bus.areas c.execute.new.bus) (g.B.Bus.areas c.args.bus.now) (g.B.Bus.memory c.execute.new.bus) (g.B.Bus.memory c.args.bus.now) (word_address c.args.words.origin c.args.at) c.execute.ensures.areas c.in-Stays.ensures.step.1 c.row-row-in-Stays.ensures in
+    came_call (word_there (g.B.Bus.memory c.args.bus.now) (word_address c.args.words.origin c.args.at)) c.args.words.origin c.args.at c.row-row-in-Stays.result.now (g.B.Bus.areas c.args.bus.now) c.args.own.now c.execute.new.own c.turn.new.own (g.B.Bus.memory c.args.bus.now) (g.B.Bus.memory c.execute.new.bus)
+    here.stands (row_used c.row-row-in-Stays.result.now (g.B.Bus.areas c.args.bus.now) (g.B.Bus.memory c.args.bus.now) (word_address c.args.words.origin c.args.at) c.in-Calls.ensures.by here) c.in-Stays.ensures.step.0 c.in-Stays.ensures.step.1 c.in-Calls.ensures.goal

@@ -6,5 +6,5 @@ use Rattle.straight_runs.proofs.running.run_from.Goals as goal
 
 pub returns-clause-steps : goal.returns-clause-steps
 returns-clause-steps g c =
-    subst (λ (r : Registers). AreSteps c.run_in.result (g.B.Bus.areas c.args.bus.now) r (g.B.Bus.memory c.args.bus.now) c.run_in.new.own (g.B.Bus.memory c.run_in.new.bus))
+    subst (λ (r : Registers). AreSteps c.run_in.result.went (g.B.Bus.areas c.args.bus.now) r (g.B.Bus.memory c.args.bus.now) c.run_in.new.own (g.B.Bus.memory c.run_in.new.bus))
     (at_start c.args.start c.args.own.now c.requires.start c.requires.next) c.run_in.ensures.steps

@@ -1,7 +1,7 @@
 use Rattle.std.proofs.Common.{◌∙◌}
 use Rattle.straight_runs.specs.declared.one.Came.TheVariants.{Next, Jump, Turn}
 use Rattle.straight_runs.proofs.ComingLemmas.{same_came}
-use Rattle.straight_runs.proofs.RunningLemmas.{jumped_on, turned_on, went_on}
+use Rattle.straight_runs.proofs.RunningLemmas.{call_met, jumped_on, some_left, turned_on, went_on}
 use Rattle.straight_runs.proofs.running.run_in.Goals as goal
 
 pub loop-at-preserved-in-Next : goal.loop-at-preserved-in-Next
@@ -24,3 +24,12 @@ loop-at-preserved g c = record {
   areas = c.one.ensures.areas ∙ c.loop-at.invariant.areas;
   others = c.one.ensures.others ∙ c.loop-at.invariant.others;
 }
+
+pub returns-in-Calls-clause-room : goal.returns-in-Calls-clause-room
+returns-in-Calls-clause-room g c =
+    let room = some_left c.args.words (g.B.Bus.areas c.args.bus.now) c.args.from c.args.most c.loop-at.at c.loop-at.limit c.loop-at.last c.args.own.now (g.B.Bus.memory c.args.bus.now) c.loop-at.own (g.B.Bus.memory c.loop-at.bus) c.loop-at.invariant.running c.loop-at-test.true in
+    rw (c.ended.ensures.calls, c.ended.ensures.went) room
+
+pub returns-in-Calls-clause-call : goal.returns-in-Calls-clause-call
+returns-in-Calls-clause-call g c = rw c.ended.ensures.calls (
+    call_met c.args.words.origin c.loop-at.at (g.B.Bus.areas c.loop-at.bus) (g.B.Bus.areas c.args.bus.now) c.loop-at.own c.one.new.own c.ended.new.own (g.B.Bus.memory c.loop-at.bus) (g.B.Bus.memory c.one.new.bus) c.loop-at.invariant.areas c.in-Calls.ensures.came c.ended.ensures.at)
