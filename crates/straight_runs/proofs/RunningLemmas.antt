@@ -16,13 +16,13 @@ use Rattle.straight_runs.specs.declared.places.Start.{Start}
 abbrev pub left_at : ℕ → ℕ → ℕ
 left_at at limit = (limit + (2 ^ 64 - at)) % 2 ^ 64
 
--- a run at a place: the steps so far, those that are left up to a limit, and up to where words may be executed
-pub record IsRunning (words : Words) (areas : List Area) (from most at limit last : ℕ) (core : Registers) (memory : Memory) (here : Registers) (there : Memory) : Type 0 where
+-- a run at a place: the steps so far, those that are left up to a limit, and where it stops
+pub record IsRunning (words : Words) (areas : List Area) (from most at limit stop : ℕ) (core : Registers) (memory : Memory) (here : Registers) (there : Memory) : Type 0 where
   pub steps : AreSteps (most - left_at at limit) areas (at_place words.origin from core) memory (at_place words.origin at here) there
   pub few : left_at at limit ≤ most
   pub place : at < 2 ^ 64
   pub end : limit < 2 ^ 64
-  pub stops : RunStopsAt words at limit last
+  pub stops : RunStopsAt words at limit stop
 
 -- steps that are left before a limit
 pub left_before : (at limit : ℕ) → at < limit → limit < 2 ^ 64 → left_at at limit ≡ limit - at
@@ -45,9 +45,9 @@ moved_place origin at displacement distance core is =
     ∙ ap (λ (n : ℕ). placed (word_address origin ((at + distance) % 2 ^ 64)) n core) (next_address origin ((at + distance) % 2 ^ 64))
 
 -- it begins
-pub begun : (words : Words) (areas : List Area) (from most last : ℕ) (core : Registers) (memory : Memory) → from < 2 ^ 33 → most < 2 ^ 32 → RunStopsAt words from (from + most) last
-    → IsRunning words areas from most from (from + most) last core memory core memory
-begun words areas from most last core memory near few stops = record {
+pub begun : (words : Words) (areas : List Area) (from most stop : ℕ) (core : Registers) (memory : Memory) → from < 2 ^ 33 → most < 2 ^ 32 → RunStopsAt words from (from + most) stop
+    → IsRunning words areas from most from (from + most) stop core memory core memory
+begun words areas from most stop core memory near few stops = record {
   steps = subst (λ (n : ℕ). AreSteps n areas (at_place words.origin from core) memory (at_place words.origin from core) memory) none (no_steps areas (at_place words.origin from core) memory);
   few = omega arith;
   place = omega arith;
@@ -59,11 +59,11 @@ begun words areas from most last core memory near few stops = record {
     none = omega arith
 
 -- the next word follows
-pub went_on : (words : Words) (areas : List Area) (from most at limit last : ℕ) (core : Registers) (memory : Memory) (here new : Registers) (there after : Memory)
-    → IsRunning words areas from most at limit last core memory here there → at < last
+pub went_on : (words : Words) (areas : List Area) (from most at limit stop : ℕ) (core : Registers) (memory : Memory) (here new : Registers) (there after : Memory)
+    → IsRunning words areas from most at limit stop core memory here there → at < stop
     → IsCame Next words.origin at areas here new there after
-    → IsRunning words areas from most (at + 1) limit last core memory new after
-went_on words areas from most at limit last core memory here new there after is under came = record {
+    → IsRunning words areas from most (at + 1) limit stop core memory new after
+went_on words areas from most at limit stop core memory here new there after is under came = record {
   steps = subst (λ (n : ℕ). AreSteps n areas (at_place words.origin from core) memory (at_place words.origin (at + 1) new) after) more
       (steps_then 1 (most - left_at at limit) areas (at_place words.origin from core) (at_place words.origin at here) (at_place words.origin (at + 1) new) memory there after is.steps came);
   few = omega (arith, under, is.stops.short under, is.few, is.end);
@@ -80,13 +80,13 @@ went_on words areas from most at limit last core memory here new there after is 
     more = omega (arith, under, is.stops.short under, is.few, is.end)
 
 -- the word at a displacement follows
-moved_on : (count : ℕ) (words : Words) (areas : List Area) (from most at limit last displacement distance next : ℕ) (core : Registers) (memory : Memory) (here new : Registers) (there after : Memory)
+moved_on : (count : ℕ) (words : Words) (areas : List Area) (from most at limit stop displacement distance next : ℕ) (core : Registers) (memory : Memory) (here new : Registers) (there after : Memory)
     → 0 < count → count ≤ 2 → at + count ≤ limit
-    → IsRunning words areas from most at limit last core memory here there → distance % 2 ^ 32 ≡ displacement
+    → IsRunning words areas from most at limit stop core memory here there → distance % 2 ^ 32 ≡ displacement
     → AreSteps count areas (at_place words.origin at here) there (at_place words.origin (at + displacement) new) after
     → RunStopsAt words ((at + distance) % 2 ^ 64) (((limit + distance) % 2 ^ 64 + (2 ^ 64 - count)) % 2 ^ 64) next
     → IsRunning words areas from most ((at + distance) % 2 ^ 64) (((limit + distance) % 2 ^ 64 + (2 ^ 64 - count)) % 2 ^ 64) next core memory new after
-moved_on count words areas from most at limit last displacement distance next core memory here new there after some small within is reach came stops =
+moved_on count words areas from most at limit stop displacement distance next core memory here new there after some small within is reach came stops =
     let left = left_after count at limit distance small within is.end in
     let before = left_before at limit (omega arith) is.end in
     let more : count + (most - left_at at limit) ≡ most - left_at ((at + distance) % 2 ^ 64) (((limit + distance) % 2 ^ 64 + (2 ^ 64 - count)) % 2 ^ 64) =
@@ -107,22 +107,22 @@ moved_on count words areas from most at limit last displacement distance next co
     fewer : limit - at ≡ left_at at limit → limit - (at + count) ≤ most
     fewer before = let few : limit - at ≤ most = subst (λ (n : ℕ). n ≤ most) (sym before) is.few in omega arith
 
-pub jumped_on : (words : Words) (areas : List Area) (from most at limit last displacement distance next : ℕ) (core : Registers) (memory : Memory) (here new : Registers) (there after : Memory)
-    → IsRunning words areas from most at limit last core memory here there → at < last → distance % 2 ^ 32 ≡ displacement
+pub jumped_on : (words : Words) (areas : List Area) (from most at limit stop displacement distance next : ℕ) (core : Registers) (memory : Memory) (here new : Registers) (there after : Memory)
+    → IsRunning words areas from most at limit stop core memory here there → at < stop → distance % 2 ^ 32 ≡ displacement
     → IsCame (Jump displacement) words.origin at areas here new there after
     → RunStopsAt words ((at + distance) % 2 ^ 64) (((limit + distance) % 2 ^ 64 + (2 ^ 64 - 1)) % 2 ^ 64) next
     → IsRunning words areas from most ((at + distance) % 2 ^ 64) (((limit + distance) % 2 ^ 64 + (2 ^ 64 - 1)) % 2 ^ 64) next core memory new after
-jumped_on words areas from most at limit last displacement distance next core memory here new there after is under reach came stops =
-    moved_on 1 words areas from most at limit last displacement distance next core memory here new there after (omega arith) (omega arith) (omega (arith, under, is.stops.short under)) is reach came stops
+jumped_on words areas from most at limit stop displacement distance next core memory here new there after is under reach came stops =
+    moved_on 1 words areas from most at limit stop displacement distance next core memory here new there after (omega arith) (omega arith) (omega (arith, under, is.stops.short under)) is reach came stops
 
 -- the same after a delay slot
-pub turned_on : (words : Words) (areas : List Area) (from most at limit last displacement distance next : ℕ) (core : Registers) (memory : Memory) (here new : Registers) (there after : Memory)
-    → IsRunning words areas from most at limit last core memory here there → at < last → distance % 2 ^ 32 ≡ displacement
-    → IsCame (Turn displacement) words.origin at areas here new there after
+pub turned_on : (words : Words) (areas : List Area) (from most at limit stop displacement distance next : ℕ) (core : Registers) (memory : Memory) (here new : Registers) (there after : Memory)
+    → IsRunning words areas from most at limit stop core memory here there → at < stop → distance % 2 ^ 32 ≡ displacement
+    → at + 1 < stop → IsCame (Turn displacement) words.origin at areas here new there after
     → RunStopsAt words ((at + distance) % 2 ^ 64) (((limit + distance) % 2 ^ 64 + (2 ^ 64 - 2)) % 2 ^ 64) next
     → IsRunning words areas from most ((at + distance) % 2 ^ 64) (((limit + distance) % 2 ^ 64 + (2 ^ 64 - 2)) % 2 ^ 64) next core memory new after
-turned_on words areas from most at limit last displacement distance next core memory here new there after is under reach came stops =
-    moved_on 2 words areas from most at limit last displacement distance next core memory here new there after (omega arith) (omega arith) (omega (arith, under, is.stops.short under)) is reach came stops
+turned_on words areas from most at limit stop displacement distance next core memory here new there after is under reach room came stops =
+    moved_on 2 words areas from most at limit stop displacement distance next core memory here new there after (omega arith) (omega arith) (omega (arith, room, is.stops.short under)) is reach came stops
 
 -- a call that was met stands where the run ended
 pub call_met : (origin at : ℕ) (here areas : List Area) (core mid ended : Registers) (memory after : Memory) → here ≡ areas → IsCame Calls origin at here core mid memory after → ended ≡ at_place origin at mid → IsCall areas ended after
@@ -130,9 +130,9 @@ call_met origin at here areas core mid ended memory after same came ended_is =
     subst (λ (r : Registers). IsCall areas r after) (sym ended_is) (subst (λ (a : List Area). IsCall a (at_place origin at mid) after) same came.2)
 
 -- and steps are left for it
-pub some_left : (words : Words) (areas : List Area) (from most at limit last : ℕ) (core : Registers) (memory : Memory) (here : Registers) (there : Memory)
-    → IsRunning words areas from most at limit last core memory here there → at < last → most - (limit - at) < most
-some_left words areas from most at limit last core memory here there is under =
+pub some_left : (words : Words) (areas : List Area) (from most at limit stop : ℕ) (core : Registers) (memory : Memory) (here : Registers) (there : Memory)
+    → IsRunning words areas from most at limit stop core memory here there → at < stop → most - (limit - at) < most
+some_left words areas from most at limit stop core memory here there is under =
     let some : at < limit = omega (arith, under, is.stops.short under) in
     let few : limit - at ≤ most = subst (λ (n : ℕ). n ≤ most) (left_before at limit some is.end) is.few in
     omega (arith, some, few)

@@ -11,8 +11,8 @@ pub record IsStart (address : ℕ) (start : Start) : Type 0 where
   pub few : start.place < 2 ^ 33
   pub here : word_address start.words.origin start.place ≡ address
 
--- the last place of a run at a place, whose word is left: one that has a row and below a limit, where the run goes on at all
-pub record RunStopsAt (words : Words) (at limit last : ℕ) : Type 0 where
-  pub begin : at < last → words.begin ≤ at
-  pub within : at < last → last < words.end
-  pub short : at < last → last < limit
+-- where a run at a place stops: before the words that have rows end and at a limit at most, where the run goes on at all
+pub record RunStopsAt (words : Words) (at limit stop : ℕ) : Type 0 where
+  pub begin : at < stop → words.begin ≤ at
+  pub within : at < stop → stop ≤ words.end
+  pub short : at < stop → stop ≤ limit

@@ -1,11 +1,20 @@
 -- What came of a word of a run.
-use Rattle.std.specs.Prelude.{◌≡◌, ℕ, ◌+◌, List}
+use Rattle.std.specs.Prelude.{◌≡◌, ℕ, ◌+◌, ◌<◌, List}
 use Rattle.guest_bus.specs.Memory.{Area, Memory}
 use Rattle.sparc_step.specs.Registers.{Registers}
 use Rattle.straight_runs.specs.Runs.{AreSteps, IsCall}
 use Rattle.straight_runs.specs.Places.{at_place, at_slot}
 use Rattle.straight_runs.specs.declared.one.Came.{Came}
 use Rattle.straight_runs.specs.declared.one.Came.TheVariants.{Next, Jump, Turn, Slot, Calls, Stays}
+
+-- there is room before a stop for what was done: two words where its delay slot was done, too
+abbrev pub HasRoom : Came → ℕ → ℕ → Type 0
+HasRoom (Turn displacement) at stop = at + 1 < stop
+HasRoom Next at stop = Unit {0}
+HasRoom (Jump displacement) at stop = Unit {0}
+HasRoom (Slot displacement) at stop = Unit {0}
+HasRoom Calls at stop = Unit {0}
+HasRoom Stays at stop = Unit {0}
 
 -- so many steps from its place led there
 abbrev pub IsCame : Came → ℕ → ℕ → List Area → Registers → Registers → Memory → Memory → Type 0

@@ -4,7 +4,7 @@ ghost use Rattle.std.specs.Prelude.{◌≡◌, ◌+◌, ◌<◌, ◌≤◌};
 ghost use Rattle.guest_bus.specs.Memory.{Memory};
 ghost use Rattle.guest_bus.specs.Words.{AreWords};
 ghost use Rattle.sparc_step.specs.Registers.{Registers};
-ghost use Rattle.straight_runs.specs.Coming.{IsCame};
+ghost use Rattle.straight_runs.specs.Coming.{HasRoom, IsCame};
 ghost use Rattle.straight_runs.specs.Runs.{AreSteps};
 ghost use Rattle.straight_runs.specs.Places.{at_place, at_slot};
 
@@ -33,20 +33,28 @@ pub(crate) enum Came {
     Stays,
 }
 
-/// Does the word at a place, and the one in its delay slot.
+/// Does the word at a place, and the one in its delay slot, where the run does not stop before that.
 #[inline(always)]
-pub(crate) fn one<B: HasRows>(own: &mut Processor, bus: &mut B, words: Words, at: usize) -> Came
+pub(crate) fn one<B: HasRows>(
+    own: &mut Processor,
+    bus: &mut B,
+    words: Words,
+    at: usize,
+    stop: usize,
+) -> Came
     requires words { AreWords words }
     requires numbered { B.numbered (B.areas bus.old) (B.others bus.old) words }
     requires from { words.begin ≤ at }
-    requires under { at + 1 < words.end }
+    requires under { at < stop }
+    requires within { stop ≤ words.end }
     ensures came { IsCame result words.origin at (B.areas bus.old) own.old own.new (B.memory bus.old) (B.memory bus.new) }
+    ensures room { HasRoom result at stop }
     ensures areas { B.areas bus.new ≡ B.areas bus.old }
     ensures others { B.others bus.new ≡ B.others bus.old }
 {
     match execute(own, bus, words, at) {
         Step::Next => Came::Next,
-        Step::Taken(displacement) => behind(own, bus, words, at, displacement),
+        Step::Taken(displacement) => behind(own, bus, words, at, stop, displacement),
         Step::Shifts => {
             let row = *bus.row(words, at);
             if shift(own, bus, row, address(words, at)) {
@@ -58,7 +66,7 @@ pub(crate) fn one<B: HasRows>(own: &mut Processor, bus: &mut B, words: Words, at
         Step::Stays => {
             let row = bus.row(words, at);
             match turn(own, row, words, at) {
-                Goal::Behind(displacement) => behind(own, bus, words, at, displacement),
+                Goal::Behind(displacement) => behind(own, bus, words, at, stop, displacement),
                 Goal::Now(displacement) => Came::Jump(displacement),
                 Goal::Calls => Came::Calls,
                 Goal::Stays => {
@@ -70,23 +78,29 @@ pub(crate) fn one<B: HasRows>(own: &mut Processor, bus: &mut B, words: Words, at
     }
 }
 
-// Does the word in the delay slot of a place.
+// Does the word in the delay slot of a place, where the run does not stop before it.
 #[inline(always)]
 fn behind<B: HasRows>(
     own: &mut Processor,
     bus: &mut B,
     words: Words,
     at: usize,
+    stop: usize,
     displacement: u32,
 ) -> Came
     requires words { AreWords words }
     requires numbered { B.numbered (B.areas bus.old) (B.others bus.old) words }
     requires from { words.begin ≤ at }
-    requires under { at + 1 < words.end }
+    requires under { at < stop }
+    requires within { stop ≤ words.end }
     ensures came { (core : Registers) (memory : Memory) → AreSteps 1 (B.areas bus.old) (at_place words.origin at core) memory (at_slot words.origin (at + 1) (at + displacement) own.old) (B.memory bus.old) → IsCame result words.origin at (B.areas bus.old) core own.new memory (B.memory bus.new) }
+    ensures room { HasRoom result at stop }
     ensures areas { B.areas bus.new ≡ B.areas bus.old }
     ensures others { B.others bus.new ≡ B.others bus.old }
 {
+    if at + 1 >= stop {
+        return Came::Slot(displacement);
+    }
     match execute(own, bus, words, at + 1) {
         Step::Next => Came::Turn(displacement),
         Step::Taken(_) => Came::Slot(displacement),

@@ -96,23 +96,23 @@ fn run_in<B: HasRows>(
     ensures others { B.others bus.new ≡ B.others bus.old }
 {
     let mut at = from;
-    // The place where the steps that are left would end, and the last place, whose word is left.
+    // The place where the steps that are left would end, and the place where the run stops.
     let mut limit = from + most as usize;
-    let mut last = last_at(words, at, limit);
-    while at < last {
-        match one(own, bus, words, at) {
+    let mut stop = stop_at(words, at, limit);
+    while at < stop {
+        match one(own, bus, words, at, stop) {
             Came::Next => at += 1,
             Came::Jump(displacement) => {
                 let distance = distance(displacement);
                 limit = limit.wrapping_add(distance).wrapping_sub(1);
                 at = at.wrapping_add(distance);
-                last = last_at(words, at, limit);
+                stop = stop_at(words, at, limit);
             }
             Came::Turn(displacement) => {
                 let distance = distance(displacement);
                 limit = limit.wrapping_add(distance).wrapping_sub(2);
                 at = at.wrapping_add(distance);
-                last = last_at(words, at, limit);
+                stop = stop_at(words, at, limit);
             }
             Came::Slot(displacement) => {
                 stand_in_slot(own, words, at, displacement);
@@ -157,13 +157,13 @@ fn stand_in_slot(own: &mut Processor, words: Words, at: usize, displacement: u32
     own.place(address_after(words, at), address(words, to));
 }
 
-// The last place of a run at a place: 0 where that lies before the words.
+// The place where a run at a place stops: 0 where that lies before the words.
 #[inline(always)]
-fn last_at(words: Words, at: usize, limit: usize) -> usize
+fn stop_at(words: Words, at: usize, limit: usize) -> usize
     ensures { RunStopsAt words at limit result }
 {
     if words.begin <= at {
-        limit.min(words.end).saturating_sub(1)
+        limit.min(words.end)
     } else {
         0
     }

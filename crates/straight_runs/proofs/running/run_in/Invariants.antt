@@ -4,7 +4,7 @@ use Rattle.straight_runs.proofs.running.run_in.Given as goal
 
 abbrev pub invariant-loop-at : goal.invariant-loop-at
 invariant-loop-at g l = record {
-  running : IsRunning l.words (g.B.Bus.areas l.fn.bus) l.fn.from l.most l.at l.limit l.last l.fn.own (g.B.Bus.memory l.fn.bus) l.own (g.B.Bus.memory l.bus);
+  running : IsRunning l.words (g.B.Bus.areas l.fn.bus) l.fn.from l.most l.at l.limit l.stop l.fn.own (g.B.Bus.memory l.fn.bus) l.own (g.B.Bus.memory l.bus);
   areas : g.B.Bus.areas l.bus ≡ g.B.Bus.areas l.fn.bus;
   others : g.B.Bus.others l.bus ≡ g.B.Bus.others l.fn.bus;
 }
