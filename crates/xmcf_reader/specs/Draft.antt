@@ -102,11 +102,8 @@ child_noted word (parent ∷ outer) = record parent { children = parent.children
 
 -- after blanks an attribute may stand
 abbrev pub blank_passed : Stage → Stage
-blank_passed Between = Between
 blank_passed Bare = Spaced
-blank_passed Spaced = Spaced
-blank_passed (Named attribute) = Named attribute
-blank_passed (Equaled attribute) = Equaled attribute
+blank_passed other = other
 
 -- a start tag begins
 abbrev pub tag_begun : Option Word → ℕ → Context → Context
@@ -120,20 +117,14 @@ named_as (Some attribute) context = record context { stage = Named attribute }
 
 -- an `=` stands
 abbrev pub equaled : Stage → Stage
-equaled Between = Between
-equaled Bare = Bare
-equaled Spaced = Spaced
 equaled (Named attribute) = Equaled attribute
-equaled (Equaled attribute) = Equaled attribute
+equaled other = other
 
 -- a value stands
 abbrev pub valued : Stage → List ℕ → Context → Context
-valued Between text context = context
-valued Bare text context = context
-valued Spaced text context = context
-valued (Named attribute) text context = context
 valued (Equaled attribute) text context =
     record context { stage = Bare; tag = record { at = context.tag.at; word = context.tag.word; given = context.tag.given ++ (record { word = attribute.word; text = text }) ∷ [] } }
+valued other text context = context
 
 -- the element of a start tag is an entry, after those before it
 abbrev pub entry_added : Option Element → Context → List Entry

@@ -144,13 +144,17 @@ sampling given = on_value (size (attribute_text_of word.MaxMessageLength given))
 unfoldable pub queuing : List Pair → Option Element
 queuing given = on_value (size (attribute_text_of word.MaxMessageLength given)) (λ length. on_value (number (attribute_text_of word.MaxNoMessages given)) (λ most. Some (element.Queuing length most)))
 
+-- an end of a channel: a partition's number, and its port's name
+abbrev pub end_element : (ℕ → List ℕ → Element) → List Pair → Option Element
+end_element end given = on_value (number (attribute_text_of word.PartitionId given)) (λ part. on_value (name_from_bytes (attribute_text_of word.PortName given)) (λ name. Some (end part name)))
+
 -- the source of a channel
 unfoldable pub source : List Pair → Option Element
-source given = on_value (number (attribute_text_of word.PartitionId given)) (λ part. on_value (name_from_bytes (attribute_text_of word.PortName given)) (λ name. Some (element.Source part name)))
+source given = end_element element.Source given
 
 -- a destination of a channel
 unfoldable pub destination : List Pair → Option Element
-destination given = on_value (number (attribute_text_of word.PartitionId given)) (λ part. on_value (name_from_bytes (attribute_text_of word.PortName given)) (λ name. Some (element.Destination part name)))
+destination given = end_element element.Destination given
 
 -- a link
 unfoldable pub ipvi : List Pair → Option Element
@@ -159,35 +163,39 @@ ipvi given =
     on_value (number (attribute_text_of word.SourceId given)) (λ source.
     on_value (number (attribute_text_of word.DestinationId given)) (λ dest. Some (element.Ipvi id source dest))))
 
+-- an element that has no values, where there is one of that name
+abbrev pub bare_element : Word → Option Element
+bare_element word.HwDescription = Some element.Hw
+bare_element word.MemoryLayout = Some element.MemoryLayout
+bare_element word.ProcessorTable = Some element.ProcessorTable
+bare_element word.CyclicPlanTable = Some element.CyclicPlanTable
+bare_element word.Devices = Some element.Devices
+bare_element word.XmHypervisor = Some element.Hypervisor
+bare_element word.PartitionTable = Some element.PartitionTable
+bare_element word.PhysicalMemoryAreas = Some element.Areas
+bare_element word.HealthMonitor = Some element.HealthMonitor
+bare_element word.PortTable = Some element.PortTable
+bare_element word.Channels = Some element.Channels
+bare_element other = None
+
 -- the element with its values
 unfoldable pub built : Word → List Pair → Option Element
 built word.SystemDescription given = system given
-built word.HwDescription given = Some element.Hw
-built word.MemoryLayout given = Some element.MemoryLayout
 built word.Region given = region_element given
-built word.ProcessorTable given = Some element.ProcessorTable
 built word.Processor given = processor given
-built word.CyclicPlanTable given = Some element.CyclicPlanTable
 built word.Plan given = plan_element given
 built word.Slot given = slot_element given
-built word.Devices given = Some element.Devices
 built word.Uart given = uart given
-built word.XmHypervisor given = Some element.Hypervisor
 built word.PhysicalMemoryArea given = hypervisor_area given
-built word.PartitionTable given = Some element.PartitionTable
 built word.Partition given = partition given
-built word.PhysicalMemoryAreas given = Some element.Areas
 built word.Area given = area_element given
 built word.TemporalRequirements given = need_element given
-built word.HealthMonitor given = Some element.HealthMonitor
 built word.Event given = event given
 built word.Trace given = trace given
-built word.PortTable given = Some element.PortTable
 built word.Port given = port_element given
-built word.Channels given = Some element.Channels
 built word.SamplingChannel given = sampling given
 built word.QueuingChannel given = queuing given
 built word.Source given = source given
 built word.Destination given = destination given
 built word.Ipvi given = ipvi given
-built attribute given = None
+built other given = bare_element other

@@ -50,34 +50,23 @@ when false found = []
 -- between tags
 abbrev pub is_between : Stage → Bool
 is_between Between = true
-is_between Bare = false
-is_between Spaced = false
-is_between (Named attribute) = false
-is_between (Equaled attribute) = false
+is_between other = false
 
 -- in a start tag where an attribute may stand
 abbrev pub is_spaced : Stage → Bool
-is_spaced Between = false
-is_spaced Bare = false
 is_spaced Spaced = true
-is_spaced (Named attribute) = false
-is_spaced (Equaled attribute) = false
+is_spaced other = false
 
 -- in a start tag where it may end
 abbrev pub may_end : Stage → Bool
-may_end Between = false
 may_end Bare = true
 may_end Spaced = true
-may_end (Named attribute) = false
-may_end (Equaled attribute) = false
+may_end other = false
 
 -- after an attribute's name
 abbrev pub is_named : Stage → Bool
-is_named Between = false
-is_named Bare = false
-is_named Spaced = false
 is_named (Named attribute) = true
-is_named (Equaled attribute) = false
+is_named other = false
 
 -- the root has ended
 abbrev pub is_done : List Open → List Entry → Bool
@@ -97,11 +86,8 @@ attribute_faults (Some attribute) tag at = when (is_given attribute.word tag.giv
 
 -- the faults of a value whose quote stands here
 abbrev pub value_faults : Stage → List ℕ → ℕ → List ReadFault
-value_faults Between text at = fault.BadItem at ∷ []
-value_faults Bare text at = fault.BadItem at ∷ []
-value_faults Spaced text at = fault.BadItem at ∷ []
-value_faults (Named attribute) text at = fault.BadItem at ∷ []
 value_faults (Equaled attribute) text at = when (not (has_form attribute.form text)) (fault.BadValue (at + 1))
+value_faults other text at = fault.BadItem at ∷ []
 
 -- the attributes that a start tag lacks where it ends
 unfoldable pub missing_attributes : Word → List Pair → ℕ → List ReadFault

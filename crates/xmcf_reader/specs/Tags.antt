@@ -1,5 +1,5 @@
 -- What the tags of a text say of its entries: all by counting where elements begin and end.
-use Rattle.std.specs.Prelude.{◌≡◌, ℕ, ◌+◌, ◌<◌, ◌≤◌, List, [], ◌∷◌, ◌++◌, length, Option, Some, ◌⊎◌}
+use Rattle.std.specs.Prelude.{◌≡◌, ℕ, ◌+◌, ◌<◌, ◌≤◌, List, [], ◌∷◌, ◌++◌, length, Option, Some, None, ◌⊎◌}
 use Rattle.std.specs.List.{zip, filter_map}
 use Rattle.std.specs.Option.{option_map}
 use Rattle.xmcf_reader.specs.Draft.{attribute_named}
@@ -24,29 +24,14 @@ tokens_of (End at) = []
 
 -- how many elements begin at a token
 abbrev pub begins : Token → ℕ
-begins Blanks = 0
-begins Comment = 0
-begins Declaration = 0
 begins (Opening name) = 1
-begins (Name name) = 0
-begins Equals = 0
-begins (Value text) = 0
-begins TagEnd = 0
-begins EmptyEnd = 0
-begins (EndTag name) = 0
+begins other = 0
 
 -- how many elements end at a token
 abbrev pub ends : Token → ℕ
-ends Blanks = 0
-ends Comment = 0
-ends Declaration = 0
-ends (Opening name) = 0
-ends (Name name) = 0
-ends Equals = 0
-ends (Value text) = 0
-ends TagEnd = 0
 ends EmptyEnd = 1
 ends (EndTag name) = 1
+ends other = 0
 
 -- how many elements begin in tokens
 abbrev pub count_begun : List Placed → ℕ
@@ -80,57 +65,32 @@ IsParent before number = ((count_begun before ≡ 0) × (number ≡ 0)) ⊎ IsIn
 
 -- a token of a start tag and those after it; the end of the tag ends them
 abbrev pub tag_token : Token → List Token → List Token
-tag_token Blanks more = Blanks ∷ more
-tag_token Comment more = Comment ∷ more
-tag_token Declaration more = Declaration ∷ more
-tag_token (Opening name) more = Opening name ∷ more
-tag_token (Name name) more = Name name ∷ more
-tag_token Equals more = Equals ∷ more
-tag_token (Value text) more = Value text ∷ more
 tag_token TagEnd more = []
 tag_token EmptyEnd more = []
-tag_token (EndTag name) more = EndTag name ∷ more
+tag_token other more = other ∷ more
 
 -- the tokens of a start tag after its name
 abbrev pub in_tag : List Placed → List Token
 in_tag [] = []
 in_tag (one ∷ more) = tag_token one.token (in_tag more)
 
--- a token and those after it, of which only names count
-abbrev pub name_token : Token → List (List ℕ) → List (List ℕ)
-name_token Blanks more = more
-name_token Comment more = more
-name_token Declaration more = more
-name_token (Opening name) more = more
-name_token (Name name) more = name ∷ more
-name_token Equals more = more
-name_token (Value text) more = more
-name_token TagEnd more = more
-name_token EmptyEnd more = more
-name_token (EndTag name) more = more
+-- the name of an attribute, where a token is one
+abbrev pub name_token : Token → Option (List ℕ)
+name_token (Name name) = Some name
+name_token other = None
 
 -- the names of attributes in tokens
 abbrev pub names_in : List Token → List (List ℕ)
-names_in [] = []
-names_in (one ∷ more) = name_token one (names_in more)
+names_in tokens = filter_map name_token tokens
 
--- a token and those after it, of which only values count
-abbrev pub value_token : Token → List (List ℕ) → List (List ℕ)
-value_token Blanks more = more
-value_token Comment more = more
-value_token Declaration more = more
-value_token (Opening name) more = more
-value_token (Name name) more = more
-value_token Equals more = more
-value_token (Value text) more = text ∷ more
-value_token TagEnd more = more
-value_token EmptyEnd more = more
-value_token (EndTag name) more = more
+-- the text of a value, where a token is one
+abbrev pub value_token : Token → Option (List ℕ)
+value_token (Value text) = Some text
+value_token other = None
 
 -- the values in tokens
 abbrev pub values_in : List Token → List (List ℕ)
-values_in [] = []
-values_in (one ∷ more) = value_token one (values_in more)
+values_in tokens = filter_map value_token tokens
 
 -- an attribute of the table with its value
 abbrev pub pair_named : Word → List ℕ × List ℕ → Option Pair

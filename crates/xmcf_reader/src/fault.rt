@@ -1,6 +1,8 @@
 //! Why a text is no system description.
 
-ghost use Rattle.std.specs.Prelude.{◌≡◌};
+ghost use Rattle.std.specs.Prelude.{◌≡◌, Some};
+ghost use Rattle.xmcf_reader.specs.Texts.{read_fault_text};
+ghost use Rattle.xmcf_reader.specs.declared.fault.ReadFault.TheVariants as fault;
 
 use crate::word::Word;
 use std::alloc::AllocFailed;
@@ -36,10 +38,7 @@ pub enum ReadFault {
 }
 
 impl fmt::Display for ReadFault {
-    ghost use Rattle.std.specs.Prelude.{Some};
-    ghost use Rattle.xmcf_reader.specs.Texts.{read_fault_text};
-
-    ghost output = { λ fault. Some (read_fault_text fault) };
+    ghost output = { λ met. Some (read_fault_text met) };
 
     fn fmt<W: fmt::Write>(&self, f: &mut fmt::Formatter<W>) -> fmt::Result {
         match self {
@@ -66,9 +65,6 @@ impl fmt::Display for ReadFault {
 }
 
 impl<T: Drop> From<AllocFailed<T>> for ReadFault {
-    ghost use Rattle.std.specs.Prelude.{◌≡◌};
-    ghost use Rattle.xmcf_reader.specs.declared.fault.ReadFault.TheVariants as fault;
-
     ghost from_gives = { λ _ e. e ≡ fault.Memory };
 
     fn from(_error: AllocFailed<T>) -> ReadFault {
