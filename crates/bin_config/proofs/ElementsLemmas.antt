@@ -15,6 +15,18 @@ pub with_front-more : {X : Type 0} (front : List X) (x : X) (read : Read (List X
 with_front-more front x (Ok (xs, place)) = ap (λ all. Ok (all, place)) (append_assoc front (x ∷ []) xs)
 with_front-more front x (Err f) = refl
 
+-- no element stands before those that are read
+with_front-none : {X : Type 0} (read : Read (List X)) → with_front [] read ≡ read
+with_front-none (Ok (xs, place)) = refl
+with_front-none (Err f) = refl
+
+-- before the first element
+pub elements_begin : {X : Type 0} (element : Place → Read X) (count : ℕ) (place : Place) (front : List X) → front ≡ []
+    → with_front front (elements_at element (count - 0) place) ≡ elements_at element count place
+elements_begin element count place front none =
+    let all : count - 0 ≡ count = omega arith in
+    ap (λ k. with_front front (elements_at element k place)) all ∙ ap (λ xs. with_front xs (elements_at element count place)) none ∙ with_front-none (elements_at element count place)
+
 -- an element that is read
 pub elements_more : {X : Type 0} (element : Place → Read X) (count n : ℕ) (old new : Place) (front : List X) (x : X) (r : Read (List X))
     → n < count → element old ≡ Ok (x, new) → with_front front (elements_at element (count - n) old) ≡ r → with_front (front ++ x ∷ []) (elements_at element (count - (n + 1)) new) ≡ r
@@ -48,9 +60,6 @@ elements_all element count n place front r past sofar =
     sym sofar
     ∙ ap (λ k. with_front front (elements_at element k place)) none
     ∙ ap (λ all. Ok (all, place)) (append-nil front)
-
--- what a loop over a count comes to
-pub ruleset elements_loop = (elements_more, elements_fails, elements_all)
 
 -- an element that is read into its place
 pub elements_set : {X : Type 0} (element : Place → Read X) (places : List X) (n : ℕ) (old new : Place) (x : X) (r : Read (List X))

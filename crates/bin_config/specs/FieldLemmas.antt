@@ -10,7 +10,7 @@ use Rattle.sealed_files.specs.FieldLemmas.{IsWide, Reads, Takes, number_again, n
 use Rattle.sealed_files.specs.Fields.{number_at}
 use Rattle.sealed_files.specs.StepLemmas.{ok_is, stepped}
 use Rattle.sealed_files.specs.Steps.{◌>>=◌}
-use Rattle.bin_config.specs.Reading.{Read, byte_field_at, half_word_at, word_field_at, or_fault, elements_at, counted_at, conf_short}
+use Rattle.bin_config.specs.Reading.{Read, byte_field_at, half_word_at, word_field_at, or_fault, coded_at, elements_at, counted_at, conf_short}
 use Rattle.bin_config.specs.Spelled.{IsByte, IsHalfWord, HasFourBytes, AreFew}
 use Rattle.bin_config.specs.Xmc.{half_word, word_field, list_field}
 
@@ -56,9 +56,9 @@ unfolding word_field_at
 word_spells = number_spells w32 (2 ^ 32) wide32
 
 -- a value that has a code
-pub coded_spells : {A X : Type 0} (read : Place → Read A) (spell : A → List ℕ) (P : A → Type 0) (value : A → Option X) (code : X → A) (Q : X → Type 0) → IsReaderOf read spell P
-    → ((a : A) (x : X) → P a → value a ≡ Some x → (a ≡ code x) × Q x) → ((x : X) → Q x → (value (code x) ≡ Some x) × P (code x))
-    → IsReaderOf (λ place. read place >>= λ a. or_fault place.at a.1 (value a.0)) (λ x. spell (code x)) Q
+pub coded_spells : {X : Type 0} (read : Place → Read ℕ) (spell : ℕ → List ℕ) (P : ℕ → Type 0) (value : ℕ → Option X) (code : X → ℕ) (Q : X → Type 0) → IsReaderOf read spell P
+    → ((n : ℕ) (x : X) → P n → value n ≡ Some x → (n ≡ code x) × Q x) → ((x : X) → Q x → (value (code x) ≡ Some x) × P (code x))
+    → IsReaderOf (coded_at read value) (λ x. spell (code x)) Q
 coded_spells read spell P value code Q s there back = record {
   takes = λ place x after each e.
       let a = stepped (read place) (λ a. or_fault place.at a.1 (value a.0)) (x, after) e in

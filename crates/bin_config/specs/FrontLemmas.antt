@@ -98,3 +98,10 @@ made_of_fields {T} {X} {front} {spell} {P} to from text_of Q opens there back sa
       let o = opens.again (X × Place) (λ t behind. Ok (to t, behind)) place (from x) rest h.1 (is ∙ ap (λ bytes. bytes ++ rest) (sym (same x q))) in
       record { after = o.after; is = o.is ∙ ap (λ y. Ok (y, o.after)) h.0; ahead = o.ahead };
 }
+
+-- a value is read as its two fields are
+pub made_of_two : {A B X : Type 0} {one : Place → Read A} {other : Place → Read B} {spell : A → List ℕ} {text : B → List ℕ} {P : A → Type 0} {R : B → Type 0} (to : A × B → X) (from : X → A × B) (text_of : X → List ℕ) (Q : X → Type 0)
+    → IsReaderOf one spell P → IsReaderOf other text R
+    → ((t : A × B) → P t.0 × R t.1 → (from (to t) ≡ t) × Q (to t)) → ((x : X) → Q x → (to (from x) ≡ x) × (P (from x).0 × R (from x).1))
+    → ((x : X) → Q x → spell (from x).0 ++ text (from x).1 ≡ text_of x) → IsReaderOf (all_fields (then_of (one_field one) (λ t. other)) to) text_of Q
+made_of_two to from text_of Q a b there back same = made_of_fields to from text_of Q (then (first a) b) there back same

@@ -58,15 +58,19 @@ abbrev pub or_fault : {X : Type 0} → ℕ → Place → Option X → Read X
 or_fault at behind None = Err (fault.Field at)
 or_fault at behind (Some x) = Ok (x, behind)
 
--- what a byte means that is 0 or 1
-abbrev pub flag_of : ℕ → Option Bool
-flag_of byte = if byte == 0 then Some false else if byte == 1 then Some true else None
+-- a number that means a value; else its field is at fault
+abbrev pub coded_at : {X : Type 0} → (Place → Read ℕ) → (ℕ → Option X) → Place → Read X
+coded_at field meaning place = do
+  code ← field place
+  or_fault place.at code.1 (meaning code.0)
+
+-- what a byte means that is 0 or 1, each for a value
+abbrev pub one_of_two : {X : Type 0} → X → X → ℕ → Option X
+one_of_two first second byte = if byte == 0 then Some first else if byte == 1 then Some second else None
 
 -- a byte that is 0 or 1
 unfoldable pub flag_at : Place → Read Bool
-flag_at place = do
-  byte ← byte_field_at place
-  or_fault place.at byte.1 (flag_of byte.0)
+flag_at place = coded_at byte_field_at (one_of_two false true) place
 
 -- the bytes of a text, where so many are left; the text begins at a place
 abbrev pub text_behind : ℕ → ℕ → Place → Read (List ℕ)
@@ -92,27 +96,32 @@ counted_at element place = do
   count ← byte_field_at place
   elements_at element count.0 count.1
 
+-- two fields, as one value
+abbrev pub two_fields_at : {A B X : Type 0} → (Place → Read A) → (Place → Read B) → (A → B → X) → Place → Read X
+two_fields_at one other made place = do
+  a ← one place
+  b ← other a.1
+  Ok (made a.0 b.0, b.1)
+
+-- three fields, as one value
+abbrev pub three_fields_at : {A B C X : Type 0} → (Place → Read A) → (Place → Read B) → (Place → Read C) → (A → B → C → X) → Place → Read X
+three_fields_at one other third made place = do
+  a ← one place
+  b ← other a.1
+  c ← third b.1
+  Ok (made a.0 b.0 c.0, c.1)
+
 -- a region
 unfoldable pub region_at : Place → Read Region
-region_at place = do
-  start ← word_field_at place
-  size ← word_field_at start.1
-  Ok (record { start = start.0; size = size.0 }, size.1)
+region_at place = two_fields_at word_field_at word_field_at (λ start size. record { start = start; size = size }) place
 
 -- a slot
 unfoldable pub slot_record_at : Place → Read Slot
-slot_record_at place = do
-  start ← word_field_at place
-  duration ← word_field_at start.1
-  part ← byte_field_at duration.1
-  Ok (record { start = start.0; duration = duration.0; part = part.0 }, part.1)
+slot_record_at place = three_fields_at word_field_at word_field_at byte_field_at (λ start duration part. record { start = start; duration = duration; part = part }) place
 
 -- a plan
 unfoldable pub plan_record_at : Place → Read Plan
-plan_record_at place = do
-  frame ← word_field_at place
-  slots ← counted_at slot_record_at frame.1
-  Ok (record { frame = frame.0; slots = slots.0 }, slots.1)
+plan_record_at place = two_fields_at word_field_at (counted_at slot_record_at) (λ frame slots. record { frame = frame; slots = slots }) place
 
 -- the UART of a console
 abbrev pub console_of : ℕ → Option ℕ
@@ -134,9 +143,7 @@ need_at place = do
 
 -- an action
 unfoldable pub action_at : Place → Read Action
-action_at place = do
-  byte ← byte_field_at place
-  or_fault place.at byte.1 (slice_get actions byte.0)
+action_at place = coded_at byte_field_at (slice_get actions) place
 
 -- the flags of the events that are logged
 abbrev pub logged_flags : ℕ → Option ℕ
@@ -144,52 +151,27 @@ logged_flags flags = if nat_lt flags 4096 then Some flags else None
 
 -- the flags of the events that are logged
 unfoldable pub flags_at : Place → Read ℕ
-flags_at place = do
-  flags ← half_word_at place
-  or_fault place.at flags.1 (logged_flags flags.0)
+flags_at place = coded_at half_word_at logged_flags place
 
 -- an area
 unfoldable pub area_at : Place → Read Area
-area_at place = do
-  start ← word_field_at place
-  size ← word_field_at start.1
-  read_only ← flag_at size.1
-  Ok (record { start = start.0; size = size.0; read_only = read_only.0 }, read_only.1)
-
--- the kind of a port that a byte means
-abbrev pub kind_of_byte : ℕ → Option Kind
-kind_of_byte byte = if byte == 0 then Some kind.Sampling else if byte == 1 then Some kind.Queuing else None
+area_at place = three_fields_at word_field_at word_field_at flag_at (λ start size read_only. record { start = start; size = size; read_only = read_only }) place
 
 -- a port's kind
 unfoldable pub kind_at : Place → Read Kind
-kind_at place = do
-  byte ← byte_field_at place
-  or_fault place.at byte.1 (kind_of_byte byte.0)
-
--- the way of a port that a byte means
-abbrev pub way_of_byte : ℕ → Option Way
-way_of_byte byte = if byte == 0 then Some way.Source else if byte == 1 then Some way.Destination else None
+kind_at place = coded_at byte_field_at (one_of_two kind.Sampling kind.Queuing) place
 
 -- a port's way
 unfoldable pub way_at : Place → Read Way
-way_at place = do
-  byte ← byte_field_at place
-  or_fault place.at byte.1 (way_of_byte byte.0)
+way_at place = coded_at byte_field_at (one_of_two way.Source way.Destination) place
 
 -- a port
 unfoldable pub port_record_at : Place → Read Port
-port_record_at place = do
-  name ← text_field_at place
-  kind ← kind_at name.1
-  way ← way_at kind.1
-  Ok (record { name = name.0; kind = kind.0; way = way.0 }, way.1)
+port_record_at place = three_fields_at text_field_at kind_at way_at (λ name kind way. record { name = name; kind = kind; way = way }) place
 
 -- an end of a channel
 unfoldable pub end_at : Place → Read End
-end_at place = do
-  part ← byte_field_at place
-  port ← byte_field_at part.1
-  Ok (record { part = part.0; port = port.0 }, port.1)
+end_at place = two_fields_at byte_field_at byte_field_at (λ part port. record { part = part; port = port }) place
 
 -- what a channel's kind has beside it
 unfoldable pub keeps_at : Kind → Place → Read ChanKind
@@ -216,10 +198,7 @@ event_count = 12
 
 -- a partition's table of health events
 unfoldable pub health_table_at : Place → Read HmTable
-health_table_at place = do
-  actions ← elements_at action_at event_count place
-  logged ← flags_at actions.1
-  Ok (record { actions = actions.0; logged = logged.0 }, logged.1)
+health_table_at place = two_fields_at (elements_at action_at event_count) flags_at (λ actions logged. record { actions = actions; logged = logged }) place
 
 -- who a partition is, and what time it requires
 unfoldable pub identity_at : Place → Read Identity
@@ -254,11 +233,7 @@ part_record_at place = do
 
 -- a link
 unfoldable pub link_at : Place → Read Link
-link_at place = do
-  number ← byte_field_at place
-  source ← byte_field_at number.1
-  dest ← byte_field_at source.1
-  Ok (record { number = number.0; source = source.0; dest = dest.0 }, dest.1)
+link_at place = three_fields_at byte_field_at byte_field_at byte_field_at (λ number source dest. record { number = number; source = source; dest = dest }) place
 
 -- the links, which version 1 does not have
 abbrev pub links_at : Version → Place → Read (List Link)

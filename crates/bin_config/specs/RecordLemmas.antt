@@ -23,11 +23,10 @@ use Rattle.sealed_files.specs.Fields.{field_bytes}
 use Rattle.sealed_files.specs.StepLemmas.{ok_is, stepped}
 use Rattle.sealed_files.specs.Steps.{◌>>=◌}
 use Rattle.bin_config.specs.Reading as reading
-use Rattle.bin_config.specs.Reading.{Read}
 use Rattle.bin_config.specs.Spelled.{IsByte, IsHalfWord, HasFourBytes, IsSpelledRegion, IsSpelledSlot, IsSpelledPlan, IsSpelledNeed, IsSpelledMonitor, IsSpelledArea, IsSpelledPart, IsSpelledEnd, IsSpelledKind, IsSpelledChan, IsSpelledLink, AreSpelledLinks, IsSpelledConf}
 use Rattle.bin_config.specs.Xmc as xmc
 use Rattle.bin_config.specs.FieldLemmas.{IsReaderOf, had, byte_spells, half_word_spells, word_spells, coded_spells, elements_spells, counted_spells}
-use Rattle.bin_config.specs.FrontLemmas.{first, then, followed, made_of_fields}
+use Rattle.bin_config.specs.FrontLemmas.{first, then, followed, made_of_fields, made_of_two}
 use Rattle.bin_config.specs.declared.identity.Identity.{Identity}
 use Rattle.bin_config.specs.declared.version.Version.{Version}
 use Rattle.bin_config.specs.declared.version.Version.TheVariants as version
@@ -37,8 +36,7 @@ use Rattle.file_texts.specs.declared.fault.XmcFault.TheVariants.{Short}
 pub region_spells : IsReaderOf reading.region_at xmc.region_record IsSpelledRegion
 unfolding reading.region_at xmc.region_record
 region_spells =
-    made_of_fields (λ t. record { start = t.0; size = t.1 }) (λ r. (r.start, r.size)) xmc.region_record IsSpelledRegion
-    (then (first word_spells) word_spells)
+    made_of_two (λ t. record { start = t.0; size = t.1 }) (λ r. (r.start, r.size)) xmc.region_record IsSpelledRegion word_spells word_spells
     (λ t p. (refl, record { start = p.0; size = p.1 })) (λ r q. (refl, (q.start, q.size))) (λ r q. refl)
 
 -- a slot
@@ -53,8 +51,8 @@ slot_spells =
 pub plan_spells : IsReaderOf reading.plan_record_at xmc.plan_record IsSpelledPlan
 unfolding reading.plan_record_at xmc.plan_record
 plan_spells =
-    made_of_fields (λ t. record { frame = t.0; slots = t.1 }) (λ p. (p.frame, p.slots)) xmc.plan_record IsSpelledPlan
-    (then (first word_spells) (counted_spells reading.slot_record_at xmc.slot_record IsSpelledSlot slot_spells))
+    made_of_two (λ t. record { frame = t.0; slots = t.1 }) (λ p. (p.frame, p.slots)) xmc.plan_record IsSpelledPlan
+    word_spells (counted_spells reading.slot_record_at xmc.slot_record IsSpelledSlot slot_spells)
     (λ t p. (refl, record { frame = p.0; slots = p.1 })) (λ x q. (refl, (q.frame, q.slots))) (λ x q. refl)
 
 -- what was found is the value
@@ -62,67 +60,60 @@ some_is : {X : Type 0} (x y : X) → (let found : Option X = Some x in found ≡
 some_is x y e = cc
 
 -- a byte that means one of two values
-two_there : {X : Type 0} (byte : ℕ) (one other x : X) → cond (byte == 0) (Some one) (cond (byte == 1) (Some other) None) ≡ Some x → ((byte ≡ 0) × (one ≡ x)) ⊎ ((byte ≡ 1) × (other ≡ x))
-two_there byte one other x e = at (byte == 0) refl (byte == 1) refl e
+two_there : {X : Type 0} (first second x : X) (byte : ℕ) → reading.one_of_two first second byte ≡ Some x → ((byte ≡ 0) × (first ≡ x)) ⊎ ((byte ≡ 1) × (second ≡ x))
+two_there {X} first second x byte e = at (byte == 0) refl (byte == 1) refl e
   where
-    at : (a : Bool) → (byte == 0) ≡ a → (b : Bool) → (byte == 1) ≡ b → cond a (Some one) (cond b (Some other) None) ≡ Some x → ((byte ≡ 0) × (one ≡ x)) ⊎ ((byte ≡ 1) × (other ≡ x))
-    at true none b is found = inl (grind (arith, nat_tests), some_is one x found)
-    at false some true is found = inr (grind (arith, nat_tests), some_is other x found)
+    at : (a : Bool) → (byte == 0) ≡ a → (b : Bool) → (byte == 1) ≡ b → cond a (Some first) (cond b (Some second) None) ≡ Some x → ((byte ≡ 0) × (first ≡ x)) ⊎ ((byte ≡ 1) × (second ≡ x))
+    at true none b is found = inl (grind (arith, nat_tests), some_is first x found)
+    at false some true is found = inr (grind (arith, nat_tests), some_is second x found)
     at false some false more found = absurd cc
 
--- the byte of a flag
-flag_there : (byte : ℕ) (x : Bool) → IsByte byte → reading.flag_of byte ≡ Some x → (byte ≡ xmc.flag_field x) × ⊤
-flag_there byte x below e =
-    elim (two_there byte false true x e) [
-      | inl p ↦ (p.0 ∙ ap xmc.flag_field p.1, tt)
-      | inr p ↦ (p.0 ∙ ap xmc.flag_field p.1, tt)
-    ]
+-- a byte for the first of two values, and one for the second, where there is no other value
+two_spells : {X : Type 0} (first second : X) (code : X → ℕ) → code first ≡ 0 → code second ≡ 1 → ((x : X) → reading.one_of_two first second (code x) ≡ Some x)
+    → IsReaderOf (reading.coded_at reading.byte_field_at (reading.one_of_two first second)) (λ x. code x ∷ []) (λ x. ⊤)
+two_spells {X} first second code none one known =
+    coded_spells reading.byte_field_at (λ n. n ∷ []) IsByte (reading.one_of_two first second) code (λ x. ⊤) byte_spells there (λ x q. (known x, small x (two_there first second x (code x) (known x))))
+  where
+    there : (byte : ℕ) (x : X) → IsByte byte → reading.one_of_two first second byte ≡ Some x → (byte ≡ code x) × ⊤
+    there byte x below e =
+        elim (two_there first second x byte e) [
+          | inl p ↦ (p.0 ∙ sym none ∙ ap code p.1, tt)
+          | inr p ↦ (p.0 ∙ sym one ∙ ap code p.1, tt)
+        ]
+
+    small : (x : X) → ((code x ≡ 0) × (first ≡ x)) ⊎ ((code x ≡ 1) × (second ≡ x)) → IsByte (code x)
+    small x (inl p) = omega (arith, p.0)
+    small x (inr p) = omega (arith, p.0)
 
 -- a flag's byte
-flag_back : (x : Bool) → ⊤ → (reading.flag_of (xmc.flag_field x) ≡ Some x) × IsByte (xmc.flag_field x)
-flag_back false q = (refl, omega arith)
-flag_back true q = (refl, omega arith)
+flag_known : (x : Bool) → reading.one_of_two false true (xmc.flag_field x) ≡ Some x
+flag_known false = refl
+flag_known true = refl
+
+-- a port's kind's byte
+kind_known : (x : Kind) → reading.one_of_two kind.Sampling kind.Queuing (xmc.kind_byte x) ≡ Some x
+kind_known kind.Sampling = refl
+kind_known kind.Queuing = refl
+
+-- a port's way's byte
+way_known : (x : Way) → reading.one_of_two way.Source way.Destination (xmc.way_byte x) ≡ Some x
+way_known way.Source = refl
+way_known way.Destination = refl
 
 -- a flag
 pub flag_spells : IsReaderOf reading.flag_at (λ x. xmc.flag_field x ∷ []) (λ x. ⊤)
 unfolding reading.flag_at
-flag_spells = coded_spells reading.byte_field_at (λ n. n ∷ []) IsByte reading.flag_of xmc.flag_field (λ x. ⊤) byte_spells flag_there flag_back
-
--- the byte of a port's kind
-kind_there : (byte : ℕ) (x : Kind) → IsByte byte → reading.kind_of_byte byte ≡ Some x → (byte ≡ xmc.kind_byte x) × ⊤
-kind_there byte x below e =
-    elim (two_there byte kind.Sampling kind.Queuing x e) [
-      | inl p ↦ (p.0 ∙ ap xmc.kind_byte p.1, tt)
-      | inr p ↦ (p.0 ∙ ap xmc.kind_byte p.1, tt)
-    ]
-
--- a port's kind's byte
-kind_back : (x : Kind) → ⊤ → (reading.kind_of_byte (xmc.kind_byte x) ≡ Some x) × IsByte (xmc.kind_byte x)
-kind_back kind.Sampling q = (refl, omega arith)
-kind_back kind.Queuing q = (refl, omega arith)
+flag_spells = two_spells false true xmc.flag_field refl refl flag_known
 
 -- a port's kind
 pub kind_spells : IsReaderOf reading.kind_at (λ x. xmc.kind_byte x ∷ []) (λ x. ⊤)
 unfolding reading.kind_at
-kind_spells = coded_spells reading.byte_field_at (λ n. n ∷ []) IsByte reading.kind_of_byte xmc.kind_byte (λ x. ⊤) byte_spells kind_there kind_back
-
--- the byte of a port's way
-way_there : (byte : ℕ) (x : Way) → IsByte byte → reading.way_of_byte byte ≡ Some x → (byte ≡ xmc.way_byte x) × ⊤
-way_there byte x below e =
-    elim (two_there byte way.Source way.Destination x e) [
-      | inl p ↦ (p.0 ∙ ap xmc.way_byte p.1, tt)
-      | inr p ↦ (p.0 ∙ ap xmc.way_byte p.1, tt)
-    ]
-
--- a port's way's byte
-way_back : (x : Way) → ⊤ → (reading.way_of_byte (xmc.way_byte x) ≡ Some x) × IsByte (xmc.way_byte x)
-way_back way.Source q = (refl, omega arith)
-way_back way.Destination q = (refl, omega arith)
+kind_spells = two_spells kind.Sampling kind.Queuing xmc.kind_byte refl refl kind_known
 
 -- a port's way
 pub way_spells : IsReaderOf reading.way_at (λ x. xmc.way_byte x ∷ []) (λ x. ⊤)
 unfolding reading.way_at
-way_spells = coded_spells reading.byte_field_at (λ n. n ∷ []) IsByte reading.way_of_byte xmc.way_byte (λ x. ⊤) byte_spells way_there way_back
+way_spells = two_spells way.Source way.Destination xmc.way_byte refl refl way_known
 
 -- the byte of an action
 action_there : (byte : ℕ) (x : Action) → IsByte byte → slice_get actions byte ≡ Some x → (byte ≡ (action_row x).number) × ⊤
@@ -301,8 +292,7 @@ port_spells =
 pub end_spells : IsReaderOf reading.end_at xmc.end IsSpelledEnd
 unfolding reading.end_at xmc.end
 end_spells =
-    made_of_fields (λ t. record { part = t.0; port = t.1 }) (λ e. (e.part, e.port)) xmc.end IsSpelledEnd
-    (then (first byte_spells) byte_spells)
+    made_of_two (λ t. record { part = t.0; port = t.1 }) (λ e. (e.part, e.port)) xmc.end IsSpelledEnd byte_spells byte_spells
     (λ t p. (refl, record { part = p.0; port = p.1 })) (λ e q. (refl, (q.part, q.port))) (λ e q. refl)
 
 -- the port's kind that a channel's kind has
@@ -377,8 +367,8 @@ event_count-is = refl
 pub monitor_spells : IsReaderOf reading.health_table_at xmc.monitor IsSpelledMonitor
 unfolding reading.health_table_at xmc.monitor
 monitor_spells =
-    made_of_fields (λ t. record { actions = t.0; logged = t.1 }) (λ hm. (hm.actions, hm.logged)) xmc.monitor IsSpelledMonitor
-    (then (first (elements_spells reading.action_at xmc.action (λ a. ⊤) reading.event_count action_spells)) flags_spells)
+    made_of_two (λ t. record { actions = t.0; logged = t.1 }) (λ hm. (hm.actions, hm.logged)) xmc.monitor IsSpelledMonitor
+    (elements_spells reading.action_at xmc.action (λ a. ⊤) reading.event_count action_spells) flags_spells
     (λ t p. (refl, record { actions = p.0.0 ∙ event_count-is; logged = p.1 }))
     (λ hm q. (refl, ((q.actions ∙ sym event_count-is, any_actions hm.actions), q.logged))) (λ hm q. refl)
 

@@ -31,6 +31,18 @@ pub record AreFew {X : Type 0} (P : X → Type 0) (xs : List X) : Type 0 where
   pub few : length xs < 256
   pub each : All P xs
 
+-- what is said of a list, by what is said of its elements
+abbrev pub ListTest : Type 1
+ListTest = (X : Type 0) → (X → Type 0) → List X → Type 0
+
+-- each element is so
+abbrev pub ForEach : ListTest
+ForEach X P xs = All P xs
+
+-- each element is so, and they are few
+abbrev pub ForFew : ListTest
+ForFew X P xs = AreFew P xs
+
 -- a region
 pub record IsSpelledRegion (region : Region) : Type 0 where
   pub start : HasFourBytes region.start
@@ -42,10 +54,10 @@ pub record IsSpelledSlot (slot : Slot) : Type 0 where
   pub duration : HasFourBytes slot.duration
   pub part : IsByte slot.part
 
--- a plan
-pub record IsSpelledPlan (plan : Plan) : Type 0 where
+-- a plan, with what is said of its list
+pub record IsPlanWith (Lists : ListTest) (plan : Plan) : Type 0 where
   pub frame : HasFourBytes plan.frame
-  pub slots : AreFew IsSpelledSlot plan.slots
+  pub slots : Lists Slot IsSpelledSlot plan.slots
 
 -- a requirement: neither number is 0, since two zeros say that there is none
 pub record IsSpelledNeed (need : Need) : Type 0 where
@@ -84,12 +96,12 @@ abbrev pub IsSpelledKind : ChanKind → Type 0
 IsSpelledKind (chan_kind.Sampling refresh) = HasFourBytes refresh
 IsSpelledKind (chan_kind.Queuing most) = IsByte most
 
--- a channel
-pub record IsSpelledChan (chan : Chan) : Type 0 where
+-- a channel, with what is said of its list
+pub record IsChanWith (Lists : ListTest) (chan : Chan) : Type 0 where
   pub kind : IsSpelledKind chan.kind
   pub length : IsHalfWord chan.length
   pub source : IsSpelledEnd chan.source
-  pub dests : AreFew IsSpelledEnd chan.dests
+  pub dests : Lists End IsSpelledEnd chan.dests
 
 -- a link
 pub record IsSpelledLink (link : Link) : Type 0 where
@@ -102,21 +114,32 @@ abbrev pub AreSpelledLinks : Version → List Link → Type 0
 AreSpelledLinks version.One links = links ≡ []
 AreSpelledLinks version.Two links = AreFew IsSpelledLink links
 
--- a configuration
-pub record IsSpelledConf (v : Version) (conf : Conf) : Type 0 where
+-- a configuration, with what is said of its lists and of theirs, of a partition, and of the links
+pub record IsConfWith (Lists : ListTest) (IsPart : Part → Type 0) (AreLinks : List Link → Type 0) (conf : Conf) : Type 0 where
   pub name : IsName conf.name
-  pub regions : AreFew IsSpelledRegion conf.regions
+  pub regions : Lists Region IsSpelledRegion conf.regions
   pub hv_size : HasFourBytes conf.hv_size
-  pub uarts : AreFew IsName conf.uarts
-  pub plans : AreFew IsSpelledPlan conf.plans
-  pub parts : AreFew IsSpelledPart conf.parts
-  pub chans : AreFew IsSpelledChan conf.chans
-  pub links : AreSpelledLinks v conf.links
+  pub uarts : Lists (List ℕ) IsName conf.uarts
+  pub plans : Lists Plan (IsPlanWith Lists) conf.plans
+  pub parts : Lists Part IsPart conf.parts
+  pub chans : Lists Chan (IsChanWith Lists) conf.chans
+  pub links : AreLinks conf.links
+
+-- a plan that can be spelled
+abbrev pub IsSpelledPlan : Plan → Type 0
+IsSpelledPlan plan = IsPlanWith ForFew plan
+
+-- a channel that can be spelled
+abbrev pub IsSpelledChan : Chan → Type 0
+IsSpelledChan chan = IsChanWith ForFew chan
+
+-- a configuration that can be spelled in a version
+abbrev pub IsSpelledConf : Version → Conf → Type 0
+IsSpelledConf v conf = IsConfWith ForFew IsSpelledPart (AreSpelledLinks v) conf
 
 -- a plan's numbers are in the ranges of their fields
-pub record HasPlanRanges (plan : Plan) : Type 0 where
-  pub frame : HasFourBytes plan.frame
-  pub slots : All IsSpelledSlot plan.slots
+abbrev pub HasPlanRanges : Plan → Type 0
+HasPlanRanges plan = IsPlanWith ForEach plan
 
 -- a requirement's numbers are
 pub record HasNeedRanges (need : Need) : Type 0 where
@@ -133,19 +156,9 @@ pub record HasPartRanges (part : Part) : Type 0 where
   pub ports : All (λ port. IsName port.name) part.ports
 
 -- a channel's numbers are in the ranges of their fields
-pub record HasChanRanges (chan : Chan) : Type 0 where
-  pub kind : IsSpelledKind chan.kind
-  pub length : IsHalfWord chan.length
-  pub source : IsSpelledEnd chan.source
-  pub dests : All IsSpelledEnd chan.dests
+abbrev pub HasChanRanges : Chan → Type 0
+HasChanRanges chan = IsChanWith ForEach chan
 
 -- all numbers of a configuration are in the ranges of their fields, and its names are names
-pub record HasConfRanges (conf : Conf) : Type 0 where
-  pub name : IsName conf.name
-  pub regions : All IsSpelledRegion conf.regions
-  pub hv_size : HasFourBytes conf.hv_size
-  pub uarts : All IsName conf.uarts
-  pub plans : All HasPlanRanges conf.plans
-  pub parts : All HasPartRanges conf.parts
-  pub chans : All HasChanRanges conf.chans
-  pub links : All IsSpelledLink conf.links
+abbrev pub HasConfRanges : Conf → Type 0
+HasConfRanges conf = IsConfWith ForEach HasPartRanges (All IsSpelledLink) conf

@@ -1,13 +1,15 @@
 //! The fields of a configuration, read one after another.
 
-ghost use Rattle.std.specs.Prelude.{◌≡◌, IfOk, codes, length, slice_get};
+ghost use Rattle.std.specs.Prelude.{◌≡◌, IfOk, Result, codes, length, slice_get};
 ghost use Rattle.xm_conf.specs.Health.{actions};
 ghost use Rattle.xm_conf.specs.Description.{described};
 ghost use Rattle.xm_conf.specs.Rules.{first_broken};
 ghost use Rattle.sealed_files.specs.Gives.{Gives, GivesAt};
 ghost use Rattle.sealed_files.specs.Heads.{magic_at};
 ghost use Rattle.bin_config.specs.Gives.{Fails};
+ghost use Rattle.xm_base.specs.Cursor.{Place};
 ghost use Rattle.bin_config.specs.Reading as reading;
+ghost use Rattle.bin_config.specs.Reading.{Read};
 ghost use Rattle.bin_config.specs.Version.{parts_in_version};
 ghost use Rattle.bin_config.specs.Xmc.{xmc};
 ghost use Rattle.file_texts.specs.declared.fault.XmcFault.TheVariants as fault;
@@ -73,15 +75,15 @@ fn slot(cursor: &mut Cursor<'_>) -> Result<Slot, XmcFault>
     })
 }
 
-/// What a byte means that is 0 or 1.
-fn flag_of(byte: u8) -> Option<bool>
-    ensures { result ≡ reading.flag_of byte }
+/// What a byte means that is 0 or 1, each for a value.
+fn one_of_two<T: Copy>(byte: u8, first: T, second: T) -> Option<T>
+    ensures { result ≡ reading.one_of_two first second byte }
 {
     if byte == 0 {
-        return Some(false);
+        return Some(first);
     }
     if byte == 1 {
-        return Some(true);
+        return Some(second);
     }
     None
 }
@@ -93,7 +95,7 @@ fn flag(cursor: &mut Cursor<'_>) -> Result<bool, XmcFault>
 {
     let at = cursor.at();
     let byte = byte(cursor)?;
-    match flag_of(byte) {
+    match one_of_two(byte, false, true) {
         Some(value) => Ok(value),
         None => Err(XmcFault::Field { at }),
     }
@@ -122,19 +124,6 @@ fn text(cursor: &mut Cursor<'_>) -> Result<Name, XmcFault>
     text_behind(at, count, cursor)
 }
 
-/// The kind of a port that a byte means.
-fn kind_of(byte: u8) -> Option<Kind>
-    ensures { result ≡ reading.kind_of_byte byte }
-{
-    if byte == 0 {
-        return Some(Kind::Sampling);
-    }
-    if byte == 1 {
-        return Some(Kind::Queuing);
-    }
-    None
-}
-
 /// A port's kind.
 #[tactic(auto, unfolding(crate::specs::Reading::kind_at))]
 fn kind(cursor: &mut Cursor<'_>) -> Result<Kind, XmcFault>
@@ -142,23 +131,10 @@ fn kind(cursor: &mut Cursor<'_>) -> Result<Kind, XmcFault>
 {
     let at = cursor.at();
     let byte = byte(cursor)?;
-    match kind_of(byte) {
+    match one_of_two(byte, Kind::Sampling, Kind::Queuing) {
         Some(value) => Ok(value),
         None => Err(XmcFault::Field { at }),
     }
-}
-
-/// The way of a port that a byte means.
-fn way_of(byte: u8) -> Option<Way>
-    ensures { result ≡ reading.way_of_byte byte }
-{
-    if byte == 0 {
-        return Some(Way::Source);
-    }
-    if byte == 1 {
-        return Some(Way::Destination);
-    }
-    None
 }
 
 /// A port's way.
@@ -168,7 +144,7 @@ fn way(cursor: &mut Cursor<'_>) -> Result<Way, XmcFault>
 {
     let at = cursor.at();
     let byte = byte(cursor)?;
-    match way_of(byte) {
+    match one_of_two(byte, Way::Source, Way::Destination) {
         Some(value) => Ok(value),
         None => Err(XmcFault::Field { at }),
     }
@@ -277,46 +253,35 @@ fn flags(cursor: &mut Cursor<'_>) -> Result<u16, XmcFault>
     }
 }
 
-/// Regions.
-#[tactic(auto, using(crate::proofs::ElementsLemmas::elements_loop))]
-fn each_region(alloc: Global, count: u8, cursor: &mut Cursor<'_>) -> Result<Vec<Region>, XmcFault>
-    ensures { GivesAt Fails (λ elements. elements.items) result cursor.new (reading.elements_at reading.region_at count cursor.old) }
+/// So many elements, one after another.
+fn each<T: Drop, F: Fn(&mut Cursor<'_>) -> Result<T, XmcFault>>(
+    alloc: Global,
+    count: u8,
+    cursor: &mut Cursor<'_>,
+    element: F,
+) -> Result<Vec<T>, XmcFault>
+    requires callable { F.IsAlwaysCallable element }
+    ensures { (read : Place → Read T) → ((old : _) (found : Result T XmcFault) (new : _) → F.post element old found new → GivesAt Fails (λ value. value) found new.now (read old.now)) → GivesAt Fails (λ elements. elements.items) result cursor.new (reading.elements_at read count cursor.old) }
 {
-    let mut regions = Vec::new(alloc);
+    let mut elements = Vec::new(alloc);
     for _ in 0..count {
-        let region = region(cursor)?;
-        regions.push(region)?;
+        let one = element(cursor)?;
+        elements.push(one)?;
     }
-    Ok(regions)
+    Ok(elements)
 }
 
-/// Regions.
-fn regions(alloc: Global, cursor: &mut Cursor<'_>) -> Result<Vec<Region>, XmcFault>
-    ensures { GivesAt Fails (λ elements. elements.items) result cursor.new (reading.counted_at reading.region_at cursor.old) }
+/// A byte with the number of elements, and each of them.
+fn counted<T: Drop, F: Fn(&mut Cursor<'_>) -> Result<T, XmcFault>>(
+    alloc: Global,
+    cursor: &mut Cursor<'_>,
+    element: F,
+) -> Result<Vec<T>, XmcFault>
+    requires callable { F.IsAlwaysCallable element }
+    ensures { (read : Place → Read T) → ((old : _) (found : Result T XmcFault) (new : _) → F.post element old found new → GivesAt Fails (λ value. value) found new.now (read old.now)) → GivesAt Fails (λ elements. elements.items) result cursor.new (reading.counted_at read cursor.old) }
 {
     let count = byte(cursor)?;
-    each_region(alloc, count, cursor)
-}
-
-/// Slots.
-#[tactic(auto, using(crate::proofs::ElementsLemmas::elements_loop))]
-fn each_slot(alloc: Global, count: u8, cursor: &mut Cursor<'_>) -> Result<Vec<Slot>, XmcFault>
-    ensures { GivesAt Fails (λ elements. elements.items) result cursor.new (reading.elements_at reading.slot_record_at count cursor.old) }
-{
-    let mut slots = Vec::new(alloc);
-    for _ in 0..count {
-        let slot = slot(cursor)?;
-        slots.push(slot)?;
-    }
-    Ok(slots)
-}
-
-/// Slots.
-fn slots(alloc: Global, cursor: &mut Cursor<'_>) -> Result<Vec<Slot>, XmcFault>
-    ensures { GivesAt Fails (λ elements. elements.items) result cursor.new (reading.counted_at reading.slot_record_at cursor.old) }
-{
-    let count = byte(cursor)?;
-    each_slot(alloc, count, cursor)
+    each(alloc, count, cursor, element)
 }
 
 /// A plan.
@@ -325,113 +290,8 @@ fn plan(alloc: Global, cursor: &mut Cursor<'_>) -> Result<Plan, XmcFault>
     ensures { GivesAt Fails (λ value. value) result cursor.new (reading.plan_record_at cursor.old) }
 {
     let frame = word(cursor)?;
-    let slots = slots(alloc, cursor)?;
+    let slots = counted(alloc, cursor, slot)?;
     Ok(Plan { frame, slots })
-}
-
-/// Plans.
-#[tactic(auto, using(crate::proofs::ElementsLemmas::elements_loop))]
-fn each_plan(alloc: Global, count: u8, cursor: &mut Cursor<'_>) -> Result<Vec<Plan>, XmcFault>
-    ensures { GivesAt Fails (λ elements. elements.items) result cursor.new (reading.elements_at reading.plan_record_at count cursor.old) }
-{
-    let mut plans = Vec::new(alloc);
-    for _ in 0..count {
-        let plan = plan(alloc, cursor)?;
-        plans.push(plan)?;
-    }
-    Ok(plans)
-}
-
-/// Plans.
-fn plans(alloc: Global, cursor: &mut Cursor<'_>) -> Result<Vec<Plan>, XmcFault>
-    ensures { GivesAt Fails (λ elements. elements.items) result cursor.new (reading.counted_at reading.plan_record_at cursor.old) }
-{
-    let count = byte(cursor)?;
-    each_plan(alloc, count, cursor)
-}
-
-/// Names.
-#[tactic(auto, using(crate::proofs::ElementsLemmas::elements_loop))]
-fn each_text(alloc: Global, count: u8, cursor: &mut Cursor<'_>) -> Result<Vec<Name>, XmcFault>
-    ensures { GivesAt Fails (λ elements. elements.items) result cursor.new (reading.elements_at reading.text_field_at count cursor.old) }
-{
-    let mut texts = Vec::new(alloc);
-    for _ in 0..count {
-        let text = text(cursor)?;
-        texts.push(text)?;
-    }
-    Ok(texts)
-}
-
-/// Names.
-fn texts(alloc: Global, cursor: &mut Cursor<'_>) -> Result<Vec<Name>, XmcFault>
-    ensures { GivesAt Fails (λ elements. elements.items) result cursor.new (reading.counted_at reading.text_field_at cursor.old) }
-{
-    let count = byte(cursor)?;
-    each_text(alloc, count, cursor)
-}
-
-/// Areas.
-#[tactic(auto, using(crate::proofs::ElementsLemmas::elements_loop))]
-fn each_area(alloc: Global, count: u8, cursor: &mut Cursor<'_>) -> Result<Vec<Area>, XmcFault>
-    ensures { GivesAt Fails (λ elements. elements.items) result cursor.new (reading.elements_at reading.area_at count cursor.old) }
-{
-    let mut areas = Vec::new(alloc);
-    for _ in 0..count {
-        let area = area(cursor)?;
-        areas.push(area)?;
-    }
-    Ok(areas)
-}
-
-/// Areas.
-fn areas(alloc: Global, cursor: &mut Cursor<'_>) -> Result<Vec<Area>, XmcFault>
-    ensures { GivesAt Fails (λ elements. elements.items) result cursor.new (reading.counted_at reading.area_at cursor.old) }
-{
-    let count = byte(cursor)?;
-    each_area(alloc, count, cursor)
-}
-
-/// Ports.
-#[tactic(auto, using(crate::proofs::ElementsLemmas::elements_loop))]
-fn each_port(alloc: Global, count: u8, cursor: &mut Cursor<'_>) -> Result<Vec<Port>, XmcFault>
-    ensures { GivesAt Fails (λ elements. elements.items) result cursor.new (reading.elements_at reading.port_record_at count cursor.old) }
-{
-    let mut ports = Vec::new(alloc);
-    for _ in 0..count {
-        let port = port(cursor)?;
-        ports.push(port)?;
-    }
-    Ok(ports)
-}
-
-/// Ports.
-fn ports(alloc: Global, cursor: &mut Cursor<'_>) -> Result<Vec<Port>, XmcFault>
-    ensures { GivesAt Fails (λ elements. elements.items) result cursor.new (reading.counted_at reading.port_record_at cursor.old) }
-{
-    let count = byte(cursor)?;
-    each_port(alloc, count, cursor)
-}
-
-/// Ends of a channel.
-#[tactic(auto, using(crate::proofs::ElementsLemmas::elements_loop))]
-fn each_end(alloc: Global, count: u8, cursor: &mut Cursor<'_>) -> Result<Vec<End>, XmcFault>
-    ensures { GivesAt Fails (λ elements. elements.items) result cursor.new (reading.elements_at reading.end_at count cursor.old) }
-{
-    let mut ends = Vec::new(alloc);
-    for _ in 0..count {
-        let end = end(cursor)?;
-        ends.push(end)?;
-    }
-    Ok(ends)
-}
-
-/// Ends of a channel.
-fn ends(alloc: Global, cursor: &mut Cursor<'_>) -> Result<Vec<End>, XmcFault>
-    ensures { GivesAt Fails (λ elements. elements.items) result cursor.new (reading.counted_at reading.end_at cursor.old) }
-{
-    let count = byte(cursor)?;
-    each_end(alloc, count, cursor)
 }
 
 /// A channel.
@@ -443,34 +303,13 @@ fn chan(alloc: Global, cursor: &mut Cursor<'_>) -> Result<Chan, XmcFault>
     let length = half_word(cursor)?;
     let kind = keeps(kind, cursor)?;
     let source = end(cursor)?;
-    let dests = ends(alloc, cursor)?;
+    let dests = counted(alloc, cursor, end)?;
     Ok(Chan {
         kind,
         length,
         source,
         dests,
     })
-}
-
-/// Channels.
-#[tactic(auto, using(crate::proofs::ElementsLemmas::elements_loop))]
-fn each_chan(alloc: Global, count: u8, cursor: &mut Cursor<'_>) -> Result<Vec<Chan>, XmcFault>
-    ensures { GivesAt Fails (λ elements. elements.items) result cursor.new (reading.elements_at reading.chan_record_at count cursor.old) }
-{
-    let mut chans = Vec::new(alloc);
-    for _ in 0..count {
-        let chan = chan(alloc, cursor)?;
-        chans.push(chan)?;
-    }
-    Ok(chans)
-}
-
-/// Channels.
-fn chans(alloc: Global, cursor: &mut Cursor<'_>) -> Result<Vec<Chan>, XmcFault>
-    ensures { GivesAt Fails (λ elements. elements.items) result cursor.new (reading.counted_at reading.chan_record_at cursor.old) }
-{
-    let count = byte(cursor)?;
-    each_chan(alloc, count, cursor)
 }
 
 /// The actions, in the order of their numbers.
@@ -566,8 +405,8 @@ fn part(alloc: Global, cursor: &mut Cursor<'_>) -> Result<Part, XmcFault>
 {
     let identity = identity(cursor)?;
     let hm = monitor(cursor)?;
-    let areas = areas(alloc, cursor)?;
-    let ports = ports(alloc, cursor)?;
+    let areas = counted(alloc, cursor, area)?;
+    let ports = counted(alloc, cursor, port)?;
     Ok(Part {
         name: identity.name,
         system: identity.system,
@@ -578,27 +417,6 @@ fn part(alloc: Global, cursor: &mut Cursor<'_>) -> Result<Part, XmcFault>
         areas,
         ports,
     })
-}
-
-/// Partitions.
-#[tactic(auto, using(crate::proofs::ElementsLemmas::elements_loop))]
-fn each_part(alloc: Global, count: u8, cursor: &mut Cursor<'_>) -> Result<Vec<Part>, XmcFault>
-    ensures { GivesAt Fails (λ elements. elements.items) result cursor.new (reading.elements_at reading.part_record_at count cursor.old) }
-{
-    let mut parts = Vec::new(alloc);
-    for _ in 0..count {
-        let part = part(alloc, cursor)?;
-        parts.push(part)?;
-    }
-    Ok(parts)
-}
-
-/// Partitions.
-fn parts(alloc: Global, cursor: &mut Cursor<'_>) -> Result<Vec<Part>, XmcFault>
-    ensures { GivesAt Fails (λ elements. elements.items) result cursor.new (reading.counted_at reading.part_record_at cursor.old) }
-{
-    let count = byte(cursor)?;
-    each_part(alloc, count, cursor)
 }
 
 /// A link.
@@ -616,34 +434,13 @@ fn link(cursor: &mut Cursor<'_>) -> Result<Link, XmcFault>
     })
 }
 
-/// Links.
-#[tactic(auto, using(crate::proofs::ElementsLemmas::elements_loop))]
-fn each_link(alloc: Global, count: u8, cursor: &mut Cursor<'_>) -> Result<Vec<Link>, XmcFault>
-    ensures { GivesAt Fails (λ elements. elements.items) result cursor.new (reading.elements_at reading.link_at count cursor.old) }
-{
-    let mut links = Vec::new(alloc);
-    for _ in 0..count {
-        let link = link(cursor)?;
-        links.push(link)?;
-    }
-    Ok(links)
-}
-
-/// Links.
-fn counted_links(alloc: Global, cursor: &mut Cursor<'_>) -> Result<Vec<Link>, XmcFault>
-    ensures { GivesAt Fails (λ elements. elements.items) result cursor.new (reading.counted_at reading.link_at cursor.old) }
-{
-    let count = byte(cursor)?;
-    each_link(alloc, count, cursor)
-}
-
 /// The links, which version 1 does not have.
 fn links(alloc: Global, version: Version, cursor: &mut Cursor<'_>) -> Result<Vec<Link>, XmcFault>
     ensures { GivesAt Fails (λ elements. elements.items) result cursor.new (reading.links_at version cursor.old) }
 {
     match version {
         Version::One => Ok(Vec::new(alloc)),
-        Version::Two => counted_links(alloc, cursor),
+        Version::Two => counted(alloc, cursor, link),
     }
 }
 
@@ -653,12 +450,12 @@ fn conf(alloc: Global, version: Version, cursor: &mut Cursor<'_>) -> Result<RawC
     ensures { GivesAt Fails (λ value. value) result cursor.new (reading.conf_body_at version cursor.old) }
 {
     let name = text(cursor)?;
-    let regions = regions(alloc, cursor)?;
+    let regions = counted(alloc, cursor, region)?;
     let hv_size = word(cursor)?;
-    let uarts = texts(alloc, cursor)?;
-    let plans = plans(alloc, cursor)?;
-    let parts = parts(alloc, cursor)?;
-    let chans = chans(alloc, cursor)?;
+    let uarts = counted(alloc, cursor, text)?;
+    let plans = counted(alloc, cursor, |cursor| plan(alloc, cursor))?;
+    let parts = counted(alloc, cursor, |cursor| part(alloc, cursor))?;
+    let chans = counted(alloc, cursor, |cursor| chan(alloc, cursor))?;
     let links = links(alloc, version, cursor)?;
     Ok(RawConf {
         name,

@@ -1,7 +1,7 @@
 //! A configuration, field by field in its binary form.
 
-ghost use Rattle.std.specs.Prelude.{◌≡◌, ◌++◌, ◌+◌, ◌≤◌, All, IfOk, IfSome, Ok, OnOk, length, flat_map};
-ghost use Rattle.bin_config.specs.Puts.{Puts};
+ghost use Rattle.std.specs.Prelude.{◌≡◌, ℕ, ◌++◌, ◌+◌, ◌<◌, ◌≤◌, List, Result, Some, All, IfOk, IfSome, Ok, OnOk, length, flat_map, slice_get};
+ghost use Rattle.bin_config.specs.Puts.{Puts, WasPut};
 ghost use Rattle.bin_config.specs.Spelled as spelled;
 ghost use Rattle.bin_config.specs.Xmc as xmc;
 ghost use Rattle.bin_config.specs.declared.version.Version.TheVariants.{Two};
@@ -32,60 +32,46 @@ fn put_text(bytes: &mut Vec<u8>, name: &Name) -> Result<(), Memory>
     put(bytes, piece)
 }
 
-/// Puts names.
-#[tactic(auto, using(crate::proofs::PutsLemmas::put_loop))]
-fn put_each_text(bytes: &mut Vec<u8>, texts: &[Name]) -> Result<(), Memory>
-    ensures bytes { Puts result bytes.old.items bytes.new.items (flat_map xmc.text_field texts.now) }
-    ensures names { OnOk result (All IsName texts.now) }
+/// Puts each of the elements, as one is put.
+fn put_each<T, F: Fn(&mut Vec<u8>, &T) -> Result<(), Memory>>(bytes: &mut Vec<u8>, elements: &[T], put_one: F) -> Result<(), Memory>
+    requires callable { (old : _) (n : ℕ) (element : _) → slice_get elements.now n ≡ Some element.now → F.pre put_one old element }
+    ensures bytes { (spell : T → List ℕ) → ((old : _) (element : _) (done : Result (Unit {0}) Memory) (new : _) → F.post put_one old element done new → Puts done old.now.items new.now.items (spell element.now)) → Puts result bytes.old.items bytes.new.items (flat_map spell elements.now) }
+    ensures each { OnOk result (All (WasPut (F.post put_one)) elements.now) }
 {
-    for text in texts {
-        put_text(bytes, text)?;
+    for element in elements {
+        put_one(bytes, element)?;
     }
     Ok(())
 }
 
-/// Puts the names of the UARTs.
+/// Puts a list: the number of its elements, and each of them.
 #[tactic(auto, using(crate::proofs::PutsLemmas::put_then))]
-fn put_texts(bytes: &mut Vec<u8>, texts: &[Name]) -> Result<(), Memory>
-    requires { length texts.now ≤ 8 }
-    ensures bytes { Puts result bytes.old.items bytes.new.items (xmc.list_field xmc.text_field texts.now) }
-    ensures names { OnOk result (All IsName texts.now) }
+fn put_list<T, F: Fn(&mut Vec<u8>, &T) -> Result<(), Memory>>(bytes: &mut Vec<u8>, elements: &[T], put_one: F) -> Result<(), Memory>
+    requires few { length elements.now < 256 }
+    requires callable { (old : _) (n : ℕ) (element : _) → slice_get elements.now n ≡ Some element.now → F.pre put_one old element }
+    ensures bytes { (spell : T → List ℕ) → ((old : _) (element : _) (done : Result (Unit {0}) Memory) (new : _) → F.post put_one old element done new → Puts done old.now.items new.now.items (spell element.now)) → Puts result bytes.old.items bytes.new.items (xmc.list_field spell elements.now) }
+    ensures each { OnOk result (All (WasPut (F.post put_one)) elements.now) }
 {
-    put_byte(bytes, texts.len() as u8)?;
-    put_each_text(bytes, texts)
+    put_byte(bytes, elements.len() as u8)?;
+    put_each(bytes, elements, put_one)
+}
+
+/// Puts two words.
+#[tactic(auto, using(crate::proofs::PutsLemmas::put_then))]
+fn put_words(bytes: &mut Vec<u8>, first: u32, second: u32) -> Result<(), Memory>
+    ensures { Puts result bytes.old.items bytes.new.items (xmc.word_field first ++ xmc.word_field second) }
+{
+    put_word(bytes, first)?;
+    put_word(bytes, second)
 }
 
 /// Puts a region.
-#[tactic(auto, using(crate::proofs::PutsLemmas::put_then), unfolding(crate::specs::Xmc::region_record))]
+#[tactic(auto, unfolding(crate::specs::Xmc::region_record))]
 fn put_region(bytes: &mut Vec<u8>, region: &Region) -> Result<(), Memory>
     ensures bytes { Puts result bytes.old.items bytes.new.items (xmc.region_record region.now) }
     ensures ranges { OnOk result (spelled.IsSpelledRegion region.now) }
 {
-    put_word(bytes, region.start)?;
-    put_word(bytes, region.size)
-}
-
-/// Puts regions.
-#[tactic(auto, using(crate::proofs::PutsLemmas::put_loop))]
-fn put_each_region(bytes: &mut Vec<u8>, regions: &[Region]) -> Result<(), Memory>
-    ensures bytes { Puts result bytes.old.items bytes.new.items (flat_map xmc.region_record regions.now) }
-    ensures ranges { OnOk result (All spelled.IsSpelledRegion regions.now) }
-{
-    for region in regions {
-        put_region(bytes, region)?;
-    }
-    Ok(())
-}
-
-/// Puts the regions.
-#[tactic(auto, using(crate::proofs::PutsLemmas::put_then))]
-fn put_regions(bytes: &mut Vec<u8>, regions: &[Region]) -> Result<(), Memory>
-    requires { length regions.now ≤ 8 }
-    ensures bytes { Puts result bytes.old.items bytes.new.items (xmc.list_field xmc.region_record regions.now) }
-    ensures ranges { OnOk result (All spelled.IsSpelledRegion regions.now) }
-{
-    put_byte(bytes, regions.len() as u8)?;
-    put_each_region(bytes, regions)
+    put_words(bytes, region.start, region.size)
 }
 
 /// Puts a slot.
@@ -94,32 +80,8 @@ fn put_slot(bytes: &mut Vec<u8>, slot: &Slot) -> Result<(), Memory>
     ensures bytes { Puts result bytes.old.items bytes.new.items (xmc.slot_record slot.now) }
     ensures ranges { OnOk result (spelled.IsSpelledSlot slot.now) }
 {
-    put_word(bytes, slot.start)?;
-    put_word(bytes, slot.duration)?;
+    put_words(bytes, slot.start, slot.duration)?;
     put_byte(bytes, slot.part)
-}
-
-/// Puts slots.
-#[tactic(auto, using(crate::proofs::PutsLemmas::put_loop))]
-fn put_each_slot(bytes: &mut Vec<u8>, slots: &[Slot]) -> Result<(), Memory>
-    ensures bytes { Puts result bytes.old.items bytes.new.items (flat_map xmc.slot_record slots.now) }
-    ensures ranges { OnOk result (All spelled.IsSpelledSlot slots.now) }
-{
-    for slot in slots {
-        put_slot(bytes, slot)?;
-    }
-    Ok(())
-}
-
-/// Puts the slots of a plan.
-#[tactic(auto, using(crate::proofs::PutsLemmas::put_then))]
-fn put_slots(bytes: &mut Vec<u8>, slots: &[Slot]) -> Result<(), Memory>
-    requires { length slots.now ≤ 64 }
-    ensures bytes { Puts result bytes.old.items bytes.new.items (xmc.list_field xmc.slot_record slots.now) }
-    ensures ranges { OnOk result (All spelled.IsSpelledSlot slots.now) }
-{
-    put_byte(bytes, slots.len() as u8)?;
-    put_each_slot(bytes, slots)
 }
 
 /// Puts a plan.
@@ -130,32 +92,7 @@ fn put_plan(bytes: &mut Vec<u8>, plan: &Plan) -> Result<(), Memory>
     ensures ranges { OnOk result (spelled.HasPlanRanges plan.now) }
 {
     put_word(bytes, plan.frame)?;
-    put_slots(bytes, &plan.slots)
-}
-
-/// Puts plans.
-#[tactic(auto, using(crate::proofs::PutsLemmas::put_loop))]
-fn put_each_plan(bytes: &mut Vec<u8>, plans: &[Plan]) -> Result<(), Memory>
-    requires { All (λ plan. length plan.slots ≤ 64) plans.now }
-    ensures bytes { Puts result bytes.old.items bytes.new.items (flat_map xmc.plan_record plans.now) }
-    ensures ranges { OnOk result (All spelled.HasPlanRanges plans.now) }
-{
-    for plan in plans {
-        put_plan(bytes, plan)?;
-    }
-    Ok(())
-}
-
-/// Puts the plans.
-#[tactic(auto, using(crate::proofs::PutsLemmas::put_then))]
-fn put_plans(bytes: &mut Vec<u8>, plans: &[Plan]) -> Result<(), Memory>
-    requires few { length plans.now ≤ 8 }
-    requires slots { All (λ plan. length plan.slots ≤ 64) plans.now }
-    ensures bytes { Puts result bytes.old.items bytes.new.items (xmc.list_field xmc.plan_record plans.now) }
-    ensures ranges { OnOk result (All spelled.HasPlanRanges plans.now) }
-{
-    put_byte(bytes, plans.len() as u8)?;
-    put_each_plan(bytes, plans)
+    put_list(bytes, &plan.slots, put_slot)
 }
 
 /// The byte that answers whether something is so.
@@ -173,15 +110,6 @@ fn console(uart: Option<u8>) -> u8
         Some(uart) => uart,
         None => 255,
     }
-}
-
-/// Puts two words.
-#[tactic(auto, using(crate::proofs::PutsLemmas::put_then))]
-fn put_words(bytes: &mut Vec<u8>, first: u32, second: u32) -> Result<(), Memory>
-    ensures { Puts result bytes.old.items bytes.new.items (xmc.word_field first ++ xmc.word_field second) }
-{
-    put_word(bytes, first)?;
-    put_word(bytes, second)
 }
 
 /// Puts a requirement, or zeros for none.
@@ -218,24 +146,13 @@ fn put_action(bytes: &mut Vec<u8>, action: &Action) -> Result<(), Memory>
     put_byte(bytes, action.number())
 }
 
-/// Puts actions.
-#[tactic(auto, using(crate::proofs::PutsLemmas::put_loop))]
-fn put_each_action(bytes: &mut Vec<u8>, actions: &[Action]) -> Result<(), Memory>
-    ensures { Puts result bytes.old.items bytes.new.items (flat_map xmc.action actions.now) }
-{
-    for action in actions {
-        put_action(bytes, action)?;
-    }
-    Ok(())
-}
-
 /// Puts the actions of all events, and what is logged.
 #[tactic(auto, using(crate::proofs::PutsLemmas::put_then), unfolding(crate::specs::Xmc::monitor))]
 fn put_monitor(bytes: &mut Vec<u8>, hm: &HmTable) -> Result<(), Memory>
     ensures bytes { Puts result bytes.old.items bytes.new.items (xmc.monitor hm.now) }
     ensures actions { OnOk result (length hm.now.actions ≡ 12) }
 {
-    put_each_action(bytes, &hm.actions)?;
+    put_each(bytes, &hm.actions, put_action)?;
     put_half_word(bytes, hm.logged)
 }
 
@@ -245,32 +162,8 @@ fn put_area(bytes: &mut Vec<u8>, area: &Area) -> Result<(), Memory>
     ensures bytes { Puts result bytes.old.items bytes.new.items (xmc.area_record area.now) }
     ensures ranges { OnOk result (spelled.IsSpelledArea area.now) }
 {
-    put_word(bytes, area.start)?;
-    put_word(bytes, area.size)?;
+    put_words(bytes, area.start, area.size)?;
     put_byte(bytes, flag(area.read_only))
-}
-
-/// Puts areas.
-#[tactic(auto, using(crate::proofs::PutsLemmas::put_loop))]
-fn put_each_area(bytes: &mut Vec<u8>, areas: &[Area]) -> Result<(), Memory>
-    ensures bytes { Puts result bytes.old.items bytes.new.items (flat_map xmc.area_record areas.now) }
-    ensures ranges { OnOk result (All spelled.IsSpelledArea areas.now) }
-{
-    for area in areas {
-        put_area(bytes, area)?;
-    }
-    Ok(())
-}
-
-/// Puts the areas of a partition.
-#[tactic(auto, using(crate::proofs::PutsLemmas::put_then))]
-fn put_areas(bytes: &mut Vec<u8>, areas: &[Area]) -> Result<(), Memory>
-    requires { length areas.now ≤ 8 }
-    ensures bytes { Puts result bytes.old.items bytes.new.items (xmc.list_field xmc.area_record areas.now) }
-    ensures ranges { OnOk result (All spelled.IsSpelledArea areas.now) }
-{
-    put_byte(bytes, areas.len() as u8)?;
-    put_each_area(bytes, areas)
 }
 
 /// The byte of a port's kind.
@@ -304,29 +197,6 @@ fn put_port(bytes: &mut Vec<u8>, port: &Port) -> Result<(), Memory>
     put_byte(bytes, way_byte(port.way))
 }
 
-/// Puts ports.
-#[tactic(auto, using(crate::proofs::PutsLemmas::put_loop))]
-fn put_each_port(bytes: &mut Vec<u8>, ports: &[Port]) -> Result<(), Memory>
-    ensures bytes { Puts result bytes.old.items bytes.new.items (flat_map xmc.port_record ports.now) }
-    ensures names { OnOk result (All (λ port. IsName port.name) ports.now) }
-{
-    for port in ports {
-        put_port(bytes, port)?;
-    }
-    Ok(())
-}
-
-/// Puts the ports of a partition.
-#[tactic(auto, using(crate::proofs::PutsLemmas::put_then))]
-fn put_ports(bytes: &mut Vec<u8>, ports: &[Port]) -> Result<(), Memory>
-    requires { length ports.now ≤ 32 }
-    ensures bytes { Puts result bytes.old.items bytes.new.items (xmc.list_field xmc.port_record ports.now) }
-    ensures names { OnOk result (All (λ port. IsName port.name) ports.now) }
-{
-    put_byte(bytes, ports.len() as u8)?;
-    put_each_port(bytes, ports)
-}
-
 /// Puts what a partition has.
 #[tactic(auto, using(crate::proofs::PutsLemmas::put_then), unfolding(crate::specs::Xmc::belongings))]
 fn put_belongings(bytes: &mut Vec<u8>, part: &Part) -> Result<(), Memory>
@@ -336,8 +206,8 @@ fn put_belongings(bytes: &mut Vec<u8>, part: &Part) -> Result<(), Memory>
     ensures area_ranges { OnOk result (All spelled.IsSpelledArea part.now.areas) }
     ensures port_names { OnOk result (All (λ port. IsName port.name) part.now.ports) }
 {
-    put_areas(bytes, &part.areas)?;
-    put_ports(bytes, &part.ports)
+    put_list(bytes, &part.areas, put_area)?;
+    put_list(bytes, &part.ports, put_port)
 }
 
 /// Puts a partition.
@@ -351,33 +221,6 @@ fn put_part(bytes: &mut Vec<u8>, part: &Part) -> Result<(), Memory>
     put_identity(bytes, part)?;
     put_monitor(bytes, &part.hm)?;
     put_belongings(bytes, part)
-}
-
-/// Puts partitions.
-#[tactic(auto, using(crate::proofs::PutsLemmas::put_loop))]
-fn put_each_part(bytes: &mut Vec<u8>, parts: &[Part]) -> Result<(), Memory>
-    requires areas { All (λ part. length part.areas ≤ 8) parts.now }
-    requires ports { All (λ part. length part.ports ≤ 32) parts.now }
-    ensures bytes { Puts result bytes.old.items bytes.new.items (flat_map xmc.part_record parts.now) }
-    ensures ranges { OnOk result (All spelled.HasPartRanges parts.now) }
-{
-    for part in parts {
-        put_part(bytes, part)?;
-    }
-    Ok(())
-}
-
-/// Puts the partitions.
-#[tactic(auto, using(crate::proofs::PutsLemmas::put_then))]
-fn put_parts(bytes: &mut Vec<u8>, parts: &[Part]) -> Result<(), Memory>
-    requires few { length parts.now ≤ most_parts }
-    requires areas { All (λ part. length part.areas ≤ 8) parts.now }
-    requires ports { All (λ part. length part.ports ≤ 32) parts.now }
-    ensures bytes { Puts result bytes.old.items bytes.new.items (xmc.list_field xmc.part_record parts.now) }
-    ensures ranges { OnOk result (All spelled.HasPartRanges parts.now) }
-{
-    put_byte(bytes, parts.len() as u8)?;
-    put_each_part(bytes, parts)
 }
 
 /// The byte of a channel's kind.
@@ -411,29 +254,6 @@ fn put_end(bytes: &mut Vec<u8>, end: &End) -> Result<(), Memory>
     put_byte(bytes, end.port)
 }
 
-/// Puts ends of a channel.
-#[tactic(auto, using(crate::proofs::PutsLemmas::put_loop))]
-fn put_each_end(bytes: &mut Vec<u8>, ends: &[End]) -> Result<(), Memory>
-    ensures bytes { Puts result bytes.old.items bytes.new.items (flat_map xmc.end ends.now) }
-    ensures ranges { OnOk result (All spelled.IsSpelledEnd ends.now) }
-{
-    for end in ends {
-        put_end(bytes, end)?;
-    }
-    Ok(())
-}
-
-/// Puts the destinations of a channel.
-#[tactic(auto, using(crate::proofs::PutsLemmas::put_then))]
-fn put_ends(bytes: &mut Vec<u8>, ends: &[End]) -> Result<(), Memory>
-    requires { length ends.now ≤ most_dests }
-    ensures bytes { Puts result bytes.old.items bytes.new.items (xmc.list_field xmc.end ends.now) }
-    ensures ranges { OnOk result (All spelled.IsSpelledEnd ends.now) }
-{
-    put_byte(bytes, ends.len() as u8)?;
-    put_each_end(bytes, ends)
-}
-
 /// Puts a channel.
 #[tactic(auto, using(crate::proofs::PutsLemmas::put_then), unfolding(crate::specs::Xmc::chan))]
 fn put_chan(bytes: &mut Vec<u8>, chan: &Chan) -> Result<(), Memory>
@@ -445,32 +265,7 @@ fn put_chan(bytes: &mut Vec<u8>, chan: &Chan) -> Result<(), Memory>
     put_half_word(bytes, chan.length)?;
     put_keeps(bytes, chan.kind)?;
     put_end(bytes, &chan.source)?;
-    put_ends(bytes, &chan.dests)
-}
-
-/// Puts channels.
-#[tactic(auto, using(crate::proofs::PutsLemmas::put_loop))]
-fn put_each_chan(bytes: &mut Vec<u8>, chans: &[Chan]) -> Result<(), Memory>
-    requires { All (λ chan. length chan.dests ≤ most_dests) chans.now }
-    ensures bytes { Puts result bytes.old.items bytes.new.items (flat_map xmc.chan chans.now) }
-    ensures ranges { OnOk result (All spelled.HasChanRanges chans.now) }
-{
-    for chan in chans {
-        put_chan(bytes, chan)?;
-    }
-    Ok(())
-}
-
-/// Puts the channels.
-#[tactic(auto, using(crate::proofs::PutsLemmas::put_then))]
-fn put_chans(bytes: &mut Vec<u8>, chans: &[Chan]) -> Result<(), Memory>
-    requires few { length chans.now ≤ 64 }
-    requires dests { All (λ chan. length chan.dests ≤ most_dests) chans.now }
-    ensures bytes { Puts result bytes.old.items bytes.new.items (xmc.list_field xmc.chan chans.now) }
-    ensures ranges { OnOk result (All spelled.HasChanRanges chans.now) }
-{
-    put_byte(bytes, chans.len() as u8)?;
-    put_each_chan(bytes, chans)
+    put_list(bytes, &chan.dests, put_end)
 }
 
 /// Puts a link.
@@ -484,29 +279,6 @@ fn put_link(bytes: &mut Vec<u8>, link: &Link) -> Result<(), Memory>
     put_byte(bytes, link.dest)
 }
 
-/// Puts links.
-#[tactic(auto, using(crate::proofs::PutsLemmas::put_loop))]
-fn put_each_link(bytes: &mut Vec<u8>, links: &[Link]) -> Result<(), Memory>
-    ensures bytes { Puts result bytes.old.items bytes.new.items (flat_map xmc.link_text links.now) }
-    ensures ranges { OnOk result (All spelled.IsSpelledLink links.now) }
-{
-    for link in links {
-        put_link(bytes, link)?;
-    }
-    Ok(())
-}
-
-/// Puts the links.
-#[tactic(auto, using(crate::proofs::PutsLemmas::put_then))]
-fn put_links(bytes: &mut Vec<u8>, links: &[Link]) -> Result<(), Memory>
-    requires { length links.now ≤ most_links }
-    ensures bytes { Puts result bytes.old.items bytes.new.items (xmc.list_field xmc.link_text links.now) }
-    ensures ranges { OnOk result (All spelled.IsSpelledLink links.now) }
-{
-    put_byte(bytes, links.len() as u8)?;
-    put_each_link(bytes, links)
-}
-
 /// Puts what stands after the length of the whole.
 #[tactic(auto, using(crate::proofs::PutsLemmas::put_then, crate::proofs::FewLemmas::few), unfolding(crate::specs::Xmc::body))]
 fn put_body(bytes: &mut Vec<u8>, raw: &RawConf) -> Result<(), Memory>
@@ -516,13 +288,13 @@ fn put_body(bytes: &mut Vec<u8>, raw: &RawConf) -> Result<(), Memory>
     ensures ranges { OnOk result (spelled.HasConfRanges raw.now) }
 {
     put_text(bytes, &raw.name)?;
-    put_regions(bytes, &raw.regions)?;
+    put_list(bytes, &raw.regions, put_region)?;
     put_word(bytes, raw.hv_size)?;
-    put_texts(bytes, &raw.uarts)?;
-    put_plans(bytes, &raw.plans)?;
-    put_parts(bytes, &raw.parts)?;
-    put_chans(bytes, &raw.chans)?;
-    put_links(bytes, &raw.links)
+    put_list(bytes, &raw.uarts, put_text)?;
+    put_list(bytes, &raw.plans, put_plan)?;
+    put_list(bytes, &raw.parts, put_part)?;
+    put_list(bytes, &raw.chans, put_chan)?;
+    put_list(bytes, &raw.links, put_link)
 }
 
 /// The length of a file whose body has so many bytes. A body is far shorter than what a length can

@@ -1,7 +1,0 @@
-use Rattle.std.proofs.Common.{◌≡◌, ◌-◌}
-use Rattle.bin_config.specs.Reading as reading
-use Rattle.bin_config.specs.Gives.{with_front}
-use Rattle.bin_config.proofs.reading.each_area.Given as goal
-
-abbrev pub invariant-loop : goal.invariant-loop
-invariant-loop l = with_front l.areas.items (reading.elements_at reading.area_at (l.count - l.counter) l.cursor) ≡ reading.elements_at reading.area_at l.count l.fn.cursor

@@ -1,7 +1,0 @@
-use Rattle.std.proofs.Common.{◌≡◌, ◌-◌}
-use Rattle.bin_config.specs.Reading as reading
-use Rattle.bin_config.specs.Gives.{with_front}
-use Rattle.bin_config.proofs.reading.each_part.Given as goal
-
-abbrev pub invariant-loop : goal.invariant-loop
-invariant-loop l = with_front l.parts.items (reading.elements_at reading.part_record_at (l.count - l.counter) l.cursor) ≡ reading.elements_at reading.part_record_at l.count l.fn.cursor

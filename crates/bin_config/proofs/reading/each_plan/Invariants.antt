@@ -1,7 +1,0 @@
-use Rattle.std.proofs.Common.{◌≡◌, ◌-◌}
-use Rattle.bin_config.specs.Reading as reading
-use Rattle.bin_config.specs.Gives.{with_front}
-use Rattle.bin_config.proofs.reading.each_plan.Given as goal
-
-abbrev pub invariant-loop : goal.invariant-loop
-invariant-loop l = with_front l.plans.items (reading.elements_at reading.plan_record_at (l.count - l.counter) l.cursor) ≡ reading.elements_at reading.plan_record_at l.count l.fn.cursor
