@@ -33,7 +33,11 @@ fn put_text(bytes: &mut Vec<u8>, name: &Name) -> Result<(), Memory>
 }
 
 /// Puts each of the elements, as one is put.
-fn put_each<T, F: Fn(&mut Vec<u8>, &T) -> Result<(), Memory>>(bytes: &mut Vec<u8>, elements: &[T], put_one: F) -> Result<(), Memory>
+fn put_each<T, F: Fn(&mut Vec<u8>, &T) -> Result<(), Memory>>(
+    bytes: &mut Vec<u8>,
+    elements: &[T],
+    put_one: F,
+) -> Result<(), Memory>
     requires callable { (old : _) (n : ℕ) (element : _) → slice_get elements.now n ≡ Some element.now → F.pre put_one old element }
     ensures bytes { (spell : T → List ℕ) → ((old : _) (element : _) (done : Result (Unit {0}) Memory) (new : _) → F.post put_one old element done new → Puts done old.now.items new.now.items (spell element.now)) → Puts result bytes.old.items bytes.new.items (flat_map spell elements.now) }
     ensures each { OnOk result (All (WasPut (F.post put_one)) elements.now) }
@@ -46,7 +50,11 @@ fn put_each<T, F: Fn(&mut Vec<u8>, &T) -> Result<(), Memory>>(bytes: &mut Vec<u8
 
 /// Puts a list: the number of its elements, and each of them.
 #[tactic(auto, using(crate::proofs::PutsLemmas::put_then))]
-fn put_list<T, F: Fn(&mut Vec<u8>, &T) -> Result<(), Memory>>(bytes: &mut Vec<u8>, elements: &[T], put_one: F) -> Result<(), Memory>
+fn put_list<T, F: Fn(&mut Vec<u8>, &T) -> Result<(), Memory>>(
+    bytes: &mut Vec<u8>,
+    elements: &[T],
+    put_one: F,
+) -> Result<(), Memory>
     requires few { length elements.now < 256 }
     requires callable { (old : _) (n : ℕ) (element : _) → slice_get elements.now n ≡ Some element.now → F.pre put_one old element }
     ensures bytes { (spell : T → List ℕ) → ((old : _) (element : _) (done : Result (Unit {0}) Memory) (new : _) → F.post put_one old element done new → Puts done old.now.items new.now.items (spell element.now)) → Puts result bytes.old.items bytes.new.items (xmc.list_field spell elements.now) }

@@ -1,6 +1,6 @@
 //! The traces and the health log of a partition.
 
-ghost use Rattle.std.specs.Prelude.{◌≡◌, ◌+◌, ◌-◌, ◌*◌, ◌<◌, ◌≤◌, ◌++◌, Some, length, slice_get, take};
+ghost use Rattle.std.specs.Prelude.{◌≡◌, ℕ, ◌+◌, ◌-◌, ◌*◌, ◌<◌, ◌≤◌, List, ◌++◌, Some, length, slice_get, take};
 ghost use Rattle.std.specs.List.{flat_map};
 ghost use Rattle.machine_model.specs.CoreFile.{log_bytes};
 ghost use Rattle.machine_model.specs.Facts.{HaveEight};
@@ -8,9 +8,8 @@ ghost use Rattle.machine_model.specs.Structures.{health_bytes, trace_bytes};
 ghost use Rattle.whole_system.specs.State.{part_at};
 
 use crate::fields::{put_structure, put_zeros};
-use health_monitor::HealthEntry;
 use whole_system::Sys;
-use whole_system::structures::{counts_bytes, health_bytes, trace_bytes};
+use whole_system::structures::{Structure, counts_bytes, health_bytes, trace_bytes};
 use xm_base::PartId;
 use xm_traces::{Ring, TraceEntry};
 
@@ -32,62 +31,51 @@ pub(crate) fn put_logs(into: &mut [u8], at: usize, sys: &Sys, p: PartId) -> usiz
     ensures room { length into.new ≡ length into.old }
 {
     let own = sys.part(p);
-    let at = put_traces(into, at, &own.traces);
-    put_health(into, at, &own.health)
+    let at = put_log(into, at, &own.traces, TRACE_BYTES, trace_bytes);
+    put_log(into, at, &own.health, HEALTH_BYTES, health_bytes)
 }
 
-/// Writes the traces of a partition at a place, and tells the place after their 1544 bytes.
-fn put_traces(into: &mut [u8], at: usize, traces: &Ring<TraceEntry>) -> usize
-    requires { at + 1544 ≤ length into.old }
-    ensures text { take result into.new ≡ take at into.old ++ log_bytes 24 trace_bytes traces.now }
-    ensures place { result ≡ at + 1544 }
+/// Writes a log at a place, whose entries have so many bytes each, and tells the place after the 64 that it may keep.
+fn put_log<T: Copy, F: Fn(&T) -> Structure>(
+    into: &mut [u8],
+    at: usize,
+    log: &Ring<T>,
+    size: usize,
+    bytes_of: F,
+) -> usize
+    requires callable { F.IsAlwaysCallable bytes_of }
+    requires sized { (entry : _) (bytes : _) → F.post bytes_of entry bytes → length bytes ≡ size }
+    requires small { size ≤ 24 }
+    requires room { at + 8 + 64 * size ≤ length into.old }
+    ensures text { (text : T → List ℕ) → ((entry : _) (bytes : _) → F.post bytes_of entry bytes → bytes ≡ text entry.now) → take result into.new ≡ take at into.old ++ log_bytes size text log.now }
+    ensures place { result ≡ at + 8 + 64 * size }
     ensures room { length into.new ≡ length into.old }
 {
-    let missing = MOST_ENTRIES - kept(traces);
-    let at = put_structure(into, at, &counts_bytes(traces));
-    let at = put_trace_entries(into, at, traces);
-    put_zeros(into, at, missing * TRACE_BYTES)
+    let missing = MOST_ENTRIES - kept(log);
+    let at = put_structure(into, at, &counts_bytes(log));
+    let at = put_entries(into, at, log, size, bytes_of);
+    put_zeros(into, at, missing * size)
 }
 
-/// Writes the health log of a partition at a place, and tells the place after its 1288 bytes.
-fn put_health(into: &mut [u8], at: usize, health: &Ring<HealthEntry>) -> usize
-    requires { at + 1288 ≤ length into.old }
-    ensures text { take result into.new ≡ take at into.old ++ log_bytes 20 health_bytes health.now }
-    ensures place { result ≡ at + 1288 }
-    ensures room { length into.new ≡ length into.old }
-{
-    let missing = MOST_ENTRIES - kept(health);
-    let at = put_structure(into, at, &counts_bytes(health));
-    let at = put_health_entries(into, at, health);
-    put_zeros(into, at, missing * HEALTH_BYTES)
-}
-
-/// Writes the trace entries that are kept, the oldest first.
-fn put_trace_entries(into: &mut [u8], at: usize, traces: &Ring<TraceEntry>) -> usize
-    requires { at + 24 * length traces.now.entries ≤ length into.old }
-    ensures text { take result into.new ≡ take at into.old ++ flat_map trace_bytes traces.now.entries }
-    ensures place { result ≡ at + 24 * length traces.now.entries }
-    ensures room { length into.new ≡ length into.old }
-{
-    let mut after = at;
-    for place in 0..kept(traces) {
-        let entry = entry_at(traces, place);
-        after = put_structure(into, after, &trace_bytes(&entry));
-    }
-    after
-}
-
-/// Writes the health entries that are kept, the oldest first.
-fn put_health_entries(into: &mut [u8], at: usize, health: &Ring<HealthEntry>) -> usize
-    requires { at + 20 * length health.now.entries ≤ length into.old }
-    ensures text { take result into.new ≡ take at into.old ++ flat_map health_bytes health.now.entries }
-    ensures place { result ≡ at + 20 * length health.now.entries }
+/// Writes the entries that a log keeps, the oldest first.
+fn put_entries<T: Copy, F: Fn(&T) -> Structure>(
+    into: &mut [u8],
+    at: usize,
+    log: &Ring<T>,
+    size: usize,
+    bytes_of: F,
+) -> usize
+    requires callable { F.IsAlwaysCallable bytes_of }
+    requires sized { (entry : _) (bytes : _) → F.post bytes_of entry bytes → length bytes ≡ size }
+    requires room { at + length log.now.entries * size ≤ length into.old }
+    ensures text { (text : T → List ℕ) → ((entry : _) (bytes : _) → F.post bytes_of entry bytes → bytes ≡ text entry.now) → take result into.new ≡ take at into.old ++ flat_map text log.now.entries }
+    ensures place { result ≡ at + length log.now.entries * size }
     ensures room { length into.new ≡ length into.old }
 {
     let mut after = at;
-    for place in 0..kept(health) {
-        let entry = entry_at(health, place);
-        after = put_structure(into, after, &health_bytes(&entry));
+    for place in 0..kept(log) {
+        let entry = entry_at(log, place);
+        after = put_structure(into, after, &bytes_of(&entry));
     }
     after
 }

@@ -6,7 +6,7 @@ use Rattle.xmcf_reader.specs.Draft.{attribute_named}
 use Rattle.xmcf_reader.specs.Drafts.{word_of, StandsAt}
 use Rattle.xmcf_reader.specs.Elements.{Pair, built}
 use Rattle.xmcf_reader.specs.Faults.{Cut, Item, Rest, End}
-use Rattle.xmcf_reader.specs.Tokens.{Token, Blanks, Comment, Declaration, Opening, Name, Equals, Value, TagEnd, EmptyEnd, EndTag}
+use Rattle.xmcf_reader.specs.Tokens.{Token, Opening, Name, Value, TagEnd, EmptyEnd, EndTag}
 use Rattle.xmcf_reader.specs.Words.{word_text}
 use Rattle.xmcf_reader.specs.declared.draft.Entry.{Entry}
 use Rattle.xmcf_reader.specs.declared.word.Word.{Word}

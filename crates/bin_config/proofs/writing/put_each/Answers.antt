@@ -1,4 +1,4 @@
-use Rattle.std.proofs.Common.{◌<◌, length, refl, arith}
+use Rattle.std.proofs.Common.{refl, arith}
 use Rattle.bin_config.specs.Puts.{WasPut}
 use Rattle.bin_config.proofs.PutsLemmas.{put_more, put_within}
 use Rattle.bin_config.proofs.writing.put_each.Goals as goal
