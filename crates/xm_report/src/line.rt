@@ -1,8 +1,5 @@
 //! What a line of the report says.
 
-ghost use Rattle.std.specs.Prelude.{◌≡◌};
-ghost use Rattle.xm_report.specs.Report.{move_text};
-
 use xm_base::{PartId, State};
 use xm_conf::{Action, Event};
 
@@ -19,21 +16,6 @@ pub enum Move {
     Cold,
     /// It was reset, and its memory kept.
     Warm,
-}
-
-impl Move {
-    // The change's name as the report has it.
-    pub(crate) fn text(self) -> &'static str
-        ensures { result.now ≡ move_text self }
-    {
-        match self {
-            Move::Halt => "HALT",
-            Move::Suspend => "SUSPEND",
-            Move::Resume => "RESUME",
-            Move::Cold => "COLD",
-            Move::Warm => "WARM",
-        }
-    }
 }
 
 /// One line of the report.

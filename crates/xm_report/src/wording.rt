@@ -1,7 +1,7 @@
 //! What each kind of line looks like.
 
 ghost use Rattle.std.specs.Prelude.{◌≡◌, ◌≤◌, [], length};
-ghost use Rattle.xm_report.specs.Report.{IsShort, console_text, end_part_text, end_whole_text, health_text, line_value, moved_text, plan_text, running_text, system_text, text_of, trace_text, whole_text};
+ghost use Rattle.xm_report.specs.Report.{IsShort, console_text, end_part_text, end_whole_text, health_text, line_value, move_text, moved_text, plan_text, running_text, system_text, text_of, trace_text, whole_text};
 
 use crate::line::{Line, Move};
 use crate::pen::Pen;
@@ -13,6 +13,21 @@ fn running(halted: bool) -> &'static str
     ensures { result.now ≡ running_text halted }
 {
     if halted { "halted" } else { "running" }
+}
+
+impl Move {
+    // The change's name as the report has it.
+    fn text(self) -> &'static str
+        ensures { result.now ≡ move_text self }
+    {
+        match self {
+            Move::Halt => "HALT",
+            Move::Suspend => "SUSPEND",
+            Move::Resume => "RESUME",
+            Move::Cold => "COLD",
+            Move::Warm => "WARM",
+        }
+    }
 }
 
 #[tactic(auto, unfolding(crate::specs::Report::system_text))]
