@@ -22,8 +22,8 @@ use file_texts::XmcFault;
 use std::alloc::Global;
 use xm_base::Cursor;
 use xm_conf::{
-    Action, Area, Chan, ChanKind, Conf, End, HmTable, Kind, Link, Name, Need, Part, Plan, Port,
-    RawConf, Region, Slot, Way, broken_unless_fits,
+    ACTIONS, Action, Area, Chan, ChanKind, Conf, End, HmTable, Kind, Link, Name, Need, Part, Plan,
+    Port, RawConf, Region, Slot, Way, broken_unless_fits,
 };
 
 /// A number of one byte.
@@ -312,20 +312,6 @@ fn chan(alloc: Global, cursor: &mut Cursor<'_>) -> Result<Chan, XmcFault>
     })
 }
 
-/// The actions, in the order of their numbers.
-const ACTIONS: [Action; 11] = [
-    Action::Ignore,
-    Action::Shutdown,
-    Action::PartitionColdReset,
-    Action::PartitionWarmReset,
-    Action::Suspend,
-    Action::Halt,
-    Action::Propagate,
-    Action::HypervisorColdReset,
-    Action::HypervisorWarmReset,
-    Action::HypervisorHalt,
-    Action::SwitchToMaintenance,
-];
 
 /// The action of a number.
 fn action_of(number: u8) -> Option<Action>

@@ -4,7 +4,7 @@ use Rattle.std.specs.Prelude.{All, IfNone}
 use Rattle.xm_conf.specs.Along.{head_of}
 use Rattle.xm_conf.specs.Configuration.{Conf}
 use Rattle.xm_conf.specs.Rules as rules
-use Rattle.xm_conf.specs.Fits.{HasCounts, HasFewDests, IsKind, IsChan}
+use Rattle.xm_conf.specs.Fits.{HasCounts, HasFewDests, HasFewEnds, IsKind, IsChan}
 use Rattle.xm_conf.specs.Limits.{most_parts, most_dests}
 use Rattle.xm_conf.specs.declared.item.Broken.{Broken}
 use Rattle.xm_conf.specs.declared.channel.ChanKind.{ChanKind}
@@ -17,11 +17,6 @@ use Rattle.xm_conf.proofs.RuleLaws.{none-first, says-rule_1, says-rule_15}
 pub counted : (most : ℕ) (conf : Conf) (found : Option Broken) → most ≤ most_parts → found ≡ head_of (rules.rule_1 most conf) → IfNone found (HasCounts conf)
 counted most conf None few is = counts_within most conf few ((none-first (rules.rule_1 most conf) (says-rule_1 most conf)).0 (sym is))
 counted most conf (Some broken) few is = tt
-
--- where the rule on messages is not broken, each channel has its messages
-pub messaged : (conf : Conf) (found : Option Broken) → found ≡ head_of (rules.rule_15 conf) → IfNone found (All IsChan conf.chans)
-messaged conf None is = (none-first (rules.rule_15 conf) (says-rule_15 conf)).0 (sym is)
-messaged conf (Some broken) is = tt
 
 -- plans have few slots
 pub few_slots : (conf : Conf) → HasCounts conf → All (λ plan. length plan.slots ≤ 64) conf.plans
@@ -36,7 +31,14 @@ pub few_of_kind : (of : ChanKind) (dests : List End) → HasFewDests of dests �
 few_of_kind (chan_kind.Sampling refresh) dests few is = few
 few_of_kind (chan_kind.Queuing most) dests few is = let one : length dests ≡ 1 = is.0 in omega arith
 
--- channels have few destinations
-pub few_dests : (conf : Conf) → HasCounts conf → All IsChan conf.chans → All (λ chan. length chan.dests ≤ most_dests) conf.chans
-few_dests conf h chans n d below =
-    few_of_kind (get_or conf.chans n d).kind (get_or conf.chans n d).dests (h.dests n d below) (chans n d below).kind
+-- channels that have their messages have few destinations
+few_ends : (conf : Conf) → HasCounts conf → All IsChan conf.chans → HasFewEnds conf
+few_ends conf h chans = record {
+  chans = h.chans;
+  dests = λ n d below. few_of_kind (get_or conf.chans n d).kind (get_or conf.chans n d).dests (h.dests n d below) (chans n d below).kind;
+}
+
+-- where the rule on messages is not broken, there are few ends
+pub messaged : (conf : Conf) (found : Option Broken) → HasCounts conf → found ≡ head_of (rules.rule_15 conf) → IfNone found (HasFewEnds conf)
+messaged conf None counts is = few_ends conf counts ((none-first (rules.rule_15 conf) (says-rule_15 conf)).0 (sym is))
+messaged conf (Some broken) counts is = tt

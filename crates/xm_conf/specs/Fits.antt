@@ -120,6 +120,11 @@ pub record IsChan (chan : Chan) : Type 0 where
   pub most : chan.length ≤ 4096
   pub kind : IsKind chan.kind chan.dests
 
+-- there are few channels, and few destinations of each, so that a byte has the number of an end
+pub record HasFewEnds (conf : Conf) : Type 0 where
+  pub chans : length conf.chans ≤ 64
+  pub dests : All (λ chan. length chan.dests ≤ most_dests) conf.chans
+
 -- rule 16: each end of a channel is a port of a partition
 pub record HasPorts (parts : List Part) (chan : Chan) : Type 0 where
   pub source : IsSome (port_at parts chan.source)

@@ -28,22 +28,6 @@ use Rattle.xm_conf.specs.declared.item.Item.{Item}
 use Rattle.xm_conf.specs.declared.item.Item.TheVariants as item
 use Rattle.xm_conf.specs.declared.item.Broken.{Broken}
 
--- the bytes of a page
-unfoldable pub page : ℕ
-page = 4096
-
--- the addresses that there are
-unfoldable pub addresses : ℕ
-addresses = 4294967296
-
--- the bytes that all areas may have together
-unfoldable pub most_memory : ℕ
-most_memory = 33554432
-
--- the microseconds of the longest frame and of the longest period
-unfoldable pub longest : ℕ
-longest = 1000000000
-
 -- an item breaks a rule by another
 abbrev pub broken : ℕ → Item → Item → Broken
 broken rule first second = record { rule = rule; first = first; second = second }
@@ -159,6 +143,10 @@ rule_3 conf = along (repeated 3 item.Uart bytes_eq) conf.uarts ++ along part_nam
 
 -- Rules 4 to 6: regions and the hypervisor.
 
+-- the bytes of a page
+unfoldable pub page : ℕ
+page = 4096
+
 -- whether a number of bytes is a number of pages
 unfoldable pub is_paged : ℕ → Bool
 is_paged n = n % page == 0
@@ -166,6 +154,10 @@ is_paged n = n % page == 0
 -- a stretch of memory is a region's or an area's: whole pages, and not empty
 abbrev pub is_sized : ℕ → ℕ → Bool
 is_sized start size = is_paged start && is_paged size && nat_lt 0 size
+
+-- the addresses that there are
+unfoldable pub addresses : ℕ
+addresses = 4294967296
 
 -- whether a region may stand: whole pages below the end of all addresses
 unfoldable pub is_region : Region → Bool
@@ -261,6 +253,10 @@ stretches conf = whole_stretch (hypervisor conf.hv_size conf.regions) ++ added_b
 unfoldable pub rule_9 : Conf → List Broken
 rule_9 conf = along (meets 9 overlaps) (stretches conf)
 
+-- the bytes that all areas may have together
+unfoldable pub most_memory : ℕ
+most_memory = 33554432
+
 -- the bytes of a partition's areas
 unfoldable pub part_size : Part → ℕ
 part_size part = sum_by (λ area. area.size) part.areas
@@ -270,6 +266,10 @@ unfoldable pub rule_10 : Conf → List Broken
 rule_10 conf = unless (nat_le (sum_by part_size conf.parts) most_memory) (alone 10 item.Whole)
 
 -- Rules 11 to 14: plans, and the numbers of partitions and UARTs.
+
+-- the microseconds of the longest frame and of the longest period
+unfoldable pub longest : ℕ
+longest = 1000000000
 
 -- whether a time is at least 1 and at most the longest
 unfoldable pub is_time : ℕ → Bool

@@ -150,7 +150,7 @@ pub enum Action {
 }
 
 /// All actions, in the order of their numbers.
-const ACTIONS: [Action; 11] = [
+pub const ACTIONS: [Action; 11] = [
     Action::Ignore,
     Action::Shutdown,
     Action::PartitionColdReset,

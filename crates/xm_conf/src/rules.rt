@@ -1,6 +1,6 @@
 //! The rules of a configuration: the first that is broken, and by which item.
 
-ghost use Rattle.std.specs.Prelude.{◌≡◌, ◌++◌, ◌≤◌};
+ghost use Rattle.std.specs.Prelude.{◌≡◌, ◌≤◌};
 ghost use Rattle.xm_conf.specs.Along.{head_of};
 ghost use Rattle.xm_conf.specs.Description.{described};
 ghost use Rattle.xm_conf.specs.Fits.{HasCounts};
@@ -27,29 +27,12 @@ pub use broken::repeated;
 use channels::{rule_15, rule_16, rule_17};
 use counts::rule_1;
 use ends::rule_18;
-use links::{rule_21, rule_22};
-use memory::{rule_4, rule_5, rule_6};
+use links::links_broken;
+use memory::regions_broken;
 use names::rule_3;
 use partitions::{rule_14, rule_19, rule_20};
 use plans::{rule_11, rule_12, rule_13};
 use stretches::rule_9;
-
-/// The first item that breaks a rule on regions and the hypervisor.
-#[tactic(auto, using(crate::specs::AlongLemmas::in_turn))]
-fn regions_broken(raw: &RawConf) -> Option<Broken>
-    requires { HasCounts raw.now }
-    ensures { result ≡ head_of (specs.rule_4 raw.now ++ specs.rule_5 raw.now ++ specs.rule_6 raw.now) }
-{
-    let broken = rule_4(raw);
-    if broken.is_some() {
-        return broken;
-    }
-    let broken = rule_5(raw);
-    if broken.is_some() {
-        return broken;
-    }
-    rule_6(raw)
-}
 
 /// The first item that breaks a rule on memory.
 #[tactic(auto, using(crate::specs::AlongLemmas::in_turn), unfolding(crate::specs::Rules::memory_rules))]
@@ -116,19 +99,6 @@ fn channels_broken(raw: &RawConf) -> Option<Broken>
         return broken;
     }
     rule_18(raw)
-}
-
-/// The first item that breaks a rule on links.
-#[tactic(auto, using(crate::specs::AlongLemmas::in_turn), unfolding(crate::specs::Rules::link_rules))]
-fn links_broken(raw: &RawConf) -> Option<Broken>
-    requires { HasCounts raw.now }
-    ensures { result ≡ head_of (specs.link_rules raw.now) }
-{
-    let broken = rule_21(raw);
-    if broken.is_some() {
-        return broken;
-    }
-    rule_22(raw)
 }
 
 /// The first rule that is broken, in the order of the rules, where so many partitions are the most.

@@ -1,8 +1,8 @@
 //! Channels: their messages, and the ports at their ends.
 
-ghost use Rattle.std.specs.Prelude.{◌≡◌, ◌≤◌, All, IfNone, Some, length, slice_get, option_copied};
+ghost use Rattle.std.specs.Prelude.{◌≡◌, ◌≤◌, IfNone, Some, length, slice_get, option_copied};
 ghost use Rattle.xm_conf.specs.Along.{added_by_each, head_of};
-ghost use Rattle.xm_conf.specs.Fits.{HasCounts, IsChan};
+ghost use Rattle.xm_conf.specs.Fits.{HasCounts, HasFewEnds};
 ghost use Rattle.xm_conf.specs.Limits.{most_dests};
 ghost use Rattle.xm_conf.specs.Rules as rules;
 
@@ -188,26 +188,24 @@ fn first_unfit(raw: &RawConf) -> Option<Broken>
 pub(super) fn rule_15(raw: &RawConf) -> Option<Broken>
     requires { HasCounts raw.now }
     ensures first { result ≡ head_of (rules.rule_15 raw.now) }
-    ensures messages { IfNone result (All IsChan raw.now.chans) }
+    ensures ends { IfNone result (HasFewEnds raw.now) }
 {
     first_unfit(raw)
 }
 
 /// The first end that is no port.
-#[tactic(auto, using(crate::proofs::CountLemmas::few_dests), unfolding(crate::specs::Rules::rule_16))]
+#[tactic(auto, unfolding(crate::specs::Rules::rule_16))]
 pub(super) fn rule_16(raw: &RawConf) -> Option<Broken>
-    requires counts { HasCounts raw.now }
-    requires messages { All IsChan raw.now.chans }
+    requires { HasFewEnds raw.now }
     ensures { result ≡ head_of (rules.rule_16 raw.now) }
 {
     first_of_each(&raw.chans, |n, chan| stray_ends(&raw.parts, n, chan))
 }
 
 /// The first end whose port is of another kind or way.
-#[tactic(auto, using(crate::proofs::CountLemmas::few_dests), unfolding(crate::specs::Rules::rule_17))]
+#[tactic(auto, unfolding(crate::specs::Rules::rule_17))]
 pub(super) fn rule_17(raw: &RawConf) -> Option<Broken>
-    requires counts { HasCounts raw.now }
-    requires messages { All IsChan raw.now.chans }
+    requires { HasFewEnds raw.now }
     ensures { result ≡ head_of (rules.rule_17 raw.now) }
 {
     first_of_each(&raw.chans, |n, chan| wrong_ends(&raw.parts, n, chan))

@@ -3,7 +3,7 @@
 ghost use Rattle.std.specs.Prelude.{◌≡◌, ◌++◌, ◌<◌, ◌≤◌, All, IfSome, length};
 ghost use Rattle.std.specs.List.{position_from};
 ghost use Rattle.xm_conf.specs.Along.{along, added_by_each, head_of};
-ghost use Rattle.xm_conf.specs.Fits.{HasCounts, IsChan};
+ghost use Rattle.xm_conf.specs.Fits.{HasFewEnds};
 ghost use Rattle.xm_conf.specs.Limits.{most_dests};
 ghost use Rattle.xm_conf.specs.Rules as rules;
 ghost use Rattle.xm_conf.specs.Walks as walks;
@@ -150,10 +150,9 @@ fn chan_meets(before: &[Chan], chan: &Chan) -> Option<Broken>
 }
 
 /// The first end of all channels that is a port of an end before it.
-#[tactic(auto, using(crate::proofs::MeetLemmas::rule_18_along, crate::proofs::CountLemmas::few_dests))]
+#[tactic(auto, using(crate::proofs::MeetLemmas::rule_18_along))]
 pub(super) fn rule_18(raw: &RawConf) -> Option<Broken>
-    requires counts { HasCounts raw.now }
-    requires messages { All IsChan raw.now.chans }
+    requires { HasFewEnds raw.now }
     ensures { result ≡ head_of (rules.rule_18 raw.now) }
 {
     first_along(&raw.chans, chan_meets)

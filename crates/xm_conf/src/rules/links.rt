@@ -56,20 +56,16 @@ fn repeated_link(before: &[Link], link: &Link) -> Option<Broken>
     repeated(22, before, link, same_link, Item::Link)
 }
 
-/// The first link that may not stand.
-#[tactic(auto, unfolding(crate::specs::Rules::rule_21))]
-pub(super) fn rule_21(raw: &RawConf) -> Option<Broken>
+/// The first link that may not stand, or else the first with an earlier one's source and number.
+#[tactic(auto, using(crate::specs::AlongLemmas::in_turn), unfolding(crate::specs::Rules::rule_21, crate::specs::Rules::rule_22, crate::specs::Rules::link_rules))]
+pub(super) fn links_broken(raw: &RawConf) -> Option<Broken>
     requires { HasCounts raw.now }
-    ensures { result ≡ head_of (rules.rule_21 raw.now) }
+    ensures { result ≡ head_of (rules.link_rules raw.now) }
 {
-    first_of_each(&raw.links, |n, link| unfit_link(raw.parts.len(), n, link))
-}
-
-/// The first link with an earlier one's source and number.
-#[tactic(auto, unfolding(crate::specs::Rules::rule_22))]
-pub(super) fn rule_22(raw: &RawConf) -> Option<Broken>
-    requires { HasCounts raw.now }
-    ensures { result ≡ head_of (rules.rule_22 raw.now) }
-{
+    let parts = raw.parts.len();
+    let broken = first_of_each(&raw.links, |n, link| unfit_link(parts, n, link));
+    if broken.is_some() {
+        return broken;
+    }
     first_along(&raw.links, repeated_link)
 }

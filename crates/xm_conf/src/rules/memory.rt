@@ -1,6 +1,6 @@
 //! Regions and the hypervisor's memory.
 
-ghost use Rattle.std.specs.Prelude.{◌≡◌, ◌≤◌, ◌<◌, length, slice_get};
+ghost use Rattle.std.specs.Prelude.{◌≡◌, ◌++◌, ◌≤◌, ◌<◌, length, slice_get};
 ghost use Rattle.xm_conf.specs.Along.{head_of};
 ghost use Rattle.xm_conf.specs.Fits.{HasCounts};
 ghost use Rattle.xm_conf.specs.Rules as rules;
@@ -71,7 +71,7 @@ fn fits_first(size: u32, regions: &[Region]) -> bool
 
 /// The hypervisor, where it has no whole pages of region 0.
 #[tactic(auto, unfolding(crate::specs::Rules::rule_6))]
-pub(super) fn rule_6(raw: &RawConf) -> Option<Broken>
+fn rule_6(raw: &RawConf) -> Option<Broken>
     ensures { result ≡ head_of (rules.rule_6 raw.now) }
 {
     let size = raw.hv_size;
@@ -79,20 +79,19 @@ pub(super) fn rule_6(raw: &RawConf) -> Option<Broken>
     unless(fits, 6, Item::Whole)
 }
 
-/// The first region that is not whole pages.
-#[tactic(auto, unfolding(crate::specs::Rules::rule_4))]
-pub(super) fn rule_4(raw: &RawConf) -> Option<Broken>
+/// The first region that is not whole pages or overlaps an earlier one, or the hypervisor.
+#[tactic(auto, using(crate::specs::AlongLemmas::in_turn), unfolding(crate::specs::Rules::rule_4, crate::specs::Rules::rule_5))]
+pub(super) fn regions_broken(raw: &RawConf) -> Option<Broken>
     requires { HasCounts raw.now }
-    ensures { result ≡ head_of (rules.rule_4 raw.now) }
+    ensures { result ≡ head_of (rules.rule_4 raw.now ++ rules.rule_5 raw.now ++ rules.rule_6 raw.now) }
 {
-    first_of_each(&raw.regions, unsized_region)
-}
-
-/// The first region that overlaps an earlier one.
-#[tactic(auto, unfolding(crate::specs::Rules::rule_5))]
-pub(super) fn rule_5(raw: &RawConf) -> Option<Broken>
-    requires { HasCounts raw.now }
-    ensures { result ≡ head_of (rules.rule_5 raw.now) }
-{
-    first_along(&raw.regions, overlapping_region)
+    let broken = first_of_each(&raw.regions, unsized_region);
+    if broken.is_some() {
+        return broken;
+    }
+    let broken = first_along(&raw.regions, overlapping_region);
+    if broken.is_some() {
+        return broken;
+    }
+    rule_6(raw)
 }
