@@ -2,7 +2,7 @@
 use Rattle.std.proofs.Common.{◌≡◌, ◌∙◌, ℕ, ℤ, pos, negsuc, Bool, true, false, inl, inr, ◌<◌, ◌≤◌, ◌+◌, ◌/◌, ◌%◌, ◌^◌, refl, sym, ap, subst, arith, rules}
 use Rattle.std.proofs.lemmas.Int.{ints}
 use Rattle.sparc_code.specs.Fields.{signed, op, op2, op3, rd, rs1, i, rs2, simm13, shcnt, imm7, disp30, disp22, imm22, cond, annul}
-use Rattle.sparc_code.specs.Opcodes.{opcode_of, memory_opcode_of, immediate_of, IsPlaceOf, privileged_on_registers}
+use Rattle.sparc_code.specs.Opcodes.{opcode_of, memory_opcode_of, immediate_of, IsPlaceOf, privileged_selectors}
 use Rattle.sparc_code.specs.Ranges.{IsSigned, IsUnsigned, IsImmediate, IsOperand, InRange}
 use Rattle.sparc_code.specs.Spells.{HasOperand, Spells, selects_no_format2}
 use Rattle.sparc_code.specs.DecodedLemmas.{one_of}
@@ -263,7 +263,7 @@ spells-encoded instr.Illegal fits = selects_no_format2 refl (inl refl)
 privileged_least : (word : ℕ) → Spells word instr.Privileged → format3_word 2 0 0x29 0 0 ≤ word
 unfolding format3_word op op3
 privileged_least word (inl (format, selected)) =
-    let above : 0x29 ≤ op3 word = one_of (λ selector. 0x29 ≤ selector) privileged_on_registers (search rules) (op3 word) selected in
+    let above : 0x29 ≤ op3 word = one_of (λ selector. 0x29 ≤ selector) privileged_selectors.on_registers (search rules) (op3 word) selected in
     omega arith
 privileged_least word (inr (format, selected)) = omega arith
 

@@ -3,21 +3,7 @@ use Rattle.std.proofs.Common.{◌≡◌, ◌≢◌, ◌⊎◌, ◌↔◌, ◌∙
 use Rattle.std.proofs.lemmas.Grind.{common_steps}
 use Rattle.std.proofs.lemmas.Bool.{cases_eq, cases_lt, eqb-true, eqb-false}
 use Rattle.sparc_code.specs.Fields.{op, op2, op3, rd, rs1, i, simm13, imm7, disp30, annul}
-use Rattle.sparc_code.specs.Opcodes.{
-  opcode_of,
-  immediate_of,
-  memory_opcode_of,
-  IsPlaceOf,
-  privileged_on_registers,
-  privileged_on_memory,
-  float_on_registers,
-  float_on_memory,
-  coproc_on_registers,
-  coproc_on_memory,
-  unassigned_of_format2,
-  unassigned_on_registers,
-  unassigned_on_memory,
-}
+use Rattle.sparc_code.specs.Opcodes.{Selectors, opcode_of, immediate_of, memory_opcode_of, IsPlaceOf, privileged_selectors, float_selectors, coproc_selectors, unassigned_selectors, unassigned_of_format2}
 use Rattle.sparc_code.specs.Decoded.{operand, work, memory_work, double_work, read_state, write_state, format2_row, registers_row, memory_row, decoded}
 use Rattle.sparc_code.specs.Spells.{IsOneOf, IsOneOfBoth, HasOperand, HasAnnul, IsUnassigned, Spells}
 use Rattle.sparc_code.specs.Spells.{selects_no_format2, selects_no_work, selects_no_memory_work, reads_other_state, writes_other_state, doubles_odd_register}
@@ -116,8 +102,16 @@ annul_is : (word : ℕ) (annulled : Bool) → HasAnnul word annulled → (annul 
 annul_is word true set = rw set
 annul_is word false clear = rw clear
 
+-- the words of an operation on registers spell its work
+abbrev SpellsWork : ℕ → Arith → Type 0
+SpellsWork word operation = op word ≡ 2 → op3 word ≡ opcode_of operation → Spells word (work operation word)
+
+-- the words of a selector on registers spell no instruction
+abbrev SpellsNoWork : ℕ → ℕ → Type 0
+SpellsNoWork word selector = op word ≡ 2 → op3 word ≡ selector → Spells word instr.Illegal
+
 -- the word of work on registers
-spells_work : (operation : Arith) (word : ℕ) → op word ≡ 2 → op3 word ≡ opcode_of operation → Spells word (work operation word)
+spells_work : (operation : Arith) (word : ℕ) → SpellsWork word operation
 spells_work operation word format selected = ((format, selected), refl, refl, has_operand (immediate_of operation) word)
 
 -- the word of work on memory
@@ -144,27 +138,19 @@ unfolding write_state
 spells_write_state word format selected = grind (arith, common_steps, writes_other_state, has_operand)
 
 -- the selectors of the supervisor
-spells_privileged : (word selector : ℕ) → IsOneOf privileged_on_registers selector → op word ≡ 2 → op3 word ≡ selector → Spells word instr.Privileged
+spells_privileged : (word selector : ℕ) → IsOneOf privileged_selectors.on_registers selector → op word ≡ 2 → op3 word ≡ selector → Spells word instr.Privileged
 spells_privileged word selector listed format selected = inl (format, rw selected listed)
 
 -- the same of work on memory
-spells_privileged_memory : (word selector : ℕ) → IsOneOf privileged_on_memory selector → op word ≡ 3 → op3 word ≡ selector → Spells word instr.Privileged
+spells_privileged_memory : (word selector : ℕ) → IsOneOf privileged_selectors.on_memory selector → op word ≡ 3 → op3 word ≡ selector → Spells word instr.Privileged
 spells_privileged_memory word selector listed format selected = inr (format, rw selected listed)
 
--- those of the floating-point unit
-spells_float : (word selector : ℕ) → IsOneOf float_on_registers selector → op word ≡ 2 → op3 word ≡ selector → Spells word instr.Float
-spells_float word selector listed format selected = inr (inl (format, rw selected listed))
-
--- the same of work on memory
-spells_float_memory : (word selector : ℕ) → IsOneOf float_on_memory selector → op word ≡ 3 → op3 word ≡ selector → Spells word instr.Float
+-- those of the floating-point unit on memory
+spells_float_memory : (word selector : ℕ) → IsOneOf float_selectors.on_memory selector → op word ≡ 3 → op3 word ≡ selector → Spells word instr.Float
 spells_float_memory word selector listed format selected = inr (inr (format, rw selected listed))
 
--- those of the coprocessor
-spells_coproc : (word selector : ℕ) → IsOneOf coproc_on_registers selector → op word ≡ 2 → op3 word ≡ selector → Spells word instr.Coproc
-spells_coproc word selector listed format selected = inr (inl (format, rw selected listed))
-
--- the same of work on memory
-spells_coproc_memory : (word selector : ℕ) → IsOneOf coproc_on_memory selector → op word ≡ 3 → op3 word ≡ selector → Spells word instr.Coproc
+-- those of the coprocessor on memory
+spells_coproc_memory : (word selector : ℕ) → IsOneOf coproc_selectors.on_memory selector → op word ≡ 3 → op3 word ≡ selector → Spells word instr.Coproc
 spells_coproc_memory word selector listed format selected = inr (inr (format, rw selected listed))
 
 -- those that have no instruction
@@ -172,12 +158,20 @@ spells_no_format2 : (word selector : ℕ) → IsOneOf unassigned_of_format2 sele
 spells_no_format2 word selector listed format selected = selects_no_format2 format (rw selected listed)
 
 -- the same of work on registers
-spells_no_work : (word selector : ℕ) → IsOneOf unassigned_on_registers selector → op word ≡ 2 → op3 word ≡ selector → Spells word instr.Illegal
+spells_no_work : (word selector : ℕ) → IsOneOf unassigned_selectors.on_registers selector → SpellsNoWork word selector
 spells_no_work word selector listed format selected = selects_no_work format (rw selected listed)
 
 -- the same of work on memory
-spells_no_memory_work : (word selector : ℕ) → IsOneOf unassigned_on_memory selector → op word ≡ 3 → op3 word ≡ selector → Spells word instr.Illegal
+spells_no_memory_work : (word selector : ℕ) → IsOneOf unassigned_selectors.on_memory selector → op word ≡ 3 → op3 word ≡ selector → Spells word instr.Illegal
 spells_no_memory_work word selector listed format selected = selects_no_memory_work format (rw selected listed)
+
+-- the words of eight operations
+spells_eight : (word : ℕ) (a b c d e f g h : Arith) → SpellsWork word a × SpellsWork word b × SpellsWork word c × SpellsWork word d × SpellsWork word e × SpellsWork word f × SpellsWork word g × SpellsWork word h
+spells_eight word a b c d e f g h = (spells_work a word, spells_work b word, spells_work c word, spells_work d word, spells_work e word, spells_work f word, spells_work g word, spells_work h word)
+
+-- the words of six operations, with a selector that has no instruction behind the first of them, and one behind the fourth
+spells_six : (word : ℕ) (a b c d e f : Arith) → IsOneOf unassigned_selectors.on_registers (opcode_of a + 1) → IsOneOf unassigned_selectors.on_registers (opcode_of d + 1) → SpellsWork word a × SpellsNoWork word (opcode_of a + 1) × SpellsWork word b × SpellsWork word c × SpellsWork word d × SpellsNoWork word (opcode_of d + 1) × SpellsWork word e × SpellsWork word f
+spells_six word a b c d e f second sixth = (spells_work a word, spells_no_work word _ second, spells_work b word, spells_work c word, spells_work d word, spells_no_work word _ sixth, spells_work e word, spells_work f word)
 
 -- the table of format 2
 spells_format2 : (word : ℕ) → op word ≡ 0 → Eight (λ selector. op2 word ≡ selector → Spells word (format2_row selector word)) 0
@@ -197,56 +191,11 @@ spells_format2 word format = (
 spells_registers : (word : ℕ) → SixtyFour (λ selector. op word ≡ 2 → op3 word ≡ selector → Spells word (registers_row selector word))
 unfolding registers_row
 spells_registers word = (
-  (
-    spells_work arith.Add word,
-    spells_work arith.And word,
-    spells_work arith.Or word,
-    spells_work arith.Xor word,
-    spells_work arith.Sub word,
-    spells_work arith.AndN word,
-    spells_work arith.OrN word,
-    spells_work arith.XNor word,
-  ),
-  (
-    spells_work arith.AddX word,
-    spells_no_work word 0x09 (search rules),
-    spells_work arith.UMul word,
-    spells_work arith.SMul word,
-    spells_work arith.SubX word,
-    spells_no_work word 0x0D (search rules),
-    spells_work arith.UDiv word,
-    spells_work arith.SDiv word,
-  ),
-  (
-    spells_work arith.AddCc word,
-    spells_work arith.AndCc word,
-    spells_work arith.OrCc word,
-    spells_work arith.XorCc word,
-    spells_work arith.SubCc word,
-    spells_work arith.AndNCc word,
-    spells_work arith.OrNCc word,
-    spells_work arith.XNorCc word,
-  ),
-  (
-    spells_work arith.AddXCc word,
-    spells_no_work word 0x19 (search rules),
-    spells_work arith.UMulCc word,
-    spells_work arith.SMulCc word,
-    spells_work arith.SubXCc word,
-    spells_no_work word 0x1D (search rules),
-    spells_work arith.UDivCc word,
-    spells_work arith.SDivCc word,
-  ),
-  (
-    spells_work arith.TAddCc word,
-    spells_work arith.TSubCc word,
-    spells_work arith.TAddCcTv word,
-    spells_work arith.TSubCcTv word,
-    spells_work arith.MulSCc word,
-    spells_work arith.Sll word,
-    spells_work arith.Srl word,
-    spells_work arith.Sra word,
-  ),
+  spells_eight word arith.Add arith.And arith.Or arith.Xor arith.Sub arith.AndN arith.OrN arith.XNor,
+  spells_six word arith.AddX arith.UMul arith.SMul arith.SubX arith.UDiv arith.SDiv (search rules) (search rules),
+  spells_eight word arith.AddCc arith.AndCc arith.OrCc arith.XorCc arith.SubCc arith.AndNCc arith.OrNCc arith.XNorCc,
+  spells_six word arith.AddXCc arith.UMulCc arith.SMulCc arith.SubXCc arith.UDivCc arith.SDivCc (search rules) (search rules),
+  spells_eight word arith.TAddCc arith.TSubCc arith.TAddCcTv arith.TSubCcTv arith.MulSCc arith.Sll arith.Srl arith.Sra,
   (
     spells_read_state word,
     spells_privileged word 0x29 (search rules),
@@ -262,10 +211,10 @@ spells_registers word = (
     spells_privileged word 0x31 (search rules),
     spells_privileged word 0x32 (search rules),
     spells_privileged word 0x33 (search rules),
-    spells_float word 0x34 (search rules),
-    spells_float word 0x35 (search rules),
-    spells_coproc word 0x36 (search rules),
-    spells_coproc word 0x37 (search rules),
+    λ format selected. inr (inl (format, inl selected)),
+    λ format selected. inr (inl (format, inr (inl selected))),
+    λ format selected. inr (inl (format, inl selected)),
+    λ format selected. inr (inl (format, inr (inl selected))),
   ),
   (
     λ format selected. ((format, selected), refl, refl, has_operand simm13 word),
@@ -406,26 +355,26 @@ memory_work_row memory.StD word even = rw even
 memory_work_row operation word place = refl
 
 -- a selector of one of the lists
-decoded_list : (word : ℕ) (instruction : Instr) (on_registers on_memory : List ℕ) → AllOf (λ selector. registers_row selector word ≡ instruction) on_registers → AllOf (λ selector. memory_row selector word ≡ instruction) on_memory → IsOneOfBoth on_registers on_memory word → decoded word ≡ instruction
-decoded_list word instruction on_registers on_memory of_registers of_memory (inl spelled) = decoded_registers word _ spelled.0 refl ∙ one_of (λ selector. registers_row selector word ≡ instruction) on_registers of_registers (op3 word) spelled.1
-decoded_list word instruction on_registers on_memory of_registers of_memory (inr spelled) = decoded_memory word _ spelled.0 refl ∙ one_of (λ selector. memory_row selector word ≡ instruction) on_memory of_memory (op3 word) spelled.1
+decoded_list : (word : ℕ) (instruction : Instr) (selectors : Selectors) → AllOf (λ selector. registers_row selector word ≡ instruction) selectors.on_registers → AllOf (λ selector. memory_row selector word ≡ instruction) selectors.on_memory → IsOneOfBoth selectors word → decoded word ≡ instruction
+decoded_list word instruction selectors of_registers of_memory (inl spelled) = decoded_registers word _ spelled.0 refl ∙ one_of (λ selector. registers_row selector word ≡ instruction) selectors.on_registers of_registers (op3 word) spelled.1
+decoded_list word instruction selectors of_registers of_memory (inr spelled) = decoded_memory word _ spelled.0 refl ∙ one_of (λ selector. memory_row selector word ≡ instruction) selectors.on_memory of_memory (op3 word) spelled.1
 
 -- a word of the supervisor is decoded so
 decoded_privileged : (word : ℕ) → Spells word instr.Privileged → decoded word ≡ instr.Privileged
 unfolding registers_row memory_row
-decoded_privileged word spelled = decoded_list word instr.Privileged privileged_on_registers privileged_on_memory (search rules) (search rules) spelled
+decoded_privileged word spelled = decoded_list word instr.Privileged privileged_selectors (search rules) (search rules) spelled
 
 -- a word of the floating-point unit is decoded so
 decoded_float : (word : ℕ) → Spells word instr.Float → decoded word ≡ instr.Float
 unfolding format2_row registers_row memory_row
 decoded_float word (inl spelled) = decoded_format2 word 6 spelled.0 spelled.1
-decoded_float word (inr spelled) = decoded_list word instr.Float float_on_registers float_on_memory (search rules) (search rules) spelled
+decoded_float word (inr spelled) = decoded_list word instr.Float float_selectors (search rules) (search rules) spelled
 
 -- a word of the coprocessor is decoded so
 decoded_coproc : (word : ℕ) → Spells word instr.Coproc → decoded word ≡ instr.Coproc
 unfolding format2_row registers_row memory_row
 decoded_coproc word (inl spelled) = decoded_format2 word 7 spelled.0 spelled.1
-decoded_coproc word (inr spelled) = decoded_list word instr.Coproc coproc_on_registers coproc_on_memory (search rules) (search rules) spelled
+decoded_coproc word (inr spelled) = decoded_list word instr.Coproc coproc_selectors (search rules) (search rules) spelled
 
 -- selector 28 with registers that neither RDY nor STBAR has
 other_state : (word : ℕ) → rs1 word ≢ 0 → (rs1 word ≢ 15) ⊎ (rd word ≢ 0) → read_state word ≡ instr.Illegal
@@ -446,8 +395,8 @@ other_write word other = grind (arith, common_steps)
 decoded_illegal : (word : ℕ) → IsUnassigned word → decoded word ≡ instr.Illegal
 unfolding format2_row registers_row memory_row
 decoded_illegal word (selects_no_format2 format found) = decoded_format2 word _ format refl ∙ one_of (λ selector. format2_row selector word ≡ instr.Illegal) unassigned_of_format2 (search rules) (op2 word) found
-decoded_illegal word (selects_no_work format found) = decoded_registers word _ format refl ∙ one_of (λ selector. registers_row selector word ≡ instr.Illegal) unassigned_on_registers (search rules) (op3 word) found
-decoded_illegal word (selects_no_memory_work format found) = decoded_memory word _ format refl ∙ one_of (λ selector. memory_row selector word ≡ instr.Illegal) unassigned_on_memory (search rules) (op3 word) found
+decoded_illegal word (selects_no_work format found) = decoded_registers word _ format refl ∙ one_of (λ selector. registers_row selector word ≡ instr.Illegal) unassigned_selectors.on_registers (search rules) (op3 word) found
+decoded_illegal word (selects_no_memory_work format found) = decoded_memory word _ format refl ∙ one_of (λ selector. memory_row selector word ≡ instr.Illegal) unassigned_selectors.on_memory (search rules) (op3 word) found
 decoded_illegal word (reads_other_state spelled other more) = decoded_registers word 0x28 spelled.0 spelled.1 ∙ other_state word other more
 decoded_illegal word (writes_other_state spelled other) = decoded_registers word 0x30 spelled.0 spelled.1 ∙ other_write word other
 decoded_illegal word (doubles_odd_register spelled odd) = decoded_memory word _ spelled.0 refl ∙ one_of (λ selector. memory_row selector word ≡ instr.Illegal) (memory_opcode_of memory.LdD ∷ memory_opcode_of memory.StD ∷ []) (odd_double word memory.LdD odd, (odd_double word memory.StD odd, tt)) (op3 word) spelled.1

@@ -47,42 +47,10 @@ opcode_of Sra = 0x27
 
 -- the number that operand 2 is where it stands in the word
 abbrev pub immediate_of : Arith → ℕ → ℤ
-immediate_of Add = simm13
-immediate_of And = simm13
-immediate_of Or = simm13
-immediate_of Xor = simm13
-immediate_of Sub = simm13
-immediate_of AndN = simm13
-immediate_of OrN = simm13
-immediate_of XNor = simm13
-immediate_of AddX = simm13
-immediate_of UMul = simm13
-immediate_of SMul = simm13
-immediate_of SubX = simm13
-immediate_of UDiv = simm13
-immediate_of SDiv = simm13
-immediate_of AddCc = simm13
-immediate_of AndCc = simm13
-immediate_of OrCc = simm13
-immediate_of XorCc = simm13
-immediate_of SubCc = simm13
-immediate_of AndNCc = simm13
-immediate_of OrNCc = simm13
-immediate_of XNorCc = simm13
-immediate_of AddXCc = simm13
-immediate_of UMulCc = simm13
-immediate_of SMulCc = simm13
-immediate_of SubXCc = simm13
-immediate_of UDivCc = simm13
-immediate_of SDivCc = simm13
-immediate_of TAddCc = simm13
-immediate_of TSubCc = simm13
-immediate_of TAddCcTv = simm13
-immediate_of TSubCcTv = simm13
-immediate_of MulSCc = simm13
 immediate_of Sll = shcnt
 immediate_of Srl = shcnt
 immediate_of Sra = shcnt
+immediate_of operation = simm13
 
 -- the selector of work on memory (op 3)
 abbrev pub memory_opcode_of : MemOp → ℕ
@@ -101,51 +69,43 @@ memory_opcode_of Swap = 0x0F
 
 -- a double word stands in an even register and the one after it
 abbrev pub IsPlaceOf : MemOp → ℕ → Type 0
-IsPlaceOf Ld register = ⊤
-IsPlaceOf LdUb register = ⊤
-IsPlaceOf LdUh register = ⊤
 IsPlaceOf LdD register = register % 2 ≡ 0
-IsPlaceOf St register = ⊤
-IsPlaceOf StB register = ⊤
-IsPlaceOf StH register = ⊤
 IsPlaceOf StD register = register % 2 ≡ 0
-IsPlaceOf LdSb register = ⊤
-IsPlaceOf LdSh register = ⊤
-IsPlaceOf LdStUb register = ⊤
-IsPlaceOf Swap register = ⊤
+IsPlaceOf operation register = ⊤
 
--- the selectors of the supervisor, op 2
-abbrev pub privileged_on_registers : List ℕ
-privileged_on_registers = 0x29 ∷ 0x2A ∷ 0x2B ∷ 0x31 ∷ 0x32 ∷ 0x33 ∷ 0x39 ∷ []
+-- selectors of one kind: on registers (op 2) and on memory (op 3)
+pub record Selectors : Type 0 where
+  pub on_registers : List ℕ
+  pub on_memory : List ℕ
 
--- the selectors of the supervisor, op 3
-abbrev pub privileged_on_memory : List ℕ
-privileged_on_memory = 0x10 ∷ 0x11 ∷ 0x12 ∷ 0x13 ∷ 0x14 ∷ 0x15 ∷ 0x16 ∷ 0x17 ∷ 0x19 ∷ 0x1A ∷ 0x1D ∷ 0x1F ∷ 0x26 ∷ 0x36 ∷ []
+-- those of the supervisor
+abbrev pub privileged_selectors : Selectors
+privileged_selectors = record {
+  on_registers = 0x29 ∷ 0x2A ∷ 0x2B ∷ 0x31 ∷ 0x32 ∷ 0x33 ∷ 0x39 ∷ [];
+  on_memory = 0x10 ∷ 0x11 ∷ 0x12 ∷ 0x13 ∷ 0x14 ∷ 0x15 ∷ 0x16 ∷ 0x17 ∷ 0x19 ∷ 0x1A ∷ 0x1D ∷ 0x1F ∷ 0x26 ∷ 0x36 ∷ [];
+}
 
--- the selectors of the floating-point unit, op 2
-abbrev pub float_on_registers : List ℕ
-float_on_registers = 0x34 ∷ 0x35 ∷ []
+-- those of the floating-point unit
+abbrev pub float_selectors : Selectors
+float_selectors = record {
+  on_registers = 0x34 ∷ 0x35 ∷ [];
+  on_memory = 0x20 ∷ 0x21 ∷ 0x23 ∷ 0x24 ∷ 0x25 ∷ 0x27 ∷ [];
+}
 
--- the selectors of the floating-point unit, op 3
-abbrev pub float_on_memory : List ℕ
-float_on_memory = 0x20 ∷ 0x21 ∷ 0x23 ∷ 0x24 ∷ 0x25 ∷ 0x27 ∷ []
+-- those of the coprocessor
+abbrev pub coproc_selectors : Selectors
+coproc_selectors = record {
+  on_registers = 0x36 ∷ 0x37 ∷ [];
+  on_memory = 0x30 ∷ 0x31 ∷ 0x33 ∷ 0x34 ∷ 0x35 ∷ 0x37 ∷ [];
+}
 
--- the selectors of the coprocessor, op 2
-abbrev pub coproc_on_registers : List ℕ
-coproc_on_registers = 0x36 ∷ 0x37 ∷ []
+-- those that have no instruction
+abbrev pub unassigned_selectors : Selectors
+unassigned_selectors = record {
+  on_registers = 0x09 ∷ 0x0D ∷ 0x19 ∷ 0x1D ∷ 0x2C ∷ 0x2D ∷ 0x2E ∷ 0x2F ∷ 0x3E ∷ 0x3F ∷ [];
+  on_memory = 0x08 ∷ 0x0B ∷ 0x0C ∷ 0x0E ∷ 0x18 ∷ 0x1B ∷ 0x1C ∷ 0x1E ∷ 0x22 ∷ 0x28 ∷ 0x29 ∷ 0x2A ∷ 0x2B ∷ 0x2C ∷ 0x2D ∷ 0x2E ∷ 0x2F ∷ 0x32 ∷ 0x38 ∷ 0x39 ∷ 0x3A ∷ 0x3B ∷ 0x3C ∷ 0x3D ∷ 0x3E ∷ 0x3F ∷ [];
+}
 
--- the selectors of the coprocessor, op 3
-abbrev pub coproc_on_memory : List ℕ
-coproc_on_memory = 0x30 ∷ 0x31 ∷ 0x33 ∷ 0x34 ∷ 0x35 ∷ 0x37 ∷ []
-
--- the selectors that have no instruction, format 2: UNIMP and three that are not used
+-- the same of format 2: UNIMP and three that are not used
 abbrev pub unassigned_of_format2 : List ℕ
 unassigned_of_format2 = 0 ∷ 1 ∷ 3 ∷ 5 ∷ []
-
--- the selectors that have no instruction, op 2
-abbrev pub unassigned_on_registers : List ℕ
-unassigned_on_registers = 0x09 ∷ 0x0D ∷ 0x19 ∷ 0x1D ∷ 0x2C ∷ 0x2D ∷ 0x2E ∷ 0x2F ∷ 0x3E ∷ 0x3F ∷ []
-
--- the selectors that have no instruction, op 3
-abbrev pub unassigned_on_memory : List ℕ
-unassigned_on_memory = 0x08 ∷ 0x0B ∷ 0x0C ∷ 0x0E ∷ 0x18 ∷ 0x1B ∷ 0x1C ∷ 0x1E ∷ 0x22 ∷ 0x28 ∷ 0x29 ∷ 0x2A ∷ 0x2B ∷ 0x2C ∷ 0x2D ∷ 0x2E ∷ 0x2F ∷ 0x32 ∷ 0x38 ∷ 0x39 ∷ 0x3A ∷ 0x3B ∷ 0x3C ∷ 0x3D ∷ 0x3E ∷ 0x3F ∷ []

@@ -1,44 +1,12 @@
 -- Which words spell an instruction. A bit that no row names is free.
 use Rattle.std.specs.Prelude.{ℕ, ℤ, Bool, true, false, List, [], ◌∷◌, ◌≡◌, ◌≢◌, ◌%◌, ◌⊎◌}
 use Rattle.sparc_code.specs.Fields.{op, op2, op3, rd, rs1, i, rs2, simm13, imm7, disp30, disp22, imm22, cond, annul}
-use Rattle.sparc_code.specs.Opcodes.{
-  opcode_of,
-  immediate_of,
-  memory_opcode_of,
-  IsPlaceOf,
-  privileged_on_registers,
-  privileged_on_memory,
-  float_on_registers,
-  float_on_memory,
-  coproc_on_registers,
-  coproc_on_memory,
-  unassigned_of_format2,
-  unassigned_on_registers,
-  unassigned_on_memory,
-}
+use Rattle.sparc_code.specs.Opcodes.{Selectors, opcode_of, immediate_of, memory_opcode_of, IsPlaceOf, privileged_selectors, float_selectors, coproc_selectors, unassigned_selectors, unassigned_of_format2}
 use Rattle.sparc_code.specs.declared.instruction.MemOp.TheVariants.{LdD, StD}
 use Rattle.sparc_code.specs.declared.instruction.Src.{Src}
 use Rattle.sparc_code.specs.declared.instruction.Src.TheVariants.{Reg, Imm}
 use Rattle.sparc_code.specs.declared.instruction.Instr.{Instr}
-use Rattle.sparc_code.specs.declared.instruction.Instr.TheVariants.{
-  Call,
-  Branch,
-  Sethi,
-  Arith,
-  ReadY,
-  Barrier,
-  WriteY,
-  Jump,
-  Trap,
-  Flush,
-  Save,
-  Restore,
-  Mem,
-  Privileged,
-  Float,
-  Coproc,
-  Illegal,
-}
+use Rattle.sparc_code.specs.declared.instruction.Instr.TheVariants as instr
 
 -- the number is one of the list
 abbrev pub IsOneOf : List ℕ → ℕ → Type 0
@@ -57,9 +25,9 @@ IsOnRegisters selector word = (op word ≡ 2) × (op3 word ≡ selector)
 abbrev pub IsOnMemory : ℕ → ℕ → Type 0
 IsOnMemory selector word = (op word ≡ 3) × (op3 word ≡ selector)
 
--- the selector of the word is one of these: of its register form, or of its memory form
-abbrev pub IsOneOfBoth : List ℕ → List ℕ → ℕ → Type 0
-IsOneOfBoth on_registers on_memory word = ((op word ≡ 2) × IsOneOf on_registers (op3 word)) ⊎ ((op word ≡ 3) × IsOneOf on_memory (op3 word))
+-- the selector of the word is one of these
+abbrev pub IsOneOfBoth : Selectors → ℕ → Type 0
+IsOneOfBoth selectors word = ((op word ≡ 2) × IsOneOf selectors.on_registers (op3 word)) ⊎ ((op word ≡ 3) × IsOneOf selectors.on_memory (op3 word))
 
 -- operand 2 is the register rs2, or the number that stands in the word
 abbrev pub HasOperand : (ℕ → ℤ) → ℕ → Src → Type 0
@@ -74,8 +42,8 @@ HasAnnul word false = annul word ≡ 0
 -- why a word is no instruction
 pub data IsUnassigned (word : ℕ) : Type 0 where
   selects_no_format2 : op word ≡ 0 → IsOneOf unassigned_of_format2 (op2 word) → IsUnassigned word
-  selects_no_work : op word ≡ 2 → IsOneOf unassigned_on_registers (op3 word) → IsUnassigned word
-  selects_no_memory_work : op word ≡ 3 → IsOneOf unassigned_on_memory (op3 word) → IsUnassigned word
+  selects_no_work : op word ≡ 2 → IsOneOf unassigned_selectors.on_registers (op3 word) → IsUnassigned word
+  selects_no_memory_work : op word ≡ 3 → IsOneOf unassigned_selectors.on_memory (op3 word) → IsUnassigned word
   -- RDY and STBAR alone
   reads_other_state : IsOnRegisters 0x28 word → rs1 word ≢ 0 → (rs1 word ≢ 15) ⊎ (rd word ≢ 0) → IsUnassigned word
   -- WRY alone
@@ -104,20 +72,20 @@ pub data IsUnassigned (word : ℕ) : Type 0 where
 
 -- the word spells the instruction
 abbrev pub Spells : ℕ → Instr → Type 0
-Spells word (Call disp) = (op word ≡ 1) × (disp30 word ≡ disp)
-Spells word (Branch condition annulled disp) = IsFormat2 2 word × (cond word ≡ condition) × HasAnnul word annulled × (disp22 word ≡ disp)
-Spells word (Sethi target imm) = IsFormat2 4 word × (rd word ≡ target) × (imm22 word ≡ imm)
-Spells word (Arith operation target first second) = IsOnRegisters (opcode_of operation) word × (rd word ≡ target) × (rs1 word ≡ first) × HasOperand (immediate_of operation) word second
-Spells word (ReadY target) = IsOnRegisters 0x28 word × (rs1 word ≡ 0) × (rd word ≡ target)
-Spells word Barrier = IsOnRegisters 0x28 word × (rs1 word ≡ 15) × (rd word ≡ 0)
-Spells word (WriteY first second) = IsOnRegisters 0x30 word × (rd word ≡ 0) × (rs1 word ≡ first) × HasOperand simm13 word second
-Spells word (Jump target first second) = IsOnRegisters 0x38 word × (rd word ≡ target) × (rs1 word ≡ first) × HasOperand simm13 word second
-Spells word (Trap condition first second) = IsOnRegisters 0x3A word × (cond word ≡ condition) × (rs1 word ≡ first) × HasOperand imm7 word second
-Spells word Flush = IsOnRegisters 0x3B word
-Spells word (Save target first second) = IsOnRegisters 0x3C word × (rd word ≡ target) × (rs1 word ≡ first) × HasOperand simm13 word second
-Spells word (Restore target first second) = IsOnRegisters 0x3D word × (rd word ≡ target) × (rs1 word ≡ first) × HasOperand simm13 word second
-Spells word (Mem operation target first second) = IsOnMemory (memory_opcode_of operation) word × IsPlaceOf operation (rd word) × (rd word ≡ target) × (rs1 word ≡ first) × HasOperand simm13 word second
-Spells word Privileged = IsOneOfBoth privileged_on_registers privileged_on_memory word
-Spells word Float = IsFormat2 6 word ⊎ IsOneOfBoth float_on_registers float_on_memory word
-Spells word Coproc = IsFormat2 7 word ⊎ IsOneOfBoth coproc_on_registers coproc_on_memory word
-Spells word Illegal = IsUnassigned word
+Spells word (instr.Call disp) = (op word ≡ 1) × (disp30 word ≡ disp)
+Spells word (instr.Branch condition annulled disp) = IsFormat2 2 word × (cond word ≡ condition) × HasAnnul word annulled × (disp22 word ≡ disp)
+Spells word (instr.Sethi target imm) = IsFormat2 4 word × (rd word ≡ target) × (imm22 word ≡ imm)
+Spells word (instr.Arith operation target first second) = IsOnRegisters (opcode_of operation) word × (rd word ≡ target) × (rs1 word ≡ first) × HasOperand (immediate_of operation) word second
+Spells word (instr.ReadY target) = IsOnRegisters 0x28 word × (rs1 word ≡ 0) × (rd word ≡ target)
+Spells word instr.Barrier = IsOnRegisters 0x28 word × (rs1 word ≡ 15) × (rd word ≡ 0)
+Spells word (instr.WriteY first second) = IsOnRegisters 0x30 word × (rd word ≡ 0) × (rs1 word ≡ first) × HasOperand simm13 word second
+Spells word (instr.Jump target first second) = IsOnRegisters 0x38 word × (rd word ≡ target) × (rs1 word ≡ first) × HasOperand simm13 word second
+Spells word (instr.Trap condition first second) = IsOnRegisters 0x3A word × (cond word ≡ condition) × (rs1 word ≡ first) × HasOperand imm7 word second
+Spells word instr.Flush = IsOnRegisters 0x3B word
+Spells word (instr.Save target first second) = IsOnRegisters 0x3C word × (rd word ≡ target) × (rs1 word ≡ first) × HasOperand simm13 word second
+Spells word (instr.Restore target first second) = IsOnRegisters 0x3D word × (rd word ≡ target) × (rs1 word ≡ first) × HasOperand simm13 word second
+Spells word (instr.Mem operation target first second) = IsOnMemory (memory_opcode_of operation) word × IsPlaceOf operation (rd word) × (rd word ≡ target) × (rs1 word ≡ first) × HasOperand simm13 word second
+Spells word instr.Privileged = IsOneOfBoth privileged_selectors word
+Spells word instr.Float = IsFormat2 6 word ⊎ IsOneOfBoth float_selectors word
+Spells word instr.Coproc = IsFormat2 7 word ⊎ IsOneOfBoth coproc_selectors word
+Spells word instr.Illegal = IsUnassigned word
