@@ -2,7 +2,7 @@
 
 ghost use Rattle.std.specs.Prelude.{◌≡◌, ◌≢◌, ◌<◌, ◌≤◌, ℕ, List};
 ghost use Rattle.guest_bus.specs.Memory.{Area, Memory};
-ghost use Rattle.sparc_code.specs.Decoded.{decoded, format2_row, memory_row, read_state, registers_row};
+ghost use Rattle.sparc_code.specs.Decoded.{decoded, format2_row, memory_row, read_state, registers_row, write_state};
 ghost use Rattle.sparc_code.specs.Fields.{op2, op3};
 ghost use Rattle.sparc_step.specs.Execution.{TurnsTo, executed, refused, turned};
 ghost use Rattle.sparc_step.specs.Registers.{Registers, advanced};
@@ -20,9 +20,7 @@ use sparc_code::fields::{op, op2, op3, rd, rs1};
 /// Executes the instruction at `pc`.
 #[inline(never)]
 pub fn turn<B: Bus>(core: &mut Core, bus: &mut B) -> Turn
-    ensures turn { result ≡ (turned (B.areas bus.old) core.old (B.memory bus.old)).turn }
-    ensures core { core.new ≡ (turned (B.areas bus.old) core.old (B.memory bus.old)).core }
-    ensures memory { B.memory bus.new ≡ (turned (B.areas bus.old) core.old (B.memory bus.old)).memory }
+    ensures turned { turned (B.areas bus.old) core.old (B.memory bus.old) ≡ record { turn = result; core = core.new; memory = B.memory bus.new } }
     ensures trapped { IsUndone result core.old core.new (B.memory bus.old) (B.memory bus.new) }
     ensures called { result ≡ Turn.Call → core.new ≡ advanced core.old }
     ensures areas { B.areas bus.new ≡ B.areas bus.old }
@@ -130,32 +128,19 @@ fn on_registers(core: &mut Processor, selector: u32, word: u32) -> Turn
 }
 
 // The selectors 28 to 37.
-#[tactic(auto, unfolding(sparc_code::specs::Decoded::registers_row, sparc_code::specs::Decoded::write_state))]
+#[tactic(auto, unfolding(sparc_code::specs::Decoded::registers_row))]
 #[inline(never)]
 fn on_state(core: &mut Processor, selector: u32, word: u32) -> Turn
-    requires from { 0x28 ≤ selector }
-    requires below { selector < 0x38 }
+    requires { (0x28 ≤ selector) × (selector < 0x38) }
     ensures { TurnsTo (registers_row selector word) core.old result core.new }
 {
-    if selector < 0x30 {
-        if selector == 0x28 {
-            read_state(core, word)
-        } else if selector < 0x2c {
-            Turn::Trap(0x03)
-        } else {
-            Turn::Trap(0x02)
-        }
-    } else if selector == 0x30 && rd(word) == 0 {
-        write_y(core, word);
-        Turn::Went
-    } else if selector == 0x30 {
-        Turn::Trap(0x02)
-    } else if selector < 0x34 {
-        Turn::Trap(0x03)
-    } else if selector < 0x36 {
-        Turn::Trap(0x04)
-    } else {
-        Turn::Trap(0x24)
+    match selector {
+        0x28 => read_state(core, word),
+        0x30 => write_state(core, word),
+        0x29..=0x2b | 0x31..=0x33 => Turn::Trap(0x03),
+        0x34 | 0x35 => Turn::Trap(0x04),
+        0x36 | 0x37 => Turn::Trap(0x24),
+        _ => Turn::Trap(0x02),
     }
 }
 
@@ -173,6 +158,18 @@ fn read_state(core: &mut Processor, word: u32) -> Turn
     } else {
         Turn::Trap(0x02)
     }
+}
+
+// WRY.
+#[tactic(auto, unfolding(sparc_code::specs::Decoded::write_state))]
+fn write_state(core: &mut Processor, word: u32) -> Turn
+    ensures { TurnsTo (write_state word) core.old result core.new }
+{
+    if rd(word) != 0 {
+        return Turn::Trap(0x02);
+    }
+    write_y(core, word);
+    Turn::Went
 }
 
 // The selectors 38 to 3f.

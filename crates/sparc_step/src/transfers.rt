@@ -26,6 +26,27 @@ use crate::processor::Processor;
 use guest_bus::{Bus, BusFault, Size};
 use sparc_code::fields::rd;
 
+impl Processor {
+    /// The double word in a pair of registers.
+    #[tactic(auto, unfolding(crate::specs::Transfers::pair_at))]
+    pub fn pair(&self, rd: u8) -> u64
+        requires { rd + 1 < 32 }
+        ensures { result ≡ pair_at self.now rd }
+    {
+        (u64::from(self.get(rd)) << 32) + u64::from(self.get(rd + 1))
+    }
+
+    /// Sets a pair of registers to a double word, its high half in the first.
+    #[tactic(auto, unfolding(crate::specs::Transfers::with_pair))]
+    pub fn set_pair(&mut self, rd: u8, value: u64)
+        requires { rd + 1 < 32 }
+        ensures { self.new ≡ with_pair rd value self.old }
+    {
+        self.set(rd, (value >> 32) as u32);
+        self.set(rd + 1, (value % 0x1_0000_0000) as u32);
+    }
+}
+
 // The selectors 00 to 03.
 #[tactic(auto, unfolding(sparc_code::specs::Decoded::memory_row))]
 #[inline(always)]
@@ -191,22 +212,12 @@ fn load_double<B: Bus>(core: &mut Processor, bus: &mut B, word: u32) -> Turn
     }
     match bus.load(sum_of(core, word), Size::Eight) {
         Ok(value) => {
-            set_pair(core, rd(word), value);
+            core.set_pair(rd(word), value);
             core.advance();
             Turn::Went
         }
         Err(fault) => Turn::Trap(fault_type(fault)),
     }
-}
-
-// Sets a pair of registers to a double word.
-#[tactic(auto, unfolding(crate::specs::Transfers::with_pair))]
-fn set_pair(core: &mut Processor, rd: u8, value: u64)
-    requires { rd + 1 < 32 }
-    ensures { core.new ≡ with_pair rd value core.old }
-{
-    core.set(rd, (value >> 32) as u32);
-    core.set(rd + 1, (value % 0x1_0000_0000) as u32);
 }
 
 // STD.
@@ -221,17 +232,8 @@ fn store_double<B: Bus>(core: &mut Processor, bus: &mut B, word: u32) -> Turn
         return Turn::Trap(0x02);
     }
     let address = sum_of(core, word);
-    let value = pair(core, rd(word));
+    let value = core.pair(rd(word));
     store_value(core, bus, address, Size::Eight, value)
-}
-
-// The double word in a pair of registers.
-#[tactic(auto, unfolding(crate::specs::Transfers::pair_at))]
-fn pair(core: &Processor, rd: u8) -> u64
-    requires { rd + 1 < 32 }
-    ensures { result ≡ pair_at core.now rd }
-{
-    (u64::from(core.get(rd)) << 32) + u64::from(core.get(rd + 1))
 }
 
 // Stores a value.
