@@ -5,7 +5,9 @@ use Rattle.std.proofs.lemmas.Bool.{and_parts, cases_lt, leb-true}
 use Rattle.std.proofs.lemmas.Bool.Decides.{nat_tests}
 use Rattle.guest_bus.specs.Memory.{Area, holds_address, is_readable, is_writable}
 use Rattle.guest_bus.specs.Words.{allows}
-use Rattle.virt_traps.specs.SaveArea.{is_usable}
+use Rattle.virt_traps.specs.SaveArea.{allowed_for, is_usable}
+use Rattle.virt_traps.specs.declared.windows.WindowMove.{WindowMove}
+use Rattle.virt_traps.specs.declared.windows.WindowMove.TheVariants.{Spill, Fill}
 use Rattle.guest_bus.specs.MemoryLemmas.{all_from-each, all_from-true}
 
 -- a part of a range that is allowed is allowed
@@ -52,12 +54,17 @@ all_readable areas address count writable =
     all_from-true (is_readable areas) address count (λ q over under. readable areas q (all_from-each (is_writable areas) address count q writable over under))
 
 -- bytes that may not be read may not be written
-pub none_writable : (areas : List Area) (address count : ℕ) → allows (is_readable areas) address count ≡ false → allows (is_writable areas) address count ≡ false
+none_writable : (areas : List Area) (address count : ℕ) → allows (is_readable areas) address count ≡ false → allows (is_writable areas) address count ≡ false
 none_writable areas address count refused = at (allows (is_writable areas) address count) refl
   where
     at : (passes : Bool) → allows (is_writable areas) address count ≡ passes → passes ≡ false
     at false is = refl
     at true is = let passes = all_readable areas address count is in cc
+
+-- bytes that may not be read may be used for no move of a window
+pub none_allowed : (which : WindowMove) (areas : List Area) (address count : ℕ) → allows (is_readable areas) address count ≡ false → allows (allowed_for which areas) address count ≡ false
+none_allowed Spill areas address count refused = none_writable areas address count refused
+none_allowed Fill areas address count refused = refused
 
 -- no bytes are all allowed
 pub allows_none : (allowed : ℕ → Bool) (address : ℕ) → allows allowed address 0 ≡ true

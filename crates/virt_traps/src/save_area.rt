@@ -5,8 +5,9 @@ ghost use Rattle.std.specs.Int.{to_be_bytes, w32, w64};
 ghost use Rattle.guest_bus.specs.Memory.{is_readable, is_writable, with_bytes};
 ghost use Rattle.sparc_step.specs.Registers.{place_in_windows};
 ghost use Rattle.guest_bus.specs.Words.{allows, bytes_of, words_at};
-ghost use Rattle.virt_traps.specs.SaveArea.{is_usable, register_of, registers_from, saved, with_registers};
+ghost use Rattle.virt_traps.specs.SaveArea.{allowed_for, is_usable, register_of, registers_from, saved, with_registers};
 
+use crate::windows::WindowMove;
 use guest_bus::{Bus, Size};
 use sparc_step::place_in_windows;
 
@@ -19,72 +20,47 @@ const FIRST: u8 = 16;
 // The last address of a save area, which ends with the address space there.
 const LAST: u32 = 0xffff_ffc0;
 
-/// Whether a save area may be written at the address. Nothing changes.
+/// Whether a window may be moved by a save area at the address. Nothing changes.
 #[tactic(auto, unfolding(crate::specs::SaveArea::is_usable))]
-pub(crate) fn is_writable<B: Bus>(bus: &mut B, address: u32) -> bool
-    ensures answer { result ≡ is_usable (is_writable (B.areas bus.old)) address }
+pub(crate) fn is_usable<B: Bus>(bus: &mut B, address: u32, which: WindowMove) -> bool
+    ensures answer { result ≡ is_usable (allowed_for which (B.areas bus.old)) address }
     ensures memory { B.memory bus.new ≡ B.memory bus.old }
     ensures areas { B.areas bus.new ≡ B.areas bus.old }
     ensures others { B.others bus.new ≡ B.others bus.old }
 {
-    address % 8 == 0 && address <= LAST && may_all_be_written(bus, address, DOUBLES)
+    address % 8 == 0 && address <= LAST && may_all_be_used(bus, address, DOUBLES, which)
 }
 
-/// Whether a save area may be read at the address.
-#[tactic(auto, unfolding(crate::specs::SaveArea::is_usable))]
-pub(crate) fn is_readable<B: Bus>(bus: &mut B, address: u32) -> bool
-    ensures answer { result ≡ is_usable (is_readable (B.areas bus.old)) address }
-    ensures memory { B.memory bus.new ≡ B.memory bus.old }
-    ensures areas { B.areas bus.new ≡ B.areas bus.old }
-    ensures others { B.others bus.new ≡ B.others bus.old }
-{
-    address % 8 == 0 && address <= LAST && may_all_be_read(bus, address, DOUBLES)
-}
-
-// Whether so many double words may be written from the address on. Nothing changes.
-fn may_all_be_written<B: Bus>(bus: &mut B, address: u32, doubles: u8) -> bool
+// Whether so many double words may be used from the address on. Nothing changes.
+fn may_all_be_used<B: Bus>(bus: &mut B, address: u32, doubles: u8, which: WindowMove) -> bool
     requires aligned { address % 8 ≡ 0 }
     requires inside { address + 8 * doubles ≤ 2 ^ 32 }
-    ensures answer { result ≡ allows (is_writable (B.areas bus.old)) address (8 * doubles) }
+    ensures answer { result ≡ allows (allowed_for which (B.areas bus.old)) address (8 * doubles) }
     ensures memory { B.memory bus.new ≡ B.memory bus.old }
     ensures areas { B.areas bus.new ≡ B.areas bus.old }
     ensures others { B.others bus.new ≡ B.others bus.old }
 {
     for i in 0..doubles {
-        if !may_be_written(bus, address + 8 * u32::from(i)) {
+        if !may_be_used(bus, address + 8 * u32::from(i), which) {
             return false;
         }
     }
     true
 }
 
-// Whether so many double words may be read from the address on.
-fn may_all_be_read<B: Bus>(bus: &mut B, address: u32, doubles: u8) -> bool
-    requires aligned { address % 8 ≡ 0 }
-    requires inside { address + 8 * doubles ≤ 2 ^ 32 }
-    ensures answer { result ≡ allows (is_readable (B.areas bus.old)) address (8 * doubles) }
-    ensures memory { B.memory bus.new ≡ B.memory bus.old }
-    ensures areas { B.areas bus.new ≡ B.areas bus.old }
-    ensures others { B.others bus.new ≡ B.others bus.old }
-{
-    for i in 0..doubles {
-        if bus.load(address + 8 * u32::from(i), Size::Eight).is_err() {
-            return false;
-        }
-    }
-    true
-}
-
-// Whether a double word may be written. What stands there is written again, so nothing changes.
-fn may_be_written<B: Bus>(bus: &mut B, address: u32) -> bool
+// Whether a double word may be used. For a spill what stands there is written again, so nothing changes.
+fn may_be_used<B: Bus>(bus: &mut B, address: u32, which: WindowMove) -> bool
     requires { address % 8 ≡ 0 }
-    ensures answer { result ≡ allows (is_writable (B.areas bus.old)) address 8 }
+    ensures answer { result ≡ allows (allowed_for which (B.areas bus.old)) address 8 }
     ensures memory { B.memory bus.new ≡ B.memory bus.old }
     ensures areas { B.areas bus.new ≡ B.areas bus.old }
     ensures others { B.others bus.new ≡ B.others bus.old }
 {
     match bus.load(address, Size::Eight) {
-        Ok(value) => bus.store(address, Size::Eight, value).is_ok(),
+        Ok(value) => match which {
+            WindowMove::Spill => bus.store(address, Size::Eight, value).is_ok(),
+            WindowMove::Fill => true,
+        },
         Err(_) => false,
     }
 }

@@ -1,10 +1,10 @@
 //! One instruction, with the spill or the fill that it needs.
 
-ghost use Rattle.std.specs.Prelude.{◌≡◌, ◌≢◌, ◌+◌, ◌%◌};
-ghost use Rattle.virt_traps.specs.Moves.{filled, spilled};
-ghost use Rattle.virt_traps.specs.Settled.{FailsAlone, GoesOn, IsUndoneButSpill, after_trap, again_or_trap, settled};
+ghost use Rattle.std.specs.Prelude.{◌≡◌, ◌+◌, ◌%◌};
+ghost use Rattle.virt_traps.specs.Moves.{CanMove, moved_by};
+ghost use Rattle.virt_traps.specs.Settled.{FailsAlone, GoesOn, IsUndoneButSpill, after_trap, made_again, settled};
 
-use crate::windows::{StackFault, fill, spill};
+use crate::windows::{WindowMove, move_window};
 use guest_bus::Bus;
 use sparc_step::{Core, Processor, Turn};
 
@@ -16,9 +16,7 @@ const UNDERFLOW: u8 = 6;
 
 /// Executes the instruction at `pc`. A window that it needs is spilled or filled before.
 pub fn settle<B: Bus>(core: &mut Core, bus: &mut B) -> Turn
-    ensures turn { result ≡ (settled (B.areas bus.old) core.old (B.memory bus.old)).turn }
-    ensures core { core.new ≡ (settled (B.areas bus.old) core.old (B.memory bus.old)).core }
-    ensures memory { B.memory bus.new ≡ (settled (B.areas bus.old) core.old (B.memory bus.old)).memory }
+    ensures turned { settled (B.areas bus.old) core.old (B.memory bus.old) ≡ record { turn = result; core = core.new; memory = B.memory bus.new } }
     ensures failed { FailsAlone result (B.areas bus.old) core.old core.new (B.memory bus.old) (B.memory bus.new) }
     ensures trapped { IsUndoneButSpill result (B.areas bus.old) core.old core.new (B.memory bus.old) (B.memory bus.new) }
     ensures called { result ≡ Turn.Call → GoesOn core.old core.new }
@@ -54,7 +52,7 @@ pub fn settle_at_hand<B: Bus>(processor: &mut Processor, bus: &mut B) -> Turn
 // The step after an instruction that trapped.
 #[cold]
 #[inline(never)]
-#[tactic(auto, unfolding(crate::specs::Settled::after_trap, crate::specs::Settled::made_again))]
+#[tactic(auto, unfolding(crate::specs::Settled::after_trap))]
 fn after_trap<B: Bus>(processor: &mut Processor, bus: &mut B, trap_type: u8) -> Turn
     requires overflow { trap_type ≡ 5 → (processor.old.cwp + 7) % 8 ≡ processor.old.inv }
     requires underflow { trap_type ≡ 6 → (processor.old.cwp + 1) % 8 ≡ processor.old.inv }
@@ -65,54 +63,31 @@ fn after_trap<B: Bus>(processor: &mut Processor, bus: &mut B, trap_type: u8) -> 
     ensures others { B.others bus.new ≡ B.others bus.old }
 {
     if trap_type == OVERFLOW {
-        let answer = spill_at_hand(processor, bus);
-        again_or_trap(processor, bus, answer, OVERFLOW)
+        make_again(processor, bus, WindowMove::Spill, OVERFLOW)
     } else if trap_type == UNDERFLOW {
-        let answer = fill_at_hand(processor, bus);
-        again_or_trap(processor, bus, answer, UNDERFLOW)
+        make_again(processor, bus, WindowMove::Fill, UNDERFLOW)
     } else {
         Turn::Trap(trap_type)
     }
 }
 
-// The spill, of cached registers.
-fn spill_at_hand<B: Bus>(processor: &mut Processor, bus: &mut B) -> Result<(), StackFault>
-    requires { (processor.old.cwp + 1) % 8 ≢ processor.old.inv }
-    ensures moved { spilled (B.areas bus.old) processor.old (B.memory bus.old) ≡ record { answer = result; core = processor.new; memory = B.memory bus.new } }
-    ensures areas { B.areas bus.new ≡ B.areas bus.old }
-    ensures others { B.others bus.new ≡ B.others bus.old }
-{
-    let mut core = processor.core();
-    let answer = spill(&mut core, bus);
-    *processor = Processor::of(&core);
-    answer
-}
-
-// The fill, of cached registers.
-fn fill_at_hand<B: Bus>(processor: &mut Processor, bus: &mut B) -> Result<(), StackFault>
-    requires { (processor.old.inv + 1) % 8 ≢ processor.old.cwp }
-    ensures moved { filled (B.areas bus.old) processor.old (B.memory bus.old) ≡ record { answer = result; core = processor.new; memory = B.memory bus.new } }
-    ensures areas { B.areas bus.new ≡ B.areas bus.old }
-    ensures others { B.others bus.new ≡ B.others bus.old }
-{
-    let mut core = processor.core();
-    let answer = fill(&mut core, bus);
-    *processor = Processor::of(&core);
-    answer
-}
-
-// The instruction again where the spill or the fill was made, else the window trap.
+// The instruction again after the spill or the fill where that was made, else the window trap.
 #[inline(never)]
-fn again_or_trap<B: Bus>(
+#[tactic(auto, unfolding(crate::specs::Settled::made_again))]
+fn make_again<B: Bus>(
     processor: &mut Processor,
     bus: &mut B,
-    answer: Result<(), StackFault>,
+    which: WindowMove,
     trap_type: u8,
 ) -> Turn
-    ensures turned { again_or_trap answer trap_type (B.areas bus.old) processor.old (B.memory bus.old) ≡ record { turn = result; core = processor.new; memory = B.memory bus.new } }
+    requires { CanMove which processor.old }
+    ensures turned { made_again trap_type (B.areas bus.old) (moved_by which (B.areas bus.old) processor.old (B.memory bus.old)) ≡ record { turn = result; core = processor.new; memory = B.memory bus.new } }
     ensures areas { B.areas bus.new ≡ B.areas bus.old }
     ensures others { B.others bus.new ≡ B.others bus.old }
 {
+    let mut core = processor.core();
+    let answer = move_window(&mut core, bus, which);
+    *processor = Processor::of(&core);
     match answer {
         Ok(()) => processor.turn(bus),
         Err(_) => Turn::Trap(trap_type),

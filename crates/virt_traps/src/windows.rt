@@ -2,16 +2,25 @@
 
 ghost use Rattle.std.specs.Prelude.{◌≡◌, ◌≢◌, ◌↔◌, ◌+◌, ◌%◌, IsErr, IsFalse, OnErr};
 ghost use Rattle.guest_bus.specs.Memory.{is_readable, is_writable};
-ghost use Rattle.virt_traps.specs.Moves.{fill_address, filled, spill_address, spilled};
+ghost use Rattle.virt_traps.specs.Moves.{CanMove, fill_address, filled, moved_by, spill_address, spilled};
 ghost use Rattle.virt_traps.specs.SaveArea.{is_usable};
 
-use crate::save_area::{is_readable, is_writable, load_window, register_of, store_window};
+use crate::save_area::{is_usable, load_window, register_of, store_window};
 use guest_bus::Bus;
 use sparc_step::Core;
 
 /// The stack pointer is no multiple of 8, or not all 64 bytes there may be used. Nothing changed.
 #[derive(Clone, Copy, Debug, PartialEq, Eq)]
 pub struct StackFault;
+
+/// A move of a window between the registers and the stack.
+#[derive(Clone, Copy, Debug, PartialEq, Eq)]
+pub(crate) enum WindowMove {
+    /// To the stack.
+    Spill,
+    /// From the stack.
+    Fill,
+}
 
 // The stack pointer.
 const STACK: u8 = 14;
@@ -33,7 +42,7 @@ pub fn spill<B: Bus>(core: &mut Core, bus: &mut B) -> Result<(), StackFault>
 {
     let window = (core.inv + 7) % 8;
     let address = register_of(&core.windows, window, STACK);
-    if !is_writable(bus, address) {
+    if !is_usable(bus, address, WindowMove::Spill) {
         return Err(StackFault);
     }
     store_window(&core.windows, bus, window, address);
@@ -55,11 +64,28 @@ pub fn fill<B: Bus>(core: &mut Core, bus: &mut B) -> Result<(), StackFault>
     ensures others { B.others bus.new ≡ B.others bus.old }
 {
     let address = register_of(&core.windows, core.cwp, FRAME);
-    if !is_readable(bus, address) {
+    if !is_usable(bus, address, WindowMove::Fill) {
         return Err(StackFault);
     }
     let window = core.inv;
     load_window(&mut core.windows, bus, window, address);
     core.inv = (window + 1) % 8;
     Ok(())
+}
+
+/// A spill or a fill.
+pub(crate) fn move_window<B: Bus>(
+    core: &mut Core,
+    bus: &mut B,
+    which: WindowMove,
+) -> Result<(), StackFault>
+    requires { CanMove which core.old }
+    ensures moved { moved_by which (B.areas bus.old) core.old (B.memory bus.old) ≡ record { answer = result; core = core.new; memory = B.memory bus.new } }
+    ensures areas { B.areas bus.new ≡ B.areas bus.old }
+    ensures others { B.others bus.new ≡ B.others bus.old }
+{
+    match which {
+        WindowMove::Spill => spill(core, bus),
+        WindowMove::Fill => fill(core, bus),
+    }
 }

@@ -1,11 +1,11 @@
 use Rattle.std.proofs.Common.{◌≡◌, ◌*◌, true}
-use Rattle.guest_bus.specs.Memory.{is_writable}
 use Rattle.guest_bus.specs.Words.{allows}
-use Rattle.virt_traps.proofs.save_area.may_all_be_written.Given as goal
+use Rattle.virt_traps.specs.SaveArea.{allowed_for}
+use Rattle.virt_traps.proofs.save_area.may_all_be_used.Given as goal
 
 abbrev pub invariant-loop-i : goal.invariant-loop-i
 invariant-loop-i g l = record {
-  passed : allows (is_writable (g.B.Bus.areas l.fn.bus)) l.fn.address (8 * l.i) ≡ true;
+  passed : allows (allowed_for l.fn.which (g.B.Bus.areas l.fn.bus)) l.fn.address (8 * l.i) ≡ true;
   memory : g.B.Bus.memory l.bus ≡ g.B.Bus.memory l.fn.bus;
   areas : g.B.Bus.areas l.bus ≡ g.B.Bus.areas l.fn.bus;
   others : g.B.Bus.others l.bus ≡ g.B.Bus.others l.fn.bus;
