@@ -12,7 +12,7 @@ use Rattle.guest_bus.specs.declared.bus.Size.{Size}
 use Rattle.guest_bus.specs.declared.bus.Size.TheVariants.{Four}
 use Rattle.guest_memory.specs.Flat.{Accesses, StandsInArea, IsPartOf, SameAround, StandsInEntry, Table, area_in, areas_of_tables, listed, memory_in, memory_of_part, bytes_of_part}
 use Rattle.guest_memory.specs.Memories.{ArePlaced, IsPlaced, areas_size}
-use Rattle.guest_memory.specs.Near.{AreNear, AreWithin, FitsIn, IsSpotOf, IsNear, IsStored, area_there, near_of, spot_of}
+use Rattle.guest_memory.specs.Near.{AreNear, AreSpots, AreWithin, FitsIn, IsSpotOf, IsNear, IsStored, area_there, near_of, spot_of}
 use Rattle.guest_memory.specs.declared.entry.Entry.{Entry}
 use Rattle.guest_memory.specs.declared.entry.Place.{Place}
 use Rattle.guest_memory.specs.declared.near.Found.{Found}
@@ -50,6 +50,13 @@ spot_within table whole k part few = of (slice_get table.entries k) refl
 pub near_within : (table : Table) (near : Near) (whole : List ℕ) → near ≡ near_of table → IsPartOf table whole → length whole < 4294967296 → AreWithin near whole
 near_within table near whole is part few =
     subst (λ (n : Near). AreWithin n whole) (sym is) (record { first = spot_within table whole 0 part few; second = spot_within table whole 1 part few })
+
+-- what holds of areas whose bytes lie among all
+pub spots_within : (near : Near) (whole : List ℕ) → AreWithin near whole → AreSpots near
+spots_within near whole within = record {
+  first = record { ends = within.first.placed.ends; few = within.first.few };
+  second = record { ends = within.second.placed.ends; few = within.second.few };
+}
 
 -- an aligned access that begins in an area that is looked at first ends among all bytes
 spot_room : (spot : Spot) (whole : List ℕ) (found : Found) (address : ℕ) (size : Size) → FitsIn spot whole → IsSpotOf address found spot → address % byte_len (width_of size) ≡ 0 → found.byte + byte_len (width_of size) ≤ length whole

@@ -26,6 +26,16 @@ near_of table = record { first = spot_of table.place (slice_get table.entries 0)
 abbrev pub area_there : Spot → Area
 area_there spot = record { start = spot.start; size = spot.size; read_only = spot.read_only }
 
+-- an area ends with the address space or before, and its bytes begin where an address can
+pub record IsSpot (spot : Spot) : Type 0 where
+  pub ends : spot.start + spot.size ≤ 2 ^ 32
+  pub few : spot.place ≤ 2 ^ 32
+
+-- so do both areas
+pub record AreSpots (near : Near) : Type 0 where
+  pub first : IsSpot near.first
+  pub second : IsSpot near.second
+
 -- an area is whole pages, and its bytes lie among all
 pub record FitsIn (spot : Spot) (whole : List ℕ) : Type 0 where
   pub placed : IsPlaced (area_there spot)
@@ -89,6 +99,10 @@ pub record AreWordsIn (spot : Spot) (words : Words) : Type 0 where
   pub end : words.end ≡ spot.place / 4 + spot.size / 4
   pub origin : (words.origin + 4 * words.begin) % 2 ^ 32 ≡ spot.start % 2 ^ 32
 
--- they are those of one of the two, which is there
+-- they are those of an area that is there
+abbrev pub AreWordsOf : Words → Spot → Type 0
+AreWordsOf words spot = (0 < spot.size) × AreWordsIn spot words
+
+-- of one of the two
 abbrev pub AreNearWords : Words → Near → Type 0
-AreNearWords words near = ((0 < near.first.size) × AreWordsIn near.first words) ⊎ ((0 < near.second.size) × AreWordsIn near.second words)
+AreNearWords words near = AreWordsOf words near.first ⊎ AreWordsOf words near.second

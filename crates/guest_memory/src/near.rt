@@ -5,7 +5,7 @@ ghost use Rattle.std.specs.Bool.{OnTrue};
 ghost use Rattle.std.specs.Int.{byte_len};
 ghost use Rattle.guest_bus.specs.Access.{fetched, loaded, width_of};
 ghost use Rattle.guest_memory.specs.Flat.{AllBytes, IsPartOf, Table as Placed, listed, memory_of_part};
-ghost use Rattle.guest_memory.specs.Near.{AreNearWords, AreRead, AreWithin, AreWordsIn, AreWritten, IsSpotOf, IsNear, IsNearPart, IsStored, near_of, spot_of};
+ghost use Rattle.guest_memory.specs.Near.{AreNearWords, AreRead, AreSpots, AreWithin, AreWordsOf, AreWritten, HasPart, IsSpot, IsSpotOf, IsNear, IsNearPart, IsStored, near_of, spot_of};
 
 use crate::bytes::{get_words, put_value, put_words, value_at, word};
 use crate::entry::Entry;
@@ -90,18 +90,34 @@ impl Spot {
         self.size >= 64 && address.wrapping_sub(self.start) <= self.size - 64
     }
 
-    // Its words, by their places among those of all.
+    // Where those bytes lie, where it has them all.
     #[inline(always)]
-    fn words(&self) -> Words
-        requires { self.now.place ≤ 2 ^ 32 }
-        ensures { AreWordsIn self.now result }
+    fn part(&self, address: u32) -> Option<Found>
+        requires { IsSpot self.now }
+        ensures { IfSome result (λ found. HasPart address found self.now) }
     {
+        if self.has_part(address) {
+            Some(self.found(address))
+        } else {
+            None
+        }
+    }
+
+    // Its words, by their places among those of all, where it has an address.
+    #[inline(always)]
+    fn words(&self, address: u32) -> Option<Words>
+        requires { IsSpot self.now }
+        ensures { IfSome result (λ words. AreWordsOf words self.now) }
+    {
+        if !self.has(address) {
+            return None;
+        }
         let begin = self.place >> 2;
-        Words {
+        Some(Words {
             begin,
             end: begin + (self.size >> 2) as usize,
             origin: self.start.wrapping_sub(4 * ((begin % 0x4000_0000) as u32)),
-        }
+        })
     }
 }
 
@@ -119,10 +135,7 @@ impl Near {
     // Where the byte at an address lies, where one of the two has it.
     #[inline(always)]
     fn find(&self, address: u32) -> Option<Found>
-        requires first { self.now.first.start + self.now.first.size ≤ 2 ^ 32 }
-        requires second { self.now.second.start + self.now.second.size ≤ 2 ^ 32 }
-        requires first_few { self.now.first.place ≤ 2 ^ 32 }
-        requires second_few { self.now.second.place ≤ 2 ^ 32 }
+        requires { AreSpots self.now }
         ensures { IfSome result (λ found. IsNear address found self.now) }
     {
         if self.first.has(address) {
@@ -137,18 +150,12 @@ impl Near {
     /// The words of the area that has an address, where it is one of the two.
     #[inline(always)]
     pub(crate) fn words(&self, address: u32) -> Option<Words>
-        requires first { self.now.first.start + self.now.first.size ≤ 2 ^ 32 }
-        requires second { self.now.second.start + self.now.second.size ≤ 2 ^ 32 }
-        requires first_few { self.now.first.place ≤ 2 ^ 32 }
-        requires second_few { self.now.second.place ≤ 2 ^ 32 }
+        requires { AreSpots self.now }
         ensures { IfSome result (λ words. AreNearWords words self.now) }
     {
-        if self.first.has(address) {
-            Some(self.first.words())
-        } else if self.second.has(address) {
-            Some(self.second.words())
-        } else {
-            None
+        match self.first.words(address) {
+            Some(words) => Some(words),
+            None => self.second.words(address),
         }
     }
 
@@ -205,21 +212,16 @@ impl Near {
             None => false,
         }
     }
+
     // Where the 64 bytes from an address on lie, where one of the two has them all.
     #[inline(always)]
     fn find_part(&self, address: u32) -> Option<Found>
-        requires first { self.now.first.start + self.now.first.size ≤ 2 ^ 32 }
-        requires second { self.now.second.start + self.now.second.size ≤ 2 ^ 32 }
-        requires first_few { self.now.first.place ≤ 2 ^ 32 }
-        requires second_few { self.now.second.place ≤ 2 ^ 32 }
+        requires { AreSpots self.now }
         ensures { IfSome result (λ found. IsNearPart address found self.now) }
     {
-        if self.first.has_part(address) {
-            Some(self.first.found(address))
-        } else if self.second.has_part(address) {
-            Some(self.second.found(address))
-        } else {
-            None
+        match self.first.part(address) {
+            Some(found) => Some(found),
+            None => self.second.part(address),
         }
     }
 

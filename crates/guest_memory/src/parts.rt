@@ -35,28 +35,8 @@ pub(crate) fn store(
     ensures bytes { AllBytes whole.new }
 {
     if near.stored(whole, address, size, value) {
-        Ok(())
-    } else {
-        search_and_store(table, whole, address, size, value)
+        return Ok(());
     }
-}
-
-/// Stores a value where nothing refuses it, by a search.
-#[cold]
-#[inline(never)]
-fn search_and_store(
-    table: &Table,
-    whole: &mut [u8],
-    address: u32,
-    size: Size,
-    value: u64,
-) -> Result<(), BusFault>
-    requires { IsPartOf table.now whole.old }
-    ensures fault { Stores result (store_fault (listed table.now.entries) address size) }
-    ensures memory { memory_of_part table.now whole.new ≡ after_store (listed table.now.entries) (memory_of_part table.now whole.old) address size value }
-    ensures others { SameAround table.now whole.old whole.new }
-    ensures bytes { AllBytes whole.new }
-{
     let place = table.place() as usize;
     let end = place + table.size() as usize;
     space::store(

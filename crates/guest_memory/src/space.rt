@@ -86,7 +86,9 @@ fn stored(entries: &[Entry], address: u32, size: Size) -> Result<Place, BusFault
     }
 }
 
-/// Stores a value where nothing refuses it.
+/// Stores a value where nothing refuses it, by a search.
+#[cold]
+#[inline(never)]
 pub(crate) fn store(
     entries: &[Entry],
     bytes: &mut [u8],

@@ -1,17 +1,9 @@
+use Rattle.guest_memory.proofs.NearLemmas.{spots_within}
 use Rattle.guest_memory.proofs.SixteenLemmas.{near_part, near_read}
 use Rattle.guest_memory.proofs.near.Near.get_words.Goals as goal
 
-pub find_part-requires-clause-first : goal.find_part-requires-clause-first
-find_part-requires-clause-first c = c.requires.first.placed.ends
-
-pub find_part-requires-clause-second : goal.find_part-requires-clause-second
-find_part-requires-clause-second c = c.requires.second.placed.ends
-
-pub find_part-requires-clause-first_few : goal.find_part-requires-clause-first_few
-find_part-requires-clause-first_few c = c.requires.first.few
-
-pub find_part-requires-clause-second_few : goal.find_part-requires-clause-second_few
-find_part-requires-clause-second_few c = c.requires.second.few
+pub find_part-requires : goal.find_part-requires
+find_part-requires c = spots_within c.args.self.now c.args.whole.now c.requires
 
 pub get_words-requires : goal.get_words-requires
 get_words-requires c = near_part c.args.self.now c.args.whole.now c.in-Some.found c.args.address c.requires c.in-Some.ensures

@@ -1,20 +1,11 @@
 use Rattle.std.proofs.Common.{◌≡◌, ℕ, ◌%◌, sym, ap, ◌∙◌}
 use Rattle.std.specs.Int.{byte_len}
 use Rattle.guest_bus.specs.Access.{width_of}
-use Rattle.guest_memory.proofs.NearLemmas.{near_room, near_stored}
+use Rattle.guest_memory.proofs.NearLemmas.{near_room, near_stored, spots_within}
 use Rattle.guest_memory.proofs.near.Near.stored.Goals as goal
 
-pub find-requires-clause-first : goal.find-requires-clause-first
-find-requires-clause-first c = c.requires.first.placed.ends
-
-pub find-requires-clause-second : goal.find-requires-clause-second
-find-requires-clause-second c = c.requires.second.placed.ends
-
-pub find-requires-clause-first_few : goal.find-requires-clause-first_few
-find-requires-clause-first_few c = c.requires.first.few
-
-pub find-requires-clause-second_few : goal.find-requires-clause-second_few
-find-requires-clause-second_few c = c.requires.second.few
+pub find-requires : goal.find-requires
+find-requires c = spots_within c.args.self.now c.args.whole.now c.requires
 
 pub put_value-requires : goal.put_value-requires
 put_value-requires c =

@@ -1,18 +1,10 @@
 use Rattle.guest_memory.specs.Near.{AreNearWords}
+use Rattle.guest_memory.proofs.NearLemmas.{spots_within}
 use Rattle.guest_memory.proofs.WordLemmas.{if_words, ready_lie, ready_within}
 use Rattle.guest_memory.proofs.ram.RamHasWords.words.Goals as goal
 
-pub words-requires-clause-first : goal.words-requires-clause-first
-words-requires-clause-first c = (ready_within c.self.inside.tables.items c.self.inside.bytes.items c.self.inside.selected c.self.inside.near c.self.invariant).first.placed.ends
-
-pub words-requires-clause-second : goal.words-requires-clause-second
-words-requires-clause-second c = (ready_within c.self.inside.tables.items c.self.inside.bytes.items c.self.inside.selected c.self.inside.near c.self.invariant).second.placed.ends
-
-pub words-requires-clause-first_few : goal.words-requires-clause-first_few
-words-requires-clause-first_few c = (ready_within c.self.inside.tables.items c.self.inside.bytes.items c.self.inside.selected c.self.inside.near c.self.invariant).first.few
-
-pub words-requires-clause-second_few : goal.words-requires-clause-second_few
-words-requires-clause-second_few c = (ready_within c.self.inside.tables.items c.self.inside.bytes.items c.self.inside.selected c.self.inside.near c.self.invariant).second.few
+pub words-requires : goal.words-requires
+words-requires c = spots_within c.self.inside.near _ (ready_within c.self.inside.tables.items c.self.inside.bytes.items c.self.inside.selected c.self.inside.near c.self.invariant)
 
 pub returns-clause-lie : goal.returns-clause-lie
 returns-clause-lie c =
