@@ -1,8 +1,7 @@
 //! Loads, stores and exchanges.
 
-ghost use Rattle.std.specs.Prelude.{◌≡◌, ◌+◌, ◌*◌, ◌%◌, ◌<◌, ◌≤◌, ◌^◌};
+ghost use Rattle.std.specs.Prelude.{◌≡◌, ◌⊎◌, ◌+◌, ◌%◌, ◌<◌, ◌≤◌};
 ghost use Rattle.guest_bus.specs.Access.{after_store, loaded, store_fault};
-ghost use Rattle.guest_bus.specs.declared.bus.Size.TheVariants.{One, Two};
 ghost use Rattle.sparc_code.specs.Decoded.{double_work, memory_row};
 ghost use Rattle.sparc_code.specs.Fields.{rd};
 ghost use Rattle.sparc_code.specs.declared.instruction.MemOp.TheVariants.{LdD, StD};
@@ -12,12 +11,12 @@ ghost use Rattle.sparc_step.specs.Transfers.{
   exchanged_with,
   fault_type,
   loaded_into,
-  low_word,
   pair_at,
   signed_byte,
   signed_half,
   store_of,
   with_pair,
+  word_loaded,
 };
 
 use crate::operands::{put, sum_of};
@@ -59,12 +58,12 @@ pub(crate) fn load<B: Bus>(core: &mut Processor, bus: &mut B, selector: u32, wor
     let address = sum_of(core, word);
     if selector < 2 {
         if selector == 0x00 {
-            load_value(core, bus, word, address, Size::Four)
+            load_value(core, bus, word, address, Size::Four, false)
         } else {
-            load_value(core, bus, word, address, Size::One)
+            load_value(core, bus, word, address, Size::One, false)
         }
     } else if selector == 0x02 {
-        load_value(core, bus, word, address, Size::Two)
+        load_value(core, bus, word, address, Size::Two, false)
     } else {
         load_double(core, bus, word)
     }
@@ -112,10 +111,8 @@ pub(crate) fn load_signed_or_exchange<B: Bus>(
 {
     let address = sum_of(core, word);
     if selector < 0x0d {
-        if selector == 0x09 {
-            load_byte(core, bus, word, address)
-        } else if selector == 0x0a {
-            load_half(core, bus, word, address)
+        if matches!(selector, 0x09 | 0x0a) {
+            load_signed(core, bus, selector, word)
         } else {
             Turn::Trap(0x02)
         }
@@ -129,7 +126,7 @@ pub(crate) fn load_signed_or_exchange<B: Bus>(
     }
 }
 
-// Loads a value without a sign.
+// Loads a value, with its sign or without.
 #[inline(always)]
 fn load_value<B: Bus>(
     core: &mut Processor,
@@ -137,49 +134,51 @@ fn load_value<B: Bus>(
     word: u32,
     address: u32,
     size: Size,
+    signed: bool,
 ) -> Turn
-    ensures turned { loaded_into (loaded (B.areas bus.old) (B.memory bus.old) address size) low_word (rd word) core.old (B.memory bus.old) ≡ record { turn = result; core = core.new; memory = B.memory bus.new } }
+    ensures turned { loaded_into (loaded (B.areas bus.old) (B.memory bus.old) address size) (word_loaded signed size) (rd word) core.old (B.memory bus.old) ≡ record { turn = result; core = core.new; memory = B.memory bus.new } }
     ensures areas { B.areas bus.new ≡ B.areas bus.old }
     ensures others { B.others bus.new ≡ B.others bus.old }
 {
     match bus.load(address, size) {
         Ok(value) => {
-            put(core, word, (value % 0x1_0000_0000) as u32);
+            put(core, word, word_loaded(value, size, signed));
             Turn::Went
         }
         Err(fault) => Turn::Trap(fault_type(fault)),
     }
 }
 
-// LDSB.
+// LDSB and LDSH.
+#[tactic(auto, unfolding(sparc_code::specs::Decoded::memory_row))]
 #[inline(never)]
-fn load_byte<B: Bus>(core: &mut Processor, bus: &mut B, word: u32, address: u32) -> Turn
-    ensures turned { loaded_into (loaded (B.areas bus.old) (B.memory bus.old) address One) signed_byte (rd word) core.old (B.memory bus.old) ≡ record { turn = result; core = core.new; memory = B.memory bus.new } }
+fn load_signed<B: Bus>(core: &mut Processor, bus: &mut B, selector: u32, word: u32) -> Turn
+    requires { (selector ≡ 0x09) ⊎ (selector ≡ 0x0a) }
+    ensures turned { executed (memory_row selector word) (B.areas bus.old) core.old (B.memory bus.old) ≡ record { turn = result; core = core.new; memory = B.memory bus.new } }
     ensures areas { B.areas bus.new ≡ B.areas bus.old }
     ensures others { B.others bus.new ≡ B.others bus.old }
 {
-    match bus.load(address, Size::One) {
-        Ok(value) => {
-            put(core, word, signed_byte(value));
-            Turn::Went
-        }
-        Err(fault) => Turn::Trap(fault_type(fault)),
+    let address = sum_of(core, word);
+    if selector == 0x09 {
+        load_value(core, bus, word, address, Size::One, true)
+    } else {
+        load_value(core, bus, word, address, Size::Two, true)
     }
 }
 
-// LDSH.
-#[inline(never)]
-fn load_half<B: Bus>(core: &mut Processor, bus: &mut B, word: u32, address: u32) -> Turn
-    ensures turned { loaded_into (loaded (B.areas bus.old) (B.memory bus.old) address Two) signed_half (rd word) core.old (B.memory bus.old) ≡ record { turn = result; core = core.new; memory = B.memory bus.new } }
-    ensures areas { B.areas bus.new ≡ B.areas bus.old }
-    ensures others { B.others bus.new ≡ B.others bus.old }
+// The word that a load makes of a value.
+#[inline(always)]
+fn word_loaded(value: u64, size: Size, signed: bool) -> u32
+    ensures { result ≡ word_loaded signed size value }
 {
-    match bus.load(address, Size::Two) {
-        Ok(value) => {
-            put(core, word, signed_half(value));
-            Turn::Went
-        }
-        Err(fault) => Turn::Trap(fault_type(fault)),
+    let low = (value % 0x1_0000_0000) as u32;
+    if !signed {
+        return low;
+    }
+    match size {
+        Size::One => signed_byte(value),
+        Size::Two => signed_half(value),
+        Size::Four | Size::Eight => low,
     }
 }
 
