@@ -48,12 +48,12 @@ filled areas core memory =
     then move_made (record core { windows = with_registers core.windows core.inv 16 (words_at memory (fill_address core) 16); inv = (core.inv + 1) % 8 }) memory
     else move_refused core memory
 
--- a move of a window is possible: the window above the current one can be the invalid one only for a fill, and the current one never
+-- a spill may be asked for where the window above the current one is not the invalid one, and a fill where the window above the invalid one is not the current one
 abbrev pub CanMove : WindowMove → Registers → Type 0
 CanMove Spill core = (core.cwp + 1) % 8 ≢ core.inv
 CanMove Fill core = (core.inv + 1) % 8 ≢ core.cwp
 
--- what it comes to
+-- what a move of a window comes to
 abbrev pub moved_by : WindowMove → List Area → Registers → Memory → Moved
 moved_by Spill areas core memory = spilled areas core memory
 moved_by Fill areas core memory = filled areas core memory

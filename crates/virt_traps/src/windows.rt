@@ -14,7 +14,7 @@ use sparc_step::Core;
 pub struct StackFault;
 
 /// A move of a window between the registers and the stack.
-#[derive(Clone, Copy, Debug, PartialEq, Eq)]
+#[derive(Clone, Copy, Debug)]
 pub(crate) enum WindowMove {
     /// To the stack.
     Spill,
