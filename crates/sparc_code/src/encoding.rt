@@ -115,44 +115,7 @@ fn opcode(op: Arith) -> u32
     ensures value { result ≡ opcode_of op }
     ensures below { result < 64 }
 {
-    match op {
-        Arith::Add => 0x00,
-        Arith::And => 0x01,
-        Arith::Or => 0x02,
-        Arith::Xor => 0x03,
-        Arith::Sub => 0x04,
-        Arith::AndN => 0x05,
-        Arith::OrN => 0x06,
-        Arith::XNor => 0x07,
-        Arith::AddX => 0x08,
-        Arith::UMul => 0x0a,
-        Arith::SMul => 0x0b,
-        Arith::SubX => 0x0c,
-        Arith::UDiv => 0x0e,
-        Arith::SDiv => 0x0f,
-        Arith::AddCc => 0x10,
-        Arith::AndCc => 0x11,
-        Arith::OrCc => 0x12,
-        Arith::XorCc => 0x13,
-        Arith::SubCc => 0x14,
-        Arith::AndNCc => 0x15,
-        Arith::OrNCc => 0x16,
-        Arith::XNorCc => 0x17,
-        Arith::AddXCc => 0x18,
-        Arith::UMulCc => 0x1a,
-        Arith::SMulCc => 0x1b,
-        Arith::SubXCc => 0x1c,
-        Arith::UDivCc => 0x1e,
-        Arith::SDivCc => 0x1f,
-        Arith::TAddCc => 0x20,
-        Arith::TSubCc => 0x21,
-        Arith::TAddCcTv => 0x22,
-        Arith::TSubCcTv => 0x23,
-        Arith::MulSCc => 0x24,
-        Arith::Sll => 0x25,
-        Arith::Srl => 0x26,
-        Arith::Sra => 0x27,
-    }
+    op as u32
 }
 
 // The selector of work on memory.
@@ -160,18 +123,5 @@ fn memory_opcode(op: MemOp) -> u32
     ensures value { result ≡ memory_opcode_of op }
     ensures below { result < 64 }
 {
-    match op {
-        MemOp::Ld => 0x00,
-        MemOp::LdUb => 0x01,
-        MemOp::LdUh => 0x02,
-        MemOp::LdD => 0x03,
-        MemOp::St => 0x04,
-        MemOp::StB => 0x05,
-        MemOp::StH => 0x06,
-        MemOp::StD => 0x07,
-        MemOp::LdSb => 0x09,
-        MemOp::LdSh => 0x0a,
-        MemOp::LdStUb => 0x0d,
-        MemOp::Swap => 0x0f,
-    }
+    op as u32
 }
