@@ -34,7 +34,7 @@ use Rattle.tick_pieces.specs.HealthLemmas.{silent}
 use Rattle.tick_pieces.specs.InstructionLemmas.{handled_still}
 use Rattle.hypercalls.proofs.MildLemmas.{Mild, served_mild}
 use Rattle.hypercalls.proofs.ServedLemmas.{kept_parts, served_keeps}
-use Rattle.tick_pieces.specs.ReachLemmas.{no_traffic, one_before, plain_act}
+use Rattle.tick_pieces.specs.ReachLemmas.{no_traffic, one_before, reach_untraded}
 use Rattle.tick_pieces.specs.WorkLemmas.{done_then, put_there}
 use Rattle.tick_pieces.specs.ListLemmas.{at_each_set, set_each_set}
 use Rattle.xm_conf.specs.Configuration.{Conf}
@@ -223,7 +223,7 @@ module _ (p : ℕ) (sight : Sight) (s : Served) (answer : code.Served) (reach : 
         state = done.state ∙ ap (λ (t : Traffic). with_machine (traded t (with_part p w.after old.machine)) old) (sym (no_traffic p w reach old act_is));
         lines = call_lines (line_of old.machine.ticks p) answer.note s.after.memory w.after.memory s.told w.told between got c.serves.told
             (console_same s answer.note view old.machine.time c.serves.told c.acts) traces done.lines;
-        act = ap without_traffic act_is ∙ plain_act reach;
+        act = ap without_traffic act_is ∙ (reach_untraded reach).same;
         readable = c.serves.readable;
         one = one_before reach two.machine old.machine lengths c.one_is;
       }

@@ -27,7 +27,7 @@ use Rattle.tick_pieces.specs.GoesOnLemmas.{call_goes_on}
 use Rattle.tick_pieces.specs.Work.{ReachIsUponOne, IsTickWorked, console_told}
 use Rattle.tick_pieces.specs.declared.beyond.Beyond.{Beyond}
 use Rattle.tick_pieces.specs.SightLemmas.{sight_is, trap_unseen}
-use Rattle.tick_pieces.specs.SlotLemmas.{IsAt}
+use Rattle.tick_pieces.specs.SlotLemmas.{StandsInSlot}
 use Rattle.tick_pieces.specs.ReachLemmas.{one_before}
 
 -- the work of an instruction that trapped
@@ -55,7 +55,7 @@ caller_is m p pc npc new old below =
     (get_or-set_same m.parts p new (booted_part m.system p) below)
 
 -- what it is shown is what it was shown when the tick began
-sight_so : (m : Machine) (p : ℕ) (first : Bool) (ps s new : PartitionState) → IsAt m p first ps s
+sight_so : (m : Machine) (p : ℕ) (first : Bool) (ps s new : PartitionState) → StandsInSlot m p first ps s
     → (settled (areas_of (view_of m.system p)) s.core s.memory).turn ≡ Call → new ≡ turned_state (settled (areas_of (view_of m.system p)) s.core s.memory) s
     → sight m p ≡ sight_for (with_part p new m) (view_of m.system p) (observed_by (view_of m.system p) new.core)
 sight_so m p first ps s new at calls new_is =
@@ -63,14 +63,14 @@ sight_so m p first ps s new at calls new_is =
     ∙ ap (λ (x : PartitionState). sight_for (with_part p new m) (view_of m.system p) (observed_by (view_of m.system p) x.core)) (sym new_is)
 
 pub call_sight : (m : Machine) (p pc npc : ℕ) (first : Bool) (ps s new : PartitionState) (old mid : SysState) → p < length m.parts → mid ≡ with_machine (with_part p new m) old
-    → IsAt m p first ps s → (settled (areas_of (view_of m.system p)) s.core s.memory).turn ≡ Call
+    → StandsInSlot m p first ps s → (settled (areas_of (view_of m.system p)) s.core s.memory).turn ≡ Call
     → new ≡ turned_state (settled (areas_of (view_of m.system p)) s.core s.memory) s → sight m p ≡ (caller_at p pc npc mid).sight
 call_sight m p pc npc first ps s new old mid below is at calls new_is =
     sight_so m p first ps s new at calls new_is
     ∙ sym (ap (λ (x : SysState). (caller_at p pc npc x).sight) is ∙ ap (λ (c : Caller). c.sight) (caller_is m p pc npc new old below))
 
 -- what a trap is shown, and its traffic: none
-pub trap_sight : (m : Machine) (p type : ℕ) (first : Bool) (ps s : PartitionState) → IsAt m p first ps s → (settled (areas_of (view_of m.system p)) s.core s.memory).turn ≡ Trap type
+pub trap_sight : (m : Machine) (p type : ℕ) (first : Bool) (ps s : PartitionState) → StandsInSlot m p first ps s → (settled (areas_of (view_of m.system p)) s.core s.memory).turn ≡ Trap type
     → sight m p ≡ Unseen
 trap_sight m p type first ps s at traps =
     trap_unseen m p first ps s.core s.memory type at.turn at.there (ap (λ (x : PartitionState). x.core) at.met) (ap (λ (x : PartitionState). x.memory) at.met) traps
@@ -86,7 +86,7 @@ unfolding event_handled answered_by
 handled_still view time event word type ps = still_whole (effect_of (action_in view.part.hm event) ps.traps.enabled).whole
 
 -- the work of an instruction that called
-pub call_work : (m : Machine) (p pc : ℕ) (first : Bool) (ps s new : PartitionState) (old mid : SysState) → p < length m.parts → mid ≡ with_machine (with_part p new m) old → IsAt m p first ps s
+pub call_work : (m : Machine) (p pc : ℕ) (first : Bool) (ps s new : PartitionState) (old mid : SysState) → p < length m.parts → mid ≡ with_machine (with_part p new m) old → StandsInSlot m p first ps s
     → (settled (areas_of (view_of m.system p)) s.core s.memory).turn ≡ Call → new ≡ turned_state (settled (areas_of (view_of m.system p)) s.core s.memory) s → pc ≡ s.core.pc
     → called (caller_at p pc (part_at p mid.machine).core.pc mid) ≡ next_instruction m p s
 unfolding executed_in_tick

@@ -41,33 +41,33 @@ below_end f zero (x ∷ xs) all = absurd (omega (arith, all))
 below_end f (suc n) (x ∷ xs) all = ap (λ rest. f 0 x ∷ rest) (below_end (λ k. f (suc k)) n xs (omega (arith, all)))
 
 -- the system with other states of its partitions
-abbrev pub with_parts : List PartitionState → SysState → SysState
-with_parts parts sys = with_machine (record sys.machine { parts = parts }) sys
+abbrev pub with_states : List PartitionState → SysState → SysState
+with_states parts sys = with_machine (record sys.machine { parts = parts }) sys
 
 -- a system with a pass over its partitions that is done for the first so many
-abbrev pub passed : (ℕ → PartitionState → PartitionState) → ℕ → SysState → SysState
-passed f n sys = with_parts (each_below f n sys.machine.parts) sys
+abbrev pub each_passed : (ℕ → PartitionState → PartitionState) → ℕ → SysState → SysState
+each_passed f n sys = with_states (each_below f n sys.machine.parts) sys
 
 -- the next partition is written
-pub passed_more : (f : ℕ → PartitionState → PartitionState) (n : ℕ) (old now new : SysState) (x : PartitionState) → n < length old.machine.parts → now ≡ passed f n old
-    → new ≡ with_machine (with_part n x now.machine) now → x ≡ f n (part_at n now.machine) → new ≡ passed f (n + 1) old
+pub passed_more : (f : ℕ → PartitionState → PartitionState) (n : ℕ) (old now new : SysState) (x : PartitionState) → n < length old.machine.parts → now ≡ each_passed f n old
+    → new ≡ with_machine (with_part n x now.machine) now → x ≡ f n (part_at n now.machine) → new ≡ each_passed f (n + 1) old
 passed_more f n old now new x there before written is =
     written ∙ ap (λ (s : SysState). with_machine (with_part n x s.machine) s) before
-    ∙ ap (λ (parts : List PartitionState). with_parts parts old)
+    ∙ ap (λ (parts : List PartitionState). with_states parts old)
     (below_more f n old.machine.parts (booted_part old.machine.system n) x there (is ∙ ap (λ (s : SysState). f n (part_at n s.machine)) before))
-    ∙ ap (λ (k : ℕ). passed f k old) (suc-eq-add-one n)
+    ∙ ap (λ (k : ℕ). each_passed f k old) (suc-eq-add-one n)
 
 -- the next partition is one that the pass leaves
-pub passed_skip : (f : ℕ → PartitionState → PartitionState) (n : ℕ) (old now : SysState) → now ≡ passed f n old → ((x : PartitionState) → f n x ≡ x) → now ≡ passed f (n + 1) old
+pub passed_skip : (f : ℕ → PartitionState → PartitionState) (n : ℕ) (old now : SysState) → now ≡ each_passed f n old → ((x : PartitionState) → f n x ≡ x) → now ≡ each_passed f (n + 1) old
 passed_skip f n old now before same =
-    before ∙ ap (λ (parts : List PartitionState). with_parts parts old) (below_skip f n old.machine.parts same)
-    ∙ ap (λ (k : ℕ). passed f k old) (suc-eq-add-one n)
+    before ∙ ap (λ (parts : List PartitionState). with_states parts old) (below_skip f n old.machine.parts same)
+    ∙ ap (λ (k : ℕ). each_passed f k old) (suc-eq-add-one n)
 
 -- the pass is done for all partitions
-pub passed_end : (f : ℕ → PartitionState → PartitionState) (n : ℕ) (old now : SysState) → length old.machine.parts ≤ n → now ≡ passed f n old
-    → now ≡ with_parts (each f old.machine.parts) old
-passed_end f n old now all before = before ∙ ap (λ (parts : List PartitionState). with_parts parts old) (below_end f n old.machine.parts all)
+pub passed_end : (f : ℕ → PartitionState → PartitionState) (n : ℕ) (old now : SysState) → length old.machine.parts ≤ n → now ≡ each_passed f n old
+    → now ≡ with_states (each f old.machine.parts) old
+passed_end f n old now all before = before ∙ ap (λ (parts : List PartitionState). with_states parts old) (below_end f n old.machine.parts all)
 
 -- a pass under way keeps the number of partitions
-pub passed_length : (f : ℕ → PartitionState → PartitionState) (n : ℕ) (old now : SysState) → now ≡ passed f n old → length now.machine.parts ≡ length old.machine.parts
+pub passed_length : (f : ℕ → PartitionState → PartitionState) (n : ℕ) (old now : SysState) → now ≡ each_passed f n old → length now.machine.parts ≡ length old.machine.parts
 passed_length f n old now before = ap (λ (s : SysState). length s.machine.parts) before ∙ below_length f n old.machine.parts

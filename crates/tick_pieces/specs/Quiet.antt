@@ -1,14 +1,12 @@
 -- Which acts end a stretch of ticks, and ticks without one.
 use Rattle.std.specs.Prelude.{◌≡◌, ℕ, ◌+◌, ◌<◌, Bool, true, false}
 use Rattle.machine_model.specs.Machine.{Machine, act_of, local, run}
-use Rattle.machine_model.specs.Told.{Act, Nothing, OwnPuts, OwnSignals, OwnStill, OwnTakes, OwnTraffic, Plans, Trades, Upon, UponAll}
+use Rattle.machine_model.specs.Told.{Act, Nothing, OwnSignals, OwnTraffic, Plans, Trades, Upon, UponAll}
 
 -- whether traffic is a signal
 abbrev pub is_signal : OwnTraffic → Bool
-is_signal OwnStill = false
-is_signal (OwnPuts name bytes) = false
-is_signal (OwnTakes name) = false
 is_signal (OwnSignals number) = true
+is_signal other = false
 
 -- whether an act ends a stretch: it is neither none nor a message that is put or taken
 abbrev pub ends_stretch : Act → Bool

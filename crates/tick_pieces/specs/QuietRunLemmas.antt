@@ -17,9 +17,9 @@ no_halt (told.Upon id order) goes = absurd cc
 no_halt (told.Plans change) goes = absurd cc
 no_halt (told.UponAll event) goes = absurd cc
 
-step_runs : (g : Machine) → g.halted ≡ false → ends_in g ≡ false → (step g).halted ≡ false
+quiet_step_runs : (g : Machine) → g.halted ≡ false → ends_in g ≡ false → (step g).halted ≡ false
 unfolding step after happened happened_by ends_in
-step_runs g runs goes = ap (λ (b : Bool). (step_unless b g).halted) runs ∙ no_halt (machine.act_of (local g)) goes
+quiet_step_runs g runs goes = ap (λ (b : Bool). (step_unless b g).halted) runs ∙ no_halt (machine.act_of (local g)) goes
 
 -- none of so many ticks has an act that ends a stretch
 abbrev pub AllQuiet : ℕ → Machine → Type 0
@@ -29,7 +29,7 @@ pub quiet_runs : (count : ℕ) (g : Machine) → g.halted ≡ false → AllQuiet
 quiet_runs zero g runs goes = runs
 quiet_runs (suc count) g runs goes =
     ap (λ (m : Machine). m.halted) (run_more g count)
-    ∙ step_runs (run g count) (quiet_runs count g runs (λ k below. goes k (omega (arith, below)))) (goes count (omega arith))
+    ∙ quiet_step_runs (run g count) (quiet_runs count g runs (λ k below. goes k (omega (arith, below)))) (goes count (omega arith))
 
 -- quiet ticks of which the last has none either
 pub all_quiet : (count : ℕ) (g : Machine) → AreQuiet count g → (0 < count → ends_in (run g (count - 1)) ≡ false) → AllQuiet count g

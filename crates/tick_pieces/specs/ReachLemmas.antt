@@ -13,7 +13,7 @@ use Rattle.machine_model.specs.LocalTick.{by_act}
 use Rattle.machine_model.specs.Machine.{Machine}
 use Rattle.machine_model.specs.Partition.{PartitionState, areas_of, ordered, ordered_told}
 use Rattle.machine_model.specs.Told as told
-use Rattle.machine_model.specs.Told.{OwnStill, OwnTraffic, line_of}
+use Rattle.machine_model.specs.Told.{Act, OwnStill, OwnTraffic, line_of}
 use Rattle.machine_model.specs.Traffic.{Still, Traffic, told_as, traffic_of}
 use Rattle.machine_model.specs.View.{PartitionView, System, view_of}
 use Rattle.slot_runs.specs.Passes.{part_at, traded, traffic_in, with_part}
@@ -27,29 +27,23 @@ use Rattle.tick_pieces.specs.declared.beyond.Beyond.TheVariants as beyond
 use Rattle.tick_pieces.specs.HealthLemmas.{is_work, silent}
 use Rattle.tick_pieces.specs.WorkLemmas.{done_then, put_there}
 
--- what reaches beyond a partition is no traffic
-pub still_act : (reach : Beyond) → traffic_of (act_beyond reach) ≡ OwnStill
-still_act beyond.Nothing = refl
-still_act (beyond.Order id order) = refl
-still_act (beyond.Plan plan) = refl
-still_act (beyond.Whole whole.Nothing) = refl
-still_act (beyond.Whole (whole.Reset mode)) = refl
-still_act (beyond.Whole whole.Halt) = refl
-still_act (beyond.Whole whole.Maintenance) = refl
+-- what reaches beyond a partition is no traffic, so it has none that could be left out
+pub record HasNoTraffic (act : Act) : Type 0 where
+  pub still : traffic_of act ≡ OwnStill
+  pub same : without_traffic act ≡ act
 
--- nor has it any that could be left out
-pub plain_act : (reach : Beyond) → without_traffic (act_beyond reach) ≡ act_beyond reach
-plain_act beyond.Nothing = refl
-plain_act (beyond.Order id order) = refl
-plain_act (beyond.Plan plan) = refl
-plain_act (beyond.Whole whole.Nothing) = refl
-plain_act (beyond.Whole (whole.Reset mode)) = refl
-plain_act (beyond.Whole whole.Halt) = refl
-plain_act (beyond.Whole whole.Maintenance) = refl
+pub reach_untraded : (reach : Beyond) → HasNoTraffic (act_beyond reach)
+reach_untraded beyond.Nothing = record { still = refl; same = refl }
+reach_untraded (beyond.Order id order) = record { still = refl; same = refl }
+reach_untraded (beyond.Plan plan) = record { still = refl; same = refl }
+reach_untraded (beyond.Whole whole.Nothing) = record { still = refl; same = refl }
+reach_untraded (beyond.Whole (whole.Reset mode)) = record { still = refl; same = refl }
+reach_untraded (beyond.Whole whole.Halt) = record { still = refl; same = refl }
+reach_untraded (beyond.Whole whole.Maintenance) = record { still = refl; same = refl }
 
 -- an act that reaches so has no traffic in the system
 pub no_traffic : (p : ℕ) (work : Worked) (reach : Beyond) (old : SysState) → work.act ≡ act_beyond reach → traffic_in old.machine p work.act ≡ Still
-no_traffic p work reach old is = ap (λ (traffic : OwnTraffic). told_as old.machine.system.conf p traffic) (ap traffic_of is ∙ still_act reach)
+no_traffic p work reach old is = ap (λ (traffic : OwnTraffic). told_as old.machine.system.conf p traffic) (ap traffic_of is ∙ (reach_untraded reach).still)
 
 -- an order is on a partition that there was
 pub one_before : (reach : Beyond) (g h : Machine) → length g.parts ≡ length h.parts → ReachIsUponOne reach g → ReachIsUponOne reach h
@@ -64,7 +58,7 @@ pub worked_done : (p : ℕ) (work : Worked) (reach : Beyond) (old new : SysState
 worked_done p work reach old new had got empty done act_is one = record {
   state = done.state ∙ ap (λ (t : Traffic). with_machine (traded t (with_part p work.after old.machine)) old) (sym (no_traffic p work reach old act_is));
   lines = sym (done.lines ∙ ap (λ (lines : List ReportLine). lines ++ map (line_of old.machine.ticks p) work.told) empty);
-  act = ap without_traffic act_is ∙ plain_act reach;
+  act = ap without_traffic act_is ∙ (reach_untraded reach).same;
   readable = tt;
   one = one;
 }

@@ -26,8 +26,8 @@ abbrev ShowsAlike : Machine → Machine → PartitionView → Option Observation
 ShowsAlike g m view asked = sight_for g view asked ≡ sight_for m view asked
 
 -- the question of a call is answered alike
-shown : (g m : Machine) (view : PartitionView) (call : Observation) → answer_to g call.question ≡ answer_to m call.question → ShowsAlike g m view (Some call)
-shown g m view call same = ap (λ (s : Sight). with_room (all_from (is_writable (areas_of view)) call.address call.size) s) same
+answered_alike : (g m : Machine) (view : PartitionView) (call : Observation) → answer_to g call.question ≡ answer_to m call.question → ShowsAlike g m view (Some call)
+answered_alike g m view call same = ap (λ (s : Sight). with_room (all_from (is_writable (areas_of view)) call.address call.size) s) same
 
 -- one of two questions
 chosen : (g m : Machine) (view : PartitionView) (t : Bool) (x y : Option Observation) → ShowsAlike g m view x → ShowsAlike g m view y
@@ -44,7 +44,7 @@ other_alike g view new id question address size same = at (id == view.id) refl (
     at : (own : Bool) → (id == view.id) ≡ own → (there : Bool)
         → ShowsAlike g (with_part view.id new g) view (then_some (not own && there) (record { question = question; address = address; size = size }))
     at true is there = refl
-    at false is true = shown g (with_part view.id new g) view (record { question = question; address = address; size = size }) (same (λ e. no (sym is ∙ eq-eqb id view.id e)))
+    at false is true = answered_alike g (with_part view.id new g) view (record { question = question; address = address; size = size }) (same (λ e. no (sym is ∙ eq-eqb id view.id e)))
       where
         no : false ≡ true → ⊥
         no e = cc

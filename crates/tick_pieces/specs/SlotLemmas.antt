@@ -5,9 +5,11 @@ use Rattle.std.proofs.lemmas.Bool.Decides.{nat_tests}
 use Rattle.virt_clocks.specs.Clocks.{PartitionClocks, is_due, lesser, looked_at, next_due, rearmed, ticks_until}
 use Rattle.virt_clocks.specs.declared.timer.Timer.{Timer}
 use Rattle.virt_traps.specs.Virtual.{VirtualTraps, due}
+use Rattle.xm_base.specs.Options.{on}
 use Rattle.xm_ports.specs.Channels.{Content}
 use Rattle.machine_model.specs.Health.{Worked}
 use Rattle.machine_model.specs.Laws.{ActsWithinBounds}
+use Rattle.machine_model.specs.ListLemmas.{get_map}
 use Rattle.machine_model.specs.LocalTick.{bounded, delivered_or_executed, executed_in_tick, goes_on, local_tick, with_interrupts, worked, worked_if}
 use Rattle.machine_model.specs.Machine.{Machine, copies, run, sight, turn_of}
 use Rattle.machine_model.specs.Partition.{PartitionState, execution_looked_at, execution_timer, hardware_looked_at, hardware_timer, raised_if, rested}
@@ -45,10 +47,10 @@ looked_same t None waits = refl
 looked_same t (Some timer) waits = ap (λ (b : Bool). if b then rearmed t timer else Some timer) waits
 
 -- a partition with these traps and timers
-abbrev with_timers : VirtualTraps → Option Timer → Option Timer → PartitionState → PartitionState
-with_timers traps hardware execution ps = record ps { traps = traps; clocks = record ps.clocks { hardware_timer = hardware; execution_timer = execution } }
+abbrev with_traps_and_timers : VirtualTraps → Option Timer → Option Timer → PartitionState → PartitionState
+with_traps_and_timers traps hardware execution ps = record ps { traps = traps; clocks = record ps.clocks { hardware_timer = hardware; execution_timer = execution } }
 
-same_timers : (a b : VirtualTraps) (c d e f : Option Timer) (ps : PartitionState) → a ≡ b → c ≡ d → e ≡ f → with_timers a c e ps ≡ with_timers b d f ps
+same_timers : (a b : VirtualTraps) (c d e f : Option Timer) (ps : PartitionState) → a ≡ b → c ≡ d → e ≡ f → with_traps_and_timers a c e ps ≡ with_traps_and_timers b d f ps
 same_timers a b c d e f ps same_traps same_hardware same_execution = rw (same_traps, same_hardware, same_execution) refl
 
 -- a tick brings no interrupts where no timer is due
@@ -63,7 +65,7 @@ none_met time ps no_hardware no_execution =
     (looked_same time ps.clocks.hardware_timer no_hardware) (looked_same ps.clocks.execution ps.clocks.execution_timer no_execution)
 
 -- how the partition of the slot stands in a tick in which no interrupt is delivered: with the interrupts of the tick and awake it is in this state
-pub record IsAt (m : Machine) (p : ℕ) (first : Bool) (ps s : PartitionState) : Type 0 where
+pub record StandsInSlot (m : Machine) (p : ℕ) (first : Bool) (ps s : PartitionState) : Type 0 where
   pub turn : turn_of m ≡ Some (record { part = p; first = first })
   pub there : slice_get m.parts p ≡ Some ps
   pub wakes : goes_on (with_interrupts m.time first ps).state first (due (with_interrupts m.time first ps).traps) ≡ true
@@ -81,22 +83,13 @@ get_set [] p x new there = absurd cc
 get_set (y ∷ ys) zero x new there = refl
 get_set (y ∷ ys) (suc p) x new there = get_set ys p x new there
 
-get_map : {X : Type 0} (r : X → X) (xs : List X) (p : ℕ) (x : X) → slice_get xs p ≡ Some x → slice_get (map r xs) p ≡ Some (r x)
-get_map r [] p x there = absurd cc
-get_map {X} r (y ∷ ys) zero x there = ap (λ (o : Option X). on_some o) there
-  where
-    on_some : Option X → Option X
-    on_some None = None
-    on_some (Some z) = Some (r z)
-get_map r (y ∷ ys) (suc p) x there = get_map r ys p x there
-
 -- the partition inside a span stands so
 at_inside : (g m : Machine) (p : ℕ) (first : Bool) (ps : PartitionState) (k : ℕ) → IsUndisturbed g p first ps (suc k)
     → m.time ≡ g.time + suc k → m.parts ≡ gone_parts (suc k) g p first ps → turn_of m ≡ Some (record { part = p; first = false })
-    → IsAt m p false (gone_on (suc k) (its_areas g p) (met g first ps)) (gone_on (suc k) (its_areas g p) (met g first ps))
+    → StandsInSlot m p false (gone_on (suc k) (its_areas g p) (met g first ps)) (gone_on (suc k) (its_areas g p) (met g first ps))
 at_inside g m p first ps k is time parts turn = record {
   turn = turn;
-  there = ap (λ (xs : List PartitionState). slice_get xs p) parts ∙ get_set (map (rested (g.time + k)) g.parts) p (rested (g.time + k) ps) s (get_map (rested (g.time + k)) g.parts p ps is.goes.slot.there);
+  there = ap (λ (xs : List PartitionState). slice_get xs p) parts ∙ get_set (map (rested (g.time + k)) g.parts) p (rested (g.time + k) ps) s (get_map (rested (g.time + k)) g.parts p ∙ ap (on (rested (g.time + k))) is.goes.slot.there);
   wakes = ap (λ (x : PartitionState). goes_on x.state false (due x.traps)) same;
   undelivered = subst (λ (x : PartitionState). NoDelivery x.traps) (sym same) is.undelivered;
   met = ap awake same;
@@ -115,7 +108,7 @@ at_inside g m p first ps k is time parts turn = record {
 -- the partition before the tick that follows a span
 pub at_next : (g : Machine) (p : ℕ) (first : Bool) (ps : PartitionState) (done : ℕ) (work : Worked) → IsUndisturbed g p first ps done
     → IsNextTick g done (gone_parts done g p first ps) p (first_after done first) work
-    → IsAt (run g done) p (first_after done first) (its_before done ps (gone_on done (its_areas g p) (met g first ps))) (gone_on done (its_areas g p) (met g first ps))
+    → StandsInSlot (run g done) p (first_after done first) (its_before done ps (gone_on done (its_areas g p) (met g first ps))) (gone_on done (its_areas g p) (met g first ps))
 at_next g p first ps zero work is next = record {
   turn = next.tick.turn;
   there = is.goes.slot.there;
@@ -135,7 +128,7 @@ undelivered_executes (Some n) true view contents time seen ps (inr none) = absur
 undelivered_executes (Some n) false view contents time seen ps none = refl
 
 -- its work is an instruction
-works_so : (m : Machine) (p : ℕ) (first : Bool) (ps s : PartitionState) → IsAt m p first ps s
+works_so : (m : Machine) (p : ℕ) (first : Bool) (ps s : PartitionState) → StandsInSlot m p first ps s
     → worked (view_of m.system p) (copies m p) m.time first (sight m p) ps ≡ next_instruction m p s
 unfolding worked
 works_so m p first ps s is =
@@ -145,7 +138,7 @@ works_so m p first ps s is =
     ∙ ap (next_instruction m p) is.met
 
 -- its act keeps within the partition's bounds
-pub within_bounds : ActsWithinBounds → (m : Machine) (p : ℕ) (first : Bool) (ps s : PartitionState) → IsAt m p first ps s
+pub within_bounds : ActsWithinBounds → (m : Machine) (p : ℕ) (first : Bool) (ps s : PartitionState) → StandsInSlot m p first ps s
     → bounded (view_of m.system p) (next_instruction m p s).act ≡ (next_instruction m p s).act
 unfolding local_tick
 within_bounds law m p first ps s is =
