@@ -119,7 +119,7 @@ fn is_number(found: Option<u8>, number: u8) -> bool
 }
 
 /// Partition `p`'s name for a channel: its lowest port on it.
-fn name_of(conf: &Conf, p: PartId, chan: u8) -> Option<u8>
+pub fn name_of(conf: &Conf, p: PartId, chan: u8) -> Option<u8>
     requires { p < length conf.now.parts }
     ensures { result ≡ name_of conf.now p chan }
 {

@@ -12,6 +12,7 @@ mod tests;
 mod writer;
 mod writing;
 
+pub use channels::name_of;
 pub use cue::{ScriptCue, ScriptEntry, ScriptEvent, ScriptSight, ScriptSlot, ScriptTraffic};
 pub use file_texts::ScriptFault;
 pub use law::{none_is_prefix, read_is_written, written_is_read};

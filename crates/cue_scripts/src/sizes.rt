@@ -52,8 +52,9 @@ fn sight_length(seen: &ScriptSight) -> u64
     ensures value { result ≡ length (sight_text (script_sight_value seen.now)) }
     ensures few { result ≤ 257 }
 {
-    match seen {
-        ScriptSight::Nothing | ScriptSight::NotKept => 1,
-        ScriptSight::Words(bytes) => 2 + bytes.len() as u64,
+    if let ScriptSight::Words(bytes) = seen {
+        2 + bytes.len() as u64
+    } else {
+        1
     }
 }
