@@ -1,5 +1,5 @@
 -- A hypercall of one partition without the others.
-use Rattle.std.proofs.Common.{◌≡◌, ◌⊎◌, inl, inr, ℕ, ◌+◌, ◌<◌, ◌≤◌, Bool, true, false, List, [], ◌++◌, length, map, Option, None, Some, refl, sym, ap, subst, ◌∙◌, arith}
+use Rattle.std.proofs.Common.{◌≡◌, ◌⊎◌, inl, inr, ℕ, ◌+◌, ◌<◌, ◌≤◌, true, false, List, [], ◌++◌, length, map, Option, None, Some, refl, sym, ap, subst, ◌∙◌, arith}
 use Rattle.std.specs.Prelude.{◌^◌}
 use Rattle.std.proofs.lemmas.Option.{same_Some}
 use Rattle.whole_system.specs.Serving.{caller_at, caller_of}
@@ -12,7 +12,7 @@ use Rattle.machine_model.specs.Health.{Worked}
 use Rattle.machine_model.specs.Hypercalls.{served}
 use Rattle.machine_model.specs.Laws.{ObservesAsTested}
 use Rattle.machine_model.specs.LocalTick.{by_upshot, called, clocked}
-use Rattle.machine_model.specs.Machine.{Machine, copies}
+use Rattle.machine_model.specs.Machine.{copies}
 use Rattle.machine_model.specs.Observed.{Observation, observed_by}
 use Rattle.machine_model.specs.Partition.{PartitionState}
 use Rattle.machine_model.specs.Told as told
@@ -20,24 +20,23 @@ use Rattle.machine_model.specs.Told.{NoEvent, NotKept, OwnStill, OwnTraffic, Sig
 use Rattle.machine_model.specs.Traffic.{told_as, traffic_of}
 use Rattle.machine_model.specs.View.{PartitionView, view_of}
 use Rattle.machine_model.specs.Whole.{event_of}
-use Rattle.slot_runs.specs.Passes.{part_at, traded, traffic_in, with_part}
+use Rattle.slot_runs.specs.Passes.{part_at, traded, with_part}
 use Rattle.alone_passes.specs.Taking.{asks_entry, takes_sight}
 use Rattle.tick_pieces.specs.Span.{CanTake}
 use Rattle.lone_ticks.specs.LoneWork.{IsLoneDone, IsLoneWork, IsWorkUndone, asked_of, shown_state, shows_this}
 use Rattle.tick_pieces.specs.declared.beyond.Beyond.TheVariants as beyond
 use Rattle.lone_ticks.specs.declared.call.Asked.{Asked}
-use Rattle.lone_ticks.specs.declared.work.LoneWork.{LoneWork}
-use Rattle.lone_ticks.proofs.LoneWorkLemmas.{lone_as, undone_same}
-use Rattle.lone_ticks.proofs.ObservingLemmas.{IsMild, IsObserved, served_observed, shown_after}
+use Rattle.lone_ticks.proofs.LoneWorkLemmas.{undone_same}
+use Rattle.lone_ticks.proofs.ObservingLemmas.{IsMild, served_observed, shown_after}
 use Rattle.lone_ticks.proofs.PutLemmas.{put_then}
 
 -- the caller at a site is the one at its program counters
-pub site_calls : (p pc npc : ℕ) (seen : Sight) (sys : SysState) → npc ≡ (part_at p sys.machine).core.pc
-    → called (record (caller_of (record { part = p; pc = pc; npc = npc }) sys) { sight = seen })
-    ≡ called (record (caller_at p pc (part_at p sys.machine).core.pc sys) { sight = seen })
+pub site_calls : (site : CallSite) (seen : Sight) (sys : SysState) → site.npc ≡ (part_at site.part sys.machine).core.pc
+    → called (record (caller_of site sys) { sight = seen })
+    ≡ called (record (caller_at site.part site.pc (part_at site.part sys.machine).core.pc sys) { sight = seen })
 unfolding caller_of caller_at
-site_calls p pc npc seen sys is =
-    ap (λ (k : ℕ). called (record { view = view_of sys.machine.system p; state = part_at p sys.machine; contents = copies sys.machine p; time = sys.machine.time; sight = seen; pc = pc; npc = k })) is
+site_calls site seen sys is =
+    ap (λ (k : ℕ). called (record { view = view_of sys.machine.system site.part; state = part_at site.part sys.machine; contents = copies sys.machine site.part; time = sys.machine.time; sight = seen; pc = site.pc; npc = k })) is
 
 -- what it asks for
 pub site_asks : (site : CallSite) (sys : SysState) → asked_of (observed_by (caller_of site sys).view (caller_of site sys).state.core)

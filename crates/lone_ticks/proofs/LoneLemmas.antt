@@ -5,7 +5,7 @@ use Rattle.std.specs.Prelude.{◌&&◌, if◌then◌else◌}
 use Rattle.whole_system.specs.State.{SysState, with_machine}
 use Rattle.whole_system.specs.declared.served.Note.TheVariants as note
 use Rattle.xm_base.specs.declared.partition.Order.{Order}
-use Rattle.xm_conf.specs.Configuration.{Chan, Conf}
+use Rattle.xm_conf.specs.Configuration.{Conf}
 use Rattle.xm_report.specs.Report.{ReportLine}
 use Rattle.cue_scripts.specs.Entries.{is_away}
 use Rattle.cue_scripts.specs.Script.{CanHear, CanSee, HearsNothing, numbered_chan, chan_called, heard_in, is_length, most_heard}
@@ -17,21 +17,21 @@ use Rattle.machine_model.specs.LocalTick.{LocalTick, local_tick}
 use Rattle.machine_model.specs.Machine.{Machine, act_of, copies, is_halt, obeyed, obeyed_told}
 use Rattle.machine_model.specs.Partition.{PartitionState, reset, takes_turns}
 use Rattle.machine_model.specs.Structures.{flag}
-use Rattle.machine_model.specs.Told.{NotKept, OwnPuts, OwnSignals, OwnStill, OwnTakes, OwnTraffic, Sight, Told, Unseen, Words, line_of}
+use Rattle.machine_model.specs.Told.{NotKept, OwnPuts, OwnSignals, OwnStill, OwnTakes, OwnTraffic, Sight, Unseen, Words, line_of}
 use Rattle.machine_model.specs.View.{PartitionView, System, named, view_of}
 use Rattle.machine_model.specs.Whole.{AllHalted, AllReset, NoEvent, WholeEvent, event_lines, event_of}
-use Rattle.slot_runs.specs.Passes.{part_at, traded, with_part}
+use Rattle.slot_runs.specs.Passes.{part_at, with_part}
 use Rattle.xm_ports.specs.Channels.{shapes_of}
 use Rattle.alone_passes.specs.Kept.{IsKeptBy, PassesKeep}
 use Rattle.alone_passes.specs.Laws.{AwayTicks, IsOwnChannel, RestingTicksAlone, away_lines}
 use Rattle.alone_passes.specs.Passes.{away_passed, event_met, part_in, rested_in, tick_past, told_traffic}
-use Rattle.alone_passes.specs.Taking.{is_no_sight, is_same_event, takes_cue, takes_traffic}
+use Rattle.alone_passes.specs.Taking.{is_no_sight, is_same_event, takes_traffic}
 use Rattle.alone_passes.specs.TakingLaws.{TakesAway, TakesResting}
-use Rattle.alone_passes.specs.Step.{IsLone, IsOfSystem}
+use Rattle.alone_passes.specs.Step.{IsOfSystem}
 use Rattle.tick_pieces.specs.CueValues.{slot_value}
 use Rattle.tick_pieces.specs.declared.cue.Mine as code_mine
 use Rattle.tick_pieces.specs.declared.cue.Mine.TheVariants as its
-use Rattle.lone_ticks.specs.LoneWork.{IsLoneTick, IsLoneTicked, most_lines, traffic_done}
+use Rattle.lone_ticks.specs.LoneWork.{IsLoneTick, most_lines, traffic_done}
 use Rattle.tick_pieces.specs.Machine.{IsMachine}
 use Rattle.lone_ticks.proofs.PutLemmas.{is_told}
 use Rattle.tick_pieces.specs.KeptLemmas.{facts_at}

@@ -1,14 +1,14 @@
 -- What an observing call leaves of its caller, whatever it is shown: it reports nothing, and does nothing beyond it or asks for a plan.
-use Rattle.std.proofs.Common.{◌≡◌, ◌⊎◌, inl, inr, ℕ, Bool, true, false, List, [], ◌∷◌, ◌++◌, length, Option, None, Some, refl, sym, ap, subst, ◌∙◌}
+use Rattle.std.proofs.Common.{◌≡◌, ◌⊎◌, inl, inr, ℕ, Bool, true, false, List, [], ◌∷◌, length, None, Some, refl, sym, ap, subst, ◌∙◌}
 use Rattle.std.specs.Prelude.{◌==◌, ◌&&◌, ◌||◌, not, nat_lt, if◌then◌else◌, is_none}
 use Rattle.std.proofs.lemmas.Bool.{eqb-true}
 use Rattle.std.proofs.lemmas.Option.{same_Some}
 use Rattle.xm_traces.specs.Ring.{Kept, entry_at}
-use Rattle.machine_model.specs.Caller.{Acts, Caller, Served, Test, Upshot, a_of, answering, b_of, c_of, invalid_parameter, is_not_kept, is_room, no_permission, not_available, number_of, refused_if, room, system_only, target, tested, with_answer, with_written}
+use Rattle.machine_model.specs.Caller.{Acts, Caller, Served, Test, a_of, answering, b_of, c_of, invalid_parameter, is_not_kept, is_room, no_permission, not_available, number_of, refused_if, room, system_only, target, tested, with_answer, with_written}
 use Rattle.machine_model.specs.Hypercalls.{call_numbered, served}
 use Rattle.machine_model.specs.Laws.{ObservesAsTested}
 use Rattle.machine_model.specs.Lists.{then_some}
-use Rattle.machine_model.specs.LogCalls.{counting, entry_seen, hm_read, hm_status, is_missing, reading, trace_read, trace_status}
+use Rattle.machine_model.specs.LogCalls.{entry_seen, hm_read, hm_status, reading, trace_read, trace_status}
 use Rattle.machine_model.specs.Observed.{CurrentPlan, HealthCounts, HealthEntryOf, Observation, PartitionStatus, PlanStatus, Question, SystemStatus, TraceCounts, TraceEntryOf, about_other, about_system, observed_by, observing}
 use Rattle.machine_model.specs.Partition.{PartitionState}
 use Rattle.machine_model.specs.PartitionCalls.{get_partition_status, get_system_status}

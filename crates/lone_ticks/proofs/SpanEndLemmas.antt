@@ -3,10 +3,9 @@ use Rattle.std.proofs.Common.{◌≡◌, ℕ, ◌+◌, ◌<◌, ◌≤◌, Bool,
 use Rattle.std.specs.Prelude.{◌%◌, ◌^◌, if◌then◌else◌, IfSome}
 use Rattle.std.proofs.lemmas.List.{length-set}
 use Rattle.health_monitor.specs.Monitor.{event_of_type}
-use Rattle.sparc_step.specs.Registers.{Registers}
 use Rattle.sparc_step.specs.declared.outcome.Turn.{Turn}
 use Rattle.sparc_step.specs.declared.outcome.Turn.TheVariants.{Call, Trap}
-use Rattle.virt_traps.specs.Settled.{GoesOn, settled}
+use Rattle.virt_traps.specs.Settled.{GoesOn}
 use Rattle.xm_report.specs.Report.{ReportLine}
 use Rattle.xm_conf.specs.Configuration.{Conf}
 use Rattle.cue_scripts.specs.Entries.{bare_cue}
@@ -14,9 +13,9 @@ use Rattle.cue_scripts.specs.Script.{IsCue}
 use Rattle.machine_model.specs.Facts.{KeepsFactsAlone}
 use Rattle.machine_model.specs.Health.{Worked, event_handled}
 use Rattle.machine_model.specs.Laws.{ActsWithinBounds}
-use Rattle.machine_model.specs.LocalTick.{by_turn, called, clocked, turned_state, worked}
+use Rattle.machine_model.specs.LocalTick.{by_turn, called, clocked}
 use Rattle.machine_model.specs.Machine.{Machine, copies}
-use Rattle.machine_model.specs.Observed.{Observation, asks, if_call, observed_by}
+use Rattle.machine_model.specs.Observed.{Observation, if_call, observed_by}
 use Rattle.machine_model.specs.Partition.{PartitionState, takes_turns}
 use Rattle.machine_model.specs.Told.{NoEvent, Unseen, WholeEvent}
 use Rattle.machine_model.specs.View.{view_of}
@@ -33,8 +32,8 @@ use Rattle.alone_passes.specs.Taking.{is_same_event}
 use Rattle.alone_passes.specs.TakingLaws.{TakesWorking}
 use Rattle.tick_pieces.specs.Span.{CanTake}
 use Rattle.tick_pieces.specs.Work.{act_beyond}
-use Rattle.lone_ticks.specs.LoneSpan.{CanEnd, HasTurnedAlone, HasWorked, IsLoneSpanEnded}
-use Rattle.lone_ticks.specs.LoneWork.{IsLoneDone, IsLoneWork, most_lines}
+use Rattle.lone_ticks.specs.LoneSpan.{CanEnd, HasTurnedAlone, HasWorked}
+use Rattle.lone_ticks.specs.LoneWork.{IsLoneDone, IsLoneTickEnded, IsLoneWork, most_lines}
 use Rattle.lone_ticks.specs.declared.work.LoneWork.{LoneWork}
 use Rattle.tick_pieces.specs.GoesOnLemmas.{call_goes_on}
 use Rattle.lone_ticks.proofs.LoneTurnLemmas.{IsTurn, can_take, frame_traded, not_seen, turn_machine, turn_noted, turn_system, undone_machine, undone_system}
@@ -58,7 +57,7 @@ is_turn p work before now got is = record {
 -- work that was done
 pub work_ended : WorkingTicks → TakesWorking → PassesKeep → ActsWithinBounds → KeepsFactsAlone → (p : ℕ) (work : LoneWork) (event : WholeEvent) (before mid new : SysState) (had got : List ReportLine) (told : Option Note) (same : Bool)
     → HasWorked p (Some work) before mid had → event ≡ event_of (act_beyond work.reach) → new ≡ with_machine (tick_past event (event_met p event mid.machine)) mid
-    → got ≡ had ++ event_lines mid.machine.ticks event p → same ≡ is_same_event event NoEvent → told ≡ (if same then Some work.note else None) → length got ≤ most_lines → IsLoneSpanEnded told p before new got
+    → got ≡ had ++ event_lines mid.machine.ticks event p → same ≡ is_same_event event NoEvent → told ≡ (if same then Some work.note else None) → length got ≤ most_lines → IsLoneTickEnded told p (bare_cue true) before new got
 unfolding bare_cue
 work_ended ticks takes keeps bounds facts p work event before mid new had got told same is event_is new_is got_is same_is told_is few =
     let turn : IsTurn p false (bare_cue true) before = is_turn p (Some work) before mid had is in
@@ -69,7 +68,7 @@ work_ended ticks takes keeps bounds facts p work event before mid new had got to
     }
 
 -- work that was not
-pub work_missed : TakesWorking → ActsWithinBounds → (p : ℕ) (before now : SysState) (got more : List ReportLine) → HasWorked p None before now got → IsLoneSpanEnded None p before now more
+pub work_missed : TakesWorking → ActsWithinBounds → (p : ℕ) (before now : SysState) (got more : List ReportLine) → HasWorked p None before now got → IsLoneTickEnded None p (bare_cue true) before now more
 unfolding bare_cue
 work_missed takes bounds p before now got more is = record {
   tick = not_seen takes bounds p false (bare_cue true) before (is_turn p None before now got is) is.work.0;

@@ -1,12 +1,11 @@
 -- Many ticks of one partition without the others, as they are done on the whole system.
-use Rattle.std.proofs.Common.{◌≡◌, ℕ, zero, suc, ◌+◌, ◌-◌, ◌<◌, ◌≤◌, ◌⊎◌, Bool, true, false, List, [], length, Option, None, Some, refl, sym, ap, ◌∙◌, inl, inr, subst, arith}
-use Rattle.std.specs.Prelude.{◌^◌, ◌==◌, ◌%◌, if◌then◌else◌, IfSome, IsTrue, replicate, slice_get, slice_set}
-use Rattle.std.proofs.lemmas.List.{get_or-set_same, length-set, set-get_or, set-set}
+use Rattle.std.proofs.Common.{◌≡◌, ℕ, zero, suc, ◌+◌, ◌-◌, ◌<◌, ◌≤◌, Bool, true, false, List, [], length, Option, Some, refl, sym, ap, ◌∙◌, subst, arith}
+use Rattle.std.specs.Prelude.{◌^◌, if◌then◌else◌, replicate}
+use Rattle.std.proofs.lemmas.List.{get_or-set_same, length-set, set-set}
 use Rattle.guest_bus.specs.Memory.{Area, Memory}
 use Rattle.sparc_step.specs.Execution.{Turned}
 use Rattle.sparc_step.specs.Registers.{Registers}
 use Rattle.cyclic_plans.specs.PlanClock.{AsksPlan, CyclicClock, IsInFrame, ended, ends_frame, frame_from, next_plan}
-use Rattle.cyclic_plans.specs.Slots.{frame_of}
 use Rattle.sparc_step.specs.declared.outcome.Turn.{Turn}
 use Rattle.sparc_step.specs.declared.outcome.Turn.TheVariants.{Went, Trap, Call}
 use Rattle.virt_clocks.specs.Clocks.{PartitionClocks, is_due}
@@ -34,14 +33,12 @@ use Rattle.whole_system.specs.Stepping.{IsGone, with_turned}
 use Rattle.whole_system.specs.declared.served.Note.{Note}
 use Rattle.whole_system.specs.declared.served.Note.TheVariants as note
 use Rattle.alone_passes.specs.Passes.{part_in}
-use Rattle.alone_passes.specs.Step.{IsOfSystem}
 use Rattle.alone_passes.specs.Taking.{takes_cue}
 use Rattle.tick_pieces.specs.KeptLemmas.{facts_at, facts_with}
 use Rattle.tick_pieces.specs.Machine.{IsMachine}
 use Rattle.tick_pieces.specs.Span.{counted_on}
-use Rattle.lone_ticks.specs.LoneSpan.{AreSilent, AreTaken, CanSpan, DoesSpan, HasTurnedAlone, IsLoneSpanEnded, IsLoneSpan, NoneDueAfter, NoneDueIn, aged, ended_at}
-use Rattle.lone_ticks.specs.LoneWork.{IsLoneTick}
-use Rattle.lone_ticks.specs.declared.span.LoneSpan.{LoneSpan}
+use Rattle.lone_ticks.specs.LoneSpan.{AreSilent, AreTaken, CanSpan, DoesSpan, HasTurnedAlone, NoneDueAfter, NoneDueIn, aged, ended_at}
+use Rattle.lone_ticks.specs.LoneWork.{IsLoneTickEnded}
 use Rattle.lone_ticks.proofs.PutLemmas.{put_then}
 use Rattle.lone_ticks.proofs.StillLemmas.{AreStill, IsStill, away_still, going_meets, going_still, idle_still, meets_nothing, passed, rested_more, rested_to, rested_turns, resting_still, still_facts, stills, went_all}
 
@@ -320,7 +317,7 @@ module _ (law : KeepsFactsAlone) (p most ticks : ℕ) (sys : SysState) (can : Ca
   }
 
   -- and a span that ends with it
-  pub turned_span : (told : Option Note) (new : SysState) (got : List ReportLine) → ticks < most → IsLoneSpanEnded told p (with_machine (aged ticks p (goes ticks) sys.machine) sys) new got
+  pub turned_span : (told : Option Note) (new : SysState) (got : List ReportLine) → ticks < most → IsLoneTickEnded told p (bare_cue true) (with_machine (aged ticks p (goes ticks) sys.machine) sys) new got
       → DoesSpan (record { ticks = ticks + 1; told = told }) p true most sys new got
   turned_span told new got fewer ended = record {
     some = omega arith;
@@ -415,5 +412,5 @@ module _ (law : KeepsFactsAlone) (p most w pc : ℕ) (sys mid counted : SysState
         (areas_same p sys.machine))
         (at ∙ ap (λ (areas : List Area). (steps areas).core.pc) (areas_same p sys.machine))
 
-    pub steps_span : (told : Option Note) (new : SysState) (got : List ReportLine) → IsLoneSpanEnded told p before new got → DoesSpan (record { ticks = w + 1; told = told }) p true most sys new got
+    pub steps_span : (told : Option Note) (new : SysState) (got : List ReportLine) → IsLoneTickEnded told p (bare_cue true) before new got → DoesSpan (record { ticks = w + 1; told = told }) p true most sys new got
     steps_span told new got ended = turned_span law p most w sys can (omega (arith, fewer)) ready undelivered none has_gone told new got fewer ended

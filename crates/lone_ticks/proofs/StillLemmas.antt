@@ -2,12 +2,10 @@
 use Rattle.std.proofs.Common.{◌≡◌, ℕ, zero, suc, ◌+◌, ◌==◌, ◌<◌, ◌≤◌, ◌⊎◌, Bool, true, false, ◌&&◌, List, [], ◌∷◌, ◌++◌, Option, None, Some, refl, sym, ap, ◌∙◌, inl, inr, subst, arith}
 use Rattle.std.proofs.lemmas.Bool.Decides.{nat_tests}
 use Rattle.std.specs.Prelude.{if◌then◌else◌, map, replicate}
-use Rattle.guest_bus.specs.Memory.{Memory}
 use Rattle.sparc_step.specs.Execution.{Turned}
-use Rattle.sparc_step.specs.Registers.{Registers}
 use Rattle.sparc_step.specs.declared.outcome.Turn.{Turn}
 use Rattle.sparc_step.specs.declared.outcome.Turn.TheVariants.{Went, Trap, Call}
-use Rattle.virt_clocks.specs.Clocks.{PartitionClocks, is_due, looked_at, rearmed}
+use Rattle.virt_clocks.specs.Clocks.{is_due, looked_at, rearmed}
 use Rattle.virt_clocks.specs.declared.timer.Timer.{Timer}
 use Rattle.virt_traps.specs.Settled.{settled}
 use Rattle.virt_traps.specs.Stepping.{stepped, then_settled}
@@ -17,8 +15,8 @@ use Rattle.xm_base.specs.declared.partition.State.{State}
 use Rattle.xm_base.specs.declared.partition.State.TheVariants.{Ready}
 use Rattle.xm_ports.specs.Channels.{Content}
 use Rattle.cue_scripts.specs.Entries.{bare_cue}
-use Rattle.machine_model.specs.Alone.{Alone, alone_after, alone_from, alone_lines, alone_lines_of, alone_local, alone_local_in, alone_said, alone_step, alone_step_lines, alone_step_said}
-use Rattle.machine_model.specs.Cue.{Cue, Mine}
+use Rattle.machine_model.specs.Alone.{Alone, alone_after, alone_from, alone_lines, alone_lines_of, alone_local, alone_said, alone_step, alone_step_lines, alone_step_said}
+use Rattle.machine_model.specs.Cue.{Mine}
 use Rattle.machine_model.specs.Facts.{AreFacts, IsItsOwn, KeepsFactsAlone}
 use Rattle.machine_model.specs.Health.{Worked, quiet}
 use Rattle.machine_model.specs.Lines.{local_said}
@@ -33,8 +31,8 @@ use Rattle.machine_model.specs.View.{PartitionView}
 use Rattle.machine_model.specs.Whole.{content_after, event_of}
 use Rattle.slot_runs.specs.Meeting.{HasGone, NoDelivery, gone_on}
 use Rattle.slot_runs.specs.Rest.{RestsTwice}
-use Rattle.alone_passes.specs.Taking.{asked_in, is_same_event, takes_cue, takes_event, takes_sight}
-use Rattle.lone_ticks.specs.LoneSpan.{AreTaken, NoneDueAfter, NoneDueIn}
+use Rattle.alone_passes.specs.Taking.{is_same_event, takes_cue, takes_event, takes_sight}
+use Rattle.lone_ticks.specs.LoneSpan.{AreTaken, NoneDueAfter}
 
 -- a partition with this state, a tick later
 abbrev pub passed : PartitionState → Alone → Alone

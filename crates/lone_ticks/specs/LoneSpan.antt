@@ -86,12 +86,6 @@ pub record HasWorked (p : ℕ) (came : Option LoneWork) (before now : SysState) 
   pub work : IsLoneWork came p (asks (view_of before.machine.system p) (part_at p before.machine) before.machine.time false) Unseen
       (worked (view_of before.machine.system p) (copies before.machine p) before.machine.time false Unseen (part_at p before.machine)) before now got
 
--- the end of a tick of partition p that came to a work or to none, where it is told of no hypervisor event
-pub record IsLoneSpanEnded (told : Option Note) (p : ℕ) (before new : SysState) (got : List ReportLine) : Type 0 where
-  pub tick : IsLoneTick told p (bare_cue true) before.machine new.machine got
-  pub machine : IsMachine new
-  pub system : IsOfSystem before.machine new.machine
-
 -- what the end of a tick needs
 pub record CanEnd (p : ℕ) (sys : SysState) (lines : List ReportLine) : Type 0 where
   pub partition : p < length sys.machine.parts

@@ -1,9 +1,10 @@
 -- What one tick of one partition without the others does to the whole system, part by part.
-use Rattle.std.specs.Prelude.{◌≡◌, ℕ, ◌<◌, ◌≤◌, ◌==◌, ◌&&◌, not, Bool, true, false, List, ◌++◌, length, map, Option, Some, None, IsSomeAnd, slice_get}
+use Rattle.std.specs.Prelude.{◌≡◌, ℕ, ◌<◌, ◌≤◌, ◌==◌, ◌&&◌, not, Bool, true, false, List, [], ◌++◌, ◌+◌, length, map, Option, Some, None, IsSomeAnd, slice_get}
 use Rattle.xm_conf.specs.Configuration.{Chan, Conf}
 use Rattle.xm_conf.specs.declared.channel.ChanKind.{ChanKind}
 use Rattle.xm_ports.specs.Channels.{Content, IsMessage}
 use Rattle.xm_report.specs.Report.{ReportLine}
+use Rattle.cue_scripts.specs.Script.{IsCue}
 use Rattle.machine_model.specs.Alone.{alone_step_lines}
 use Rattle.machine_model.specs.Caller.{Caller, invalid_parameter, is_room, not_available, with_answer, with_written}
 use Rattle.machine_model.specs.Cue.{Cue}
@@ -11,16 +12,16 @@ use Rattle.machine_model.specs.Health.{Worked}
 use Rattle.machine_model.specs.Machine.{Machine}
 use Rattle.machine_model.specs.Observed.{Observation}
 use Rattle.machine_model.specs.Partition.{PartitionState, is_halted}
-use Rattle.machine_model.specs.Told.{NotKept, OwnTraffic, Sight, Unseen, Words, line_of}
+use Rattle.machine_model.specs.Told.{NotKept, OwnTraffic, Sight, Unseen, WholeEvent, Words, line_of}
 use Rattle.machine_model.specs.Traffic.{Puts, Takes}
 use Rattle.machine_model.specs.View.{view_of}
-use Rattle.machine_model.specs.Whole.{event_of}
+use Rattle.machine_model.specs.Whole.{event_lines, event_of}
 use Rattle.slot_runs.specs.Passes.{part_at, traded, traffic_in, with_part, with_traffic}
 use Rattle.whole_system.specs.Serving.{CanBeTold}
 use Rattle.whole_system.specs.State.{SysState, areas_in, memory_of, with_machine}
 use Rattle.whole_system.specs.declared.served.Note.{Note}
-use Rattle.alone_passes.specs.Passes.{part_in, told_traffic}
-use Rattle.alone_passes.specs.Step.{IsLone}
+use Rattle.alone_passes.specs.Passes.{event_met, part_in, told_traffic}
+use Rattle.alone_passes.specs.Step.{IsLone, IsOfSystem}
 use Rattle.alone_passes.specs.Taking.{is_empty_copy, asks_entry, is_queue_full, takes_cue, takes_sight}
 use Rattle.tick_pieces.specs.Machine.{IsMachine}
 use Rattle.tick_pieces.specs.Work.{TellsAlone, act_beyond, console_told}
@@ -60,6 +61,11 @@ has_first g c = not (is_empty_copy (slice_get g.channels c))
 abbrev pub put_in : Bool → Machine → ℕ → List ℕ → Machine
 put_in true g c bytes = with_traffic (Puts c bytes) g
 put_in false g c bytes = g
+
+-- a message was put into a channel, where that takes it
+pub record HasPut (is_put : Bool) (c : ℕ) (bytes : List ℕ) (old new : SysState) : Type 0 where
+  pub taken : is_put ≡ has_room old.machine c
+  pub put : new ≡ with_machine (put_in is_put old.machine c bytes) old
 
 -- the machine after a message is taken from one, where it can be
 abbrev pub taken_in : Bool → Machine → ℕ → Machine
@@ -112,12 +118,14 @@ abbrev pub IsLoneWork : Option LoneWork → ℕ → Option Observation → Sight
 IsLoneWork (Some work) p asked seen w old new got = (takes_sight (view_of old.machine.system p) asked seen ≡ true) × IsLoneDone p w work old new got
 IsLoneWork None p asked seen w old new got = (takes_sight (view_of old.machine.system p) asked seen ≡ false) × IsWorkUndone p old new
 
--- a tick can be done of partition p without the others: the hypervisor has not halted, and a tick is left
-pub record CanTickAlone (p : ℕ) (sys : SysState) : Type 0 where
+-- what a tick of partition p without the others needs that is told this: the hypervisor has not halted, a tick is left, and no lines wait
+pub record CanTickAlone (p : ℕ) (told : Cue) (sys : SysState) (had : List ReportLine) : Type 0 where
   pub machine : IsMachine sys
   pub partition : p < length sys.machine.parts
   pub running : sys.machine.halted ≡ false
   pub more : sys.machine.ticks < 4000000000
+  pub cue : IsCue sys.machine.system.conf p told
+  pub empty : had ≡ []
 
 -- how many lines a tick of one partition without the others has at most, but for that of bytes for the console: four of its work, one of an order,
 -- and those of a hypervisor event
@@ -136,3 +144,15 @@ pub record IsLoneTicked (p : ℕ) (cue : Cue) (note : Note) (old new : Machine) 
 abbrev pub IsLoneTick : Option Note → ℕ → Cue → Machine → Machine → List ReportLine → Type 0
 IsLoneTick (Some note) p cue old new got = IsLoneTicked p cue note old new got
 IsLoneTick None p cue old new got = takes_cue (view_of old.system p) (part_in old p) cue ≡ false
+
+-- the end of a tick of partition p without the others: whether it was done or not, the machine is one of the same system
+pub record IsLoneTickEnded (told : Option Note) (p : ℕ) (cue : Cue) (old new : SysState) (got : List ReportLine) : Type 0 where
+  pub tick : IsLoneTick told p cue old.machine new.machine got
+  pub machine : IsMachine new
+  pub system : IsOfSystem old.machine new.machine
+
+-- partition p met a hypervisor event, with one line at most
+pub record HasMetEvent (p : ℕ) (event : WholeEvent) (old new : SysState) (had got : List ReportLine) : Type 0 where
+  pub state : new ≡ with_machine (event_met p event old.machine) old
+  pub lines : got ≡ had ++ event_lines old.machine.ticks event p
+  pub few : length got ≤ length had + 1

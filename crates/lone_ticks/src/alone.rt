@@ -14,7 +14,7 @@ ghost use Rattle.alone_passes.specs.Step.{IsOfSystem};
 ghost use Rattle.tick_pieces.specs.CueValues.{cue_value, whole_value};
 ghost use Rattle.alone_passes.specs.Passes.{event_met, rested_in, tick_past};
 ghost use Rattle.lone_ticks.specs.LoneSpan.{CanEnd};
-ghost use Rattle.lone_ticks.specs.LoneWork.{CanTickAlone, IsLoneTick, most_lines};
+ghost use Rattle.lone_ticks.specs.LoneWork.{CanTickAlone, HasMetEvent, IsLoneTick, IsLoneTickEnded, most_lines};
 ghost use Rattle.tick_pieces.specs.Machine.{IsMachine};
 ghost use Rattle.alone_passes.specs.Taking.{is_same_event};
 ghost use Rattle.tick_pieces.specs.Work.{IsPartDone, act_beyond};
@@ -58,13 +58,9 @@ pub fn tick_alone(sys: &mut Sys, lines: &mut Lines, p: PartId, cue: &Cue<'_>) ->
 
 // A tick in the slot of another partition, or in a gap.
 fn tick_away(sys: &mut Sys, lines: &mut Lines, p: PartId, cue: &Cue<'_>) -> Option<Note>
-    requires can { CanTickAlone p sys.old }
-    requires cue { IsCue sys.old.machine.system.conf p (cue_value cue.now) }
+    requires can { CanTickAlone p (cue_value cue.now) sys.old lines.old }
     requires away { cue.now.mine ≡ Mine.Away }
-    requires empty { lines.old ≡ [] }
-    ensures tick { IsLoneTick result p (cue_value cue.now) sys.old.machine sys.new.machine lines.new }
-    ensures machine { IsMachine sys.new }
-    ensures system { IsOfSystem sys.old.machine sys.new.machine }
+    ensures { IsLoneTickEnded result p (cue_value cue.now) sys.old sys.new lines.new }
 {
     away_ticks();
     takes_cues();
@@ -88,14 +84,10 @@ pub(crate) fn turn_in_slot(
     first: bool,
     cue: &Cue<'_>,
 ) -> Option<Note>
-    requires can { CanTickAlone p sys.old }
-    requires cue { IsCue sys.old.machine.system.conf p (cue_value cue.now) }
+    requires can { CanTickAlone p (cue_value cue.now) sys.old lines.old }
     requires own { cue.now.mine ≡ Mine.Mine first }
     requires turns { takes_turns (part_at p sys.old.machine).state ≡ true }
-    requires empty { lines.old ≡ [] }
-    ensures tick { IsLoneTick result p (cue_value cue.now) sys.old.machine sys.new.machine lines.new }
-    ensures machine { IsMachine sys.new }
-    ensures system { IsOfSystem sys.old.machine sys.new.machine }
+    ensures { IsLoneTickEnded result p (cue_value cue.now) sys.old sys.new lines.new }
 {
     working_ticks();
     takes_cues();
@@ -134,13 +126,10 @@ pub(crate) fn note_if(is: bool, note: Note) -> Option<Note>
 
 // A tick in a slot of a partition that takes no turns.
 fn rest_in_slot(sys: &mut Sys, p: PartId, cue: &Cue<'_>) -> Option<Note>
-    requires can { CanTickAlone p sys.old }
-    requires cue { IsCue sys.old.machine.system.conf p (cue_value cue.now) }
+    requires can { CanTickAlone p (cue_value cue.now) sys.old [] }
     requires own { cue.now.mine ≢ Mine.Away }
     requires turns { takes_turns (part_at p sys.old.machine).state ≡ false }
-    ensures tick { IsLoneTick result p (cue_value cue.now) sys.old.machine sys.new.machine [] }
-    ensures machine { IsMachine sys.new }
-    ensures system { IsOfSystem sys.old.machine sys.new.machine }
+    ensures { IsLoneTickEnded result p (cue_value cue.now) sys.old sys.new [] }
 {
     resting_ticks_alone();
     takes_cues();
@@ -161,9 +150,8 @@ fn obey_other(sys: &mut Sys, lines: &mut Lines, p: PartId, order: Option<Order>)
     ensures done { IsPartDone p (obeyed (view_of sys.old.machine.system p) order (part_at p sys.old.machine)) (obeyed_told order (part_at p sys.old.machine)) sys.old sys.new lines.old lines.new }
     ensures few { length lines.new ≤ length lines.old + 1 }
 {
-    match order {
-        Some(order) => obey(sys, lines, p, order),
-        None => {}
+    if let Some(order) = order {
+        obey(sys, lines, p, order);
     }
 }
 
@@ -171,9 +159,7 @@ fn obey_other(sys: &mut Sys, lines: &mut Lines, p: PartId, order: Option<Order>)
 fn meet_event(sys: &mut Sys, lines: &mut Lines, p: PartId, event: WholeCue)
     requires partition { p < length sys.old.machine.parts }
     requires room { length lines.old < most_lines }
-    ensures state { sys.new ≡ with_machine (event_met p (whole_value event) sys.old.machine) sys.old }
-    ensures lines { lines.new ≡ lines.old ++ event_lines sys.old.machine.ticks (whole_value event) p }
-    ensures few { length lines.new ≤ length lines.old + 1 }
+    ensures { HasMetEvent p (whole_value event) sys.old sys.new lines.old lines.new }
 {
     match event {
         WholeCue::Nothing => {}
@@ -187,9 +173,7 @@ fn meet_event(sys: &mut Sys, lines: &mut Lines, p: PartId, event: WholeCue)
 fn meet_reset(sys: &mut Sys, lines: &mut Lines, p: PartId, mode: Mode)
     requires partition { p < length sys.old.machine.parts }
     requires room { length lines.old < most_lines }
-    ensures state { sys.new ≡ with_machine (event_met p (AllReset mode) sys.old.machine) sys.old }
-    ensures lines { lines.new ≡ lines.old ++ event_lines sys.old.machine.ticks (AllReset mode) p }
-    ensures few { length lines.new ≤ length lines.old + 1 }
+    ensures { HasMetEvent p (AllReset mode) sys.old sys.new lines.old lines.new }
 {
     let to = reset_move(mode);
     lines.push(Line::Moved {

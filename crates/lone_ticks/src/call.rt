@@ -16,12 +16,11 @@ ghost use Rattle.tick_pieces.specs.Span.{CanTake};
 use crate::work::{LoneWork, is_unseen, silent};
 use hypercalls::{Sys, call_told};
 use machine_model::observes_as_tested;
-use tick_pieces::{Beyond, Lines, Sight, count_tick, program_counter};
+use tick_pieces::{Beyond, Lines, Sight, count_tick};
 use whole_system::CallSite;
 use whole_system::answering::{
     A, B, C, INVALID_PARAMETER, NOT_AVAILABLE, answer, answer_written, argument, is_system,
 };
-use xm_base::PartId;
 
 /// An observing call: where its answer goes, how many bytes that has, and whether it asks for an entry of a log.
 #[derive(Clone, Copy, Debug, PartialEq, Eq)]
@@ -31,45 +30,37 @@ pub(crate) struct Asked {
     entry: bool,
 }
 
-/// A hypercall that stood at this program counter, if it may be shown this.
+/// A hypercall of a partition, if it may be shown this.
 pub(crate) fn call_alone(
     sys: &mut Sys,
     lines: &mut Lines,
-    p: PartId,
-    pc: u32,
+    site: CallSite,
     seen: Sight<'_>,
 ) -> Option<LoneWork>
-    requires take { CanTake p 1 sys.old }
-    requires pc { pc % 4 ≡ 0 }
-    requires next { (part_at p sys.old.machine).core.npc ≡ ((part_at p sys.old.machine).core.pc + 4) % 2 ^ 32 }
+    requires take { CanTake site.part 1 sys.old }
+    requires pc { site.pc % 4 ≡ 0 }
+    requires at { site.npc ≡ (part_at site.part sys.old.machine).core.pc }
+    requires next { (part_at site.part sys.old.machine).core.npc ≡ ((part_at site.part sys.old.machine).core.pc + 4) % 2 ^ 32 }
     requires empty { lines.old ≡ [] }
-    ensures { IsLoneWork result p (observed_by (view_of sys.old.machine.system p) (part_at p sys.old.machine).core) (sight_value seen.entry) (called (record (caller_at p pc (part_at p sys.old.machine).core.pc sys.old) { sight = sight_value seen.entry })) sys.old sys.new lines.new }
+    ensures { IsLoneWork result site.part (observed_by (view_of sys.old.machine.system site.part) (part_at site.part sys.old.machine).core) (sight_value seen.entry) (called (record (caller_at site.part site.pc (part_at site.part sys.old.machine).core.pc sys.old) { sight = sight_value seen.entry })) sys.old sys.new lines.new }
 {
-    let npc = program_counter(sys, p);
-    let site = CallSite { part: p, pc, npc };
     match asked_by(sys, site) {
         Some(asked) => observe(sys, site, asked, seen),
-        None => call_unseeing(sys, lines, p, pc, seen),
+        None => call_plain(sys, lines, site, seen),
     }
 }
 
 // A call that observes nothing.
-fn call_unseeing(
-    sys: &mut Sys,
-    lines: &mut Lines,
-    p: PartId,
-    pc: u32,
-    seen: Sight<'_>,
-) -> Option<LoneWork>
-    requires take { CanTake p 1 sys.old }
-    requires pc { pc % 4 ≡ 0 }
-    requires next { (part_at p sys.old.machine).core.npc ≡ ((part_at p sys.old.machine).core.pc + 4) % 2 ^ 32 }
-    requires unasked { observed_by (view_of sys.old.machine.system p) (part_at p sys.old.machine).core ≡ None }
+fn call_plain(sys: &mut Sys, lines: &mut Lines, site: CallSite, seen: Sight<'_>) -> Option<LoneWork>
+    requires take { CanTake site.part 1 sys.old }
+    requires pc { site.pc % 4 ≡ 0 }
+    requires next { (part_at site.part sys.old.machine).core.npc ≡ ((part_at site.part sys.old.machine).core.pc + 4) % 2 ^ 32 }
+    requires unasked { observed_by (view_of sys.old.machine.system site.part) (part_at site.part sys.old.machine).core ≡ None }
     requires empty { lines.old ≡ [] }
-    ensures { IsLoneWork result p None (sight_value seen.entry) (called (record (caller_at p pc (part_at p sys.old.machine).core.pc sys.old) { sight = sight_value seen.entry })) sys.old sys.new lines.new }
+    ensures { IsLoneWork result site.part None (sight_value seen.entry) (called (record (caller_at site.part site.pc (part_at site.part sys.old.machine).core.pc sys.old) { sight = sight_value seen.entry })) sys.old sys.new lines.new }
 {
     if is_unseen(seen) {
-        match call_told(sys, lines, p, pc) {
+        match call_told(sys, lines, site.part, site.pc) {
             Some(told) => Some(LoneWork {
                 note: told.0,
                 reach: told.1,

@@ -14,7 +14,8 @@ ghost use Rattle.alone_passes.specs.Step.{IsOfSystem};
 ghost use Rattle.tick_pieces.specs.CueValues.{cue_value};
 ghost use Rattle.tick_pieces.specs.Machine.{IsMachine};
 ghost use Rattle.tick_pieces.specs.Span.{CanTake, counted_on};
-ghost use Rattle.lone_ticks.specs.LoneSpan.{CanEnd, CanSpan, DoesSpan, HasTurnedAlone, HasWorked, IsLoneSpanEnded, IsLoneSpan, NoneDueAfter, NoneDueIn, ended_at};
+ghost use Rattle.lone_ticks.specs.LoneWork.{IsLoneTickEnded};
+ghost use Rattle.lone_ticks.specs.LoneSpan.{CanEnd, CanSpan, DoesSpan, HasTurnedAlone, HasWorked, IsLoneSpan, NoneDueAfter, NoneDueIn, ended_at};
 
 use crate::alone::{end_turn, is_same_event, note_if, turn_in_slot};
 use crate::call::call_alone;
@@ -25,8 +26,10 @@ use machine_model::{acts_within_bounds, keeps_facts_alone};
 use slot_runs::late_rest;
 use sparc_step::Turn;
 use tick_pieces::{
-    Cue, Lines, Mine, Sight, Traffic, WholeCue, goes_on, interrupt, rest_one, takes_turns,
+    Cue, Lines, Mine, Sight, Traffic, WholeCue, goes_on, interrupt, program_counter, rest_one,
+    takes_turns,
 };
+use whole_system::CallSite;
 use xm_base::{PartId, State};
 use xm_conf::Conf;
 
@@ -224,7 +227,7 @@ fn execute_many(sys: &mut Sys, lines: &mut Lines, p: PartId, most: u64) -> LoneS
 fn trap_last(sys: &mut Sys, lines: &mut Lines, p: PartId, tt: u8, pc: u32) -> Option<Note>
     requires take { CanTake p 1 sys.old }
     requires empty { lines.old ≡ [] }
-    ensures { (before : SysState) → HasTurnedAlone p (Turn.Trap tt) pc before sys.old → IsLoneSpanEnded result p before sys.new lines.new }
+    ensures { (before : SysState) → HasTurnedAlone p (Turn.Trap tt) pc before sys.old → IsLoneTickEnded result p (bare_cue true) before sys.new lines.new }
 {
     let work = trap_alone(sys, lines, p, tt, pc, Sight::Nothing);
     end_work(sys, lines, p, work)
@@ -236,16 +239,17 @@ fn call_last(sys: &mut Sys, lines: &mut Lines, p: PartId, pc: u32) -> Option<Not
     requires pc { pc % 4 ≡ 0 }
     requires next { (part_at p sys.old.machine).core.npc ≡ ((part_at p sys.old.machine).core.pc + 4) % 2 ^ 32 }
     requires empty { lines.old ≡ [] }
-    ensures { (before : SysState) → HasTurnedAlone p Turn.Call pc before sys.old → IsLoneSpanEnded result p before sys.new lines.new }
+    ensures { (before : SysState) → HasTurnedAlone p Turn.Call pc before sys.old → IsLoneTickEnded result p (bare_cue true) before sys.new lines.new }
 {
-    let work = call_alone(sys, lines, p, pc, Sight::Nothing);
+    let npc = program_counter(sys, p);
+    let work = call_alone(sys, lines, CallSite { part: p, pc, npc }, Sight::Nothing);
     end_work(sys, lines, p, work)
 }
 
 // The end of a tick in which the partition came to this work, and was told of no hypervisor event.
 fn end_work(sys: &mut Sys, lines: &mut Lines, p: PartId, work: Option<LoneWork>) -> Option<Note>
     requires { IfSome work (λ done. CanEnd p sys.old lines.old) }
-    ensures { (before : SysState) → HasWorked p work before sys.old lines.old → IsLoneSpanEnded result p before sys.new lines.new }
+    ensures { (before : SysState) → HasWorked p work before sys.old lines.old → IsLoneTickEnded result p (bare_cue true) before sys.new lines.new }
 {
     working_ticks();
     takes_cues();

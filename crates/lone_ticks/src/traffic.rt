@@ -8,7 +8,7 @@ ghost use Rattle.machine_model.specs.View.{view_of};
 ghost use Rattle.whole_system.specs.State.{with_machine};
 ghost use Rattle.xm_base.specs.Options.{on};
 ghost use Rattle.tick_pieces.specs.CueValues.{traffic_value};
-ghost use Rattle.lone_ticks.specs.LoneWork.{IsChannelFor, IsChannelOfKind, has_first, has_room, put_in, taken_in, traffic_done};
+ghost use Rattle.lone_ticks.specs.LoneWork.{HasPut, IsChannelFor, IsChannelOfKind, has_first, taken_in, traffic_done};
 ghost use Rattle.alone_passes.specs.Taking.{takes_traffic};
 ghost use Rattle.xm_ports.specs.Channels.{IsQueuing, IsSampling, shapes_of};
 
@@ -79,8 +79,7 @@ fn hear_signal(sys: &mut Sys, p: PartId, number: u8) -> bool
 fn put(sys: &mut Sys, chan: u8, bytes: &[u8]) -> bool
     requires shapes { sys.old.shapes ≡ shapes_of sys.old.machine.system.conf }
     requires channel { IsChannelFor sys.old.machine.system.conf chan bytes.now }
-    ensures taken { result ≡ has_room sys.old.machine chan }
-    ensures put { sys.new ≡ with_machine (put_in result sys.old.machine chan bytes.now) sys.old }
+    ensures { HasPut result chan bytes.now sys.old sys.new }
 {
     match kind_of(sys, chan) {
         ChanKind::Sampling { .. } => put_sample(sys, chan, bytes),
@@ -93,8 +92,7 @@ fn put_sample(sys: &mut Sys, chan: u8, bytes: &[u8]) -> bool
     requires shapes { sys.old.shapes ≡ shapes_of sys.old.machine.system.conf }
     requires channel { IsChannelFor sys.old.machine.system.conf chan bytes.now }
     requires kind { IsChannelOfKind IsSampling sys.old.machine.system.conf chan }
-    ensures taken { result ≡ has_room sys.old.machine chan }
-    ensures put { sys.new ≡ with_machine (put_in result sys.old.machine chan bytes.now) sys.old }
+    ensures { HasPut result chan bytes.now sys.old sys.new }
 {
     put_sampling(sys, chan, bytes);
     true
@@ -105,8 +103,7 @@ fn put_message(sys: &mut Sys, chan: u8, bytes: &[u8]) -> bool
     requires shapes { sys.old.shapes ≡ shapes_of sys.old.machine.system.conf }
     requires channel { IsChannelFor sys.old.machine.system.conf chan bytes.now }
     requires kind { IsChannelOfKind IsQueuing sys.old.machine.system.conf chan }
-    ensures taken { result ≡ has_room sys.old.machine chan }
-    ensures put { sys.new ≡ with_machine (put_in result sys.old.machine chan bytes.now) sys.old }
+    ensures { HasPut result chan bytes.now sys.old sys.new }
 {
     // It tells that the queue holds no more than it may.
     let _first = sys.channels().first(chan);

@@ -2,7 +2,7 @@
 
 ghost use Rattle.std.specs.Prelude.{◌≡◌, ◌<◌, if◌then◌else◌, None, Some, [], true};
 ghost use Rattle.health_monitor.specs.Monitor.{event_of_type};
-ghost use Rattle.machine_model.specs.Health.{event_handled, interrupt_delivered, quiet};
+ghost use Rattle.machine_model.specs.Health.{event_handled, quiet};
 ghost use Rattle.machine_model.specs.LocalTick.{clocked, delivered_or_executed, executed_in_tick, worked};
 ghost use Rattle.machine_model.specs.Machine.{copies};
 ghost use Rattle.machine_model.specs.Observed.{asked_by, asks, unless_delivered};
@@ -22,6 +22,7 @@ use tick_pieces::{
     Beyond, Lines, Sight, count_tick, goes_on, interrupt, meet, meet_trap, program_counter,
     take_interrupt, wake,
 };
+use whole_system::CallSite;
 use xm_base::PartId;
 
 /// The work of one partition in a tick of its slot.
@@ -93,29 +94,15 @@ fn go_on_alone(sys: &mut Sys, lines: &mut Lines, p: PartId, seen: Sight<'_>) -> 
     ensures { IsLoneWork result p (unless_delivered (due (part_at p sys.old.machine).traps) (part_at p sys.old.machine).traps.enabled (view_of sys.old.machine.system p) (part_at p sys.old.machine)) (sight_value seen.entry) (delivered_or_executed (due (part_at p sys.old.machine).traps) (part_at p sys.old.machine).traps.enabled (view_of sys.old.machine.system p) (copies sys.old.machine p) sys.old.machine.time (sight_value seen.entry) (part_at p sys.old.machine)) sys.old sys.new lines.new }
 {
     match interrupt(sys, p) {
-        Some(n) => take_interrupt_alone(sys, lines, p, n, seen),
+        Some(n) => {
+            if is_unseen(seen) {
+                take_interrupt(sys, lines, p, n);
+                silent(Beyond::Nothing)
+            } else {
+                None
+            }
+        }
         None => execute_alone(sys, lines, p, seen),
-    }
-}
-
-// A partition takes an interrupt.
-fn take_interrupt_alone(
-    sys: &mut Sys,
-    lines: &mut Lines,
-    p: PartId,
-    n: u8,
-    seen: Sight<'_>,
-) -> Option<LoneWork>
-    requires take { CanTake p 1 sys.old }
-    requires interrupt { n < 32 }
-    requires empty { lines.old ≡ [] }
-    ensures { IsLoneWork result p None (sight_value seen.entry) (interrupt_delivered (view_of sys.old.machine.system p) sys.old.machine.time n (clocked (part_at p sys.old.machine))) sys.old sys.new lines.new }
-{
-    if is_unseen(seen) {
-        take_interrupt(sys, lines, p, n);
-        silent(Beyond::Nothing)
-    } else {
-        None
     }
 }
 
@@ -129,7 +116,10 @@ fn execute_alone(sys: &mut Sys, lines: &mut Lines, p: PartId, seen: Sight<'_>) -
     match sys.step_core(p) {
         Turn::Went => go_alone(sys, p, seen),
         Turn::Trap(tt) => trap_alone(sys, lines, p, tt, pc, seen),
-        Turn::Call => call_alone(sys, lines, p, pc, seen),
+        Turn::Call => {
+            let npc = program_counter(sys, p);
+            call_alone(sys, lines, CallSite { part: p, pc, npc }, seen)
+        }
     }
 }
 

@@ -17,31 +17,20 @@ rest_and_pass-requires-clause-partition c =
     (put_below c.args.p _ c.hear.new.sys c.obey_other.new.sys (heard_below _ c.args.p _ c.args.sys.now c.hear.new.sys c.requires.can.partition c.hear.ensures.heard) c.obey_other.ensures.done.state)
     c.meet_event.ensures.state
 
-pub returns-then-hear-clause-tick : goal.returns-then-hear-clause-tick
-returns-then-hear-clause-tick c =
+pub returns-then-hear : goal.returns-then-hear
+returns-then-hear c =
     let cue = cue_value c.args.cue.now in
-    let heard = heard_so c.hear.result c.args.p cue.traffic c.args.sys.now c.hear.new.sys c.if-hear.true c.hear.ensures.heard in
-    away_done c.away_ticks.ensures.law c.takes_cues.ensures.away c.passes_keep.ensures.law c.args.p cue c.args.sys.now c.rest_and_pass.new.sys c.meet_event.new.lines c.requires.can.partition c.requires.can.running
-    (ap slot_value c.requires.away) (unseen_away _ _ _ (ap slot_value c.requires.away) c.requires.cue.seen) c.requires.cue.traffic (sym c.hear.ensures.taken ∙ c.if-hear.true)
-    (away_state c.args.p cue c.args.sys.now c.hear.new.sys c.obey_other.new.sys c.meet_event.new.sys c.rest_and_pass.new.sys heard c.obey_other.ensures.done.state c.meet_event.ensures.state c.rest_and_pass.ensures)
-    (away_told c.args.p cue c.args.sys.now c.hear.new.sys c.obey_other.new.sys c.args.lines.now c.obey_other.new.lines c.meet_event.new.lines c.requires.empty heard c.obey_other.ensures.done.state c.obey_other.ensures.done.lines c.meet_event.ensures.lines)
-    (omega (arith, c.meet_event.ensures.few, c.obey_other.ensures.few, ap length c.requires.empty))
-
-pub returns-then-hear-clause-machine : goal.returns-then-hear-clause-machine
-returns-then-hear-clause-machine c =
-    let cue = cue_value c.args.cue.now in
-    let heard = heard_so c.hear.result c.args.p cue.traffic c.args.sys.now c.hear.new.sys c.if-hear.true c.hear.ensures.heard in
     let g = c.args.sys.now.machine in
-    machine_kept c.keeps_facts_alone.ensures.law c.args.p cue cue.whole c.args.sys.now c.rest_and_pass.new.sys (away_passed c.args.p cue g) c.requires.can.machine c.requires.can.partition c.requires.can.running c.requires.can.more
-    (c.passes_keep.ensures.law.away g c.args.p cue c.requires.can.running c.requires.can.partition)
-    (c.away_ticks.ensures.law g c.args.p cue c.requires.can.partition (ap slot_value c.requires.away) (called_by g.system.conf c.args.p cue.traffic c.requires.cue.traffic)).part
-    (its_away _ _ cue _ (ap slot_value c.requires.away))
-    (away_state c.args.p cue c.args.sys.now c.hear.new.sys c.obey_other.new.sys c.meet_event.new.sys c.rest_and_pass.new.sys heard c.obey_other.ensures.done.state c.meet_event.ensures.state c.rest_and_pass.ensures)
-
-pub returns-then-hear-clause-system : goal.returns-then-hear-clause-system
-returns-then-hear-clause-system c =
-    let cue = cue_value c.args.cue.now in
     let heard = heard_so c.hear.result c.args.p cue.traffic c.args.sys.now c.hear.new.sys c.if-hear.true c.hear.ensures.heard in
-    let g = c.args.sys.now.machine in
-    of_system c.args.p cue.whole c.args.sys.now c.rest_and_pass.new.sys (away_passed c.args.p cue g) (c.passes_keep.ensures.law.away g c.args.p cue c.requires.can.running c.requires.can.partition)
-    (away_state c.args.p cue c.args.sys.now c.hear.new.sys c.obey_other.new.sys c.meet_event.new.sys c.rest_and_pass.new.sys heard c.obey_other.ensures.done.state c.meet_event.ensures.state c.rest_and_pass.ensures)
+    let kept = c.passes_keep.ensures.law.away g c.args.p cue c.requires.can.running c.requires.can.partition in
+    let passed = away_state c.args.p cue c.args.sys.now c.hear.new.sys c.obey_other.new.sys c.meet_event.new.sys c.rest_and_pass.new.sys heard c.obey_other.ensures.done.state c.meet_event.ensures.state c.rest_and_pass.ensures in
+    record {
+      tick = away_done c.away_ticks.ensures.law c.takes_cues.ensures.away c.passes_keep.ensures.law c.args.p cue c.args.sys.now c.rest_and_pass.new.sys c.meet_event.new.lines c.requires.can.partition c.requires.can.running
+          (ap slot_value c.requires.away) (unseen_away _ _ _ (ap slot_value c.requires.away) c.requires.can.cue.seen) c.requires.can.cue.traffic (sym c.hear.ensures.taken ∙ c.if-hear.true) passed
+          (away_told c.args.p cue c.args.sys.now c.hear.new.sys c.obey_other.new.sys c.args.lines.now c.obey_other.new.lines c.meet_event.new.lines c.requires.can.empty heard c.obey_other.ensures.done.state c.obey_other.ensures.done.lines c.meet_event.ensures.lines)
+          (omega (arith, c.meet_event.ensures.few, c.obey_other.ensures.few, ap length c.requires.can.empty));
+      machine = machine_kept c.keeps_facts_alone.ensures.law c.args.p cue cue.whole c.args.sys.now c.rest_and_pass.new.sys (away_passed c.args.p cue g) c.requires.can.machine c.requires.can.partition c.requires.can.running c.requires.can.more kept
+          (c.away_ticks.ensures.law g c.args.p cue c.requires.can.partition (ap slot_value c.requires.away) (called_by g.system.conf c.args.p cue.traffic c.requires.can.cue.traffic)).part
+          (its_away _ _ cue _ (ap slot_value c.requires.away)) passed;
+      system = of_system c.args.p cue.whole c.args.sys.now c.rest_and_pass.new.sys (away_passed c.args.p cue g) kept passed;
+    }

@@ -1,4 +1,4 @@
-use Rattle.std.proofs.Common.{arith, refl, sym, ◌∙◌}
+use Rattle.std.proofs.Common.{arith}
 use Rattle.tick_pieces.specs.CueValues.{cue_value, whole_value}
 use Rattle.lone_ticks.proofs.SpanEndLemmas.{work_can_end}
 use Rattle.lone_ticks.proofs.LoneTurnLemmas.{can_take, few_room, is_turn, not_seen, turn_machine, turn_noted, turn_system, undone_machine, undone_system}
@@ -14,39 +14,29 @@ end_turn-event-requires c =
           (can_take c.args.p c.args.sys.now c.requires.can.machine c.requires.can.partition c.requires.can.running c.requires.can.more) (rw c.in-Some.is at c.work_alone.ensures).1;
     }
 
-pub returns-in-Some-clause-tick : goal.returns-in-Some-clause-tick
-returns-in-Some-clause-tick c =
-    turn_noted c.working_ticks.ensures.law c.takes_cues.ensures.working c.passes_keep.ensures.law c.acts_within_bounds.ensures.law c.keeps_facts_alone.ensures.law
-    c.args.p c.args.first (cue_value c.args.cue.now) c.in-Some.work (whole_value c.end_turn-event.result) c.args.sys.now c.work_alone.new.sys c.end_turn-event.new.sys c.work_alone.new.lines c.end_turn-event.new.lines
-    (is_turn c.args.p c.args.first c.args.cue.now c.args.sys.now c.requires.can.machine c.requires.can.partition c.requires.can.running c.requires.can.more c.requires.own c.requires.cue c.requires.turns)
-    (rw c.in-Some.is at c.work_alone.ensures).0 (rw c.in-Some.is at c.work_alone.ensures).1
-    c.end_turn-event.ensures.event c.end_turn-event.ensures.state c.end_turn-event.ensures.lines c.note_if.result c.is_same_event.result c.is_same_event.ensures c.note_if.ensures
-    (omega (arith, few_room _ _ _ _ _ (rw c.in-Some.is at c.work_alone.ensures).1, c.end_turn-event.ensures.few))
+pub returns-in-Some : goal.returns-in-Some
+returns-in-Some c =
+    let turn = is_turn c.args.p c.args.first c.args.cue.now c.args.sys.now c.requires.can.machine c.requires.can.partition c.requires.can.running c.requires.can.more c.requires.own c.requires.can.cue c.requires.turns in
+    let work = rw c.in-Some.is at c.work_alone.ensures in
+    record {
+      tick = turn_noted c.working_ticks.ensures.law c.takes_cues.ensures.working c.passes_keep.ensures.law c.acts_within_bounds.ensures.law c.keeps_facts_alone.ensures.law
+          c.args.p c.args.first (cue_value c.args.cue.now) c.in-Some.work (whole_value c.end_turn-event.result) c.args.sys.now c.work_alone.new.sys c.end_turn-event.new.sys c.work_alone.new.lines c.end_turn-event.new.lines
+          turn work.0 work.1 c.end_turn-event.ensures.event c.end_turn-event.ensures.state c.end_turn-event.ensures.lines c.note_if.result c.is_same_event.result c.is_same_event.ensures c.note_if.ensures
+          (omega (arith, few_room _ _ _ _ _ work.1, c.end_turn-event.ensures.few));
+      machine = turn_machine c.working_ticks.ensures.law c.takes_cues.ensures.working c.passes_keep.ensures.law c.acts_within_bounds.ensures.law c.keeps_facts_alone.ensures.law
+          c.args.p c.args.first (cue_value c.args.cue.now) c.in-Some.work (whole_value c.end_turn-event.result) c.args.sys.now c.work_alone.new.sys c.end_turn-event.new.sys c.work_alone.new.lines c.end_turn-event.new.lines
+          turn work.0 work.1 c.end_turn-event.ensures.event c.end_turn-event.ensures.state c.end_turn-event.ensures.lines;
+      system = turn_system c.working_ticks.ensures.law c.takes_cues.ensures.working c.passes_keep.ensures.law c.acts_within_bounds.ensures.law c.keeps_facts_alone.ensures.law
+          c.args.p c.args.first (cue_value c.args.cue.now) c.in-Some.work (whole_value c.end_turn-event.result) c.args.sys.now c.work_alone.new.sys c.end_turn-event.new.sys c.work_alone.new.lines c.end_turn-event.new.lines
+          turn work.0 work.1 c.end_turn-event.ensures.event c.end_turn-event.ensures.state c.end_turn-event.ensures.lines;
+    }
 
-pub returns-in-Some-clause-machine : goal.returns-in-Some-clause-machine
-returns-in-Some-clause-machine c =
-    turn_machine c.working_ticks.ensures.law c.takes_cues.ensures.working c.passes_keep.ensures.law c.acts_within_bounds.ensures.law c.keeps_facts_alone.ensures.law
-    c.args.p c.args.first (cue_value c.args.cue.now) c.in-Some.work (whole_value c.end_turn-event.result) c.args.sys.now c.work_alone.new.sys c.end_turn-event.new.sys c.work_alone.new.lines c.end_turn-event.new.lines
-    (is_turn c.args.p c.args.first c.args.cue.now c.args.sys.now c.requires.can.machine c.requires.can.partition c.requires.can.running c.requires.can.more c.requires.own c.requires.cue c.requires.turns)
-    (rw c.in-Some.is at c.work_alone.ensures).0 (rw c.in-Some.is at c.work_alone.ensures).1
-    c.end_turn-event.ensures.event c.end_turn-event.ensures.state c.end_turn-event.ensures.lines
-
-pub returns-in-Some-clause-system : goal.returns-in-Some-clause-system
-returns-in-Some-clause-system c =
-    turn_system c.working_ticks.ensures.law c.takes_cues.ensures.working c.passes_keep.ensures.law c.acts_within_bounds.ensures.law c.keeps_facts_alone.ensures.law
-    c.args.p c.args.first (cue_value c.args.cue.now) c.in-Some.work (whole_value c.end_turn-event.result) c.args.sys.now c.work_alone.new.sys c.end_turn-event.new.sys c.work_alone.new.lines c.end_turn-event.new.lines
-    (is_turn c.args.p c.args.first c.args.cue.now c.args.sys.now c.requires.can.machine c.requires.can.partition c.requires.can.running c.requires.can.more c.requires.own c.requires.cue c.requires.turns)
-    (rw c.in-Some.is at c.work_alone.ensures).0 (rw c.in-Some.is at c.work_alone.ensures).1
-    c.end_turn-event.ensures.event c.end_turn-event.ensures.state c.end_turn-event.ensures.lines
-
-pub returns-in-None-clause-tick : goal.returns-in-None-clause-tick
-returns-in-None-clause-tick c =
-    not_seen c.takes_cues.ensures.working c.acts_within_bounds.ensures.law c.args.p c.args.first (cue_value c.args.cue.now) c.args.sys.now
-    (is_turn c.args.p c.args.first c.args.cue.now c.args.sys.now c.requires.can.machine c.requires.can.partition c.requires.can.running c.requires.can.more c.requires.own c.requires.cue c.requires.turns)
-    (rw c.in-None.is at c.work_alone.ensures).0
-
-pub returns-in-None-clause-machine : goal.returns-in-None-clause-machine
-returns-in-None-clause-machine c = undone_machine c.args.p c.args.sys.now c.work_alone.new.sys c.requires.can.machine c.requires.can.partition (rw c.in-None.is at c.work_alone.ensures).1
-
-pub returns-in-None-clause-system : goal.returns-in-None-clause-system
-returns-in-None-clause-system c = undone_system c.args.p c.args.sys.now c.work_alone.new.sys (rw c.in-None.is at c.work_alone.ensures).1
+pub returns-in-None : goal.returns-in-None
+returns-in-None c =
+    let work = rw c.in-None.is at c.work_alone.ensures in
+    record {
+      tick = not_seen c.takes_cues.ensures.working c.acts_within_bounds.ensures.law c.args.p c.args.first (cue_value c.args.cue.now) c.args.sys.now
+          (is_turn c.args.p c.args.first c.args.cue.now c.args.sys.now c.requires.can.machine c.requires.can.partition c.requires.can.running c.requires.can.more c.requires.own c.requires.can.cue c.requires.turns) work.0;
+      machine = undone_machine c.args.p c.args.sys.now c.work_alone.new.sys c.requires.can.machine c.requires.can.partition work.1;
+      system = undone_system c.args.p c.args.sys.now c.work_alone.new.sys work.1;
+    }
