@@ -2,7 +2,6 @@ pub mod DoneLemmas
 pub mod EndLemmas
 pub mod HereLemmas
 pub mod KeepingLemmas
-pub mod NameLemmas
 pub mod NotedLemmas
 pub mod QuietLemmas
 pub mod SilentLemmas

@@ -1,6 +1,6 @@
 -- The ticks of a slot or gap, out of what the passes over the system left.
 use Rattle.std.proofs.Common.{◌≡◌, ℕ, zero, suc, ◌+◌, ◌<◌, ◌≤◌, Bool, true, false, List, [], ◌++◌, length, None, Some, refl, sym, ap, subst, ◌∙◌, arith}
-use Rattle.std.proofs.lemmas.List.{set-set}
+use Rattle.std.proofs.lemmas.List.{length-set, set-set}
 use Rattle.std.specs.Prelude.{◌-◌, ◌^◌, if◌then◌else◌}
 use Rattle.std.proofs.lemmas.Bool.{eq-eqb}
 use Rattle.cyclic_plans.specs.PlanClock.{CyclicClock, IsInFrame}
@@ -12,11 +12,11 @@ use Rattle.machine_model.specs.ListLemmas.{each_counted as each_length}
 use Rattle.machine_model.specs.Facts.{AreEnds, IsAsMany, RunsKeepNumbers}
 use Rattle.machine_model.specs.Health.{Worked}
 use Rattle.machine_model.specs.Lines.{lines}
-use Rattle.machine_model.specs.Lists.{is_number}
+use Rattle.machine_model.specs.Lists.{each, is_number}
 use Rattle.machine_model.specs.LocalTick.{with_interrupts}
 use Rattle.machine_model.specs.Machine.{Machine, booted_part, run}
 use Rattle.machine_model.specs.Partition.{PartitionState, rested}
-use Rattle.machine_model.specs.Traffic.{Puts, Signals, Still, Takes, Traffic}
+use Rattle.machine_model.specs.Traffic.{Puts, Signals, Still, Takes, Traffic, heard_as, hearing}
 use Rattle.machine_model.specs.View.{System, view_of}
 use Rattle.slot_runs.specs.Calm.{IdleCalm, IsCalm, RestingCalm}
 use Rattle.slot_runs.specs.GoingOn.{LeftAreSpan}
@@ -32,6 +32,8 @@ use Rattle.tick_pieces.specs.Work.{IsTickWorked}
 use Rattle.tick_pieces.specs.declared.beyond.Beyond.{Beyond}
 use Rattle.tick_pieces.specs.declared.beyond.Beyond.TheVariants as beyond
 use Rattle.tick_pieces.specs.declared.span.Span.{Span}
+use Rattle.tick_pieces.specs.ReachLemmas.{one_before}
+use Rattle.system_ticks.specs.Ending.{CanEndTick}
 use Rattle.system_ticks.proofs.KeepingLemmas.{calm_kept}
 use Rattle.tick_pieces.specs.ListLemmas.{each_at}
 use Rattle.system_ticks.proofs.QuietLemmas.{calm_goes, earlier_bound}
@@ -206,6 +208,41 @@ pub worked_frame : (p : ℕ) (work : Worked) (a_note : Note) (reach : Beyond) (m
 worked_frame p work a_note reach mid after got worked frame =
     subst (λ (x : SysState). IsInFrame x.machine.system.conf x.machine.clock x.machine.time) (sym worked.state)
     (traded_frame (traffic_in mid.machine p work.act) (with_part p work.after mid.machine) frame)
+
+-- traffic leaves the clocks, and how many partitions there are
+record KeepsClocks (old new : Machine) : Type 0 where
+  time : new.time ≡ old.time
+  ticks : new.ticks ≡ old.ticks
+  parts : length new.parts ≡ length old.parts
+
+heard_counted : (traffic : Traffic) (g : Machine) → length (each (λ q ps. hearing (view_of g.system q) (heard_as g.system.conf q traffic) ps) g.parts) ≡ length g.parts
+heard_counted traffic g = each_length (λ q ps. hearing (view_of g.system q) (heard_as g.system.conf q traffic) ps) g.parts
+
+traded_clocks : (traffic : Traffic) (g : Machine) → KeepsClocks g (traded traffic g)
+traded_clocks Still g = record { time = refl; ticks = refl; parts = refl }
+traded_clocks (Puts channel bytes) g = record { time = refl; ticks = refl; parts = heard_counted (Puts channel bytes) g }
+traded_clocks (Takes channel) g = record { time = refl; ticks = refl; parts = heard_counted (Takes channel) g }
+traded_clocks (Signals source number) g = record { time = refl; ticks = refl; parts = heard_counted (Signals source number) g }
+
+-- so a tick whose work was done can end
+pub worked_can_end : (p went : ℕ) (work : Worked) (a_note : Note) (reach : Beyond) (old mid after : SysState) (got : List ReportLine) → CanTakeAfter p went old
+    → mid ≡ with_machine (machine_underway p went old.machine) old → IsTickWorked p work a_note reach mid after got → length got ≤ 4 → CanEndTick reach after got
+worked_can_end p went work a_note reach old mid after got can behind worked room =
+    let same : Stands p went old mid = stands p went old mid behind in
+    let h : Machine = with_part p work.after mid.machine in
+    let keeps : KeepsClocks h (traded (traffic_in mid.machine p work.act) h) = traded_clocks (traffic_in mid.machine p work.act) h in
+    let time : after.machine.time ≡ mid.machine.time = ap (λ (s : SysState). s.machine.time) worked.state ∙ keeps.time in
+    let ticks : after.machine.ticks ≡ mid.machine.ticks = ap (λ (s : SysState). s.machine.ticks) worked.state ∙ keeps.ticks in
+    let counted : length after.machine.parts ≡ length mid.machine.parts =
+    ap (λ (s : SysState). length s.machine.parts) worked.state ∙ keeps.parts ∙ length-set mid.machine.parts p work.after in
+    let few = can.few in
+    let timed = can.timed in
+    record {
+      time = omega (arith, time, same.time, timed, few);
+      ticks = omega (arith, ticks, same.ticks, few);
+      one = one_before reach mid.machine after.machine (sym counted) worked.one;
+      room = room;
+    }
 
 -- the system after ticks in which its partition went, and an instruction of it
 pub turned_behind : OthersRest → UndisturbedNext → (g : Machine) (p : ℕ) (first : Bool) (ps new : PartitionState) (went : ℕ) (old mid : SysState)

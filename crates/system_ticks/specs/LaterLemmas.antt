@@ -55,12 +55,12 @@ unfolding step after happened happened_by ends_in
 step_time g runs goes = ap (λ (b : Bool). (step_unless b g).time) runs ∙ time_goes g.time (machine.act_of (local g)) goes
 
 -- the clocks after so many ticks of one frame
-record IsInside (count : ℕ) (g : Machine) : Type 0 where
+record IsInsideFrame (count : ℕ) (g : Machine) : Type 0 where
   pub clock : (run g count).clock ≡ g.clock
   pub time : (run g count).time ≡ g.time + count
 
 inside_more : (g : Machine) (count : ℕ) → g.clock.frame_start ≤ g.time → g.time + suc count < g.clock.frame_start + frame_of g.system.conf g.clock.plan
-    → (run g count).halted ≡ false → ends_in (run g count) ≡ false → (run g count).system ≡ g.system → IsInside count g → IsInside (suc count) g
+    → (run g count).halted ≡ false → ends_in (run g count) ≡ false → (run g count).system ≡ g.system → IsInsideFrame count g → IsInsideFrame (suc count) g
 inside_more g count begun before runs goes same is =
     let last : g.time + count + 1 ≡ g.time + suc count = omega arith in
     record {
@@ -73,25 +73,25 @@ inside_more g count begun before runs goes same is =
       time = ap (λ (m : Machine). m.time) (run_more g count) ∙ step_time (run g count) runs goes ∙ ap (λ (now : ℕ). now + 1) is.time ∙ last;
     }
 
-all_inside : RunsKeepNumbers → (count : ℕ) (g : Machine) → g.halted ≡ false → AllQuiet count g → g.clock.frame_start ≤ g.time
-    → g.time + count < g.clock.frame_start + frame_of g.system.conf g.clock.plan → IsInside count g
-all_inside keeps zero g runs quiet begun before = record { clock = refl; time = omega arith }
-all_inside keeps (suc count) g runs quiet begun before =
+all_inside_frame : RunsKeepNumbers → (count : ℕ) (g : Machine) → g.halted ≡ false → AllQuiet count g → g.clock.frame_start ≤ g.time
+    → g.time + count < g.clock.frame_start + frame_of g.system.conf g.clock.plan → IsInsideFrame count g
+all_inside_frame keeps zero g runs quiet begun before = record { clock = refl; time = omega arith }
+all_inside_frame keeps (suc count) g runs quiet begun before =
     inside_more g count begun before (quiet_runs count g runs (λ k below. quiet k (omega (arith, below)))) (quiet count (omega arith)) (keeps g count).system
-    (all_inside keeps count g runs (λ k below. quiet k (omega (arith, below))) begun (omega (arith, before)))
+    (all_inside_frame keeps count g runs (λ k below. quiet k (omega (arith, below))) begun (omega (arith, before)))
 
 -- a slot that a search found stands at its number, and runs
-record IsFound (m base : ℕ) (slots : List Slot) (found : ℕ × Slot) : Type 0 where
+record IsSlotFound (m base : ℕ) (slots : List Slot) (found : ℕ × Slot) : Type 0 where
   pub from : base ≤ found.0
   pub there : slice_get slots (found.0 - base) ≡ Some found.1
   pub runs : covers m found.1 ≡ true
 
-found_is : (m base : ℕ) (slots : List Slot) (found : ℕ × Slot) → slot_from m base slots ≡ Some found → IsFound m base slots found
-found_is m base [] found is = absurd (let e : None ≡ Some found = is in cc)
-found_is m base (slot ∷ rest) found is = at (covers m slot) refl is (found_is m (base + 1) rest found)
+slot_found_is : (m base : ℕ) (slots : List Slot) (found : ℕ × Slot) → slot_from m base slots ≡ Some found → IsSlotFound m base slots found
+slot_found_is m base [] found is = absurd (let e : None ≡ Some found = is in cc)
+slot_found_is m base (slot ∷ rest) found is = at (covers m slot) refl is (slot_found_is m (base + 1) rest found)
   where
     at : (b : Bool) → covers m slot ≡ b → (if b then Some (base, slot) else slot_from m (base + 1) rest) ≡ Some found
-        → (slot_from m (base + 1) rest ≡ Some found → IsFound m (base + 1) rest found) → IsFound m base (slot ∷ rest) found
+        → (slot_from m (base + 1) rest ≡ Some found → IsSlotFound m (base + 1) rest found) → IsSlotFound m base (slot ∷ rest) found
     at true runs this more =
         let pair : (base, slot) ≡ found = let e : Some (base, slot) ≡ Some found = this in cc in
         let number : base ≡ found.0 = ap (λ (x : ℕ × Slot). x.0) pair in
@@ -108,9 +108,9 @@ here_by : (conf : Conf) (clock : CyclicClock) (now : ℕ) (found : Option (ℕ �
 unfolding here
 here_by conf clock now found is = ap (on (here_in (moment clock now))) is
 
-found_there : (conf : Conf) (clock : CyclicClock) (now : ℕ) (found : ℕ × Slot) → slot_at conf clock now ≡ Some found → IsFound (moment clock now) 0 (slots_of conf clock.plan) found
+found_there : (conf : Conf) (clock : CyclicClock) (now : ℕ) (found : ℕ × Slot) → slot_at conf clock now ≡ Some found → IsSlotFound (moment clock now) 0 (slots_of conf clock.plan) found
 unfolding slot_at
-found_there conf clock now found is = found_is (moment clock now) 0 (slots_of conf clock.plan) found is
+found_there conf clock now found is = slot_found_is (moment clock now) 0 (slots_of conf clock.plan) found is
 
 -- a slot that runs begins with no later tick
 not_first : (m n : ℕ) (s : Slot) → covers m s ≡ true → m < n → (s.start == n) ≡ false
@@ -162,8 +162,8 @@ later_at keeps g mid place ticks at some less is runs quiet = record {
   some = omega (arith, less);
 }
   where
-    inside : IsInside ticks g
-    inside = all_inside keeps ticks g runs quiet at.begun (let within = at.stretch.within in omega (arith, within, less))
+    inside : IsInsideFrame ticks g
+    inside = all_inside_frame keeps ticks g runs quiet at.begun (let within = at.stretch.within in omega (arith, within, less))
 
     later : IsLater g.system.conf g.clock g.time ticks place.slot
     later = told_later g.system.conf g.clock g.time ticks place.slot at.begun some at.slot (at.stretch.alike ticks less)

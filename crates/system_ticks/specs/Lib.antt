@@ -1,3 +1,4 @@
+pub mod Ending
 pub mod LaterLemmas
 pub mod Place
 pub mod PlaceLemmas

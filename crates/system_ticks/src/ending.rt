@@ -11,7 +11,8 @@ ghost use Rattle.machine_model.specs.Told.{AllHalted, AllReset, Maintenance, Not
 ghost use Rattle.machine_model.specs.View.{view_of};
 ghost use Rattle.slot_runs.specs.Passes.{evented};
 ghost use Rattle.slot_runs.specs.Spans.{after_span, plan_line};
-ghost use Rattle.tick_pieces.specs.Work.{ReachIsUponOne, act_beyond, ended_by, ending_lines, reset_lines};
+ghost use Rattle.tick_pieces.specs.Work.{ended_by, ending_lines, reset_lines};
+ghost use Rattle.system_ticks.specs.Ending.{CanEndTick, IsTickEnded};
 
 use cyclic_plans::PlanClock;
 use health_monitor::Whole;
@@ -23,14 +24,9 @@ use xm_report::{Line, Move};
 /// Ends a tick in which partition `p` worked. What reaches beyond no partition, as nearly all does, goes the short way.
 #[inline(always)]
 pub(crate) fn end_tick(sys: &mut Sys, lines: &mut Lines, p: PartId, reach: Beyond)
-    requires time { sys.old.machine.time + 1 < 2 ^ 64 }
-    requires ticks { sys.old.machine.ticks + 1 < 2 ^ 64 }
+    requires can { CanEndTick reach sys.old lines.old }
     requires frame { IsInFrame sys.old.machine.system.conf sys.old.machine.clock sys.old.machine.time }
-    requires one { ReachIsUponOne reach sys.old.machine }
-    requires room { length lines.old ≤ 4 }
-    ensures state { sys.new ≡ with_machine (ended_by (act_beyond reach) p sys.old.machine) sys.old }
-    ensures lines { lines.new ≡ lines.old ++ ending_lines (act_beyond reach) sys.old.machine }
-    ensures few { length lines.new ≤ 40 }
+    ensures { IsTickEnded reach p sys.old sys.new lines.old lines.new }
 {
     match reach {
         Beyond::Nothing => end_plainly(sys, lines, p),
@@ -43,14 +39,9 @@ pub(crate) fn end_tick(sys: &mut Sys, lines: &mut Lines, p: PartId, reach: Beyon
 // The same, whatever its reach.
 #[inline(never)]
 fn end_beyond(sys: &mut Sys, lines: &mut Lines, p: PartId, reach: Beyond)
-    requires time { sys.old.machine.time + 1 < 2 ^ 64 }
-    requires ticks { sys.old.machine.ticks + 1 < 2 ^ 64 }
+    requires can { CanEndTick reach sys.old lines.old }
     requires frame { IsInFrame sys.old.machine.system.conf sys.old.machine.clock sys.old.machine.time }
-    requires one { ReachIsUponOne reach sys.old.machine }
-    requires room { length lines.old ≤ 4 }
-    ensures state { sys.new ≡ with_machine (ended_by (act_beyond reach) p sys.old.machine) sys.old }
-    ensures lines { lines.new ≡ lines.old ++ ending_lines (act_beyond reach) sys.old.machine }
-    ensures few { length lines.new ≤ 40 }
+    ensures { IsTickEnded reach p sys.old sys.new lines.old lines.new }
 {
     match reach {
         Beyond::Nothing => end_plainly(sys, lines, p),

@@ -15,7 +15,7 @@ ghost use Rattle.slot_runs.specs.Undisturbed.{NoneFallsDue};
 ghost use Rattle.virt_traps.specs.Virtual.{due};
 ghost use Rattle.tick_pieces.specs.Machine.{IsMachine};
 ghost use Rattle.system_ticks.specs.Place.{IsAt};
-ghost use Rattle.tick_pieces.specs.Work.{ReachIsUponOne, act_beyond, ended_by, ending_lines};
+ghost use Rattle.system_ticks.specs.Ending.{CanEndTick, IsTickEnded};
 ghost use Rattle.tick_pieces.specs.Span.{IsSilent, AreDoneFrom, CanTake, CanTakeAfter, HasTurned, IsIdle, HasMetInterrupts, IsSpanDone, NoneDue, machine_underway, counted_on};
 
 use crate::ending::{end_tick, end_ticks};
@@ -352,13 +352,9 @@ fn call_after(sys: &mut Sys, lines: &mut Lines, span: &mut Span, p: PartId, went
 // Ends the tick of a call, the last of so many, that reports nothing and reaches beyond no partition.
 #[inline(always)]
 fn pass_call(sys: &mut Sys, lines: &mut Lines, span: &mut Span, p: PartId, ticks: u64)
-    requires time { sys.old.machine.time + 1 < 2 ^ 64 }
-    requires ticks { sys.old.machine.ticks + 1 < 2 ^ 64 }
+    requires can { CanEndTick Beyond.Nothing sys.old lines.old }
     requires frame { IsInFrame sys.old.machine.system.conf sys.old.machine.clock sys.old.machine.time }
-    requires room { length lines.old ≤ 4 }
-    ensures state { sys.new ≡ with_machine (ended_by (act_beyond Beyond.Nothing) p sys.old.machine) sys.old }
-    ensures lines { lines.new ≡ lines.old ++ ending_lines (act_beyond Beyond.Nothing) sys.old.machine }
-    ensures few { length lines.new ≤ 40 }
+    ensures ended { IsTickEnded Beyond.Nothing p sys.old sys.new lines.old lines.new }
     ensures span { span.new ≡ record { ticks = ticks; part = p; worked = true; note = Note.Nothing; reach = Beyond.Nothing } }
 {
     end_tick(sys, lines, p, Beyond::Nothing);
@@ -376,14 +372,9 @@ fn end_call(
     note: Note,
     reach: Beyond,
 )
-    requires time { sys.old.machine.time + 1 < 2 ^ 64 }
-    requires ticks { sys.old.machine.ticks + 1 < 2 ^ 64 }
+    requires can { CanEndTick reach sys.old lines.old }
     requires frame { IsInFrame sys.old.machine.system.conf sys.old.machine.clock sys.old.machine.time }
-    requires one { ReachIsUponOne reach sys.old.machine }
-    requires room { length lines.old ≤ 4 }
-    ensures state { sys.new ≡ with_machine (ended_by (act_beyond reach) p sys.old.machine) sys.old }
-    ensures lines { lines.new ≡ lines.old ++ ending_lines (act_beyond reach) sys.old.machine }
-    ensures few { length lines.new ≤ 40 }
+    ensures ended { IsTickEnded reach p sys.old sys.new lines.old lines.new }
     ensures span { span.new ≡ record { ticks = ticks; part = p; worked = true; note = note; reach = reach } }
 {
     end_tick(sys, lines, p, reach);

@@ -1,23 +1,23 @@
 //! What a tick's note and reach tell one partition.
 
-ghost use Rattle.std.specs.Prelude.{◌≡◌, ◌<◌, ◌≤◌, length};
+ghost use Rattle.std.specs.Prelude.{◌≡◌, ◌<◌, length};
 ghost use Rattle.machine_model.specs.Cue.{slot_of};
 ghost use Rattle.machine_model.specs.Lists.{is_number};
 ghost use Rattle.machine_model.specs.Machine.{is_turn_of, order_for, turn_here};
 ghost use Rattle.machine_model.specs.Told.{reach_of};
 ghost use Rattle.machine_model.specs.Traffic.{heard_as, own_puts_at, own_signals_at, own_takes_at};
-ghost use Rattle.machine_model.specs.View.{linked, name_of, part_of};
-ghost use Rattle.xm_conf.specs.View.{channel_of};
+ghost use Rattle.machine_model.specs.View.{linked};
 ghost use Rattle.tick_pieces.specs.CueValues.{sight_value, slot_value, traffic_value};
 ghost use Rattle.tick_pieces.specs.Kept.{sight_with, traffic_with};
 ghost use Rattle.tick_pieces.specs.Work.{act_beyond};
 
+use cue_scripts::name_of;
 use cyclic_plans::Here;
 use health_monitor::Whole;
 use hypercalls::Note;
 use tick_pieces::{Beyond, Mine, Sight, Traffic};
 use xm_base::{Order, PartId};
-use xm_conf::{Conf, Part};
+use xm_conf::Conf;
 
 /// Whether a tick is in a slot of partition `p`.
 pub(crate) fn is_slot_of(slot: Option<Here>, p: PartId) -> bool
@@ -124,39 +124,6 @@ pub(crate) fn sight_of(note: Note, bytes: &[u8]) -> Sight<'_>
     }
 }
 
-// Partition `p`'s name for a channel: its lowest port on it.
-fn name_of(conf: &Conf, p: PartId, chan: u8) -> Option<u8>
-    requires { p < length conf.now.parts }
-    ensures { result ≡ name_of conf.now p chan }
-{
-    let ports = port_count(conf, p);
-    let mut port = 0;
-    while port < ports {
-        if is_on(conf, p, port, chan) {
-            return Some(port);
-        }
-        port += 1;
-    }
-    None
-}
-
-// How many ports a partition has.
-fn port_count(conf: &Conf, p: PartId) -> u8
-    requires { p < length conf.now.parts }
-    ensures { result ≡ length (part_of conf.now p).ports }
-{
-    configured(conf, p).ports.len() as u8
-}
-
-// What the configuration says of a partition.
-fn configured(conf: &Conf, p: PartId) -> &Part
-    requires { p < length conf.now.parts }
-    ensures value { result.now ≡ part_of conf.now p }
-    ensures few { length result.now.ports ≤ 32 }
-{
-    &conf.raw().parts[usize::from(p)]
-}
-
 // Whether a partition's link of a number goes to partition `p`, which is another one.
 #[tactic(auto, unfolding(machine_model::specs::View::linked))]
 fn is_linked(conf: &Conf, source: PartId, number: u8, p: PartId) -> bool
@@ -164,16 +131,6 @@ fn is_linked(conf: &Conf, source: PartId, number: u8, p: PartId) -> bool
 {
     match conf.link_of(source, number) {
         Some(dest) => dest != source && dest == p,
-        None => false,
-    }
-}
-
-// Whether a port is on a channel.
-fn is_on(conf: &Conf, p: PartId, port: u8, chan: u8) -> bool
-    ensures { result ≡ is_number (channel_of conf.now p port) chan }
-{
-    match conf.channel_of(p, port) {
-        Some(number) => number == chan,
         None => false,
     }
 }

@@ -5,8 +5,11 @@ use Rattle.slot_runs.specs.Passes.{part_at}
 use Rattle.system_ticks.proofs.EndLemmas.{order_then}
 use Rattle.system_ticks.proofs.ending.end_beyond.Goals as goal
 
-pub returns-in-Order-clause-lines : goal.returns-in-Order-clause-lines
-returns-in-Order-clause-lines c =
-    rw c.in-Order.is (order_then c.in-Order.id c.in-Order.order
-    (ordered (view_of c.args.sys.now.machine.system c.in-Order.id) c.in-Order.order (part_at c.in-Order.id c.args.sys.now.machine))
-    c.args.sys.now c.obey.new.sys c.args.lines.now c.obey.new.lines _ (search rules) (search rules))
+pub returns-in-Order : goal.returns-in-Order
+returns-in-Order c = record {
+  state = search rules;
+  lines = rw c.in-Order.is (order_then c.in-Order.id c.in-Order.order
+      (ordered (view_of c.args.sys.now.machine.system c.in-Order.id) c.in-Order.order (part_at c.in-Order.id c.args.sys.now.machine))
+      c.args.sys.now c.obey.new.sys c.args.lines.now c.obey.new.lines _ (search rules) (search rules));
+  few = search rules;
+}

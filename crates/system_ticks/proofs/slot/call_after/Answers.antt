@@ -3,7 +3,7 @@ use Rattle.whole_system.specs.declared.served.Note.TheVariants as note
 use Rattle.tick_pieces.specs.Span.{AreDoneFrom}
 use Rattle.tick_pieces.specs.declared.beyond.Beyond.TheVariants as beyond
 use Rattle.tick_pieces.specs.declared.span.Span.{Span}
-use Rattle.system_ticks.proofs.SpanLemmas.{can_work, stands, worked_frame}
+use Rattle.system_ticks.proofs.SpanLemmas.{can_work, stands, worked_can_end, worked_frame}
 use Rattle.system_ticks.proofs.TurnedLemmas.{call_done, next_stays}
 use Rattle.system_ticks.proofs.slot.call_after.Goals as goal
 
@@ -24,6 +24,11 @@ call_told-requires-clause-clock c = (can_work c.args.p c.args.went c.args.sys.no
 
 pub call_told-requires-clause-log : goal.call_told-requires-clause-log
 call_told-requires-clause-log c = (can_work c.args.p c.args.went c.args.sys.now c.stand_behind.new.sys c.requires.take c.stand_behind.ensures).health
+
+pub end_call-requires-clause-can : goal.end_call-requires-clause-can
+end_call-requires-clause-can c =
+    worked_can_end c.args.p c.args.went _ c.in-Some.told.0 c.in-Some.told.1 c.args.sys.now c.stand_behind.new.sys c.call_told.new.sys c.call_told.new.lines
+    c.requires.take c.stand_behind.ensures (rw c.in-Some.is at c.call_told.ensures.worked) c.call_told.ensures.few
 
 pub end_call-requires-clause-frame : goal.end_call-requires-clause-frame
 end_call-requires-clause-frame c =
@@ -47,7 +52,7 @@ returns-in-Some c =
           subst (λ (span : Span). AreDoneFrom span most g c.args.sys.now c.end_call.new.sys c.end_call.new.lines) (sym c.end_call.ensures.span)
           (call_done c.tick_in_passes.ensures.others c.calm_ticks.ensures.gone c.undisturbed_ticks.ensures.next c.tick_in_passes.ensures.next c.acts_within_bounds.ensures.law c.keeps_numbers.ensures.runs
           g c.args.p first ps c.args.went most c.args.pc c.in-Some.told.0 c.in-Some.told.1 c.args.sys.now c.stand_behind.new.sys c.call_told.new.sys c.end_call.new.sys c.call_told.new.lines c.end_call.new.lines
-          is c.stand_behind.ensures worked alone noted c.end_call.ensures.state c.end_call.ensures.lines c.end_call.ensures.few);
+          is c.stand_behind.ensures worked alone noted c.end_call.ensures.ended.state c.end_call.ensures.ended.lines c.end_call.ensures.ended.few);
     }
 
 pub returns-in-None : goal.returns-in-None
@@ -59,5 +64,5 @@ returns-in-None c =
           subst (λ (span : Span). AreDoneFrom span most g c.args.sys.now c.pass_call.new.sys c.pass_call.new.lines) (sym c.pass_call.ensures.span)
           (call_done c.tick_in_passes.ensures.others c.calm_ticks.ensures.gone c.undisturbed_ticks.ensures.next c.tick_in_passes.ensures.next c.acts_within_bounds.ensures.law c.keeps_numbers.ensures.runs
           g c.args.p first ps c.args.went most c.args.pc note.Nothing beyond.Nothing c.args.sys.now c.stand_behind.new.sys c.call_told.new.sys c.pass_call.new.sys c.call_told.new.lines c.pass_call.new.lines
-          is c.stand_behind.ensures worked tt noted c.pass_call.ensures.state c.pass_call.ensures.lines c.pass_call.ensures.few);
+          is c.stand_behind.ensures worked tt noted c.pass_call.ensures.ended.state c.pass_call.ensures.ended.lines c.pass_call.ensures.ended.few);
     }

@@ -1,4 +1,5 @@
-use Rattle.system_ticks.proofs.SpanLemmas.{can_work, worked_frame}
+use Rattle.std.proofs.Common.{arith}
+use Rattle.system_ticks.proofs.SpanLemmas.{can_work, worked_can_end, worked_frame}
 use Rattle.system_ticks.proofs.TurnedLemmas.{trap_done}
 use Rattle.system_ticks.proofs.slot.trap_after.Goals as goal
 
@@ -10,6 +11,11 @@ meet_trap-reach-requires-clause-clock c = (can_work c.args.p c.args.went c.args.
 
 pub meet_trap-reach-requires-clause-log : goal.meet_trap-reach-requires-clause-log
 meet_trap-reach-requires-clause-log c = (can_work c.args.p c.args.went c.args.sys.now c.stand_behind.new.sys c.requires.take c.stand_behind.ensures).health
+
+pub end_tick-requires-clause-can : goal.end_tick-requires-clause-can
+end_tick-requires-clause-can c =
+    worked_can_end c.args.p c.args.went _ _ c.meet_trap-reach.result c.args.sys.now c.stand_behind.new.sys c.meet_trap-reach.new.sys c.meet_trap-reach.new.lines
+    c.requires.take c.stand_behind.ensures c.meet_trap-reach.ensures.worked (omega (arith, c.meet_trap-reach.ensures.few))
 
 pub end_tick-requires-clause-frame : goal.end_tick-requires-clause-frame
 end_tick-requires-clause-frame c =
