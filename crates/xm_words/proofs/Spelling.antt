@@ -3,7 +3,7 @@ use Rattle.std.proofs.Common.{◌≡◌, ℕ, Bool, true, false, ◌&&◌, if◌
 use Rattle.std.specs.Str.{bytes_eq}
 use Rattle.std.proofs.lemmas.Bool.{and_parts}
 use Rattle.xm_words.specs.Grammar.{AreFurther, CommandsAreSpelled, IsFileName, IsRight, further_words, words_of}
-use Rattle.xm_words.specs.Words.{Command, PartFile, ReplayFiles, RunOption, Bare, Parse, Upgrade, BuildImage, ReadImage, Pack, ListContainer, CheckContainer, MakePlan, CheckPlan, TellGroups, Generate, Run, Replay, Neither, InputAlone, CoreAlone, InputThenCore, CoreThenInput, are_part_files, are_run_options, asked, bare_of, command_by_count, command_of, command_of_more, command_of_one, command_of_three, command_of_two, format_command, generate_for, is_file, of_file, of_files, pack_command, part_files, part_number, plan_command, replay_by, replay_files, replay_command, run_of, run_options, seed_of, ticks_of}
+use Rattle.xm_words.specs.Words.{Command, PartFile, ReplayFiles, RunOption, Bare, Parse, Upgrade, BuildImage, ReadImage, Pack, ListContainer, CheckContainer, MakePlan, CheckPlan, TellGroups, Generate, Run, Replay, Neither, InputAlone, CoreAlone, InputThenCore, CoreThenInput, are_part_files, are_run_options, asked, bare_of, by_verb, command_by_count, command_of, command_of_more, command_of_one, command_of_three, command_of_two, format_command, generate_for, is_file, of_file, of_files, pack_command, part_files, part_number, plan_command, replay_by, replay_files, replay_command, run_of, run_options, seed_of, ticks_of}
 use Rattle.xm_words.proofs.OptionLemmas.{reads_run_options, run_options_typed}
 use Rattle.xm_words.proofs.PartFileLemmas.{files_named, files_typed_right}
 use Rattle.xm_words.proofs.ReplayLemmas.{further_typed, reads_further}
@@ -64,37 +64,30 @@ format_typed name verb file command is e = ⊎_elim read none (other (bytes_eq v
     none : None ≡ Some command → Typed (name ∷ verb ∷ file ∷ []) command
     none h = absurd (let no : ⊥ = cc in no)
 
+-- a command of a file that one of two verbs asks for
+verb_typed : (words : List (List ℕ)) (verb file one two : List ℕ) (first second : List ℕ → Command) (command : Command)
+    → (verb ≡ one → IsFileName file → Typed words (first file)) → (verb ≡ two → IsFileName file → Typed words (second file))
+    → by_verb (is_file file) verb one (first file) two (second file) ≡ Some command → Typed words command
+unfolding by_verb
+verb_typed words verb file one two first second command typed_first typed_second e =
+    ⊎_elim (λ h. file_typed words first file command (typed_first (named verb one h.0)) h.1)
+    (λ h. ⊎_elim (λ h. file_typed words second file command (typed_second (named verb two h.0)) h.1) none (other (bytes_eq verb two) (of_file second file) None command h))
+    (other (bytes_eq verb one) (of_file first file) (if bytes_eq verb two then of_file second file else None) command e)
+  where
+    none : None ≡ Some command → Typed words command
+    none h = absurd (let no : ⊥ = cc in no)
+
 -- what `xmpack` is asked for
 pack_typed : (name verb file : List ℕ) (command : Command) → name ≡ codes "xmpack" → pack_command verb file ≡ Some command → Typed (name ∷ verb ∷ file ∷ []) command
-unfolding pack_command
 pack_typed name verb file command is e =
-    ⊎_elim list (λ h. ⊎_elim check none (other (bytes_eq verb (codes "check")) (of_file CheckContainer file) None command h))
-    (other (bytes_eq verb (codes "list")) (of_file ListContainer file) (if bytes_eq verb (codes "check") then of_file CheckContainer file else None) command e)
-  where
-    list : ((bytes_eq verb (codes "list") ≡ true) × (of_file ListContainer file ≡ Some command)) → Typed (name ∷ verb ∷ file ∷ []) command
-    list h = (let verb_is = named verb (codes "list") h.0 in file_typed _ ListContainer file command (λ right. record { text = cc; right = right }) h.1)
-
-    check : ((bytes_eq verb (codes "check") ≡ true) × (of_file CheckContainer file ≡ Some command)) → Typed (name ∷ verb ∷ file ∷ []) command
-    check h = (let verb_is = named verb (codes "check") h.0 in file_typed _ CheckContainer file command (λ right. record { text = cc; right = right }) h.1)
-
-    none : None ≡ Some command → Typed (name ∷ verb ∷ file ∷ []) command
-    none h = absurd (let no : ⊥ = cc in no)
+    verb_typed _ verb file (codes "list") (codes "check") ListContainer CheckContainer command
+    (λ verb_is right. record { text = cc; right = right }) (λ verb_is right. record { text = cc; right = right }) e
 
 -- what `plan` is asked for
 plan_typed : (name verb file : List ℕ) (command : Command) → name ≡ codes "plan" → plan_command verb file ≡ Some command → Typed (name ∷ verb ∷ file ∷ []) command
-unfolding plan_command
 plan_typed name verb file command is e =
-    ⊎_elim make (λ h. ⊎_elim check none (other (bytes_eq verb (codes "check")) (of_file CheckPlan file) None command h))
-    (other (bytes_eq verb (codes "make")) (of_file MakePlan file) (if bytes_eq verb (codes "check") then of_file CheckPlan file else None) command e)
-  where
-    make : ((bytes_eq verb (codes "make") ≡ true) × (of_file MakePlan file ≡ Some command)) → Typed (name ∷ verb ∷ file ∷ []) command
-    make h = (let verb_is = named verb (codes "make") h.0 in file_typed _ MakePlan file command (λ right. record { text = cc; right = right }) h.1)
-
-    check : ((bytes_eq verb (codes "check") ≡ true) × (of_file CheckPlan file ≡ Some command)) → Typed (name ∷ verb ∷ file ∷ []) command
-    check h = (let verb_is = named verb (codes "check") h.0 in file_typed _ CheckPlan file command (λ right. record { text = cc; right = right }) h.1)
-
-    none : None ≡ Some command → Typed (name ∷ verb ∷ file ∷ []) command
-    none h = absurd (let no : ⊥ = cc in no)
+    verb_typed _ verb file (codes "make") (codes "check") MakePlan CheckPlan command
+    (λ verb_is right. record { text = cc; right = right }) (λ verb_is right. record { text = cc; right = right }) e
 
 -- a system that is generated
 seed_typed : (name word : List ℕ) (command : Command) → name ≡ codes "gen" → generate_for (seed_of word) ≡ Some command → Typed (name ∷ word ∷ []) command
@@ -283,7 +276,7 @@ reads_replay container part script further right =
 
 -- what is typed for a command asks for it
 reads : (command : Command) → IsRight command → command_of (words_of command) ≡ Some command
-unfolding command_of command_by_count command_of_one command_of_two command_of_three format_command pack_command plan_command
+unfolding command_of command_by_count command_of_one command_of_two command_of_three format_command by_verb
 reads (Bare image ticks) right = rw (is_of_file image right.0, text_ticks (decimal ticks) ticks right.1 refl)
 reads (Parse description output) right = rw (is_of_file description right.0, is_of_file output right.1)
 reads (Upgrade configuration output) right = rw (is_of_file configuration right.0, is_of_file output right.1)

@@ -309,19 +309,20 @@ of_files command first second = asked (is_file first && is_file second) (command
 unfoldable pub format_command : List ℕ → List ℕ → Option Command
 format_command verb file = if bytes_eq verb (codes "read") then of_file ReadImage file else None
 
--- what `xmpack` is asked to do with a file
-unfoldable pub pack_command : List ℕ → List ℕ → Option Command
-pack_command verb file =
-    if bytes_eq verb (codes "list") then of_file ListContainer file
-    else if bytes_eq verb (codes "check") then of_file CheckContainer file
+-- the command of a file that one of two verbs asks for, where its word names one
+unfoldable pub by_verb : Bool → List ℕ → List ℕ → Command → List ℕ → Command → Option Command
+by_verb is verb one first other second =
+    if bytes_eq verb one then asked is first
+    else if bytes_eq verb other then asked is second
     else None
 
+-- what `xmpack` is asked to do with a file
+abbrev pub pack_command : List ℕ → List ℕ → Option Command
+pack_command verb file = by_verb (is_file file) verb (codes "list") (ListContainer file) (codes "check") (CheckContainer file)
+
 -- what `plan` is asked to do with a file
-unfoldable pub plan_command : List ℕ → List ℕ → Option Command
-plan_command verb file =
-    if bytes_eq verb (codes "make") then of_file MakePlan file
-    else if bytes_eq verb (codes "check") then of_file CheckPlan file
-    else None
+abbrev pub plan_command : List ℕ → List ℕ → Option Command
+plan_command verb file = by_verb (is_file file) verb (codes "make") (MakePlan file) (codes "check") (CheckPlan file)
 
 -- the number that a system is generated out of
 abbrev pub seed_of : List ℕ → Option ℕ

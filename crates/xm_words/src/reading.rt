@@ -1,9 +1,9 @@
 //! What words spell.
 
 ghost use Rattle.std.specs.Prelude.{◌≡◌, ◌&&◌};
-ghost use Rattle.xm_words.specs.Seen.{command_seen};
+ghost use Rattle.xm_words.specs.Seen.{command_seen, seen_command};
 ghost use Rattle.xm_words.specs.Texts.{texts_of};
-ghost use Rattle.xm_words.specs.Words.{BuildImage, Pack, Parse, Upgrade, TellGroups, are_part_files, asked, bare_of, command_by_count, command_of, command_of_more, command_of_one, command_of_three, command_of_two, format_command, generate_for, is_file, of_file, of_files, pack_command, part_files, plan_command, replay_by, replay_command, run_of, seed_of, ticks_of, part_number, replay_files};
+ghost use Rattle.xm_words.specs.Words.{BuildImage, Pack, Parse, Upgrade, TellGroups, are_part_files, asked, bare_of, by_verb, command_by_count, command_of, command_of_more, command_of_one, command_of_three, command_of_two, format_command, generate_for, is_file, of_file, of_files, pack_command, part_files, plan_command, replay_by, replay_command, run_of, seed_of, ticks_of, part_number, replay_files};
 
 use crate::commands::Command;
 use crate::numbers::{part, seed, ticks};
@@ -261,32 +261,41 @@ fn format_command<'a>(verb: &str, image: &'a str) -> Option<Command<'a>>
 }
 
 /// What `xmpack` is asked to do with a file.
-#[tactic(auto, unfolding(crate::specs::Words::pack_command))]
 fn pack_command<'a>(verb: &str, container: &'a str) -> Option<Command<'a>>
     ensures { command_seen result ≡ pack_command verb.now container.now }
 {
-    if !is_file(container) {
-        None
-    } else if verb == "list" {
-        Some(Command::ListContainer { container })
-    } else if verb == "check" {
-        Some(Command::CheckContainer { container })
-    } else {
-        None
-    }
+    let list = Command::ListContainer { container };
+    let check = Command::CheckContainer { container };
+    by_verb(verb, container, "list", list, "check", check)
 }
 
 /// What `plan` is asked to do with a file.
-#[tactic(auto, unfolding(crate::specs::Words::plan_command))]
 fn plan_command<'a>(verb: &str, description: &'a str) -> Option<Command<'a>>
     ensures { command_seen result ≡ plan_command verb.now description.now }
 {
-    if !is_file(description) {
+    let make = Command::MakePlan { description };
+    let check = Command::CheckPlan { description };
+    by_verb(verb, description, "make", make, "check", check)
+}
+
+/// The command of a file that one of two verbs asks for.
+#[tactic(auto, unfolding(crate::specs::Words::by_verb))]
+fn by_verb<'a>(
+    verb: &str,
+    file: &str,
+    one: &str,
+    first: Command<'a>,
+    other: &str,
+    second: Command<'a>,
+) -> Option<Command<'a>>
+    ensures { command_seen result ≡ by_verb (is_file file.now) verb.now one.now (seen_command first.entry) other.now (seen_command second.entry) }
+{
+    if !is_file(file) {
         None
-    } else if verb == "make" {
-        Some(Command::MakePlan { description })
-    } else if verb == "check" {
-        Some(Command::CheckPlan { description })
+    } else if verb == one {
+        Some(first)
+    } else if verb == other {
+        Some(second)
     } else {
         None
     }
