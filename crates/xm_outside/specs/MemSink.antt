@@ -1,16 +1,12 @@
--- A sink in memory: what it got, what it is to fail at, and what it counted.
+-- A sink in memory: the UART that it hands pieces to, and what it refuses.
 use Rattle.std.specs.Prelude.{◌≡◌, ℕ, ◌<◌, List, length, ◌⊎◌}
-use Rattle.std.specs.List.{Contains}
+use Rattle.xm_outside.specs.MemUart.{IsListed, UartState}
 
--- the bytes that it got, the calls that are to fail, the most bytes of a call, and the counts
+-- the UART, which has what the sink got, its failing calls and its counts, and the most bytes of a call
 pub record SinkState : Type 0 where
-  pub got : List ℕ
-  pub fails : List ℕ
+  pub uart : UartState
   pub step : ℕ
-  pub calls : ℕ
-  pub faults : ℕ
-  pub starved : ℕ
 
 -- the sink is set to refuse the piece: the call's number is listed, or there are bytes and it takes none
 abbrev pub IsRefused : SinkState → List ℕ → Type 0
-IsRefused sink piece = Contains sink.fails sink.calls ⊎ ((sink.step ≡ 0) × (0 < length piece))
+IsRefused sink piece = IsListed sink.uart ⊎ ((sink.step ≡ 0) × (0 < length piece))

@@ -1,5 +1,5 @@
 -- A UART in memory: what it got, what it is to fail at, and what it counted.
-use Rattle.std.specs.Prelude.{◌≡◌, ℕ, List, ◌++◌, take, ◌⊎◌}
+use Rattle.std.specs.Prelude.{◌≡◌, ℕ, List, [], ◌++◌, take, ◌⊎◌}
 use Rattle.std.specs.List.{Contains}
 
 -- the bytes that it got, the calls that are to fail, how many bytes it keeps of those, and the counts
@@ -10,6 +10,10 @@ pub record UartState : Type 0 where
   pub calls : ℕ
   pub faults : ℕ
   pub starved : ℕ
+
+-- a UART that got nothing, is to fail at these calls and keeps so many bytes of each
+abbrev pub unused : List ℕ → ℕ → UartState
+unused fails keep = record { got = []; fails = fails; keep = keep; calls = 0; faults = 0; starved = 0 }
 
 -- the number of the next call is among those that are to fail
 abbrev pub IsListed : UartState → Type 0

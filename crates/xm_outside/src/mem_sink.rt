@@ -1,119 +1,91 @@
 //! A sink in memory that keeps what it gets, and fails where it is told to.
 
-ghost use Rattle.std.specs.Prelude.{◌≡◌, ℕ, ◌<◌, ◌≤◌, ◌⊎◌, ◌↔◌, [], Option, Some, IfOk, OnOk, OnErr, IsErr, IsTrue, length, min};
-ghost use Rattle.std.specs.List.{Contains};
+ghost use Rattle.std.specs.Prelude.{◌≡◌, ℕ, ◌<◌, ◌≤◌, ◌⊎◌, Option, Some, IfOk, OnOk, OnErr, IsErr, length, min};
 ghost use Rattle.xm_outside.specs.Causes.{HasCause, Rose, counted};
 ghost use Rattle.xm_outside.specs.Growth.{TakesPiece};
 ghost use Rattle.xm_outside.specs.MemSink.{IsRefused};
+ghost use Rattle.xm_outside.specs.MemUart.{IsListed, unused};
 
+use crate::mem_uart::MemUart;
 use crate::sink::Sink;
 use crate::store::Failed;
+use crate::uart::Uart;
 use std::alloc::Global;
 use std::marker::Model;
 
-/// A sink that keeps what it gets. It takes at most so many bytes a call, and fails at the calls
-/// whose numbers it was given.
+/// A sink that hands what it takes to a UART in memory, which keeps nothing of a call that fails. It takes at most so
+/// many bytes a call, and fails at the calls whose numbers it was given.
 #[derive(Debug, Drop)]
 pub struct MemSink {
-    got: Vec<u8>,
-    fails: Vec<u64>,
+    uart: MemUart,
     step: usize,
-    calls: u64,
-    faults: u64,
-    starved: u64,
 }
 
 impl Model for MemSink {
+    ghost use Rattle.std.specs.Prelude.{◌≡◌};
     ghost use Rattle.xm_outside.specs.MemSink.{SinkState};
 
     ghost Value = { SinkState };
 
-    ghost view = { λ s. record {
-      got = s.got.items;
-      fails = s.fails.items;
-      step = s.step;
-      calls = s.calls;
-      faults = s.faults;
-      starved = s.starved;
-    } };
+    ghost view = { λ s. record { uart = s.uart; step = s.step } };
+
+    ghost invariant = { λ s. s.uart.keep ≡ 0 };
 }
 
 impl MemSink {
     /// A sink that got nothing. The numbers of calls count from 0.
     pub fn new(alloc: Global, fails: Vec<u64>, step: usize) -> MemSink
-        ensures { result ≡ record {
-          got = [];
-          fails = fails.items;
-          step = step;
-          calls = 0;
-          faults = 0;
-          starved = 0;
-        } }
+        ensures { result ≡ record { uart = unused fails.items 0; step = step } }
     {
         MemSink {
-            got: Vec::new(alloc),
-            fails,
+            uart: MemUart::new(alloc, fails, 0),
             step,
-            calls: 0,
-            faults: 0,
-            starved: 0,
         }
     }
 
     /// The bytes that it got.
     pub fn got(&self) -> &[u8]
-        ensures { result.now ≡ self.now.got }
+        ensures { result.now ≡ self.now.uart.got }
     {
-        &self.got
+        self.uart.got()
     }
 
     /// How many calls failed because memory was out, and for nothing else.
     pub fn starved(&self) -> u64
-        ensures { result ≡ self.now.starved }
+        ensures { result ≡ self.now.uart.starved }
     {
-        self.starved
-    }
-
-    /// Whether it is set to refuse the piece.
-    fn refuses(&self, piece: &[u8]) -> bool
-        ensures { IsTrue result ↔ IsRefused self.now piece.now }
-    {
-        self.fails.contains(&self.calls) || (self.step == 0 && !piece.is_empty())
+        self.uart.starved()
     }
 }
 
 impl Sink for MemSink {
-    ghost got = { λ s. Some s.got };
+    ghost got = { λ s. Some s.uart.got };
 
-    ghost faults = { λ s. s.faults };
+    ghost faults = { λ s. s.uart.faults };
 
     fn write(&mut self, piece: &[u8]) -> Result<usize, Failed>
         ensures bound { IfOk result (λ count. count ≤ length piece.now) }
         ensures progress { IfOk result (λ count. 0 < length piece.now → 0 < count) }
-        ensures got { TakesPiece result (Some self.old.got) piece.now (Some self.new.got) }
-        ensures cause { HasCause result self.old.faults self.new.faults }
+        ensures got { TakesPiece result (Some self.old.uart.got) piece.now (Some self.new.uart.got) }
+        ensures cause { HasCause result self.old.uart.faults self.new.uart.faults }
         ensures taken { IfOk result (λ count. count ≡ min self.old.step (length piece.now)) }
-        ensures listed { Contains self.old.fails self.old.calls → IsErr result }
+        ensures listed { IsListed self.old.uart → IsErr result }
         ensures full { self.old.step ≡ 0 → 0 < length piece.now → IsErr result }
-        ensures only { OnErr result (IsRefused self.old piece.now ⊎ Rose self.old.starved self.new.starved) }
-        ensures starved { OnOk result (self.new.starved ≡ self.old.starved) }
-        ensures refused { IsRefused self.old piece.now → self.new.starved ≡ self.old.starved }
-        ensures fails { self.new.fails ≡ self.old.fails }
+        ensures only { OnErr result (IsRefused self.old piece.now ⊎ Rose self.old.uart.starved self.new.uart.starved) }
+        ensures starved { OnOk result (self.new.uart.starved ≡ self.old.uart.starved) }
+        ensures refused { IsRefused self.old piece.now → self.new.uart.starved ≡ self.old.uart.starved }
+        ensures fails { self.new.uart.fails ≡ self.old.uart.fails }
         ensures step { self.new.step ≡ self.old.step }
-        ensures calls { self.new.calls ≡ counted self.old.calls }
+        ensures calls { self.new.uart.calls ≡ counted self.old.uart.calls }
     {
-        let refused = self.refuses(piece);
-        self.calls = self.calls.saturating_add(1);
-        if refused {
-            self.faults = self.faults.saturating_add(1);
-            return Err(Failed);
-        }
         let count = piece.len().min(self.step);
-        if self.got.extend_from_slice(&piece[..count]).is_err() {
-            self.faults = self.faults.saturating_add(1);
-            self.starved = self.starved.saturating_add(1);
+        if count == 0 && !piece.is_empty() {
+            self.uart.refuse();
             return Err(Failed);
         }
-        Ok(count)
+        match self.uart.write(&piece[..count]) {
+            Ok(()) => Ok(count),
+            Err(Failed) => Err(Failed),
+        }
     }
 }

@@ -1,10 +1,10 @@
 //! A UART in memory that keeps what it gets, and fails where it is told to.
 
-ghost use Rattle.std.specs.Prelude.{◌≡◌, ℕ, ◌⊎◌, ◌↔◌, [], Option, Some, OnOk, OnErr, IsErr, IsTrue};
+ghost use Rattle.std.specs.Prelude.{◌≡◌, ℕ, ◌⊎◌, ◌↔◌, Option, Some, OnOk, OnErr, IsErr, IsTrue};
 ghost use Rattle.std.specs.List.{Contains};
 ghost use Rattle.xm_outside.specs.Causes.{HasCause, Rose, counted};
 ghost use Rattle.xm_outside.specs.Growth.{Receives};
-ghost use Rattle.xm_outside.specs.MemUart.{IsListed, Keeps};
+ghost use Rattle.xm_outside.specs.MemUart.{IsListed, Keeps, unused};
 
 use crate::store::Failed;
 use crate::uart::Uart;
@@ -41,14 +41,7 @@ impl Model for MemUart {
 impl MemUart {
     /// A UART that got nothing. The numbers of calls count from 0.
     pub fn new(alloc: Global, fails: Vec<u64>, keep: usize) -> MemUart
-        ensures { result ≡ record {
-          got = [];
-          fails = fails.items;
-          keep = keep;
-          calls = 0;
-          faults = 0;
-          starved = 0;
-        } }
+        ensures { result ≡ unused fails.items keep }
     {
         MemUart {
             got: Vec::new(alloc),
@@ -72,6 +65,15 @@ impl MemUart {
         ensures { result ≡ self.now.starved }
     {
         self.starved
+    }
+
+    /// Fails a call none of whose bytes are taken.
+    pub(crate) fn refuse(&mut self)
+        ensures state { self.new ≡ record self.old { calls = counted self.old.calls; faults = counted self.old.faults } }
+        ensures cause { Rose self.old.faults self.new.faults }
+    {
+        self.calls = self.calls.saturating_add(1);
+        self.faults = self.faults.saturating_add(1);
     }
 
     /// Whether the next call is to fail.
