@@ -1,5 +1,5 @@
 -- What programs, images and containers come to, by the bytes of their files.
-use Rattle.std.specs.Prelude.{ℕ, List, ◌++◌, length, codes, decimal, Result, Ok, Err}
+use Rattle.std.specs.Prelude.{ℕ, List, length, codes, Result, Ok, Err}
 use Rattle.xef_images.specs.Elf.{elf}
 use Rattle.xef_images.specs.Image.{Image}
 use Rattle.xef_images.specs.Reading.{xef}
@@ -13,6 +13,7 @@ use Rattle.xm_container.specs.Reading.{unpacked}
 use Rattle.file_texts.specs.Texts.{box_fault_text}
 use Rattle.xm_container.specs.Texts.{box_lines}
 use Rattle.file_texts.specs.declared.fault.BoxFault.{BoxFault}
+use Rattle.file_maker.specs.Success.{ok_text}
 
 -- the file of an image, or the text of a program's fault
 abbrev pub xef_by : Result Image ElfFault → Result (List ℕ) (List ℕ)
@@ -42,8 +43,8 @@ unfoldable pub container_lines_of : List ℕ → Result (List ℕ) (List ℕ)
 container_lines_of file = container_lines_by file (unpacked file)
 
 -- what is printed of a container that was checked, by its number of partitions
-unfoldable pub checked_text : ℕ → List ℕ
-checked_text parts = codes "ok parts=" ++ decimal parts ++ codes "\n"
+abbrev pub checked_text : ℕ → List ℕ
+checked_text parts = ok_text (codes "parts=") parts
 
 -- what is printed of a system, or the text of its container's fault
 abbrev pub container_verdict_by : Result System BoxFault → Result (List ℕ) (List ℕ)

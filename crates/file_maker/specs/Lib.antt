@@ -6,4 +6,5 @@ pub mod Parsing
 pub mod ParsingLemmas
 pub mod Planning
 pub mod Ready
+pub mod Success
 pub mod Telling

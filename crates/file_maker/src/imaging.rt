@@ -1,16 +1,16 @@
 //! The image of a program, and what is told of images and containers.
 
-ghost use Rattle.std.specs.Prelude.{◌≡◌, [], IfErr, IfOk, length};
+ghost use Rattle.std.specs.Prelude.{◌≡◌, IfErr, IfOk, length};
 ghost use Rattle.file_texts.specs.Texts.{elf_fault_text, xef_fault_text};
 ghost use Rattle.file_texts.specs.Texts.{box_fault_text};
 ghost use Rattle.file_maker.specs.Imaging.{checked_text, container_lines_of, container_verdict_of, image_lines_of, xef_of};
 ghost use Rattle.file_maker.specs.Makes.{IsRefusalText, Makes};
 
+use crate::success::ok_line;
 use crate::unmade::Unmade;
 use std::alloc::Global;
 use xef_images::{ElfFault, XefFault, build_xef, describe, read_elf, read_xef};
 use xm_container::{BoxFault, System, list_lines, unpack};
-use xm_report::Pen;
 
 /// The image's file of a program.
 #[tactic(auto, unfolding(crate::specs::Imaging::xef_of))]
@@ -70,23 +70,11 @@ fn verdict(alloc: Global, system: &System) -> Result<Vec<u8>, Unmade>
     ensures line { IfOk result (λ line. line.items ≡ checked_text (length system.now.conf.parts)) }
     ensures memory { IfErr result (λ why. why ≡ Unmade.Memory) }
 {
-    let mut pen = Pen::new();
-    verdict_line(&mut pen, system.conf().raw().parts.len());
-    match Vec::from_slice(alloc, pen.bytes()) {
+    let line = ok_line(b"parts=", system.conf().raw().parts.len());
+    match Vec::from_slice(alloc, line.bytes()) {
         Ok(line) => Ok(line),
         Err(_) => Err(Unmade::Memory),
     }
-}
-
-// Writes the line of a container that was checked.
-#[tactic(auto, unfolding(crate::specs::Imaging::checked_text))]
-fn verdict_line(pen: &mut Pen, parts: usize)
-    requires { pen.old ≡ [] }
-    ensures { pen.new ≡ checked_text parts }
-{
-    pen.text(b"ok parts=");
-    pen.number(parts as u64);
-    pen.text(b"\n");
 }
 
 // What is said of a file that is no program.
