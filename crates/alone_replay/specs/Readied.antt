@@ -1,12 +1,14 @@
 -- What is answered where a replay is made ready.
-use Rattle.std.specs.Prelude.{◌≡◌, ℕ, ◌<◌, ⊤, Bool, true, false, List, length, Option, Some, None, Result, Ok, Err}
+use Rattle.std.specs.Prelude.{◌≡◌, ℕ, ◌<◌, ◌^◌, ⊤, Bool, true, false, List, length, Option, Some, None, Result, Ok, Err}
 use Rattle.std.specs.String.{string_bytes}
 use Rattle.cue_scripts.specs.Script.{IsScript}
 use Rattle.file_maker.specs.declared.unmade.Unmade.{Unmade}
 use Rattle.file_maker.specs.declared.unmade.Unmade.TheVariants as unmade
+use Rattle.loaded_system.specs.System.{System as Loaded}
 use Rattle.machine_model.specs.Cue.{Cue}
 use Rattle.xm_alone.specs.Replay.{IsSilentReplay, TakesAll}
 use Rattle.told_scripts.specs.Lone.{Lone, booted_alone, own_view}
+use Rattle.xm_container.specs.Reading.{unpacked}
 use Rattle.file_maker.specs.Ready.{NoContainer, NoPartition, NoScript, OddInput, Replay, Unready}
 use Rattle.alone_replay.specs.declared.ready.Replay as code
 use Rattle.alone_replay.specs.declared.unready.Unready as why
@@ -51,3 +53,10 @@ pub record IsReady (silent : Bool) (alone : Lone) (cues : List Cue) : Type 0 whe
 abbrev pub Readies : Result code.Replay why.Unready → Result Replay Unready → Type 0
 Readies (Ok replay) made = (made ≡ Ok (record { system = replay.alone.system; p = replay.alone.p; cues = replay.script })) × IsReady replay.silent replay.alone replay.script
 Readies (Err reason) made = IsUnready (unready_of reason) made
+
+-- a container spells the system, which has the partition; the script is one for it, and its input words are not too many
+pub record IsScripted (container : List ℕ) (system : Loaded) (p : ℕ) (script : List Cue) (input : List ℕ) : Type 0 where
+  pub few : length input < 2 ^ 34
+  pub same : unpacked container ≡ Ok system
+  pub there : p < length system.conf.parts
+  pub told : IsScript system.conf p script

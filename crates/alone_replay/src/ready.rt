@@ -10,7 +10,7 @@ ghost use Rattle.xm_alone.specs.Replay.{IsSilentReplay, TakesAll};
 ghost use Rattle.told_scripts.specs.Lone.{booted_alone};
 ghost use Rattle.xm_container.specs.Reading.{unpacked};
 ghost use Rattle.file_maker.specs.Ready.{fitting, inputs_given, replay_of, with_input, with_script, with_system};
-ghost use Rattle.alone_replay.specs.Readied.{Readies};
+ghost use Rattle.alone_replay.specs.Readied.{IsScripted, Readies};
 
 use crate::inputs::inputs_given;
 use crate::unready::{Unready, bad_container, bad_script};
@@ -81,10 +81,7 @@ fn by_script(
     script: Script,
     input: &[u8],
 ) -> Result<Replay, Unready>
-    requires few { length input.now < 2 ^ 34 }
-    requires same { unpacked container.now ≡ Ok system }
-    requires there { p < length system.conf.parts }
-    requires told { IsScript system.conf p script }
+    requires { IsScripted container.now system p script input.now }
     ensures { Readies result (with_script system p input.now (Ok script)) }
 {
     match inputs_given(alloc, part_count(system.conf()), p, input) {
@@ -103,10 +100,7 @@ fn tried(
     script: Script,
     input: &[u8],
 ) -> Result<Replay, Unready>
-    requires few { length input.now < 2 ^ 34 }
-    requires same { unpacked container.now ≡ Ok system }
-    requires there { p < length system.conf.parts }
-    requires told { IsScript system.conf p script }
+    requires scripted { IsScripted container.now system p script input.now }
     requires given { inputs_given (length system.conf.parts) p input.now ≡ Ok inputs }
     requires count { length inputs ≡ length system.conf.parts }
     ensures { Readies result (with_input system p script (Ok inputs)) }
