@@ -406,10 +406,12 @@ impl Machine {
         let mut ends = false;
         while !ends && ticks < left {
             let next = self.step_at(place, left - ticks, out, board)?;
-            place = later(place, next.ticks);
             ticks += next.ticks;
             lines += next.lines;
             ends = next.ends;
+            if !ends && ticks < left {
+                place = later(place, next.ticks);
+            }
         }
         Ok(Stepped { ticks, lines, ends })
     }

@@ -10,6 +10,7 @@ use Rattle.xm_machine.specs.Stretch.{AreStepped, IsStretchCut}
 use Rattle.xm_machine.proofs.HeardLemmas.{heard_on, none_heard}
 use Rattle.xm_machine.proofs.LaterLemmas.{place_on}
 use Rattle.xm_machine.proofs.StretchLemmas.{left_is, some_left, stretch_begins, stretch_counted, stretch_cut, stretch_cut_kept, stretch_on, stretch_out, stretch_runs}
+use Rattle.xm_machine.proofs.machine.Machine.run_stretch.Goals.{else-not-ends-via-else-not-ends, else-not-ends-via-then-not-ends+else-ticks-left-2}
 use Rattle.xm_machine.proofs.machine.Machine.run_stretch.Goals as goal
 
 pub loop-ends-init : goal.loop-ends-init
@@ -19,7 +20,7 @@ loop-ends-init g c = record {
   heard = none_heard c.keeps_numbers.ensures.runs c.args.self.now.state (record { places = _; marks = _ });
   counted = subst (λ (m : Meaning). IsCounted m.state) c.self.view_is c.self.invariant.counted;
   place = λ goes some. subst (λ (m : Meaning). IsAt c.place_of-place.result m.state) c.self.view_is c.place_of-place.ensures.at;
-  room = omega (arith, c.min-left.ensures, min-le_right c.args.most c.place_of-place.result.left);
+  room = λ goes some. omega (arith, c.min-left.ensures, min-le_right c.args.most c.place_of-place.result.left);
 }
 
 pub step_at-requires-clause-running : goal.step_at-requires-clause-running
@@ -27,8 +28,9 @@ step_at-requires-clause-running g c =
     stretch_runs c.loop-ends.ticks c.loop-ends.lines c.loop-ends.ends c.min-left.result c.args.self.now c.loop-ends.self (g.O.Sink.got c.args.out.now) (g.O.Sink.got c.loop-ends.out)
     c.loop-ends.invariant.goes c.loop-ends-test.true c.requires.running
 
-pub loop-ends-preserved : goal.loop-ends-preserved
-loop-ends-preserved g c =
+pub loop-ends-preserved-then-ticks-left-2 : goal.loop-ends-preserved-then-ticks-left-2
+loop-ends-preserved-then-ticks-left-2 g c =
+    let stood = c.loop-ends.invariant.room c.loop-ends-test.true c.if-ticks-left.true in
     let are = c.in_ok-next.ensures.step in
     let goes = c.loop-ends.invariant.goes in
     record {
@@ -43,8 +45,24 @@ loop-ends-preserved g c =
           (place_on c.keeps_numbers.ensures.runs c.in_ok-next.next c.loop-ends.place _ c.loop-ends.self.state c.step_at.new.self.state (g.O.Sink.got c.loop-ends.out) (g.O.Sink.got c.step_at.new.out)
           (c.loop-ends.invariant.place c.loop-ends-test.true c.if-ticks-left.true) are
           (stretch_runs c.loop-ends.ticks c.loop-ends.lines c.loop-ends.ends c.min-left.result c.args.self.now c.loop-ends.self (g.O.Sink.got c.args.out.now) (g.O.Sink.got c.loop-ends.out)
-          goes c.loop-ends-test.true c.requires.running) goes_on (omega (arith, fewer, c.loop-ends.invariant.room)));
-      room = rw c.later-place.ensures (omega (arith, c.loop-ends.invariant.room));
+          goes c.loop-ends-test.true c.requires.running) goes_on (omega (arith, fewer, stood)));
+      room = λ goes_on fewer. rw c.later-place.ensures (omega (arith, stood));
+    }
+
+pub loop-ends-preserved : goal.loop-ends-preserved
+loop-ends-preserved g c =
+    let are = c.in_ok-next.ensures.step in
+    let goes = c.loop-ends.invariant.goes in
+    record {
+      goes = stretch_on c.loop-ends.ticks c.loop-ends.lines c.loop-ends.ends c.min-left.result c.in_ok-next.next c.args.self.now c.loop-ends.self c.step_at.new.self
+          (g.O.Sink.got c.args.out.now) (g.O.Sink.got c.loop-ends.out) (g.O.Sink.got c.step_at.new.out) goes c.loop-ends-test.true are c.in_ok-next.ensures.few c.in_ok-next.ensures.kept;
+      faults = c.in_ok-next.ensures.cause ∙ c.loop-ends.invariant.faults;
+      heard = heard_on c.keeps_numbers.ensures.runs c.args.self.now.state c.loop-ends.self.state c.step_at.new.self.state c.loop-ends.ticks are.step.done
+          (record { places = _; marks = _ }) (record { places = _; marks = _ }) (record { places = _; marks = _ })
+          goes.are.state are.step.are.state c.loop-ends.invariant.heard c.in_ok-next.ensures.heard;
+      counted = c.in_ok-next.ensures.counters;
+      place = λ goes_on fewer. absurd (elim c.else-not-ends.branch [ else-not-ends-via-then-not-ends+else-ticks-left-2 w ↦ omega (arith, fewer) | else-not-ends-via-else-not-ends w ↦ cc ]);
+      room = λ goes_on fewer. absurd (elim c.else-not-ends.branch [ else-not-ends-via-then-not-ends+else-ticks-left-2 w ↦ omega (arith, fewer) | else-not-ends-via-else-not-ends w ↦ cc ]);
     }
 
 pub returns-in_err-next-clause-steps : goal.returns-in_err-next-clause-steps

@@ -13,7 +13,7 @@ invariant-loop-ends g l = record {
   heard : IsRunHeard l.fn.self.state l.self.state ((ghosts (g.dyn-1.0, g.dyn-1.1)).board_view l.fn.board) ((ghosts (g.dyn-1.0, g.dyn-1.1)).board_view l.board);
   counted : IsCounted l.self.state;
   place : l.ends ≡ false → l.ticks < l.left → IsAt l.place l.self.state;
-  room : l.left ≤ l.ticks + l.place.left;
+  room : l.ends ≡ false → l.ticks < l.left → l.left ≤ l.ticks + l.place.left;
 }
 
 abbrev pub decreases-loop-ends : goal.decreases-loop-ends
