@@ -10,7 +10,7 @@ use Rattle.straight_runs.specs.Coming.{IsCame}
 use Rattle.straight_runs.specs.Runs.{AreSteps, IsCall, no_steps, one_more, one_settled, settled-call, word_more}
 use Rattle.straight_runs.specs.Shifts.{IsShift}
 use Rattle.word_rows.specs.Rows.{as_done}
-use Rattle.straight_runs.specs.DroppedLemmas.{same_executed}
+use Rattle.straight_runs.proofs.DroppedLemmas.{same_executed}
 use Rattle.straight_runs.specs.Steps.{Goes}
 use Rattle.word_rows.specs.Kept.{IsRowFor}
 use Rattle.straight_runs.specs.TurnLemmas.{turned-word}

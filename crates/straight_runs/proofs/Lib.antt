@@ -1,3 +1,9 @@
+pub mod DroppedLemmas
+pub mod StepLemmas
+pub mod WindowLemmas
+pub mod RareLemmas
+pub mod ShiftLemmas
+pub mod SavedLemmas
 pub mod ComingLemmas
 pub mod RunningLemmas
 pub mod TransferLemmas

@@ -17,9 +17,9 @@ use Rattle.sparc_step.specs.declared.outcome.Turn.{Turn}
 use Rattle.sparc_step.specs.declared.outcome.Turn.TheVariants.{Call, Went}
 use Rattle.word_rows.specs.Kinds.{kind_of_trap, other}
 use Rattle.straight_runs.specs.PlacedLemmas.{sum_of-placed}
-use Rattle.straight_runs.specs.RareLemmas.{arith_rare}
+use Rattle.straight_runs.proofs.RareLemmas.{arith_rare}
 use Rattle.word_rows.specs.Rows.{HasSource, IsRowOf}
-use Rattle.straight_runs.specs.StepLemmas.{arith_not_two, branch_apart, transfer_apart, transfer_kinds, trap_apart}
+use Rattle.straight_runs.proofs.StepLemmas.{arith_not_two, branch_apart, transfer_apart, transfer_kinds, trap_apart}
 use Rattle.straight_runs.specs.TurnLemmas.{branch_taken, call_taken, jump_taken}
 use Rattle.straight_runs.specs.Places.{at_place, at_slot}
 use Rattle.straight_runs.specs.Turning.{calling}

@@ -8,9 +8,9 @@ use Rattle.sparc_code.specs.declared.instruction.Src.{Src}
 use Rattle.sparc_step.specs.Execution.{done, executed}
 use Rattle.sparc_step.specs.Operands.{sum_of}
 use Rattle.sparc_step.specs.Registers.{Registers}
-use Rattle.straight_runs.specs.DroppedLemmas.{goes_itself, same_executed}
+use Rattle.straight_runs.proofs.DroppedLemmas.{goes_itself, same_executed}
 use Rattle.straight_runs.specs.Places.{at_place, at_slot}
-use Rattle.straight_runs.specs.StepLemmas.{transfers_go}
+use Rattle.straight_runs.proofs.StepLemmas.{transfers_go}
 use Rattle.straight_runs.specs.Steps.{IsMemoryStep, IsRowStep, IsWordStep, Uses}
 use Rattle.straight_runs.proofs.TurningLemmas.{address_at, taken_turns}
 use Rattle.straight_runs.specs.declared.simple.Step.{Step}

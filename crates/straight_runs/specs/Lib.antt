@@ -1,16 +1,10 @@
 pub mod Effects
 pub mod Places
 pub mod Steps
-pub mod DroppedLemmas
 pub mod Codes
 pub mod Turning
 pub mod Runs
 pub mod Coming
 pub mod PlacedLemmas
-pub mod StepLemmas
-pub mod WindowLemmas
 pub mod TurnLemmas
-pub mod RareLemmas
 pub mod Shifts
-pub mod ShiftLemmas
-pub mod SavedLemmas

@@ -4,6 +4,7 @@ ghost use Rattle.std.specs.Prelude.{◌≡◌, ◌+◌, ◌<◌, ◌≤◌};
 ghost use Rattle.guest_bus.specs.Memory.{Memory};
 ghost use Rattle.guest_bus.specs.Words.{AreWords};
 ghost use Rattle.sparc_step.specs.Registers.{Registers};
+ghost use Rattle.straight_runs.specs.Codes.{IsPlaceBefore};
 ghost use Rattle.straight_runs.specs.Coming.{HasRoom, IsCame};
 ghost use Rattle.straight_runs.specs.Runs.{AreSteps};
 ghost use Rattle.straight_runs.specs.Places.{at_place, at_slot};
@@ -42,11 +43,8 @@ pub(crate) fn one<B: HasRows>(
     at: usize,
     stop: usize,
 ) -> Came
-    requires words { AreWords words }
+    requires place { IsPlaceBefore words at stop }
     requires numbered { B.numbered (B.areas bus.old) (B.others bus.old) words }
-    requires from { words.begin ≤ at }
-    requires under { at < stop }
-    requires within { stop ≤ words.end }
     ensures came { IsCame result words.origin at (B.areas bus.old) own.old own.new (B.memory bus.old) (B.memory bus.new) }
     ensures room { HasRoom result at stop }
     ensures areas { B.areas bus.new ≡ B.areas bus.old }
@@ -88,11 +86,8 @@ fn behind<B: HasRows>(
     stop: usize,
     displacement: u32,
 ) -> Came
-    requires words { AreWords words }
+    requires place { IsPlaceBefore words at stop }
     requires numbered { B.numbered (B.areas bus.old) (B.others bus.old) words }
-    requires from { words.begin ≤ at }
-    requires under { at < stop }
-    requires within { stop ≤ words.end }
     ensures came { (core : Registers) (memory : Memory) → AreSteps 1 (B.areas bus.old) (at_place words.origin at core) memory (at_slot words.origin (at + 1) (at + displacement) own.old) (B.memory bus.old) → IsCame result words.origin at (B.areas bus.old) core own.new memory (B.memory bus.new) }
     ensures room { HasRoom result at stop }
     ensures areas { B.areas bus.new ≡ B.areas bus.old }

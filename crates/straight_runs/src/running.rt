@@ -1,14 +1,14 @@
 //! Straight runs.
 
-ghost use Rattle.std.specs.Prelude.{◌≡◌, ◌+◌, ◌%◌, ◌^◌, ◌<◌, ◌≤◌, false};
+ghost use Rattle.std.specs.Prelude.{◌≡◌, ◌+◌, ◌^◌, ◌<◌, ◌≤◌, false};
 ghost use Rattle.std.specs.Bool.{OnTrue};
 ghost use Rattle.guest_bus.specs.Words.{AreWords};
-ghost use Rattle.straight_runs.specs.Codes.{IsStart, RunStopsAt};
+ghost use Rattle.straight_runs.specs.Codes.{RunStopsAt};
 ghost use Rattle.straight_runs.specs.Runs.{AreSteps, IsCall};
 ghost use Rattle.straight_runs.specs.Places.{at_place, at_slot};
 
 use crate::one::{Came, one};
-use crate::places::{Start, address, address_after, distance, start_at};
+use crate::places::{address, address_after, distance, start_at};
 use guest_bus::Words;
 use sparc_step::Processor;
 use word_rows::HasRows;
@@ -52,26 +52,9 @@ pub fn run<B: HasRows>(own: &mut Processor, bus: &mut B, most: u64) -> RunEnd
         return RunEnd::left(0);
     }
     match start_at(bus, pc) {
-        Some(start) => run_from(own, bus, start, most.min(MOST)),
+        Some(start) => run_in(own, bus, start.words, start.place, most.min(MOST)),
         None => RunEnd::left(0),
     }
-}
-
-// The same from the first word on, whose place is known.
-#[inline(always)]
-fn run_from<B: HasRows>(own: &mut Processor, bus: &mut B, start: Start, most: u64) -> RunEnd
-    requires start { IsStart own.old.pc start }
-    requires numbered { B.numbered (B.areas bus.old) (B.others bus.old) start.words }
-    requires next { own.old.npc ≡ (own.old.pc + 4) % 2 ^ 32 }
-    requires most { most < 2 ^ 32 }
-    ensures steps { AreSteps result.went (B.areas bus.old) own.old (B.memory bus.old) own.new (B.memory bus.new) }
-    ensures few { result.went ≤ most }
-    ensures room { OnTrue result.calls (result.went < most) }
-    ensures call { OnTrue result.calls (IsCall (B.areas bus.old) own.new (B.memory bus.new)) }
-    ensures areas { B.areas bus.new ≡ B.areas bus.old }
-    ensures others { B.others bus.new ≡ B.others bus.old }
-{
-    run_in(own, bus, start.words, start.place, most)
 }
 
 // The same over words that have rows, from a place on.

@@ -1,5 +1,5 @@
 use Rattle.std.proofs.Common.{refl}
-use Rattle.straight_runs.specs.RareLemmas.{read_y_kind}
+use Rattle.straight_runs.proofs.RareLemmas.{read_y_kind}
 use Rattle.straight_runs.proofs.rare.read_y.Goals as goal
 
 pub returns : goal.returns

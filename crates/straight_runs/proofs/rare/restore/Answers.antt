@@ -1,5 +1,5 @@
 use Rattle.std.proofs.Common.{ℕ, ◌+◌, ◌%◌, refl, ap}
-use Rattle.straight_runs.specs.RareLemmas.{restore_kind}
+use Rattle.straight_runs.proofs.RareLemmas.{restore_kind}
 use Rattle.straight_runs.proofs.rare.restore.Goals as goal
 
 pub returns-then-enter : goal.returns-then-enter

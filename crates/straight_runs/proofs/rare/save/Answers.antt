@@ -1,5 +1,5 @@
 use Rattle.std.proofs.Common.{ℕ, ◌+◌, ◌%◌, refl, ap}
-use Rattle.straight_runs.specs.RareLemmas.{save_kind}
+use Rattle.straight_runs.proofs.RareLemmas.{save_kind}
 use Rattle.straight_runs.proofs.rare.save.Goals as goal
 
 pub returns-then-enter : goal.returns-then-enter

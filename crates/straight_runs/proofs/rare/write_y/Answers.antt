@@ -1,5 +1,5 @@
 use Rattle.std.proofs.Common.{refl}
-use Rattle.straight_runs.specs.RareLemmas.{write_y_kind}
+use Rattle.straight_runs.proofs.RareLemmas.{write_y_kind}
 use Rattle.straight_runs.proofs.rare.write_y.Goals as goal
 
 pub returns : goal.returns

@@ -1,7 +1,7 @@
 use Rattle.std.proofs.Common.{ℕ, ◌+◌, ◌%◌, length, refl, sym, ap, ◌∙◌}
 use Rattle.sparc_step.specs.Registers.{window_filled, with_saved}
-use Rattle.straight_runs.specs.SavedLemmas.{filled_by, length-words_at}
-use Rattle.straight_runs.specs.ShiftLemmas.{shift_filled}
+use Rattle.straight_runs.proofs.SavedLemmas.{filled_by, length-words_at}
+use Rattle.straight_runs.proofs.ShiftLemmas.{shift_filled}
 use Rattle.straight_runs.proofs.shifting.restore.Goals as goal
 
 pub enter_filled-requires-clause-needed : goal.enter_filled-requires-clause-needed

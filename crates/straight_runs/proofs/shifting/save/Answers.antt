@@ -1,5 +1,5 @@
 use Rattle.std.proofs.Common.{ℕ, ◌+◌, ◌%◌, sym, ap, ◌∙◌}
-use Rattle.straight_runs.specs.ShiftLemmas.{shift_save}
+use Rattle.straight_runs.proofs.ShiftLemmas.{shift_save}
 use Rattle.straight_runs.proofs.shifting.save.Goals as goal
 
 pub enter_below-requires-clause-valid : goal.enter_below-requires-clause-valid

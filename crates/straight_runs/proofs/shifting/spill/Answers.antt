@@ -1,5 +1,5 @@
 use Rattle.std.proofs.Common.{ℕ, ◌+◌, ◌%◌, length, ap, ◌∙◌, refl, arith}
-use Rattle.straight_runs.specs.SavedLemmas.{apart_of, length-saved, sixteen_words, spilled_by, word_stays}
+use Rattle.straight_runs.proofs.SavedLemmas.{apart_of, length-saved, sixteen_words, spilled_by, word_stays}
 use Rattle.straight_runs.proofs.shifting.spill.Goals as goal
 
 pub returns-then-put_words-clause-done : goal.returns-then-put_words-clause-done

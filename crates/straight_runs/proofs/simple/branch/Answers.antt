@@ -1,6 +1,6 @@
 use Rattle.std.proofs.Common.{◌≡◌, ℕ, false, refl, sym, ap, ◌∙◌}
 use Rattle.sparc_step.specs.Conditions.{holds}
-use Rattle.straight_runs.specs.StepLemmas.{branches_go}
+use Rattle.straight_runs.proofs.StepLemmas.{branches_go}
 use Rattle.straight_runs.proofs.simple.branch.Goals as goal
 
 pub returns-else-holds : goal.returns-else-holds

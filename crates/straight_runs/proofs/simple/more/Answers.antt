@@ -1,7 +1,7 @@
 use Rattle.std.proofs.Common.{ℕ, ◌<◌, refl, ap, ◌∙◌, subst, arith}
 use Rattle.sparc_step.specs.Registers.{register_at}
 use Rattle.straight_runs.specs.Effects.{worked_by_kind}
-use Rattle.straight_runs.specs.StepLemmas.{more_go}
+use Rattle.straight_runs.proofs.StepLemmas.{more_go}
 use Rattle.straight_runs.proofs.simple.more.Goals as goal
 
 pub returns-then-row-lt-SMUL : goal.returns-then-row-lt-SMUL

@@ -1,5 +1,5 @@
 use Rattle.std.proofs.Common.{refl}
-use Rattle.straight_runs.specs.StepLemmas.{registers_go}
+use Rattle.straight_runs.proofs.StepLemmas.{registers_go}
 use Rattle.straight_runs.proofs.simple.on_registers.Goals as goal
 
 pub returns : goal.returns

@@ -18,7 +18,7 @@ use Rattle.sparc_step.specs.Words.{residue}
 use Rattle.virt_traps.specs.Moves.{Moved, fill_address, filled, move_made, move_refused, spill_address, spill_window, spilled}
 use Rattle.virt_traps.specs.SaveArea.{is_usable, saved, with_registers}
 use Rattle.virt_traps.specs.Settled.{after_trap, again_or_trap, answered, made_again, settled}
-use Rattle.straight_runs.specs.RareLemmas.{of_window, restore_kind, save_kind}
+use Rattle.straight_runs.proofs.RareLemmas.{of_window, restore_kind, save_kind}
 use Rattle.word_rows.specs.Rows.{AreRegisterNumbers, HasSource, IsRowOf, row_as_done}
 use Rattle.straight_runs.specs.Shifts.{IsFilled, IsShift, IsSpilled}
 use Rattle.straight_runs.specs.TurnLemmas.{turned-word}

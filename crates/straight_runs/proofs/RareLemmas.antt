@@ -15,9 +15,9 @@ use Rattle.straight_runs.specs.Effects.{y_of}
 use Rattle.word_rows.specs.Kinds.{row_kind_of}
 use Rattle.straight_runs.specs.PlacedLemmas.{advanced-placed, register_at-placed, sum_of-placed, value_of-placed, with_result-placed, with_y-placed}
 use Rattle.word_rows.specs.Rows.{HasSource, IsRowOf, RowDoes}
-use Rattle.straight_runs.specs.StepLemmas.{branch_apart, transfer_apart, trap_apart}
+use Rattle.straight_runs.proofs.StepLemmas.{branch_apart, transfer_apart, trap_apart}
 use Rattle.straight_runs.specs.Steps.{Goes}
-use Rattle.straight_runs.specs.WindowLemmas.{moved-placed, window_above-placed, window_below-placed}
+use Rattle.straight_runs.proofs.WindowLemmas.{moved-placed, window_above-placed, window_below-placed}
 use Rattle.word_rows.specs.declared.rows.Row.{Row}
 
 -- no work on registers has a kind between its own and those of no row
