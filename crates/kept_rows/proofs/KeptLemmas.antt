@@ -13,7 +13,7 @@ use Rattle.guest_bus.specs.Words.{MayStand, bytes_of}
 use Rattle.guest_bus.specs.declared.bus.BusFault.{BusFault}
 use Rattle.guest_bus.specs.declared.bus.Size.{Size}
 use Rattle.guest_memory.specs.Memories.{AreMemories, ArePlaced, Memories, areas_at, map_at, with_map, with_selected}
-use Rattle.kept_rows.specs.Shares.{AreEmptied, AreKept, AreReached, IsReached, WasEmptied, emptied, first_of, word_behind, words_of}
+use Rattle.kept_rows.specs.Shares.{AreEmptied, AreKept, AreReached, IsReached, WasEmptied, emptied, first_address, word_behind, words_written}
 use Rattle.word_rows.specs.Kept.{AreKeptRows, IsKeptRow}
 use Rattle.word_rows.specs.KeptLemmas.{empty_kept, kept_apart}
 use Rattle.word_rows.specs.Rows.{AreRegisterNumbers}
@@ -81,7 +81,7 @@ aligned_free allowed address count free = at (address % count == 0) refl free
     at false is none = let refused = rw is at none in absurd cc
 
 -- so they are where a store was done or refused
-pub stored_kept : (rows new : List Row) (base share : ℕ) (areas : List Area) (memory : Memory) (first address : ℕ) (size : Size) (value : ℕ) → AreReached base share (word_behind first address) (words_of size) rows new
+pub stored_kept : (rows new : List Row) (base share : ℕ) (areas : List Area) (memory : Memory) (first address : ℕ) (size : Size) (value : ℕ) → AreReached base share (word_behind first address) (words_written size) rows new
     → first % 4 ≡ 0 → first ≤ 2 ^ 32 → address < 2 ^ 32 → AreKeptRows rows base share memory first → AreKeptRows new base share (after_store areas memory address size value) first
 unfolding after_store store_fault
 stored_kept rows new base share areas memory first address size value reached whole below small kept = at (access_fault (is_writable areas) address (byte_len (width_of size))) refl
@@ -91,8 +91,8 @@ stored_kept rows new base share areas memory first address size value reached wh
     at None free =
         let counted : length (to_be_bytes (width_of size) value) ≡ byte_len (width_of size) = length-bytes_high_first (byte_len (width_of size)) value in
         let fits = words_fit size address (aligned_free (is_writable areas) address (byte_len (width_of size)) free) in
-        written_kept rows new base share (word_behind first address) (words_of size) memory first address (to_be_bytes (width_of size) value) reached
-        (λ k. reached_or_apart first address (words_of size) (length (to_be_bytes (width_of size) value)) k whole below small (omega (arith, counted, fits))) kept
+        written_kept rows new base share (word_behind first address) (words_written size) memory first address (to_be_bytes (width_of size) value) reached
+        (λ k. reached_or_apart first address (words_written size) (length (to_be_bytes (width_of size) value)) k whole below small (omega (arith, counted, fits))) kept
     at (Some fault) refused = still_kept (base + reached.begin) (base + reached.end) rows new base share memory first reached.done kept
 
 -- and where sixteen words were
@@ -115,21 +115,21 @@ reached_moved base there share place address count rows old new moved placed sam
     (subst (λ (r : List Row). AreReached base share place count r new) same reached))
 
 -- the first address of a partition is that of a word
-pub first_whole : (areas : List Area) → ArePlaced areas → first_of areas % 4 ≡ 0
+pub first_whole : (areas : List Area) → ArePlaced areas → first_address areas % 4 ≡ 0
 first_whole [] placed = refl
 first_whole (area ∷ areas) placed = omega (arith, (placed.each 0 area (omega arith)).start)
 
-pub first_low : (areas : List Area) → ArePlaced areas → first_of areas ≤ 2 ^ 32
+pub first_low : (areas : List Area) → ArePlaced areas → first_address areas ≤ 2 ^ 32
 first_low [] placed = omega arith
 first_low (area ∷ areas) placed = omega (arith, (placed.each 0 area (omega arith)).ends)
 
 -- the first address of a partition, as it is at hand
-pub first_at : (m : Memories) (rows : List Row) (firsts : List ℕ) (share base first p other : ℕ) → AreKept m rows firsts share base first → p < length m.areas → get_or firsts p other ≡ first_of (areas_at p m)
-first_at m rows firsts share base first p other is below = ap (λ (f : List ℕ). get_or f p other) is.known ∙ get_or-map first_of m.areas p [] other below
+pub first_at : (m : Memories) (rows : List Row) (firsts : List ℕ) (share base first p other : ℕ) → AreKept m rows firsts share base first → p < length m.areas → get_or firsts p other ≡ first_address (areas_at p m)
+first_at m rows firsts share base first p other is below = ap (λ (f : List ℕ). get_or f p other) is.known ∙ get_or-map first_address m.areas p [] other below
 
 -- all rows are kept where one memory is another
 pub mapped_kept : (old : Memories) (map : Memory) (rows new : List Row) (firsts : List ℕ) (share base first p begin end : ℕ) → AreKept old rows firsts share base first → AreMemories (with_map p map old) → AreEmptied begin end rows new
-    → p < length old.areas → AreKeptRows new (p * share) share map (first_of (areas_at p old)) → AreKept (with_map p map old) new firsts share base first
+    → p < length old.areas → AreKeptRows new (p * share) share map (first_address (areas_at p old)) → AreKept (with_map p map old) new firsts share base first
 mapped_kept old map rows new firsts share base first p begin end is are emptied below mine = record {
   are = are;
   shared = is.shared;
@@ -143,18 +143,18 @@ mapped_kept old map rows new firsts share base first p begin end is are emptied 
     here : map_at p (with_map p map old) ≡ map
     here = get_or-set_same old.maps p map empty (omega (arith, below, is.are.counted))
 
-    own : (q : ℕ) → q ≡ p → AreKeptRows new (q * share) share (map_at q (with_map p map old)) (first_of (areas_at q old))
+    own : (q : ℕ) → q ≡ p → AreKeptRows new (q * share) share (map_at q (with_map p map old)) (first_address (areas_at q old))
     own q same =
-        subst (λ (n : ℕ). AreKeptRows new (n * share) share (map_at n (with_map p map old)) (first_of (areas_at n old))) (sym same)
-        (subst (λ (m : Memory). AreKeptRows new (p * share) share m (first_of (areas_at p old))) (sym here) mine)
+        subst (λ (n : ℕ). AreKeptRows new (n * share) share (map_at n (with_map p map old)) (first_address (areas_at n old))) (sym same)
+        (subst (λ (m : Memory). AreKeptRows new (p * share) share m (first_address (areas_at p old))) (sym here) mine)
 
-    other : (q : ℕ) → q < length old.areas → q ≢ p → AreKeptRows new (q * share) share (map_at q (with_map p map old)) (first_of (areas_at q old))
+    other : (q : ℕ) → q < length old.areas → q ≢ p → AreKeptRows new (q * share) share (map_at q (with_map p map old)) (first_address (areas_at q old))
     other q within ne =
-        subst (λ (m : Memory). AreKeptRows new (q * share) share m (first_of (areas_at q old))) (sym (get_or-set_other old.maps p q map empty ne))
-        (still_kept begin end rows new (q * share) share (map_at q old) (first_of (areas_at q old)) emptied (is.each q within))
+        subst (λ (m : Memory). AreKeptRows new (q * share) share m (first_address (areas_at q old))) (sym (get_or-set_other old.maps p q map empty ne))
+        (still_kept begin end rows new (q * share) share (map_at q old) (first_address (areas_at q old)) emptied (is.each q within))
 
 -- where another partition is selected
-pub selected_kept : (old : Memories) (rows : List Row) (firsts : List ℕ) (share base first p now start : ℕ) → AreKept old rows firsts share base first → AreMemories (with_selected p old) → now ≡ p * share → start ≡ first_of (areas_at p old) → AreKept (with_selected p old) rows firsts share now start
+pub selected_kept : (old : Memories) (rows : List Row) (firsts : List ℕ) (share base first p now start : ℕ) → AreKept old rows firsts share base first → AreMemories (with_selected p old) → now ≡ p * share → start ≡ first_address (areas_at p old) → AreKept (with_selected p old) rows firsts share now start
 selected_kept old rows firsts share base first p now start is are place begins = record {
   are = are;
   shared = is.shared;
@@ -174,20 +174,20 @@ some_kept old rows new firsts share base first begin end is emptied = record {
   known = is.known;
   place = is.place;
   start = is.start;
-  each = λ q within. still_kept begin end rows new (q * share) share (map_at q old) (first_of (areas_at q old)) emptied (is.each q within);
+  each = λ q within. still_kept begin end rows new (q * share) share (map_at q old) (first_address (areas_at q old)) emptied (is.each q within);
 }
 
 -- what a copy leaves
 pub copied_kept : {E : Type 0} (result : Result (Unit {0}) E) (old other : Memories) (rows new : List Row) (firsts : List ℕ) (share base first p address : ℕ) (bytes : List ℕ)
-    → AreKept old rows firsts share base first → p < length old.areas → address < 2 ^ 32 → AreReached (p * share) share (word_behind (first_of (areas_at p old)) address) (length bytes / 4 + 2) rows new
+    → AreKept old rows firsts share base first → p < length old.areas → address < 2 ^ 32 → AreReached (p * share) share (word_behind (first_address (areas_at p old)) address) (length bytes / 4 + 2) rows new
     → OnOk result (other ≡ with_map p (with_bytes (map_at p old) address bytes) old) → OnErr result (other ≡ old) → AreMemories other → AreKept other new firsts share base first
 copied_kept (Ok done) old other rows new firsts share base first p address bytes is below small reached written unchanged are =
     let placed = is.are.placed p [] below in
     let counted : address % 4 + length bytes ≤ 4 * (length bytes / 4 + 2) = omega arith in
     subst (λ (m : Memories). AreKept m new firsts share base first) (sym written)
     (mapped_kept old (with_bytes (map_at p old) address bytes) rows new firsts share base first p (p * share + reached.begin) (p * share + reached.end) is (subst (λ (m : Memories). AreMemories m) written are) reached.done below
-    (written_kept rows new (p * share) share (word_behind (first_of (areas_at p old)) address) (length bytes / 4 + 2) (map_at p old) (first_of (areas_at p old)) address bytes reached
-    (λ k. reached_or_apart (first_of (areas_at p old)) address (length bytes / 4 + 2) (length bytes) k (first_whole (areas_at p old) placed) (first_low (areas_at p old) placed) small counted) (is.each p below)))
+    (written_kept rows new (p * share) share (word_behind (first_address (areas_at p old)) address) (length bytes / 4 + 2) (map_at p old) (first_address (areas_at p old)) address bytes reached
+    (λ k. reached_or_apart (first_address (areas_at p old)) address (length bytes / 4 + 2) (length bytes) k (first_whole (areas_at p old) placed) (first_low (areas_at p old) placed) small counted) (is.each p below)))
 copied_kept (Err fault) old other rows new firsts share base first p address bytes is below small reached written unchanged are =
     subst (λ (m : Memories). AreKept m new firsts share base first) (sym unchanged)
     (some_kept old rows new firsts share base first (p * share + reached.begin) (p * share + reached.end) is reached.done)
@@ -198,4 +198,4 @@ pub reloaded_kept : (old other : Memories) (map : Memory) (rows new : List Row) 
 reloaded_kept old other map rows new firsts share base first p is below reached written are =
     subst (λ (m : Memories). AreKept m new firsts share base first) (sym written)
     (mapped_kept old map rows new firsts share base first p (p * share + reached.begin) (p * share + reached.end) is (subst (λ (m : Memories). AreMemories m) written are) reached.done below
-    (all_kept rows new (p * share) share (map_at p old) map (first_of (areas_at p old)) reached (is.each p below)))
+    (all_kept rows new (p * share) share (map_at p old) map (first_address (areas_at p old)) reached (is.each p below)))

@@ -16,7 +16,7 @@ use Rattle.guest_bus.specs.declared.bus.BusFault.{BusFault}
 use Rattle.guest_bus.specs.declared.words.Words.{Words}
 use Rattle.guest_memory.specs.Memories.{AreMemories, ArePlaced, IsPlaced, Memories, areas_at, map_at, others_of}
 use Rattle.guest_memory.specs.Words.{LieIn}
-use Rattle.kept_rows.specs.Shares.{AreKept, AreNumbered, LieNumbered, base_of, first_of, share_for, share_of}
+use Rattle.kept_rows.specs.Shares.{AreKept, AreNumbered, LieNumbered, base_of, first_address, share_for, share_of}
 use Rattle.word_rows.specs.Kept.{IsKeptRow, IsRowAt, IsRowFor, word_there}
 use Rattle.word_rows.specs.KeptLemmas.{made_kept}
 use Rattle.word_rows.specs.declared.rows.Row.{Row}
@@ -87,7 +87,7 @@ numbered_lie m rows firsts share base first whole words is lie are =
     placed : base ≡ base_of (others_of m)
     placed = is.place ∙ ap (λ (n : ℕ). m.selected * n) shared
 
-    address : (number : ℕ) → words.begin ≤ number → number < words.end → word_address words.origin number ≡ first_of (areas_at m.selected m) + 4 * (number - base_of (others_of m))
+    address : (number : ℕ) → words.begin ≤ number → number < words.end → word_address words.origin number ≡ first_address (areas_at m.selected m) + 4 * (number - base_of (others_of m))
     address number from under = are.address number from under ∙ (λ i. is.start i + 4 * (number - placed i))
 
     free : (number : ℕ) → words.begin ≤ number → number < words.end → access_fault (is_readable (areas_at m.selected m)) (word_address words.origin number) 4 ≡ None
@@ -156,15 +156,15 @@ made_there m rows firsts share base first place word row is below within found m
   each = λ q inside k now few there. ⊎_elim (same q k now few there) (other q inside k now few there) (cases_eq (q * share + k) (base + place));
 }
   where
-    same : (q k : ℕ) (now : Row) → k < share → slice_get (set rows (base + place) row) (q * share + k) ≡ Some now → q * share + k ≡ base + place → IsKeptRow now (map_at q m) (first_of (areas_at q m) + 4 * k)
+    same : (q k : ℕ) (now : Row) → k < share → slice_get (set rows (base + place) row) (q * share + k) ≡ Some now → q * share + k ≡ base + place → IsKeptRow now (map_at q m) (first_address (areas_at q m) + 4 * k)
     same q k now few there e =
         let places = same_from_place q k m.selected place share few below (e ∙ ap (λ (b : ℕ). b + place) is.place) in
         let is_made : row ≡ now = same_Some row now (sym (get_set_same rows (base + place) row within) ∙ ap (slice_get (set rows (base + place) row)) (sym e) ∙ there) in
         let kept : IsKeptRow row (map_at m.selected m) (first + 4 * place) = made_kept row (map_at m.selected m) (first + 4 * place) word (fetched_there (areas_at m.selected m) (map_at m.selected m) (first + 4 * place) word found) made in
-        let moved : IsKeptRow row (map_at m.selected m) (first_of (areas_at m.selected m) + 4 * place) = subst (λ (f : ℕ). IsKeptRow row (map_at m.selected m) (f + 4 * place)) is.start kept in
-        let there_too : IsKeptRow row (map_at q m) (first_of (areas_at q m) + 4 * place) = subst (λ (n : ℕ). IsKeptRow row (map_at n m) (first_of (areas_at n m) + 4 * place)) (sym places.0) moved in
-        subst (λ (r : Row). IsKeptRow r (map_at q m) (first_of (areas_at q m) + 4 * k)) is_made
-        (subst (λ (n : ℕ). IsKeptRow row (map_at q m) (first_of (areas_at q m) + 4 * n)) (sym places.1) there_too)
+        let moved : IsKeptRow row (map_at m.selected m) (first_address (areas_at m.selected m) + 4 * place) = subst (λ (f : ℕ). IsKeptRow row (map_at m.selected m) (f + 4 * place)) is.start kept in
+        let there_too : IsKeptRow row (map_at q m) (first_address (areas_at q m) + 4 * place) = subst (λ (n : ℕ). IsKeptRow row (map_at n m) (first_address (areas_at n m) + 4 * place)) (sym places.0) moved in
+        subst (λ (r : Row). IsKeptRow r (map_at q m) (first_address (areas_at q m) + 4 * k)) is_made
+        (subst (λ (n : ℕ). IsKeptRow row (map_at q m) (first_address (areas_at q m) + 4 * n)) (sym places.1) there_too)
 
-    other : (q : ℕ) → q < length m.areas → (k : ℕ) (now : Row) → k < share → slice_get (set rows (base + place) row) (q * share + k) ≡ Some now → q * share + k ≢ base + place → IsKeptRow now (map_at q m) (first_of (areas_at q m) + 4 * k)
+    other : (q : ℕ) → q < length m.areas → (k : ℕ) (now : Row) → k < share → slice_get (set rows (base + place) row) (q * share + k) ≡ Some now → q * share + k ≢ base + place → IsKeptRow now (map_at q m) (first_address (areas_at q m) + 4 * k)
     other q inside k now few there ne = is.each q inside k now few (sym (get_set_other rows (base + place) (q * share + k) row ne) ∙ there)

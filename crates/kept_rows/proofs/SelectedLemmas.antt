@@ -9,7 +9,7 @@ use Rattle.guest_bus.specs.Words.{MayStand, bytes_of}
 use Rattle.guest_bus.specs.declared.bus.Size.{Size}
 use Rattle.guest_memory.specs.Memories.{AreMemories, Memories, areas_at, map_at, others_of, with_map}
 use Rattle.guest_memory.specs.SelectedLemmas.{changed_selected}
-use Rattle.kept_rows.specs.Shares.{AreEmptied, AreKept, AreReached, first_of, word_behind, words_of}
+use Rattle.kept_rows.specs.Shares.{AreEmptied, AreKept, AreReached, first_address, word_behind, words_written}
 use Rattle.word_rows.specs.Kept.{AreKeptRows}
 use Rattle.word_rows.specs.declared.rows.Row.{Row}
 use Rattle.kept_rows.proofs.KeptLemmas.{first_low, first_whole, mapped_kept, sixteen_kept, stored_kept}
@@ -46,12 +46,12 @@ bus_kept old new rows now firsts share base first begin end is are others areas 
     let changed = changed_selected old new is.are are others areas in
     subst (λ (m : Memories). AreKept m now firsts share base first) (sym changed)
     (mapped_kept old (map_at new.selected new) rows now firsts share base first old.selected begin end is (subst (λ (m : Memories). AreMemories m) changed are) emptied is.are.selected
-    (subst (λ (b : ℕ). AreKeptRows now b share (map_at new.selected new) (first_of (areas_at old.selected old))) is.place
+    (subst (λ (b : ℕ). AreKeptRows now b share (map_at new.selected new) (first_address (areas_at old.selected old))) is.place
     (subst (λ (f : ℕ). AreKeptRows now base share (map_at new.selected new) f) is.start mine)))
 
 -- by a store
 pub store_kept : (old new : Memories) (rows now : List Row) (firsts : List ℕ) (share base first address value : ℕ) (size : Size) → AreKept old rows firsts share base first → AreMemories new → others_of new ≡ others_of old → areas_at new.selected new ≡ areas_at old.selected old
-    → map_at new.selected new ≡ after_store (areas_at old.selected old) (map_at old.selected old) address size value → address < 2 ^ 32 → AreReached base share (word_behind first address) (words_of size) rows now → AreKept new now firsts share base first
+    → map_at new.selected new ≡ after_store (areas_at old.selected old) (map_at old.selected old) address size value → address < 2 ^ 32 → AreReached base share (word_behind first address) (words_written size) rows now → AreKept new now firsts share base first
 store_kept old new rows now firsts share base first address value size is are others areas map small reached =
     let placed = is.are.placed old.selected [] is.are.selected in
     let whole : first % 4 ≡ 0 = rw is.start (first_whole (areas_at old.selected old) placed) in

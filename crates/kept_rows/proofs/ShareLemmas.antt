@@ -6,7 +6,7 @@ use Rattle.std.specs.Int.{byte_len}
 use Rattle.guest_bus.specs.Access.{width_of}
 use Rattle.guest_bus.specs.declared.bus.Size.{Size}
 use Rattle.guest_bus.specs.declared.bus.Size.TheVariants.{One, Two, Four, Eight}
-use Rattle.kept_rows.specs.Shares.{IsReached, share_for, word_behind, words_of}
+use Rattle.kept_rows.specs.Shares.{IsReached, share_for, word_behind, words_written}
 
 -- all shares together are no more than all rows
 shares_fit : (count : ℕ) → count * share_for count ≤ 393216
@@ -33,7 +33,7 @@ reached_or_apart first address count size k whole below small fits = ⊎_elim un
     under over = inr (⊎_elim (λ to. inr (hit over to)) (λ behind. inl behind) (cases_lt (first + 4 * k) (address + size)))
 
 -- an access that is aligned writes so many words
-pub words_fit : (size : Size) (address : ℕ) → address % byte_len (width_of size) ≡ 0 → address % 4 + byte_len (width_of size) ≤ 4 * words_of size
+pub words_fit : (size : Size) (address : ℕ) → address % byte_len (width_of size) ≡ 0 → address % 4 + byte_len (width_of size) ≤ 4 * words_written size
 words_fit One address aligned = omega arith
 words_fit Two address aligned = omega (arith, aligned)
 words_fit Four address aligned = omega (arith, aligned)

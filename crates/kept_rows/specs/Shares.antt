@@ -8,13 +8,13 @@ use Rattle.guest_bus.specs.declared.bus.Size.TheVariants.{One, Two, Four, Eight}
 use Rattle.guest_bus.specs.declared.words.Words.{Words}
 use Rattle.guest_memory.specs.Memories.{AreMemories, Memories, areas_at, map_at}
 use Rattle.word_rows.specs.Kept.{AreKeptRows}
-use Rattle.word_rows.specs.Kinds.{empty}
+use Rattle.word_rows.specs.Kinds.{unmade}
 use Rattle.word_rows.specs.declared.rows.Row.{Row}
 
 -- the first address of areas
-abbrev pub first_of : List Area → ℕ
-first_of [] = 0
-first_of (area ∷ areas) = area.start
+abbrev pub first_address : List Area → ℕ
+first_address [] = 0
+first_address (area ∷ areas) = area.start
 
 -- how many words of each of so many partitions have rows
 unfoldable pub share_for : ℕ → ℕ
@@ -33,7 +33,7 @@ word_behind first address = (address + (2 ^ 32 - first)) % 2 ^ 32 / 4
 
 -- the row, emptied
 abbrev pub emptied : Row → Row
-emptied row = record { number = row.number; kind = empty; rd = row.rd; rs1 = row.rs1; rs2 = row.rs2 }
+emptied row = record { number = row.number; kind = unmade; rd = row.rd; rs1 = row.rs1; rs2 = row.rs2 }
 
 -- a row of zeros, which stands where there is none
 abbrev pub row_of_zeros : Row
@@ -41,7 +41,7 @@ row_of_zeros = record { number = 0; kind = 0; rd = 0; rs1 = 0; rs2 = 0 }
 
 -- a row of a word that was not looked at
 abbrev pub empty_row : Row
-empty_row = record { number = 0; kind = empty; rd = 0; rs1 = 0; rs2 = 0 }
+empty_row = record { number = 0; kind = unmade; rd = 0; rs1 = 0; rs2 = 0 }
 
 -- all rows are such
 abbrev pub AreEmpty : List Row → Type 0
@@ -67,11 +67,11 @@ abbrev pub IsReached : ℕ → ℕ → ℕ → Type 0
 IsReached place count k = ((place ≤ k) × (k < place + count)) ⊎ (k + 2 ^ 30 < place + count)
 
 -- so many words an access of a size writes
-abbrev pub words_of : Size → ℕ
-words_of One = 1
-words_of Two = 1
-words_of Four = 1
-words_of Eight = 2
+abbrev pub words_written : Size → ℕ
+words_written One = 1
+words_written Two = 1
+words_written Four = 1
+words_written Eight = 2
 
 -- rows of which those are emptied that so many words from a place on have in a share
 pub record AreReached (base share place count : ℕ) (old new : List Row) : Type 0 where
@@ -92,7 +92,7 @@ pub record AreNumbered (whole : Words) (first base share : ℕ) (words : Words) 
 pub record LieNumbered (areas : List Area) (others : Others) (words : Words) : Type 0 where
   pub from : base_of others ≤ words.begin
   pub under : words.end ≤ base_of others + share_of others
-  pub address : (number : ℕ) → words.begin ≤ number → number < words.end → word_address words.origin number ≡ first_of areas + 4 * (number - base_of others)
+  pub address : (number : ℕ) → words.begin ≤ number → number < words.end → word_address words.origin number ≡ first_address areas + 4 * (number - base_of others)
   pub fetched : (number : ℕ) → words.begin ≤ number → number < words.end → access_fault (is_readable areas) (word_address words.origin number) 4 ≡ None
 
 -- each row is empty or that of its word, and the share of the selected partition is at hand
@@ -100,7 +100,7 @@ pub record AreKept (memories : Memories) (rows : List Row) (firsts : List ℕ) (
   pub are : AreMemories memories
   pub shared : share ≡ share_for (length memories.areas)
   pub whole : length rows ≡ 393216
-  pub known : firsts ≡ map first_of memories.areas
+  pub known : firsts ≡ map first_address memories.areas
   pub place : base ≡ memories.selected * share
-  pub start : first ≡ first_of (areas_at memories.selected memories)
-  pub each : (p : ℕ) → p < length memories.areas → AreKeptRows rows (p * share) share (map_at p memories) (first_of (areas_at p memories))
+  pub start : first ≡ first_address (areas_at memories.selected memories)
+  pub each : (p : ℕ) → p < length memories.areas → AreKeptRows rows (p * share) share (map_at p memories) (first_address (areas_at p memories))

@@ -1,7 +1,7 @@
 //! Rows that are emptied.
 
 ghost use Rattle.std.specs.Prelude.{◌≡◌, ◌+◌, ◌*◌, ◌^◌, ◌≤◌, ◌<◌, ℕ, length};
-ghost use Rattle.kept_rows.specs.Shares.{AreEmptied, AreReached, IsReached, with_empty, words_of};
+ghost use Rattle.kept_rows.specs.Shares.{AreEmptied, AreReached, IsReached, with_empty, words_written};
 
 use guest_bus::Size;
 use word_rows::{Row, kinds};
@@ -88,7 +88,7 @@ pub(crate) fn empty_stored(rows: &mut [Row], base: usize, share: usize, place: u
     requires share { base + share ≤ length rows.old }
     requires few { length rows.old ≡ 393216 }
     requires place { place < 2 ^ 30 }
-    ensures { AreReached base share place (words_of size) rows.old rows.new }
+    ensures { AreReached base share place (words_written size) rows.old rows.new }
 {
     match size {
         Size::One => empty_words(rows, base, share, place, 1),

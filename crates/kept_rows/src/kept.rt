@@ -5,10 +5,10 @@ ghost use Rattle.guest_bus.specs.Access.{fetched};
 ghost use Rattle.guest_bus.specs.Memory.{all_from, bytes_at, is_readable, is_writable, with_bytes};
 ghost use Rattle.guest_memory.specs.Loading.{LiesInAreas, area_of, areas_with_image, memory_areas, zeros_in};
 ghost use Rattle.guest_memory.specs.Memories.{AreMemories, SameElsewhere, answer_by, areas_at, first_refused, map_at, others_of, with_map, with_selected};
-ghost use Rattle.kept_rows.specs.Shares.{AreEmpty, LieNumbered, first_of};
+ghost use Rattle.kept_rows.specs.Shares.{AreEmpty, LieNumbered, first_address};
 
 use crate::emptied::{empty_stored, empty_words};
-use crate::share::{ROWS, behind, numbered_in, share_for};
+use crate::share::{ROWS, numbered_in, share_for, word_behind};
 use guest_bus::{Bus, BusFault, HasWords, Size, Words};
 use guest_memory::{Outside, Ram};
 use std::alloc::{AllocError, Global};
@@ -116,7 +116,7 @@ impl Kept {
         ensures unchanged { OnErr result (self.new ≡ self.old) }
         ensures others { SameElsewhere p self.old self.new }
     {
-        let place = behind(self.firsts[usize::from(p)], address);
+        let place = word_behind(self.firsts[usize::from(p)], address);
         let base = base_at(p, self.share);
         // The bytes begin and end within words.
         let count = from.len() / 4 + 2;
@@ -193,7 +193,7 @@ impl Bus for Kept {
 
     #[inline(always)]
     fn store(&mut self, address: u32, size: Size, value: u64) -> Result<(), BusFault> {
-        let place = behind(self.first, address);
+        let place = word_behind(self.first, address);
         empty_stored(&mut self.rows, self.base, self.share, place, size);
         let stored = self.ram.store(address, size, value);
         let _now = self.ram.selected();
@@ -218,7 +218,7 @@ impl HasWords for Kept {
 
     #[inline(always)]
     fn put_words(&mut self, address: u32, words: &[u32; 16]) -> bool {
-        let place = behind(self.first, address);
+        let place = word_behind(self.first, address);
         empty_words(&mut self.rows, self.base, self.share, place, 16);
         let done = self.ram.put_words(address, words);
         let _now = self.ram.selected();
@@ -292,7 +292,7 @@ fn parts_of(conf: &Conf) -> &[Part]
 
 // The first addresses of partitions.
 fn firsts_of(alloc: Global, parts: &[Part]) -> Result<Vec<u32>, AllocError>
-    ensures { IfOk result (λ firsts. firsts.items ≡ map first_of (map memory_areas parts.now)) }
+    ensures { IfOk result (λ firsts. firsts.items ≡ map first_address (map memory_areas parts.now)) }
 {
     let mut firsts = Vec::with_capacity(alloc, parts.len())?;
     for part in parts {
@@ -304,14 +304,14 @@ fn firsts_of(alloc: Global, parts: &[Part]) -> Result<Vec<u32>, AllocError>
 // The first address of a partition.
 #[tactic(auto, unfolding(guest_memory::specs::Loading::memory_areas))]
 fn first_in(part: &Part) -> u32
-    ensures { result ≡ first_of (memory_areas part.now) }
+    ensures { result ≡ first_address (memory_areas part.now) }
 {
-    first_of(&part.areas)
+    first_address(&part.areas)
 }
 
 // The first address of areas.
-fn first_of(areas: &[Area]) -> u32
-    ensures { result ≡ first_of (map area_of areas.now) }
+fn first_address(areas: &[Area]) -> u32
+    ensures { result ≡ first_address (map area_of areas.now) }
 {
     match areas.first() {
         Some(area) => area.start,

@@ -21,7 +21,7 @@ pub(crate) fn share_for(count: usize) -> usize
 /// How many words behind the first one another stands, by its address.
 #[inline(always)]
 #[tactic(auto, unfolding(crate::specs::Shares::word_behind))]
-pub(crate) fn behind(first: u32, address: u32) -> usize
+pub(crate) fn word_behind(first: u32, address: u32) -> usize
     ensures value { result ≡ word_behind first address }
     ensures few { result < 2 ^ 30 }
 {

@@ -16,19 +16,19 @@ use Rattle.straight_runs.proofs.TurningLemmas.{address_at, taken_turns}
 use Rattle.straight_runs.specs.declared.simple.Step.{Step}
 use Rattle.straight_runs.specs.declared.simple.Step.TheVariants.{Next, Taken, Shifts, Stays}
 use Rattle.word_rows.specs.Kept.{IsRowAt, word_there}
-use Rattle.word_rows.specs.Kinds.{empty}
+use Rattle.word_rows.specs.Kinds.{unmade}
 use Rattle.word_rows.specs.Rows.{HasSource, as_done}
 use Rattle.word_rows.specs.declared.rows.Row.{Row}
 
 -- a row that is not empty, whatever came of it
-pub used_any : (step : Step) (row : Row) → row.kind ≢ empty → Uses step row
+pub used_any : (step : Step) (row : Row) → row.kind ≢ unmade → Uses step row
 used_any Next row some = some
 used_any (Taken displacement) row some = tt
 used_any Shifts row some = tt
 used_any Stays row some = tt
 
 -- a kind below that of an empty one
-pub some_below : (kind most : ℕ) → kind < most → most ≤ empty → kind ≢ empty
+pub some_below : (kind most : ℕ) → kind < most → most ≤ unmade → kind ≢ unmade
 some_below kind most below few = λ is. omega (arith, below, few, is)
 
 -- what came of its word
@@ -39,7 +39,7 @@ word_step Next row origin at areas old new memory after is used goes =
     (is.stands, goes_itself (decoded word) areas old new memory after (goes (as_done (decoded word)) (is.kept.spelled used)))
 word_step (Taken displacement) row origin at areas old new memory after is used came =
     let word = word_there memory (word_address origin at) in
-    let some : row.kind ≢ empty = λ e. omega (arith, came.0, e) in (
+    let some : row.kind ≢ unmade = λ e. omega (arith, came.0, e) in (
       is.stands,
       sym (same_executed (decoded word) areas (at_place origin at old) memory)
           ∙ taken_turns row origin at (at + row.number) old came.0 came.1 (address_at origin at row.number) (as_done (decoded word)) areas memory (is.kept.spelled some)

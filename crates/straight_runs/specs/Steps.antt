@@ -4,7 +4,7 @@ use Rattle.guest_bus.specs.Access.{fetched}
 use Rattle.guest_bus.specs.Words.{word_address}
 use Rattle.sparc_code.specs.Decoded.{decoded}
 use Rattle.word_rows.specs.Kept.{word_there}
-use Rattle.word_rows.specs.Kinds.{empty, transfer_of}
+use Rattle.word_rows.specs.Kinds.{unmade, transfer_of}
 use Rattle.straight_runs.specs.Effects.{IsTransferred}
 use Rattle.straight_runs.specs.Places.{at_place, at_slot}
 use Rattle.guest_bus.specs.Memory.{Area, Memory}
@@ -32,7 +32,7 @@ IsRowStep Stays row areas old new memory after = (new ≡ old) × (after ≡ mem
 
 -- a row that is done is not empty
 abbrev pub Uses : Step → Row → Type 0
-Uses Next row = row.kind ≢ empty
+Uses Next row = row.kind ≢ unmade
 Uses (Taken displacement) row = Unit {0}
 Uses Shifts row = Unit {0}
 Uses Stays row = Unit {0}

@@ -1,6 +1,6 @@
 -- Where instructions go that do not go on to the next word.
 use Rattle.std.specs.Prelude.{◌≡◌, ◌≢◌, ℕ, ◌+◌, List}
-use Rattle.word_rows.specs.Kinds.{empty}
+use Rattle.word_rows.specs.Kinds.{unmade}
 use Rattle.guest_bus.specs.Memory.{Area, Memory}
 use Rattle.straight_runs.specs.Places.{at_place, at_slot}
 use Rattle.sparc_code.specs.declared.instruction.Instr.{Instr}
@@ -28,7 +28,7 @@ Turns Stays row origin at old new = new ≡ old
 
 -- a row by which an instruction goes is not empty
 abbrev pub TurnsBy : Goal → Row → Type 0
-TurnsBy (Behind displacement) row = row.kind ≢ empty
-TurnsBy (Now displacement) row = row.kind ≢ empty
-TurnsBy Calls row = row.kind ≢ empty
+TurnsBy (Behind displacement) row = row.kind ≢ unmade
+TurnsBy (Now displacement) row = row.kind ≢ unmade
+TurnsBy Calls row = row.kind ≢ unmade
 TurnsBy Stays row = Unit {0}

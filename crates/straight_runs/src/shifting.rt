@@ -6,7 +6,7 @@ ghost use Rattle.sparc_code.specs.declared.instruction.Src.{Src};
 ghost use Rattle.sparc_step.specs.Operands.{sum_of as sum_of_operands};
 ghost use Rattle.sparc_step.specs.Registers.{in_window, register_at, window_filled, with_register};
 ghost use Rattle.word_rows.specs.Rows.{AreRegisterNumbers, HasSource};
-ghost use Rattle.word_rows.specs.Kinds.{empty};
+ghost use Rattle.word_rows.specs.Kinds.{unmade};
 ghost use Rattle.straight_runs.specs.Shifts.{IsShift, IsSpilled};
 
 use crate::working::sum_of;
@@ -24,7 +24,7 @@ pub(crate) fn shift<B: HasWords>(own: &mut Processor, bus: &mut B, row: Row, her
     requires registers { AreRegisterNumbers row }
     requires aligned { here % 4 ≡ 0 }
     ensures done { OnTrue result (IsShift row here (B.areas bus.old) own.old own.new (B.memory bus.old) (B.memory bus.new)) }
-    ensures used { OnTrue result (row.kind ≢ empty) }
+    ensures used { OnTrue result (row.kind ≢ unmade) }
     ensures registers { result ≡ false → own.new ≡ own.old }
     ensures bytes { result ≡ false → B.memory bus.new ≡ B.memory bus.old }
     ensures areas { B.areas bus.new ≡ B.areas bus.old }

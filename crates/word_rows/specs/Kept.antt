@@ -4,7 +4,7 @@ use Rattle.std.specs.Int.{w32, from_be_bytes}
 use Rattle.guest_bus.specs.Access.{fetched}
 use Rattle.guest_bus.specs.Memory.{Area, Memory, bytes_at}
 use Rattle.sparc_code.specs.Decoded.{decoded}
-use Rattle.word_rows.specs.Kinds.{empty}
+use Rattle.word_rows.specs.Kinds.{unmade}
 use Rattle.word_rows.specs.Rows.{AreRegisterNumbers, IsRowOf, as_done}
 use Rattle.word_rows.specs.declared.rows.Row.{Row}
 
@@ -20,7 +20,7 @@ word_there memory address = from_be_bytes w32 (bytes_at memory address 4)
 -- the row is empty, or that of the word at an address. The registers of an empty one are registers, too
 pub record IsKeptRow (row : Row) (memory : Memory) (address : ℕ) : Type 0 where
   pub registers : AreRegisterNumbers row
-  pub spelled : row.kind ≢ empty → IsRowOf row (as_done (decoded (word_there memory address)))
+  pub spelled : row.kind ≢ unmade → IsRowOf row (as_done (decoded (word_there memory address)))
 
 -- the row is so kept, and the word may be fetched
 pub record IsRowAt (row : Row) (areas : List Area) (memory : Memory) (address : ℕ) : Type 0 where

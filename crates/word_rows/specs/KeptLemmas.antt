@@ -5,14 +5,14 @@ use Rattle.std.specs.Prelude.{slice_get}
 use Rattle.guest_bus.specs.Access.{fetched}
 use Rattle.guest_bus.specs.Memory.{Area, Memory, with_bytes}
 use Rattle.guest_bus.specs.MemoryLemmas.{bytes_at-with_bytes_apart}
-use Rattle.word_rows.specs.Kinds.{empty}
+use Rattle.word_rows.specs.Kinds.{unmade}
 use Rattle.sparc_code.specs.Decoded.{decoded}
 use Rattle.word_rows.specs.Rows.{AreRegisterNumbers, IsRowOf, as_done}
 use Rattle.word_rows.specs.Kept.{AreKeptRows, IsKeptRow, IsRowAt, IsRowFor, word_there}
 use Rattle.word_rows.specs.declared.rows.Row.{Row}
 
 -- an empty row is kept of any word of any memory
-pub empty_kept : (row : Row) (memory : Memory) (address : ℕ) → row.kind ≡ empty → AreRegisterNumbers row → IsKeptRow row memory address
+pub empty_kept : (row : Row) (memory : Memory) (address : ℕ) → row.kind ≡ unmade → AreRegisterNumbers row → IsKeptRow row memory address
 empty_kept row memory address is numbers = record { registers = numbers; spelled = λ some. absurd (some is) }
 
 -- a word apart from the bytes that are written is the same
@@ -37,5 +37,5 @@ made_kept row memory address word is made = record {
 }
 
 -- a row that is not empty is that of the word
-pub row_used : (row : Row) (areas : List Area) (memory : Memory) (address : ℕ) → row.kind ≢ empty → IsRowAt row areas memory address → IsRowFor (word_there memory address) row
+pub row_used : (row : Row) (areas : List Area) (memory : Memory) (address : ℕ) → row.kind ≢ unmade → IsRowAt row areas memory address → IsRowFor (word_there memory address) row
 row_used row areas memory address some is = record { spelled = is.kept.spelled some; registers = is.kept.registers }

@@ -12,8 +12,8 @@ abbrev pub other : ℕ
 other = 38
 
 -- no row is made yet
-abbrev pub empty : ℕ
-empty = 39
+abbrev pub unmade : ℕ
+unmade = 39
 
 -- work on registers
 abbrev pub row_kind_of : Arith → ℕ

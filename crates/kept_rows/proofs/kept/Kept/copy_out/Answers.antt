@@ -25,7 +25,7 @@ invariant_of-self c =
     with_items_is c.self.inside.rows c.empty_words.new.rows (c.empty_words.ensures.done.counted ∙ c.deref_mut.ensures.len) in
     let here = rw c.from.ensures at c.index.ensures in
     let first = here ∙ first_at c.self.inside.ram c.self.inside.rows.items c.self.inside.firsts.items c.self.inside.share c.self.inside.base c.self.inside.first c.args.p c.index.result.now c.self.invariant below in
-    let reached = reached_moved c.base_at-base.result (c.args.p * c.self.inside.share) c.self.inside.share c.behind-place.result _ _ c.deref_mut.result.now c.self.inside.rows.items c.empty_words.new.rows c.base_at-base.ensures (c.behind-place.ensures.value ∙ (λ i. word_behind (first i) c.args.address)) c.deref_mut.ensures.value c.empty_words.ensures in
+    let reached = reached_moved c.base_at-base.result (c.args.p * c.self.inside.share) c.self.inside.share c.word_behind-place.result _ _ c.deref_mut.result.now c.self.inside.rows.items c.empty_words.new.rows c.base_at-base.ensures (c.word_behind-place.ensures.value ∙ (λ i. word_behind (first i) c.args.address)) c.deref_mut.ensures.value c.empty_words.ensures in
     subst (λ (rows : List Row). AreKept c.copy_out-copied.new.self rows c.self.inside.firsts.items c.self.inside.share c.self.inside.base c.self.inside.first) (sym all)
     (copied_kept c.copy_out-copied.result c.self.inside.ram c.copy_out-copied.new.self c.self.inside.rows.items c.empty_words.new.rows c.self.inside.firsts.items c.self.inside.share c.self.inside.base c.self.inside.first c.args.p c.args.address c.args.from.now
     c.self.invariant below (omega (arith, c.ranges.address.fits)) reached c.copy_out-copied.ensures.written c.copy_out-copied.ensures.unchanged c.selected-now.ensures.memories)

@@ -1,7 +1,7 @@
 use Rattle.std.proofs.Common.{◌≡◌, List, length, ap, refl, ◌∙◌, arith, subst, sym}
 use Rattle.std.proofs.lemmas.List.{with_items_is}
 use Rattle.std.specs.Vec.{with_items}
-use Rattle.kept_rows.specs.Shares.{AreKept, word_behind, words_of}
+use Rattle.kept_rows.specs.Shares.{AreKept, word_behind, words_written}
 use Rattle.kept_rows.proofs.KeptLemmas.{reached_moved}
 use Rattle.kept_rows.proofs.SelectedLemmas.{selected_fits, store_kept}
 use Rattle.word_rows.specs.declared.rows.Row.{Row}
@@ -16,7 +16,7 @@ pub invariant_of-self : goal.invariant_of-self
 invariant_of-self c =
     let all : (with_items c.self.inside.rows c.empty_stored.new.rows).items ≡ c.empty_stored.new.rows =
     with_items_is c.self.inside.rows c.empty_stored.new.rows (c.empty_stored.ensures.done.counted ∙ c.deref_mut.ensures.len) in
-    let reached = reached_moved c.self.inside.base c.self.inside.base c.self.inside.share c.behind-place.result (word_behind c.self.inside.first c.args.address) (words_of c.args.size) c.deref_mut.result.now c.self.inside.rows.items c.empty_stored.new.rows refl c.behind-place.ensures.value c.deref_mut.ensures.value c.empty_stored.ensures in
+    let reached = reached_moved c.self.inside.base c.self.inside.base c.self.inside.share c.word_behind-place.result (word_behind c.self.inside.first c.args.address) (words_written c.args.size) c.deref_mut.result.now c.self.inside.rows.items c.empty_stored.new.rows refl c.word_behind-place.ensures.value c.deref_mut.ensures.value c.empty_stored.ensures in
     subst (λ (rows : List Row). AreKept c.store-stored.new.self rows c.self.inside.firsts.items c.self.inside.share c.self.inside.base c.self.inside.first) (sym all)
     (store_kept c.self.inside.ram c.store-stored.new.self c.self.inside.rows.items c.empty_stored.new.rows c.self.inside.firsts.items c.self.inside.share c.self.inside.base c.self.inside.first c.args.address c.args.value c.args.size
     c.self.invariant c.selected-now.ensures.memories c.store-stored.ensures.others c.store-stored.ensures.areas c.store-stored.ensures.memory (omega (arith, c.ranges.address.fits)) reached)
