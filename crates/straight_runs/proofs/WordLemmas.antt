@@ -1,11 +1,10 @@
 -- What came of a word, by what its row did.
-use Rattle.std.proofs.Common.{◌≡◌, ◌≢◌, ℕ, ◌+◌, ◌≤◌, ◌<◌, List, Ok, refl, sym, ap, ◌∙◌, subst, arith}
-use Rattle.guest_bus.specs.Access.{fetched}
+use Rattle.std.proofs.Common.{◌≡◌, ◌≢◌, ℕ, ◌+◌, ◌≤◌, ◌<◌, List, sym, ap, ◌∙◌, subst, arith}
 use Rattle.guest_bus.specs.Memory.{Area, Memory}
 use Rattle.guest_bus.specs.Words.{word_address}
 use Rattle.sparc_code.specs.Decoded.{decoded}
 use Rattle.sparc_code.specs.declared.instruction.Src.{Src}
-use Rattle.sparc_step.specs.Execution.{done, executed}
+use Rattle.sparc_step.specs.Execution.{done}
 use Rattle.sparc_step.specs.Operands.{sum_of}
 use Rattle.sparc_step.specs.Registers.{Registers}
 use Rattle.straight_runs.proofs.DroppedLemmas.{goes_itself, same_executed}
