@@ -1,7 +1,6 @@
 //! The fields of a configuration, read one after another.
 
-ghost use Rattle.std.specs.Prelude.{◌≡◌, IfOk, Result, codes, length, slice_get};
-ghost use Rattle.xm_conf.specs.Health.{actions};
+ghost use Rattle.std.specs.Prelude.{◌≡◌, IfOk, Result, codes, length};
 ghost use Rattle.xm_conf.specs.Description.{described};
 ghost use Rattle.xm_conf.specs.Rules.{first_broken};
 ghost use Rattle.sealed_files.specs.Gives.{Gives, GivesAt};
@@ -22,8 +21,8 @@ use file_texts::XmcFault;
 use std::alloc::Global;
 use xm_base::Cursor;
 use xm_conf::{
-    ACTIONS, Action, Area, Chan, ChanKind, Conf, End, HmTable, Kind, Link, Name, Need, Part, Plan,
-    Port, RawConf, Region, Slot, Way, broken_unless_fits,
+    Action, Area, Chan, ChanKind, Conf, End, HmTable, Kind, Link, Name, Need, Part, Plan, Port,
+    RawConf, Region, Slot, Way, broken_unless_fits,
 };
 
 /// A number of one byte.
@@ -312,14 +311,6 @@ fn chan(alloc: Global, cursor: &mut Cursor<'_>) -> Result<Chan, XmcFault>
     })
 }
 
-
-/// The action of a number.
-fn action_of(number: u8) -> Option<Action>
-    ensures { result ≡ slice_get actions number }
-{
-    ACTIONS.get(usize::from(number)).copied()
-}
-
 /// An action.
 #[tactic(auto, unfolding(crate::specs::Reading::action_at))]
 fn action(cursor: &mut Cursor<'_>) -> Result<Action, XmcFault>
@@ -327,7 +318,7 @@ fn action(cursor: &mut Cursor<'_>) -> Result<Action, XmcFault>
 {
     let at = cursor.at();
     let byte = byte(cursor)?;
-    match action_of(byte) {
+    match Action::numbered(byte) {
         Some(value) => Ok(value),
         None => Err(XmcFault::Field { at }),
     }

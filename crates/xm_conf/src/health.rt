@@ -1,8 +1,8 @@
 //! Health events and the actions that answer them, by their numbers and names.
 
-ghost use Rattle.std.specs.Prelude.{◌≡◌, ◌<◌};
+ghost use Rattle.std.specs.Prelude.{◌≡◌, ◌<◌, slice_get};
 ghost use Rattle.std.specs.Str.{bytes_eq};
-ghost use Rattle.xm_conf.specs.Health.{IsActionNamed, IsEventNamed, action_named, action_row, default_action, event_named, event_row, is_allowed};
+ghost use Rattle.xm_conf.specs.Health.{IsActionNamed, IsEventNamed, action_named, action_row, actions, default_action, event_named, event_row, is_allowed};
 ghost use Rattle.xm_conf.specs.Rules as rules;
 
 /// What can go wrong in a partition.
@@ -150,7 +150,7 @@ pub enum Action {
 }
 
 /// All actions, in the order of their numbers.
-pub const ACTIONS: [Action; 11] = [
+const ACTIONS: [Action; 11] = [
     Action::Ignore,
     Action::Shutdown,
     Action::PartitionColdReset,
@@ -170,6 +170,13 @@ impl Action {
         ensures { result ≡ (action_row self).number }
     {
         self as u8
+    }
+
+    /// The action of this number, or `None` where there is none.
+    pub fn numbered(number: u8) -> Option<Action>
+        ensures { result ≡ slice_get actions number }
+    {
+        ACTIONS.get(usize::from(number)).copied()
     }
 
     /// The action's name as a configuration and the report have it.

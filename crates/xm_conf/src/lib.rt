@@ -19,7 +19,7 @@ mod rules;
 pub use channel::{Chan, ChanKind, End};
 pub use conf::{Conf, Seen};
 pub use first::{first_along, first_of_each};
-pub use health::{ACTIONS, Action, EVENTS, Event, allowed, has_plan};
+pub use health::{Action, EVENTS, Event, allowed, has_plan};
 pub use item::{Broken, Item};
 pub use law::broken_unless_fits;
 pub use limits::{DESTS, LINK_NUMBERS, LINKS, PARTS, PARTS_1};
