@@ -2,7 +2,6 @@
 
 ghost use Rattle.std.specs.Prelude.{◌≡◌, ◌==◌, ◌<◌, ◌≤◌, ℕ};
 ghost use Rattle.sparc_code.specs.Fields.{annul, cond, disp22, imm22, imm7, rd, rs1, shcnt, simm13};
-ghost use Rattle.sparc_code.specs.Opcodes.{immediate_of};
 ghost use Rattle.sparc_code.specs.Spells.{Spells};
 ghost use Rattle.sparc_code.specs.Ranges.{InRange};
 ghost use Rattle.sparc_code.specs.Decoded.{

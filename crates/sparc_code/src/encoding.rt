@@ -3,7 +3,7 @@
 ghost use Rattle.std.specs.Prelude.{◌≡◌, ◌<◌, ◌≤◌, ◌+◌, ◌^◌, ℕ, if◌then◌else◌};
 ghost use Rattle.sparc_code.specs.Encoded.{bits_of, encoded, format2_word, format3_word, operand_bits};
 ghost use Rattle.sparc_code.specs.Opcodes.{memory_opcode_of, opcode_of};
-ghost use Rattle.sparc_code.specs.Ranges.{InRange, IsOperand, IsSigned, IsUnsigned};
+ghost use Rattle.sparc_code.specs.Ranges.{InRange, IsOperand, IsSigned};
 ghost use Rattle.sparc_code.specs.Spells.{Spells};
 
 use crate::instruction::{Arith, Instr, MemOp, Src};
