@@ -8,8 +8,8 @@ mod time_calls;
 
 pub use log_calls::{hm_read, hm_status, raise_event, trace_event, trace_read, trace_status};
 pub use partition_calls::{
-    get_partition_status, get_self, get_system_status, halt_partition, halt_system, idle_self,
-    reset_partition, reset_system, resume_partition, shutdown_partition, suspend_partition,
+    get_partition_status, get_self, get_system_status, halt_system, idle_self, order_partition,
+    reset_partition, reset_system,
 };
 pub use processor_calls::{
     clear_irqmask, flush_regwin, iret, read_input, set_irqmask, set_psr, set_tbr, write_console,

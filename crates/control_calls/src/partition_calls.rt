@@ -3,7 +3,7 @@
 ghost use Rattle.std.specs.Prelude.{[], ◌∷◌, ◌≡◌};
 ghost use Rattle.sparc_step.specs.Registers.{register_at};
 ghost use Rattle.machine_model.specs.Caller.{a_of, invalid_mode, is_neither, mode_numbered, refused_if, target, tested};
-ghost use Rattle.machine_model.specs.PartitionCalls.{get_partition_status, get_self, get_system_status, halt_partition, halt_system, idle_self, ordering, reset_partition, reset_system, resume_partition, shutdown_partition, suspend_partition};
+ghost use Rattle.machine_model.specs.PartitionCalls.{get_partition_status, get_self, get_system_status, halt_system, idle_self, ordering, reset_partition, reset_system};
 ghost use Rattle.machine_model.specs.Told.{Unseen};
 ghost use Rattle.whole_system.specs.Serving.{IsCaller, IsServed, caller_of};
 
@@ -25,13 +25,24 @@ pub fn get_self(sys: &mut Sys, site: CallSite) -> Served
     answer(sys, site, u32::from(site.part))
 }
 
-/// Call 2, XM_halt_partition(a).
-#[tactic(auto, unfolding(machine_model::specs::PartitionCalls::halt_partition))]
-pub fn halt_partition(sys: &mut Sys, site: CallSite) -> Served
+/// Calls 2, 4, 5 and 6, by the order: XM_halt_partition(a), XM_suspend_partition(a), XM_resume_partition(a) and XM_shutdown_partition(a).
+pub fn order_partition(sys: &mut Sys, site: CallSite, order: Order) -> Served
     requires { IsCaller site sys.old }
-    ensures { IsServed site.part Unseen (halt_partition (caller_of site sys.old)) result sys.old sys.new }
+    ensures { IsServed site.part Unseen (tested (target (caller_of site sys.old) (a_of (caller_of site sys.old)) ∷ []) (caller_of site sys.old) (ordering order (caller_of site sys.old))) result sys.old sys.new }
 {
-    order_named(sys, site, Order::Halt)
+    let id = argument(sys, site, A);
+    match target(sys, site, id) {
+        Some(code) => answer(sys, site, code),
+        None => act(
+            sys,
+            site,
+            Act::Upon {
+                id: id as u8,
+                order,
+            },
+            0,
+        ),
+    }
 }
 
 /// Call 3, XM_reset_partition(a, b, c): cold or warm by b, with the status c.
@@ -62,33 +73,6 @@ pub fn reset_partition(sys: &mut Sys, site: CallSite) -> Served
         },
         0,
     )
-}
-
-/// Call 4, XM_suspend_partition(a).
-#[tactic(auto, unfolding(machine_model::specs::PartitionCalls::suspend_partition))]
-pub fn suspend_partition(sys: &mut Sys, site: CallSite) -> Served
-    requires { IsCaller site sys.old }
-    ensures { IsServed site.part Unseen (suspend_partition (caller_of site sys.old)) result sys.old sys.new }
-{
-    order_named(sys, site, Order::Suspend)
-}
-
-/// Call 5, XM_resume_partition(a).
-#[tactic(auto, unfolding(machine_model::specs::PartitionCalls::resume_partition))]
-pub fn resume_partition(sys: &mut Sys, site: CallSite) -> Served
-    requires { IsCaller site sys.old }
-    ensures { IsServed site.part Unseen (resume_partition (caller_of site sys.old)) result sys.old sys.new }
-{
-    order_named(sys, site, Order::Resume)
-}
-
-/// Call 6, XM_shutdown_partition(a).
-#[tactic(auto, unfolding(machine_model::specs::PartitionCalls::shutdown_partition))]
-pub fn shutdown_partition(sys: &mut Sys, site: CallSite) -> Served
-    requires { IsCaller site sys.old }
-    ensures { IsServed site.part Unseen (shutdown_partition (caller_of site sys.old)) result sys.old sys.new }
-{
-    order_named(sys, site, Order::Shutdown)
 }
 
 /// Call 7, XM_idle_self: the caller waits for its next slot or an interrupt.
@@ -166,26 +150,6 @@ pub fn get_system_status(sys: &mut Sys, site: CallSite) -> Served
     }
     let status = system_status(sys.resets(), sys.count());
     show(sys, site, address, status.bytes(), Act::Nothing, 0)
-}
-
-// An order on the partition that the call names.
-fn order_named(sys: &mut Sys, site: CallSite, order: Order) -> Served
-    requires { IsCaller site sys.old }
-    ensures { IsServed site.part Unseen (tested (target (caller_of site sys.old) (a_of (caller_of site sys.old)) ∷ []) (caller_of site sys.old) (ordering order (caller_of site sys.old))) result sys.old sys.new }
-{
-    let id = argument(sys, site, A);
-    match target(sys, site, id) {
-        Some(code) => answer(sys, site, code),
-        None => act(
-            sys,
-            site,
-            Act::Upon {
-                id: id as u8,
-                order,
-            },
-            0,
-        ),
-    }
 }
 
 // A number is that of no way of resetting.

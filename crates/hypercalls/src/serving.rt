@@ -8,22 +8,19 @@ ghost use Rattle.slot_runs.specs.Passes.{part_at};
 ghost use Rattle.sparc_step.specs.Registers.{register_at};
 ghost use Rattle.xm_ports.specs.Channels.{shapes_of};
 ghost use Rattle.whole_system.specs.Serving.{IsCaller, IsServed, caller_at, caller_of};
+ghost use Rattle.hypercalls.specs.Numbered.{IsNumbered};
 
 use control_calls::{
     clear_irqmask, flush_regwin, get_partition_status, get_plan_status, get_self,
-    get_system_status, get_time, halt_partition, halt_system, hm_read, hm_status, idle_self, iret,
-    raise_event, read_input, reset_partition, reset_system, resume_partition, set_irqmask, set_psr,
-    set_tbr, set_timer, shutdown_partition, suspend_partition, switch_sched_plan, trace_event,
-    trace_read, trace_status, write_console,
+    get_system_status, get_time, halt_system, hm_read, hm_status, idle_self, iret, order_partition,
+    raise_event, read_input, reset_partition, reset_system, set_irqmask, set_psr, set_tbr,
+    set_timer, switch_sched_plan, trace_event, trace_read, trace_status, write_console,
 };
-use port_calls::{
-    create_queuing_port, create_sampling_port, get_queuing_port_status, get_sampling_port_status,
-    raise_ipvi, read_sampling_message, receive_queuing_message, send_queuing_message,
-    write_sampling_message,
-};
+use port_calls::{PortWork, call_port, create_port, raise_ipvi};
 use whole_system::answering::{UNKNOWN_CALL, answer, argument};
 use whole_system::{CallSite, Served, Sys};
-use xm_base::PartId;
+use xm_base::{Order, PartId};
+use xm_conf::Kind;
 
 /// Serves the hypercall of partition `p`, whose trap instruction stood at `pc`, with `npc` after it: its number stands in %o0, its
 /// arguments in %o1 to %o5, and its result comes to %o0. It changes its caller, the channels of the caller's ports, and of other partitions
@@ -91,10 +88,7 @@ fn serve_at(sys: &mut Sys, part: PartId, pc: u32, npc: u32, number: u32) -> Serv
 // Serves the call of a number of a caller.
 #[inline(always)]
 fn serve_numbered(sys: &mut Sys, site: CallSite, number: u32) -> Served
-    requires caller { IsCaller site sys.old }
-    requires number { register_at (caller_of site sys.old).state.core 8 ≡ number }
-    requires from { 1 ≤ number }
-    requires to { number ≤ 38 }
+    requires call { IsNumbered site sys.old number 1 38 }
     requires pc { site.pc % 4 ≡ 0 }
     requires npc { site.npc % 4 ≡ 0 }
     requires traces { (part_at site.part sys.old.machine).traces.next < 4294967295 }
@@ -121,19 +115,16 @@ fn serve_numbered(sys: &mut Sys, site: CallSite, number: u32) -> Served
 
 // The calls on partitions and on the whole system.
 fn serve_partition_call(sys: &mut Sys, site: CallSite, number: u32) -> Served
-    requires caller { IsCaller site sys.old }
-    requires number { register_at (caller_of site sys.old).state.core 8 ≡ number }
-    requires from { 1 ≤ number }
-    requires to { number ≤ 11 }
+    requires { IsNumbered site sys.old number 1 11 }
     ensures { IsServed site.part (caller_of site sys.old).sight (call_numbered number (caller_of site sys.old)) result sys.old sys.new }
 {
     match number {
         1 => get_self(sys, site),
-        2 => halt_partition(sys, site),
+        2 => order_partition(sys, site, Order::Halt),
         3 => reset_partition(sys, site),
-        4 => suspend_partition(sys, site),
-        5 => resume_partition(sys, site),
-        6 => shutdown_partition(sys, site),
+        4 => order_partition(sys, site, Order::Suspend),
+        5 => order_partition(sys, site, Order::Resume),
+        6 => order_partition(sys, site, Order::Shutdown),
         7 => idle_self(sys, site),
         8 => get_partition_status(sys, site),
         9 => halt_system(sys, site),
@@ -144,10 +135,7 @@ fn serve_partition_call(sys: &mut Sys, site: CallSite, number: u32) -> Served
 
 // The calls on clocks, timers and plans.
 fn serve_time_call(sys: &mut Sys, site: CallSite, number: u32) -> Served
-    requires caller { IsCaller site sys.old }
-    requires number { register_at (caller_of site sys.old).state.core 8 ≡ number }
-    requires from { 12 ≤ number }
-    requires to { number ≤ 15 }
+    requires call { IsNumbered site sys.old number 12 15 }
     requires frame { IsInFrame sys.old.machine.system.conf sys.old.machine.clock sys.old.machine.time }
     ensures { IsServed site.part (caller_of site sys.old).sight (call_numbered number (caller_of site sys.old)) result sys.old sys.new }
 {
@@ -161,31 +149,25 @@ fn serve_time_call(sys: &mut Sys, site: CallSite, number: u32) -> Served
 
 // The calls on ports.
 fn serve_port_call(sys: &mut Sys, site: CallSite, number: u32) -> Served
-    requires caller { IsCaller site sys.old }
-    requires number { register_at (caller_of site sys.old).state.core 8 ≡ number }
-    requires from { 16 ≤ number }
-    requires to { number ≤ 23 }
+    requires call { IsNumbered site sys.old number 16 23 }
     requires shapes { sys.old.shapes ≡ shapes_of sys.old.machine.system.conf }
     ensures { IsServed site.part (caller_of site sys.old).sight (call_numbered number (caller_of site sys.old)) result sys.old sys.new }
 {
     match number {
-        16 => create_sampling_port(sys, site),
-        17 => write_sampling_message(sys, site),
-        18 => read_sampling_message(sys, site),
-        19 => get_sampling_port_status(sys, site),
-        20 => create_queuing_port(sys, site),
-        21 => send_queuing_message(sys, site),
-        22 => receive_queuing_message(sys, site),
-        _ => get_queuing_port_status(sys, site),
+        16 => create_port(sys, site, Kind::Sampling),
+        17 => call_port(sys, site, Kind::Sampling, PortWork::Send),
+        18 => call_port(sys, site, Kind::Sampling, PortWork::Receive),
+        19 => call_port(sys, site, Kind::Sampling, PortWork::Tell),
+        20 => create_port(sys, site, Kind::Queuing),
+        21 => call_port(sys, site, Kind::Queuing, PortWork::Send),
+        22 => call_port(sys, site, Kind::Queuing, PortWork::Receive),
+        _ => call_port(sys, site, Kind::Queuing, PortWork::Tell),
     }
 }
 
 // The calls on traces and on the health log.
 fn serve_log_call(sys: &mut Sys, site: CallSite, number: u32) -> Served
-    requires caller { IsCaller site sys.old }
-    requires number { register_at (caller_of site sys.old).state.core 8 ≡ number }
-    requires from { 24 ≤ number }
-    requires to { number ≤ 29 }
+    requires call { IsNumbered site sys.old number 24 29 }
     requires traces { (part_at site.part sys.old.machine).traces.next < 4294967295 }
     ensures { IsServed site.part (caller_of site sys.old).sight (call_numbered number (caller_of site sys.old)) result sys.old sys.new }
 {
@@ -201,10 +183,7 @@ fn serve_log_call(sys: &mut Sys, site: CallSite, number: u32) -> Served
 
 // The calls on interrupts, the console, input words and the virtual processor.
 fn serve_processor_call(sys: &mut Sys, site: CallSite, number: u32) -> Served
-    requires caller { IsCaller site sys.old }
-    requires number { register_at (caller_of site sys.old).state.core 8 ≡ number }
-    requires from { 30 ≤ number }
-    requires to { number ≤ 37 }
+    requires call { IsNumbered site sys.old number 30 37 }
     requires pc { site.pc % 4 ≡ 0 }
     requires npc { site.npc % 4 ≡ 0 }
     ensures { IsServed site.part (caller_of site sys.old).sight (call_numbered number (caller_of site sys.old)) result sys.old sys.new }

@@ -71,7 +71,7 @@ port_call_rows = record {
     makes kind.Sampling 1 8 0 _ _ memory (0x64 ∷ 0 ∷ []) refl refl refl,
     makes kind.Sampling 1 7 0 _ _ memory (0x64 ∷ 0 ∷ []) refl refl refl,
   );
-  write_sampling_message = λ memory. (refl, refl, refl, refl, refl, refl, (refl, refl, refl, refl));
+  write_sampling_message = λ memory. (refl, refl, (refl, refl, refl, refl, (refl, refl, refl, refl)));
   read_sampling_message = λ memory. (refl, refl, refl, refl, refl, refl, refl, refl, refl, refl, refl, refl, refl, (refl, refl, refl, refl));
   get_sampling_port_status = λ memory. (refl, refl, refl, refl, refl, (refl, refl, refl, refl));
   create_queuing_port = λ memory. (
@@ -84,7 +84,7 @@ port_call_rows = record {
     makes kind.Queuing 0 8 2 _ _ memory (0x72 ∷ 0 ∷ []) refl refl refl,
     makes kind.Queuing 1 8 2 _ _ memory (0x72 ∷ 0 ∷ []) refl refl refl,
   );
-  send_queuing_message = λ memory. (refl, refl, refl, refl, refl, refl, refl, (refl, refl, refl, refl));
+  send_queuing_message = λ memory. (refl, refl, refl, (refl, refl, refl, refl, (refl, refl, refl, refl)));
   receive_queuing_message = λ memory. (refl, refl, refl, refl, refl, refl, (refl, refl, refl, refl));
   get_queuing_port_status = λ memory. (refl, refl, refl, refl, (refl, refl, refl, refl));
 }

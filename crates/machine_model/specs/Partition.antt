@@ -35,29 +35,6 @@ pub record PartitionState : Type 0 where
   pub health : Kept HealthEntry
   pub inputs : List ℕ
 
--- the virtual interrupts
-abbrev pub hardware_timer : ℕ
-hardware_timer = 0
-
-abbrev pub execution_timer : ℕ
-execution_timer = 1
-
-abbrev pub shutdown : ℕ
-shutdown = 2
-
-abbrev pub sampling_port : ℕ
-sampling_port = 3
-
-abbrev pub queuing_port : ℕ
-queuing_port = 4
-
-abbrev pub slot_start : ℕ
-slot_start = 5
-
--- a signal over a link of a number
-abbrev pub link_signal : ℕ → ℕ
-link_signal number = 8 + number
-
 -- the areas of a partition's memory
 unfoldable pub areas_of : PartitionView → List Area
 areas_of view = part_areas view.part
@@ -148,6 +125,10 @@ applies (order.Reset mode status) state = true
 unfoldable pub disarmed : PartitionState → PartitionState
 disarmed ps = record ps { clocks = record ps.clocks { hardware_timer = None; execution_timer = None } }
 
+-- the interrupt of an order to shut down
+abbrev pub shutdown : ℕ
+shutdown = 2
+
 -- what an order does that applies
 abbrev pub carried_out : PartitionView → Order → PartitionState → PartitionState
 carried_out view order.Halt ps = record (disarmed ps) { state = Halted }
@@ -177,10 +158,25 @@ ordered view an_order ps = if applies an_order ps.state then carried_out view an
 unfoldable pub ordered_told : Order → PartitionState → List Told
 ordered_told an_order ps = if applies an_order ps.state then order_told an_order else []
 
+-- the interrupt of a signal over a link of this number
+abbrev pub link_signal : ℕ → ℕ
+link_signal number = 8 + number
+
+-- the interrupt of the start of a slot
+abbrev pub slot_start : ℕ
+slot_start = 5
+
 -- an interrupt becomes pending where it is due
 abbrev pub raised_if : Bool → ℕ → VirtualTraps → VirtualTraps
 raised_if true n traps = raised n traps
 raised_if false n traps = traps
+
+-- the interrupts of the timers
+abbrev pub hardware_timer : ℕ
+hardware_timer = 0
+
+abbrev pub execution_timer : ℕ
+execution_timer = 1
 
 -- a partition whose hardware timer was looked at
 unfoldable pub hardware_looked_at : ℕ → PartitionState → PartitionState

@@ -74,16 +74,21 @@ RefusesOthers number other memory =
     × AnswersWith (quiet_call (number ∷ 32 ∷ 0x1000 ∷ 1 ∷ 0x1000 ∷ []) memory) (minus 3)
     × AnswersWith (quiet_call (number ∷ other ∷ 0x1000 ∷ 1 ∷ 0x1000 ∷ []) memory) (minus 3)
 
+-- what a call that puts a message refuses: no byte, nine bytes, a byte that may not be read, a destination, and the ports above
+abbrev pub RefusesToPut : (List ℕ → Memory → Caller) → ℕ → ℕ → ℕ → ℕ → Memory → Type 0
+RefusesToPut call number source destination other memory =
+    AnswersWith (call (number ∷ source ∷ 0x1000 ∷ 0 ∷ []) memory) (minus 3)
+    × AnswersWith (call (number ∷ source ∷ 0x1000 ∷ 9 ∷ []) memory) (minus 3)
+    × AnswersWith (call (number ∷ source ∷ 0x1039 ∷ 8 ∷ []) memory) (minus 3)
+    × AnswersWith (quiet_call (number ∷ destination ∷ 0x1000 ∷ 0 ∷ []) memory) (minus 8)
+    × RefusesOthers number other memory
+
 -- call 17: from a source, 1 to 8 bytes that have to be readable
 abbrev pub WritesSample : Type 0
 WritesSample = (memory : Memory) →
     PutsMessage (quiet_call (17 ∷ 0 ∷ 0x1038 ∷ 8 ∷ []) memory) 0 0x1038 8
     × PutsMessage (quiet_call (17 ∷ 0 ∷ 0x203f ∷ 1 ∷ []) memory) 0 0x203f 1
-    × AnswersWith (quiet_call (17 ∷ 0 ∷ 0x1000 ∷ 0 ∷ []) memory) (minus 3)
-    × AnswersWith (quiet_call (17 ∷ 0 ∷ 0x1000 ∷ 9 ∷ []) memory) (minus 3)
-    × AnswersWith (quiet_call (17 ∷ 0 ∷ 0x1039 ∷ 8 ∷ []) memory) (minus 3)
-    × AnswersWith (quiet_call (17 ∷ 1 ∷ 0x1000 ∷ 0 ∷ []) memory) (minus 8)
-    × RefusesOthers 17 2 memory
+    × RefusesToPut quiet_call 17 0 1 2 memory
 
 -- three bytes that were written in a tick
 abbrev pub sample_from : ℕ → Option HeldSample
@@ -148,11 +153,7 @@ SendsMessage = (memory : Memory) →
     PutsMessage (port_call 0 (held_by_channels None one_message []) (21 ∷ 2 ∷ 0x1038 ∷ 8 ∷ []) memory) 2 0x1038 8
     × PutsMessage (quiet_call (21 ∷ 2 ∷ 0x203f ∷ 1 ∷ []) memory) 2 0x203f 1
     × AnswersWith (full_call (21 ∷ 2 ∷ 0x1038 ∷ 8 ∷ []) memory) (minus 7)
-    × AnswersWith (full_call (21 ∷ 2 ∷ 0x1000 ∷ 0 ∷ []) memory) (minus 3)
-    × AnswersWith (full_call (21 ∷ 2 ∷ 0x1000 ∷ 9 ∷ []) memory) (minus 3)
-    × AnswersWith (full_call (21 ∷ 2 ∷ 0x1039 ∷ 8 ∷ []) memory) (minus 3)
-    × AnswersWith (quiet_call (21 ∷ 3 ∷ 0x1000 ∷ 0 ∷ []) memory) (minus 8)
-    × RefusesOthers 21 0 memory
+    × RefusesToPut full_call 21 2 3 0 memory
 
 -- a call where two messages wait for r
 abbrev pub waited_call : List ℕ → Memory → Caller

@@ -101,6 +101,15 @@ source_only port = refused_if (not (is_source port.way)) not_allowed
 abbrev pub destination_only : MadePort → Test
 destination_only port = refused_if (is_source port.way) not_allowed
 
+-- a call that reads from a port of a kind: it has to be a destination
+abbrev pub reading_from : Kind → Caller → (MadePort → Served) → Served
+reading_from the_kind caller read = on_port (made_port the_kind caller) caller (λ port. tested (destination_only port ∷ []) caller (read port))
+
+-- a call that writes the status of a port of a kind at b, so many bytes
+abbrev pub telling_of : Kind → ℕ → Caller → (MadePort → List ℕ) → Served
+telling_of the_kind size caller status = on_port (made_port the_kind caller) caller (λ port.
+    tested (room caller (b_of caller) size ∷ []) caller (answering 0 (with_written (b_of caller) (status port) caller.state)))
+
 -- a message has at least one byte, and not more than the channel's messages
 abbrev pub size_fits : MadePort → ℕ → Test
 size_fits port size = refused_if (size == 0 || nat_lt port.shape.length size) invalid_parameter
@@ -127,14 +136,11 @@ held_read (Some sample) caller port = sample_read caller port sample
 
 -- call 18, XM_read_sampling_message(a, b, c, d): into c bytes at b, and the validity at d
 unfoldable pub read_sampling_message : Caller → Served
-read_sampling_message caller = on_port (made_port kind.Sampling caller) caller (λ port.
-    tested (destination_only port ∷ []) caller (held_read (sample_of port.content) caller port))
+read_sampling_message caller = reading_from kind.Sampling caller (λ port. held_read (sample_of port.content) caller port)
 
 -- call 19, XM_get_sampling_port_status(a, b)
 unfoldable pub get_sampling_port_status : Caller → Served
-get_sampling_port_status caller = on_port (made_port kind.Sampling caller) caller (λ port.
-    tested (room caller (b_of caller) 16 ∷ []) caller
-    (answering 0 (with_written (b_of caller) (sampling_status port.shape.kind caller.time port.content) caller.state)))
+get_sampling_port_status caller = telling_of kind.Sampling 16 caller (λ port. sampling_status port.shape.kind caller.time port.content)
 
 -- a queue holds as many messages as it may
 abbrev pub is_full : MadePort → Bool
@@ -158,11 +164,8 @@ first_read (Some message) caller port = message_read caller port message
 
 -- call 22, XM_receive_queuing_message(a, b, c): into c bytes at b
 unfoldable pub receive_queuing_message : Caller → Served
-receive_queuing_message caller = on_port (made_port kind.Queuing caller) caller (λ port.
-    tested (destination_only port ∷ []) caller (first_read (first_message port.content) caller port))
+receive_queuing_message caller = reading_from kind.Queuing caller (λ port. first_read (first_message port.content) caller port)
 
 -- call 23, XM_get_queuing_port_status(a, b)
 unfoldable pub get_queuing_port_status : Caller → Served
-get_queuing_port_status caller = on_port (made_port kind.Queuing caller) caller (λ port.
-    tested (room caller (b_of caller) 8 ∷ []) caller
-    (answering 0 (with_written (b_of caller) (queuing_status port.shape.kind port.content) caller.state)))
+get_queuing_port_status caller = telling_of kind.Queuing 8 caller (λ port. queuing_status port.shape.kind port.content)

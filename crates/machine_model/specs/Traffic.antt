@@ -11,7 +11,7 @@ use Rattle.xm_ports.specs.Channels.{Content, put, first_taken}
 use Rattle.virt_traps.specs.Virtual.{raised}
 use Rattle.xm_base.specs.Options.{on}
 use Rattle.machine_model.specs.Lists.{by_option, each, is_number, table}
-use Rattle.machine_model.specs.Partition.{PartitionState, is_halted, link_signal, queuing_port, sampling_port}
+use Rattle.machine_model.specs.Partition.{PartitionState, is_halted, link_signal}
 use Rattle.machine_model.specs.Told.{Act, OwnPuts, OwnSignals, OwnStill, OwnTakes, OwnTraffic, reach_of}
 use Rattle.machine_model.specs.View.{PartitionView, PortChannel, linked, name_of, named}
 
@@ -91,10 +91,10 @@ copies_of conf p ports contents = table (λ q. content_if contents (named conf p
 unfoldable pub copies_after : ℕ → OwnTraffic → List (Option Content) → List (Option Content)
 copies_after time traffic copies = each (λ q copy. on (after_own time traffic q) copy) copies
 
--- the interrupt that a message brings
+-- the interrupt that a message brings, by the kind of its channel
 abbrev pub interrupt_of : ChanKind → ℕ
-interrupt_of (kind.Sampling refresh) = sampling_port
-interrupt_of (kind.Queuing most) = queuing_port
+interrupt_of (kind.Sampling refresh) = 3
+interrupt_of (kind.Queuing most) = 4
 
 -- whether a port is a destination
 abbrev pub is_destination : Way → Bool

@@ -1,6 +1,7 @@
 pub mod HearingLemmas
 pub mod MadePortLemmas
 pub mod MessageLemmas
+pub mod OnPortLemmas
 pub mod PortMakingLemmas
 pub mod PortStatusLemmas
 pub mod ReadingLemmas

@@ -1,21 +1,25 @@
 -- What the calls on messages come to, by their tests.
-use Rattle.std.proofs.Common.{◌≡◌, ℕ, ◌≤◌, Bool, true, false, List, [], ◌∷◌, None, Some, refl, sym, ap, ◌∙◌, arith}
-use Rattle.std.specs.Prelude.{◌==◌, ◌||◌, not, nat_lt, slice_get}
+use Rattle.std.proofs.Common.{◌≡◌, ℕ, ◌≤◌, Bool, true, false, List, [], ◌∷◌, None, Some, refl, sym, ap, ◌∙◌, arith, subst}
+use Rattle.std.specs.Prelude.{◌==◌, ◌||◌, not, length, nat_le, nat_lt, Option, IsSomeAnd, slice_get}
 use Rattle.std.proofs.lemmas.Bool.Decides.{nat_tests}
 use Rattle.std.proofs.lemmas.Option.{get_or_from_slice_get, same_Some, slice_get_within}
 use Rattle.guest_bus.specs.Memory.{all_from, is_readable}
 use Rattle.machine_model.specs.Caller.{Caller, Served, Test, answering, b_of, caller_bytes, c_of, invalid_parameter, not_allowed, not_available, refused_if, tested, text, with_answer}
 use Rattle.machine_model.specs.Partition.{areas_of}
-use Rattle.machine_model.specs.PortCalls.{MadePort, is_full, is_source, made_port, on_port, putting, send_queuing_message, size_fits, source_only}
+use Rattle.machine_model.specs.PortCalls.{MadePort, is_full, is_source, made_port, on_port, putting, size_fits, source_only}
 use Rattle.machine_model.specs.Told.{Unseen}
 use Rattle.machine_model.specs.Traffic.{Puts, puts_at}
 use Rattle.machine_model.specs.View.{named, view_of}
 use Rattle.slot_runs.specs.Passes.{with_traffic}
 use Rattle.xm_conf.specs.declared.port.Kind.{Kind}
 use Rattle.xm_conf.specs.declared.port.Kind.TheVariants as kind
-use Rattle.xm_ports.specs.Channels.{ChannelTable, IsTable, Shape}
+use Rattle.xm_conf.specs.declared.channel.ChanKind.{ChanKind}
+use Rattle.xm_conf.specs.declared.channel.ChanKind.TheVariants as chan_kind
+use Rattle.xm_ports.specs.Channels.{ChannelTable, IsQueuing, IsSampling, IsTable, Shape, content_at, messages_of, most_of}
 use Rattle.port_calls.specs.MadePorts.{IsMade, port_in, table_in}
-use Rattle.port_calls.specs.Messages.{first_refusal, put_tests}
+use Rattle.port_calls.specs.Messages.{HasRoomFor, first_refusal, put_tests}
+use Rattle.port_calls.specs.OnPorts.{done_on, is_filled, tests_on}
+use Rattle.port_calls.specs.declared.on_ports.PortWork.TheVariants as work
 use Rattle.whole_system.specs.Serving.{IsServed, MayRead, caller_of}
 use Rattle.whole_system.specs.State.{SysState, with_machine, with_part}
 use Rattle.whole_system.specs.declared.call_site.CallSite.{CallSite}
@@ -128,45 +132,40 @@ four_passed None (Some x) c d is = absurd cc
 four_passed None None (Some x) d is = absurd cc
 four_passed None None None d is = refl
 
--- a message that is put, where it is refused
-pub put_refused : (the_kind : Kind) (caller : Caller) (port : MadePort) (code : ℕ) → Some port ≡ made_port the_kind caller → Some code ≡ first_refusal (put_tests caller port)
-    → on_port (made_port the_kind caller) caller (λ port. tested (put_tests caller port) caller (putting caller port)) ≡ answering code caller.state
-put_refused the_kind caller port code is refused = on_made the_kind caller port (λ port. tested (put_tests caller port) caller (putting caller port)) is ∙ tested_refused (put_tests caller port) caller (putting caller port) code refused
+-- a message that is put by a call on a port of a kind, where it is refused
+pub put_refused : (the_kind : Kind) (caller : Caller) (port : MadePort) (code : ℕ) → Some code ≡ first_refusal (put_tests caller port) → done_on the_kind work.Send caller port ≡ answering code caller.state
+put_refused kind.Sampling caller port code refused = tested_refused (put_tests caller port) caller (putting caller port) code refused
+put_refused kind.Queuing caller port code refused =
+    tested_refused (tests_on kind.Queuing caller port) caller (putting caller port) code (four_refused (source_only port) (size_fits port (c_of caller)) (text caller (b_of caller) (c_of caller)) (refused_if (is_full port) not_available) code refused)
 
--- and where it is not
-pub put_passed : (the_kind : Kind) (caller : Caller) (port : MadePort) → Some port ≡ made_port the_kind caller → None ≡ first_refusal (put_tests caller port)
-    → on_port (made_port the_kind caller) caller (λ port. tested (put_tests caller port) caller (putting caller port)) ≡ putting caller port
-put_passed the_kind caller port is passed = on_made the_kind caller port (λ port. tested (put_tests caller port) caller (putting caller port)) is ∙ tested_passed (put_tests caller port) caller (putting caller port) passed
-
--- all tests of call 21
-send_tests : Caller → MadePort → List Test
-send_tests caller port = source_only port ∷ size_fits port (c_of caller) ∷ text caller (b_of caller) (c_of caller) ∷ refused_if (is_full port) not_available ∷ []
-
--- call 21 on a port that is made
-sent_to : (caller : Caller) (port : MadePort) → Some port ≡ made_port kind.Queuing caller → send_queuing_message caller ≡ tested (send_tests caller port) caller (putting caller port)
-unfolding send_queuing_message send_tests
-sent_to caller port is = on_made kind.Queuing caller port (λ port. tested (send_tests caller port) caller (putting caller port)) is
-
--- call 21 by its tests
-pub send_refused : (caller : Caller) (port : MadePort) (code : ℕ) → Some port ≡ made_port kind.Queuing caller → Some code ≡ first_refusal (put_tests caller port) → send_queuing_message caller ≡ answering code caller.state
-unfolding send_tests
-send_refused caller port code is refused =
-    sent_to caller port is
-    ∙ tested_refused (send_tests caller port) caller (putting caller port) code (four_refused (source_only port) (size_fits port (c_of caller)) (text caller (b_of caller) (c_of caller)) (refused_if (is_full port) not_available) code refused)
-
-pub send_full : (caller : Caller) (port : MadePort) → Some port ≡ made_port kind.Queuing caller → None ≡ first_refusal (put_tests caller port) → is_full port ≡ true → send_queuing_message caller ≡ answering not_available caller.state
-unfolding send_tests
-send_full caller port is passed full =
-    sent_to caller port is
-    ∙ tested_refused (send_tests caller port) caller (putting caller port) not_available
+-- where there is no room for it
+pub put_full : (the_kind : Kind) (caller : Caller) (port : MadePort) → None ≡ first_refusal (put_tests caller port) → is_filled the_kind port ≡ true → done_on the_kind work.Send caller port ≡ answering not_available caller.state
+put_full kind.Sampling caller port passed full = absurd cc
+put_full kind.Queuing caller port passed full =
+    tested_refused (tests_on kind.Queuing caller port) caller (putting caller port) not_available
     (sym (ap (λ b. first_refusal (refused_if b not_available ∷ [])) full) ∙ four_passed (source_only port) (size_fits port (c_of caller)) (text caller (b_of caller) (c_of caller)) (refused_if (is_full port) not_available) passed)
 
-pub send_passed : (caller : Caller) (port : MadePort) → Some port ≡ made_port kind.Queuing caller → None ≡ first_refusal (put_tests caller port) → is_full port ≡ false → send_queuing_message caller ≡ putting caller port
-unfolding send_tests
-send_passed caller port is passed free =
-    sent_to caller port is
-    ∙ tested_passed (send_tests caller port) caller (putting caller port)
+-- and where there is
+pub put_passed : (the_kind : Kind) (caller : Caller) (port : MadePort) → None ≡ first_refusal (put_tests caller port) → is_filled the_kind port ≡ false → done_on the_kind work.Send caller port ≡ putting caller port
+put_passed kind.Sampling caller port passed free = tested_passed (put_tests caller port) caller (putting caller port) passed
+put_passed kind.Queuing caller port passed free =
+    tested_passed (tests_on kind.Queuing caller port) caller (putting caller port)
     (sym (ap (λ b. first_refusal (refused_if b not_available ∷ [])) free) ∙ four_passed (source_only port) (size_fits port (c_of caller)) (text caller (b_of caller) (c_of caller)) (refused_if (is_full port) not_available) passed)
+
+-- a channel of a sampling port always has room, and one of a queue where it is not full
+sampling_room : (the_kind : ChanKind) (chan : ℕ) (sys : SysState) → IsSampling the_kind → HasRoomFor the_kind chan sys
+sampling_room (chan_kind.Sampling refresh) chan sys is = tt
+sampling_room (chan_kind.Queuing most) chan sys is = absurd is
+
+queuing_room : (the_kind : ChanKind) (chan : ℕ) (sys : SysState) → IsQueuing the_kind → nat_le (most_of the_kind) (length (messages_of (content_at chan (table_in sys)))) ≡ false → HasRoomFor the_kind chan sys
+queuing_room (chan_kind.Sampling refresh) chan sys is free = absurd is
+queuing_room (chan_kind.Queuing most) chan sys is free = grind (arith, nat_tests)
+
+pub room_for : (the_kind : Kind) (p : ℕ) (sys : SysState) (port : found.MadePort) → IsMade the_kind p sys port → is_filled the_kind (port_in p sys port) ≡ false → HasRoomFor port.kind port.chan sys
+room_for kind.Sampling p sys port made free =
+    sampling_room port.kind port.chan sys (subst (λ (shape : Option Shape). IsSomeAnd shape (λ one. IsSampling one.kind)) made.shaped made.of_kind)
+room_for kind.Queuing p sys port made free =
+    queuing_room port.kind port.chan sys (subst (λ (shape : Option Shape). IsSomeAnd shape (λ one. IsQueuing one.kind)) made.shaped made.of_kind) free
 
 -- the same, as the call's arguments and its buffer are read
 pub put_by : (site : CallSite) (old mid new : SysState) (port : found.MadePort) (at size n : ℕ) (bytes : List ℕ) → named old.machine.system.conf site.part (port_in site.part old port).name ≡ Some port.chan

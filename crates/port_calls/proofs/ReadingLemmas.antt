@@ -3,15 +3,14 @@ use Rattle.std.proofs.Common.{◌≡◌, ℕ, ◌<◌, ◌-◌, true, false, Lis
 use Rattle.std.specs.Prelude.{Bool, nat_lt, not}
 use Rattle.std.proofs.lemmas.List.{get_or-set_same, set-set}
 use Rattle.guest_bus.specs.Memory.{all_from, is_writable}
-use Rattle.machine_model.specs.Caller.{Caller, Served, acting, answering, b_of, c_of, d_of, invalid_parameter, is_room, not_allowed, refused_if, tested, with_answer, with_written}
+use Rattle.machine_model.specs.Caller.{Caller, Served, acting, answering, b_of, c_of, d_of, invalid_parameter, is_room, refused_if, with_answer, with_written}
 use Rattle.machine_model.specs.Partition.{PartitionState, areas_of}
-use Rattle.machine_model.specs.PortCalls.{MadePort, destination_only, is_source, made_port, message_read, on_port, sample_read}
+use Rattle.machine_model.specs.PortCalls.{message_read, sample_read}
 use Rattle.machine_model.specs.Structures.{flag, is_valid, refresh_of, word}
 use Rattle.machine_model.specs.Told.{OwnTakes, Trades, Unseen}
 use Rattle.machine_model.specs.Traffic.{Takes, takes_at}
 use Rattle.machine_model.specs.View.{named, view_of}
 use Rattle.slot_runs.specs.Passes.{with_traffic}
-use Rattle.xm_conf.specs.declared.port.Kind.{Kind}
 use Rattle.port_calls.specs.MadePorts.{port_in}
 use Rattle.port_calls.specs.Messages.{first_refusal, message_tests, sample_tests}
 use Rattle.whole_system.specs.Serving.{IsServed, caller_of}
@@ -21,7 +20,7 @@ use Rattle.port_calls.specs.declared.made_ports.MadePort as found
 use Rattle.whole_system.specs.declared.served.Act.TheVariants as act
 use Rattle.whole_system.specs.declared.served.Note.TheVariants as note
 use Rattle.whole_system.specs.declared.served.Served as code
-use Rattle.port_calls.proofs.MessageLemmas.{on_made, tested_passed}
+use Rattle.port_calls.proofs.MessageLemmas.{tested_passed}
 use Rattle.whole_system.specs.ServedLemmas.{served_as, served_changed}
 
 -- a partition's state that is set, and then changed
@@ -32,17 +31,6 @@ set_changed old mid new p ps f below mid_is new_is =
     ∙ ap (λ (s : SysState). with_machine (with_part p (f (part_at p s.machine)) s.machine) s) mid_is
     ∙ ap (λ (x : PartitionState). with_machine (record old.machine { parts = set (set old.machine.parts p ps) p (f x) }) old) (get_or-set_same old.machine.parts p ps _ below)
     ∙ ap (λ (parts : List PartitionState). with_machine (record old.machine { parts = parts }) old) (set-set old.machine.parts p ps (f ps))
-
--- a call that reads, on a port that writes
-pub read_source : (the_kind : Kind) (caller : Caller) (port : MadePort) (read : MadePort → Served) → Some port ≡ made_port the_kind caller → is_source port.way ≡ true
-    → on_port (made_port the_kind caller) caller (λ port. tested (destination_only port ∷ []) caller (read port)) ≡ answering not_allowed caller.state
-read_source the_kind caller port read is source = on_made the_kind caller port (λ port. tested (destination_only port ∷ []) caller (read port)) is ∙ ap (λ b. tested (refused_if b not_allowed ∷ []) caller (read port)) source
-
--- and on one that reads
-pub read_passed : (the_kind : Kind) (caller : Caller) (port : MadePort) (read : MadePort → Served) (served : Served) → Some port ≡ made_port the_kind caller → is_source port.way ≡ false → served ≡ read port
-    → on_port (made_port the_kind caller) caller (λ port. tested (destination_only port ∷ []) caller (read port)) ≡ served
-read_passed the_kind caller port read served is source same =
-    on_made the_kind caller port (λ port. tested (destination_only port ∷ []) caller (read port)) is ∙ ap (λ b. tested (refused_if b not_allowed ∷ []) caller (read port)) source ∙ sym same
 
 -- the areas of the caller stay when its state is set
 pub room_after : (site : CallSite) (old mid : SysState) (ps : PartitionState) (address size : ℕ) → mid ≡ with_machine (with_part site.part ps old.machine) old → is_room (caller_of site old) address size ≡ true → is_room (caller_of site mid) address size ≡ true

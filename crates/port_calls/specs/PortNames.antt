@@ -1,7 +1,16 @@
--- The name that a call gives a port, in bytes that the caller may read.
+-- The calls that make a port, and the name that they give it, in bytes that the caller may read.
 use Rattle.std.specs.Prelude.{◌≡◌, ℕ, suc, ◌==◌, ◌≤◌, ◌⊎◌, Bool, true, false, if◌then◌else◌, List, [], ◌∷◌, Option, Some, None}
 use Rattle.guest_bus.specs.Memory.{all_from}
+use Rattle.machine_model.specs.Caller.{Caller, Served}
+use Rattle.machine_model.specs.PortCalls.{create_queuing_port, create_sampling_port}
 use Rattle.xm_base.specs.Options.{on}
+use Rattle.xm_conf.specs.declared.port.Kind.{Kind}
+use Rattle.xm_conf.specs.declared.port.Kind.TheVariants as kind
+
+-- the call that makes a port of a kind
+abbrev pub creation_on : Kind → Caller → Served
+creation_on kind.Sampling = create_sampling_port
+creation_on kind.Queuing = create_queuing_port
 
 -- the bytes before the first zero byte, where there is one
 abbrev pub name_in : List ℕ → Option (List ℕ)

@@ -4,17 +4,20 @@ ghost use Rattle.std.specs.Prelude.{◌≡◌, ◌≤◌, ◌-◌, ◌++◌, IfS
 ghost use Rattle.xm_ports.specs.Channels.{HasQueue, HasSampling, IsMessage, IsTable, content_at, first_message, sample_of, shapes_of};
 ghost use Rattle.slot_runs.specs.Passes.{with_traffic};
 ghost use Rattle.machine_model.specs.Caller.{c_of, with_answer};
-ghost use Rattle.machine_model.specs.PortCalls.{is_full, is_source, message_read, putting, read_sampling_message, receive_queuing_message, sample_read, send_queuing_message, write_sampling_message};
+ghost use Rattle.machine_model.specs.PortCalls.{is_full, is_source, message_read, putting, sample_read};
 ghost use Rattle.machine_model.specs.Structures.{flag, is_valid, refresh_of};
 ghost use Rattle.machine_model.specs.Told.{Unseen};
 ghost use Rattle.machine_model.specs.Traffic.{Puts};
 ghost use Rattle.machine_model.specs.View.{named};
-ghost use Rattle.port_calls.specs.MadePorts.{port_in, table_in};
+ghost use Rattle.xm_conf.specs.declared.port.Kind.TheVariants as the_kind;
+ghost use Rattle.port_calls.specs.MadePorts.{HasKind, IsMade, port_in, table_in};
 ghost use Rattle.port_calls.specs.Messages.{HasRoomFor, first_refusal, message_tests, put_tests, sample_tests};
+ghost use Rattle.port_calls.specs.OnPorts.{done_on, held_in, is_filled};
+ghost use Rattle.port_calls.specs.declared.on_ports.PortWork.TheVariants as work;
 ghost use Rattle.whole_system.specs.Serving.{IsCaller, IsServed, caller_of};
 ghost use Rattle.whole_system.specs.State.{with_machine, with_part};
 
-use crate::made_ports::{MadePort, made_port, most_of, refresh_of};
+use crate::made_ports::{MadePort, most_of, refresh_of};
 use crate::traffic::{MESSAGE_BYTES, drop_first, put_sampling, send};
 use whole_system::answering::{
     B, C, D, INVALID_PARAMETER, NO_ACTION, NOT_ALLOWED, NOT_AVAILABLE, OUT_0, answer,
@@ -24,34 +27,17 @@ use whole_system::structures::validity;
 use whole_system::{Act, CallSite, Note, Served, Sys};
 use xm_conf::{ChanKind, Kind, Way};
 
-/// Call 17, XM_write_sampling_message(a, b, c): c bytes at b.
-pub fn write_sampling_message(sys: &mut Sys, site: CallSite) -> Served
+/// Calls 17, XM_write_sampling_message(a, b, c), and 21, XM_send_queuing_message(a, b, c), on a made port: c bytes at b.
+pub(crate) fn send_on(sys: &mut Sys, site: CallSite, kind: Kind, port: MadePort) -> Served
     requires caller { IsCaller site sys.old }
     requires shapes { sys.old.shapes ≡ shapes_of sys.old.machine.system.conf }
-    ensures { IsServed site.part Unseen (write_sampling_message (caller_of site sys.old)) result sys.old sys.new }
+    requires made { IsMade kind site.part sys.old port }
+    ensures { IsServed site.part Unseen (done_on kind work.Send (caller_of site sys.old) (port_in site.part sys.old port)) result sys.old sys.new }
 {
-    let Some(port) = made_port(sys, site, Kind::Sampling) else {
-        return answer(sys, site, INVALID_PARAMETER);
-    };
     if let Some(code) = put_refusal(sys, site, port) {
         return answer(sys, site, code);
     }
-    put_message(sys, site, port)
-}
-
-/// Call 21, XM_send_queuing_message(a, b, c): c bytes at b.
-pub fn send_queuing_message(sys: &mut Sys, site: CallSite) -> Served
-    requires caller { IsCaller site sys.old }
-    requires shapes { sys.old.shapes ≡ shapes_of sys.old.machine.system.conf }
-    ensures { IsServed site.part Unseen (send_queuing_message (caller_of site sys.old)) result sys.old sys.new }
-{
-    let Some(port) = made_port(sys, site, Kind::Queuing) else {
-        return answer(sys, site, INVALID_PARAMETER);
-    };
-    if let Some(code) = put_refusal(sys, site, port) {
-        return answer(sys, site, code);
-    }
-    if is_full(sys, site, port) {
+    if is_filled(sys, site, kind, port) {
         return answer(sys, site, NOT_AVAILABLE);
     }
     put_message(sys, site, port)
@@ -79,6 +65,17 @@ fn is_source(way: Way) -> bool
     match way {
         Way::Source => true,
         Way::Destination => false,
+    }
+}
+
+/// Whether a port of a kind has no room for a further message. A sampling port always has.
+fn is_filled(sys: &Sys, site: CallSite, kind: Kind, port: MadePort) -> bool
+    requires { HasKind kind port.chan (table_in sys.now) }
+    ensures { result ≡ is_filled kind (port_in site.part sys.now port) }
+{
+    match kind {
+        Kind::Sampling => false,
+        Kind::Queuing => is_full(sys, site, port),
     }
 }
 
@@ -158,18 +155,37 @@ pub(crate) fn set_result(sys: &mut Sys, site: CallSite, value: u32)
     sys.part_mut(site.part).core.set(OUT_0, value);
 }
 
-/// Call 18, XM_read_sampling_message(a, b, c, d): into c bytes at b, and the validity at d.
-pub fn read_sampling_message(sys: &mut Sys, site: CallSite) -> Served
+/// Calls 18, XM_read_sampling_message(a, b, c, d), and 22, XM_receive_queuing_message(a, b, c), on a made port: into c bytes at b, and
+/// the validity of a sample at d.
+pub(crate) fn receive_on(sys: &mut Sys, site: CallSite, kind: Kind, port: MadePort) -> Served
     requires caller { IsCaller site sys.old }
-    requires shapes { sys.old.shapes ≡ shapes_of sys.old.machine.system.conf }
-    ensures { IsServed site.part Unseen (read_sampling_message (caller_of site sys.old)) result sys.old sys.new }
+    requires made { IsMade kind site.part sys.old port }
+    ensures { IsServed site.part Unseen (done_on kind work.Receive (caller_of site sys.old) (port_in site.part sys.old port)) result sys.old sys.new }
 {
-    let Some(port) = made_port(sys, site, Kind::Sampling) else {
-        return answer(sys, site, INVALID_PARAMETER);
-    };
     if is_source(port.way) {
         return answer(sys, site, NOT_ALLOWED);
     }
+    read_held(sys, site, kind, port)
+}
+
+/// Reads the message that a port holds, where it holds one.
+fn read_held(sys: &mut Sys, site: CallSite, kind: Kind, port: MadePort) -> Served
+    requires caller { IsCaller site sys.old }
+    requires made { IsMade kind site.part sys.old port }
+    ensures { IsServed site.part Unseen (held_in kind (caller_of site sys.old) (port_in site.part sys.old port)) result sys.old sys.new }
+{
+    match kind {
+        Kind::Sampling => read_held_sample(sys, site, port),
+        Kind::Queuing => read_first(sys, site, port),
+    }
+}
+
+/// Reads the message of a sampling port, where there is one.
+fn read_held_sample(sys: &mut Sys, site: CallSite, port: MadePort) -> Served
+    requires caller { IsCaller site sys.old }
+    requires made { IsMade the_kind.Sampling site.part sys.old port }
+    ensures { IsServed site.part Unseen (held_in the_kind.Sampling (caller_of site sys.old) (port_in site.part sys.old port)) result sys.old sys.new }
+{
     let mut buffer = [0; MESSAGE_BYTES];
     let Some((time, size)) = copy_sample(sys, port.chan, &mut buffer) else {
         return answer(sys, site, NO_ACTION);
@@ -235,18 +251,12 @@ fn put_front(into: &mut [u8], from: &[u8])
     into[..from.len()].copy_from_slice(from);
 }
 
-/// Call 22, XM_receive_queuing_message(a, b, c): into c bytes at b.
-pub fn receive_queuing_message(sys: &mut Sys, site: CallSite) -> Served
+/// Reads and takes the first message of a queuing port, where there is one.
+fn read_first(sys: &mut Sys, site: CallSite, port: MadePort) -> Served
     requires caller { IsCaller site sys.old }
-    requires shapes { sys.old.shapes ≡ shapes_of sys.old.machine.system.conf }
-    ensures { IsServed site.part Unseen (receive_queuing_message (caller_of site sys.old)) result sys.old sys.new }
+    requires made { IsMade the_kind.Queuing site.part sys.old port }
+    ensures { IsServed site.part Unseen (held_in the_kind.Queuing (caller_of site sys.old) (port_in site.part sys.old port)) result sys.old sys.new }
 {
-    let Some(port) = made_port(sys, site, Kind::Queuing) else {
-        return answer(sys, site, INVALID_PARAMETER);
-    };
-    if is_source(port.way) {
-        return answer(sys, site, NOT_ALLOWED);
-    }
     let mut buffer = [0; MESSAGE_BYTES];
     let Some(size) = copy_first(sys, port.chan, &mut buffer) else {
         return answer(sys, site, NOT_AVAILABLE);

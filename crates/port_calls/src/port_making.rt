@@ -5,9 +5,9 @@ ghost use Rattle.std.specs.List.{prefix_len};
 ghost use Rattle.guest_bus.specs.Memory.{all_from, is_readable};
 ghost use Rattle.machine_model.specs.Caller.{a_of};
 ghost use Rattle.machine_model.specs.Partition.{areas_of};
-ghost use Rattle.machine_model.specs.PortCalls.{create_queuing_port, create_refusal, create_sampling_port, creating, name_given};
+ghost use Rattle.machine_model.specs.PortCalls.{create_refusal, creating, name_given};
 ghost use Rattle.machine_model.specs.Told.{Unseen};
-ghost use Rattle.port_calls.specs.PortNames.{AreReadable, name_in};
+ghost use Rattle.port_calls.specs.PortNames.{AreReadable, creation_on, name_in};
 ghost use Rattle.whole_system.specs.Serving.{IsCaller, IsServed, caller_of};
 
 use whole_system::answering::{
@@ -29,34 +29,36 @@ struct Wanted {
     most: u32,
 }
 
-/// Call 16, XM_create_sampling_port(a, b, c): the name at a, messages of b bytes, the way c.
-#[tactic(auto, unfolding(machine_model::specs::PortCalls::create_sampling_port))]
-pub fn create_sampling_port(sys: &mut Sys, site: CallSite) -> Served
+/// Calls 16, XM_create_sampling_port(a, b, c), and 20, XM_create_queuing_port(a, b, c, d), by the kind of the port: the name at a, messages
+/// of b bytes, the way c; or b messages of c bytes, the way d.
+#[tactic(auto, unfolding(machine_model::specs::PortCalls::create_sampling_port, machine_model::specs::PortCalls::create_queuing_port))]
+pub fn create_port(sys: &mut Sys, site: CallSite, kind: Kind) -> Served
     requires { IsCaller site sys.old }
-    ensures { IsServed site.part Unseen (create_sampling_port (caller_of site sys.old)) result sys.old sys.new }
+    ensures { IsServed site.part Unseen (creation_on kind (caller_of site sys.old)) result sys.old sys.new }
 {
-    let wanted = Wanted {
-        kind: Kind::Sampling,
-        way: argument(sys, site, C),
-        length: argument(sys, site, B),
-        most: 0,
-    };
-    create(sys, site, wanted)
-}
-
-/// Call 20, XM_create_queuing_port(a, b, c, d): the name at a, b messages of c bytes, the way d.
-#[tactic(auto, unfolding(machine_model::specs::PortCalls::create_queuing_port))]
-pub fn create_queuing_port(sys: &mut Sys, site: CallSite) -> Served
-    requires { IsCaller site sys.old }
-    ensures { IsServed site.part Unseen (create_queuing_port (caller_of site sys.old)) result sys.old sys.new }
-{
-    let wanted = Wanted {
-        kind: Kind::Queuing,
-        way: argument(sys, site, D),
-        length: argument(sys, site, C),
-        most: argument(sys, site, B),
-    };
-    create(sys, site, wanted)
+    let b = argument(sys, site, B);
+    let c = argument(sys, site, C);
+    let d = argument(sys, site, D);
+    match kind {
+        Kind::Sampling => {
+            let wanted = Wanted {
+                kind: Kind::Sampling,
+                way: c,
+                length: b,
+                most: 0,
+            };
+            create(sys, site, wanted)
+        }
+        Kind::Queuing => {
+            let wanted = Wanted {
+                kind: Kind::Queuing,
+                way: d,
+                length: c,
+                most: b,
+            };
+            create(sys, site, wanted)
+        }
+    }
 }
 
 /// Makes the port whose name the call gives by its first argument.

@@ -1,55 +1,47 @@
 //! The calls that tell the status of ports: numbers 19 and 23.
 
 ghost use Rattle.std.specs.Prelude.{◌≡◌, length};
-ghost use Rattle.xm_ports.specs.Channels.{content_at, shapes_of};
-ghost use Rattle.machine_model.specs.PortCalls.{get_queuing_port_status, get_sampling_port_status};
+ghost use Rattle.xm_ports.specs.Channels.{content_at};
 ghost use Rattle.machine_model.specs.Structures.{queuing_status, sampling_status};
 ghost use Rattle.machine_model.specs.Told.{Unseen};
 ghost use Rattle.xm_conf.specs.declared.port.Kind.TheVariants as the_kind;
-ghost use Rattle.port_calls.specs.MadePorts.{IsMade, table_in};
+ghost use Rattle.port_calls.specs.MadePorts.{IsMade, port_in, table_in};
+ghost use Rattle.port_calls.specs.OnPorts.{done_on, status_bytes, status_in};
+ghost use Rattle.port_calls.specs.declared.on_ports.PortWork.TheVariants as work;
 ghost use Rattle.whole_system.specs.Serving.{IsCaller, IsServed, caller_of};
 
-use crate::made_ports::{MadePort, made_port, most_of, refresh_of};
-use whole_system::answering::{B, INVALID_PARAMETER, answer, answer_written, argument, room};
+use crate::made_ports::{MadePort, most_of, refresh_of};
+use whole_system::answering::{B, answer, answer_written, argument, room};
 use whole_system::structures::{Structure, queuing_status, sampling_status};
 use whole_system::{CallSite, Served, Sys};
 use xm_base::PartId;
 use xm_conf::Kind;
 
-/// Call 19, XM_get_sampling_port_status(a, b).
-#[tactic(auto, unfolding(machine_model::specs::PortCalls::get_sampling_port_status))]
-pub fn get_sampling_port_status(sys: &mut Sys, site: CallSite) -> Served
+/// Calls 19, XM_get_sampling_port_status(a, b), and 23, XM_get_queuing_port_status(a, b), on a made port.
+pub(crate) fn tell_on(sys: &mut Sys, site: CallSite, kind: Kind, port: MadePort) -> Served
     requires caller { IsCaller site sys.old }
-    requires shapes { sys.old.shapes ≡ shapes_of sys.old.machine.system.conf }
-    ensures { IsServed site.part Unseen (get_sampling_port_status (caller_of site sys.old)) result sys.old sys.new }
+    requires made { IsMade kind site.part sys.old port }
+    ensures { IsServed site.part Unseen (done_on kind work.Tell (caller_of site sys.old) (port_in site.part sys.old port)) result sys.old sys.new }
 {
-    let Some(port) = made_port(sys, site, Kind::Sampling) else {
-        return answer(sys, site, INVALID_PARAMETER);
-    };
     let at = argument(sys, site, B);
-    if let Some(code) = room(sys, site, at, 16) {
+    let status = status_of(sys, site.part, kind, port);
+    let bytes = status.bytes();
+    if let Some(code) = room(sys, site, at, bytes.len() as u32) {
         return answer(sys, site, code);
     }
-    let status = status_of_sample(sys, site.part, port);
-    answer_written(sys, site, at, status.bytes(), 0)
+    answer_written(sys, site, at, bytes, 0)
 }
 
-/// Call 23, XM_get_queuing_port_status(a, b).
-#[tactic(auto, unfolding(machine_model::specs::PortCalls::get_queuing_port_status))]
-pub fn get_queuing_port_status(sys: &mut Sys, site: CallSite) -> Served
-    requires caller { IsCaller site sys.old }
-    requires shapes { sys.old.shapes ≡ shapes_of sys.old.machine.system.conf }
-    ensures { IsServed site.part Unseen (get_queuing_port_status (caller_of site sys.old)) result sys.old sys.new }
+/// The status of a port of a partition.
+fn status_of(sys: &Sys, p: PartId, kind: Kind, port: MadePort) -> Structure
+    requires { IsMade kind p sys.now port }
+    ensures value { result ≡ status_in kind sys.now.machine.time (port_in p sys.now port) }
+    ensures size { length result ≡ status_bytes kind }
 {
-    let Some(port) = made_port(sys, site, Kind::Queuing) else {
-        return answer(sys, site, INVALID_PARAMETER);
-    };
-    let at = argument(sys, site, B);
-    if let Some(code) = room(sys, site, at, 8) {
-        return answer(sys, site, code);
+    match kind {
+        Kind::Sampling => status_of_sample(sys, p, port),
+        Kind::Queuing => status_of_queue(sys, p, port),
     }
-    let status = status_of_queue(sys, site.part, port);
-    answer_written(sys, site, at, status.bytes(), 0)
 }
 
 /// The status of a sampling port of a partition.

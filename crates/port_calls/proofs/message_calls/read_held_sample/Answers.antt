@@ -1,0 +1,15 @@
+use Rattle.std.proofs.Common.{ap, refl, sym}
+use Rattle.machine_model.specs.PortCalls.{held_read}
+use Rattle.port_calls.specs.MadePorts.{port_in}
+use Rattle.whole_system.specs.Serving.{caller_of}
+use Rattle.whole_system.specs.ServedLemmas.{served_as}
+use Rattle.port_calls.proofs.message_calls.read_held_sample.Goals as goal
+
+pub returns-in_default : goal.returns-in_default
+returns-in_default c =
+    let none = rw c.in_default.is at c.copy_sample.ensures.value in
+    served_as refl (sym (ap (λ o. held_read o (caller_of c.args.site c.args.sys.now) (port_in c.args.site.part c.args.sys.now c.args.port)) none)) c.answer.ensures
+
+pub returns : goal.returns
+returns c =
+    served_as refl (sym (ap (λ o. held_read o (caller_of c.args.site c.args.sys.now) (port_in c.args.site.part c.args.sys.now c.args.port)) c.in-Some.ensures.value)) c.read_sample.ensures

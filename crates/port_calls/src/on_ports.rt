@@ -1,0 +1,41 @@
+//! The calls on made ports: numbers 17 to 19, and 21 to 23.
+
+ghost use Rattle.std.specs.Prelude.{◌≡◌};
+ghost use Rattle.xm_ports.specs.Channels.{shapes_of};
+ghost use Rattle.machine_model.specs.Told.{Unseen};
+ghost use Rattle.port_calls.specs.OnPorts.{call_on};
+ghost use Rattle.whole_system.specs.Serving.{IsCaller, IsServed, caller_of};
+
+use crate::made_ports::made_port;
+use crate::message_calls::{receive_on, send_on};
+use crate::port_status::tell_on;
+use whole_system::answering::{INVALID_PARAMETER, answer};
+use whole_system::{CallSite, Served, Sys};
+use xm_conf::Kind;
+
+/// What a call does with a made port.
+#[derive(Clone, Copy, Debug, PartialEq, Eq)]
+pub enum PortWork {
+    /// It puts a message into the channel.
+    Send,
+    /// It reads a message from the channel.
+    Receive,
+    /// It writes the port's status.
+    Tell,
+}
+
+/// A call on the made port of a kind that it names by a: 17, 18 and 19 on a sampling port, 21, 22 and 23 on a queuing port.
+pub fn call_port(sys: &mut Sys, site: CallSite, kind: Kind, work: PortWork) -> Served
+    requires caller { IsCaller site sys.old }
+    requires shapes { sys.old.shapes ≡ shapes_of sys.old.machine.system.conf }
+    ensures { IsServed site.part Unseen (call_on kind work (caller_of site sys.old)) result sys.old sys.new }
+{
+    let Some(port) = made_port(sys, site, kind) else {
+        return answer(sys, site, INVALID_PARAMETER);
+    };
+    match work {
+        PortWork::Send => send_on(sys, site, kind, port),
+        PortWork::Receive => receive_on(sys, site, kind, port),
+        PortWork::Tell => tell_on(sys, site, kind, port),
+    }
+}
