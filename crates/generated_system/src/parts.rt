@@ -4,9 +4,10 @@ ghost use Rattle.std.specs.Prelude.{◌≡◌, ◌<◌, ◌++◌, IfOk, IsTrue, 
 ghost use Rattle.xm_conf.specs.Name.{is_name};
 ghost use Rattle.generated_system.specs.Generated.{all_parts, area_start, generated_part, generated_way};
 
+use loaded_system::default_table;
 use std::alloc::Global;
 use xm_base::{Memory, PartId};
-use xm_conf::{Area, EVENTS, Event, HmTable, Kind, Name, Part, Port, Way};
+use xm_conf::{Area, Kind, Name, Part, Port, Way};
 use xm_report::Pen;
 
 /// How many partitions a generated system has.
@@ -51,10 +52,7 @@ fn part(alloc: Global, p: PartId) -> Result<Part, Memory>
         console: None,
         need: None,
         trace_mask: 0,
-        hm: HmTable {
-            actions: EVENTS.map(Event::default_action),
-            logged: 0x0fff,
-        },
+        hm: default_table(),
         areas: Vec::from_array(alloc, [area])?,
         ports: Vec::from_array(alloc, [port])?,
     })

@@ -6,5 +6,5 @@ mod raw_image;
 mod system;
 
 pub use inside::outside_of;
-pub use raw_image::{BareFault, bare};
+pub use raw_image::{BareFault, bare, default_table};
 pub use system::{Outside, System, parts};

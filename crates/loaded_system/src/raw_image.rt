@@ -2,7 +2,7 @@
 
 ghost use Rattle.std.specs.Prelude.{◌≡◌, IfOk, IsTrue, length};
 ghost use Rattle.xm_conf.specs.Name.{is_name};
-ghost use Rattle.loaded_system.specs.Bare.{IsBare, IsImageLength, bare_conf, bare_image, bare_part, bare_plan, bare_regions, bare_system};
+ghost use Rattle.loaded_system.specs.Bare.{IsBare, IsImageLength, bare_conf, bare_image, bare_part, bare_plan, bare_regions, bare_system, default_table};
 
 use crate::system::System;
 use std::alloc::Global;
@@ -161,13 +161,20 @@ fn part(alloc: Global) -> Result<Part, Memory>
         console: Some(0),
         need: None,
         trace_mask: 0,
-        hm: HmTable {
-            actions: EVENTS.map(Event::default_action),
-            logged: 0x0fff,
-        },
+        hm: default_table(),
         areas: Vec::from_array(alloc, [area])?,
         ports: Vec::new(alloc),
     })
+}
+
+/// The health table that has the default action for each event, and logs all of them.
+pub fn default_table() -> HmTable
+    ensures value { result ≡ default_table }
+{
+    HmTable {
+        actions: EVENTS.map(Event::default_action),
+        logged: 0x0fff,
+    }
 }
 
 /// The name that these bytes are.
