@@ -20,8 +20,8 @@ use Rattle.tick_pieces.specs.CueValues.{cue_value}
 use Rattle.tick_pieces.specs.declared.cue.Cue as code_cue
 use Rattle.xm_machine.specs.AloneSpan.{SpansAlone}
 use Rattle.xm_machine.specs.AloneStep.{HasStepCause, IsSaidAlone, StepsAlone}
-use Rattle.xm_machine.specs.declared.alone_fault.AloneFault.{AloneFault}
-use Rattle.xm_machine.specs.declared.alone_fault.AloneFault.TheVariants as fault
+use Rattle.xm_machine.specs.declared.alone_span.AloneFault.{AloneFault}
+use Rattle.xm_machine.specs.declared.alone_span.AloneFault.TheVariants as fault
 use Rattle.xm_alone.specs.Cues.{ComesNext, Follows, IsNextCue, cues_left, next_cues, next_left}
 use Rattle.told_scripts.specs.Replayed.{cue_lines, replayed}
 use Rattle.xm_alone.specs.Replay.{IsCutReplay, TakesAll, is_refused, lone_in, still_silent}

@@ -10,7 +10,7 @@ use Rattle.lone_ticks.specs.LoneSpan.{AreSilent}
 use Rattle.tick_pieces.specs.CueValues.{cue_value}
 use Rattle.uart_board.specs.Views.{BoardView}
 use Rattle.xm_machine.specs.AloneStep.{IsSaidAlone, StepsAlone}
-use Rattle.xm_machine.specs.declared.alone_fault.AloneFault.{AloneFault}
+use Rattle.xm_machine.specs.declared.alone_span.AloneFault.{AloneFault}
 use Rattle.xm_alone.specs.declared.cues.Cues as code
 use Rattle.xm_alone.specs.declared.cues.Next as code_next
 use Rattle.xm_alone.specs.declared.cues.Next.TheVariants as next

@@ -14,8 +14,8 @@ use Rattle.alone_passes.specs.Taking.{first_untaken}
 use Rattle.told_scripts.specs.Replayed.{cue_lines, replayed}
 use Rattle.file_texts.specs.declared.fault.ScriptFault.{ScriptFault}
 use Rattle.file_texts.specs.declared.fault.ScriptFault.TheVariants as fault
-use Rattle.xm_machine.specs.declared.alone_fault.AloneFault.{AloneFault}
-use Rattle.xm_machine.specs.declared.alone_fault.AloneFault.TheVariants as alone
+use Rattle.xm_machine.specs.declared.alone_span.AloneFault.{AloneFault}
+use Rattle.xm_machine.specs.declared.alone_span.AloneFault.TheVariants as alone
 use Rattle.told_scripts.specs.Lone.{Lone, own_view, replay_said}
 
 -- partition p of a machine by itself

@@ -21,7 +21,7 @@ use Rattle.xm_machine.specs.AloneStep.{HasStepCause, IsSaidAlone, IsToldAlone, S
 use Rattle.xm_machine.specs.Heard.{lines_to}
 use Rattle.xm_machine.specs.Outcome.{HasWriteCause}
 use Rattle.xm_machine.specs.Steps.{Tells}
-use Rattle.xm_machine.specs.declared.alone_fault.AloneFault.{AloneFault}
+use Rattle.xm_machine.specs.declared.alone_span.AloneFault.{AloneFault}
 use Rattle.xm_machine.proofs.HeardLemmas.{alone_heard}
 
 -- its lines went out, or a prefix of them

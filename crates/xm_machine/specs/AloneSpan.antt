@@ -5,7 +5,7 @@ use Rattle.machine_model.specs.Machine.{Machine}
 use Rattle.uart_board.specs.Views.{BoardView}
 use Rattle.lone_ticks.specs.LoneSpan.{AreSilent}
 use Rattle.xm_machine.specs.AloneStep.{IsSaidAlone, StepsAlone}
-use Rattle.xm_machine.specs.declared.alone_fault.AloneFault.{AloneFault}
+use Rattle.xm_machine.specs.declared.alone_span.AloneFault.{AloneFault}
 
 -- all but the last were silent, and the last answers this
 pub record SpansAlone {T : Type 0} (ended : Result T AloneFault) (ticks p : ℕ) (own : Bool) (old new : Machine) (had got : Option (List ℕ)) (first board : BoardView) : Type 0 where

@@ -21,8 +21,8 @@ use Rattle.uart_board.specs.Views.{BoardView}
 use Rattle.xm_machine.specs.Heard.{lines_to}
 use Rattle.xm_machine.specs.Outcome.{HasWriteCause}
 use Rattle.xm_machine.specs.Steps.{Tells}
-use Rattle.xm_machine.specs.declared.alone_fault.AloneFault.{AloneFault}
-use Rattle.xm_machine.specs.declared.alone_fault.AloneFault.TheVariants as fault
+use Rattle.xm_machine.specs.declared.alone_span.AloneFault.{AloneFault}
+use Rattle.xm_machine.specs.declared.alone_span.AloneFault.TheVariants as fault
 
 -- what a tick without the others answers: its lines went out; or it was done, and a prefix of its lines went out; or the partition cannot
 -- take the cue

@@ -1,7 +1,6 @@
 //! The machine: it boots a system, does its ticks, and writes the report of a run.
 #![tactic(auto)]
 
-mod alone_fault;
 mod alone_span;
 mod law;
 mod machine;
@@ -9,8 +8,7 @@ mod report;
 mod run;
 mod stretch;
 
-pub use alone_fault::AloneFault;
-pub use alone_span::AloneSpan;
+pub use alone_span::{AloneFault, AloneSpan};
 pub use hypercalls::{InputFault, Inputs};
 pub use law::keeps_cues;
 pub use machine::Machine;

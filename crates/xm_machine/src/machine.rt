@@ -29,8 +29,7 @@ ghost use Rattle.xm_machine.specs.Stretch.{AreAllOfStretch, KeepsStepped, Steps,
 ghost use Rattle.xm_ports.specs.Channels.{shapes_of};
 ghost use Rattle.xm_report.specs.Report.{line_value};
 
-use crate::alone_fault::AloneFault;
-use crate::alone_span::AloneSpan;
+use crate::alone_span::{AloneFault, AloneSpan};
 use crate::report::{end_parts, tell, tell_alone};
 use crate::run::Ran;
 use crate::stretch::{Stepped, ends_stretch, stepped_by};

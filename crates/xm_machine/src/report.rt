@@ -17,7 +17,7 @@ ghost use Rattle.xm_machine.specs.Steps.{Tells};
 ghost use Rattle.tick_pieces.specs.Work.{console_told};
 ghost use Rattle.xm_report.specs.Report.{IsShort, line_value};
 
-use crate::alone_fault::{AloneFault, told_alone};
+use crate::alone_span::{AloneFault, told_alone};
 use hypercalls::{Note, Sys};
 use tick_pieces::Lines;
 use uart_board::{Board, ViewBoard};
