@@ -105,24 +105,29 @@ not_all_read_done Starved command before after not_read = not_read
 pub comes_from : (e : Ending) (outcome : Outcome) (mid other after : Outside) → mid ≡ other → Comes e outcome mid after → Comes e outcome other after
 comes_from e outcome mid other after same comes = subst (λ (m : Outside). Comes e outcome m after) same comes
 
--- a command whose one file was not read ends so
-pub not_read_done : (e : Ending) (command : Command) (file : List ℕ) (before after : Outside) → inputs_of command ≡ file ∷ [] → IsNotRead e file before after → IsDone e command before after
-not_read_done Finished command file before after one not_read = absurd not_read
-not_read_done Misused command file before after one not_read = absurd not_read
-not_read_done (Unread other) command file before after one not_read = record {
+-- where one file was not read, not all files of a list with that one alone were
+pub not_all_of_one : (e : Ending) (file : List ℕ) (before after : Outside) → IsNotRead e file before after → AreNotRead e (file ∷ []) before after
+not_all_of_one Finished file before after not_read = absurd not_read
+not_all_of_one Misused file before after not_read = absurd not_read
+not_all_of_one (Unread other) file before after not_read = record {
   first = [];
   rest = [];
-  named = rw not_read.0 one;
+  named = rw not_read.0 refl;
   contents = [];
   read = tt;
   cause = rw not_read.0 not_read.1;
   outside = not_read.2;
 }
-not_read_done (Denied other text) command file before after one not_read = absurd not_read
-not_read_done Unwritten command file before after one not_read = absurd not_read
-not_read_done (Unsaved other) command file before after one not_read = absurd not_read
-not_read_done (Unheard place) command file before after one not_read = absurd not_read
-not_read_done Starved command file before after one not_read = record { first = file ∷ []; rest = []; named = one; outside = not_read }
+not_all_of_one (Denied other text) file before after not_read = absurd not_read
+not_all_of_one Unwritten file before after not_read = absurd not_read
+not_all_of_one (Unsaved other) file before after not_read = absurd not_read
+not_all_of_one (Unheard place) file before after not_read = absurd not_read
+not_all_of_one Starved file before after not_read = record { first = file ∷ []; rest = []; named = refl; outside = not_read }
+
+-- a command whose one file was not read ends so
+pub not_read_done : (e : Ending) (command : Command) (file : List ℕ) (before after : Outside) → inputs_of command ≡ file ∷ [] → IsNotRead e file before after → IsDone e command before after
+not_read_done e command file before after one not_read =
+    not_all_read_done e command before after (subst (λ (files : List (List ℕ)). AreNotRead e files before after) (sym one) (not_all_of_one e file before after not_read))
 
 -- a report is all that is done, where no file is written
 pub comes_by_report : (e : Ending) (outcome : Outcome) (files : Option Files) (reads writes calls : ℕ) (had got : Option (List ℕ)) (faults now : ℕ) → outcome.output ≡ None → outcome.later ≡ [] → Reports e outcome had faults got now

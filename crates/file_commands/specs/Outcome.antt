@@ -1,5 +1,5 @@
 -- What the contents of the files that a command reads come to.
-use Rattle.std.specs.Prelude.{ℕ, ◌*◌, ◌==◌, if◌then◌else◌, nat_lt, ◌||◌, List, [], ◌∷◌, ◌++◌, length, drop, codes, decimal, map, slice_index_or, Option, Some, None, Result, Ok, Err}
+use Rattle.std.specs.Prelude.{ℕ, ◌*◌, ◌==◌, if◌then◌else◌, nat_lt, ◌||◌, List, [], ◌∷◌, ◌++◌, length, drop, codes, map, slice_index_or, Option, Some, None, Result, Ok, Err}
 use Rattle.xm_base.specs.declared.limits.TheConstants.{FILE_BYTES, IMAGE_BYTES, TICKS}
 use Rattle.xm_report.specs.Report.{texts}
 use Rattle.xm_conf.specs.Configuration.{Conf}
@@ -32,6 +32,7 @@ use Rattle.file_commands.specs.Packing.{container_of, denial, file_names}
 use Rattle.file_maker.specs.Parsing.{upgraded_of, xmc_of}
 use Rattle.file_maker.specs.Planning.{plan_lines_of, verdicts_of}
 use Rattle.file_maker.specs.Ready.{NoContainer, NoPartition, NoScript, OddInput, Replay as Readied, Unready, replay_of}
+use Rattle.file_maker.specs.Success.{ok_text}
 
 -- a file that is written
 pub record Output : Type 0 where
@@ -247,8 +248,8 @@ unfoldable pub replay_outcome : List ℕ → ℕ → List ℕ → ReplayFiles �
 replay_outcome container part script further bytes told input = replay_outcome_by container part script further (replay_of bytes part told input)
 
 -- what is printed of a file that was made
-unfoldable pub made_text : ℕ → List ℕ
-made_text length = codes "ok length=" ++ decimal length ++ codes "\n"
+abbrev pub made_text : ℕ → List ℕ
+made_text length = ok_text (codes "length=") length
 
 -- what a file comes to out of which another is made: that file, or a refusal
 abbrev pub file_made : List ℕ → List ℕ → Result (List ℕ) (List ℕ) → Outcome

@@ -6,9 +6,9 @@ use Rattle.file_maker.specs.declared.telling.Telling.TheVariants.{Image, Contain
 
 -- the command that reports this of a file
 abbrev pub command_telling : Telling → List ℕ → Command
-command_telling Image file = ReadImage file
-command_telling Container file = ListContainer file
-command_telling Verdict file = CheckContainer file
-command_telling Plan file = MakePlan file
-command_telling Verdicts file = CheckPlan file
-command_telling Groups file = TellGroups file
+command_telling Image = ReadImage
+command_telling Container = ListContainer
+command_telling Verdict = CheckContainer
+command_telling Plan = MakePlan
+command_telling Verdicts = CheckPlan
+command_telling Groups = TellGroups

@@ -1,6 +1,6 @@
 //! What was made is written or told.
 
-ghost use Rattle.std.specs.Prelude.{◌≡◌, ℕ, List, [], length, Ok, Result};
+ghost use Rattle.std.specs.Prelude.{◌≡◌, ℕ, List, length, Ok, Result};
 ghost use Rattle.xm_outside.specs.Causes.{HasCause};
 ghost use Rattle.xm_outside.specs.Growth.{Writes};
 ghost use Rattle.file_commands.specs.Denial.{Denial};
@@ -11,9 +11,8 @@ ghost use Rattle.file_commands.specs.Told.{MakesOr, vector_bytes, ending_of};
 ghost use Rattle.file_commands.specs.Work.{Comes, Reports, outside};
 
 use crate::ending::{Ending, Refusal};
-use file_maker::Unmade;
+use file_maker::{Unmade, ok_line};
 use xm_outside::{Failed, Sink, Store, write_all};
-use xm_report::Pen;
 
 /// Writes a file that was made out of another, and tells its length; or tells why it was not made.
 pub(crate) fn deliver<'a, S: Store, O: Sink>(
@@ -112,18 +111,6 @@ fn tell_length<O: Sink>(bytes: &[u8], out: &mut O) -> Result<(), Failed>
     ensures text { Writes result (O.got out.old) (made_text (length bytes.now)) (O.got out.new) }
     ensures cause { HasCause result (O.faults out.old) (O.faults out.new) }
 {
-    let mut pen = Pen::new();
-    length_line(&mut pen, bytes.len());
-    write_all(out, pen.bytes())
-}
-
-// Writes the line that tells a length.
-#[tactic(auto, unfolding(crate::specs::Outcome::made_text))]
-fn length_line(pen: &mut Pen, length: usize)
-    requires { pen.old ≡ [] }
-    ensures { pen.new ≡ made_text length }
-{
-    pen.text(b"ok length=");
-    pen.number(length as u64);
-    pen.text(b"\n");
+    let line = ok_line(b"length=", bytes.len());
+    write_all(out, line.bytes())
 }

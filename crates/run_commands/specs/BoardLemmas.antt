@@ -1,5 +1,5 @@
 -- What commands that run a system leave of the board of UARTs.
-use Rattle.std.proofs.Common.{◌≡◌, ℕ, ◌<◌, List, length, take, Option, Some, Ok, Err, refl, subst, ap, ◌∙◌}
+use Rattle.std.proofs.Common.{◌≡◌, ℕ, ◌<◌, List, [], ◌∷◌, length, take, Option, Some, Ok, Err, refl, subst, ap, ◌∙◌}
 use Rattle.machine_model.specs.Lines.{console}
 use Rattle.machine_model.specs.Machine.{Machine, start}
 use Rattle.loaded_system.specs.System.{System}
@@ -17,6 +17,7 @@ use Rattle.xm_words.specs.Words.{Command, PartFile}
 use Rattle.run_commands.specs.Behind.{EndsBehind}
 use Rattle.run_commands.specs.BehindLemmas.{behind_leaves}
 use Rattle.run_commands.specs.Boards.{IsLeft, IsRunTo, LeavesBoard}
+use Rattle.file_commands.specs.CommandLemmas.{not_all_of_one}
 use Rattle.file_commands.specs.Ending.{Ending, Finished, Misused, Unread, Denied, Unwritten, Unsaved, Unheard, Starved}
 use Rattle.file_commands.specs.Makes.{IsUnmadeOf}
 use Rattle.file_commands.specs.Outcome.{Output, Running, Together, inputs_of, outcome_of, outcome_of_run}
@@ -87,17 +88,7 @@ left_by (Unsaved file) command files contents had got before after read leaves =
 left_by (Unheard place) command files contents had got before after read leaves = record { contents = contents; read = read; leaves = leaves }
 left_by Starved command files contents had got before after read leaves = leaves
 
--- one whose one file was not read, or whose files were not all read
-pub left_unread : (e : Ending) (command : Command) (file : List ℕ) (files : Option Files) (before after : Outside) (had got : Option (List ℕ)) (board : BoardView) → IsNotRead e file before after → IsLeft e (Some command) files had got board board
-left_unread Finished command file files before after had got board not_read = absurd not_read
-left_unread Misused command file files before after had got board not_read = absurd not_read
-left_unread (Unread other) command file files before after had got board not_read = refl
-left_unread (Denied other text) command file files before after had got board not_read = absurd not_read
-left_unread Unwritten command file files before after had got board not_read = absurd not_read
-left_unread (Unsaved other) command file files before after had got board not_read = absurd not_read
-left_unread (Unheard place) command file files before after had got board not_read = absurd not_read
-left_unread Starved command file files before after had got board not_read = refl
-
+-- one whose files were not all read
 pub left_not_all_read : (e : Ending) (command : Command) (names : List (List ℕ)) (files : Option Files) (before after : Outside) (had got : Option (List ℕ)) (board : BoardView) → AreNotRead e names before after → IsLeft e (Some command) files had got board board
 left_not_all_read Finished command names files before after had got board not_read = absurd not_read
 left_not_all_read Misused command names files before after had got board not_read = absurd not_read
@@ -107,3 +98,8 @@ left_not_all_read Unwritten command names files before after had got board not_r
 left_not_all_read (Unsaved other) command names files before after had got board not_read = absurd not_read
 left_not_all_read (Unheard place) command names files before after had got board not_read = absurd not_read
 left_not_all_read Starved command names files before after had got board not_read = refl
+
+-- one whose one file was not read
+pub left_unread : (e : Ending) (command : Command) (file : List ℕ) (files : Option Files) (before after : Outside) (had got : Option (List ℕ)) (board : BoardView) → IsNotRead e file before after → IsLeft e (Some command) files had got board board
+left_unread e command file files before after had got board not_read =
+    left_not_all_read e command (file ∷ []) files before after had got board (not_all_of_one e file before after not_read)
