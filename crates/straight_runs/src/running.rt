@@ -21,7 +21,7 @@ const MOST: u64 = 0x1000_0000;
 pub struct RunEnd {
     /// How many instructions went.
     pub went: u64,
-    /// Whether the one after them calls the hypervisor. It was not done.
+    /// Whether the one after them is known to call the hypervisor. It was not done.
     pub calls: bool,
 }
 
