@@ -30,7 +30,7 @@ empty_numbers = record {
 }
 
 -- empty rows are kept of all words
-pub first_kept : (m : Memories) (rows : List Row) (firsts : List ℕ) (share first : ℕ) → AreMemories m → m.selected ≡ 0 → AreEmpty rows → length rows ≡ 393216 → share ≡ share_for (length m.areas) → firsts ≡ map first_address m.areas → first ≡ first_address (areas_at 0 m) → AreKept m rows firsts share 0 first
+pub first_kept : (m : Memories) (rows : List Row) (firsts : List ℕ) (share first : ℕ) → AreMemories m → m.selected ≡ 0 → AreEmpty rows → length rows ≡ 1048576 → share ≡ share_for (length m.areas) → firsts ≡ map first_address m.areas → first ≡ first_address (areas_at 0 m) → AreKept m rows firsts share 0 first
 first_kept m rows firsts share first are selected empty whole shared known start = record {
   are = are;
   shared = shared;

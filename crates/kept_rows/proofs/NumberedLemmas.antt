@@ -137,7 +137,7 @@ row_there m rows firsts share base first words place row is lie from under there
     below = omega (arith, lie.from, lie.under, from, under, shared)
 
 -- so it lies within all rows
-pub place_fits : (m : Memories) (rows : List Row) (firsts : List ℕ) (share base first : ℕ) (words : Words) (place : ℕ) → AreKept m rows firsts share base first → base + share ≤ 393216 → LieNumbered (areas_at m.selected m) (others_of m) words → place < words.end → place < length rows
+pub place_fits : (m : Memories) (rows : List Row) (firsts : List ℕ) (share base first : ℕ) (words : Words) (place : ℕ) → AreKept m rows firsts share base first → base + share ≤ 1048576 → LieNumbered (areas_at m.selected m) (others_of m) words → place < words.end → place < length rows
 place_fits m rows firsts share base first words place is fits lie under =
     let shared : share ≡ share_of (others_of m) = is.shared ∙ sym (share_is m is.are) in
     let placed : base ≡ base_of (others_of m) = is.place ∙ ap (λ (n : ℕ). m.selected * n) shared in

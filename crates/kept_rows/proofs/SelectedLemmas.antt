@@ -16,7 +16,7 @@ use Rattle.kept_rows.proofs.KeptLemmas.{first_low, first_whole, mapped_kept, six
 use Rattle.kept_rows.proofs.ShareLemmas.{share_fits}
 
 -- the share of the selected partition ends within all rows
-pub selected_fits : (old : Memories) (rows : List Row) (firsts : List ℕ) (share base first : ℕ) → AreKept old rows firsts share base first → base + share ≤ 393216
+pub selected_fits : (old : Memories) (rows : List Row) (firsts : List ℕ) (share base first : ℕ) → AreKept old rows firsts share base first → base + share ≤ 1048576
 selected_fits old rows firsts share base first is =
     let fits = share_fits old.selected share (length old.areas) is.are.selected is.shared in
     rw is.place fits

@@ -9,14 +9,14 @@ use Rattle.guest_bus.specs.declared.bus.Size.TheVariants.{One, Two, Four, Eight}
 use Rattle.kept_rows.specs.Shares.{IsReached, share_for, word_behind, words_written}
 
 -- all shares together are no more than all rows
-shares_fit : (count : ℕ) → count * share_for count ≤ 393216
+shares_fit : (count : ℕ) → count * share_for count ≤ 1048576
 unfolding share_for
-shares_fit count = omega (arith, div-mul-le_self 393216 count)
+shares_fit count = omega (arith, div-mul-le_self 1048576 count)
 
 -- so is that of each partition
-pub share_fits : (p share count : ℕ) → p < count → share ≡ share_for count → p * share + share ≤ 393216
+pub share_fits : (p share count : ℕ) → p < count → share ≡ share_for count → p * share + share ≤ 1048576
 share_fits p share count below is =
-    let all : share_for count * count ≤ 393216 = omega (arith, shares_fit count) in
+    let all : share_for count * count ≤ 1048576 = omega (arith, shares_fit count) in
     let one = row_fits_turned p (share_for count) (share_for count) count below (omega arith) in
     rw is (omega (arith, all, one))
 

@@ -18,7 +18,7 @@ first_address (area ∷ areas) = area.start
 
 -- how many words of each of so many partitions have rows
 unfoldable pub share_for : ℕ → ℕ
-share_for count = 393216 / count
+share_for count = 1048576 / count
 
 -- the share of the selected partition, and how many rows stand before it
 abbrev pub share_of : Others → ℕ
@@ -99,7 +99,7 @@ pub record LieNumbered (areas : List Area) (others : Others) (words : Words) : T
 pub record AreKept (memories : Memories) (rows : List Row) (firsts : List ℕ) (share base first : ℕ) : Type 0 where
   pub are : AreMemories memories
   pub shared : share ≡ share_for (length memories.areas)
-  pub whole : length rows ≡ 393216
+  pub whole : length rows ≡ 1048576
   pub known : firsts ≡ map first_address memories.areas
   pub place : base ≡ memories.selected * share
   pub start : first ≡ first_address (areas_at memories.selected memories)

@@ -36,7 +36,7 @@ fn empty_rows(rows: &mut [Row], begin: usize, count: usize)
 #[inline(always)]
 pub(crate) fn empty_words(rows: &mut [Row], base: usize, share: usize, place: usize, count: usize)
     requires share { base + share ≤ length rows.old }
-    requires few { length rows.old ≡ 393216 }
+    requires few { length rows.old ≡ 1048576 }
     requires place { place < 2 ^ 30 }
     requires count { count < 2 ^ 63 }
     ensures { AreReached base share place count rows.old rows.new }
@@ -55,7 +55,7 @@ pub(crate) fn empty_words(rows: &mut [Row], base: usize, share: usize, place: us
 #[inline(never)]
 fn empty_part(rows: &mut [Row], base: usize, share: usize, place: usize, count: usize)
     requires share { base + share ≤ length rows.old }
-    requires few { length rows.old ≡ 393216 }
+    requires few { length rows.old ≡ 1048576 }
     requires place { place < 2 ^ 30 }
     requires count { count < 2 ^ 63 }
     ensures { AreReached base share place count rows.old rows.new }
@@ -68,7 +68,7 @@ fn empty_part(rows: &mut [Row], base: usize, share: usize, place: usize, count: 
 fn reached(share: usize, place: usize, count: usize) -> (usize, usize)
     requires place { place < 2 ^ 30 }
     requires count { count < 2 ^ 63 }
-    requires share { share ≤ 393216 }
+    requires share { share ≤ 1048576 }
     ensures order { result.0 ≤ result.1 }
     ensures inside { result.1 ≤ share }
     ensures each { (k : ℕ) → k < share → IsReached place count k → (result.0 ≤ k) × (k < result.1) }
@@ -86,7 +86,7 @@ fn reached(share: usize, place: usize, count: usize) -> (usize, usize)
 #[inline(always)]
 pub(crate) fn empty_stored(rows: &mut [Row], base: usize, share: usize, place: usize, size: Size)
     requires share { base + share ≤ length rows.old }
-    requires few { length rows.old ≡ 393216 }
+    requires few { length rows.old ≡ 1048576 }
     requires place { place < 2 ^ 30 }
     ensures { AreReached base share place (words_written size) rows.old rows.new }
 {

@@ -260,7 +260,7 @@ impl HasRows for Kept {
 
 // How many rows stand before those of a partition.
 fn base_at(p: PartId, share: usize) -> usize
-    requires { p * share ≤ 393216 }
+    requires { p * share ≤ 1048576 }
     ensures { result ≡ p * share }
 {
     usize::from(p) * share

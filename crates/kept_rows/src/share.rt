@@ -7,7 +7,7 @@ ghost use Rattle.kept_rows.specs.Shares.{AreNumbered, share_for, word_behind};
 use guest_bus::Words;
 
 /// So many rows there are, for all partitions together.
-pub(crate) const ROWS: usize = 0x6_0000;
+pub(crate) const ROWS: usize = 0x10_0000;
 
 /// How many words of each of so many partitions have rows.
 #[tactic(auto, unfolding(crate::specs::Shares::share_for))]
@@ -35,7 +35,7 @@ pub(crate) fn numbered_in(words: Words, first: u32, base: usize, share: usize) -
     requires words { AreWords words }
     requires ends { word_address words.origin words.begin + 4 * (words.end - words.begin) ≤ 2 ^ 32 }
     requires first { first % 4 ≡ 0 }
-    requires base { base + share ≤ 393216 }
+    requires base { base + share ≤ 1048576 }
     ensures words { IfSome result AreWords }
     ensures numbered { IfSome result (AreNumbered words first base share) }
 {

@@ -15,7 +15,7 @@ base_at-base-requires c =
 pub empty_words-requires-clause-share : goal.empty_words-requires-clause-share
 empty_words-requires-clause-share c =
     let below = rw (← c.self.view_is) at c.requires in
-    let whole : length c.deref_mut.result.now ≡ 393216 = ap length c.deref_mut.ensures.value ∙ c.self.invariant.whole in
+    let whole : length c.deref_mut.result.now ≡ 1048576 = ap length c.deref_mut.ensures.value ∙ c.self.invariant.whole in
     omega (arith, whole, c.base_at-base.ensures, share_fits c.args.p c.self.inside.share (length c.self.inside.ram.areas) below c.self.invariant.shared)
 
 pub invariant_of-self : goal.invariant_of-self

@@ -15,7 +15,7 @@ overflow_add-self-inside c =
 
 pub put_row-requires : goal.put_row-requires
 put_row-requires c =
-    let whole : length c.deref_mut.result.now ≡ 393216 = ap length c.deref_mut.ensures.value ∙ c.self.invariant.whole in
+    let whole : length c.deref_mut.result.now ≡ 1048576 = ap length c.deref_mut.ensures.value ∙ c.self.invariant.whole in
     omega (arith, whole, c.if-place-self.true, selected_fits c.self.inside.ram c.self.inside.rows.items c.self.inside.firsts.items c.self.inside.share c.self.inside.base c.self.inside.first c.self.invariant)
 
 pub invariant_of-self : goal.invariant_of-self

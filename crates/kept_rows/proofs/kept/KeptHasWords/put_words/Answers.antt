@@ -9,7 +9,7 @@ use Rattle.kept_rows.proofs.kept.KeptHasWords.put_words.Goals as goal
 
 pub empty_words-requires-clause-share : goal.empty_words-requires-clause-share
 empty_words-requires-clause-share c =
-    let whole : length c.deref_mut.result.now ≡ 393216 = ap length c.deref_mut.ensures.value ∙ c.self.invariant.whole in
+    let whole : length c.deref_mut.result.now ≡ 1048576 = ap length c.deref_mut.ensures.value ∙ c.self.invariant.whole in
     omega (arith, whole, selected_fits c.self.inside.ram c.self.inside.rows.items c.self.inside.firsts.items c.self.inside.share c.self.inside.base c.self.inside.first c.self.invariant)
 
 pub invariant_of-self : goal.invariant_of-self
