@@ -13,6 +13,8 @@ use Rattle.xm_conf.specs.declared.health.Action.{Action}
 use Rattle.xm_conf.specs.declared.health.Event.{Event}
 use Rattle.xm_conf.specs.declared.part.HmTable.{HmTable}
 use Rattle.xm_conf.specs.declared.port.Port.{Port}
+use Rattle.xm_conf.specs.declared.port.Way.{Way}
+use Rattle.xm_conf.specs.declared.port.Way.TheVariants as way
 use Rattle.xm_conf.specs.declared.raw.Region.{Region}
 use Rattle.xmcf_reader.specs.declared.draft.Element.{Element}
 use Rattle.xmcf_reader.specs.declared.draft.Element.TheVariants as element
@@ -218,21 +220,17 @@ described_end ports part name = record { part = part; port = number_named (names
 unfoldable pub no_end : End
 no_end = record { part = 0; port = 0 }
 
--- a source
-abbrev pub source_of : List (List (List ℕ)) → Element → Option End
-source_of ports (element.Source part name) = Some (described_end ports part name)
-source_of ports _ = None
-
--- a destination
-abbrev pub dest_of : List (List (List ℕ)) → Element → Option End
-dest_of ports (element.Destination part name) = Some (described_end ports part name)
-dest_of ports _ = None
+-- the end of a channel that an element tells, where it tells one of this way: a source or a destination
+abbrev pub end_of_way : Way → List (List (List ℕ)) → Element → Option End
+end_of_way way.Source ports (element.Source part name) = Some (described_end ports part name)
+end_of_way way.Destination ports (element.Destination part name) = Some (described_end ports part name)
+end_of_way _ ports _ = None
 
 -- the channel that carries this, where there is one, by its children
 abbrev pub chan_with : List (List (List ℕ)) → List Entry → Option Carried → List Chan
 chan_with ports ends None = []
 chan_with ports ends (Some carried) =
-    record { kind = carried.kind; length = carried.size; source = unwrap_or (first_among (source_of ports) ends) no_end; dests = among (dest_of ports) ends } ∷ []
+    record { kind = carried.kind; length = carried.size; source = unwrap_or (first_among (end_of_way way.Source ports) ends) no_end; dests = among (end_of_way way.Destination ports) ends } ∷ []
 
 -- the channel that an entry is
 unfoldable pub described_chan : List (List (List ℕ)) → List Entry → ℕ → Entry → List Chan

@@ -18,30 +18,19 @@ use Rattle.xmcf_check.specs.declared.sorts.Sort.TheVariants as sort
 -- whether an element is of a sort
 abbrev pub is_of : Sort → Element → Bool
 is_of sort.Region (element.Region start size) = true
-is_of sort.Region _ = false
 is_of sort.Uart (element.Uart id name) = true
-is_of sort.Uart _ = false
 is_of sort.Plan (element.Plan id frame) = true
-is_of sort.Plan _ = false
 is_of sort.Slot (element.Slot id start duration part) = true
-is_of sort.Slot _ = false
 is_of sort.Part (element.Partition id name system console) = true
-is_of sort.Part _ = false
 is_of sort.Area (element.Area start size read_only) = true
-is_of sort.Area _ = false
 is_of sort.Port (element.Port name kind way) = true
-is_of sort.Port _ = false
 is_of (sort.Answer wanted) (element.Event event action log) = (event_row event).number == (event_row wanted).number
-is_of (sort.Answer wanted) _ = false
 is_of sort.Chan (element.Sampling length refresh) = true
 is_of sort.Chan (element.Queuing length most) = true
-is_of sort.Chan _ = false
 is_of sort.Source (element.Source part name) = true
-is_of sort.Source _ = false
 is_of sort.Dest (element.Destination part name) = true
-is_of sort.Dest _ = false
 is_of sort.Link (element.Ipvi id source dest) = true
-is_of sort.Link _ = false
+is_of _ _ = false
 
 -- whether an entry belongs to an owner: to none, to its parent, or to its parent's parent
 abbrev pub belongs : List Entry → Owner → Entry → Bool

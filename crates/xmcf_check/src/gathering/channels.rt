@@ -3,8 +3,9 @@
 ghost use Rattle.std.specs.Prelude.{◌≡◌, ◌<◌, ◌++◌, IfOk, OnOk, length, map, slice_get};
 ghost use Rattle.xm_base.specs.Options.{on};
 ghost use Rattle.xmcf_reader.specs.Drafts.{IsDraft};
+ghost use Rattle.xm_conf.specs.declared.port.Way.TheVariants as way;
 ghost use Rattle.xmcf_check.specs.Capped.{capped_chan, capped_end};
-ghost use Rattle.xmcf_check.specs.Described.{among, chan_with, chans_by, children, dest_of, described_end, first_among, port_names, source_of, with_parent};
+ghost use Rattle.xmcf_check.specs.Described.{among, chan_with, chans_by, children, described_end, end_of_way, first_among, port_names, with_parent};
 ghost use Rattle.xmcf_check.specs.Elements.{capped_carried, carried_of};
 ghost use Rattle.xmcf_check.specs.Families.{picked};
 ghost use Rattle.xmcf_check.specs.Numbers.{HasPortNumbers};
@@ -15,7 +16,7 @@ use crate::numbers::{port_number, port_numbers};
 use indexmap::IndexMap;
 use std::alloc::Global;
 use xm_base::Memory;
-use xm_conf::{Chan, End, Name, Part};
+use xm_conf::{Chan, End, Name, Part, Way};
 use xmcf_reader::{Element, Entry};
 
 /// The end that a partition's number and a port's name tell, with both numbers capped.
@@ -35,32 +36,23 @@ fn end_named(
     }
 }
 
-/// A source.
-fn source_of(
+/// The end that an element tells, where it tells one of this way.
+fn end_of_way(
     parts: &[Part],
     numbers: &IndexMap<(usize, &[u8]), usize>,
+    way: Way,
     element: &Element,
 ) -> Option<End>
     requires { HasPortNumbers parts.now numbers.now }
-    ensures { result ≡ on capped_end (source_of (port_names parts.now) element.now) }
+    ensures { result ≡ on capped_end (end_of_way way (port_names parts.now) element.now) }
 {
-    match element {
-        Element::Source { part, name } => Some(end_named(parts, numbers, *part, name)),
-        _ => None,
-    }
-}
-
-/// A destination.
-fn dest_of(
-    parts: &[Part],
-    numbers: &IndexMap<(usize, &[u8]), usize>,
-    element: &Element,
-) -> Option<End>
-    requires { HasPortNumbers parts.now numbers.now }
-    ensures { result ≡ on capped_end (dest_of (port_names parts.now) element.now) }
-{
-    match element {
-        Element::Destination { part, name } => Some(end_named(parts, numbers, *part, name)),
+    match (way, element) {
+        (Way::Source, Element::Source { part, name }) => {
+            Some(end_named(parts, numbers, *part, name))
+        }
+        (Way::Destination, Element::Destination { part, name }) => {
+            Some(end_named(parts, numbers, *part, name))
+        }
         _ => None,
     }
 }
@@ -73,11 +65,11 @@ fn source(
     number: usize,
 ) -> Option<End>
     requires { HasPortNumbers parts.now numbers.now }
-    ensures { result ≡ first_among (λ element. on capped_end (source_of (port_names parts.now) element)) (with_parent number inside.now) }
+    ensures { result ≡ first_among (λ element. on capped_end (end_of_way way.Source (port_names parts.now) element)) (with_parent number inside.now) }
 {
     for entry in inside {
         if is_child(entry, number) {
-            if let Some(end) = source_of(parts, numbers, &entry.what) {
+            if let Some(end) = end_of_way(parts, numbers, Way::Source, &entry.what) {
                 return Some(end);
             }
         }
@@ -94,12 +86,12 @@ fn dests(
     number: usize,
 ) -> Result<Vec<End>, Memory>
     requires { HasPortNumbers parts.now numbers.now }
-    ensures { IfOk result (λ dests. dests.items ≡ among (λ element. on capped_end (dest_of (port_names parts.now) element)) (with_parent number inside.now)) }
+    ensures { IfOk result (λ dests. dests.items ≡ among (λ element. on capped_end (end_of_way way.Destination (port_names parts.now) element)) (with_parent number inside.now)) }
 {
     let mut dests = Vec::new(alloc);
     for entry in inside {
         if is_child(entry, number) {
-            if let Some(end) = dest_of(parts, numbers, &entry.what) {
+            if let Some(end) = end_of_way(parts, numbers, Way::Destination, &entry.what) {
                 dests.push(end)?;
             }
         }

@@ -2,32 +2,13 @@
 
 ghost use Rattle.std.specs.Prelude.{◌≡◌, ◌≤◌, ◌^◌, ◌++◌, IfOk, OnOk, flat_map};
 ghost use Rattle.xm_conf.specs.Health.{event_row};
-ghost use Rattle.xmcf_check.specs.Described.{given_action_for, among, answers_of, answers_to, flag_for, given_to, hm_of, is_to, log_given, logged_of, with_grandparent};
-ghost use Rattle.xmcf_check.specs.Elements.{element_answer};
+ghost use Rattle.xmcf_check.specs.Described.{given_action_for, answers_of, answers_to, flag_for, given_to, hm_of, is_to, log_given, logged_of};
 
-use crate::elements::{Given, given_of};
-use crate::family::is_grandchild;
+use crate::elements::Given;
 use crate::gathered::Answer;
-use std::alloc::{AllocError, Global};
+use std::alloc::Global;
 use xm_base::Memory;
 use xm_conf::{Action, EVENTS, Event, HmTable};
-use xmcf_reader::Entry;
-
-/// The answers among entries that are given by children of children of the entry of a number.
-pub(super) fn given(
-    alloc: Global,
-    entries: &[Entry],
-    inside: &[Entry],
-    number: usize,
-) -> Result<Vec<Given>, AllocError>
-    ensures { IfOk result (λ given. given.items ≡ among element_answer (with_grandparent entries.now number inside.now)) }
-{
-    inside
-        .iter()
-        .filter(|entry| is_grandchild(entries, entry, number))
-        .filter_map(|entry| given_of(&entry.what))
-        .collect(alloc)
-}
 
 /// Whether what is given answers the event.
 fn is_to(event: Event, given: &Given) -> bool

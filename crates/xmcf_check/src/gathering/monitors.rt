@@ -6,9 +6,9 @@ ghost use Rattle.xmcf_check.specs.Described.{grandchildren, monitor_with, monito
 ghost use Rattle.xmcf_check.specs.Elements.{part_id_of};
 ghost use Rattle.xmcf_check.specs.Families.{picked};
 
-use super::health::{answers, given};
-use crate::elements::part_id_of;
-use crate::family::within;
+use super::health::answers;
+use crate::elements::{given_of, part_id_of};
+use crate::family::{all_of_grandchildren, within};
 use crate::gathered::Answer;
 use std::alloc::Global;
 use xm_base::Memory;
@@ -37,7 +37,8 @@ fn push_monitor(
 {
     match part_id_at(entries, number) {
         Some(_) => {
-            let given = given(alloc, entries, within(entries, number), number)?;
+            let inside = within(entries, number);
+            let given = all_of_grandchildren(alloc, entries, inside, number, given_of)?;
             let answers = answers(alloc, &given)?;
             monitors.push(answers)?;
             Ok(())

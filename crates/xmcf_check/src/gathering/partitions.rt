@@ -4,80 +4,20 @@ ghost use Rattle.std.specs.Prelude.{◌≡◌, ◌<◌, ◌++◌, ◌∷◌, [],
 ghost use Rattle.xm_base.specs.Options.{on};
 ghost use Rattle.xmcf_reader.specs.Drafts.{IsDraft};
 ghost use Rattle.xmcf_check.specs.Capped.{capped, capped_part};
-ghost use Rattle.xmcf_check.specs.Described.{among, children, first_among, grandchildren, number_named, part_with, parts_by, with_grandparent, with_parent};
-ghost use Rattle.xmcf_check.specs.Elements.{element_area, mask_of, element_need, element_own, element_port};
+ghost use Rattle.xmcf_check.specs.Described.{children, grandchildren, number_named, part_with, parts_by};
+ghost use Rattle.xmcf_check.specs.Elements.{element_own};
 ghost use Rattle.xmcf_check.specs.Families.{picked};
 ghost use Rattle.xmcf_check.specs.Numbers.{HasFirsts};
 
-use super::health::{given, table};
-use crate::elements::{Own, area_of, item_byte, mask_of, need_of, own_of, port_of};
-use crate::family::{is_child, is_grandchild, within};
+use super::health::table;
+use crate::elements::{Own, area_of, given_of, item_byte, mask_of, need_of, own_of, port_of};
+use crate::family::{all_of_grandchildren, first_of_children, within};
 use crate::numbers::{name_numbers, number_of};
 use indexmap::IndexMap;
-use std::alloc::{AllocError, Global};
+use std::alloc::Global;
 use xm_base::Memory;
-use xm_conf::{Area, Name, Need, Part, Port};
+use xm_conf::{Name, Part};
 use xmcf_reader::Entry;
-
-/// What time the first child of the entry of a number that does so requires.
-fn need(inside: &[Entry], number: usize) -> Option<Need>
-    ensures { result ≡ first_among element_need (with_parent number inside.now) }
-{
-    for entry in inside {
-        if is_child(entry, number) {
-            if let Some(need) = need_of(&entry.what) {
-                return Some(need);
-            }
-        }
-    }
-    None
-}
-
-/// The mask of the first child of the entry of a number that has one.
-fn mask(inside: &[Entry], number: usize) -> Option<u32>
-    ensures { result ≡ first_among mask_of (with_parent number inside.now) }
-{
-    for entry in inside {
-        if is_child(entry, number) {
-            if let Some(mask) = mask_of(&entry.what) {
-                return Some(mask);
-            }
-        }
-    }
-    None
-}
-
-/// The areas among the children of children of the entry of a number.
-fn areas(
-    alloc: Global,
-    entries: &[Entry],
-    inside: &[Entry],
-    number: usize,
-) -> Result<Vec<Area>, AllocError>
-    ensures { IfOk result (λ areas. areas.items ≡ among element_area (with_grandparent entries.now number inside.now)) }
-{
-    inside
-        .iter()
-        .filter(|entry| is_grandchild(entries, entry, number))
-        .filter_map(|entry| area_of(&entry.what))
-        .collect(alloc)
-}
-
-/// The ports among the children of children of the entry of a number.
-fn ports(
-    alloc: Global,
-    entries: &[Entry],
-    inside: &[Entry],
-    number: usize,
-) -> Result<Vec<Port>, AllocError>
-    ensures { IfOk result (λ ports. ports.items ≡ among element_port (with_grandparent entries.now number inside.now)) }
-{
-    inside
-        .iter()
-        .filter(|entry| is_grandchild(entries, entry, number))
-        .filter_map(|entry| port_of(&entry.what))
-        .collect(alloc)
-}
 
 /// The number of the UART that a console names, capped.
 fn console(uarts: &[Name], numbers: &IndexMap<&[u8], usize>, name: &Option<Name>) -> Option<u8>
@@ -115,15 +55,17 @@ fn part(
     ensures { IfOk result (λ part. part ∷ [] ≡ map capped_part (part_with uarts.now (children number entries.now) (grandchildren number entries.now) (Some own.now))) }
 {
     let inside = within(entries, number);
-    let given = given(alloc, entries, inside, number)?;
-    let areas = areas(alloc, entries, inside, number)?;
-    let ports = ports(alloc, entries, inside, number)?;
+    let given = all_of_grandchildren(alloc, entries, inside, number, given_of)?;
+    let areas = all_of_grandchildren(alloc, entries, inside, number, area_of)?;
+    let ports = all_of_grandchildren(alloc, entries, inside, number, port_of)?;
+    let need = first_of_children(inside, number, need_of);
+    let mask = first_of_children(inside, number, mask_of);
     Ok(Part {
         name: own.name,
         system: own.system,
         console: console(uarts, numbers, &own.console),
-        need: need(inside, number),
-        trace_mask: mask(inside, number).unwrap_or(0),
+        need,
+        trace_mask: mask.unwrap_or(0),
         hm: table(&given),
         areas,
         ports,
