@@ -12,9 +12,9 @@ pub returns : goal.returns
 returns c =
     let table : (List Action → HmTable) = λ actions. record { actions = actions; logged = 0xfff } in
     let is : c.map.result ≡ map default_action events =
-        ext_get_or Halt c.map.result (map default_action events) c.map.ensures.items.long (λ i below.
-        let there : i < 12 = omega (arith, below, c.map.ensures.items.long) in
-        let gives = (c.map.ensures.items.at i PartitionError Halt there).2 in
-        let given : get_or c.map.result i Halt ≡ default_action (get_or events i PartitionError) = search gives in
-        given ∙ sym (get_or-map default_action events i PartitionError Halt there)) in
+    ext_get_or Halt c.map.result (map default_action events) c.map.ensures.items.long (λ i below.
+    let there : i < 12 = omega (arith, below, c.map.ensures.items.long) in
+    let gives = (c.map.ensures.items.at i PartitionError Halt there).2 in
+    let given : get_or c.map.result i Halt ≡ default_action (get_or events i PartitionError) = search gives in
+    given ∙ sym (get_or-map default_action events i PartitionError Halt there)) in
     record { value = ap table is }
