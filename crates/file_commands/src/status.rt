@@ -1,7 +1,6 @@
 //! How a call ends, as the system is told it.
 
-ghost use Rattle.std.specs.Prelude.{◌≡◌};
-ghost use Rattle.file_commands.specs.Status.{code_of};
+ghost use Rattle.file_commands.specs.Status.{IsCodeOf};
 
 /// How a call ended.
 #[derive(Clone, Copy, Debug, PartialEq, Eq)]
@@ -25,7 +24,7 @@ pub enum Status {
 impl Status {
     /// The program's exit status.
     pub fn code(self) -> u8
-        ensures { result ≡ code_of self }
+        ensures { IsCodeOf self result }
     {
         self as u8
     }

@@ -3,7 +3,7 @@ use Rattle.std.proofs.Common.{◌≡◌, ℕ, zero, suc, ◌+◌, ◌-◌, ◌<�
 use Rattle.std.proofs.lemmas.List.{map-set}
 use Rattle.std.specs.Prelude.{option_map}
 use Rattle.uart_board.specs.Views.{BoardView, UartView}
-use Rattle.file_commands.specs.Status.{code_of}
+use Rattle.file_commands.specs.Status.{IsCodeOf}
 use Rattle.file_commands.specs.declared.status.Status.{Status}
 use Rattle.file_commands.specs.declared.status.Status.TheVariants.{Done}
 use Rattle.xm_commands.specs.Called.{IsSomeCall}
@@ -43,7 +43,7 @@ board_more view places marks place uart within before same =
 
 -- a call over the whole board, with devices that counted no fault before
 pub ended : (exit : ℕ) (status : Status) (before after error_before error_after place : ℕ) (board left : BoardView)
-    → exit ≡ code_of status → before ≡ 0 → error_before ≡ 0 → place ≡ 8 → board ≡ filled place
+    → IsCodeOf status exit → before ≡ 0 → error_before ≡ 0 → place ≡ 8 → board ≡ filled place
     → IsSomeCall status None before None after None error_before None error_after board left → (status ≡ Done → error_after ≡ 0) → IsEnded exit
 ended exit status before after error_before error_after place board left code none no_error last whole call silent = record {
   status = status;

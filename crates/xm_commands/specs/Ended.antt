@@ -1,7 +1,7 @@
 -- How the program ends: its exit status, over the files of its UARTs.
 use Rattle.std.specs.Prelude.{◌≡◌, ℕ, ◌-◌, List, ◌++◌, Option, Some, None, replicate}
 use Rattle.uart_board.specs.Views.{BoardView, UartView}
-use Rattle.file_commands.specs.Status.{code_of}
+use Rattle.file_commands.specs.Status.{IsCodeOf}
 use Rattle.file_commands.specs.declared.status.Status.{Status}
 use Rattle.file_commands.specs.declared.status.Status.TheVariants.{Done}
 use Rattle.xm_commands.specs.Called.{IsSomeCall}
@@ -25,7 +25,7 @@ pub record IsEnded (exit : ℕ) : Type 0 where
   pub faults : ℕ
   pub error_faults : ℕ
   pub left : BoardView
-  pub code : exit ≡ code_of status
+  pub code : IsCodeOf status exit
   pub call : IsSomeCall status None 0 None faults None 0 None error_faults file_board left
   -- after Done no write to the error output failed
   pub silent : status ≡ Done → error_faults ≡ 0

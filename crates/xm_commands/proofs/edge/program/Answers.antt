@@ -1,6 +1,8 @@
 use Rattle.std.proofs.Common.{◌≡◌, ◌<◌, None, refl, ap, ◌∙◌, arith}
+use Rattle.std.specs.Prelude.{slice_get}
 use Rattle.uart_board.specs.Views.{UartView}
 use denote.Param.Object.{read_made}
+use Rattle.file_commands.specs.Status.{statuses}
 use Rattle.xm_commands.proofs.edge.program.OwnLists.{at-1-1, own-1}
 use Rattle.xm_commands.proofs.FileBoardLemmas.{board_more, ended}
 use Rattle.xm_commands.proofs.CallLemmas.{starved_call}
@@ -16,7 +18,7 @@ returns-in_default g c = record {
     faults = 0;
     error_faults = 0;
     left = _;
-    code = c.from.ensures ∙ c.code.ensures;
+    code = ap (slice_get statuses) c.from.ensures ∙ c.code.ensures;
     call = starved_call None 0 None 0 _;
     silent = λ _. refl;
   };
@@ -33,6 +35,6 @@ pub returns : goal.returns
 returns g c =
     let last : c.loop-place.place ≡ 8 = omega (arith, c.loop-place.auto.place-end, c.loop-place-test.false) in
     record {
-      ended = ended _ c.run.result _ _ _ _ c.loop-place.place _ _ (c.from-2.ensures ∙ c.code-2.ensures) c.new-out.ensures c.new-err.ensures last c.loop-place.invariant c.run.ensures.called
+      ended = ended _ c.run.result _ _ _ _ c.loop-place.place _ _ (ap (slice_get statuses) c.from-2.ensures ∙ c.code-2.ensures) c.new-out.ensures c.new-err.ensures last c.loop-place.invariant c.run.ensures.called
           (λ done. ap (λ err. err.faults) (c.run.ensures.silent done) ∙ c.new-err.ensures);
     }
