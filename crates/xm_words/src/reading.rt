@@ -3,7 +3,7 @@
 ghost use Rattle.std.specs.Prelude.{◌≡◌, ◌&&◌};
 ghost use Rattle.xm_words.specs.Seen.{command_seen, seen_command};
 ghost use Rattle.xm_words.specs.Texts.{texts_of};
-ghost use Rattle.xm_words.specs.Words.{BuildImage, Pack, Parse, Upgrade, TellGroups, are_part_files, asked, bare_of, by_verb, command_by_count, command_of, command_of_more, command_of_one, command_of_three, command_of_two, format_command, generate_for, is_file, of_file, of_files, pack_command, part_files, plan_command, replay_by, replay_command, run_of, seed_of, ticks_of, part_number, replay_files};
+ghost use Rattle.xm_words.specs.Words.{Pack, Parse, TellGroups, are_part_files, asked, bare_of, by_verb, command_by_count, command_of, command_of_more, command_of_one, command_of_three, command_of_two, format_command, generate_for, is_file, of_file, of_files, pack_command, part_files, plan_command, replay_by, replay_command, run_of, seed_of, ticks_of, part_number, replay_files};
 
 use crate::commands::Command;
 use crate::numbers::{part, seed, ticks};
@@ -105,16 +105,24 @@ fn command_of_two<'a>(name: &str, first: &'a str, second: &'a str) -> Option<Com
 #[tactic(auto, unfolding(crate::specs::Words::command_of_three))]
 fn command_of_three<'a>(
     name: &str,
-    first: &'a str,
-    second: &'a str,
-    third: &'a str,
+    verb: &str,
+    input: &'a str,
+    output: &'a str,
 ) -> Option<Command<'a>>
-    ensures { command_seen result ≡ command_of_three name.now first.now second.now third.now }
+    ensures { command_seen result ≡ command_of_three name.now verb.now input.now output.now }
 {
-    if name == "xmeformat" && first == "build" {
-        build_image(second, third)
-    } else if name == "xmcparser" && first == "upgrade" {
-        upgrade(second, third)
+    if name == "xmeformat" && verb == "build" {
+        let command = Command::BuildImage {
+            program: input,
+            output,
+        };
+        of_files(input, output, command)
+    } else if name == "xmcparser" && verb == "upgrade" {
+        let command = Command::Upgrade {
+            configuration: input,
+            output,
+        };
+        of_files(input, output, command)
     } else {
         None
     }
@@ -198,36 +206,19 @@ fn replay_by<'a>(
 fn parse<'a>(description: &'a str, output: &'a str) -> Option<Command<'a>>
     ensures { command_seen result ≡ of_files Parse description.now output.now }
 {
-    if is_file(description) && is_file(output) {
-        Some(Command::Parse {
-            description,
-            output,
-        })
-    } else {
-        None
-    }
+    let command = Command::Parse {
+        description,
+        output,
+    };
+    of_files(description, output, command)
 }
 
-/// The configuration that two words ask to make again.
-fn upgrade<'a>(configuration: &'a str, output: &'a str) -> Option<Command<'a>>
-    ensures { command_seen result ≡ of_files Upgrade configuration.now output.now }
+/// The command of two files, where their words name some.
+fn of_files<'a>(first: &str, second: &str, command: Command<'a>) -> Option<Command<'a>>
+    ensures { command_seen result ≡ asked (is_file first.now && is_file second.now) (seen_command command.entry) }
 {
-    if is_file(configuration) && is_file(output) {
-        Some(Command::Upgrade {
-            configuration,
-            output,
-        })
-    } else {
-        None
-    }
-}
-
-/// The image that two words ask for.
-fn build_image<'a>(program: &'a str, output: &'a str) -> Option<Command<'a>>
-    ensures { command_seen result ≡ of_files BuildImage program.now output.now }
-{
-    if is_file(program) && is_file(output) {
-        Some(Command::BuildImage { program, output })
+    if is_file(first) && is_file(second) {
+        Some(command)
     } else {
         None
     }
