@@ -1,9 +1,9 @@
 -- Rows that are kept stay so where words are written and their rows emptied.
-use Rattle.std.proofs.Common.{◌≡◌, ◌≢◌, ◌⊎◌, ℕ, ◌+◌, ◌*◌, ◌/◌, ◌%◌, ◌^◌, ◌<◌, ◌≤◌, Bool, true, false, ◌==◌, List, [], ◌∷◌, length, get_or, Option, Some, None, Result, Ok, Err, refl, sym, ap, ◌∙◌, inl, inr, ⊎_elim, subst, arith, eqb-true}
+use Rattle.std.proofs.Common.{◌≡◌, ◌≢◌, ◌⊎◌, ℕ, suc, ◌+◌, ◌*◌, ◌/◌, ◌%◌, ◌^◌, ◌<◌, ◌≤◌, Bool, true, false, ◌==◌, List, [], ◌∷◌, length, get_or, Option, Some, None, Result, Ok, Err, refl, sym, ap, ◌∙◌, inl, inr, ⊎_elim, subst, arith, eqb-true}
 use Rattle.std.specs.Bool.{OnTrue}
 use Rattle.std.specs.FinMap.{empty}
 use Rattle.std.specs.Int.{byte_len, to_be_bytes}
-use Rattle.std.specs.Prelude.{OnErr, OnOk, slice_get}
+use Rattle.std.specs.Prelude.{All, OnErr, OnOk, min, slice_get}
 use Rattle.std.proofs.lemmas.Bool.{cases_eq}
 use Rattle.std.proofs.lemmas.List.{get_or-map, get_or-set_other, get_or-set_same}
 use Rattle.guest_bus.specs.Access.{access_fault, after_store, memory_unless_refused, store_fault, width_of}
@@ -12,8 +12,8 @@ use Rattle.guest_bus.specs.Memory.{Area, Memory, is_writable, with_bytes}
 use Rattle.guest_bus.specs.Words.{MayStand, bytes_of}
 use Rattle.guest_bus.specs.declared.bus.BusFault.{BusFault}
 use Rattle.guest_bus.specs.declared.bus.Size.{Size}
-use Rattle.guest_memory.specs.Memories.{AreMemories, ArePlaced, Memories, areas_at, map_at, with_map, with_selected}
-use Rattle.kept_rows.specs.Shares.{AreEmptied, AreKept, AreReached, IsReached, WasEmptied, emptied, first_address, word_behind, words_written}
+use Rattle.guest_memory.specs.Memories.{AreMemories, ArePlaced, IsPlaced, Memories, areas_at, map_at, with_map, with_selected}
+use Rattle.kept_rows.specs.Shares.{AreEmptied, AreKept, AreReached, IsReached, WasEmptied, emptied, first_address, lowest, word_behind, words_written}
 use Rattle.word_rows.specs.Kept.{AreKeptRows, IsKeptRow}
 use Rattle.word_rows.specs.KeptLemmas.{empty_kept, kept_apart}
 use Rattle.word_rows.specs.Rows.{AreRegisterNumbers}
@@ -114,14 +114,23 @@ reached_moved base there share place address count rows old new moved placed sam
     (subst (λ (k : ℕ). AreReached base share k count old new) placed
     (subst (λ (r : List Row). AreReached base share place count r new) same reached))
 
--- the first address of a partition is that of a word
+-- the lowest address of areas is that of a word
+lowest_whole : (least : ℕ) (areas : List Area) → least % 4 ≡ 0 → All IsPlaced areas → lowest least areas % 4 ≡ 0
+lowest_whole least [] whole all = whole
+lowest_whole least (area ∷ areas) whole all =
+    lowest_whole (min least area.start) areas (omega (arith, whole, (all 0 area (omega arith)).start)) (λ i d below. all (suc i) d (omega (arith, below)))
+
+lowest_low : (least : ℕ) (areas : List Area) → least ≤ 2 ^ 32 → lowest least areas ≤ 2 ^ 32
+lowest_low least [] low = low
+lowest_low least (area ∷ areas) low = lowest_low (min least area.start) areas (omega (arith, low))
+
 pub first_whole : (areas : List Area) → ArePlaced areas → first_address areas % 4 ≡ 0
 first_whole [] placed = refl
-first_whole (area ∷ areas) placed = omega (arith, (placed.each 0 area (omega arith)).start)
+first_whole (area ∷ areas) placed = lowest_whole area.start areas (omega (arith, (placed.each 0 area (omega arith)).start)) (λ i d below. placed.each (suc i) d (omega (arith, below)))
 
 pub first_low : (areas : List Area) → ArePlaced areas → first_address areas ≤ 2 ^ 32
 first_low [] placed = omega arith
-first_low (area ∷ areas) placed = omega (arith, (placed.each 0 area (omega arith)).ends)
+first_low (area ∷ areas) placed = lowest_low area.start areas (omega (arith, (placed.each 0 area (omega arith)).ends))
 
 -- the first address of a partition, as it is at hand
 pub first_at : (m : Memories) (rows : List Row) (firsts : List ℕ) (share base first p other : ℕ) → AreKept m rows firsts share base first → p < length m.areas → get_or firsts p other ≡ first_address (areas_at p m)

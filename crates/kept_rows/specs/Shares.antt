@@ -1,5 +1,5 @@
 -- The rows of each partition, and which words they are of.
-use Rattle.std.specs.Prelude.{◌≡◌, ℕ, ◌+◌, ◌-◌, ◌*◌, ◌/◌, ◌%◌, ◌^◌, ◌<◌, ◌≤◌, ◌⊎◌, List, [], ◌∷◌, Some, None, length, map, slice_get, slice_index_or, slice_set}
+use Rattle.std.specs.Prelude.{◌≡◌, ℕ, ◌+◌, ◌-◌, ◌*◌, ◌/◌, ◌%◌, ◌^◌, ◌<◌, ◌≤◌, ◌⊎◌, List, [], ◌∷◌, Some, None, length, map, min, slice_get, slice_index_or, slice_set}
 use Rattle.guest_bus.specs.Access.{access_fault}
 use Rattle.guest_bus.specs.Memory.{Area, Others, is_readable}
 use Rattle.guest_bus.specs.Words.{word_address}
@@ -11,10 +11,14 @@ use Rattle.word_rows.specs.Kept.{AreKeptRows}
 use Rattle.word_rows.specs.Kinds.{unmade}
 use Rattle.word_rows.specs.declared.rows.Row.{Row}
 
--- the first address of areas
+-- the lowest address of areas, none of which begins below it
+abbrev pub lowest : ℕ → List Area → ℕ
+lowest least [] = least
+lowest least (area ∷ areas) = lowest (min least area.start) areas
+
 abbrev pub first_address : List Area → ℕ
 first_address [] = 0
-first_address (area ∷ areas) = area.start
+first_address (area ∷ areas) = lowest area.start areas
 
 -- how many words of each of so many partitions have rows
 unfoldable pub share_for : ℕ → ℕ

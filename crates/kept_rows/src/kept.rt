@@ -5,7 +5,7 @@ ghost use Rattle.guest_bus.specs.Access.{fetched};
 ghost use Rattle.guest_bus.specs.Memory.{all_from, bytes_at, is_readable, is_writable, with_bytes};
 ghost use Rattle.guest_memory.specs.Loading.{LiesInAreas, area_of, areas_with_image, memory_areas, zeros_in};
 ghost use Rattle.guest_memory.specs.Memories.{AreMemories, SameElsewhere, answer_by, areas_at, first_refused, map_at, others_of, with_map, with_selected};
-ghost use Rattle.kept_rows.specs.Shares.{AreEmpty, LieNumbered, first_address};
+ghost use Rattle.kept_rows.specs.Shares.{AreEmpty, LieNumbered, first_address, lowest};
 
 use crate::emptied::{empty_stored, empty_words};
 use crate::share::{ROWS, numbered_in, share_for, word_behind};
@@ -301,7 +301,7 @@ fn firsts_of(alloc: Global, parts: &[Part]) -> Result<Vec<u32>, AllocError>
     Ok(firsts)
 }
 
-// The first address of a partition.
+// The lowest address of a partition.
 #[tactic(auto, unfolding(guest_memory::specs::Loading::memory_areas))]
 fn first_in(part: &Part) -> u32
     ensures { result ≡ first_address (memory_areas part.now) }
@@ -309,12 +309,23 @@ fn first_in(part: &Part) -> u32
     first_address(&part.areas)
 }
 
-// The first address of areas.
+// The lowest address of areas.
 fn first_address(areas: &[Area]) -> u32
     ensures { result ≡ first_address (map area_of areas.now) }
 {
-    match areas.first() {
-        Some(area) => area.start,
+    match areas.split_first() {
+        Some((first, others)) => lowest(first.start, others),
         None => 0,
     }
+}
+
+// The least of an address and those where areas begin.
+fn lowest(from: u32, areas: &[Area]) -> u32
+    ensures { result ≡ lowest from (map area_of areas.now) }
+{
+    let mut least = from;
+    for area in areas {
+        least = least.min(area.start);
+    }
+    least
 }
