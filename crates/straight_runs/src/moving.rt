@@ -5,7 +5,6 @@ ghost use Rattle.std.specs.Bool.{OnTrue};
 ghost use Rattle.guest_bus.specs.Access.{after_store, store_fault};
 ghost use Rattle.guest_bus.specs.declared.bus.Size.TheVariants.{Eight};
 ghost use Rattle.sparc_code.specs.declared.instruction.MemOp.TheVariants.{LdD, StD};
-ghost use Rattle.sparc_step.specs.Transfers.{pair_at, with_pair};
 ghost use Rattle.straight_runs.specs.Effects.{IsTransferred, extended_by};
 ghost use Rattle.word_rows.specs.Kinds.{load_by_size, store_by_size, transfer_of};
 
@@ -155,30 +154,11 @@ fn load_double<B: Bus>(own: &mut Processor, bus: &mut B, rd: u8, address: u32) -
     }
     match bus.load(address, Size::Eight) {
         Ok(value) => {
-            set_pair(own, rd, value);
+            own.set_pair(rd, value);
             true
         }
         Err(_) => false,
     }
-}
-
-// Sets a pair of registers to a double word.
-#[tactic(auto, unfolding(sparc_step::specs::Transfers::with_pair))]
-fn set_pair(own: &mut Processor, rd: u8, value: u64)
-    requires { rd + 1 < 32 }
-    ensures { own.new ≡ with_pair rd value own.old }
-{
-    own.set(rd, (value >> 32) as u32);
-    own.set(rd + 1, (value % 0x1_0000_0000) as u32);
-}
-
-// The double word in a pair of registers.
-#[tactic(auto, unfolding(sparc_step::specs::Transfers::pair_at))]
-fn pair(own: &Processor, rd: u8) -> u64
-    requires { rd + 1 < 32 }
-    ensures { result ≡ pair_at own.now rd }
-{
-    (u64::from(own.get(rd)) << 32) + u64::from(own.get(rd + 1))
 }
 
 // STB, STH and ST, by their size.
@@ -215,7 +195,7 @@ fn store_double<B: Bus>(own: &mut Processor, bus: &mut B, rd: u8, address: u32) 
     if rd % 2 != 0 {
         return false;
     }
-    let value = pair(own, rd);
+    let value = own.pair(rd);
     store(bus, address, Size::Eight, value)
 }
 
