@@ -1,8 +1,10 @@
 """What the scripts of this folder share: the program that is measured, what callgrind counts, and rates."""
 import os
+import re
 import resource
 import subprocess
 import sys
+import time
 from collections import defaultdict
 
 ROOT = os.path.dirname(os.path.dirname(os.path.realpath(__file__)))
@@ -34,6 +36,28 @@ def output_of(command, **more):
     if done.returncode:
         stop(f"{' '.join(command)}: status {done.returncode}\n{done.stdout[-500:]}{done.stderr[-500:]}")
     return done.stdout
+
+
+def high_water(process):
+    """The most memory that a process has held so far, in KiB; 0 where it has ended."""
+    with open(f"/proc/{process}/status") as status:
+        held = re.search(r"^VmHWM:\s*(\d+) kB$", status.read(), re.M)
+    return int(held[1]) if held else 0
+
+
+def waited(process):
+    """The status of a process at its end, what it used, and the most memory that it held at once, in KiB.
+
+    The memory is asked for while it runs: what the kernel tells of a child afterwards is never below what this
+    script held when it started it.
+    """
+    held = 0
+    while True:
+        held = max(held, high_water(process))
+        ended, status, usage = os.wait4(process, os.WNOHANG)
+        if ended:
+            return status, usage, held
+        time.sleep(0.001)
 
 
 def under_callgrind(command, path):
