@@ -18,9 +18,13 @@ abbrev pub spot_of : ℕ → Option Entry → Spot
 spot_of place None = record { start = 0; size = 0; place = 0; read_only = false }
 spot_of place (Some entry) = record { start = entry.start; size = entry.size; place = place + entry.place; read_only = entry.read_only }
 
+-- the first two of these areas, where their bytes lie from a place on
+abbrev pub near_in : List Entry → ℕ → Near
+near_in entries place = record { first = spot_of place (slice_get entries 0); second = spot_of place (slice_get entries 1) }
+
 -- the first two areas of a partition
 abbrev pub near_of : Table → Near
-near_of table = record { first = spot_of table.place (slice_get table.entries 0); second = spot_of table.place (slice_get table.entries 1) }
+near_of table = near_in table.entries table.place
 
 -- the area as a guest sees it
 abbrev pub area_there : Spot → Area

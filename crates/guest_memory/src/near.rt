@@ -5,11 +5,10 @@ ghost use Rattle.std.specs.Bool.{OnTrue};
 ghost use Rattle.std.specs.Int.{byte_len};
 ghost use Rattle.guest_bus.specs.Access.{fetched, loaded, width_of};
 ghost use Rattle.guest_memory.specs.Flat.{AllBytes, IsPartOf, Table as Placed, listed, memory_of_part};
-ghost use Rattle.guest_memory.specs.Near.{AreNearWords, AreRead, AreSpots, AreWithin, AreWordsOf, AreWritten, HasPart, IsSpot, IsSpotOf, IsNear, IsNearPart, IsStored, near_of, spot_of};
+ghost use Rattle.guest_memory.specs.Near.{AreNearWords, AreRead, AreSpots, AreWithin, AreWordsOf, AreWritten, HasPart, IsSpot, IsSpotOf, IsNear, IsNearPart, IsStored, near_in, near_of, spot_of};
 
 use crate::bytes::{get_words, put_value, put_words, value_at, word};
 use crate::entry::Entry;
-use crate::table::Table;
 use guest_bus::{Size, Words};
 
 /// An area, and how many bytes of all lie before its own. One that is not there has no address.
@@ -122,13 +121,13 @@ impl Spot {
 }
 
 impl Near {
-    /// Those of a partition.
-    pub(crate) fn of(table: &Table) -> Near
-        ensures { result ≡ near_of table.now }
+    /// Those of a partition whose bytes lie from a place on.
+    pub(crate) fn of(entries: &[Entry], place: u32) -> Near
+        ensures { result ≡ near_in entries.now place }
     {
         Near {
-            first: Spot::of(table.entries(), 0, table.place()),
-            second: Spot::of(table.entries(), 1, table.place()),
+            first: Spot::of(entries, 0, place),
+            second: Spot::of(entries, 1, place),
         }
     }
 

@@ -62,7 +62,8 @@ impl Ram {
     {
         let made = tables_of(alloc, parts_of(conf))?;
         let bytes = zeros(alloc, made.1)?;
-        let near = Near::of(&made.0[0]);
+        let first = &made.0[0];
+        let near = first.near();
         Ok(Ram {
             bytes,
             tables: made.0,
@@ -77,7 +78,8 @@ impl Ram {
         ensures value { self.new ≡ with_selected p self.old }
     {
         self.selected = p;
-        self.near = Near::of(&self.tables[usize::from(p)]);
+        let table = &self.tables[usize::from(p)];
+        self.near = table.near();
     }
 
     /// The partition whose memory a processor sees.

@@ -4,8 +4,10 @@ ghost use Rattle.std.specs.Prelude.{◌≡◌, ◌+◌, ◌<◌, IfOk, map};
 ghost use Rattle.guest_memory.specs.Flat.{IsMemoryTable, listed};
 ghost use Rattle.guest_memory.specs.Loading.{area_of};
 ghost use Rattle.guest_memory.specs.Memories.{areas_size};
+ghost use Rattle.guest_memory.specs.Near.{near_of};
 
 use crate::entry::Entry;
+use crate::near::Near;
 use std::alloc::{AllocError, Global};
 use std::marker::Model;
 use xm_conf::Area;
@@ -16,14 +18,20 @@ pub(crate) struct Table {
     place: u32,
     size: u32,
     entries: Vec<Entry>,
+    // Those of its areas that are looked at first, made once: they are copied where the partition is selected.
+    near: Near,
 }
 
 impl Model for Table {
+    ghost use Rattle.std.specs.Prelude.{◌≡◌};
     ghost use Rattle.guest_memory.specs.Flat as plain;
+    ghost use Rattle.guest_memory.specs.Near as nearby;
 
     ghost Value = { plain.Table };
 
     ghost view = { λ table. record { place = table.place; size = table.size; entries = table.entries.items } };
+
+    ghost invariant = { λ table. table.near ≡ nearby.near_in table.entries.items table.place };
 }
 
 impl Table {
@@ -39,10 +47,12 @@ impl Table {
             entries.push_reserved(Entry::new(area, size));
             size += area.size;
         }
+        let near = Near::of(&entries, place);
         Ok(Table {
             place,
             size,
             entries,
+            near,
         })
     }
 
@@ -65,5 +75,12 @@ impl Table {
         ensures { result.now ≡ self.now.entries }
     {
         &self.entries
+    }
+
+    /// Those of its areas that are looked at first.
+    pub(crate) fn near(&self) -> Near
+        ensures { result ≡ near_of self.now }
+    {
+        self.near
     }
 }

@@ -20,7 +20,7 @@ invariant_of-result c =
     record {
       kept = kept_new c.in_ok-made.made.0.items (map memory_areas c.parts_of.result.now) c.in_ok-made.made.1 c.in_ok-bytes.bytes.items c.in_ok-made.ensures.areas c.in_ok-made.ensures.tables c.in_ok-made.ensures.size
           (omega (arith, c.in_ok-made.ensures.size, c.parts_of.ensures.few)) c.in_ok-bytes.ensures some few c.parts_of.ensures.placed;
-      near = near_selected c.in_ok-made.made.0.items 0 c.index.result.now c.of-near.result counted c.index.ensures c.of-near.ensures;
+      near = near_selected c.in_ok-made.made.0.items 0 c.index-first.result.now c.near-near.result counted c.index-first.ensures c.near-near.ensures;
     }
 
 pub returns : goal.returns
