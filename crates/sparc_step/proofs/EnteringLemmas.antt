@@ -2,9 +2,10 @@
 use borrow.Rule.Slice.PartMut.{put_mid}
 use Rattle.std.proofs.Common.{◌≡◌, ◌≢◌, ◌⊎◌, inl, inr, ⊎_elim, ◌∙◌, sym, ap, refl, arith}
 use Rattle.std.proofs.lemmas.Bool.{cases_lt}
-use Rattle.std.proofs.lemmas.List.{length-drop}
+use Rattle.std.proofs.lemmas.List.{length-drop, places, same_lists}
 use Rattle.std.proofs.lemmas.Slice.{take-put_mid_below}
-use Rattle.std.specs.Prelude.{ℕ, ◌+◌, ◌-◌, ◌*◌, ◌%◌, ◌<◌, ◌≤◌, List, length, take, drop, slice_index}
+use Rattle.std.specs.List.{CopiedTo, SameBelow, SameFrom}
+use Rattle.std.specs.Prelude.{get_or, ℕ, ◌+◌, ◌-◌, ◌*◌, ◌%◌, ◌<◌, ◌≤◌, List, length, take, drop, slice_index}
 use Rattle.sparc_step.specs.AtHand.{listed_below, own_place, windows_with, word_at}
 use Rattle.sparc_step.specs.AtHandLemmas.{get_or-part, get_or-put_mid, get_or-put_mid_other, get_or-rest, get_or-table, length-part, length-put_mid, length-rest, length-table, lies_or, table-of, table-same, word_at-ins, word_at-other, word_at-own}
 use Rattle.sparc_step.specs.Registers.{ins_place, locals_place, with_locals_and_ins}
@@ -238,3 +239,35 @@ module _ (window above : ℕ) (hand windows put : List ℕ)
       gone_filled_globals =
           ap (take 8) filled_is ∙ take-put_mid_below 16 16 moved (take 16 (drop 0 words)) 8 (omega arith) (omega (arith, moved_whole))
           ∙ moved_globals
+
+-- eight words that are copied to another place of the same list are put there
+pub moved_eight : (old new : List ℕ) (from to : ℕ) → from + 8 ≤ length old → to + 8 ≤ length old → length new ≡ length old
+    → CopiedTo old new from to (from + 8 - from) → SameBelow old new to → SameFrom old new (to + (from + 8 - from)) → new ≡ put_mid to 8 old (take 8 (drop from old))
+moved_eight old new from to source target counted copied below above = same_lists new put (counted ∙ sym whole) each
+  where
+    eight : length (take 8 (drop from old)) ≡ 8
+    eight = length-part old from 8 source
+
+    put : List ℕ
+    put = put_mid to 8 old (take 8 (drop from old))
+
+    whole : length put ≡ length old
+    whole = length-put_mid old (take 8 (drop from old)) to 8 eight target
+
+    apart : (k : ℕ) → (k < to) ⊎ (to + 8 ≤ k) → slice_index new k ≡ slice_index put k
+    apart k (inl low) = below k 0 low ∙ sym (get_or-put_mid_other old (take 8 (drop from old)) to 8 k eight target (inl low))
+    apart k (inr high) = above k 0 (omega arith) ∙ sym (get_or-put_mid_other old (take 8 (drop from old)) to 8 k eight target (inr high))
+
+    inside : (k : ℕ) → to ≤ k → k < to + 8 → slice_index new k ≡ slice_index put k
+    inside k low high =
+        copied k 0 low (omega arith)
+        ∙ sym (get_or-put_mid old (take 8 (drop from old)) to 8 k eight target low high ∙ get_or-part old from 8 (k - to) (from + (k - to)) (omega arith) refl)
+
+    default : (xs : List ℕ) (k d : ℕ) → k < length xs → get_or xs k d ≡ get_or xs k 0
+    default xs k d small = grind (arith, places)
+
+    each : (k d : ℕ) → k < length new → get_or new k d ≡ get_or put k d
+    each k d small =
+        default new k d small
+        ∙ lies_or to 8 k (inside k) (apart k)
+        ∙ sym (default put k d (omega (arith, whole, counted)))

@@ -429,9 +429,7 @@ fn move_eight(words: &mut [u32], from: usize, to: usize)
     requires to { to + 8 ≤ length words.old }
     ensures { words.new ≡ put_mid to 8 words.old (take 8 (drop from words.old)) }
 {
-    let mut eight = [0; 8];
-    eight.copy_from_slice(&words[from..from + 8]);
-    words[to..to + 8].copy_from_slice(&eight);
+    words.copy_within(from..from + 8, to);
 }
 
 // Takes eight words of the windows from a place on as the first of sixteen.
