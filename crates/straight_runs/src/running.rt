@@ -13,7 +13,8 @@ use guest_bus::Words;
 use sparc_step::Processor;
 use word_rows::HasRows;
 
-// No run is longer, so that places and steps are small numbers.
+// Each run is shorter, so that places and steps are small numbers. The rest of a number is found faster than the least of two, and what
+// it leaves is done by the runs after it.
 const MOST: u64 = 0x1000_0000;
 
 /// How a run ended.
@@ -52,7 +53,7 @@ pub fn run<B: HasRows>(own: &mut Processor, bus: &mut B, most: u64) -> RunEnd
         return RunEnd::left(0);
     }
     match start_at(bus, pc) {
-        Some(start) => run_in(own, bus, start.words, start.place, most.min(MOST)),
+        Some(start) => run_in(own, bus, start.words, start.place, most % MOST),
         None => RunEnd::left(0),
     }
 }
