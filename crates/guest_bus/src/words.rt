@@ -9,8 +9,8 @@ ghost use Rattle.guest_bus.specs.declared.words.Words.{Words as Placed};
 
 use crate::bus::Bus;
 
-/// Words of one area by their places: where they begin and end, and what four times a place is added to for the address
-/// of the word there.
+/// Words by their places: where they begin and end, and what four times a place is added to for the address of the word
+/// there.
 #[derive(Clone, Copy, Debug)]
 pub struct Words {
     pub begin: usize,

@@ -5,7 +5,8 @@ use Rattle.std.specs.FinMap.{empty}
 use Rattle.std.specs.Int.{byte_len, to_be_bytes}
 use Rattle.std.specs.Prelude.{All, OnErr, OnOk, min, slice_get}
 use Rattle.std.proofs.lemmas.Bool.{cases_eq}
-use Rattle.std.proofs.lemmas.List.{get_or-map, get_or-set_other, get_or-set_same}
+use Rattle.std.proofs.lemmas.List.{get_or-set_other, get_or-set_same}
+use Rattle.std.proofs.lemmas.Option.{slice_get_read}
 use Rattle.guest_bus.specs.Access.{access_fault, after_store, memory_unless_refused, store_fault, width_of}
 use Rattle.guest_bus.specs.AccessLemmas.{length-bytes_high_first, length-bytes_of}
 use Rattle.guest_bus.specs.Memory.{Area, Memory, is_writable, with_bytes}
@@ -13,11 +14,12 @@ use Rattle.guest_bus.specs.Words.{MayStand, bytes_of}
 use Rattle.guest_bus.specs.declared.bus.BusFault.{BusFault}
 use Rattle.guest_bus.specs.declared.bus.Size.{Size}
 use Rattle.guest_memory.specs.Memories.{AreMemories, ArePlaced, IsPlaced, Memories, areas_at, map_at, with_map, with_selected}
-use Rattle.kept_rows.specs.Shares.{AreEmptied, AreKept, AreReached, IsReached, WasEmptied, emptied, first_address, lowest, word_behind, words_written}
+use Rattle.kept_rows.specs.Shares.{AreEmptied, AreKept, ArePartRows, AreReached, IsReached, WasEmptied, emptied, first_address, lowest, word_behind, words_written}
 use Rattle.word_rows.specs.Kept.{AreKeptRows, IsKeptRow}
 use Rattle.word_rows.specs.KeptLemmas.{empty_kept, kept_apart}
 use Rattle.word_rows.specs.Rows.{AreRegisterNumbers}
 use Rattle.word_rows.specs.declared.rows.Row.{Row}
+use Rattle.kept_rows.specs.declared.share.PartRows.{PartRows}
 use Rattle.kept_rows.proofs.ShareLemmas.{reached_or_apart, words_fit}
 
 -- the registers of a row that is emptied
@@ -32,45 +34,45 @@ emptied_numbers row numbers = record {
 }
 
 -- an emptied row is kept of any word
-emptied_kept : (row before : Row) (memory : Memory) (address : ℕ) → row ≡ emptied before → AreRegisterNumbers before → IsKeptRow row memory address
-emptied_kept row before memory address is numbers =
-    empty_kept row memory address (ap (λ (r : Row). r.kind) is) (subst (λ (r : Row). AreRegisterNumbers r) (sym is) (emptied_numbers before numbers))
+emptied_kept : (row before : Row) (areas : List Area) (memory : Memory) (address : ℕ) → row ≡ emptied before → AreRegisterNumbers before → IsKeptRow row areas memory address
+emptied_kept row before areas memory address is numbers =
+    empty_kept row areas memory address (ap (λ (r : Row). r.kind) is) (subst (λ (r : Row). AreRegisterNumbers r) (sym is) (emptied_numbers before numbers))
 
 -- rows of which some are emptied are kept where they were
-pub still_kept : (begin end : ℕ) (rows new : List Row) (base share : ℕ) (memory : Memory) (first : ℕ) → AreEmptied begin end rows new → AreKeptRows rows base share memory first → AreKeptRows new base share memory first
-still_kept begin end rows new base share memory first are kept k row below there = at (are.each (base + k) row there)
+pub still_kept : (begin end : ℕ) (rows new : List Row) (base share : ℕ) (areas : List Area) (memory : Memory) (first : ℕ) → AreEmptied begin end rows new → AreKeptRows rows base share areas memory first → AreKeptRows new base share areas memory first
+still_kept begin end rows new base share areas memory first are kept k row below there = at (are.each (base + k) row there)
   where
-    at : ((slice_get rows (base + k) ≡ Some row) × ((base + k < begin) ⊎ (end ≤ base + k))) ⊎ WasEmptied rows (base + k) row → IsKeptRow row memory (first + 4 * k)
+    at : ((slice_get rows (base + k) ≡ Some row) × ((base + k < begin) ⊎ (end ≤ base + k))) ⊎ WasEmptied rows (base + k) row → IsKeptRow row areas memory (first + 4 * k)
     at (inl was) = kept k row below was.0
-    at (inr was) = emptied_kept row was.before memory (first + 4 * k) was.is (kept k was.before below was.there).registers
+    at (inr was) = emptied_kept row was.before areas memory (first + 4 * k) was.is (kept k was.before below was.there).registers
 
 -- rows of a share are kept of the memory with other bytes, where those of the words with these bytes are emptied
-pub written_kept : (rows new : List Row) (base share place count : ℕ) (memory : Memory) (first start : ℕ) (bytes : List ℕ) → AreReached base share place count rows new
+pub written_kept : (rows new : List Row) (base share place count : ℕ) (areas : List Area) (memory : Memory) (first start : ℕ) (bytes : List ℕ) → AreReached base share place count rows new
     → ((k : ℕ) → (first + 4 * k + 4 ≤ start) ⊎ ((start + length bytes ≤ first + 4 * k) ⊎ IsReached place count k))
-    → AreKeptRows rows base share memory first → AreKeptRows new base share (with_bytes memory start bytes) first
-written_kept rows new base share place count memory first start bytes reached apart kept k row below there = at (reached.done.each (base + k) row there)
+    → AreKeptRows rows base share areas memory first → AreKeptRows new base share areas (with_bytes memory start bytes) first
+written_kept rows new base share place count areas memory first start bytes reached apart kept k row below there = at (reached.done.each (base + k) row there)
   where
     old : slice_get rows (base + k) ≡ Some row → (base + k < base + reached.begin) ⊎ (base + reached.end ≤ base + k)
-        → (first + 4 * k + 4 ≤ start) ⊎ ((start + length bytes ≤ first + 4 * k) ⊎ IsReached place count k) → IsKeptRow row (with_bytes memory start bytes) (first + 4 * k)
-    old was outside (inl before) = kept_apart row memory (first + 4 * k) start bytes (inl before) (kept k row below was)
-    old was outside (inr (inl behind)) = kept_apart row memory (first + 4 * k) start bytes (inr behind) (kept k row below was)
+        → (first + 4 * k + 4 ≤ start) ⊎ ((start + length bytes ≤ first + 4 * k) ⊎ IsReached place count k) → IsKeptRow row areas (with_bytes memory start bytes) (first + 4 * k)
+    old was outside (inl before) = kept_apart row areas memory (first + 4 * k) start bytes (inl before) (kept k row below was)
+    old was outside (inr (inl behind)) = kept_apart row areas memory (first + 4 * k) start bytes (inr behind) (kept k row below was)
     old was outside (inr (inr hit)) =
         let inside = reached.each k below hit in
         absurd (⊎_elim (λ under. omega (arith, under, inside.0)) (λ over. omega (arith, over, inside.1)) outside)
 
-    at : ((slice_get rows (base + k) ≡ Some row) × ((base + k < base + reached.begin) ⊎ (base + reached.end ≤ base + k))) ⊎ WasEmptied rows (base + k) row → IsKeptRow row (with_bytes memory start bytes) (first + 4 * k)
+    at : ((slice_get rows (base + k) ≡ Some row) × ((base + k < base + reached.begin) ⊎ (base + reached.end ≤ base + k))) ⊎ WasEmptied rows (base + k) row → IsKeptRow row areas (with_bytes memory start bytes) (first + 4 * k)
     at (inl was) = old was.0 was.1 (apart k)
-    at (inr was) = emptied_kept row was.before (with_bytes memory start bytes) (first + 4 * k) was.is (kept k was.before below was.there).registers
+    at (inr was) = emptied_kept row was.before areas (with_bytes memory start bytes) (first + 4 * k) was.is (kept k was.before below was.there).registers
 
 -- rows of a share that are all emptied are kept of any memory
-pub all_kept : (rows new : List Row) (base share : ℕ) (memory other : Memory) (first : ℕ) → AreReached base share 0 share rows new → AreKeptRows rows base share memory first → AreKeptRows new base share other first
-all_kept rows new base share memory other first reached kept k row below there = at (reached.done.each (base + k) row there)
+pub all_kept : (rows new : List Row) (base share : ℕ) (areas : List Area) (memory other : Memory) (first : ℕ) → AreReached base share 0 share rows new → AreKeptRows rows base share areas memory first → AreKeptRows new base share areas other first
+all_kept rows new base share areas memory other first reached kept k row below there = at (reached.done.each (base + k) row there)
   where
-    at : ((slice_get rows (base + k) ≡ Some row) × ((base + k < base + reached.begin) ⊎ (base + reached.end ≤ base + k))) ⊎ WasEmptied rows (base + k) row → IsKeptRow row other (first + 4 * k)
+    at : ((slice_get rows (base + k) ≡ Some row) × ((base + k < base + reached.begin) ⊎ (base + reached.end ≤ base + k))) ⊎ WasEmptied rows (base + k) row → IsKeptRow row areas other (first + 4 * k)
     at (inl was) =
         let inside = reached.each k below (inl (omega arith, omega (arith, below))) in
         absurd (⊎_elim (λ under. omega (arith, under, inside.0)) (λ over. omega (arith, over, inside.1)) was.1)
-    at (inr was) = emptied_kept row was.before other (first + 4 * k) was.is (kept k was.before below was.there).registers
+    at (inr was) = emptied_kept row was.before areas other (first + 4 * k) was.is (kept k was.before below was.there).registers
 
 -- an access that nothing refuses is aligned
 aligned_free : (allowed : ℕ → Bool) (address count : ℕ) → access_fault allowed address count ≡ None → address % count ≡ 0
@@ -82,30 +84,30 @@ aligned_free allowed address count free = at (address % count == 0) refl free
 
 -- so they are where a store was done or refused
 pub stored_kept : (rows new : List Row) (base share : ℕ) (areas : List Area) (memory : Memory) (first address : ℕ) (size : Size) (value : ℕ) → AreReached base share (word_behind first address) (words_written size) rows new
-    → first % 4 ≡ 0 → first ≤ 2 ^ 32 → address < 2 ^ 32 → AreKeptRows rows base share memory first → AreKeptRows new base share (after_store areas memory address size value) first
+    → first % 4 ≡ 0 → first ≤ 2 ^ 32 → address < 2 ^ 32 → AreKeptRows rows base share areas memory first → AreKeptRows new base share areas (after_store areas memory address size value) first
 unfolding after_store store_fault
 stored_kept rows new base share areas memory first address size value reached whole below small kept = at (access_fault (is_writable areas) address (byte_len (width_of size))) refl
   where
     at : (fault : Option BusFault) → access_fault (is_writable areas) address (byte_len (width_of size)) ≡ fault
-        → AreKeptRows new base share (memory_unless_refused fault memory (with_bytes memory address (to_be_bytes (width_of size) value))) first
+        → AreKeptRows new base share areas (memory_unless_refused fault memory (with_bytes memory address (to_be_bytes (width_of size) value))) first
     at None free =
         let counted : length (to_be_bytes (width_of size) value) ≡ byte_len (width_of size) = length-bytes_high_first (byte_len (width_of size)) value in
         let fits = words_fit size address (aligned_free (is_writable areas) address (byte_len (width_of size)) free) in
-        written_kept rows new base share (word_behind first address) (words_written size) memory first address (to_be_bytes (width_of size) value) reached
+        written_kept rows new base share (word_behind first address) (words_written size) areas memory first address (to_be_bytes (width_of size) value) reached
         (λ k. reached_or_apart first address (words_written size) (length (to_be_bytes (width_of size) value)) k whole below small (omega (arith, counted, fits))) kept
-    at (Some fault) refused = still_kept (base + reached.begin) (base + reached.end) rows new base share memory first reached.done kept
+    at (Some fault) refused = still_kept (base + reached.begin) (base + reached.end) rows new base share areas memory first reached.done kept
 
 -- and where sixteen words were
 pub sixteen_kept : (done : Bool) (rows new : List Row) (base share : ℕ) (areas : List Area) (memory other : Memory) (first address : ℕ) (words : List ℕ) → AreReached base share (word_behind first address) 16 rows new
     → OnTrue done (MayStand (is_writable areas) address) → OnTrue done (other ≡ with_bytes memory address (bytes_of words)) → (done ≡ false → other ≡ memory)
-    → length words ≡ 16 → first % 4 ≡ 0 → first ≤ 2 ^ 32 → address < 2 ^ 32 → AreKeptRows rows base share memory first → AreKeptRows new base share other first
+    → length words ≡ 16 → first % 4 ≡ 0 → first ≤ 2 ^ 32 → address < 2 ^ 32 → AreKeptRows rows base share areas memory first → AreKeptRows new base share areas other first
 sixteen_kept true rows new base share areas memory other first address words reached stands written not_done counted whole below small kept =
-    subst (λ (m : Memory). AreKeptRows new base share m first) (sym written)
-    (written_kept rows new base share (word_behind first address) 16 memory first address (bytes_of words) reached
+    subst (λ (m : Memory). AreKeptRows new base share areas m first) (sym written)
+    (written_kept rows new base share (word_behind first address) 16 areas memory first address (bytes_of words) reached
     (λ k. reached_or_apart first address 16 (length (bytes_of words)) k whole below small (omega (arith, length-bytes_of words, counted, stands.aligned))) kept)
 sixteen_kept false rows new base share areas memory other first address words reached stands written not_done counted whole below small kept =
-    subst (λ (m : Memory). AreKeptRows new base share m first) (sym (not_done refl))
-    (still_kept (base + reached.begin) (base + reached.end) rows new base share memory first reached.done kept)
+    subst (λ (m : Memory). AreKeptRows new base share areas m first) (sym (not_done refl))
+    (still_kept (base + reached.begin) (base + reached.end) rows new base share areas memory first reached.done kept)
 
 -- numbers and places of what is emptied, told by others
 pub reached_moved : (base there share place address count : ℕ) (rows old new : List Row) → base ≡ there → place ≡ address → rows ≡ old → AreReached base share place count rows new → AreReached there share address count old new
@@ -132,79 +134,76 @@ pub first_low : (areas : List Area) → ArePlaced areas → first_address areas 
 first_low [] placed = omega arith
 first_low (area ∷ areas) placed = lowest_low area.start areas (omega (arith, (placed.each 0 area (omega arith)).ends))
 
--- the first address of a partition, as it is at hand
-pub first_at : (m : Memories) (rows : List Row) (firsts : List ℕ) (share base first p other : ℕ) → AreKept m rows firsts share base first → p < length m.areas → get_or firsts p other ≡ first_address (areas_at p m)
-first_at m rows firsts share base first p other is below = ap (λ (f : List ℕ). get_or f p other) is.known ∙ get_or-map first_address m.areas p [] other below
+-- the rows of a partition, as they are at hand
+pub part_at : (m : Memories) (rows : List Row) (parts : List PartRows) (share : ℕ) (own : PartRows) (p : ℕ) (part : PartRows) → AreKept m rows parts share own → p < length m.areas → part ≡ get_or parts p part → ArePartRows share (p * share) (areas_at p m) part
+part_at m rows parts share own p part is below here = is.known.each p part (slice_get_read parts (length parts) p part refl (omega (arith, below, is.known.counted)) here)
 
 -- all rows are kept where one memory is another
-pub mapped_kept : (old : Memories) (map : Memory) (rows new : List Row) (firsts : List ℕ) (share base first p begin end : ℕ) → AreKept old rows firsts share base first → AreMemories (with_map p map old) → AreEmptied begin end rows new
-    → p < length old.areas → AreKeptRows new (p * share) share map (first_address (areas_at p old)) → AreKept (with_map p map old) new firsts share base first
-mapped_kept old map rows new firsts share base first p begin end is are emptied below mine = record {
+pub mapped_kept : (old : Memories) (map : Memory) (rows new : List Row) (parts : List PartRows) (share : ℕ) (own : PartRows) (p begin end : ℕ) → AreKept old rows parts share own → AreMemories (with_map p map old) → AreEmptied begin end rows new
+    → p < length old.areas → AreKeptRows new (p * share) share (areas_at p old) map (first_address (areas_at p old)) → AreKept (with_map p map old) new parts share own
+mapped_kept old map rows new parts share own p begin end is are emptied below mine = record {
   are = are;
   shared = is.shared;
   whole = emptied.counted ∙ is.whole;
   known = is.known;
-  place = is.place;
-  start = is.start;
-  each = λ q within. ⊎_elim (own q) (other q within) (cases_eq q p);
+  at_hand = is.at_hand;
+  each = λ q within. ⊎_elim (same q) (other q within) (cases_eq q p);
 }
   where
     here : map_at p (with_map p map old) ≡ map
     here = get_or-set_same old.maps p map empty (omega (arith, below, is.are.counted))
 
-    own : (q : ℕ) → q ≡ p → AreKeptRows new (q * share) share (map_at q (with_map p map old)) (first_address (areas_at q old))
-    own q same =
-        subst (λ (n : ℕ). AreKeptRows new (n * share) share (map_at n (with_map p map old)) (first_address (areas_at n old))) (sym same)
-        (subst (λ (m : Memory). AreKeptRows new (p * share) share m (first_address (areas_at p old))) (sym here) mine)
+    same : (q : ℕ) → q ≡ p → AreKeptRows new (q * share) share (areas_at q old) (map_at q (with_map p map old)) (first_address (areas_at q old))
+    same q is_p =
+        subst (λ (n : ℕ). AreKeptRows new (n * share) share (areas_at n old) (map_at n (with_map p map old)) (first_address (areas_at n old))) (sym is_p)
+        (subst (λ (m : Memory). AreKeptRows new (p * share) share (areas_at p old) m (first_address (areas_at p old))) (sym here) mine)
 
-    other : (q : ℕ) → q < length old.areas → q ≢ p → AreKeptRows new (q * share) share (map_at q (with_map p map old)) (first_address (areas_at q old))
+    other : (q : ℕ) → q < length old.areas → q ≢ p → AreKeptRows new (q * share) share (areas_at q old) (map_at q (with_map p map old)) (first_address (areas_at q old))
     other q within ne =
-        subst (λ (m : Memory). AreKeptRows new (q * share) share m (first_address (areas_at q old))) (sym (get_or-set_other old.maps p q map empty ne))
-        (still_kept begin end rows new (q * share) share (map_at q old) (first_address (areas_at q old)) emptied (is.each q within))
+        subst (λ (m : Memory). AreKeptRows new (q * share) share (areas_at q old) m (first_address (areas_at q old))) (sym (get_or-set_other old.maps p q map empty ne))
+        (still_kept begin end rows new (q * share) share (areas_at q old) (map_at q old) (first_address (areas_at q old)) emptied (is.each q within))
 
 -- where another partition is selected
-pub selected_kept : (old : Memories) (rows : List Row) (firsts : List ℕ) (share base first p now start : ℕ) → AreKept old rows firsts share base first → AreMemories (with_selected p old) → now ≡ p * share → start ≡ first_address (areas_at p old) → AreKept (with_selected p old) rows firsts share now start
-selected_kept old rows firsts share base first p now start is are place begins = record {
+pub selected_kept : (old : Memories) (rows : List Row) (parts : List PartRows) (share : ℕ) (own : PartRows) (p : ℕ) (part : PartRows) → AreKept old rows parts share own → AreMemories (with_selected p old) → ArePartRows share (p * share) (areas_at p old) part → AreKept (with_selected p old) rows parts share part
+selected_kept old rows parts share own p part is are part_is = record {
   are = are;
   shared = is.shared;
   whole = is.whole;
   known = is.known;
-  place = place;
-  start = begins;
+  at_hand = part_is;
   each = is.each;
 }
 
 -- and where some are emptied
-pub some_kept : (old : Memories) (rows new : List Row) (firsts : List ℕ) (share base first begin end : ℕ) → AreKept old rows firsts share base first → AreEmptied begin end rows new → AreKept old new firsts share base first
-some_kept old rows new firsts share base first begin end is emptied = record {
+pub some_kept : (old : Memories) (rows new : List Row) (parts : List PartRows) (share : ℕ) (own : PartRows) (begin end : ℕ) → AreKept old rows parts share own → AreEmptied begin end rows new → AreKept old new parts share own
+some_kept old rows new parts share own begin end is emptied = record {
   are = is.are;
   shared = is.shared;
   whole = emptied.counted ∙ is.whole;
   known = is.known;
-  place = is.place;
-  start = is.start;
-  each = λ q within. still_kept begin end rows new (q * share) share (map_at q old) (first_address (areas_at q old)) emptied (is.each q within);
+  at_hand = is.at_hand;
+  each = λ q within. still_kept begin end rows new (q * share) share (areas_at q old) (map_at q old) (first_address (areas_at q old)) emptied (is.each q within);
 }
 
 -- what a copy leaves
-pub copied_kept : {E : Type 0} (result : Result (Unit {0}) E) (old other : Memories) (rows new : List Row) (firsts : List ℕ) (share base first p address : ℕ) (bytes : List ℕ)
-    → AreKept old rows firsts share base first → p < length old.areas → address < 2 ^ 32 → AreReached (p * share) share (word_behind (first_address (areas_at p old)) address) (length bytes / 4 + 2) rows new
-    → OnOk result (other ≡ with_map p (with_bytes (map_at p old) address bytes) old) → OnErr result (other ≡ old) → AreMemories other → AreKept other new firsts share base first
-copied_kept (Ok done) old other rows new firsts share base first p address bytes is below small reached written unchanged are =
+pub copied_kept : {E : Type 0} (result : Result (Unit {0}) E) (old other : Memories) (rows new : List Row) (parts : List PartRows) (share : ℕ) (own : PartRows) (p address : ℕ) (bytes : List ℕ)
+    → AreKept old rows parts share own → p < length old.areas → address < 2 ^ 32 → AreReached (p * share) share (word_behind (first_address (areas_at p old)) address) (length bytes / 4 + 2) rows new
+    → OnOk result (other ≡ with_map p (with_bytes (map_at p old) address bytes) old) → OnErr result (other ≡ old) → AreMemories other → AreKept other new parts share own
+copied_kept (Ok done) old other rows new parts share own p address bytes is below small reached written unchanged are =
     let placed = is.are.placed p [] below in
     let counted : address % 4 + length bytes ≤ 4 * (length bytes / 4 + 2) = omega arith in
-    subst (λ (m : Memories). AreKept m new firsts share base first) (sym written)
-    (mapped_kept old (with_bytes (map_at p old) address bytes) rows new firsts share base first p (p * share + reached.begin) (p * share + reached.end) is (subst (λ (m : Memories). AreMemories m) written are) reached.done below
-    (written_kept rows new (p * share) share (word_behind (first_address (areas_at p old)) address) (length bytes / 4 + 2) (map_at p old) (first_address (areas_at p old)) address bytes reached
+    subst (λ (m : Memories). AreKept m new parts share own) (sym written)
+    (mapped_kept old (with_bytes (map_at p old) address bytes) rows new parts share own p (p * share + reached.begin) (p * share + reached.end) is (subst (λ (m : Memories). AreMemories m) written are) reached.done below
+    (written_kept rows new (p * share) share (word_behind (first_address (areas_at p old)) address) (length bytes / 4 + 2) (areas_at p old) (map_at p old) (first_address (areas_at p old)) address bytes reached
     (λ k. reached_or_apart (first_address (areas_at p old)) address (length bytes / 4 + 2) (length bytes) k (first_whole (areas_at p old) placed) (first_low (areas_at p old) placed) small counted) (is.each p below)))
-copied_kept (Err fault) old other rows new firsts share base first p address bytes is below small reached written unchanged are =
-    subst (λ (m : Memories). AreKept m new firsts share base first) (sym unchanged)
-    (some_kept old rows new firsts share base first (p * share + reached.begin) (p * share + reached.end) is reached.done)
+copied_kept (Err fault) old other rows new parts share own p address bytes is below small reached written unchanged are =
+    subst (λ (m : Memories). AreKept m new parts share own) (sym unchanged)
+    (some_kept old rows new parts share own (p * share + reached.begin) (p * share + reached.end) is reached.done)
 
 -- what a reload leaves
-pub reloaded_kept : (old other : Memories) (map : Memory) (rows new : List Row) (firsts : List ℕ) (share base first p : ℕ) → AreKept old rows firsts share base first → p < length old.areas → AreReached (p * share) share 0 share rows new
-    → other ≡ with_map p map old → AreMemories other → AreKept other new firsts share base first
-reloaded_kept old other map rows new firsts share base first p is below reached written are =
-    subst (λ (m : Memories). AreKept m new firsts share base first) (sym written)
-    (mapped_kept old map rows new firsts share base first p (p * share + reached.begin) (p * share + reached.end) is (subst (λ (m : Memories). AreMemories m) written are) reached.done below
-    (all_kept rows new (p * share) share (map_at p old) map (first_address (areas_at p old)) reached (is.each p below)))
+pub reloaded_kept : (old other : Memories) (map : Memory) (rows new : List Row) (parts : List PartRows) (share : ℕ) (own : PartRows) (p : ℕ) → AreKept old rows parts share own → p < length old.areas → AreReached (p * share) share 0 share rows new
+    → other ≡ with_map p map old → AreMemories other → AreKept other new parts share own
+reloaded_kept old other map rows new parts share own p is below reached written are =
+    subst (λ (m : Memories). AreKept m new parts share own) (sym written)
+    (mapped_kept old map rows new parts share own p (p * share + reached.begin) (p * share + reached.end) is (subst (λ (m : Memories). AreMemories m) written are) reached.done below
+    (all_kept rows new (p * share) share (areas_at p old) (map_at p old) map (first_address (areas_at p old)) reached (is.each p below)))

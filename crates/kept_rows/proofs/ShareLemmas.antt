@@ -9,7 +9,7 @@ use Rattle.guest_bus.specs.declared.bus.Size.TheVariants.{One, Two, Four, Eight}
 use Rattle.kept_rows.specs.Shares.{IsReached, share_for, word_behind, words_written}
 
 -- all shares together are no more than all rows
-shares_fit : (count : ℕ) → count * share_for count ≤ 1048576
+pub shares_fit : (count : ℕ) → count * share_for count ≤ 1048576
 unfolding share_for
 shares_fit count = omega (arith, div-mul-le_self 1048576 count)
 

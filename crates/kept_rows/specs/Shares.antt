@@ -1,8 +1,7 @@
 -- The rows of each partition, and which words they are of.
-use Rattle.std.specs.Prelude.{◌≡◌, ℕ, ◌+◌, ◌-◌, ◌*◌, ◌/◌, ◌%◌, ◌^◌, ◌<◌, ◌≤◌, ◌⊎◌, List, [], ◌∷◌, Some, None, length, map, min, slice_get, slice_index_or, slice_set}
-use Rattle.guest_bus.specs.Access.{access_fault}
-use Rattle.guest_bus.specs.Memory.{Area, Others, is_readable}
-use Rattle.guest_bus.specs.Words.{word_address}
+use Rattle.std.specs.Prelude.{◌≡◌, ℕ, ◌+◌, ◌-◌, ◌*◌, ◌/◌, ◌%◌, ◌^◌, ◌<◌, ◌≤◌, ◌⊎◌, List, [], ◌∷◌, Some, length, min, slice_get, slice_index_or, slice_set}
+use Rattle.guest_bus.specs.Memory.{Area, Others}
+use Rattle.guest_bus.specs.Words.{AreWords, word_address}
 use Rattle.guest_bus.specs.declared.bus.Size.{Size}
 use Rattle.guest_bus.specs.declared.bus.Size.TheVariants.{One, Two, Four, Eight}
 use Rattle.guest_bus.specs.declared.words.Words.{Words}
@@ -10,6 +9,7 @@ use Rattle.guest_memory.specs.Memories.{AreMemories, Memories, areas_at, map_at}
 use Rattle.word_rows.specs.Kept.{AreKeptRows}
 use Rattle.word_rows.specs.Kinds.{unmade}
 use Rattle.word_rows.specs.declared.rows.Row.{Row}
+use Rattle.kept_rows.specs.declared.share.PartRows.{PartRows}
 
 -- the lowest address of areas, none of which begins below it
 abbrev pub lowest : ℕ → List Area → ℕ
@@ -84,27 +84,34 @@ pub record AreReached (base share place count : ℕ) (old new : List Row) : Type
   pub done : AreEmptied (base + begin) (base + end) old new
   pub each : (k : ℕ) → k < share → IsReached place count k → (begin ≤ k) × (k < end)
 
--- the words have rows of a share, whose numbers are their places, and each of them is one of other words
-pub record AreNumbered (whole : Words) (first base share : ℕ) (words : Words) : Type 0 where
-  pub from : base ≤ words.begin
-  pub under : words.end ≤ base + share
-  pub address : (number : ℕ) → words.begin ≤ number → number < words.end → word_address words.origin number ≡ first + 4 * (number - base)
-  pub start : (number : ℕ) → words.begin ≤ number → number < words.end → word_address whole.origin whole.begin ≤ first + 4 * (number - base)
-  pub end : (number : ℕ) → words.begin ≤ number → number < words.end → first + 4 * (number - base) + 4 ≤ word_address whole.origin whole.begin + 4 * (whole.end - whole.begin)
+-- each place of the words is the number of a row, the first of which is that of the word at an address
+abbrev pub AreNumbered : ℕ → Words → Type 0
+AreNumbered first words = (number : ℕ) → words.begin ≤ number → number < words.end → word_address words.origin number ≡ first + 4 * (number - words.begin)
 
--- words of the selected partition, each of which may be fetched, with rows of its share
+-- the rows of a partition: a share, before which so many others stand
+pub record ArePartRows (share base : ℕ) (areas : List Area) (part : PartRows) : Type 0 where
+  pub first : part.first ≡ first_address areas
+  pub are_words : AreWords part.words
+  pub begin : part.words.begin ≡ base
+  pub under : part.words.end ≤ base + share
+  pub address : AreNumbered part.first part.words
+
+-- those of all partitions, one after the other
+pub record AreParts (share : ℕ) (areas : List (List Area)) (parts : List PartRows) : Type 0 where
+  pub counted : length parts ≡ length areas
+  pub each : (p : ℕ) (part : PartRows) → slice_get parts p ≡ Some part → ArePartRows share (p * share) (slice_index_or areas p []) part
+
+-- the words that have rows of the share of the selected partition
 pub record LieNumbered (areas : List Area) (others : Others) (words : Words) : Type 0 where
-  pub from : base_of others ≤ words.begin
+  pub begin : words.begin ≡ base_of others
   pub under : words.end ≤ base_of others + share_of others
-  pub address : (number : ℕ) → words.begin ≤ number → number < words.end → word_address words.origin number ≡ first_address areas + 4 * (number - base_of others)
-  pub fetched : (number : ℕ) → words.begin ≤ number → number < words.end → access_fault (is_readable areas) (word_address words.origin number) 4 ≡ None
+  pub address : AreNumbered (first_address areas) words
 
 -- each row is empty or that of its word, and the share of the selected partition is at hand
-pub record AreKept (memories : Memories) (rows : List Row) (firsts : List ℕ) (share base first : ℕ) : Type 0 where
+pub record AreKept (memories : Memories) (rows : List Row) (parts : List PartRows) (share : ℕ) (own : PartRows) : Type 0 where
   pub are : AreMemories memories
   pub shared : share ≡ share_for (length memories.areas)
   pub whole : length rows ≡ 1048576
-  pub known : firsts ≡ map first_address memories.areas
-  pub place : base ≡ memories.selected * share
-  pub start : first ≡ first_address (areas_at memories.selected memories)
-  pub each : (p : ℕ) → p < length memories.areas → AreKeptRows rows (p * share) share (map_at p memories) (first_address (areas_at p memories))
+  pub known : AreParts share memories.areas parts
+  pub at_hand : ArePartRows share (memories.selected * share) (areas_at memories.selected memories) own
+  pub each : (p : ℕ) → p < length memories.areas → AreKeptRows rows (p * share) share (areas_at p memories) (map_at p memories) (first_address (areas_at p memories))

@@ -1,14 +1,14 @@
 //! The memories of all partitions, with rows of their words.
 
-ghost use Rattle.std.specs.Prelude.{◌≡◌, ◌*◌, ◌+◌, ◌<◌, ◌≤◌, IfOk, Ok, OnErr, OnOk, length, map, slice_set};
+ghost use Rattle.std.specs.Prelude.{◌≡◌, ◌*◌, ◌+◌, ◌<◌, ◌≤◌, All, IfOk, Ok, OnErr, OnOk, length, map, slice_set};
 ghost use Rattle.guest_bus.specs.Access.{fetched};
 ghost use Rattle.guest_bus.specs.Memory.{all_from, bytes_at, is_readable, is_writable, with_bytes};
 ghost use Rattle.guest_memory.specs.Loading.{LiesInAreas, area_of, areas_with_image, memory_areas, zeros_in};
-ghost use Rattle.guest_memory.specs.Memories.{AreMemories, SameElsewhere, answer_by, areas_at, first_refused, map_at, others_of, with_map, with_selected};
-ghost use Rattle.kept_rows.specs.Shares.{AreEmpty, LieNumbered, first_address, lowest};
+ghost use Rattle.guest_memory.specs.Memories.{AreMemories, ArePlaced, SameElsewhere, answer_by, areas_at, first_refused, map_at, others_of, with_map, with_selected};
+ghost use Rattle.kept_rows.specs.Shares.{AreEmpty, AreParts, ArePartRows, LieNumbered, first_address, lowest};
 
 use crate::emptied::{empty_stored, empty_words};
-use crate::share::{ROWS, numbered_in, share_for, word_behind};
+use crate::share::{PartRows, ROWS, numbered, share_for, word_behind};
 use guest_bus::{Bus, BusFault, HasWords, Size, Words};
 use guest_memory::{Outside, Ram};
 use std::alloc::{AllocError, Global};
@@ -25,14 +25,12 @@ pub struct Kept {
     ram: Ram,
     // Those of a partition stand one after the other, and after those of the partitions before it.
     rows: Vec<Row>,
-    // The first address of each partition.
-    firsts: Vec<u32>,
+    // Where those of each partition are.
+    parts: Vec<PartRows>,
     // So many words of each partition have rows.
     share: usize,
-    // How many rows stand before those of the selected partition.
-    base: usize,
-    // Its first address.
-    first: u32,
+    // Where those of the selected partition are.
+    own: PartRows,
 }
 
 impl Model for Kept {
@@ -47,7 +45,7 @@ impl Model for Kept {
 
     ghost view = { λ kept. kept.ram };
 
-    ghost invariant = { λ kept. AreKept kept.ram kept.rows.items kept.firsts.items kept.share kept.base kept.first };
+    ghost invariant = { λ kept. AreKept kept.ram kept.rows.items kept.parts.items kept.share kept.own };
 }
 
 impl Kept {
@@ -58,17 +56,17 @@ impl Kept {
     {
         let ram = Ram::new(alloc, conf)?;
         let _zeros = ram.selected();
-        let firsts = firsts_of(alloc, parts_of(conf))?;
+        let described = parts_of(conf);
+        let share = share_for(described.len());
+        let parts = rows_of(alloc, described, share)?;
         let rows = empty_rows(alloc, ROWS)?;
-        let share = share_for(firsts.len());
-        let first = firsts[0];
+        let own = parts[0];
         Ok(Kept {
             ram,
             rows,
-            firsts,
+            parts,
             share,
-            base: 0,
-            first,
+            own,
         })
     }
 
@@ -86,8 +84,7 @@ impl Kept {
     {
         self.ram.select(p);
         let _now = self.ram.selected();
-        self.base = base_at(p, self.share);
-        self.first = self.firsts[usize::from(p)];
+        self.own = self.parts[usize::from(p)];
     }
 
     /// The partition whose memory a processor sees.
@@ -116,11 +113,11 @@ impl Kept {
         ensures unchanged { OnErr result (self.new ≡ self.old) }
         ensures others { SameElsewhere p self.old self.new }
     {
-        let place = word_behind(self.firsts[usize::from(p)], address);
-        let base = base_at(p, self.share);
+        let part = self.parts[usize::from(p)];
+        let place = word_behind(part.first, address);
         // The bytes begin and end within words.
         let count = from.len() / 4 + 2;
-        empty_words(&mut self.rows, base, self.share, place, count);
+        empty_words(&mut self.rows, part.words.begin, self.share, place, count);
         let copied = self.ram.copy_out(p, address, from);
         let _now = self.ram.selected();
         copied
@@ -149,7 +146,7 @@ impl Kept {
         ensures value { self.new ≡ with_map p (areas_with_image (areas_at p self.old) image.now) self.old }
         ensures others { SameElsewhere p self.old self.new }
     {
-        let base = base_at(p, self.share);
+        let base = self.parts[usize::from(p)].words.begin;
         empty_words(&mut self.rows, base, self.share, 0, self.share);
         self.ram.reload(p, image);
         let _now = self.ram.selected();
@@ -160,11 +157,11 @@ impl Kept {
         requires { fetched (areas_at self.old.selected self.old) (map_at self.old.selected self.old) address ≡ Ok word }
         ensures { self.new ≡ self.old }
     {
-        if address >= self.first {
-            let behind = address - self.first;
+        if address >= self.own.first {
+            let behind = address - self.own.first;
             let place = (behind >> 2) as usize;
             if behind % 4 == 0 && place < self.share {
-                put_row(&mut self.rows, self.base + place, row_for(word));
+                put_row(&mut self.rows, self.own.words.begin + place, row_for(word));
             }
         }
     }
@@ -193,8 +190,9 @@ impl Bus for Kept {
 
     #[inline(always)]
     fn store(&mut self, address: u32, size: Size, value: u64) -> Result<(), BusFault> {
-        let place = word_behind(self.first, address);
-        empty_stored(&mut self.rows, self.base, self.share, place, size);
+        let place = word_behind(self.own.first, address);
+        let base = self.own.words.begin;
+        empty_stored(&mut self.rows, base, self.share, place, size);
         let stored = self.ram.store(address, size, value);
         let _now = self.ram.selected();
         stored
@@ -218,8 +216,9 @@ impl HasWords for Kept {
 
     #[inline(always)]
     fn put_words(&mut self, address: u32, words: &[u32; 16]) -> bool {
-        let place = word_behind(self.first, address);
-        empty_words(&mut self.rows, self.base, self.share, place, 16);
+        let place = word_behind(self.own.first, address);
+        let base = self.own.words.begin;
+        empty_words(&mut self.rows, base, self.share, place, 16);
         let done = self.ram.put_words(address, words);
         let _now = self.ram.selected();
         done
@@ -235,11 +234,8 @@ impl HasRows for Kept {
     ghost numbered = { LieNumbered };
 
     #[inline(always)]
-    fn numbered(&self, address: u32) -> Option<Words> {
-        match self.ram.words(address) {
-            Some(words) => numbered_in(words, self.first, self.base, self.share),
-            None => None,
-        }
+    fn numbered(&self) -> Words {
+        self.own.words
     }
 
     #[inline(always)]
@@ -256,14 +252,6 @@ impl HasRows for Kept {
             self.keep(address, word);
         }
     }
-}
-
-// How many rows stand before those of a partition.
-fn base_at(p: PartId, share: usize) -> usize
-    requires { p * share ≤ 1048576 }
-    ensures { result ≡ p * share }
-{
-    usize::from(p) * share
 }
 
 // A row more, in the place of another.
@@ -290,15 +278,32 @@ fn parts_of(conf: &Conf) -> &[Part]
     &conf.raw().parts
 }
 
-// The first addresses of partitions.
-fn firsts_of(alloc: Global, parts: &[Part]) -> Result<Vec<u32>, AllocError>
-    ensures { IfOk result (λ firsts. firsts.items ≡ map first_address (map memory_areas parts.now)) }
+// Where the rows of partitions are, each of which has so many.
+fn rows_of(alloc: Global, parts: &[Part], share: usize) -> Result<Vec<PartRows>, AllocError>
+    requires placed { All ArePlaced (map memory_areas parts.now) }
+    requires share { length parts.now * share ≤ 1048576 }
+    ensures { IfOk result (λ found. AreParts share (map memory_areas parts.now) found.items) }
 {
-    let mut firsts = Vec::with_capacity(alloc, parts.len())?;
+    let mut found = Vec::with_capacity(alloc, parts.len())?;
+    let mut base = 0;
     for part in parts {
-        firsts.push_reserved(first_in(part));
+        found.push_reserved(rows_in(part, base, share));
+        base += share;
     }
-    Ok(firsts)
+    Ok(found)
+}
+
+// Where those of a partition are, before which so many others stand.
+fn rows_in(part: &Part, base: usize, share: usize) -> PartRows
+    requires placed { ArePlaced (memory_areas part.now) }
+    requires base { base + share ≤ 1048576 }
+    ensures { ArePartRows share base (memory_areas part.now) result }
+{
+    let first = first_in(part);
+    PartRows {
+        first,
+        words: numbered(first, base, share),
+    }
 }
 
 // The lowest address of a partition.

@@ -1,10 +1,19 @@
 //! The rows of one partition.
 
-ghost use Rattle.std.specs.Prelude.{◌≡◌, ◌*◌, ◌+◌, ◌-◌, ◌%◌, ◌^◌, ◌≤◌, ◌<◌, IfSome};
+ghost use Rattle.std.specs.Prelude.{◌≡◌, ℕ, ◌*◌, ◌+◌, ◌-◌, ◌%◌, ◌^◌, ◌≤◌, ◌<◌};
 ghost use Rattle.guest_bus.specs.Words.{AreWords, word_address};
 ghost use Rattle.kept_rows.specs.Shares.{AreNumbered, share_for, word_behind};
 
 use guest_bus::Words;
+
+/// The rows of one partition.
+#[derive(Clone, Copy, Debug)]
+pub(crate) struct PartRows {
+    /// The address of the word of the first one.
+    pub(crate) first: u32,
+    /// The words that have rows, with the rows' numbers as their places.
+    pub(crate) words: Words,
+}
 
 /// So many rows there are, for all partitions together.
 pub(crate) const ROWS: usize = 0x10_0000;
@@ -28,32 +37,22 @@ pub(crate) fn word_behind(first: u32, address: u32) -> usize
     (address.wrapping_sub(first) >> 2) as usize
 }
 
-/// The words of an area that have rows of a share, with the rows' numbers as their places.
-#[inline(always)]
+/// The words from a first address on that have rows of a share, with the rows' numbers as their places.
 #[tactic(auto, unfolding(guest_bus::specs::Words::word_address))]
-pub(crate) fn numbered_in(words: Words, first: u32, base: usize, share: usize) -> Option<Words>
-    requires words { AreWords words }
-    requires ends { word_address words.origin words.begin + 4 * (words.end - words.begin) ≤ 2 ^ 32 }
+pub(crate) fn numbered(first: u32, base: usize, share: usize) -> Words
     requires first { first % 4 ≡ 0 }
     requires base { base + share ≤ 1048576 }
-    ensures words { IfSome result AreWords }
-    ensures numbered { IfSome result (AreNumbered words first base share) }
+    ensures words { AreWords result }
+    ensures begin { result.begin ≡ base }
+    ensures under { result.end ≤ base + share }
+    ensures address { AreNumbered first result }
 {
-    let start = words
-        .origin
-        .wrapping_add(4 * ((words.begin % 0x4000_0000) as u32));
-    if start < first {
-        return None;
-    }
-    let behind = ((start - first) >> 2) as usize;
-    if behind >= share {
-        return None;
-    }
-    let count = (words.end - words.begin).min(share - behind);
+    // None of them stands behind the last address.
+    let count = share.min((u32::MAX - first) as usize / 4 + 1);
     // Four times a number and the origin are the address.
-    Some(Words {
-        begin: base + behind,
-        end: base + behind + count,
+    Words {
+        begin: base,
+        end: base + count,
         origin: first.wrapping_sub(4 * base as u32),
-    })
+    }
 }

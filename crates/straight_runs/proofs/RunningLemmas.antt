@@ -4,13 +4,12 @@ use Rattle.guest_bus.specs.Memory.{Area, Memory}
 use Rattle.guest_bus.specs.Words.{word_address}
 use Rattle.sparc_step.specs.Registers.{Registers, placed}
 use Rattle.straight_runs.specs.Coming.{IsCame}
-use Rattle.straight_runs.specs.Codes.{IsStart, RunStopsAt}
+use Rattle.straight_runs.specs.Codes.{RunStopsAt}
 use Rattle.straight_runs.specs.Runs.{AreSteps, IsCall, no_steps, steps_then}
 use Rattle.straight_runs.specs.Places.{at_place}
 use Rattle.straight_runs.proofs.TurningLemmas.{next_address}
 use Rattle.straight_runs.specs.declared.one.Came.TheVariants.{Next, Jump, Turn, Calls}
 use Rattle.guest_bus.specs.declared.words.Words.{Words}
-use Rattle.straight_runs.specs.declared.places.Start.{Start}
 
 -- the steps that are left at a place up to a limit, where both went round together
 abbrev pub left_at : ℕ → ℕ → ℕ
@@ -142,9 +141,9 @@ placed_own : (core : Registers) → placed core.pc core.npc core ≡ core
 unfolding placed
 placed_own core = refl
 
-pub at_start : (start : Start) (core : Registers) → IsStart core.pc start → core.npc ≡ (core.pc + 4) % 2 ^ 32 → at_place start.words.origin start.place core ≡ core
-at_start start core is next =
-    ap (λ (n : ℕ). placed (word_address start.words.origin start.place) n core) (sym (next_address start.words.origin start.place))
-    ∙ ap (λ (a : ℕ). placed a ((a + 4) % 2 ^ 32) core) is.here
+pub at_start : (words : Words) (place : ℕ) (core : Registers) → word_address words.origin place ≡ core.pc → core.npc ≡ (core.pc + 4) % 2 ^ 32 → at_place words.origin place core ≡ core
+at_start words place core here next =
+    ap (λ (n : ℕ). placed (word_address words.origin place) n core) (sym (next_address words.origin place))
+    ∙ ap (λ (a : ℕ). placed a ((a + 4) % 2 ^ 32) core) here
     ∙ ap (λ (n : ℕ). placed core.pc n core) (sym next)
     ∙ placed_own core

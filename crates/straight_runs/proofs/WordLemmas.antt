@@ -14,7 +14,8 @@ use Rattle.straight_runs.specs.Steps.{IsMemoryStep, IsRowStep, IsWordStep, Uses}
 use Rattle.straight_runs.proofs.TurningLemmas.{address_at, taken_turns}
 use Rattle.straight_runs.specs.declared.simple.Step.{Step}
 use Rattle.straight_runs.specs.declared.simple.Step.TheVariants.{Next, Taken, Shifts, Stays}
-use Rattle.word_rows.specs.Kept.{IsRowAt, word_there}
+use Rattle.word_rows.specs.Kept.{IsKeptRow, word_there}
+use Rattle.word_rows.specs.KeptLemmas.{row_stands}
 use Rattle.word_rows.specs.Kinds.{unmade}
 use Rattle.word_rows.specs.Rows.{HasSource, as_done}
 use Rattle.word_rows.specs.declared.rows.Row.{Row}
@@ -32,16 +33,16 @@ some_below kind most below few = λ is. omega (arith, below, few, is)
 
 -- what came of its word
 pub word_step : (step : Step) (row : Row) (origin at : ℕ) (areas : List Area) (old new : Registers) (memory after : Memory)
-    → IsRowAt row areas memory (word_address origin at) → Uses step row → IsRowStep step row areas old new memory after → IsWordStep step origin at areas old new memory after
+    → IsKeptRow row areas memory (word_address origin at) → Uses step row → IsRowStep step row areas old new memory after → IsWordStep step origin at areas old new memory after
 word_step Next row origin at areas old new memory after is used goes =
     let word = word_there memory (word_address origin at) in
-    (is.stands, goes_itself (decoded word) areas old new memory after (goes (as_done (decoded word)) (is.kept.spelled used)))
+    (row_stands row areas memory (word_address origin at) used is, goes_itself (decoded word) areas old new memory after (goes (as_done (decoded word)) (is.spelled used)))
 word_step (Taken displacement) row origin at areas old new memory after is used came =
     let word = word_there memory (word_address origin at) in
     let some : row.kind ≢ unmade = λ e. omega (arith, came.0, e) in (
-      is.stands,
+      row_stands row areas memory (word_address origin at) some is,
       sym (same_executed (decoded word) areas (at_place origin at old) memory)
-          ∙ taken_turns row origin at (at + row.number) old came.0 came.1 (address_at origin at row.number) (as_done (decoded word)) areas memory (is.kept.spelled some)
+          ∙ taken_turns row origin at (at + row.number) old came.0 came.1 (address_at origin at row.number) (as_done (decoded word)) areas memory (is.spelled some)
           ∙ ap (λ (d : ℕ). done (at_slot origin (at + 1) (at + d) old) memory) (sym came.4),
       came.2,
       came.3,
@@ -58,6 +59,6 @@ memory_step Shifts row address areas old new memory after from below address_is 
 memory_step Stays row address areas old new memory after from below address_is moved = moved
 
 -- a row that is read again, where nothing changed
-pub row_here : (row : Row) (here areas : List Area) (there memory : Memory) (address : ℕ) → here ≡ areas → there ≡ memory → IsRowAt row here there address → IsRowAt row areas memory address
+pub row_here : (row : Row) (here areas : List Area) (there memory : Memory) (address : ℕ) → here ≡ areas → there ≡ memory → IsKeptRow row here there address → IsKeptRow row areas memory address
 row_here row here areas there memory address areas_same bytes is =
-    subst (λ (a : List Area). IsRowAt row a memory address) areas_same (subst (λ (m : Memory). IsRowAt row here m address) bytes is)
+    subst (λ (a : List Area). IsKeptRow row a memory address) areas_same (subst (λ (m : Memory). IsKeptRow row here m address) bytes is)

@@ -1,18 +1,9 @@
 //! Words by their places.
 
-ghost use Rattle.std.specs.Prelude.{◌≡◌, ℕ, ◌+◌, ◌*◌, ◌%◌, ◌^◌, ◌<◌, ◌≤◌, IfSome};
+ghost use Rattle.std.specs.Prelude.{◌≡◌, ℕ, ◌+◌, ◌*◌, ◌%◌, ◌^◌, ◌<◌};
 ghost use Rattle.guest_bus.specs.Words.{AreWords, word_address};
-ghost use Rattle.straight_runs.specs.Codes.{IsStart};
 
 use guest_bus::Words;
-use word_rows::HasRows;
-
-/// Words that have rows, and the place of the one where a run begins.
-#[derive(Clone, Copy, Debug)]
-pub(crate) struct Start {
-    pub(crate) words: Words,
-    pub(crate) place: usize,
-}
 
 /// The address of the word at a place.
 #[inline(always)]
@@ -27,20 +18,16 @@ pub(crate) fn address(words: Words, place: usize) -> u32
         .wrapping_add(4 * ((place % 0x4000_0000) as u32))
 }
 
-/// The place of the word at an address.
+/// The place of the word at an address, whether or not it is one of the words.
 #[inline(always)]
 #[tactic(auto, unfolding(guest_bus::specs::Words::word_address))]
 pub(crate) fn place_of(words: Words, address: u32) -> usize
     requires words { AreWords words }
     requires aligned { address % 4 ≡ 0 }
     ensures value { word_address words.origin result ≡ address }
-    ensures from { words.begin ≤ result }
     ensures few { result < 2 ^ 33 }
 {
-    let first = words
-        .origin
-        .wrapping_add(4 * ((words.begin % 0x4000_0000) as u32));
-    words.begin + (address.wrapping_sub(first) >> 2) as usize
+    (address.wrapping_sub(words.origin) >> 2) as usize
 }
 
 /// The address of the word after the one at a place.
@@ -72,31 +59,4 @@ pub(crate) fn distance(displacement: u32) -> usize
     ensures { result % 2 ^ 32 ≡ displacement }
 {
     (displacement.wrapping_add(0x8000_0000) as usize).wrapping_sub(0x8000_0000)
-}
-
-/// The words around an address of the memory that have rows, and the place of the word there.
-#[inline(always)]
-pub(crate) fn start_at<B: HasRows>(bus: &B, address: u32) -> Option<Start>
-    requires { address % 4 ≡ 0 }
-    ensures numbered { IfSome result (λ start. B.numbered (B.areas bus.now) (B.others bus.now) start.words) }
-    ensures start { IfSome result (IsStart address) }
-{
-    match bus.numbered(address) {
-        Some(words) => start_in(words, address),
-        None => None,
-    }
-}
-
-// The same in known words.
-#[inline(always)]
-fn start_in(words: Words, address: u32) -> Option<Start>
-    requires words { AreWords words }
-    requires aligned { address % 4 ≡ 0 }
-    ensures words { IfSome result (λ start. start.words ≡ words) }
-    ensures start { IfSome result (IsStart address) }
-{
-    Some(Start {
-        words,
-        place: place_of(words, address),
-    })
 }

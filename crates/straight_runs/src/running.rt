@@ -8,7 +8,7 @@ ghost use Rattle.straight_runs.specs.Runs.{AreSteps, IsCall};
 ghost use Rattle.straight_runs.specs.Places.{at_place, at_slot};
 
 use crate::one::{Came, one};
-use crate::places::{address, address_after, distance, start_at};
+use crate::places::{address, address_after, distance, place_of};
 use guest_bus::Words;
 use sparc_step::Processor;
 use word_rows::HasRows;
@@ -38,7 +38,7 @@ impl RunEnd {
 }
 
 /// Instructions, at most so many, up to the first that is left to others: one that traps or calls, whose access is refused, that
-/// needs a window spilled or filled by a search, or that stands away from the words around the first.
+/// needs a window spilled or filled by a search, or that stands away from the words that have rows.
 #[inline(always)]
 pub fn run<B: HasRows>(own: &mut Processor, bus: &mut B, most: u64) -> RunEnd
     ensures steps { AreSteps result.went (B.areas bus.old) own.old (B.memory bus.old) own.new (B.memory bus.new) }
@@ -52,10 +52,8 @@ pub fn run<B: HasRows>(own: &mut Processor, bus: &mut B, most: u64) -> RunEnd
     if own.npc() != pc.wrapping_add(4) {
         return RunEnd::left(0);
     }
-    match start_at(bus, pc) {
-        Some(start) => run_in(own, bus, start.words, start.place, most % MOST),
-        None => RunEnd::left(0),
-    }
+    let words = bus.numbered();
+    run_in(own, bus, words, place_of(words, pc), most % MOST)
 }
 
 // The same over words that have rows, from a place on.
@@ -69,7 +67,6 @@ fn run_in<B: HasRows>(
 ) -> RunEnd
     requires words { AreWords words }
     requires numbered { B.numbered (B.areas bus.old) (B.others bus.old) words }
-    requires from { words.begin ≤ from }
     requires near { from < 2 ^ 33 }
     requires most { most < 2 ^ 32 }
     ensures steps { AreSteps result.went (B.areas bus.old) (at_place words.origin from own.old) (B.memory bus.old) own.new (B.memory bus.new) }
@@ -141,13 +138,13 @@ fn stand_in_slot(own: &mut Processor, words: Words, at: usize, displacement: u32
     own.place(address_after(words, at), address(words, to));
 }
 
-// The place where a run at a place stops: 0 where that lies before the words.
+// The place where a run at a place stops: 0 where that lies before the words. Behind them it is below the place.
 #[inline(always)]
 fn stop_at(words: Words, at: usize, limit: usize) -> usize
     ensures { RunStopsAt words at limit result }
 {
     if words.begin <= at {
-        limit.min(words.end)
+        words.end.min(limit)
     } else {
         0
     }

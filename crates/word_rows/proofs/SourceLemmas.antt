@@ -1,6 +1,5 @@
 -- The row of an instruction that is in range.
-use Rattle.std.proofs.Common.{◌≡◌, ℕ, sym, subst}
-use Rattle.sparc_code.specs.Decoded.{decoded}
+use Rattle.std.proofs.Common.{ℕ, sym, subst}
 use Rattle.sparc_code.specs.DecodedLemmas.{decoded-spells}
 use Rattle.sparc_code.specs.Spells.{Spells}
 use Rattle.sparc_code.specs.declared.instruction.Instr.{Instr}

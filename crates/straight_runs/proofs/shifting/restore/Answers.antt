@@ -1,6 +1,6 @@
-use Rattle.std.proofs.Common.{ℕ, ◌+◌, ◌%◌, length, refl, sym, ap, ◌∙◌}
+use Rattle.std.proofs.Common.{ℕ, ◌+◌, ◌%◌, refl, sym, ap, ◌∙◌}
 use Rattle.sparc_step.specs.Registers.{window_filled, with_saved}
-use Rattle.straight_runs.proofs.SavedLemmas.{filled_by, length-words_at}
+use Rattle.straight_runs.proofs.SavedLemmas.{filled_by}
 use Rattle.straight_runs.proofs.ShiftLemmas.{shift_filled}
 use Rattle.straight_runs.proofs.shifting.restore.Goals as goal
 
