@@ -174,6 +174,7 @@ fn flush<B: Bus>(core: &mut Core, bus: &mut B) -> Result<(), StackFault>
 }
 
 /// Steps of partition `p`, at most so many, up to the first that does more than go.
+#[inline(always)]
 pub(crate) fn step_part(core: &mut Processor, ram: &mut Kept, p: PartId, most: u64) -> Gone
     requires { p < length ram.old.areas }
     ensures went { (stepped result.went (areas_at p ram.old) core.old (map_at p ram.old)).turn ≡ Turn.Went }
