@@ -14,7 +14,7 @@ use Rattle.whole_system.specs.declared.served.Note.{Note}
 use Rattle.whole_system.specs.declared.served.Note.TheVariants as note
 use Rattle.tick_pieces.specs.Kept.{KeptTick, bytes_noted, kept_by, kept_in, kept_tick, kept_with, shown_to}
 use Rattle.tick_pieces.specs.Machine.{IsMachine}
-use Rattle.tick_pieces.specs.Span.{IsSpanDone}
+use Rattle.system_ticks.specs.Spans.{IsSpanDone}
 use Rattle.tick_pieces.specs.declared.beyond.Beyond.{Beyond}
 use Rattle.tick_pieces.specs.declared.span.Span.{Span}
 use Rattle.tick_pieces.specs.KeptLemmas.{kept_ticks}

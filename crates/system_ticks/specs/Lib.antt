@@ -2,3 +2,4 @@ pub mod Ending
 pub mod LaterLemmas
 pub mod Place
 pub mod PlaceLemmas
+pub mod Spans

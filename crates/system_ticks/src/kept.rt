@@ -2,16 +2,14 @@
 
 ghost use Rattle.std.specs.Prelude.{◌≡◌, ◌+◌, ◌-◌, ◌<◌, ◌≤◌, [], IfOk, false, length, take, true};
 ghost use Rattle.guest_bus.specs.Memory.{all_from, bytes_at, is_readable};
-ghost use Rattle.machine_model.specs.Machine.{turn_here};
-ghost use Rattle.slot_runs.specs.Calm.{turn_after};
-ghost use Rattle.slot_runs.specs.Meeting.{first_after};
+ghost use Rattle.machine_model.specs.Machine.{run, turn_here};
 ghost use Rattle.whole_system.specs.Serving.{CanBeTold};
 ghost use Rattle.whole_system.specs.State.{areas_in, memory_of};
 ghost use Rattle.tick_pieces.specs.CueValues.{cue_value};
-ghost use Rattle.tick_pieces.specs.Kept.{bytes_noted, kept_by, kept_cue, no_kept, slot_partition};
+ghost use Rattle.tick_pieces.specs.Kept.{bytes_noted, kept_cue, kept_tick, no_kept, slot_partition};
 ghost use Rattle.tick_pieces.specs.Machine.{IsMachine};
-ghost use Rattle.system_ticks.specs.Place.{IsAt, IsPlace};
-ghost use Rattle.tick_pieces.specs.Span.{IsSpanDone};
+ghost use Rattle.system_ticks.specs.Place.{IsPlace};
+ghost use Rattle.system_ticks.specs.Spans.{IsSpanDone};
 
 use crate::place::{Place, place_of};
 use crate::slot::run_span;
@@ -87,26 +85,25 @@ impl Kept {
         }
     }
 
-    /// Ticks of the slot or gap at this place, at most so many, up to the first of which something is told, or that reaches beyond its
-    /// partition. The last of them is kept. The bytes that its note names still stand in its partition's memory.
+    /// Ticks, at most so many, up to the first of which something is told, or that reaches beyond its partition. The last of them is kept.
+    /// The bytes that its note names still stand in its partition's memory.
     #[inline(always)]
-    pub fn run(&mut self, sys: &mut Sys, lines: &mut Lines, place: Place, most: u64) -> Span
+    pub fn run(&mut self, sys: &mut Sys, lines: &mut Lines, most: u64) -> Span
         requires machine { IsMachine sys.old }
-        requires place { IsAt place sys.old.machine }
         requires running { sys.old.machine.halted ≡ false }
         requires some { 0 < most }
         requires ticks { sys.old.machine.ticks + most ≤ TICKS }
         requires empty { lines.old ≡ [] }
         ensures done { IsSpanDone result most sys.old sys.new lines.new }
-        ensures kept { self.new ≡ kept_by (turn_after (result.ticks - 1) (turn_here place.slot)) result.worked result.note result.reach (memory_of result.part sys.new.machine) }
+        ensures kept { self.new ≡ kept_tick (run sys.old.machine (result.ticks - 1)) }
     {
         keeps_facts();
         keeps_hardware_clock();
         keeps_numbers();
         keeps_plans();
         tells_few_bytes();
-        run_span(sys, lines, &mut self.span, place, most);
-        self.slot = slot_after(self.span.ticks - 1, place.slot);
+        let number = self.slot_number();
+        self.slot = run_span(sys, lines, &mut self.span, number, most);
         self.size = read_noted(sys, self.span.part, self.span.note, &mut self.bytes);
         self.span
     }
@@ -152,27 +149,6 @@ fn room(alloc: Global, count: usize) -> Result<Vec<u8>, Memory>
     ensures { IfOk result (λ bytes. length bytes.items ≡ count) }
 {
     Ok(vec![in alloc; 0; count]?)
-}
-
-// The slot of a tick, when so many of it are done.
-fn slot_after(done: u64, slot: Option<Here>) -> Option<Here>
-    ensures { turn_here result ≡ turn_after done (turn_here slot) }
-{
-    match slot {
-        Some(slot) => Some(Here {
-            slot: slot.slot,
-            part: slot.part,
-            first: first_after(done, slot.first),
-        }),
-        None => None,
-    }
-}
-
-// Whether a tick is the first of its slot, when so many are done since one that was or was not.
-fn first_after(done: u64, first: bool) -> bool
-    ensures { result ≡ first_after done first }
-{
-    if done == 0 { first } else { false }
 }
 
 // Reads the bytes of a message that a note names, or of what was shown, and answers how many they are.

@@ -9,4 +9,4 @@ mod telling;
 
 pub use ending::reset_all;
 pub use kept::Kept;
-pub use place::{Place, later};
+pub use place::Place;

@@ -3,8 +3,11 @@
 ghost use Rattle.std.specs.Prelude.{◌≡◌, ℕ, ◌+◌, ◌<◌, ◌≤◌, IfSome, slice_get};
 ghost use Rattle.cyclic_plans.specs.PlanClock.{IsInFrame, here, moment, slot_at, ticks_left};
 ghost use Rattle.cyclic_plans.specs.Slots.{IsHere, frame_of, slots_of};
+ghost use Rattle.machine_model.specs.Machine.{turn_here};
+ghost use Rattle.slot_runs.specs.Calm.{turn_after};
+ghost use Rattle.slot_runs.specs.Meeting.{first_after};
 ghost use Rattle.tick_pieces.specs.Machine.{IsMachine};
-ghost use Rattle.system_ticks.specs.Place.{IsPlace, past_first_tick, place_after, place_in, place_numbered};
+ghost use Rattle.system_ticks.specs.Place.{IsAt, IsPlace, past_first_tick, place_after, place_in, place_numbered};
 
 use cyclic_plans::Here;
 use hypercalls::Sys;
@@ -26,14 +29,47 @@ pub(crate) fn place_of(sys: &Sys, number: u8) -> Place
     requires { IsMachine sys.now }
     ensures { IsPlace result sys.now.machine }
 {
-    match near(sys, number) {
-        Some(place) => place,
-        None => search(sys),
+    place_among(sys, number, number.wrapping_add(1))
+}
+
+/// The place of a machine that was at this one so many ticks before: in the same slot or gap, or behind its end.
+#[inline(always)]
+pub(crate) fn place_on(sys: &Sys, place: Place, ticks: u64) -> Place
+    requires machine { IsMachine sys.now }
+    requires later { ticks < place.left → IsAt (place_after ticks place) sys.now.machine }
+    ensures { IsAt result sys.now.machine }
+{
+    if ticks < place.left {
+        later(place, ticks)
+    } else {
+        place_behind(sys, place.slot)
     }
 }
 
-/// The place so many ticks later, in the same slot or gap, whose first tick it then is not. Where as many are left or fewer, none is.
-pub fn later(place: Place, ticks: u64) -> Place
+/// The slot of a tick, when so many of it are done.
+pub(crate) fn slot_after(done: u64, slot: Option<Here>) -> Option<Here>
+    ensures { turn_here result ≡ turn_after done (turn_here slot) }
+{
+    match slot {
+        Some(slot) => Some(Here {
+            slot: slot.slot,
+            part: slot.part,
+            first: first_after(done, slot.first),
+        }),
+        None => None,
+    }
+}
+
+// Whether a tick is the first of its slot, when so many are done since one that was or was not.
+fn first_after(done: u64, first: bool) -> bool
+    ensures { result ≡ first_after done first }
+{
+    if done == 0 { first } else { false }
+}
+
+// The place so many ticks later, in the same slot or gap, whose first tick it then is not.
+fn later(place: Place, ticks: u64) -> Place
+    requires { ticks ≤ place.left }
     ensures { result ≡ place_after ticks place }
 {
     let slot = match place.slot {
@@ -42,7 +78,7 @@ pub fn later(place: Place, ticks: u64) -> Place
     };
     Place {
         slot,
-        left: place.left.saturating_sub(ticks),
+        left: place.left - ticks,
     }
 }
 
@@ -57,17 +93,46 @@ fn past(slot: Here) -> Here
     }
 }
 
-// The place, where the slot of this number runs, or the one after it.
+// The place behind the end of a slot or gap. The slot of the next number is looked at first, then number 0, with which a frame begins.
 #[inline(always)]
-fn near(sys: &Sys, number: u8) -> Option<Place>
+fn place_behind(sys: &Sys, slot: Option<Here>) -> Place
+    requires { IsMachine sys.now }
+    ensures { IsPlace result sys.now.machine }
+{
+    place_among(sys, number_after(slot), 0)
+}
+
+// The number of the slot after this one; after a gap, any.
+fn number_after(slot: Option<Here>) -> u8 {
+    match slot {
+        Some(slot) => slot.slot.wrapping_add(1),
+        None => 0,
+    }
+}
+
+// The place, where the slots of these numbers are looked at first.
+#[inline(always)]
+fn place_among(sys: &Sys, one: u8, other: u8) -> Place
+    requires { IsMachine sys.now }
+    ensures { IsPlace result sys.now.machine }
+{
+    match near(sys, one, other) {
+        Some(place) => place,
+        None => search(sys),
+    }
+}
+
+// The place, where a slot of one of these numbers runs.
+#[inline(always)]
+fn near(sys: &Sys, one: u8, other: u8) -> Option<Place>
     requires { IsMachine sys.now }
     ensures { IfSome result (λ place. IsPlace place sys.now.machine) }
 {
     let moment = moment(sys);
     let plan = plan_here(sys);
-    match in_slot(moment, &plan.slots, number) {
+    match in_slot(moment, &plan.slots, one) {
         Some(place) => Some(place),
-        None => in_slot(moment, &plan.slots, number.wrapping_add(1)),
+        None => in_slot(moment, &plan.slots, other),
     }
 }
 

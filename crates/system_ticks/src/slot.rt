@@ -1,11 +1,11 @@
-//! The ticks of one slot or gap.
+//! Ticks of slots and gaps.
 
 ghost use Rattle.std.specs.Prelude.{◌≡◌, ℕ, ◌+◌, ◌-◌, ◌%◌, ◌^◌, ◌<◌, ◌≤◌, ◌++◌, Bool, true, false, [], None, Some, length};
 ghost use Rattle.std.specs.Bool.{OnTrue};
 ghost use Rattle.cyclic_plans.specs.PlanClock.{IsInFrame};
 ghost use Rattle.whole_system.specs.State.{with_machine};
 ghost use Rattle.machine_model.specs.LocalTick.{goes_on};
-ghost use Rattle.machine_model.specs.Machine.{Machine};
+ghost use Rattle.machine_model.specs.Machine.{Machine, run, turn_here, turn_of};
 ghost use Rattle.machine_model.specs.Partition.{PartitionState, takes_turns};
 ghost use Rattle.slot_runs.specs.Meeting.{NoDelivery};
 ghost use Rattle.slot_runs.specs.Passes.{part_at, rest_but, with_part};
@@ -16,10 +16,11 @@ ghost use Rattle.virt_traps.specs.Virtual.{due};
 ghost use Rattle.tick_pieces.specs.Machine.{IsMachine};
 ghost use Rattle.system_ticks.specs.Place.{IsAt};
 ghost use Rattle.system_ticks.specs.Ending.{CanEndTick, IsTickEnded};
-ghost use Rattle.tick_pieces.specs.Span.{IsSilent, AreDoneFrom, CanTake, CanTakeAfter, HasTurned, IsIdle, HasMetInterrupts, IsSpanDone, NoneDue, machine_underway, counted_on};
+ghost use Rattle.system_ticks.specs.Spans.{IsSpanDone};
+ghost use Rattle.tick_pieces.specs.Span.{IsSilent, AreDoneFrom, CanTake, CanTakeAfter, HasTurned, IsIdle, HasMetInterrupts, NoneDue, machine_underway, counted_on};
 
 use crate::ending::{end_tick, end_ticks};
-use crate::place::{Place, later};
+use crate::place::{Place, place_of, place_on, slot_after};
 use cyclic_plans::Here;
 use hypercalls::{Note, Sys, call_told};
 use machine_model::{
@@ -36,59 +37,45 @@ use tick_pieces::{
 use virt_clocks::next_deadline_is_least;
 use xm_base::PartId;
 
-/// The ticks of the slot or gap that it is, at most so many, up to the first of which something is told, or that reaches beyond its
-/// partition. Their lines are those of the last.
-#[inline(always)]
-pub(crate) fn run_span(sys: &mut Sys, lines: &mut Lines, span: &mut Span, place: Place, most: u64)
-    requires machine { IsMachine sys.old }
-    requires place { IsAt place sys.old.machine }
-    requires running { sys.old.machine.halted ≡ false }
-    requires some { 0 < most }
-    requires ticks { sys.old.machine.ticks + most ≤ 4000000000 }
-    requires empty { lines.old ≡ [] }
-    ensures done { IsSpanDone span.new most sys.old sys.new lines.new }
-{
-    keeps_facts();
-    keeps_hardware_clock();
-    keeps_numbers();
-    keeps_plans();
-    let left = most.min(place.left);
-    run_part(sys, lines, span, place, left);
-    let done = span.ticks;
-    if can_go_on(span, lines, left) {
-        run_on(sys, lines, span, later(place, done), left - done);
-        span.ticks += done;
-    }
-}
-
-// The same after ticks of which nothing was told. It stands by itself, so that the compiler has all host registers for the loop.
+/// Ticks, at most so many, up to the first of which something is told, or that reaches beyond its partition. Their lines are those of the
+/// last. Tells the slot that the last is in, or `None` in a gap. The slot of a number and the one after it are looked at first. It stands
+/// by itself, so that the compiler has all host registers for the loop.
 #[inline(never)]
-fn run_on(sys: &mut Sys, lines: &mut Lines, span: &mut Span, place: Place, most: u64)
+pub(crate) fn run_span(
+    sys: &mut Sys,
+    lines: &mut Lines,
+    span: &mut Span,
+    number: u8,
+    most: u64,
+) -> Option<Here>
     requires machine { IsMachine sys.old }
-    requires place { IsAt place sys.old.machine }
     requires running { sys.old.machine.halted ≡ false }
     requires some { 0 < most }
-    requires left { most ≤ place.left }
     requires ticks { sys.old.machine.ticks + most ≤ 4000000000 }
     requires empty { lines.old ≡ [] }
     ensures done { IsSpanDone span.new most sys.old sys.new lines.new }
+    ensures turn { turn_here result ≡ turn_of (run sys.old.machine (span.new.ticks - 1)) }
 {
     keeps_facts();
     keeps_hardware_clock();
     keeps_numbers();
     keeps_plans();
-    let mut at = place;
+    let mut at = place_of(sys, number);
     let mut done = 0;
     let mut goes = true;
     while goes {
-        run_part(sys, lines, span, at, most - done);
-        goes = can_go_on(span, lines, most - done);
+        let left = most - done;
+        let here = left.min(at.left);
+        run_part(sys, lines, span, at, here);
+        goes = can_go_on(span, lines, left);
         done += span.ticks;
         if goes {
-            at = later(at, span.ticks);
+            at = place_on(sys, at, span.ticks);
         }
     }
+    let last = slot_after(span.ticks - 1, at.slot);
     span.ticks = done;
+    last
 }
 
 // Whether more can be done after these ticks: they are fewer than there may be, and nothing is told of the last.
@@ -121,7 +108,7 @@ fn run_part(sys: &mut Sys, lines: &mut Lines, span: &mut Span, place: Place, mos
     requires left { most ≤ place.left }
     requires ticks { sys.old.machine.ticks + most ≤ 4000000000 }
     requires empty { lines.old ≡ [] }
-    ensures done { IsSpanDone span.new most sys.old sys.new lines.new }
+    ensures done { AreDoneFrom span.new most sys.old.machine sys.old sys.new lines.new }
 {
     match place.slot {
         Some(slot) => run_slot(sys, lines, span, slot, most),

@@ -58,23 +58,8 @@ notes_signal (note.Signal number) = true
 abbrev pub ends_so : Note → Beyond → Bool
 ends_so a_note reach = if notes_signal a_note then true else ends_stretch (act_beyond reach)
 
--- ticks of the machine were done, in the last of which the hypervisor may have halted; only the last has lines, which are these, but for
--- one of bytes for the console, and only the last may have an act that ends a stretch
-pub record IsSpanDone (span : Span) (most : ℕ) (old new : SysState) (got : List ReportLine) : Type 0 where
-  pub some : 0 < span.ticks
-  pub within : span.ticks ≤ most
-  pub running : (run old.machine (span.ticks - 1)).halted ≡ false
-  pub state : new ≡ with_machine (run old.machine span.ticks) old
-  pub silent : lines old.machine (span.ticks - 1) ≡ []
-  pub lines : lines old.machine span.ticks ≡ console_lines span old.machine new.machine ++ got
-  pub few : length got ≤ 40
-  pub part : span.part < length new.machine.parts
-  pub readable : CanBeTold span.note (areas_in span.part new.machine)
-  pub kept : IsLastKept span old.machine new.machine
-  pub quiet : AreQuiet span.ticks old.machine
-  pub ends : ends_in (run old.machine (span.ticks - 1)) ≡ ends_so span.note span.reach
-
--- the same, of a machine that stands before the system's
+-- ticks of one slot or gap were done, from a machine that stands before the system's; in the last the hypervisor may have halted; only the
+-- last has lines, which are these, but for one of bytes for the console, and only the last may have an act that ends a stretch
 pub record AreDoneFrom (span : Span) (most : ℕ) (g : Machine) (old new : SysState) (got : List ReportLine) : Type 0 where
   pub some : 0 < span.ticks
   pub within : span.ticks ≤ most

@@ -12,7 +12,7 @@ use Rattle.whole_system.specs.State.{SysState}
 use Rattle.xm_machine.specs.Cues.{AreCued, AreCuedUpTo, KeepsLastTick, KeepsUpTo, last_or, told_to}
 use Rattle.tick_pieces.specs.Kept.{KeptTick, kept_after, kept_cue, kept_tick, kept_unless}
 use Rattle.xm_machine.specs.Machine.{Meaning}
-use Rattle.tick_pieces.specs.Span.{IsSpanDone}
+use Rattle.system_ticks.specs.Spans.{IsSpanDone}
 use Rattle.xm_machine.specs.Stretch.{AreStepped, KeepsStepped, stepped_by}
 use Rattle.tick_pieces.specs.declared.span.Span.{Span}
 use Rattle.xm_machine.specs.declared.stretch.Stepped.{Stepped}

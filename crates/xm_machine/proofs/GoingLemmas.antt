@@ -15,7 +15,8 @@ use Rattle.slot_runs.specs.RunLemmas.{lines_add, run_add}
 use Rattle.xm_machine.proofs.FrontLemmas.{front_of_all}
 use Rattle.tick_pieces.specs.KeptLemmas.{run_halted, ticks_exact, ticks_least}
 use Rattle.xm_machine.specs.Outcome.{HasWriteCause, IsTick}
-use Rattle.tick_pieces.specs.Span.{IsSpanDone, console_lines, ends_so}
+use Rattle.system_ticks.specs.Spans.{IsSpanDone}
+use Rattle.tick_pieces.specs.Span.{console_lines, ends_so}
 use Rattle.xm_machine.specs.Steps.{AreCut, AreRun, IsStep, IsStepCut, Tells}
 use Rattle.xm_machine.specs.Stretch.{AreStepped, IsStretchCut, Steps, stepped_by}
 use Rattle.tick_pieces.specs.declared.span.Span.{Span}

@@ -38,7 +38,8 @@ use Rattle.tick_pieces.specs.KeptLemmas.{ticks_exact}
 use Rattle.tick_pieces.specs.TickLines.{IsOtherLine}
 use Rattle.xm_machine.specs.AloneStep.{said_alone}
 use Rattle.xm_machine.specs.Heard.{IsRunHeard, console_to, line_to, lines_to}
-use Rattle.tick_pieces.specs.Span.{IsSpanDone, console_lines}
+use Rattle.system_ticks.specs.Spans.{IsSpanDone}
+use Rattle.tick_pieces.specs.Span.{console_lines}
 use Rattle.tick_pieces.specs.declared.span.Span.{Span}
 
 -- nothing, whatever is asked

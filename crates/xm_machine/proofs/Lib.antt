@@ -4,9 +4,7 @@ pub mod CuedLemmas
 pub mod FrontLemmas
 pub mod GoingLemmas
 pub mod HeardLemmas
-pub mod LaterLemmas
 pub mod LoneStepLemmas
-pub mod NotedLemmas
 pub mod OutLemmas
 pub mod StretchLemmas
 pub mod WholeLemmas

@@ -144,11 +144,6 @@ some_left most left ticks is some other = ⊎_elim below from (cases_lt most tic
     from : ticks ≤ most → 0 < left
     from long = omega (arith, is, min-eq_right long, other)
 
--- no more than it may have
-pub left_within : (most : ℕ) (g : Machine) → left_of most g ≤ most
-unfolding left_of
-left_within most g = min-le_left most (ticks_left g.system.conf g.clock g.time)
-
 -- the ticks are those of a stretch
 pub is_stretched : (stepped : Stepped) (most : ℕ) (old new : Machine) (had got : Option (List ℕ)) → AreStepped stepped (left_of most old) old new had got
     → (stepped.ends ≡ false → stepped.ticks ≡ left_of most old) → IsStretched stepped.ticks most old new had got

@@ -23,7 +23,6 @@ ghost use Rattle.xm_machine.specs.Heard.{IsRunHeard};
 ghost use Rattle.tick_pieces.specs.Kept.{no_kept};
 ghost use Rattle.tick_pieces.specs.Machine.{IsCounted};
 ghost use Rattle.xm_machine.specs.Outcome.{HasWriteCause, IsRun, IsTick, first_line, last_line};
-ghost use Rattle.system_ticks.specs.Place.{IsAt};
 ghost use Rattle.xm_machine.specs.Steps.{RunsTicks, Tells};
 ghost use Rattle.xm_machine.specs.Stretch.{AreAllOfStretch, KeepsStepped, Steps, Stretches, StretchesAlone, StretchesCued, left_of};
 ghost use Rattle.xm_ports.specs.Channels.{shapes_of};
@@ -44,7 +43,7 @@ use machine_model::{
 };
 use std::alloc::Global;
 use std::marker::Model;
-use system_ticks::{Kept, Place, later, reset_all};
+use system_ticks::{Kept, reset_all};
 use tick_pieces::{Cue, Lines, reset};
 use uart_board::{Board, ViewBoard};
 use xm_base::{Memory, Mode, PartId, TICKS};
@@ -313,7 +312,7 @@ impl Machine {
         self.sys.set_now(0);
     }
 
-    // Ticks of a stretch, at most so many, up to the first that has lines, which go out, and whose console bytes go to their UARTs.
+    // Ticks, at most so many, up to the first of which something is told. Its lines go out, and its console bytes go to their UART.
     fn step<O: Sink>(
         &mut self,
         most: u64,
@@ -330,37 +329,13 @@ impl Machine {
         ensures heard { IsRunHeard self.old.state self.new.state (⟦<Board as ViewBoard>⟧.board_view board.old) (⟦<Board as ViewBoard>⟧.board_view board.new) }
         ensures counters { IsCounted self.new.state }
     {
-        let place = self.kept.place_of(&self.sys);
-        self.step_at(place, most, out, board)
-    }
-
-    // The same, at this place in the plan.
-    #[inline(always)]
-    fn step_at<O: Sink>(
-        &mut self,
-        place: Place,
-        most: u64,
-        out: &mut O,
-        board: &mut Board,
-    ) -> Result<Stepped, WriteFault>
-        requires place { IsAt place self.old.state }
-        requires running { self.old.state.halted ≡ false }
-        requires some { 0 < most }
-        requires most { self.old.state.ticks + most ≤ TICKS }
-        ensures step { Steps result most self.old.state self.new.state (O.got out.old) (O.got out.new) }
-        ensures kept { KeepsStepped result most self.old self.new }
-        ensures few { IfOk result (λ stepped. stepped.lines ≤ 41) }
-        ensures cause { HasWriteCause result (O.faults out.old) (O.faults out.new) }
-        ensures heard { IsRunHeard self.old.state self.new.state (⟦<Board as ViewBoard>⟧.board_view board.old) (⟦<Board as ViewBoard>⟧.board_view board.new) }
-        ensures counters { IsCounted self.new.state }
-    {
         keeps_facts();
         keeps_hardware_clock();
         keeps_numbers();
         keeps_plans();
         self.lines.clear();
         let begun = self.sys.ticks();
-        let span = self.kept.run(&mut self.sys, &mut self.lines, place, most);
+        let span = self.kept.run(&mut self.sys, &mut self.lines, most);
         let last = begun + span.ticks - 1;
         let ticks = span.ticks;
         let ends = ends_stretch(span.note, span.reach);
@@ -398,19 +373,16 @@ impl Machine {
         ensures counters { IsCounted self.new.state }
     {
         keeps_numbers();
-        let mut place = self.kept.place_of(&self.sys);
+        let place = self.kept.place_of(&self.sys);
         let left = most.min(place.left);
         let mut ticks = 0;
         let mut lines = 0;
         let mut ends = false;
         while !ends && ticks < left {
-            let next = self.step_at(place, left - ticks, out, board)?;
+            let next = self.step(left - ticks, out, board)?;
             ticks += next.ticks;
             lines += next.lines;
             ends = next.ends;
-            if !ends && ticks < left {
-                place = later(place, next.ticks);
-            }
         }
         Ok(Stepped { ticks, lines, ends })
     }
@@ -436,7 +408,7 @@ impl Machine {
         let mut told = 0;
         while !self.sys.halted() && self.sys.ticks() < ticks {
             let left = ticks - self.sys.ticks();
-            let next = self.run_stretch(left, out, board)?;
+            let next = self.step(left, out, board)?;
             told += next.lines;
         }
         Ok(told)

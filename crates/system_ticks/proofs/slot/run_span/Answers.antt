@@ -1,47 +1,68 @@
-use Rattle.std.proofs.Common.{arith}
-use Rattle.std.proofs.Math.Nat.{min-le_left, min-le_right}
+use Rattle.std.proofs.Common.{◌+◌, ◌-◌, ◌≤◌, arith}
+use Rattle.std.proofs.Math.Nat.{min-le_left}
 use Rattle.tick_pieces.specs.KeptLemmas.{kept_ticks}
-use Rattle.system_ticks.proofs.SilentLemmas.{its_ticks, span_behind, still_runs, silent_after}
+use Rattle.system_ticks.proofs.SilentLemmas.{ended, its_state, its_ticks, later_on, silent_begins, silent_on, still_runs}
 use Rattle.system_ticks.proofs.slot.run_span.Goals as goal
 
-pub run_on-requires-clause-machine : goal.run_on-requires-clause-machine
-run_on-requires-clause-machine c =
-    let done = c.run_part.ensures.done in
+pub loop-goes-init : goal.loop-goes-init
+loop-goes-init c = record {
+  begun = λ goes. silent_begins c.args.most c.place_of-at.result c.args.sys.now c.args.lines.now c.requires.some c.place_of-at.ensures.at c.requires.empty;
+  ended = λ goes. absurd cc;
+}
+
+pub run_part-requires-clause-machine : goal.run_part-requires-clause-machine
+run_part-requires-clause-machine c =
+    let is = c.loop-goes.invariant.begun c.loop-goes-test.true in
+    let fewer = is.fewer in
     kept_ticks c.keeps_facts.ensures.ticks c.keeps_hardware_clock.ensures.ticks c.keeps_numbers.ensures.ticks c.keeps_plans.ensures.ticks
-    c.args.sys.now c.run_part.new.sys c.run_part.new.span.ticks c.min-left.result c.requires.machine done.state done.within
-    (omega (arith, c.requires.ticks, c.min-left.ensures, min-le_left c.args.most c.args.place.left))
+    c.args.sys.now c.loop-goes.sys c.loop-goes.done c.args.most c.requires.machine is.state (omega (arith, fewer)) c.requires.ticks
 
-pub run_on-requires-clause-place : goal.run_on-requires-clause-place
-run_on-requires-clause-place c =
-    let left = rw c.if-can_go_on.true at c.can_go_on.ensures.fewer in
-    let silent = rw c.if-can_go_on.true at c.can_go_on.ensures.silent in
-    rw c.later.ensures ((silent_after c.keeps_numbers.ensures.runs c.min-left.result c.args.place c.run_part.new.span c.args.sys.now c.run_part.new.sys c.args.lines.now c.run_part.new.lines
-    (omega (arith, left)) (omega (arith, c.min-left.ensures, min-le_right c.args.most c.args.place.left)) c.requires.place c.requires.empty c.requires.running c.run_part.ensures.done silent left).at)
+pub run_part-requires-clause-running : goal.run_part-requires-clause-running
+run_part-requires-clause-running c =
+    still_runs c.loop-goes.done c.args.most c.loop-goes.at c.args.sys.now c.loop-goes.sys c.loop-goes.lines (c.loop-goes.invariant.begun c.loop-goes-test.true) c.requires.running
 
-pub run_on-requires-clause-running : goal.run_on-requires-clause-running
-run_on-requires-clause-running c =
-    let left = rw c.if-can_go_on.true at c.can_go_on.ensures.fewer in
-    let silent = rw c.if-can_go_on.true at c.can_go_on.ensures.silent in
-    let is = silent_after c.keeps_numbers.ensures.runs c.min-left.result c.args.place c.run_part.new.span c.args.sys.now c.run_part.new.sys c.args.lines.now c.run_part.new.lines
-    (omega (arith, left)) (omega (arith, c.min-left.ensures, min-le_right c.args.most c.args.place.left)) c.requires.place c.requires.empty c.requires.running c.run_part.ensures.done silent left in
-    still_runs c.run_part.new.span.ticks c.min-left.result _ c.args.sys.now c.run_part.new.sys c.run_part.new.lines is c.requires.running
+pub run_part-requires-clause-ticks : goal.run_part-requires-clause-ticks
+run_part-requires-clause-ticks c =
+    let is = c.loop-goes.invariant.begun c.loop-goes-test.true in
+    let before = is.fewer in
+    let ticks = its_ticks c.loop-goes.done c.args.most c.loop-goes.at c.args.sys.now c.loop-goes.sys c.loop-goes.lines is c.requires.running in
+    omega (arith, before, ticks, c.requires.ticks, c.min-here.ensures, min-le_left (c.args.most - c.loop-goes.done) c.loop-goes.at.left)
 
-pub run_on-requires-clause-ticks : goal.run_on-requires-clause-ticks
-run_on-requires-clause-ticks c =
-    let left = rw c.if-can_go_on.true at c.can_go_on.ensures.fewer in
-    let silent = rw c.if-can_go_on.true at c.can_go_on.ensures.silent in
-    let is = silent_after c.keeps_numbers.ensures.runs c.min-left.result c.args.place c.run_part.new.span c.args.sys.now c.run_part.new.sys c.args.lines.now c.run_part.new.lines
-    (omega (arith, left)) (omega (arith, c.min-left.ensures, min-le_right c.args.most c.args.place.left)) c.requires.place c.requires.empty c.requires.running c.run_part.ensures.done silent left in
-    let ticks = its_ticks c.run_part.new.span.ticks c.min-left.result _ c.args.sys.now c.run_part.new.sys c.run_part.new.lines is c.requires.running in
-    omega (arith, left, ticks, c.requires.ticks, c.min-left.ensures, min-le_left c.args.most c.args.place.left)
+pub place_on-at-requires-clause-machine : goal.place_on-at-requires-clause-machine
+place_on-at-requires-clause-machine c =
+    let is = c.loop-goes.invariant.begun c.loop-goes-test.true in
+    let fewer : c.min-here.result ≤ c.args.most - c.loop-goes.done = omega (arith, c.min-here.ensures, min-le_left (c.args.most - c.loop-goes.done) c.loop-goes.at.left) in
+    let left = rw c.if-goes.true at c.can_go_on-goes.ensures.fewer in
+    kept_ticks c.keeps_facts.ensures.ticks c.keeps_hardware_clock.ensures.ticks c.keeps_numbers.ensures.ticks c.keeps_plans.ensures.ticks
+    c.args.sys.now c.run_part.new.sys (c.loop-goes.done + c.run_part.new.span.ticks) c.args.most c.requires.machine
+    (its_state c.loop-goes.done c.args.most c.min-here.result c.loop-goes.at c.run_part.new.span c.args.sys.now c.loop-goes.sys c.run_part.new.sys c.loop-goes.lines c.run_part.new.lines
+    is c.requires.running c.run_part.ensures.done fewer)
+    (omega (arith, left)) c.requires.ticks
 
-pub returns-then-can_go_on : goal.returns-then-can_go_on
-returns-then-can_go_on c =
-    let left = rw c.if-can_go_on.true at c.can_go_on.ensures.fewer in
-    let silent = rw c.if-can_go_on.true at c.can_go_on.ensures.silent in
-    let is = silent_after c.keeps_numbers.ensures.runs c.min-left.result c.args.place c.run_part.new.span c.args.sys.now c.run_part.new.sys c.args.lines.now c.run_part.new.lines
-    (omega (arith, left)) (omega (arith, c.min-left.ensures, min-le_right c.args.most c.args.place.left)) c.requires.place c.requires.empty c.requires.running c.run_part.ensures.done silent left in
+pub place_on-at-requires-clause-later : goal.place_on-at-requires-clause-later
+place_on-at-requires-clause-later c =
+    let is = c.loop-goes.invariant.begun c.loop-goes-test.true in
+    let fewer : c.min-here.result ≤ c.args.most - c.loop-goes.done = omega (arith, c.min-here.ensures, min-le_left (c.args.most - c.loop-goes.done) c.loop-goes.at.left) in
+    later_on c.loop-goes.done c.args.most c.min-here.result c.loop-goes.at c.run_part.new.span c.args.sys.now c.loop-goes.sys c.run_part.new.sys c.loop-goes.lines c.run_part.new.lines
+    is c.requires.running c.run_part.ensures.done fewer c.keeps_numbers.ensures.runs (rw c.if-goes.true at c.can_go_on-goes.ensures.silent)
+
+pub loop-goes-preserved-then-goes : goal.loop-goes-preserved-then-goes
+loop-goes-preserved-then-goes c =
+    let is = c.loop-goes.invariant.begun c.loop-goes-test.true in
+    let fewer : c.min-here.result ≤ c.args.most - c.loop-goes.done = omega (arith, c.min-here.ensures, min-le_left (c.args.most - c.loop-goes.done) c.loop-goes.at.left) in
     record {
-      done = span_behind c.run_part.new.span.ticks c.min-left.result c.args.most _ c.run_on.new.span c.args.sys.now c.run_part.new.sys c.run_on.new.sys c.run_part.new.lines c.run_on.new.lines
-          (omega (arith, c.min-left.ensures, min-le_left c.args.most c.args.place.left)) is c.requires.running c.run_on.ensures.done;
+      begun = λ goes. silent_on c.loop-goes.done c.args.most c.min-here.result c.loop-goes.at c.run_part.new.span c.args.sys.now c.loop-goes.sys c.run_part.new.sys c.loop-goes.lines c.run_part.new.lines
+          is c.requires.running c.run_part.ensures.done fewer c.place_on-at.result c.place_on-at.ensures
+          (rw goes at c.can_go_on-goes.ensures.silent) (rw goes at c.can_go_on-goes.ensures.fewer);
+      ended = λ ends. absurd cc;
+    }
+
+pub loop-goes-preserved : goal.loop-goes-preserved
+loop-goes-preserved c =
+    let is = c.loop-goes.invariant.begun c.loop-goes-test.true in
+    let fewer : c.min-here.result ≤ c.args.most - c.loop-goes.done = omega (arith, c.min-here.ensures, min-le_left (c.args.most - c.loop-goes.done) c.loop-goes.at.left) in
+    record {
+      begun = λ goes. absurd cc;
+      ended = λ ends. ended c.loop-goes.done c.args.most c.min-here.result c.loop-goes.at c.run_part.new.span c.args.sys.now c.loop-goes.sys c.run_part.new.sys c.loop-goes.lines c.run_part.new.lines
+          is c.requires.running c.run_part.ensures.done fewer;
     }

@@ -1,16 +1,13 @@
 use Rattle.std.proofs.Common.{◌∙◌, ap, arith, refl, subst, ℕ}
-use Rattle.std.proofs.Math.Nat.{min-le_left, min-le_right}
+use Rattle.std.proofs.Math.Nat.{min-le_left}
 use Rattle.std.proofs.lemmas.Result.{err_from_is_err_and}
 use Rattle.cyclic_plans.specs.PlanClock.{ticks_left}
 use Rattle.xm_machine.specs.Cues.{KeepsLastTick}
 use Rattle.tick_pieces.specs.Machine.{IsCounted}
 use Rattle.xm_machine.specs.Machine.{Meaning}
-use Rattle.system_ticks.specs.Place.{IsAt}
 use Rattle.xm_machine.specs.Stretch.{AreStepped, IsStretchCut}
 use Rattle.xm_machine.proofs.HeardLemmas.{heard_on, none_heard}
-use Rattle.xm_machine.proofs.LaterLemmas.{place_on}
 use Rattle.xm_machine.proofs.StretchLemmas.{left_is, some_left, stretch_begins, stretch_counted, stretch_cut, stretch_cut_kept, stretch_on, stretch_out, stretch_runs}
-use Rattle.xm_machine.proofs.machine.Machine.run_stretch.Goals.{else-not-ends-via-else-not-ends, else-not-ends-via-then-not-ends+else-ticks-left-2}
 use Rattle.xm_machine.proofs.machine.Machine.run_stretch.Goals as goal
 
 pub loop-ends-init : goal.loop-ends-init
@@ -19,50 +16,25 @@ loop-ends-init g c = record {
   faults = refl;
   heard = none_heard c.keeps_numbers.ensures.runs c.args.self.now.state (record { places = _; marks = _ });
   counted = subst (λ (m : Meaning). IsCounted m.state) c.self.view_is c.self.invariant.counted;
-  place = λ goes some. subst (λ (m : Meaning). IsAt c.place_of-place.result m.state) c.self.view_is c.place_of-place.ensures.at;
-  room = λ goes some. omega (arith, c.min-left.ensures, min-le_right c.args.most c.place_of-place.result.left);
 }
 
-pub step_at-requires-clause-running : goal.step_at-requires-clause-running
-step_at-requires-clause-running g c =
+pub step-requires-clause-running : goal.step-requires-clause-running
+step-requires-clause-running g c =
     stretch_runs c.loop-ends.ticks c.loop-ends.lines c.loop-ends.ends c.min-left.result c.args.self.now c.loop-ends.self (g.O.Sink.got c.args.out.now) (g.O.Sink.got c.loop-ends.out)
     c.loop-ends.invariant.goes c.loop-ends-test.true c.requires.running
-
-pub loop-ends-preserved-then-ticks-left-2 : goal.loop-ends-preserved-then-ticks-left-2
-loop-ends-preserved-then-ticks-left-2 g c =
-    let stood = c.loop-ends.invariant.room c.loop-ends-test.true c.if-ticks-left.true in
-    let are = c.in_ok-next.ensures.step in
-    let goes = c.loop-ends.invariant.goes in
-    record {
-      goes = stretch_on c.loop-ends.ticks c.loop-ends.lines c.loop-ends.ends c.min-left.result c.in_ok-next.next c.args.self.now c.loop-ends.self c.step_at.new.self
-          (g.O.Sink.got c.args.out.now) (g.O.Sink.got c.loop-ends.out) (g.O.Sink.got c.step_at.new.out) goes c.loop-ends-test.true are c.in_ok-next.ensures.few c.in_ok-next.ensures.kept;
-      faults = c.in_ok-next.ensures.cause ∙ c.loop-ends.invariant.faults;
-      heard = heard_on c.keeps_numbers.ensures.runs c.args.self.now.state c.loop-ends.self.state c.step_at.new.self.state c.loop-ends.ticks are.step.done
-          (record { places = _; marks = _ }) (record { places = _; marks = _ }) (record { places = _; marks = _ })
-          goes.are.state are.step.are.state c.loop-ends.invariant.heard c.in_ok-next.ensures.heard;
-      counted = c.in_ok-next.ensures.counters;
-      place = λ goes_on fewer. rw c.later-place.ensures
-          (place_on c.keeps_numbers.ensures.runs c.in_ok-next.next c.loop-ends.place _ c.loop-ends.self.state c.step_at.new.self.state (g.O.Sink.got c.loop-ends.out) (g.O.Sink.got c.step_at.new.out)
-          (c.loop-ends.invariant.place c.loop-ends-test.true c.if-ticks-left.true) are
-          (stretch_runs c.loop-ends.ticks c.loop-ends.lines c.loop-ends.ends c.min-left.result c.args.self.now c.loop-ends.self (g.O.Sink.got c.args.out.now) (g.O.Sink.got c.loop-ends.out)
-          goes c.loop-ends-test.true c.requires.running) goes_on (omega (arith, fewer, stood)));
-      room = λ goes_on fewer. rw c.later-place.ensures (omega (arith, stood));
-    }
 
 pub loop-ends-preserved : goal.loop-ends-preserved
 loop-ends-preserved g c =
     let are = c.in_ok-next.ensures.step in
     let goes = c.loop-ends.invariant.goes in
     record {
-      goes = stretch_on c.loop-ends.ticks c.loop-ends.lines c.loop-ends.ends c.min-left.result c.in_ok-next.next c.args.self.now c.loop-ends.self c.step_at.new.self
-          (g.O.Sink.got c.args.out.now) (g.O.Sink.got c.loop-ends.out) (g.O.Sink.got c.step_at.new.out) goes c.loop-ends-test.true are c.in_ok-next.ensures.few c.in_ok-next.ensures.kept;
+      goes = stretch_on c.loop-ends.ticks c.loop-ends.lines c.loop-ends.ends c.min-left.result c.in_ok-next.next c.args.self.now c.loop-ends.self c.step.new.self
+          (g.O.Sink.got c.args.out.now) (g.O.Sink.got c.loop-ends.out) (g.O.Sink.got c.step.new.out) goes c.loop-ends-test.true are c.in_ok-next.ensures.few c.in_ok-next.ensures.kept;
       faults = c.in_ok-next.ensures.cause ∙ c.loop-ends.invariant.faults;
-      heard = heard_on c.keeps_numbers.ensures.runs c.args.self.now.state c.loop-ends.self.state c.step_at.new.self.state c.loop-ends.ticks are.step.done
+      heard = heard_on c.keeps_numbers.ensures.runs c.args.self.now.state c.loop-ends.self.state c.step.new.self.state c.loop-ends.ticks are.step.done
           (record { places = _; marks = _ }) (record { places = _; marks = _ }) (record { places = _; marks = _ })
           goes.are.state are.step.are.state c.loop-ends.invariant.heard c.in_ok-next.ensures.heard;
       counted = c.in_ok-next.ensures.counters;
-      place = λ goes_on fewer. absurd (elim c.else-not-ends.branch [ else-not-ends-via-then-not-ends+else-ticks-left-2 w ↦ omega (arith, fewer) | else-not-ends-via-else-not-ends w ↦ cc ]);
-      room = λ goes_on fewer. absurd (elim c.else-not-ends.branch [ else-not-ends-via-then-not-ends+else-ticks-left-2 w ↦ omega (arith, fewer) | else-not-ends-via-else-not-ends w ↦ cc ]);
     }
 
 pub returns-in_err-next-clause-steps : goal.returns-in_err-next-clause-steps
@@ -70,29 +42,29 @@ returns-in_err-next-clause-steps g c =
     let p = err_from_is_err_and c.from_residual.result c.from_residual.ensures.1 in
     let left = left_is c.args.most c.min-left.result c.place_of-place.result.left c.args.self.now.state c.min-left.ensures
     (c.place_of-place.ensures.left ∙ ap (λ (m : Meaning). ticks_left m.state.system.conf m.state.clock m.state.time) c.self.view_is) in
-    rw (p.1) (subst (λ (most : ℕ). IsStretchCut most c.args.self.now.state c.step_at.new.self.state (g.O.Sink.got c.args.out.now) (g.O.Sink.got c.step_at.new.out)) left
-    (stretch_cut c.loop-ends.ticks c.loop-ends.lines c.loop-ends.ends c.min-left.result c.args.self.now c.loop-ends.self c.step_at.new.self
-    (g.O.Sink.got c.args.out.now) (g.O.Sink.got c.loop-ends.out) (g.O.Sink.got c.step_at.new.out) c.loop-ends.invariant.goes c.loop-ends-test.true c.in_err-next.ensures.step))
+    rw (p.1) (subst (λ (most : ℕ). IsStretchCut most c.args.self.now.state c.step.new.self.state (g.O.Sink.got c.args.out.now) (g.O.Sink.got c.step.new.out)) left
+    (stretch_cut c.loop-ends.ticks c.loop-ends.lines c.loop-ends.ends c.min-left.result c.args.self.now c.loop-ends.self c.step.new.self
+    (g.O.Sink.got c.args.out.now) (g.O.Sink.got c.loop-ends.out) (g.O.Sink.got c.step.new.out) c.loop-ends.invariant.goes c.loop-ends-test.true c.in_err-next.ensures.step))
 
 pub returns-in_err-next-clause-kept : goal.returns-in_err-next-clause-kept
 returns-in_err-next-clause-kept g c =
     let p = err_from_is_err_and c.from_residual.result c.from_residual.ensures.1 in
     let left = left_is c.args.most c.min-left.result c.place_of-place.result.left c.args.self.now.state c.min-left.ensures
     (c.place_of-place.ensures.left ∙ ap (λ (m : Meaning). ticks_left m.state.system.conf m.state.clock m.state.time) c.self.view_is) in
-    rw (p.1) (subst (λ (most : ℕ). KeepsLastTick most c.args.self.now c.step_at.new.self) left
-    (stretch_cut_kept c.loop-ends.ticks c.loop-ends.lines c.loop-ends.ends c.min-left.result c.args.self.now c.loop-ends.self c.step_at.new.self
+    rw (p.1) (subst (λ (most : ℕ). KeepsLastTick most c.args.self.now c.step.new.self) left
+    (stretch_cut_kept c.loop-ends.ticks c.loop-ends.lines c.loop-ends.ends c.min-left.result c.args.self.now c.loop-ends.self c.step.new.self
     (g.O.Sink.got c.args.out.now) (g.O.Sink.got c.loop-ends.out) c.loop-ends.invariant.goes c.in_err-next.ensures.kept))
 
 pub returns-in_err-next-clause-heard : goal.returns-in_err-next-clause-heard
 returns-in_err-next-clause-heard g c =
     let goes = c.loop-ends.invariant.goes in
     let next = c.in_err-next.ensures.step in
-    heard_on c.keeps_numbers.ensures.runs c.args.self.now.state c.loop-ends.self.state c.step_at.new.self.state c.loop-ends.ticks next.cut.done
+    heard_on c.keeps_numbers.ensures.runs c.args.self.now.state c.loop-ends.self.state c.step.new.self.state c.loop-ends.ticks next.cut.done
     (record { places = _; marks = _ }) (record { places = _; marks = _ }) (record { places = _; marks = _ })
     goes.are.state next.cut.are.state c.loop-ends.invariant.heard c.in_err-next.ensures.heard
 
-pub step_at-requires-clause-most : goal.step_at-requires-clause-most
-step_at-requires-clause-most g c =
+pub step-requires-clause-most : goal.step-requires-clause-most
+step-requires-clause-most g c =
     let goes = c.loop-ends.invariant.goes in
     let runs = stretch_runs c.loop-ends.ticks c.loop-ends.lines c.loop-ends.ends c.min-left.result c.args.self.now c.loop-ends.self (g.O.Sink.got c.args.out.now) (g.O.Sink.got c.loop-ends.out)
     goes c.loop-ends-test.true c.requires.running in
@@ -127,6 +99,3 @@ returns-else-ticks-left-clause-whole g c =
     let left = left_is c.args.most c.min-left.result c.place_of-place.result.left c.args.self.now.state c.min-left.ensures
     (c.place_of-place.ensures.left ∙ ap (λ (m : Meaning). ticks_left m.state.system.conf m.state.clock m.state.time) c.self.view_is) in
     λ goes_on. omega (arith, left, c.if-ticks-left.false, c.loop-ends.invariant.goes.within)
-
-pub step_at-requires-clause-place : goal.step_at-requires-clause-place
-step_at-requires-clause-place g c = c.loop-ends.invariant.place c.loop-ends-test.true c.if-ticks-left.true

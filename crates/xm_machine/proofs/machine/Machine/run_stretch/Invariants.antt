@@ -1,8 +1,7 @@
-use Rattle.std.proofs.Common.{◌≡◌, ◌+◌, ◌-◌, ◌<◌, ◌≤◌, false}
+use Rattle.std.proofs.Common.{◌≡◌, ◌-◌}
 use Rattle.uart_board.specs.contracts.views.BoardViewBoard.TheImpl.{ghosts}
 use Rattle.xm_machine.specs.Heard.{IsRunHeard}
 use Rattle.tick_pieces.specs.Machine.{IsCounted}
-use Rattle.system_ticks.specs.Place.{IsAt}
 use Rattle.xm_machine.proofs.StretchLemmas.{GoesStretch}
 use Rattle.xm_machine.proofs.machine.Machine.run_stretch.Given as goal
 
@@ -12,8 +11,6 @@ invariant-loop-ends g l = record {
   faults : g.O.Sink.faults l.out ≡ g.O.Sink.faults l.fn.out;
   heard : IsRunHeard l.fn.self.state l.self.state ((ghosts (g.dyn-1.0, g.dyn-1.1)).board_view l.fn.board) ((ghosts (g.dyn-1.0, g.dyn-1.1)).board_view l.board);
   counted : IsCounted l.self.state;
-  place : l.ends ≡ false → l.ticks < l.left → IsAt l.place l.self.state;
-  room : l.ends ≡ false → l.ticks < l.left → l.left ≤ l.ticks + l.place.left;
 }
 
 abbrev pub decreases-loop-ends : goal.decreases-loop-ends

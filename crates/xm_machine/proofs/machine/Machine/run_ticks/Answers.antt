@@ -4,8 +4,6 @@ use Rattle.xm_machine.specs.Machine.{Meaning}
 use Rattle.xm_machine.proofs.CuedLemmas.{keeps_counted, keeps_none, keeps_on, keeps_out, keeps_stepped}
 use Rattle.xm_machine.proofs.GoingLemmas.{begins, comes_nearer, counted, goes_cut, goes_on, goes_out}
 use Rattle.xm_machine.proofs.HeardLemmas.{heard_on, none_heard}
-use Rattle.xm_machine.proofs.StretchLemmas.{left_within}
-use Rattle.xm_machine.specs.Stretch.{left_of}
 use Rattle.xm_machine.proofs.machine.Machine.run_ticks.Goals as goal
 
 pub returns-in_err-next-clause-run : goal.returns-in_err-next-clause-run
@@ -13,10 +11,10 @@ returns-in_err-next-clause-run g c =
     let p = err_from_is_err_and c.from_residual.result c.from_residual.ensures.1 in
     let runs : c.loop-self.self.state.halted ≡ false = ap (λ (m : Meaning). m.state.halted) (sym c.self.view_is) ∙ sym c.halted.ensures.value ∙ c.loop-self-test.true in
     let goes = c.loop-self.invariant.goes in
-    let room : goes.done + left_of (c.args.ticks - c.ticks-in-loop-self.result) c.loop-self.self.state ≤ c.args.ticks =
-    omega (arith, counted c.loop-self.told c.args.ticks c.args.self.now.state c.loop-self.self.state (g.O.Sink.got c.args.out.now) (g.O.Sink.got c.loop-self.out) goes runs, c.requires.fresh, c.ticks-in-loop-self.ensures.value, goes.within, ap (λ (m : Meaning). m.state.ticks) c.self.view_is, left_within (c.args.ticks - c.ticks-in-loop-self.result) c.loop-self.self.state) in
-    rw (p.1) (goes_cut c.args.self.now.state c.loop-self.self.state c.run_stretch.new.self.state c.loop-self.told (left_of (c.args.ticks - c.ticks-in-loop-self.result) c.loop-self.self.state) c.args.ticks
-    (g.O.Sink.got c.args.out.now) (g.O.Sink.got c.loop-self.out) (g.O.Sink.got c.run_stretch.new.out) goes c.in_err-next.ensures.steps.cut room)
+    let room : goes.done + (c.args.ticks - c.ticks-in-loop-self.result) ≤ c.args.ticks =
+    omega (arith, counted c.loop-self.told c.args.ticks c.args.self.now.state c.loop-self.self.state (g.O.Sink.got c.args.out.now) (g.O.Sink.got c.loop-self.out) goes runs, c.requires.fresh, c.ticks-in-loop-self.ensures.value, goes.within, ap (λ (m : Meaning). m.state.ticks) c.self.view_is) in
+    rw (p.1) (goes_cut c.args.self.now.state c.loop-self.self.state c.step.new.self.state c.loop-self.told (c.args.ticks - c.ticks-in-loop-self.result) c.args.ticks
+    (g.O.Sink.got c.args.out.now) (g.O.Sink.got c.loop-self.out) (g.O.Sink.got c.step.new.out) goes c.in_err-next.ensures.step.cut room)
 
 pub loop-self-init : goal.loop-self-init
 loop-self-init g c = record {
@@ -29,26 +27,26 @@ loop-self-init g c = record {
 pub loop-self-smaller : goal.loop-self-smaller
 loop-self-smaller g c =
     let runs : c.loop-self.self.state.halted ≡ false = ap (λ (m : Meaning). m.state.halted) (sym c.self.view_is) ∙ sym c.halted.ensures.value ∙ c.loop-self-test.true in
-    let step = c.in_ok-next.ensures.steps.step in
-    comes_nearer c.args.ticks step.done c.loop-self.self.state c.run_stretch.new.self.state runs (omega (arith, c.if-ticks.true, c.ticks.ensures.value, ap (λ (m : Meaning). m.state.ticks) c.self.view_is)) step.some step.are.state
+    let step = c.in_ok-next.ensures.step.step in
+    comes_nearer c.args.ticks step.done c.loop-self.self.state c.step.new.self.state runs (omega (arith, c.if-ticks.true, c.ticks.ensures.value, ap (λ (m : Meaning). m.state.ticks) c.self.view_is)) step.some step.are.state
 
 pub loop-self-preserved : goal.loop-self-preserved
 loop-self-preserved g c =
-    let are = c.in_ok-next.ensures.steps in
+    let are = c.in_ok-next.ensures.step in
     let runs : c.loop-self.self.state.halted ≡ false = ap (λ (m : Meaning). m.state.halted) (sym c.self.view_is) ∙ sym c.halted.ensures.value ∙ c.loop-self-test.true in
     let goes = c.loop-self.invariant.goes in
-    let room : goes.done + left_of (c.args.ticks - c.ticks-in-loop-self.result) c.loop-self.self.state ≤ c.args.ticks =
-    omega (arith, counted c.loop-self.told c.args.ticks c.args.self.now.state c.loop-self.self.state (g.O.Sink.got c.args.out.now) (g.O.Sink.got c.loop-self.out) goes runs, c.requires.fresh, c.ticks-in-loop-self.ensures.value, goes.within, ap (λ (m : Meaning). m.state.ticks) c.self.view_is, left_within (c.args.ticks - c.ticks-in-loop-self.result) c.loop-self.self.state) in
+    let room : goes.done + (c.args.ticks - c.ticks-in-loop-self.result) ≤ c.args.ticks =
+    omega (arith, counted c.loop-self.told c.args.ticks c.args.self.now.state c.loop-self.self.state (g.O.Sink.got c.args.out.now) (g.O.Sink.got c.loop-self.out) goes runs, c.requires.fresh, c.ticks-in-loop-self.ensures.value, goes.within, ap (λ (m : Meaning). m.state.ticks) c.self.view_is) in
     let kept = c.loop-self.invariant.kept in
-    let keeps_room : kept.done + left_of (c.args.ticks - c.ticks-in-loop-self.result) c.loop-self.self.state ≤ c.args.ticks =
-    omega (arith, keeps_counted c.args.ticks c.args.self.now c.loop-self.self kept runs, c.requires.fresh, c.ticks-in-loop-self.ensures.value, kept.within, ap (λ (m : Meaning). m.state.ticks) c.self.view_is, left_within (c.args.ticks - c.ticks-in-loop-self.result) c.loop-self.self.state) in
+    let keeps_room : kept.done + (c.args.ticks - c.ticks-in-loop-self.result) ≤ c.args.ticks =
+    omega (arith, keeps_counted c.args.ticks c.args.self.now c.loop-self.self kept runs, c.requires.fresh, c.ticks-in-loop-self.ensures.value, kept.within, ap (λ (m : Meaning). m.state.ticks) c.self.view_is) in
     record {
-      goes = goes_on c.args.self.now.state c.loop-self.self.state c.run_stretch.new.self.state c.loop-self.told c.in_ok-next.next.lines (left_of (c.args.ticks - c.ticks-in-loop-self.result) c.loop-self.self.state) c.args.ticks
-          (g.O.Sink.got c.args.out.now) (g.O.Sink.got c.loop-self.out) (g.O.Sink.got c.run_stretch.new.out) goes are.step (omega (arith, c.in_ok-next.ensures.few, are.ticks)) room;
-      kept = keeps_on c.args.ticks (left_of (c.args.ticks - c.ticks-in-loop-self.result) c.loop-self.self.state) c.args.self.now c.loop-self.self c.run_stretch.new.self c.loop-self.invariant.kept
-          (keeps_stepped c.in_ok-next.next (left_of (c.args.ticks - c.ticks-in-loop-self.result) c.loop-self.self.state) c.loop-self.self c.run_stretch.new.self (g.O.Sink.got c.loop-self.out) (g.O.Sink.got c.run_stretch.new.out) are c.in_ok-next.ensures.kept) keeps_room;
+      goes = goes_on c.args.self.now.state c.loop-self.self.state c.step.new.self.state c.loop-self.told c.in_ok-next.next.lines (c.args.ticks - c.ticks-in-loop-self.result) c.args.ticks
+          (g.O.Sink.got c.args.out.now) (g.O.Sink.got c.loop-self.out) (g.O.Sink.got c.step.new.out) goes are.step (omega (arith, c.in_ok-next.ensures.few, are.step.some)) room;
+      kept = keeps_on c.args.ticks (c.args.ticks - c.ticks-in-loop-self.result) c.args.self.now c.loop-self.self c.step.new.self c.loop-self.invariant.kept
+          (keeps_stepped c.in_ok-next.next (c.args.ticks - c.ticks-in-loop-self.result) c.loop-self.self c.step.new.self (g.O.Sink.got c.loop-self.out) (g.O.Sink.got c.step.new.out) are c.in_ok-next.ensures.kept) keeps_room;
       faults = c.in_ok-next.ensures.cause ∙ c.loop-self.invariant.faults;
-      heard = heard_on c.keeps_numbers.ensures.runs c.args.self.now.state c.loop-self.self.state c.run_stretch.new.self.state goes.done are.step.done
+      heard = heard_on c.keeps_numbers.ensures.runs c.args.self.now.state c.loop-self.self.state c.step.new.self.state goes.done are.step.done
           (record { places = _; marks = _ }) (record { places = _; marks = _ }) (record { places = _; marks = _ })
           goes.are.state are.step.are.state c.loop-self.invariant.heard c.in_ok-next.ensures.heard;
     }
@@ -66,18 +64,18 @@ returns-after-loop-self-clause-run g c =
 pub returns-in_err-next-clause-heard : goal.returns-in_err-next-clause-heard
 returns-in_err-next-clause-heard g c =
     let goes = c.loop-self.invariant.goes in
-    heard_on c.keeps_numbers.ensures.runs c.args.self.now.state c.loop-self.self.state c.run_stretch.new.self.state goes.done c.in_err-next.ensures.steps.cut.done
+    heard_on c.keeps_numbers.ensures.runs c.args.self.now.state c.loop-self.self.state c.step.new.self.state goes.done c.in_err-next.ensures.step.cut.done
     (record { places = _; marks = _ }) (record { places = _; marks = _ }) (record { places = _; marks = _ })
-    goes.are.state c.in_err-next.ensures.steps.cut.are.state c.loop-self.invariant.heard c.in_err-next.ensures.heard
+    goes.are.state c.in_err-next.ensures.step.cut.are.state c.loop-self.invariant.heard c.in_err-next.ensures.heard
 
 pub returns-in_err-next-clause-kept : goal.returns-in_err-next-clause-kept
 returns-in_err-next-clause-kept g c =
     let p = err_from_is_err_and c.from_residual.result c.from_residual.ensures.1 in
     let runs : c.loop-self.self.state.halted ≡ false = ap (λ (m : Meaning). m.state.halted) (sym c.self.view_is) ∙ sym c.halted.ensures.value ∙ c.loop-self-test.true in
     let kept = c.loop-self.invariant.kept in
-    let keeps_room : kept.done + left_of (c.args.ticks - c.ticks-in-loop-self.result) c.loop-self.self.state ≤ c.args.ticks =
-    omega (arith, keeps_counted c.args.ticks c.args.self.now c.loop-self.self kept runs, c.requires.fresh, c.ticks-in-loop-self.ensures.value, kept.within, ap (λ (m : Meaning). m.state.ticks) c.self.view_is, left_within (c.args.ticks - c.ticks-in-loop-self.result) c.loop-self.self.state) in
-    rw (p.1) (keeps_on c.args.ticks (left_of (c.args.ticks - c.ticks-in-loop-self.result) c.loop-self.self.state) c.args.self.now c.loop-self.self c.run_stretch.new.self kept c.in_err-next.ensures.kept keeps_room)
+    let keeps_room : kept.done + (c.args.ticks - c.ticks-in-loop-self.result) ≤ c.args.ticks =
+    omega (arith, keeps_counted c.args.ticks c.args.self.now c.loop-self.self kept runs, c.requires.fresh, c.ticks-in-loop-self.ensures.value, kept.within, ap (λ (m : Meaning). m.state.ticks) c.self.view_is) in
+    rw (p.1) (keeps_on c.args.ticks (c.args.ticks - c.ticks-in-loop-self.result) c.args.self.now c.loop-self.self c.step.new.self kept c.in_err-next.ensures.kept keeps_room)
 
 pub returns-else-ticks-clause-kept : goal.returns-else-ticks-clause-kept
 returns-else-ticks-clause-kept g c =
@@ -91,6 +89,6 @@ returns-after-loop-self-clause-kept g c =
 
 pub overflow_add-told : goal.overflow_add-told
 overflow_add-told g c =
-    let are = c.in_ok-next.ensures.steps in
+    let are = c.in_ok-next.ensures.step in
     let goes = c.loop-self.invariant.goes in
-    omega (arith, goes.few, goes.within, c.requires.most, c.in_ok-next.ensures.few, are.ticks, are.step.within, left_within (c.args.ticks - c.ticks-in-loop-self.result) c.loop-self.self.state)
+    omega (arith, goes.few, goes.within, c.requires.most, c.in_ok-next.ensures.few, are.step.some, are.step.within)

@@ -1,7 +1,43 @@
-use Rattle.std.proofs.Common.{subst}
-use Rattle.xm_machine.specs.Machine.{Meaning}
-use Rattle.system_ticks.specs.Place.{IsAt}
+use Rattle.xm_machine.proofs.CuedLemmas.{keeps_so}
+use Rattle.xm_machine.proofs.GoingLemmas.{cause_so, few_so, step_so}
+use Rattle.xm_machine.proofs.HeardLemmas.{span_heard}
+use Rattle.tick_pieces.specs.KeptLemmas.{kept_ticks}
 use Rattle.xm_machine.proofs.machine.Machine.step.Goals as goal
 
-pub step_at-requires-clause-place : goal.step_at-requires-clause-place
-step_at-requires-clause-place g c = subst (λ (m : Meaning). IsAt c.place_of-place.result m.state) c.self.view_is c.place_of-place.ensures.at
+pub invariant_of-self : goal.invariant_of-self
+invariant_of-self g c =
+    let most = rw (← c.self.view_is) at c.requires.most in
+    let done = c.run-span.ensures.done in
+    kept_ticks c.keeps_facts.ensures.ticks c.keeps_hardware_clock.ensures.ticks c.keeps_numbers.ensures.ticks c.keeps_plans.ensures.ticks
+    c.self.inside.sys c.run-span.new.sys c.run-span.result.ticks c.args.most c.self.invariant done.state done.within most
+
+pub returns-clause-step : goal.returns-clause-step
+returns-clause-step g c =
+    let told = rw c.ticks-begun.ensures.value at c.tell.ensures.told in
+    rw (c.stepped_by.ensures, ← c.self.view_is) (step_so c.tell.result c.ends_stretch-ends.result c.run-span.result c.args.most c.self.inside.sys c.run-span.new.sys c.run-span.new.lines
+    (g.O.Sink.got c.args.out.now) (g.O.Sink.got c.tell.new.out) c.run-span.ensures.done c.ends_stretch-ends.ensures told)
+
+pub returns-clause-few : goal.returns-clause-few
+returns-clause-few g c = rw (c.stepped_by.ensures) (few_so c.tell.result c.run-span.result.ticks c.ends_stretch-ends.result c.tell.ensures.few)
+
+pub returns-clause-cause : goal.returns-clause-cause
+returns-clause-cause g c =
+    rw (c.stepped_by.ensures) (cause_so c.tell.result c.run-span.result.ticks c.ends_stretch-ends.result (g.O.Sink.faults c.args.out.now) (g.O.Sink.faults c.tell.new.out) c.tell.ensures.cause)
+
+pub returns-clause-counters : goal.returns-clause-counters
+returns-clause-counters g c =
+    let most = rw (← c.self.view_is) at c.requires.most in
+    let done = c.run-span.ensures.done in
+    (kept_ticks c.keeps_facts.ensures.ticks c.keeps_hardware_clock.ensures.ticks c.keeps_numbers.ensures.ticks c.keeps_plans.ensures.ticks
+    c.self.inside.sys c.run-span.new.sys c.run-span.result.ticks c.args.most c.self.invariant done.state done.within most).counted
+
+pub returns-clause-heard : goal.returns-clause-heard
+returns-clause-heard g c =
+    let heard = rw c.ticks-begun.ensures.value at c.tell.ensures.heard in
+    rw (← c.self.view_is) (span_heard c.keeps_numbers.ensures.runs c.run-span.result c.args.most c.self.inside.sys c.run-span.new.sys c.run-span.new.lines
+    (record { places = _; marks = _ }) (record { places = _; marks = _ }) c.run-span.ensures.done heard)
+
+pub returns-clause-kept : goal.returns-clause-kept
+returns-clause-kept g c =
+    rw (c.stepped_by.ensures, ← c.self.view_is) (keeps_so c.tell.result c.ends_stretch-ends.result c.run-span.result c.args.most c.self.inside.sys c.run-span.new.sys c.run-span.new.lines c.self.inside.kept c.run-span.new.self c.run-span.ensures.done
+    c.run-span.ensures.kept)
