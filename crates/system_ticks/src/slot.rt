@@ -61,20 +61,19 @@ pub(crate) fn run_span(
     keeps_numbers();
     keeps_plans();
     let mut at = place_of(sys, number);
-    let mut done = 0;
+    let mut left = most;
     let mut goes = true;
     while goes {
-        let left = most - done;
         let here = left.min(at.left);
         run_part(sys, lines, span, at, here);
         goes = can_go_on(span, lines, left);
-        done += span.ticks;
+        left -= span.ticks;
         if goes {
             at = place_on(sys, at, span.ticks);
         }
     }
     let last = slot_after(span.ticks - 1, at.slot);
-    span.ticks = done;
+    span.ticks = most - left;
     last
 }
 

@@ -1,12 +1,13 @@
-use Rattle.std.proofs.Common.{◌≡◌, ◌-◌, false, true}
+use Rattle.std.proofs.Common.{◌≡◌, ◌-◌, ◌≤◌, false, true}
 use Rattle.system_ticks.proofs.SilentLemmas.{AreSilent, HaveEnded}
 use Rattle.system_ticks.proofs.slot.run_span.Given as goal
 
 abbrev pub invariant-loop-goes : goal.invariant-loop-goes
 invariant-loop-goes l = record {
-  begun : l.goes ≡ true → AreSilent l.done l.most l.at l.fn.sys l.sys l.lines;
-  ended : l.goes ≡ false → HaveEnded l.done l.most l.at l.span l.fn.sys l.sys l.lines;
+  within : l.left ≤ l.most;
+  begun : l.goes ≡ true → AreSilent (l.most - l.left) l.most l.at l.fn.sys l.sys l.lines;
+  ended : l.goes ≡ false → HaveEnded (l.most - l.left) l.most l.at l.span l.fn.sys l.sys l.lines;
 }
 
 abbrev pub decreases-loop-goes : goal.decreases-loop-goes
-decreases-loop-goes l = l.most - l.done
+decreases-loop-goes l = l.left
