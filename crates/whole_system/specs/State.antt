@@ -1,5 +1,6 @@
 -- The state of the whole system as it is kept: the machine, with the state of each partition apart from its memory.
 use Rattle.std.specs.Prelude.{◌≡◌, ℕ, Bool, List, [], ◌∷◌, length, map, drop, is_some, slice_index_or}
+use Rattle.std.specs.FinMap.{empty}
 use Rattle.std.specs.List.{list_any}
 use Rattle.cyclic_plans.specs.PlanClock.{CyclicClock}
 use Rattle.guest_bus.specs.Memory.{Area, Memory}
@@ -7,19 +8,17 @@ use Rattle.guest_memory.specs.Loading.{memory_areas, areas_with_image}
 use Rattle.guest_memory.specs.Memories.{Memories}
 use Rattle.health_monitor.specs.declared.entry.HealthEntry.{HealthEntry}
 use Rattle.loaded_system.specs.System as loaded_system
-use Rattle.sparc_step.specs.Registers.{Registers, registers_started}
-use Rattle.virt_clocks.specs.Clocks.{PartitionClocks, no_clocks}
-use Rattle.virt_traps.specs.Virtual.{VirtualTraps, no_traps}
+use Rattle.sparc_step.specs.Registers.{Registers}
+use Rattle.virt_clocks.specs.Clocks.{PartitionClocks}
+use Rattle.virt_traps.specs.Virtual.{VirtualTraps}
 use Rattle.xef_images.specs.Image.{Image}
 use Rattle.xm_base.specs.declared.partition.State.{State}
-use Rattle.xm_base.specs.declared.partition.State.TheVariants.{Ready}
 use Rattle.xm_conf.specs.Configuration.{Part}
 use Rattle.xm_ports.specs.Channels.{ChannelTable, Shape}
-use Rattle.xm_ports.specs.Ports.{no_ports}
-use Rattle.xm_traces.specs.Ring.{Kept, nothing_kept}
+use Rattle.xm_traces.specs.Ring.{Kept}
 use Rattle.xm_traces.specs.declared.entry.TraceEntry.{TraceEntry}
 use Rattle.machine_model.specs.Machine.{Machine}
-use Rattle.machine_model.specs.Partition.{PartitionState}
+use Rattle.machine_model.specs.Partition.{PartitionState, begun_at}
 use Rattle.machine_model.specs.View.{System, part_of}
 pub use Rattle.slot_runs.specs.Passes.{part_at, with_part}
 
@@ -36,20 +35,24 @@ pub record OwnState : Type 0 where
   pub health : Kept HealthEntry
   pub used : ℕ
 
--- a partition as it boots
-unfoldable pub booted_own : ℕ → OwnState
-booted_own entry = record {
-  core = registers_started entry;
-  virt = no_traps;
-  clocks = no_clocks;
-  state = Ready;
-  resets = 0;
-  reset_status = 0;
-  ports = no_ports;
-  traces = nothing_kept;
-  health = nothing_kept;
+-- the state of a partition without its memory, where it has read none of its input words
+abbrev pub without_memory : PartitionState → OwnState
+without_memory ps = record {
+  core = ps.core;
+  virt = ps.traps;
+  clocks = ps.clocks;
+  state = ps.state;
+  resets = ps.resets;
+  reset_status = ps.reset_status;
+  ports = ps.made;
+  traces = ps.traces;
+  health = ps.health;
   used = 0;
 }
+
+-- a partition as it boots: one that begins at its entry, whatever its memory and its input words are
+unfoldable pub booted_own : ℕ → OwnState
+booted_own entry = without_memory (begun_at entry empty [])
 
 -- with its memory and its input words it is the state of a partition, which has the words that are left
 abbrev pub with_memory : OwnState → Memory → List ℕ → PartitionState

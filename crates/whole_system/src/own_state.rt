@@ -34,7 +34,6 @@ pub struct PartState {
 }
 
 impl Model for PartState {
-    ghost use Rattle.std.specs.Coded.{codes};
     ghost use Rattle.whole_system.specs.State.{OwnState};
 
     ghost Value = { OwnState };

@@ -1,7 +1,7 @@
 //! The partitions of a system as they boot.
 
 ghost use Rattle.std.specs.Prelude.{◌≡◌, ◌≤◌, IfOk, map, length};
-ghost use Rattle.guest_memory.specs.Loading.{memory_areas, zeros_in};
+ghost use Rattle.guest_memory.specs.Loading.{memory_areas};
 ghost use Rattle.loaded_system.specs.System.{IsSystem};
 ghost use Rattle.whole_system.specs.State.{booted_own, loaded_all};
 ghost use Rattle.xm_conf.specs.Limits.{most_parts};
