@@ -31,8 +31,8 @@ use tick_pieces::{
 use xm_base::{Mode, Order, PartId};
 use xm_report::Line;
 
-/// One tick of partition `p` without the others, and what its call told. Where it cannot take its cue there is none, and another tick or
-/// a part of one was done.
+/// One tick of partition `p` without the others, and a note by which the bytes are told that it wrote to its console. Where it cannot take
+/// its cue there is none, and another tick or a part of one was done.
 pub fn tick_alone(sys: &mut Sys, lines: &mut Lines, p: PartId, cue: &Cue<'_>) -> Option<Note>
     requires machine { IsMachine sys.old }
     requires partition { p < length sys.old.machine.parts }

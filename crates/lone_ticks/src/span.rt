@@ -38,8 +38,8 @@ use xm_conf::Conf;
 pub struct LoneSpan {
     /// How many there are, with the last: at least one. All but the last report nothing.
     pub ticks: u64,
-    /// What its call told in the last; where the partition cannot take that one's cue there is none, and another tick or a part of one
-    /// was done.
+    /// A note by which the bytes are told that it wrote to its console in the last; where the partition cannot take that one's cue there
+    /// is none, and another tick or a part of one was done.
     pub told: Option<Note>,
 }
 
