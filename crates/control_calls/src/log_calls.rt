@@ -117,7 +117,7 @@ fn told_not_kept(sys: &mut Sys, site: CallSite) -> Served
     requires { IsCaller site sys.old }
     ensures { IsServed site.part NotKept (answering not_available (caller_of site sys.old).state) result sys.old sys.new }
 {
-    sys.part_mut(site.part).core.set(OUT_0, NOT_AVAILABLE);
+    sys.set_result(site.part, NOT_AVAILABLE);
     Served {
         note: Note::NotKept,
         act: Act::Nothing,

@@ -79,7 +79,7 @@ fn print(sys: &mut Sys, site: CallSite, at: u32, size: u32) -> Served
     requires readable { MayRead (caller_of site sys.old) at size }
     ensures { IsServed site.part Unseen (record (answering size (caller_of site sys.old).state) { told = printed (caller_bytes (caller_of site sys.old) at size) }) result sys.old sys.new }
 {
-    sys.part_mut(site.part).core.set(OUT_0, size);
+    sys.set_result(site.part, size);
     if size == 0 {
         DONE
     } else {

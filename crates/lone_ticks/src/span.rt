@@ -271,7 +271,7 @@ fn count_on(sys: &mut Sys, p: PartId, ticks: u64)
     requires clock { (part_at p sys.old.machine).clocks.execution + ticks < 2 ^ 63 }
     ensures { sys.new ≡ with_machine (with_part p (counted_on ticks (part_at p sys.old.machine)) sys.old.machine) sys.old }
 {
-    sys.part_mut(p).clocks.pass_many(ticks);
+    sys.count_on(p, ticks);
 }
 
 // How many ticks there are, at most so many, before one in which a timer of the partition is due.

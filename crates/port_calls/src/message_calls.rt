@@ -20,8 +20,8 @@ ghost use Rattle.whole_system.specs.State.{with_machine, with_part};
 use crate::made_ports::{MadePort, most_of, refresh_of};
 use crate::traffic::{MESSAGE_BYTES, drop_first, put_sampling, send};
 use whole_system::answering::{
-    B, C, D, INVALID_PARAMETER, NO_ACTION, NOT_ALLOWED, NOT_AVAILABLE, OUT_0, answer,
-    answer_written, argument, read, room, text, write,
+    B, C, D, INVALID_PARAMETER, NO_ACTION, NOT_ALLOWED, NOT_AVAILABLE, answer, answer_written,
+    argument, read, room, text, write,
 };
 use whole_system::structures::validity;
 use whole_system::{Act, CallSite, Note, Served, Sys};
@@ -152,7 +152,7 @@ pub(crate) fn set_result(sys: &mut Sys, site: CallSite, value: u32)
     requires { IsCaller site sys.old }
     ensures { sys.new ≡ with_machine (with_part site.part (with_answer value (caller_of site sys.old).state) sys.old.machine) sys.old }
 {
-    sys.part_mut(site.part).core.set(OUT_0, value);
+    sys.set_result(site.part, value);
 }
 
 /// Calls 18, XM_read_sampling_message(a, b, c, d), and 22, XM_receive_queuing_message(a, b, c), on a made port: into c bytes at b, and

@@ -1,5 +1,5 @@
 -- An instruction that trapped or called: its work, as the system after it has it.
-use Rattle.std.proofs.Common.{◌≡◌, ℕ, ◌+◌, ◌<◌, Bool, List, ◌++◌, length, map, Option, Some, refl, sym, ap, subst, ◌∙◌}
+use Rattle.std.proofs.Common.{◌≡◌, ℕ, ◌<◌, Bool, List, ◌++◌, length, map, Option, Some, refl, sym, ap, subst, ◌∙◌}
 use Rattle.std.proofs.lemmas.List.{get_or-set_same, length-set, set-set}
 use Rattle.health_monitor.specs.Monitor.{action_in, effect_of, event_of_type}
 use Rattle.health_monitor.specs.declared.effects.Whole.{Whole}

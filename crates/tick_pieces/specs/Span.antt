@@ -11,6 +11,7 @@ use Rattle.xm_ports.specs.Channels.{shapes_of}
 use Rattle.xm_report.specs.Report.{ReportLine}
 use Rattle.whole_system.specs.Serving.{CanBeTold}
 use Rattle.whole_system.specs.State.{SysState, areas_in, memory_of, with_machine}
+pub use Rattle.whole_system.specs.Turning.{counted_on}
 use Rattle.whole_system.specs.declared.served.Note.{Note}
 use Rattle.whole_system.specs.declared.served.Note.TheVariants as note
 use Rattle.machine_model.specs.Facts.{AreEnds}
@@ -126,10 +127,6 @@ pub record HasTurned (turn : Turn) (g : Machine) (p : ℕ) (first : Bool) (ps : 
 abbrev pub machine_underway : ℕ → ℕ → Machine → Machine
 machine_underway p zero g = g
 machine_underway p (suc k) g = record g { parts = (rest_but (Some p) (g.time + k) g).parts; time = g.time + suc k; ticks = g.ticks + suc k }
-
--- a partition with so many ticks more on its execution clock
-abbrev pub counted_on : ℕ → PartitionState → PartitionState
-counted_on count ps = record ps { clocks = record ps.clocks { execution = ps.clocks.execution + count } }
 
 -- what the tick after so many needs, in which the partition of the slot only went
 pub record CanTakeAfter (p went : ℕ) (sys : SysState) : Type 0 where

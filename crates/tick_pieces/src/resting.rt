@@ -20,6 +20,9 @@ const HARDWARE_TIMER: u8 = 0;
 pub fn rest(sys: &mut Sys, working: Option<PartId>, time: u64)
     ensures { sys.new ≡ with_machine (rest_but working time sys.old.machine) sys.old }
 {
+    if sys.is_known_untimed() {
+        return;
+    }
     if is_alone(sys, working) {
         return;
     }

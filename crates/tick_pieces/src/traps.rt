@@ -52,5 +52,5 @@ pub fn count_tick(sys: &mut Sys, p: PartId)
     ensures value { sys.new ≡ with_machine (with_part p (clocked (part_at p sys.old.machine)) sys.old.machine) sys.old }
     ensures log { (part_at p sys.new.machine).health ≡ (part_at p sys.old.machine).health }
 {
-    sys.part_mut(p).clocks.pass();
+    sys.count_tick(p);
 }

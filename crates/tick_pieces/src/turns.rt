@@ -11,13 +11,6 @@ ghost use Rattle.whole_system.specs.State.{with_machine};
 use whole_system::Sys;
 use xm_base::{PartId, State};
 
-/// The interrupts that ticks bring.
-const HARDWARE_TIMER: u8 = 0;
-
-const EXECUTION_TIMER: u8 = 1;
-
-const SLOT_START: u8 = 5;
-
 /// Whether a partition takes its turn in its slots: it is not suspended, and has not halted.
 pub fn takes_turns(sys: &Sys, p: PartId) -> bool
     requires partition { p < length sys.now.machine.parts }
@@ -31,22 +24,11 @@ pub fn takes_turns(sys: &Sys, p: PartId) -> bool
 
 /// The interrupts of a tick become pending: the start of a slot, and those of the timers that are due.
 #[inline(always)]
-#[tactic(auto, unfolding(machine_model::specs::LocalTick::with_interrupts, machine_model::specs::Partition::hardware_looked_at, machine_model::specs::Partition::execution_looked_at))]
 pub fn meet(sys: &mut Sys, p: PartId, first: bool)
     requires partition { p < length sys.old.machine.parts }
     ensures { sys.new ≡ with_machine (with_part p (with_interrupts sys.old.machine.time first (part_at p sys.old.machine)) sys.old.machine) sys.old }
 {
-    let now = sys.now();
-    let own = sys.part_mut(p);
-    if first {
-        own.virt.raise(SLOT_START);
-    }
-    if own.clocks.hw_due(now) {
-        own.virt.raise(HARDWARE_TIMER);
-    }
-    if own.clocks.exec_due() {
-        own.virt.raise(EXECUTION_TIMER);
-    }
+    sys.meet(p, first);
 }
 
 /// Whether the partition goes on: an idle one is woken by the start of its slot or an interrupt that is due.
@@ -72,7 +54,7 @@ pub fn wake(sys: &mut Sys, p: PartId)
     requires partition { p < length sys.old.machine.parts }
     ensures { sys.new ≡ with_machine (with_part p (awake (part_at p sys.old.machine)) sys.old.machine) sys.old }
 {
-    sys.part_mut(p).state = State::Ready;
+    sys.wake(p);
 }
 
 /// The interrupt that is delivered to the partition, where one is due and traps are enabled.

@@ -1,9 +1,10 @@
 -- The partitions as they boot.
 use Rattle.std.proofs.Common.{◌≡◌, ℕ, zero, suc, ◌<◌, ◌≤◌, List, [], ◌∷◌, ◌++◌, length, map, take, get_or, refl, sym, ap, ◌∙◌, ◌+◌, ◌≢◌, arith, below_more}
-use Rattle.std.proofs.lemmas.List.{get_or-set_other, get_or-set_same, get_or_default, map-append, same_lists, take_more}
+use Rattle.std.proofs.lemmas.List.{get_or-set_other, get_or-set_same, get_or_default, length-map, map-append, same_lists, take_more}
 use Rattle.std.proofs.lemmas.Option.{get_or_from_slice_get}
-use Rattle.std.specs.Prelude.{Some, false, slice_get}
+use Rattle.std.specs.Prelude.{Some, true, false, slice_get}
 use Rattle.std.specs.FinMap.{empty}
+use Rattle.std.specs.List.{list_any}
 use Rattle.cyclic_plans.specs.PlanClock.{CyclicClock, started as plan_start}
 use Rattle.guest_bus.specs.Memory.{Area, Memory}
 use Rattle.guest_memory.specs.Loading.{memory_areas, areas_with_image}
@@ -14,11 +15,12 @@ use Rattle.machine_model.specs.Machine.{booted_part, start}
 use Rattle.machine_model.specs.Partition as model
 use Rattle.machine_model.specs.Partition.{PartitionState}
 use Rattle.machine_model.specs.View.{no_image, no_part, part_of, view_of}
+use Rattle.virt_clocks.specs.Clocks.{no_clocks}
 use Rattle.xef_images.specs.Image.{Image}
 use Rattle.xm_conf.specs.Configuration.{Part}
 use Rattle.xm_ports.specs.Channels as ports
 use Rattle.xm_ports.specs.Channels.{ChannelTable, shapes_of}
-use Rattle.whole_system.specs.State.{OwnState, booted_own, kept_so, loaded_all, with_inputs, with_memories, with_memory}
+use Rattle.whole_system.specs.State.{IsKeptSo, NoneTimed, OwnState, booted_own, is_timed, kept_so, loaded_all, with_inputs, with_memories, with_memory}
 
 -- the partitions of some images as they boot, apart from their memories
 abbrev pub booted_owns : List Image → List OwnState
@@ -119,3 +121,20 @@ boot_more images p image owns new own entry below there owns_is new_is own_is en
     ∙ map-append (λ (image : Image). booted_own image.entry) (take p images) (get_or images p image ∷ [])
     ∙ ap (λ (i : Image). booted_owns (take p images) ++ (booted_own i.entry ∷ [])) (get_or_from_slice_get images p image image there)
     )
+
+-- no timer is armed
+none_boots : (images : List Image) → NoneTimed (booted_owns images)
+unfolding booted_own no_clocks
+none_boots [] = refl
+none_boots (image ∷ images) = none_boots images
+
+-- so all is kept as it is to be, and it is said that no timer is armed
+pub boots_kept : (system : System) (inputs : List (List ℕ)) (owns : List OwnState) (memories : Memories) → IsSystem system → length inputs ≡ length system.conf.parts → owns ≡ booted_owns system.images
+    → memories.areas ≡ map memory_areas system.conf.parts → memories.maps ≡ loaded_all system.conf.parts system.images → IsKeptSo system inputs owns memories true
+boots_kept system inputs owns memories is given owns_is areas_is maps_is = record {
+  counted = ap length owns_is ∙ length-map system.images (λ image. booted_own image.entry) ∙ is.counted;
+  given = given;
+  areas = areas_is;
+  held = ap length maps_is ∙ loaded-length system.conf.parts system.images is.counted;
+  unarmed = ap (list_any (λ (own : OwnState). is_timed own.clocks)) owns_is ∙ none_boots system.images;
+}

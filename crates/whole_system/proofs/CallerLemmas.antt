@@ -8,7 +8,6 @@ use Rattle.guest_memory.specs.Loading.{memory_areas}
 use Rattle.machine_model.specs.Partition.{PartitionState}
 use Rattle.machine_model.specs.Told.{Words}
 use Rattle.machine_model.specs.Traffic.{Still, told_as}
-use Rattle.sparc_step.specs.Registers.{with_register}
 use Rattle.health_monitor.specs.declared.effects.Whole.TheVariants as whole
 use Rattle.whole_system.specs.declared.served.Act.{Act}
 use Rattle.whole_system.specs.declared.served.Act.TheVariants as act
@@ -23,7 +22,7 @@ use Rattle.machine_model.specs.View.{no_part, part_of, view_of}
 use Rattle.xm_conf.specs.Configuration.{Conf, Part}
 use Rattle.xm_conf.specs.View.{counts_seen, is_system, sees}
 use Rattle.whole_system.specs.Serving.{IsServed, IsUponOne, MayRead, caller_of, own_traffic, untraded, upshot_of}
-use Rattle.whole_system.specs.State.{OwnState, SysState, areas_in, memory_of, part_at, with_machine, with_memory, with_own, with_part, input_words_of}
+use Rattle.whole_system.specs.State.{SysState, areas_in, part_at, with_machine, with_part}
 use Rattle.whole_system.specs.declared.call_site.CallSite.{CallSite}
 
 -- the flag of a partition, read either way
@@ -109,13 +108,11 @@ room_readable site sys address size is =
     all_from-true (is_readable areas) address size (λ q over under. byte_readable areas q (all_from-each (is_writable areas) address size q writable over under))
 
 -- a partition's state that is set, and then answered
-pub answered_set : (sys mid new : SysState) (p value : ℕ) (ps : PartitionState) (own : OwnState) → p < length sys.machine.parts → mid ≡ with_machine (with_part p ps sys.machine) sys
-    → part_at p mid.machine ≡ with_memory own (memory_of p mid.machine) (input_words_of p mid.machine)
-    → new ≡ with_machine (with_own p (record own { core = with_register own.core 8 value }) mid.machine) mid → new ≡ with_machine (with_part p (with_answer value ps) sys.machine) sys
-unfolding with_answer
-answered_set sys mid new p value ps own below mid_is own_is new_is =
+pub answered_set : (sys mid new : SysState) (p value : ℕ) (ps : PartitionState) → p < length sys.machine.parts → mid ≡ with_machine (with_part p ps sys.machine) sys
+    → new ≡ with_machine (with_part p (with_answer value (part_at p mid.machine)) mid.machine) mid → new ≡ with_machine (with_part p (with_answer value ps) sys.machine) sys
+answered_set sys mid new p value ps below mid_is new_is =
     new_is
-    ∙ ap (λ (x : PartitionState). with_machine (with_part p (with_answer value x) mid.machine) mid) (sym own_is ∙ part_set sys mid p ps below mid_is)
+    ∙ ap (λ (x : PartitionState). with_machine (with_part p (with_answer value x) mid.machine) mid) (part_set sys mid p ps below mid_is)
     ∙ ap (λ (s : SysState). with_machine (with_part p (with_answer value ps) s.machine) s) mid_is
     ∙ ap (λ (parts : List PartitionState). with_machine (record sys.machine { parts = parts }) sys) (set-set sys.machine.parts p ps (with_answer value ps))
 

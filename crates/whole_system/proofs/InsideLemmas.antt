@@ -1,7 +1,8 @@
 -- A system as it is kept, and as it is seen.
-use Rattle.std.proofs.Common.{◌≡◌, ℕ, ◌<◌, Bool, List, [], length, map, set, get_or, sym, ap, ◌∙◌, arith}
+use Rattle.std.proofs.Common.{◌≡◌, ℕ, ◌<◌, Bool, true, false, List, [], length, map, set, get_or, sym, ap, ◌∙◌, arith}
 use Rattle.std.proofs.lemmas.Option.{get_or_from_slice_get}
-use Rattle.std.proofs.lemmas.List.{get_or-map, get_or_default, length-map, set-get_or}
+use Rattle.std.proofs.lemmas.List.{get_or-map, get_or_default, length-map, length-set, set-get_or}
+use Rattle.std.specs.Bool.{OnTrue}
 use Rattle.std.specs.FinMap.{empty}
 use Rattle.std.specs.List.{list_any}
 use Rattle.std.specs.Prelude.{IfOk, OnOk, Result, Ok, Err, Some, slice_get}
@@ -9,12 +10,14 @@ use Rattle.guest_bus.specs.Memory.{Area, Memory, with_bytes}
 use Rattle.guest_memory.specs.Loading.{memory_areas, areas_with_image}
 use Rattle.guest_memory.specs.Memories.{Memories, areas_at, map_at, with_map, with_selected}
 use Rattle.machine_model.specs.Caller.{with_written}
+use Rattle.machine_model.specs.LocalTick.{with_interrupts}
 use Rattle.machine_model.specs.Partition.{PartitionState}
 use Rattle.machine_model.specs.Partition as model
 use Rattle.machine_model.specs.View.{no_image, no_part, part_of, view_of}
 use Rattle.xef_images.specs.Image.{Image}
 use Rattle.xm_ports.specs.Ports.{with_port}
-use Rattle.whole_system.specs.State.{IsKeptSo, OwnState, SysState, any_timed, areas_in, booted_own, is_timed, kept_so, memory_of, part_at, with_machine, with_memory, with_own, with_part, input_words_of}
+use Rattle.whole_system.specs.State.{IsKeptSo, NoneTimed, OwnState, SysState, any_timed, areas_in, booted_own, is_timed, kept_so, memory_of, part_at, with_machine, with_memory, with_own, with_part, input_words_of}
+use Rattle.whole_system.specs.Turning.{HasMet}
 use Rattle.whole_system.specs.declared.sys.Sys.TheInside.{Inside}
 use Rattle.whole_system.proofs.PartsLemmas as parts
 
@@ -28,7 +31,7 @@ seen a = seen_with a a.parts.items a.ram
 
 -- what is kept of it
 abbrev pub IsKept : Inside → Type 0
-IsKept a = IsKeptSo a.system a.inputs a.parts.items a.ram
+IsKept a = IsKeptSo a.system a.inputs a.parts.items a.ram a.untimed
 
 -- a memory for each partition
 pub is_held : (a : Inside) → IsKept a → length a.ram.maps ≡ length a.parts.items
@@ -218,3 +221,44 @@ if_ok (Err e) P Q follows holds = tt
 pub is_timed_seen : (a : Inside) (sys : SysState) → IsKept a → seen a ≡ sys → list_any (λ own. is_timed own.clocks) a.parts.items ≡ any_timed sys.machine.parts
 is_timed_seen a sys kept is =
     parts.memories-timed a.parts.items a.ram.maps a.inputs (is_held a kept) (is_given a kept) ∙ ap (λ (s : SysState). any_timed s.machine.parts) is
+
+-- what follows where a test holds
+on_true : (b : Bool) (P Q : Type 0) → (P → Q) → OnTrue b P → OnTrue b Q
+on_true true P Q follows holds = follows holds
+on_true false P Q follows holds = tt
+
+-- where it is said that no timer is armed, none is seen to be
+pub is_known : (a : Inside) (sys : SysState) → IsKept a → seen a ≡ sys → OnTrue a.untimed (any_timed sys.machine.parts ≡ false)
+is_known a sys kept is = on_true a.untimed (NoneTimed a.parts.items) (any_timed sys.machine.parts ≡ false) (λ none. sym (is_timed_seen a sys kept is) ∙ none) kept.unarmed
+
+-- what is kept stays so with another state of one partition, by which no timer is armed, and with other memories of the same areas
+pub stays_kept : (a : Inside) (p : ℕ) (own new : OwnState) (ram : Memories) → IsKept a → own ≡ get_or a.parts.items p own → (is_timed own.clocks ≡ false → is_timed new.clocks ≡ false)
+    → ram.areas ≡ a.ram.areas → length ram.maps ≡ length a.ram.maps → IsKeptSo a.system a.inputs (set a.parts.items p new) ram a.untimed
+stays_kept a p own new ram kept here keeps areas maps = record {
+  counted = length-set a.parts.items p new ∙ kept.counted;
+  given = kept.given;
+  areas = areas ∙ kept.areas;
+  held = maps ∙ kept.held;
+  unarmed = on_true a.untimed (NoneTimed a.parts.items) (NoneTimed (set a.parts.items p new)) (parts.none-set a.parts.items p own new here keeps) kept.unarmed;
+}
+
+-- and with another memory of that partition
+pub stays_kept_with : (a : Inside) (p : ℕ) (own new : OwnState) (memory : Memory) (ram : Memories) → IsKept a → own ≡ get_or a.parts.items p own → (is_timed own.clocks ≡ false → is_timed new.clocks ≡ false)
+    → ram ≡ with_selected p (with_map p memory a.ram) → IsKeptSo a.system a.inputs (set a.parts.items p new) ram a.untimed
+stays_kept_with a p own new memory ram kept here keeps is =
+    stays_kept a p own new ram kept here keeps (ap (λ (m : Memories). m.areas) is) (ap (λ (m : Memories). length m.maps) is ∙ length-set a.ram.maps p memory)
+
+-- with a state of one partition that is changed so, whose memory stays
+pub is_turned : (a : Inside) (sys : SysState) (p : ℕ) (f : PartitionState → PartitionState) (own new : OwnState) → IsKept a → seen a ≡ sys → p < length sys.machine.parts → own ≡ get_or a.parts.items p own
+    → with_memory new (map_at p a.ram) (get_or a.inputs p []) ≡ f (with_memory own (map_at p a.ram) (get_or a.inputs p []))
+    → seen_with a (set a.parts.items p new) a.ram ≡ with_machine (with_part p (f (part_at p sys.machine)) sys.machine) sys
+is_turned a sys p f own new kept is below here turned =
+    is_changed a sys p new is
+    ∙ ap (λ (ps : PartitionState). with_machine (with_part p ps sys.machine) sys) (turned ∙ ap f (sym (is_part a sys p own kept is below here)))
+
+-- with one whose interrupts have come
+pub is_met : (a : Inside) (sys : SysState) (p : ℕ) (first : Bool) (own new : OwnState) → IsKept a → seen a ≡ sys → p < length sys.machine.parts → own ≡ get_or a.parts.items p own → HasMet a.time first own new
+    → seen_with a (set a.parts.items p new) a.ram ≡ with_machine (with_part p (with_interrupts sys.machine.time first (part_at p sys.machine)) sys.machine) sys
+is_met a sys p first own new kept is below here met =
+    is_turned a sys p (with_interrupts a.time first) own new kept is below here (met (map_at p a.ram) (get_or a.inputs p []))
+    ∙ ap (λ (s : SysState). with_machine (with_part p (with_interrupts s.machine.time first (part_at p sys.machine)) sys.machine) sys) is

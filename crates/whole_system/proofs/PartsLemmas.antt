@@ -1,10 +1,13 @@
 -- The partitions as they are kept, and as they are seen.
-use Rattle.std.proofs.Common.{◌≡◌, ℕ, zero, suc, ◌<◌, Bool, ◌||◌, List, [], ◌∷◌, length, map, set, get_or, refl, ap, arith}
+use Rattle.std.proofs.Common.{◌≡◌, ℕ, zero, suc, ◌<◌, Bool, true, false, ◌||◌, List, [], ◌∷◌, length, map, set, get_or, refl, ap, ◌∙◌, arith}
 use Rattle.std.specs.List.{list_any}
 use Rattle.std.specs.FinMap.{empty}
+use Rattle.std.specs.Prelude.{Option, None, Some, is_some}
 use Rattle.guest_bus.specs.Memory.{Memory}
 use Rattle.machine_model.specs.Partition.{PartitionState}
-use Rattle.whole_system.specs.State.{OwnState, any_timed, is_timed, with_memories, with_memory}
+use Rattle.virt_clocks.specs.Clocks.{looked_at}
+use Rattle.virt_clocks.specs.declared.timer.Timer.{Timer}
+use Rattle.whole_system.specs.State.{NoneTimed, OwnState, any_timed, is_timed, with_memories, with_memory}
 
 -- as many partitions are seen as are kept
 pub memories-length : (owns : List OwnState) (maps : List Memory) (inputs : List (List ℕ)) → length maps ≡ length owns → length inputs ≡ length owns → length (with_memories owns maps inputs) ≡ length owns
@@ -76,3 +79,34 @@ memories-timed (own ∷ owns) [] inputs held given = absurd (omega (arith, held)
 memories-timed (own ∷ owns) (memory ∷ maps) [] held given = absurd (omega (arith, given))
 memories-timed (own ∷ owns) (memory ∷ maps) (words ∷ inputs) held given =
     ap (λ (others : Bool). is_timed own.clocks || others) (memories-timed owns maps inputs (omega (arith, held)) (omega (arith, given)))
+
+-- neither of two tests holds
+or_false_left : (a b : Bool) → (a || b) ≡ false → a ≡ false
+or_false_left true b none = none
+or_false_left false b none = refl
+
+or_false_right : (a b : Bool) → (a || b) ≡ false → b ≡ false
+or_false_right true b none = cc
+or_false_right false b none = none
+
+or_false : (a b : Bool) → a ≡ false → b ≡ false → (a || b) ≡ false
+or_false true b one other = one
+or_false false b one other = other
+
+-- no timer is armed where none was, and that of one partition is not by its change
+pub none-set : (owns : List OwnState) (p : ℕ) (own new : OwnState) → own ≡ get_or owns p own → (is_timed own.clocks ≡ false → is_timed new.clocks ≡ false) → NoneTimed owns → NoneTimed (set owns p new)
+none-set [] p own new here keeps none = none
+none-set (first ∷ owns) zero own new here keeps none =
+    or_false (is_timed new.clocks) (list_any (λ own. is_timed own.clocks) owns)
+    (keeps (ap (λ (o : OwnState). is_timed o.clocks) here ∙ or_false_left (is_timed first.clocks) (list_any (λ own. is_timed own.clocks) owns) none))
+    (or_false_right (is_timed first.clocks) (list_any (λ own. is_timed own.clocks) owns) none)
+none-set (first ∷ owns) (suc p) own new here keeps none =
+    or_false (is_timed first.clocks) (list_any (λ own. is_timed own.clocks) (set owns p new))
+    (or_false_left (is_timed first.clocks) (list_any (λ own. is_timed own.clocks) owns) none)
+    (none-set owns p own new here keeps (or_false_right (is_timed first.clocks) (list_any (λ own. is_timed own.clocks) owns) none))
+
+-- a look arms no timer
+pub look-arms-none : (now : ℕ) (timer new : Option Timer) → new ≡ looked_at now timer → is_some timer ≡ false → is_some new ≡ false
+unfolding looked_at
+look-arms-none now None new is none = ap is_some is
+look-arms-none now (Some timer) new is none = cc

@@ -7,3 +7,4 @@ pub mod SightLemmas
 pub mod State
 pub mod StateLemmas
 pub mod Stepping
+pub mod Turning

@@ -1,5 +1,6 @@
 -- The state of the whole system as it is kept: the machine, with the state of each partition apart from its memory.
-use Rattle.std.specs.Prelude.{◌≡◌, ℕ, Bool, List, [], ◌∷◌, length, map, drop, is_some, slice_index_or}
+use Rattle.std.specs.Prelude.{◌≡◌, ℕ, Bool, false, List, [], ◌∷◌, length, map, drop, is_some, slice_index_or}
+use Rattle.std.specs.Bool.{OnTrue}
 use Rattle.std.specs.FinMap.{empty}
 use Rattle.std.specs.List.{list_any}
 use Rattle.cyclic_plans.specs.PlanClock.{CyclicClock}
@@ -110,12 +111,18 @@ kept_so system inputs owns memories channels clock time ticks resets halted = re
   shapes = channels.shapes;
 }
 
--- what is kept of a system: each partition of the configuration has a state, input words, and a memory with its areas
-pub record IsKeptSo (system : loaded_system.System) (inputs : List (List ℕ)) (owns : List OwnState) (memories : Memories) : Type 0 where
+-- no state of these has such a timer
+abbrev pub NoneTimed : List OwnState → Type 0
+NoneTimed owns = list_any (λ own. is_timed own.clocks) owns ≡ false
+
+-- what is kept of a system: each partition of the configuration has a state, input words, and a memory with its areas. Where it
+-- is said that no hardware timer is armed, none is
+pub record IsKeptSo (system : loaded_system.System) (inputs : List (List ℕ)) (owns : List OwnState) (memories : Memories) (untimed : Bool) : Type 0 where
   pub counted : length owns ≡ length system.conf.parts
   pub given : length inputs ≡ length system.conf.parts
   pub areas : memories.areas ≡ map memory_areas system.conf.parts
   pub held : length memories.maps ≡ length system.conf.parts
+  pub unarmed : OnTrue untimed (NoneTimed owns)
 
 -- the memory of a partition, its areas, and all of its input words
 abbrev pub memory_of : ℕ → Machine → Memory

@@ -169,7 +169,7 @@ pub fn act(sys: &mut Sys, site: CallSite, act: Act, value: u32) -> Served
     requires one { IsUponOne act sys.old }
     ensures { IsServed site.part Unseen (record { after = with_answer value (caller_of site sys.old).state; told = []; upshot = upshot_of act }) result sys.old sys.new }
 {
-    sys.part_mut(site.part).core.set(OUT_0, value);
+    sys.set_result(site.part, value);
     Served {
         note: Note::Nothing,
         act,
@@ -190,7 +190,7 @@ pub fn answer_written(
     ensures { IsServed site.part Unseen (answering value (with_written address bytes.now (caller_of site sys.old).state)) result sys.old sys.new }
 {
     write(sys, site, address, bytes);
-    sys.part_mut(site.part).core.set(OUT_0, value);
+    sys.set_result(site.part, value);
     Served {
         note: Note::Nothing,
         act: Act::Nothing,
@@ -214,7 +214,7 @@ pub fn show(
     ensures { IsServed site.part (Words bytes.now) (record { after = with_answer value (with_written address bytes.now (caller_of site sys.old).state); told = []; upshot = upshot_of act }) result sys.old sys.new }
 {
     write(sys, site, address, bytes);
-    sys.part_mut(site.part).core.set(OUT_0, value);
+    sys.set_result(site.part, value);
     Served {
         note: Note::Saw {
             at: address,

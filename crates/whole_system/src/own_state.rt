@@ -2,7 +2,9 @@
 
 ghost use Rattle.std.specs.Prelude.{◌≡◌, ◌%◌, ◌||◌, IfOk};
 ghost use Rattle.std.specs.List.{list_any};
+ghost use Rattle.virt_clocks.specs.Clocks.{looked_at};
 ghost use Rattle.whole_system.specs.State.{booted_own, is_timed};
+ghost use Rattle.whole_system.specs.Turning.{HasMet};
 
 use health_monitor::HealthEntry;
 use sparc_step::{Core, Processor};
@@ -13,6 +15,13 @@ use virt_traps::Virt;
 use xm_base::{Memory, State};
 use xm_ports::Ports;
 use xm_traces::{Ring, TraceEntry};
+
+/// The interrupts that ticks bring.
+const HARDWARE_TIMER: u8 = 0;
+
+const EXECUTION_TIMER: u8 = 1;
+
+const SLOT_START: u8 = 5;
 
 /// The state of a partition, but for its memory and its input words, which belong to the system.
 #[derive(Debug, Drop)]
@@ -71,6 +80,24 @@ impl PartState {
             health: Ring::new(alloc)?,
             used: 0,
         })
+    }
+
+    /// The interrupts of a tick become pending: the start of a slot, and those of the timers that are due.
+    #[inline(always)]
+    #[tactic(auto, unfolding(machine_model::specs::LocalTick::with_interrupts, machine_model::specs::Partition::hardware_looked_at, machine_model::specs::Partition::execution_looked_at))]
+    pub(crate) fn meet(&mut self, now: u64, first: bool)
+        ensures met { HasMet now first self.old self.new }
+        ensures timer { self.new.clocks.hardware_timer ≡ looked_at now self.old.clocks.hardware_timer }
+    {
+        if first {
+            self.virt.raise(SLOT_START);
+        }
+        if self.clocks.hw_due(now) {
+            self.virt.raise(HARDWARE_TIMER);
+        }
+        if self.clocks.exec_due() {
+            self.virt.raise(EXECUTION_TIMER);
+        }
     }
 
     /// Whether its timer on the hardware clock is armed.

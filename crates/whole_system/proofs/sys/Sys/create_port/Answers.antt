@@ -1,9 +1,9 @@
-use Rattle.std.proofs.Common.{arith, ap, sym, ◌∙◌, length}
+use Rattle.std.proofs.Common.{arith, ap, refl, sym, ◌∙◌, length}
 use Rattle.xm_ports.specs.Ports.{created}
 use Rattle.machine_model.specs.Partition.{PartitionState}
 use Rattle.whole_system.specs.State.{OwnState, SysState, part_at, with_machine, with_part}
 use Rattle.whole_system.specs.contracts.own_state.PartState.{the_view}
-use Rattle.whole_system.proofs.InsideLemmas.{if_ok, is_changed, is_kept, is_part, made_set}
+use Rattle.whole_system.proofs.InsideLemmas.{if_ok, is_changed, is_kept, is_part, made_set, stays_kept}
 use Rattle.whole_system.proofs.sys.Sys.create_port.Goals as goal
 
 pub index_mut-requires : goal.index_mut-requires
@@ -29,3 +29,9 @@ returns-clause-made c =
     rw c.from.ensures
     (is_changed c.self.inside c.args.self.now c.args.p own c.self.view_is
     ∙ ap (λ (ps : PartitionState). with_machine (with_part c.args.p ps c.args.self.now.machine) c.args.self.now) (made_set (the_view c.behind-self.inside) c.create.new.self _ _ port (part_at c.args.p c.args.self.now.machine) part made))) c.create.ensures.made
+
+pub invariant_of-self : goal.invariant_of-self
+invariant_of-self c =
+    let here = rw (c.from.ensures, ← c.behind-self.view_is) at c.index_mut.ensures.value in
+    let own : OwnState = record (the_view c.behind-self.inside) { ports = c.create.new.self } in
+    rw c.from.ensures (stays_kept c.self.inside c.args.p (the_view c.behind-self.inside) own c.self.inside.ram c.self.invariant here (λ unarmed. unarmed) refl refl)

@@ -1,7 +1,7 @@
 use Rattle.std.proofs.Common.{arith, refl}
 use Rattle.whole_system.specs.State.{OwnState}
 use Rattle.whole_system.specs.contracts.own_state.PartState.{the_view}
-use Rattle.whole_system.proofs.InsideLemmas.{is_at, is_become, is_in_memories, is_kept}
+use Rattle.whole_system.proofs.InsideLemmas.{is_at, is_become, is_in_memories, is_kept, stays_kept_with}
 use Rattle.whole_system.proofs.sys.Sys.deliver_to.Goals as goal
 
 pub index_mut-own-requires : goal.index_mut-own-requires
@@ -24,3 +24,9 @@ returns-clause-value c =
     rw c.from.ensures
     (is_become c.self.inside c.args.self.now c.args.p own _ c.deliver_part.new.ram _ c.self.view_is c.deliver_part.ensures.memory
     (rw (lent.part, ← lent.areas, c.deliver_part.ensures.core, c.deliver_part.ensures.traps) refl))
+
+pub invariant_of-self : goal.invariant_of-self
+invariant_of-self c =
+    let here = rw (c.from.ensures, ← c.own.view_is) at c.index_mut-own.ensures.value in
+    let own : OwnState = record (the_view c.own.inside) { core = c.deliver_part.new.core; virt = c.deliver_part.new.virt } in
+    rw c.from.ensures (stays_kept_with c.self.inside c.args.p (the_view c.own.inside) own _ c.deliver_part.new.ram c.self.invariant here (λ unarmed. unarmed) c.deliver_part.ensures.memory)

@@ -1,7 +1,7 @@
 use Rattle.std.proofs.Common.{arith, refl}
 use Rattle.whole_system.specs.State.{OwnState}
 use Rattle.whole_system.specs.contracts.own_state.PartState.{the_view}
-use Rattle.whole_system.proofs.InsideLemmas.{is_at, is_become, is_in_memories, is_kept}
+use Rattle.whole_system.proofs.InsideLemmas.{is_at, is_become, is_in_memories, is_kept, stays_kept_with}
 use Rattle.whole_system.proofs.sys.Sys.flush_in.Goals as goal
 
 pub index_mut-requires : goal.index_mut-requires
@@ -24,3 +24,9 @@ returns-clause-value c =
     rw c.from.ensures
     (is_become c.self.inside c.args.self.now c.args.p own _ c.flush_part.new.ram _ c.self.view_is c.flush_part.ensures.memory
     (rw (lent.part, ← lent.areas, c.flush_part.ensures.core) refl))
+
+pub invariant_of-self : goal.invariant_of-self
+invariant_of-self c =
+    let here = rw (c.from.ensures, ← c.behind-self.view_is) at c.index_mut.ensures.value in
+    let own : OwnState = record (the_view c.behind-self.inside) { core = c.flush_part.new.core } in
+    rw c.from.ensures (stays_kept_with c.self.inside c.args.p (the_view c.behind-self.inside) own _ c.flush_part.new.ram c.self.invariant here (λ unarmed. unarmed) c.flush_part.ensures.memory)

@@ -1,8 +1,13 @@
-use Rattle.std.proofs.Common.{◌∙◌}
+use Rattle.std.proofs.Common.{sym, ◌∙◌}
 use Rattle.whole_system.proofs.InsideLemmas.{is_timed_seen}
 use Rattle.whole_system.proofs.sys.Sys.is_timed.Goals as goal
 
-pub returns : goal.returns
-returns c =
-    let counted = rw c.deref.ensures.value at c.any_timed.ensures in
-    record { value = counted ∙ is_timed_seen c.self.inside c.args.self.now c.self.invariant c.self.view_is }
+pub returns-then-any_timed-clause-value : goal.returns-then-any_timed-clause-value
+returns-then-any_timed-clause-value c =
+    let looked = rw c.deref.ensures.value at c.any_timed.ensures in
+    sym c.if-any_timed.true ∙ looked ∙ is_timed_seen c.self.inside c.args.self.now c.self.invariant c.self.view_is
+
+pub returns-clause-value : goal.returns-clause-value
+returns-clause-value c =
+    let looked = rw c.deref.ensures.value at c.any_timed.ensures in
+    sym c.if-any_timed.false ∙ looked ∙ is_timed_seen c.self.inside c.args.self.now c.self.invariant c.self.view_is

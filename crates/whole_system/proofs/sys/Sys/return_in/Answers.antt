@@ -1,7 +1,8 @@
-use Rattle.std.proofs.Common.{arith, refl}
+use Rattle.std.proofs.Common.{arith, ap, length, refl}
+use Rattle.guest_memory.specs.Memories.{Memories}
 use Rattle.whole_system.specs.State.{OwnState}
 use Rattle.whole_system.specs.contracts.own_state.PartState.{the_view}
-use Rattle.whole_system.proofs.InsideLemmas.{is_at, is_in_memories, is_kept, is_returned}
+use Rattle.whole_system.proofs.InsideLemmas.{is_at, is_in_memories, is_kept, is_returned, stays_kept}
 use Rattle.whole_system.proofs.sys.Sys.return_in.Goals as goal
 
 pub index_mut-own-requires : goal.index_mut-own-requires
@@ -24,3 +25,11 @@ returns-clause-value c =
     rw c.from.ensures
     (is_returned c.self.inside c.args.self.now c.args.p own c.return_part.new.ram _ c.self.view_is c.return_part.ensures.memory
     (rw (lent.part, ← lent.areas, c.return_part.ensures.core, c.return_part.ensures.traps) refl))
+
+pub invariant_of-self : goal.invariant_of-self
+invariant_of-self c =
+    let here = rw (c.from.ensures, ← c.own.view_is) at c.index_mut-own.ensures.value in
+    let own : OwnState = record (the_view c.own.inside) { core = c.return_part.new.core; virt = c.return_part.new.virt } in
+    rw c.from.ensures
+    (stays_kept c.self.inside c.args.p (the_view c.own.inside) own c.return_part.new.ram c.self.invariant here (λ unarmed. unarmed)
+    (ap (λ (m : Memories). m.areas) c.return_part.ensures.memory) (ap (λ (m : Memories). length m.maps) c.return_part.ensures.memory))

@@ -3,7 +3,7 @@ use Rattle.guest_memory.specs.Memories.{areas_at, map_at}
 use Rattle.virt_traps.specs.Settled.{settled}
 use Rattle.whole_system.specs.State.{OwnState, SysState, part_at, with_memory}
 use Rattle.whole_system.specs.contracts.own_state.PartState.{the_view}
-use Rattle.whole_system.proofs.InsideLemmas.{is_at, is_become, is_in_memories, is_kept, seen_with}
+use Rattle.whole_system.proofs.InsideLemmas.{is_at, is_become, is_in_memories, is_kept, seen_with, stays_kept_with}
 use Rattle.whole_system.specs.StateLemmas.{part_set}
 use Rattle.whole_system.proofs.StepLemmas.{called_seen}
 use Rattle.whole_system.proofs.sys.Sys.step_core.Goals as goal
@@ -39,3 +39,9 @@ returns-clause-called c =
     let changed = is_become c.self.inside c.args.self.now c.args.p own _ c.settle_part.new.ram after c.self.view_is c.settle_part.ensures.memory refl in
     rw c.from.ensures
     (called_seen c.settle_part.result _ after (part_at c.args.p c.args.self.now.machine) (part_at c.args.p new.machine) lent.part (part_set c.args.self.now new c.args.p after c.requires changed) c.settle_part.ensures.called)
+
+pub invariant_of-self : goal.invariant_of-self
+invariant_of-self c =
+    let here = rw (c.from.ensures, ← c.behind-self.view_is) at c.index_mut.ensures.value in
+    let own : OwnState = record (the_view c.behind-self.inside) { core = c.settle_part.new.core } in
+    rw c.from.ensures (stays_kept_with c.self.inside c.args.p (the_view c.behind-self.inside) own _ c.settle_part.new.ram c.self.invariant here (λ unarmed. unarmed) c.settle_part.ensures.memory)

@@ -3,7 +3,7 @@ use Rattle.guest_memory.specs.Memories.{map_at}
 use Rattle.machine_model.specs.Partition.{PartitionState}
 use Rattle.whole_system.specs.State.{OwnState, SysState, part_at, with_machine, with_memory, with_part}
 use Rattle.whole_system.specs.contracts.own_state.PartState.{the_view}
-use Rattle.whole_system.proofs.InsideLemmas.{is_at, is_in_memories, is_kept, is_stepped, seen_with}
+use Rattle.whole_system.proofs.InsideLemmas.{is_at, is_in_memories, is_kept, is_stepped, seen_with, stays_kept_with}
 use Rattle.whole_system.specs.StateLemmas.{part_set}
 use Rattle.whole_system.proofs.StepLemmas.{gone_seen, turned_seen}
 use Rattle.whole_system.proofs.sys.Sys.step_many.Goals as goal
@@ -49,3 +49,9 @@ returns-clause-others c =
     rw c.from.ensures (changed
     ∙ ap (λ (ps : PartitionState). with_machine (with_part c.args.p ps c.args.self.now.machine) c.args.self.now)
     (turned_seen _ left (part_at c.args.p c.args.self.now.machine) (part_at c.args.p new.machine) lent.part after refl))
+
+pub invariant_of-self : goal.invariant_of-self
+invariant_of-self c =
+    let here = rw (c.from.ensures, ← c.behind-self.view_is) at c.index_mut.ensures.value in
+    let own : OwnState = record (the_view c.behind-self.inside) { core = c.step_part.new.core } in
+    rw c.from.ensures (stays_kept_with c.self.inside c.args.p (the_view c.behind-self.inside) own _ c.step_part.new.ram c.self.invariant here (λ unarmed. unarmed) c.step_part.ensures.others)

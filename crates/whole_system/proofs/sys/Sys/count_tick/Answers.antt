@@ -1,0 +1,37 @@
+use Rattle.std.proofs.Common.{arith, ap, get_or, refl, [], ◌∙◌}
+use Rattle.guest_memory.specs.Memories.{map_at}
+use Rattle.machine_model.specs.LocalTick.{clocked}
+use Rattle.machine_model.specs.Partition.{PartitionState}
+use Rattle.virt_clocks.specs.Clocks.{PartitionClocks}
+use Rattle.whole_system.specs.State.{OwnState, is_timed, with_memory}
+use Rattle.whole_system.specs.contracts.own_state.PartState.{the_view}
+use Rattle.whole_system.proofs.InsideLemmas.{is_kept, is_part, is_turned, stays_kept}
+use Rattle.whole_system.proofs.sys.Sys.count_tick.Goals as goal
+
+pub index_mut-requires : goal.index_mut-requires
+index_mut-requires c = omega (arith, c.from.ensures, is_kept c.self.inside c.args.self.now c.args.p c.self.invariant c.self.view_is c.requires.partition)
+
+pub pass-requires : goal.pass-requires
+pass-requires c =
+    let here = rw (c.from.ensures, ← c.behind-self.view_is) at c.index_mut.ensures.value in
+    let part = is_part c.self.inside c.args.self.now c.args.p (the_view c.behind-self.inside) c.self.invariant c.self.view_is c.requires.partition here in
+    omega (arith, c.requires.clock, ap (λ (ps : PartitionState). ps.clocks.execution) part)
+
+pub invariant_of-self : goal.invariant_of-self
+invariant_of-self c =
+    let here = rw (c.from.ensures, ← c.behind-self.view_is) at c.index_mut.ensures.value in
+    let own : OwnState = record (the_view c.behind-self.inside) { clocks = c.pass.new.self } in
+    rw c.from.ensures
+    (stays_kept c.self.inside c.args.p (the_view c.behind-self.inside) own c.self.inside.ram c.self.invariant here
+    (λ unarmed. ap (λ (clocks : PartitionClocks). is_timed clocks) c.pass.ensures.value ∙ unarmed) refl refl)
+
+pub returns : goal.returns
+unfolding clocked
+returns c =
+    let here = rw (c.from.ensures, ← c.behind-self.view_is) at c.index_mut.ensures.value in
+    let own : OwnState = record (the_view c.behind-self.inside) { clocks = c.pass.new.self } in
+    record {
+      value = rw c.from.ensures
+          (is_turned c.self.inside c.args.self.now c.args.p clocked (the_view c.behind-self.inside) own c.self.invariant c.self.view_is c.requires.partition here
+          (ap (λ (clocks : PartitionClocks). with_memory (record (the_view c.behind-self.inside) { clocks = clocks }) (map_at c.args.p c.self.inside.ram) (get_or c.self.inside.inputs c.args.p [])) c.pass.ensures.value));
+    }
