@@ -72,7 +72,7 @@ pub keeps_so : (told : Result ℕ WriteFault) (ends : Bool) (span : Span) (most 
 keeps_so (Ok lines) ends span most old new got before kept done is = keeps_ticks span most old new got before kept done is
 keeps_so (Err fault) ends span most old new got before kept done is = keeps_span span most old new got before kept done is
 
--- the last tick of those of a stretch is kept
+-- the last tick of those that were done is kept
 pub keeps_stepped : (stepped : Stepped) (most : ℕ) (old new : Meaning) (had got : Option (List ℕ)) → AreStepped stepped most old.state new.state had got
     → new.kept ≡ kept_after old.state stepped.ticks old.kept → KeepsLastTick most old new
 keeps_stepped stepped most old new had got are kept = record {

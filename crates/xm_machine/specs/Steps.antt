@@ -24,7 +24,7 @@ pub record AreCut (done : ℕ) (old new : Machine) (had got : Option (List ℕ))
   pub whole : (k : ℕ) → k < done → length (texts (lines old k)) ≤ report.count
   pub cut : report.count < length (texts (lines old done))
 
--- at least one tick and at most so many, of one slot or gap
+-- at least one tick and at most so many
 pub record IsStep (told most : ℕ) (old new : Machine) (had got : Option (List ℕ)) : Type 0 where
   pub done : ℕ
   pub some : 0 < done

@@ -33,7 +33,7 @@ pub record IsStretched (done most : ℕ) (old new : Machine) (had got : Option (
   pub state : new ≡ run old done
   pub report : got ≡ grown had (texts (lines old done))
 
--- ticks of a stretch were done, up to one whose lines did not all go out
+-- ticks were done, of which only the last may have an act that ends a stretch, up to one whose lines did not all go out
 pub record IsStretchCut (most : ℕ) (old new : Machine) (had got : Option (List ℕ)) : Type 0 where
   pub cut : IsStepCut most old new had got
   pub quiet : AreQuiet cut.done old
@@ -53,14 +53,14 @@ abbrev pub StretchesCued : Result ℕ WriteFault → ℕ → Meaning → Meaning
 StretchesCued (Ok done) most old new = AreCued done old new
 StretchesCued (Err fault) most old new = AreCuedUpTo most old new
 
--- ticks of a stretch were done, and told so many lines, which went out; whether the act of the last ends it
+-- ticks were done, of which only the last may have an act that ends a stretch, and told so many lines, which went out
 pub record AreStepped (stepped : Stepped) (most : ℕ) (old new : Machine) (had got : Option (List ℕ)) : Type 0 where
   pub step : IsStep stepped.lines most old new had got
   pub ticks : step.done ≡ stepped.ticks
   pub quiet : AreQuiet stepped.ticks old
   pub ends : ends_in (run old (stepped.ticks - 1)) ≡ stepped.ends
 
--- what ticks of a stretch answer, so many at most
+-- what such ticks answer, so many at most
 abbrev pub Steps : Result Stepped WriteFault → ℕ → Machine → Machine → Option (List ℕ) → Option (List ℕ) → Type 0
 Steps (Ok stepped) most old new had got = AreStepped stepped most old new had got
 Steps (Err fault) most old new had got = IsStretchCut most old new had got

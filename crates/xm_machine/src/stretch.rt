@@ -12,18 +12,18 @@ use hypercalls::Note;
 use tick_pieces::Beyond;
 use xm_report::WriteFault;
 
-/// Ticks of a stretch that were done.
+/// Ticks that were done, of which only the last may have an act that ends a stretch.
 #[derive(Clone, Copy, Debug, PartialEq, Eq)]
 pub(crate) struct Stepped {
     /// How many there were.
     pub(crate) ticks: u64,
     /// The lines that they told.
     pub(crate) lines: u64,
-    /// Whether the act of the last ends the stretch.
+    /// Whether the act of the last ends a stretch.
     pub(crate) ends: bool,
 }
 
-/// What ticks of a stretch come to: their lines went out, and so many they were, or they were cut off.
+/// What such ticks come to: their lines went out, and so many they were, or they were cut off.
 pub(crate) fn stepped_by(
     told: Result<u64, WriteFault>,
     ticks: u64,
