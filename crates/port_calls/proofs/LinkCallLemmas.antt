@@ -25,7 +25,6 @@ use Rattle.whole_system.specs.State.{SysState, part_at, with_machine, with_part}
 use Rattle.whole_system.specs.declared.call_site.CallSite.{CallSite}
 use Rattle.whole_system.specs.declared.served.Act.TheVariants as act
 use Rattle.whole_system.specs.declared.served.Note.TheVariants as note
-use Rattle.whole_system.specs.declared.served.Served as code
 
 -- a link that is found is one of those that meet the rules
 found_fits : (parts q number dest : ℕ) (links : List Link) → All (IsLink parts) links → on (λ link. link.dest) (find (is_link_of q number) links) ≡ Some dest

@@ -3,7 +3,7 @@ use Rattle.std.proofs.Common.{◌≡◌, ℕ, ◌<◌, ◌-◌, true, false, Lis
 use Rattle.std.specs.Prelude.{Bool, nat_lt, not}
 use Rattle.std.proofs.lemmas.List.{get_or-set_same, set-set}
 use Rattle.guest_bus.specs.Memory.{all_from, is_writable}
-use Rattle.machine_model.specs.Caller.{Caller, Served, acting, answering, b_of, c_of, d_of, invalid_parameter, is_room, refused_if, with_answer, with_written}
+use Rattle.machine_model.specs.Caller.{Caller, acting, answering, b_of, c_of, d_of, invalid_parameter, is_room, refused_if, with_answer, with_written}
 use Rattle.machine_model.specs.Partition.{PartitionState, areas_of}
 use Rattle.machine_model.specs.PortCalls.{message_read, sample_read}
 use Rattle.machine_model.specs.Structures.{flag, is_valid, refresh_of, word}
