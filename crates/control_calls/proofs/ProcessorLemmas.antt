@@ -2,7 +2,7 @@
 use Rattle.std.proofs.Common.{◌≡◌, ℕ, zero, suc, ◌+◌, ◌<◌, Bool, true, false, not, List, [], ◌∷◌, Some, None, Result, Ok, drop, slice_get, refl, sym, subst, ap, ◌∙◌, arith}
 use Rattle.std.proofs.Math.Seq.{drop-nil}
 use Rattle.guest_bus.specs.Memory.{Memory, bytes_at}
-use Rattle.machine_model.specs.Caller.{Caller, Served, Test, a_of, answering, invalid_parameter, is_room, refused_if, room, tested, with_written}
+use Rattle.machine_model.specs.Caller.{Caller, Test, a_of, answering, invalid_parameter, is_room, refused_if, room, tested, with_written}
 use Rattle.machine_model.specs.Partition.{PartitionState, areas_of}
 use Rattle.machine_model.specs.ProcessorCalls.{by_flush, by_return, flush_regwin, input_read, iret, printed, read_input, undone}
 use Rattle.machine_model.specs.Structures.{word}
