@@ -2,7 +2,7 @@
 
 use anyhow::Result;
 use xm_base::{Mode, Order};
-use xm_machine::{Cue, Mine, Sight, Traffic, WholeCue};
+use xm_machine::{Cue, CueSlot, Sight, Traffic, WholeEvent};
 
 /// Prints what a partition was told, and ends the line.
 pub(crate) fn put_cue(rt: &impl Print, cue: &Cue<'_>) -> Result<()> {
@@ -17,21 +17,21 @@ pub(crate) fn put_cue(rt: &impl Print, cue: &Cue<'_>) -> Result<()> {
 }
 
 // Whose slot it was.
-fn mine_text(mine: Mine) -> &'static str {
+fn mine_text(mine: CueSlot) -> &'static str {
     match mine {
-        Mine::Away => "away",
-        Mine::Mine { first: true } => "mine first",
-        Mine::Mine { first: false } => "mine",
+        CueSlot::Away => "away",
+        CueSlot::Mine { first: true } => "mine first",
+        CueSlot::Mine { first: false } => "mine",
     }
 }
 
 // What was done to the whole system.
-fn whole_text(whole: WholeCue) -> &'static str {
+fn whole_text(whole: WholeEvent) -> &'static str {
     match whole {
-        WholeCue::Nothing => "none",
-        WholeCue::Cold => "cold",
-        WholeCue::Warm => "warm",
-        WholeCue::Halt => "halt",
+        WholeEvent::Nothing => "none",
+        WholeEvent::Cold => "cold",
+        WholeEvent::Warm => "warm",
+        WholeEvent::Halt => "halt",
     }
 }
 

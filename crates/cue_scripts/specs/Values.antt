@@ -5,21 +5,21 @@ use Rattle.machine_model.specs.Cue.{Away, Cue, Mine, CueSlot}
 use Rattle.machine_model.specs.Told.{AllHalted, AllReset, NoEvent, NotKept, OwnPuts, OwnSignals, OwnStill, OwnTakes, OwnTraffic, Sight, Unseen, WholeEvent, Words}
 use Rattle.cue_scripts.specs.Entries.{Alike, Entry, Other, first_cue}
 use Rattle.cue_scripts.specs.declared.cue.ScriptCue as code_cue
-use Rattle.cue_scripts.specs.declared.cue.ScriptSlot.{ScriptSlot}
-use Rattle.cue_scripts.specs.declared.cue.ScriptSlot.TheVariants as slot
+use Rattle.cue_scripts.specs.declared.cue.CueSlot as code_slot
+use Rattle.cue_scripts.specs.declared.cue.CueSlot.TheVariants as slot
 use Rattle.cue_scripts.specs.declared.cue.ScriptTraffic.{ScriptTraffic}
 use Rattle.cue_scripts.specs.declared.cue.ScriptTraffic.TheVariants as traffic
-use Rattle.cue_scripts.specs.declared.cue.ScriptEvent.{ScriptEvent}
-use Rattle.cue_scripts.specs.declared.cue.ScriptEvent.TheVariants as event
+use Rattle.cue_scripts.specs.declared.cue.WholeEvent as code_event
+use Rattle.cue_scripts.specs.declared.cue.WholeEvent.TheVariants as event
 use Rattle.cue_scripts.specs.declared.cue.ScriptSight.{ScriptSight}
 use Rattle.cue_scripts.specs.declared.cue.ScriptSight.TheVariants as sight
 use Rattle.cue_scripts.specs.declared.cue.ScriptEntry.{ScriptEntry}
 use Rattle.cue_scripts.specs.declared.cue.ScriptEntry.TheVariants as entry
 
 -- whose slot it is
-abbrev pub script_slot_value : ScriptSlot → CueSlot
-script_slot_value slot.Away = Away
-script_slot_value (slot.Mine first) = Mine first
+abbrev pub slot_value : code_slot.CueSlot → CueSlot
+slot_value slot.Away = Away
+slot_value (slot.Mine first) = Mine first
 
 -- the traffic of others
 abbrev pub script_traffic_value : ScriptTraffic → OwnTraffic
@@ -29,7 +29,7 @@ script_traffic_value (traffic.Take chan) = OwnTakes chan
 script_traffic_value (traffic.Signal number) = OwnSignals number
 
 -- the hypervisor event
-abbrev pub event_value : ScriptEvent → WholeEvent
+abbrev pub event_value : code_event.WholeEvent → WholeEvent
 event_value event.Nothing = NoEvent
 event_value event.Cold = AllReset mode.Cold
 event_value event.Warm = AllReset mode.Warm
@@ -44,7 +44,7 @@ script_sight_value (sight.Words bytes) = Words bytes.items
 -- a cue
 abbrev pub script_cue_value : code_cue.ScriptCue → Cue
 script_cue_value cue = record {
-  mine = script_slot_value cue.mine;
+  mine = slot_value cue.mine;
   traffic = script_traffic_value cue.traffic;
   order = cue.order;
   whole = event_value cue.whole;

@@ -2,17 +2,17 @@
 
 ghost use Rattle.std.specs.Prelude.{◌≡◌, IfOk};
 ghost use Rattle.cue_scripts.specs.Entries.{Other, cue_count, is_no_event, is_still, is_unseen, plain_cue_of, plain_kind, running_in};
-ghost use Rattle.cue_scripts.specs.Values.{script_cue_value, entry_value, event_value, script_sight_value, script_slot_value, script_traffic_value};
+ghost use Rattle.cue_scripts.specs.Values.{script_cue_value, entry_value, event_value, script_sight_value, slot_value, script_traffic_value};
 
 use std::alloc::Global;
 use xm_base::{Memory, Order};
 
 /// Whose slot a tick is in, as the partition sees it.
 #[derive(Clone, Copy, Debug, PartialEq, Eq)]
-pub enum ScriptSlot {
+pub enum CueSlot {
     /// Not its own.
     Away,
-    /// Its own, which begins with this tick or did before.
+    /// Its own, which begins with this tick or did before, whether or not the partition takes turns.
     Mine { first: bool },
 }
 
@@ -32,7 +32,7 @@ pub enum ScriptTraffic {
 
 /// What was done to the whole system.
 #[derive(Clone, Copy, Debug, PartialEq, Eq)]
-pub enum ScriptEvent {
+pub enum WholeEvent {
     /// Nothing.
     Nothing,
     /// A cold reset.
@@ -57,11 +57,11 @@ pub enum ScriptSight {
 /// All that one partition is told of the others in a tick.
 #[derive(Debug, Drop)]
 pub struct ScriptCue {
-    pub mine: ScriptSlot,
+    pub mine: CueSlot,
     pub traffic: ScriptTraffic,
     /// The order that another partition gave it.
     pub order: Option<Order>,
-    pub whole: ScriptEvent,
+    pub whole: WholeEvent,
     pub seen: ScriptSight,
 }
 
@@ -104,10 +104,10 @@ pub(crate) fn entry_of(alloc: Global, cue: ScriptCue) -> Result<ScriptEntry, Mem
 {
     match cue {
         ScriptCue {
-            mine: ScriptSlot::Mine { first: true },
+            mine: CueSlot::Mine { first: true },
             traffic: ScriptTraffic::Nothing,
             order: None,
-            whole: ScriptEvent::Nothing,
+            whole: WholeEvent::Nothing,
             seen: ScriptSight::Nothing,
         } => Ok(ScriptEntry::First),
         other => Ok(ScriptEntry::Other(Box::new(alloc, other)?)),
@@ -143,12 +143,12 @@ fn is_still(traffic: &ScriptTraffic) -> bool
 }
 
 /// Whether nothing was done to the whole system.
-fn is_no_event(event: ScriptEvent) -> bool
+fn is_no_event(event: WholeEvent) -> bool
     ensures { result ≡ is_no_event (event_value event) }
 {
     match event {
-        ScriptEvent::Nothing => true,
-        ScriptEvent::Cold | ScriptEvent::Warm | ScriptEvent::Halt => false,
+        WholeEvent::Nothing => true,
+        WholeEvent::Cold | WholeEvent::Warm | WholeEvent::Halt => false,
     }
 }
 
@@ -163,12 +163,12 @@ fn is_unseen(seen: &ScriptSight) -> bool
 }
 
 /// Whose running slot it is; none where a slot of the partition's own begins.
-fn running_in(slot: ScriptSlot) -> Option<bool>
-    ensures { result ≡ running_in (script_slot_value slot) }
+fn running_in(slot: CueSlot) -> Option<bool>
+    ensures { result ≡ running_in (slot_value slot) }
 {
     match slot {
-        ScriptSlot::Away => Some(false),
-        ScriptSlot::Mine { first: false } => Some(true),
-        ScriptSlot::Mine { first: true } => None,
+        CueSlot::Away => Some(false),
+        CueSlot::Mine { first: false } => Some(true),
+        CueSlot::Mine { first: true } => None,
     }
 }

@@ -13,7 +13,7 @@ mod writer;
 mod writing;
 
 pub use channels::name_of;
-pub use cue::{ScriptCue, ScriptEntry, ScriptEvent, ScriptSight, ScriptSlot, ScriptTraffic};
+pub use cue::{CueSlot, ScriptCue, ScriptEntry, ScriptSight, ScriptTraffic, WholeEvent};
 pub use file_texts::ScriptFault;
 pub use law::{none_is_prefix, read_is_written, written_is_read};
 pub use reading::read_script;

@@ -12,12 +12,11 @@ ghost use Rattle.cue_scripts.specs.Reading as reading;
 ghost use Rattle.cue_scripts.specs.Script.{is_length, is_shown, most_heard};
 ghost use Rattle.cue_scripts.specs.Spelling.{IsSpelledScript, alike_byte};
 ghost use Rattle.file_texts.specs.declared.fault.ScriptFault.TheVariants as fault;
-ghost use Rattle.cue_scripts.specs.Values.{script_cue_value, entry_value, entry_values, event_value, script_sight_value, script_slot_value, script_traffic_value};
+ghost use Rattle.cue_scripts.specs.Values.{script_cue_value, entry_value, entry_values, event_value, script_sight_value, slot_value, script_traffic_value};
 
 use crate::channels::{gives_queue, is_system, most_heard, signals};
 use crate::cue::{
-    ScriptCue, ScriptEntry, ScriptEvent, ScriptSight, ScriptSlot, ScriptTraffic, entry_of,
-    plain_kind,
+    CueSlot, ScriptCue, ScriptEntry, ScriptSight, ScriptTraffic, WholeEvent, entry_of, plain_kind,
 };
 use crate::script::Script;
 use crate::writing::{ALIKE, MAGIC, OTHER, OWN_ALIKE, VERSION};
@@ -77,34 +76,34 @@ fn total(cursor: &mut Cursor<'_>) -> Result<u32, ScriptFault>
 
 /// Whose slot it is.
 #[tactic(auto, unfolding(crate::specs::Reading::cue_slot_at))]
-fn slot(cursor: &mut Cursor<'_>) -> Result<ScriptSlot, ScriptFault>
-    ensures { GivesAt Fails (λ slot. script_slot_value slot) result cursor.new (reading.cue_slot_at cursor.old) }
+fn slot(cursor: &mut Cursor<'_>) -> Result<CueSlot, ScriptFault>
+    ensures { GivesAt Fails (λ slot. slot_value slot) result cursor.new (reading.cue_slot_at cursor.old) }
 {
     let at = cursor.at();
     match cursor.u8()? {
-        0 => Ok(ScriptSlot::Away),
-        1 => Ok(ScriptSlot::Mine { first: false }),
-        2 => Ok(ScriptSlot::Mine { first: true }),
+        0 => Ok(CueSlot::Away),
+        1 => Ok(CueSlot::Mine { first: false }),
+        2 => Ok(CueSlot::Mine { first: true }),
         _ => Err(ScriptFault::Field { at }),
     }
 }
 
 /// Whether a kind of at most so much may stand, which is none in a slot of the partition's own.
-fn is_heard(most: u8, mine: ScriptSlot, kind: u8) -> bool
-    ensures { result ≡ reading.is_heard most (script_slot_value mine) kind }
+fn is_heard(most: u8, mine: CueSlot, kind: u8) -> bool
+    ensures { result ≡ reading.is_heard most (slot_value mine) kind }
 {
     if kind == 0 {
         return true;
     }
     match mine {
-        ScriptSlot::Away => kind <= most,
-        ScriptSlot::Mine { .. } => false,
+        CueSlot::Away => kind <= most,
+        CueSlot::Mine { .. } => false,
     }
 }
 
 /// A kind of at most so much, which is none in a slot of the partition's own.
-fn heard_kind(most: u8, mine: ScriptSlot, cursor: &mut Cursor<'_>) -> Result<u8, ScriptFault>
-    ensures { GivesAt Fails (λ kind. kind) result cursor.new (listed_at reading.script_short reading.script_field w8 (reading.is_heard most (script_slot_value mine)) cursor.old) }
+fn heard_kind(most: u8, mine: CueSlot, cursor: &mut Cursor<'_>) -> Result<u8, ScriptFault>
+    ensures { GivesAt Fails (λ kind. kind) result cursor.new (listed_at reading.script_short reading.script_field w8 (reading.is_heard most (slot_value mine)) cursor.old) }
 {
     let at = cursor.at();
     let kind = cursor.u8()?;
@@ -221,11 +220,11 @@ fn traffic(
     alloc: Global,
     conf: &Conf,
     p: PartId,
-    mine: ScriptSlot,
+    mine: CueSlot,
     cursor: &mut Cursor<'_>,
 ) -> Result<ScriptTraffic, ScriptFault>
     requires { p < length conf.now.parts }
-    ensures { GivesAt Fails (λ traffic. script_traffic_value traffic) result cursor.new (reading.traffic_at conf.now p (script_slot_value mine) cursor.old) }
+    ensures { GivesAt Fails (λ traffic. script_traffic_value traffic) result cursor.new (reading.traffic_at conf.now p (slot_value mine) cursor.old) }
 {
     let kind = heard_kind(3, mine, cursor)?;
     traffic_of_kind(alloc, conf, p, kind, cursor)
@@ -257,8 +256,8 @@ fn order_of_kind(kind: u8, cursor: &mut Cursor<'_>) -> Result<Option<Order>, Scr
 
 /// The order that another partition gave.
 #[tactic(auto, unfolding(crate::specs::Reading::order_at))]
-fn order(mine: ScriptSlot, cursor: &mut Cursor<'_>) -> Result<Option<Order>, ScriptFault>
-    ensures { GivesAt Fails (λ order. order) result cursor.new (reading.order_at (script_slot_value mine) cursor.old) }
+fn order(mine: CueSlot, cursor: &mut Cursor<'_>) -> Result<Option<Order>, ScriptFault>
+    ensures { GivesAt Fails (λ order. order) result cursor.new (reading.order_at (slot_value mine) cursor.old) }
 {
     let kind = heard_kind(6, mine, cursor)?;
     order_of_kind(kind, cursor)
@@ -272,20 +271,20 @@ fn is_event(last: bool, byte: u8) -> bool
 }
 
 /// The hypervisor event of a byte from 0 to 3.
-fn event_of_byte(byte: u8) -> ScriptEvent
+fn event_of_byte(byte: u8) -> WholeEvent
     ensures { event_value result ≡ reading.event_of_byte byte }
 {
     match byte {
-        0 => ScriptEvent::Nothing,
-        1 => ScriptEvent::Cold,
-        2 => ScriptEvent::Warm,
-        _ => ScriptEvent::Halt,
+        0 => WholeEvent::Nothing,
+        1 => WholeEvent::Cold,
+        2 => WholeEvent::Warm,
+        _ => WholeEvent::Halt,
     }
 }
 
 /// The hypervisor event of the tick.
 #[tactic(auto, unfolding(crate::specs::Reading::event_at))]
-fn event(last: bool, cursor: &mut Cursor<'_>) -> Result<ScriptEvent, ScriptFault>
+fn event(last: bool, cursor: &mut Cursor<'_>) -> Result<WholeEvent, ScriptFault>
     ensures { GivesAt Fails (λ event. event_value event) result cursor.new (reading.event_at last cursor.old) }
 {
     let at = cursor.at();
@@ -334,15 +333,15 @@ fn sight_of_kind(
 }
 
 /// Whether a kind of sight may stand: something in a slot of a system partition's own alone.
-fn is_sight(system: bool, mine: ScriptSlot, kind: u8) -> bool
-    ensures { result ≡ reading.is_sight system (script_slot_value mine) kind }
+fn is_sight(system: bool, mine: CueSlot, kind: u8) -> bool
+    ensures { result ≡ reading.is_sight system (slot_value mine) kind }
 {
     if kind == 0 {
         return true;
     }
     match mine {
-        ScriptSlot::Away => false,
-        ScriptSlot::Mine { .. } => system && kind <= 2,
+        CueSlot::Away => false,
+        CueSlot::Mine { .. } => system && kind <= 2,
     }
 }
 
@@ -351,10 +350,10 @@ fn is_sight(system: bool, mine: ScriptSlot, kind: u8) -> bool
 fn sight(
     alloc: Global,
     system: bool,
-    mine: ScriptSlot,
+    mine: CueSlot,
     cursor: &mut Cursor<'_>,
 ) -> Result<ScriptSight, ScriptFault>
-    ensures { GivesAt Fails (λ seen. script_sight_value seen) result cursor.new (reading.cue_sight_at system (script_slot_value mine) cursor.old) }
+    ensures { GivesAt Fails (λ seen. script_sight_value seen) result cursor.new (reading.cue_sight_at system (slot_value mine) cursor.old) }
 {
     let at = cursor.at();
     let kind = cursor.u8()?;

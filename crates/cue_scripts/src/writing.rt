@@ -5,9 +5,9 @@ ghost use Rattle.std.specs.List.{flat_map};
 ghost use Rattle.cue_scripts.specs.Entries.{Alike, Other, first_cue};
 ghost use Rattle.cue_scripts.specs.Kept.{HasCueRanges, HasEntryRanges, HasSightRange, HasTrafficRange};
 ghost use Rattle.cue_scripts.specs.Spelling.{cue_text, entry_text, event_byte, script_head_text, order_text, reset_byte, script_text, sight_text, slot_byte, traffic_text};
-ghost use Rattle.cue_scripts.specs.Values.{script_cue_value, entry_value, event_value, script_sight_value, script_slot_value, script_traffic_value};
+ghost use Rattle.cue_scripts.specs.Values.{script_cue_value, entry_value, event_value, script_sight_value, slot_value, script_traffic_value};
 
-use crate::cue::{ScriptCue, ScriptEntry, ScriptEvent, ScriptSight, ScriptSlot, ScriptTraffic};
+use crate::cue::{CueSlot, ScriptCue, ScriptEntry, ScriptSight, ScriptTraffic, WholeEvent};
 use crate::script::Script;
 use sealed_files::{put_double, put_half, put_word};
 use std::alloc::Global;
@@ -115,13 +115,13 @@ fn put_cue(out: &mut Vec<u8>, cue: &ScriptCue) -> Result<(), Memory>
 }
 
 /// The byte of a slot.
-fn slot_byte(slot: ScriptSlot) -> u8
-    ensures { result ≡ slot_byte (script_slot_value slot) }
+fn slot_byte(slot: CueSlot) -> u8
+    ensures { result ≡ slot_byte (slot_value slot) }
 {
     match slot {
-        ScriptSlot::Away => 0,
-        ScriptSlot::Mine { first: false } => 1,
-        ScriptSlot::Mine { first: true } => 2,
+        CueSlot::Away => 0,
+        CueSlot::Mine { first: false } => 1,
+        CueSlot::Mine { first: true } => 2,
     }
 }
 
@@ -174,14 +174,14 @@ fn reset_byte(mode: Mode) -> u8
 }
 
 /// The byte of a hypervisor event.
-fn event_byte(event: ScriptEvent) -> u8
+fn event_byte(event: WholeEvent) -> u8
     ensures { result ≡ event_byte (event_value event) }
 {
     match event {
-        ScriptEvent::Nothing => 0,
-        ScriptEvent::Cold => 1,
-        ScriptEvent::Warm => 2,
-        ScriptEvent::Halt => 3,
+        WholeEvent::Nothing => 0,
+        WholeEvent::Cold => 1,
+        WholeEvent::Warm => 2,
+        WholeEvent::Halt => 3,
     }
 }
 

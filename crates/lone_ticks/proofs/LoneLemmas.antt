@@ -9,6 +9,9 @@ use Rattle.xm_conf.specs.Configuration.{Conf}
 use Rattle.xm_report.specs.Report.{ReportLine}
 use Rattle.cue_scripts.specs.Entries.{is_away}
 use Rattle.cue_scripts.specs.Script.{CanHear, CanSee, HearsNothing, numbered_chan, chan_called, heard_in, is_length, most_heard}
+use Rattle.cue_scripts.specs.Values.{slot_value}
+use Rattle.cue_scripts.specs.declared.cue.CueSlot as code_slot
+use Rattle.cue_scripts.specs.declared.cue.CueSlot.TheVariants as its
 use Rattle.machine_model.specs.Alone.{Alone, alone_local, alone_local_in, alone_step}
 use Rattle.machine_model.specs.Cue.{Away, Cue, Mine, CueSlot}
 use Rattle.machine_model.specs.Facts.{AreFacts, IsItsOwn, KeepsFactsAlone, begun}
@@ -28,9 +31,6 @@ use Rattle.alone_passes.specs.Passes.{away_passed, event_met, part_in, rested_in
 use Rattle.alone_passes.specs.Taking.{is_no_sight, is_same_event, takes_traffic}
 use Rattle.alone_passes.specs.TakingLaws.{TakesAway, TakesResting}
 use Rattle.alone_passes.specs.Step.{IsOfSystem}
-use Rattle.tick_pieces.specs.CueValues.{slot_value}
-use Rattle.tick_pieces.specs.declared.cue.Mine as code_mine
-use Rattle.tick_pieces.specs.declared.cue.Mine.TheVariants as its
 use Rattle.lone_ticks.specs.LoneWork.{IsLoneTick, most_lines, traffic_done}
 use Rattle.tick_pieces.specs.Machine.{IsMachine}
 use Rattle.lone_ticks.proofs.PutLemmas.{is_told}
@@ -160,7 +160,7 @@ pub heard_so : (b : Bool) (p : ℕ) (own : OwnTraffic) (old new : SysState) → 
 heard_so b p own old new taken is = is ∙ ap (λ (t : Bool). with_machine (traffic_done t old.machine p own) old) taken
 
 -- in a slot of its own
-pub own_slot : (mine : code_mine.Mine) → mine ≢ its.Away → (first : Bool) × (slot_value mine ≡ Mine first)
+pub own_slot : (mine : code_slot.CueSlot) → mine ≢ its.Away → (first : Bool) × (slot_value mine ≡ Mine first)
 own_slot its.Away own = absurd (own refl)
 own_slot (its.Mine first) own = (first, refl)
 

@@ -13,6 +13,8 @@ use Rattle.xm_report.specs.Report.{ReportLine}
 use Rattle.xm_traces.specs.Ring.{Kept}
 use Rattle.xm_traces.specs.declared.entry.TraceEntry.{TraceEntry}
 use Rattle.cue_scripts.specs.Script.{HearsNothing, IsCue}
+use Rattle.cue_scripts.specs.Values.{slot_value}
+use Rattle.cue_scripts.specs.declared.cue.CueSlot.TheVariants as its
 use Rattle.tick_pieces.specs.PartLemmas.{traded_memory}
 use Rattle.machine_model.specs.Alone.{Alone, alone_local, alone_local_in, alone_step_lines}
 use Rattle.machine_model.specs.Cue.{Cue, Mine, CueSlot}
@@ -36,13 +38,12 @@ use Rattle.alone_passes.specs.Step.{IsOfSystem}
 use Rattle.alone_passes.specs.Taking.{is_same_event, is_same_mode, takes_cue, takes_sight}
 use Rattle.alone_passes.specs.TakingLaws.{TakesWorking}
 use Rattle.lone_ticks.specs.LoneWork.{IsLoneDone, IsLoneTick, IsUncounted, IsWorkUndone, most_lines}
-use Rattle.tick_pieces.specs.CueValues.{cue_value, slot_value}
+use Rattle.tick_pieces.specs.CueValues.{cue_value}
 use Rattle.tick_pieces.specs.Machine.{IsMachine}
 use Rattle.tick_pieces.specs.Span.{CanTake}
 use Rattle.tick_pieces.specs.Work.{TellsAlone, act_beyond, console_told}
 use Rattle.tick_pieces.specs.declared.beyond.Beyond.{Beyond}
 use Rattle.tick_pieces.specs.declared.cue.Cue as code
-use Rattle.tick_pieces.specs.declared.cue.Mine.TheVariants as its
 use Rattle.lone_ticks.specs.declared.work.LoneWork.{LoneWork}
 use Rattle.lone_ticks.proofs.PutLemmas.{IsTraded, is_traded}
 use Rattle.tick_pieces.specs.KeptLemmas.{facts_at, facts_with}

@@ -2,6 +2,7 @@
 
 ghost use Rattle.std.specs.Prelude.{◌≡◌, ◌+◌, ◌^◌, ◌<◌, ◌≤◌, ◌++◌, ◌≢◌, if◌then◌else◌, [], None, Some, false, length, true};
 ghost use Rattle.cue_scripts.specs.Script.{IsCue};
+ghost use Rattle.cue_scripts.specs.Values.{event_value};
 ghost use Rattle.cyclic_plans.specs.PlanClock.{IsInFrame, started};
 ghost use Rattle.machine_model.specs.Machine.{obeyed, obeyed_told};
 ghost use Rattle.machine_model.specs.Partition.{takes_turns};
@@ -11,7 +12,7 @@ ghost use Rattle.machine_model.specs.Whole.{event_lines, event_of};
 ghost use Rattle.slot_runs.specs.Passes.{part_at};
 ghost use Rattle.whole_system.specs.State.{with_machine};
 ghost use Rattle.alone_passes.specs.Step.{IsOfSystem};
-ghost use Rattle.tick_pieces.specs.CueValues.{cue_value, whole_value};
+ghost use Rattle.tick_pieces.specs.CueValues.{cue_value};
 ghost use Rattle.alone_passes.specs.Passes.{event_met, rested_in, tick_past};
 ghost use Rattle.lone_ticks.specs.LoneSpan.{CanEnd};
 ghost use Rattle.lone_ticks.specs.LoneWork.{CanTickAlone, HasMetEvent, IsLoneTick, IsLoneTickEnded, most_lines};
@@ -22,12 +23,11 @@ ghost use Rattle.tick_pieces.specs.Work.{IsPartDone, act_beyond};
 use crate::traffic::hear;
 use crate::work::{is_unseen, work_alone};
 use alone_passes::{away_ticks, passes_keep, resting_ticks_alone, takes_cues, working_ticks};
+use cue_scripts::{CueSlot, WholeEvent};
 use cyclic_plans::PlanClock;
 use hypercalls::{Note, Sys};
 use machine_model::{acts_within_bounds, keeps_facts_alone};
-use tick_pieces::{
-    Beyond, Cue, Lines, Mine, WholeCue, obey, reset, reset_move, rest_one, takes_turns, whole_of,
-};
+use tick_pieces::{Beyond, Cue, Lines, obey, reset, reset_move, rest_one, takes_turns, whole_of};
 use xm_base::{Mode, Order, PartId};
 use xm_report::Line;
 
@@ -45,8 +45,8 @@ pub fn tick_alone(sys: &mut Sys, lines: &mut Lines, p: PartId, cue: &Cue<'_>) ->
     ensures system { IsOfSystem sys.old.machine sys.new.machine }
 {
     match cue.mine {
-        Mine::Away => tick_away(sys, lines, p, cue),
-        Mine::Mine { first } => {
+        CueSlot::Away => tick_away(sys, lines, p, cue),
+        CueSlot::Mine { first } => {
             if takes_turns(sys, p) {
                 turn_in_slot(sys, lines, p, first, cue)
             } else {
@@ -59,7 +59,7 @@ pub fn tick_alone(sys: &mut Sys, lines: &mut Lines, p: PartId, cue: &Cue<'_>) ->
 // A tick in the slot of another partition, or in a gap.
 fn tick_away(sys: &mut Sys, lines: &mut Lines, p: PartId, cue: &Cue<'_>) -> Option<Note>
     requires can { CanTickAlone p (cue_value cue.now) sys.old lines.old }
-    requires away { cue.now.mine ≡ Mine.Away }
+    requires away { cue.now.mine ≡ CueSlot.Away }
     ensures { IsLoneTickEnded result p (cue_value cue.now) sys.old sys.new lines.new }
 {
     away_ticks();
@@ -85,7 +85,7 @@ pub(crate) fn turn_in_slot(
     cue: &Cue<'_>,
 ) -> Option<Note>
     requires can { CanTickAlone p (cue_value cue.now) sys.old lines.old }
-    requires own { cue.now.mine ≡ Mine.Mine first }
+    requires own { cue.now.mine ≡ CueSlot.Mine first }
     requires turns { takes_turns (part_at p sys.old.machine).state ≡ true }
     ensures { IsLoneTickEnded result p (cue_value cue.now) sys.old sys.new lines.new }
 {
@@ -104,11 +104,11 @@ pub(crate) fn turn_in_slot(
 }
 
 /// The end of a tick in which the partition's work reached so far: the hypervisor event of its act, and the clocks.
-pub(crate) fn end_turn(sys: &mut Sys, lines: &mut Lines, p: PartId, reach: Beyond) -> WholeCue
+pub(crate) fn end_turn(sys: &mut Sys, lines: &mut Lines, p: PartId, reach: Beyond) -> WholeEvent
     requires can { CanEnd p sys.old lines.old }
-    ensures event { whole_value result ≡ event_of (act_beyond reach) }
-    ensures state { sys.new ≡ with_machine (tick_past (whole_value result) (event_met p (whole_value result) sys.old.machine)) sys.old }
-    ensures lines { lines.new ≡ lines.old ++ event_lines sys.old.machine.ticks (whole_value result) p }
+    ensures event { event_value result ≡ event_of (act_beyond reach) }
+    ensures state { sys.new ≡ with_machine (tick_past (event_value result) (event_met p (event_value result) sys.old.machine)) sys.old }
+    ensures lines { lines.new ≡ lines.old ++ event_lines sys.old.machine.ticks (event_value result) p }
     ensures few { length lines.new ≤ length lines.old + 1 }
 {
     let event = whole_of(reach);
@@ -127,7 +127,7 @@ pub(crate) fn note_if(is: bool, note: Note) -> Option<Note>
 // A tick in a slot of a partition that takes no turns.
 fn rest_in_slot(sys: &mut Sys, p: PartId, cue: &Cue<'_>) -> Option<Note>
     requires can { CanTickAlone p (cue_value cue.now) sys.old [] }
-    requires own { cue.now.mine ≢ Mine.Away }
+    requires own { cue.now.mine ≢ CueSlot.Away }
     requires turns { takes_turns (part_at p sys.old.machine).state ≡ false }
     ensures { IsLoneTickEnded result p (cue_value cue.now) sys.old sys.new [] }
 {
@@ -135,8 +135,8 @@ fn rest_in_slot(sys: &mut Sys, p: PartId, cue: &Cue<'_>) -> Option<Note>
     takes_cues();
     passes_keep();
     keeps_facts_alone();
-    if is_unseen(cue.seen) && is_same_event(WholeCue::Nothing, cue.whole) {
-        rest_and_pass(sys, p, WholeCue::Nothing);
+    if is_unseen(cue.seen) && is_same_event(WholeEvent::Nothing, cue.whole) {
+        rest_and_pass(sys, p, WholeEvent::Nothing);
         Some(Note::Nothing)
     } else {
         None
@@ -156,16 +156,16 @@ fn obey_other(sys: &mut Sys, lines: &mut Lines, p: PartId, order: Option<Order>)
 }
 
 // A hypervisor event, as one partition meets it.
-fn meet_event(sys: &mut Sys, lines: &mut Lines, p: PartId, event: WholeCue)
+fn meet_event(sys: &mut Sys, lines: &mut Lines, p: PartId, event: WholeEvent)
     requires partition { p < length sys.old.machine.parts }
     requires room { length lines.old < most_lines }
-    ensures { HasMetEvent p (whole_value event) sys.old sys.new lines.old lines.new }
+    ensures { HasMetEvent p (event_value event) sys.old sys.new lines.old lines.new }
 {
     match event {
-        WholeCue::Nothing => {}
-        WholeCue::Cold => meet_reset(sys, lines, p, Mode::Cold),
-        WholeCue::Warm => meet_reset(sys, lines, p, Mode::Warm),
-        WholeCue::Halt => sys.halt(),
+        WholeEvent::Nothing => {}
+        WholeEvent::Cold => meet_reset(sys, lines, p, Mode::Cold),
+        WholeEvent::Warm => meet_reset(sys, lines, p, Mode::Warm),
+        WholeEvent::Halt => sys.halt(),
     }
 }
 
@@ -186,12 +186,12 @@ fn meet_reset(sys: &mut Sys, lines: &mut Lines, p: PartId, mode: Mode)
 }
 
 // The partition rests, and the tick is over.
-fn rest_and_pass(sys: &mut Sys, p: PartId, event: WholeCue)
+fn rest_and_pass(sys: &mut Sys, p: PartId, event: WholeEvent)
     requires partition { p < length sys.old.machine.parts }
     requires time { sys.old.machine.time + 1 < 2 ^ 64 }
     requires ticks { sys.old.machine.ticks + 1 < 2 ^ 64 }
     requires frame { IsInFrame sys.old.machine.system.conf sys.old.machine.clock sys.old.machine.time }
-    ensures { sys.new ≡ with_machine (tick_past (whole_value event) (rested_in p sys.old.machine)) sys.old }
+    ensures { sys.new ≡ with_machine (tick_past (event_value event) (rested_in p sys.old.machine)) sys.old }
 {
     let now = sys.now();
     rest_one(sys, p, now);
@@ -199,16 +199,16 @@ fn rest_and_pass(sys: &mut Sys, p: PartId, event: WholeCue)
 }
 
 // The clocks past a tick with a hypervisor event.
-fn pass_tick(sys: &mut Sys, event: WholeCue)
+fn pass_tick(sys: &mut Sys, event: WholeEvent)
     requires time { sys.old.machine.time + 1 < 2 ^ 64 }
     requires ticks { sys.old.machine.ticks + 1 < 2 ^ 64 }
     requires frame { IsInFrame sys.old.machine.system.conf sys.old.machine.clock sys.old.machine.time }
-    ensures { sys.new ≡ with_machine (tick_past (whole_value event) sys.old.machine) sys.old }
+    ensures { sys.new ≡ with_machine (tick_past (event_value event) sys.old.machine) sys.old }
 {
     match event {
-        WholeCue::Nothing => pass_one(sys),
-        WholeCue::Cold | WholeCue::Warm => begin_anew(sys),
-        WholeCue::Halt => {}
+        WholeEvent::Nothing => pass_one(sys),
+        WholeEvent::Cold | WholeEvent::Warm => begin_anew(sys),
+        WholeEvent::Halt => {}
     }
 }
 
@@ -234,13 +234,13 @@ fn begin_anew(sys: &mut Sys)
 }
 
 /// Whether two hypervisor events are the same.
-pub(crate) fn is_same_event(one: WholeCue, other: WholeCue) -> bool
-    ensures { result ≡ is_same_event (whole_value one) (whole_value other) }
+pub(crate) fn is_same_event(one: WholeEvent, other: WholeEvent) -> bool
+    ensures { result ≡ is_same_event (event_value one) (event_value other) }
 {
     match one {
-        WholeCue::Nothing => matches!(other, WholeCue::Nothing),
-        WholeCue::Cold => matches!(other, WholeCue::Cold),
-        WholeCue::Warm => matches!(other, WholeCue::Warm),
-        WholeCue::Halt => matches!(other, WholeCue::Halt),
+        WholeEvent::Nothing => matches!(other, WholeEvent::Nothing),
+        WholeEvent::Cold => matches!(other, WholeEvent::Cold),
+        WholeEvent::Warm => matches!(other, WholeEvent::Warm),
+        WholeEvent::Halt => matches!(other, WholeEvent::Halt),
     }
 }

@@ -21,13 +21,13 @@ use crate::alone::{end_turn, is_same_event, note_if, turn_in_slot};
 use crate::call::call_alone;
 use crate::work::{LoneWork, trap_alone};
 use alone_passes::{passes_keep, takes_cues, working_ticks};
+use cue_scripts::{CueSlot, WholeEvent};
 use hypercalls::{Note, Sys};
 use machine_model::{acts_within_bounds, keeps_facts_alone};
 use slot_runs::late_rest;
 use sparc_step::Turn;
 use tick_pieces::{
-    Cue, Lines, Mine, Sight, Traffic, WholeCue, goes_on, interrupt, program_counter, rest_one,
-    takes_turns,
+    Cue, Lines, Sight, Traffic, goes_on, interrupt, program_counter, rest_one, takes_turns,
 };
 use whole_system::CallSite;
 use xm_base::{PartId, State};
@@ -164,13 +164,13 @@ fn turn_once(sys: &mut Sys, lines: &mut Lines, p: PartId) -> LoneSpan
 #[tactic(auto, unfolding(cue_scripts::specs::Entries::bare_cue))]
 fn own_cue() -> Cue<'static>
     ensures value { cue_value result ≡ bare_cue true }
-    ensures own { result.mine ≡ Mine.Mine false }
+    ensures own { result.mine ≡ CueSlot.Mine false }
 {
     Cue {
-        mine: Mine::Mine { first: false },
+        mine: CueSlot::Mine { first: false },
         traffic: Traffic::Nothing,
         order: None,
-        whole: WholeCue::Nothing,
+        whole: WholeEvent::Nothing,
         seen: Sight::Nothing,
     }
 }
@@ -259,7 +259,7 @@ fn end_work(sys: &mut Sys, lines: &mut Lines, p: PartId, work: Option<LoneWork>)
     match work {
         Some(work) => {
             let event = end_turn(sys, lines, p, work.reach);
-            note_if(is_same_event(event, WholeCue::Nothing), work.note)
+            note_if(is_same_event(event, WholeEvent::Nothing), work.note)
         }
         None => None,
     }

@@ -2,34 +2,24 @@
 
 ghost use Rattle.std.specs.Prelude.{◌≡◌, IfOk};
 ghost use Rattle.cue_scripts.specs.Values as kept;
-ghost use Rattle.tick_pieces.specs.CueValues.{cue_value, sight_value, slot_value, traffic_value, whole_value};
+ghost use Rattle.tick_pieces.specs.CueValues.{cue_value, sight_value, traffic_value};
 
-use cue_scripts::{ScriptCue, ScriptEvent, ScriptSight, ScriptSlot, ScriptTraffic};
+use cue_scripts::{ScriptCue, ScriptSight, ScriptTraffic};
 use std::alloc::Global;
 use xm_base::Memory;
-use xm_machine::{Cue, Mine, Sight, Traffic, WholeCue};
+use xm_machine::{Cue, Sight, Traffic};
 
 /// A cue with bytes of its own.
 pub(crate) fn kept_cue(alloc: Global, cue: Cue<'_>) -> Result<ScriptCue, Memory>
     ensures { IfOk result (λ own. kept.script_cue_value own ≡ cue_value cue.entry) }
 {
     Ok(ScriptCue {
-        mine: kept_slot(cue.mine),
+        mine: cue.mine,
         traffic: kept_traffic(alloc, cue.traffic)?,
         order: cue.order,
-        whole: kept_event(cue.whole),
+        whole: cue.whole,
         seen: kept_sight(alloc, cue.seen)?,
     })
-}
-
-/// Whose slot it is.
-fn kept_slot(mine: Mine) -> ScriptSlot
-    ensures { kept.script_slot_value result ≡ slot_value mine }
-{
-    match mine {
-        Mine::Away => ScriptSlot::Away,
-        Mine::Mine { first } => ScriptSlot::Mine { first },
-    }
 }
 
 /// The traffic of others.
@@ -44,18 +34,6 @@ fn kept_traffic(alloc: Global, traffic: Traffic<'_>) -> Result<ScriptTraffic, Me
         }),
         Traffic::Take { chan } => Ok(ScriptTraffic::Take { chan }),
         Traffic::Signal { number } => Ok(ScriptTraffic::Signal { number }),
-    }
-}
-
-/// The hypervisor event.
-fn kept_event(whole: WholeCue) -> ScriptEvent
-    ensures { kept.event_value result ≡ whole_value whole }
-{
-    match whole {
-        WholeCue::Nothing => ScriptEvent::Nothing,
-        WholeCue::Cold => ScriptEvent::Cold,
-        WholeCue::Warm => ScriptEvent::Warm,
-        WholeCue::Halt => ScriptEvent::Halt,
     }
 }
 

@@ -1,21 +1,22 @@
 //! What a tick's note and reach tell one partition.
 
 ghost use Rattle.std.specs.Prelude.{◌≡◌, ◌<◌, length};
+ghost use Rattle.cue_scripts.specs.Values.{slot_value};
 ghost use Rattle.machine_model.specs.Cue.{slot_of};
 ghost use Rattle.machine_model.specs.Lists.{is_number};
 ghost use Rattle.machine_model.specs.Machine.{is_turn_of, order_for, turn_here};
 ghost use Rattle.machine_model.specs.Told.{reach_of};
 ghost use Rattle.machine_model.specs.Traffic.{heard_as, own_puts_at, own_signals_at, own_takes_at};
 ghost use Rattle.machine_model.specs.View.{linked};
-ghost use Rattle.tick_pieces.specs.CueValues.{sight_value, slot_value, traffic_value};
+ghost use Rattle.tick_pieces.specs.CueValues.{sight_value, traffic_value};
 ghost use Rattle.tick_pieces.specs.Kept.{sight_with, traffic_with};
 ghost use Rattle.tick_pieces.specs.Work.{act_beyond};
 
-use cue_scripts::name_of;
+use cue_scripts::{CueSlot, name_of};
 use cyclic_plans::Here;
 use health_monitor::Whole;
 use hypercalls::Note;
-use tick_pieces::{Beyond, Mine, Sight, Traffic};
+use tick_pieces::{Beyond, Sight, Traffic};
 use xm_base::{Order, PartId};
 use xm_conf::Conf;
 
@@ -30,18 +31,18 @@ pub(crate) fn is_slot_of(slot: Option<Here>, p: PartId) -> bool
 }
 
 /// Whose slot a tick is in, as partition `p` sees it.
-pub(crate) fn mine_of(slot: Option<Here>, p: PartId) -> Mine
+pub(crate) fn mine_of(slot: Option<Here>, p: PartId) -> CueSlot
     ensures { slot_value result ≡ slot_of (turn_here slot) p }
 {
     match slot {
         Some(slot) => {
             if slot.part == p {
-                Mine::Mine { first: slot.first }
+                CueSlot::Mine { first: slot.first }
             } else {
-                Mine::Away
+                CueSlot::Away
             }
         }
-        None => Mine::Away,
+        None => CueSlot::Away,
     }
 }
 

@@ -1,22 +1,14 @@
 //! What one partition is told in a tick.
 
 ghost use Rattle.std.specs.Prelude.{◌≡◌};
+ghost use Rattle.cue_scripts.specs.Values.{event_value};
 ghost use Rattle.machine_model.specs.Whole.{event_of};
-ghost use Rattle.tick_pieces.specs.CueValues.{whole_value};
 ghost use Rattle.tick_pieces.specs.Work.{act_beyond};
 
 use crate::beyond::Beyond;
+use cue_scripts::{CueSlot, WholeEvent};
 use health_monitor::Whole;
 use xm_base::{Mode, Order};
-
-/// Whose slot a tick is in, as one partition sees it.
-#[derive(Clone, Copy, Debug, PartialEq, Eq)]
-pub enum Mine {
-    /// Not its own.
-    Away,
-    /// Its own, which begins with this tick or did before, whether or not the partition takes turns.
-    Mine { first: bool },
-}
 
 /// What others did to a channel of the partition, which goes by the partition's name for it: its lowest port on the channel; or over a link
 /// to it.
@@ -30,19 +22,6 @@ pub enum Traffic<'a> {
     Take { chan: u8 },
     /// It was signalled over a link of this number that goes to it.
     Signal { number: u8 },
-}
-
-/// What was done to the whole system.
-#[derive(Clone, Copy, Debug, PartialEq, Eq)]
-pub enum WholeCue {
-    /// Nothing.
-    Nothing,
-    /// A cold reset.
-    Cold,
-    /// A warm reset.
-    Warm,
-    /// It halted.
-    Halt,
 }
 
 /// What an observing call of the partition was shown.
@@ -59,23 +38,23 @@ pub enum Sight<'a> {
 /// All that one partition is told of the others in a tick.
 #[derive(Clone, Copy, Debug, PartialEq, Eq)]
 pub struct Cue<'a> {
-    pub mine: Mine,
+    pub mine: CueSlot,
     pub traffic: Traffic<'a>,
     /// The order that another partition gave it.
     pub order: Option<Order>,
-    pub whole: WholeCue,
+    pub whole: WholeEvent,
     pub seen: Sight<'a>,
 }
 
 /// What was done to the whole system. The maintenance plan is told nobody.
-pub fn whole_of(reach: Beyond) -> WholeCue
-    ensures { whole_value result ≡ event_of (act_beyond reach) }
+pub fn whole_of(reach: Beyond) -> WholeEvent
+    ensures { event_value result ≡ event_of (act_beyond reach) }
 {
     match reach {
-        Beyond::Whole(Whole::Reset(Mode::Cold)) => WholeCue::Cold,
-        Beyond::Whole(Whole::Reset(Mode::Warm)) => WholeCue::Warm,
-        Beyond::Whole(Whole::Halt) => WholeCue::Halt,
-        Beyond::Whole(Whole::Nothing | Whole::Maintenance) => WholeCue::Nothing,
-        Beyond::Nothing | Beyond::Order { .. } | Beyond::Plan { .. } => WholeCue::Nothing,
+        Beyond::Whole(Whole::Reset(Mode::Cold)) => WholeEvent::Cold,
+        Beyond::Whole(Whole::Reset(Mode::Warm)) => WholeEvent::Warm,
+        Beyond::Whole(Whole::Halt) => WholeEvent::Halt,
+        Beyond::Whole(Whole::Nothing | Whole::Maintenance) => WholeEvent::Nothing,
+        Beyond::Nothing | Beyond::Order { .. } | Beyond::Plan { .. } => WholeEvent::Nothing,
     }
 }

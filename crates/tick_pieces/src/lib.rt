@@ -12,7 +12,7 @@ mod traps;
 mod turns;
 
 pub use beyond::Beyond;
-pub use cue::{Cue, Mine, Sight, Traffic, WholeCue, whole_of};
+pub use cue::{Cue, Sight, Traffic, whole_of};
 pub use health::{handle_event, program_counter};
 pub use lines::Lines;
 pub use order::{obey, reset, reset_move};

@@ -4,12 +4,12 @@ ghost use Rattle.std.specs.Prelude.{◌≡◌, ◌++◌, [], MatchOption};
 ghost use Rattle.cue_scripts.specs.Entries.{first_cue};
 ghost use Rattle.cue_scripts.specs.Values as kept;
 ghost use Rattle.xm_alone.specs.Cues.{ComesNext, HasNext, cues_left, next_left};
-ghost use Rattle.tick_pieces.specs.CueValues.{cue_value, sight_value, slot_value, traffic_value, whole_value};
+ghost use Rattle.tick_pieces.specs.CueValues.{cue_value, sight_value, traffic_value};
 
 use cue_scripts::{
-    Script, ScriptCue, ScriptEntry, ScriptEvent, ScriptSight, ScriptSlot, ScriptTraffic,
+    CueSlot, Script, ScriptCue, ScriptEntry, ScriptSight, ScriptTraffic, WholeEvent,
 };
-use xm_machine::{Cue, Mine, Sight, Traffic, WholeCue};
+use xm_machine::{Cue, Sight, Traffic};
 
 /// The cues of a script that come next.
 #[derive(Clone, Copy)]
@@ -101,10 +101,10 @@ fn begun() -> Cue<'static>
     ensures { cue_value result ≡ first_cue }
 {
     Cue {
-        mine: Mine::Mine { first: true },
+        mine: CueSlot::Mine { first: true },
         traffic: Traffic::Nothing,
         order: None,
-        whole: WholeCue::Nothing,
+        whole: WholeEvent::Nothing,
         seen: Sight::Nothing,
     }
 }
@@ -114,21 +114,11 @@ fn lent(cue: &ScriptCue) -> Cue<'_>
     ensures { cue_value result ≡ kept.script_cue_value cue.now }
 {
     Cue {
-        mine: slot_of(cue.mine),
+        mine: cue.mine,
         traffic: traffic_of(&cue.traffic),
         order: cue.order,
-        whole: event_of(cue.whole),
+        whole: cue.whole,
         seen: sight_of(&cue.seen),
-    }
-}
-
-/// Whose slot it is.
-fn slot_of(mine: ScriptSlot) -> Mine
-    ensures { slot_value result ≡ kept.script_slot_value mine }
-{
-    match mine {
-        ScriptSlot::Away => Mine::Away,
-        ScriptSlot::Mine { first } => Mine::Mine { first },
     }
 }
 
@@ -141,18 +131,6 @@ fn traffic_of(traffic: &ScriptTraffic) -> Traffic<'_>
         ScriptTraffic::Put { chan, bytes } => Traffic::Put { chan: *chan, bytes },
         ScriptTraffic::Take { chan } => Traffic::Take { chan: *chan },
         ScriptTraffic::Signal { number } => Traffic::Signal { number: *number },
-    }
-}
-
-/// The hypervisor event.
-fn event_of(event: ScriptEvent) -> WholeCue
-    ensures { whole_value result ≡ kept.event_value event }
-{
-    match event {
-        ScriptEvent::Nothing => WholeCue::Nothing,
-        ScriptEvent::Cold => WholeCue::Cold,
-        ScriptEvent::Warm => WholeCue::Warm,
-        ScriptEvent::Halt => WholeCue::Halt,
     }
 }
 

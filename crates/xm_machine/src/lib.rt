@@ -9,10 +9,11 @@ mod run;
 mod stretch;
 
 pub use alone_span::{AloneFault, AloneSpan};
+pub use cue_scripts::{CueSlot, WholeEvent};
 pub use hypercalls::{InputFault, Inputs};
 pub use law::keeps_cues;
 pub use machine::Machine;
 pub use machine_model::two_runs;
 pub use run::Ran;
-pub use tick_pieces::{Cue, Mine, Sight, Traffic, WholeCue};
+pub use tick_pieces::{Cue, Sight, Traffic};
 pub use xm_report::{Line, Move, WriteFault, put_line};

@@ -1,6 +1,7 @@
 use Rattle.std.proofs.Common.{length, sym, ap, ◌∙◌, arith}
 use Rattle.alone_passes.specs.Passes.{away_passed}
-use Rattle.tick_pieces.specs.CueValues.{cue_value, slot_value}
+use Rattle.cue_scripts.specs.Values.{slot_value}
+use Rattle.tick_pieces.specs.CueValues.{cue_value}
 use Rattle.lone_ticks.proofs.LoneLemmas.{away_done, away_state, away_told, called_by, heard_below, heard_so, its_away, machine_kept, met_below, of_system, put_below, unseen_away}
 use Rattle.lone_ticks.proofs.alone.tick_away.Goals as goal
 

@@ -1,5 +1,6 @@
 use Rattle.std.proofs.Common.{arith}
-use Rattle.tick_pieces.specs.CueValues.{cue_value, whole_value}
+use Rattle.cue_scripts.specs.Values.{event_value}
+use Rattle.tick_pieces.specs.CueValues.{cue_value}
 use Rattle.lone_ticks.proofs.SpanEndLemmas.{work_can_end}
 use Rattle.lone_ticks.proofs.LoneTurnLemmas.{can_take, few_room, is_turn, not_seen, turn_machine, turn_noted, turn_system, undone_machine, undone_system}
 use Rattle.lone_ticks.proofs.alone.turn_in_slot.Goals as goal
@@ -20,14 +21,14 @@ returns-in-Some c =
     let work = rw c.in-Some.is at c.work_alone.ensures in
     record {
       tick = turn_noted c.working_ticks.ensures.law c.takes_cues.ensures.working c.passes_keep.ensures.law c.acts_within_bounds.ensures.law c.keeps_facts_alone.ensures.law
-          c.args.p c.args.first (cue_value c.args.cue.now) c.in-Some.work (whole_value c.end_turn-event.result) c.args.sys.now c.work_alone.new.sys c.end_turn-event.new.sys c.work_alone.new.lines c.end_turn-event.new.lines
+          c.args.p c.args.first (cue_value c.args.cue.now) c.in-Some.work (event_value c.end_turn-event.result) c.args.sys.now c.work_alone.new.sys c.end_turn-event.new.sys c.work_alone.new.lines c.end_turn-event.new.lines
           turn work.0 work.1 c.end_turn-event.ensures.event c.end_turn-event.ensures.state c.end_turn-event.ensures.lines c.note_if.result c.is_same_event.result c.is_same_event.ensures c.note_if.ensures
           (omega (arith, few_room _ _ _ _ _ work.1, c.end_turn-event.ensures.few));
       machine = turn_machine c.working_ticks.ensures.law c.takes_cues.ensures.working c.passes_keep.ensures.law c.acts_within_bounds.ensures.law c.keeps_facts_alone.ensures.law
-          c.args.p c.args.first (cue_value c.args.cue.now) c.in-Some.work (whole_value c.end_turn-event.result) c.args.sys.now c.work_alone.new.sys c.end_turn-event.new.sys c.work_alone.new.lines c.end_turn-event.new.lines
+          c.args.p c.args.first (cue_value c.args.cue.now) c.in-Some.work (event_value c.end_turn-event.result) c.args.sys.now c.work_alone.new.sys c.end_turn-event.new.sys c.work_alone.new.lines c.end_turn-event.new.lines
           turn work.0 work.1 c.end_turn-event.ensures.event c.end_turn-event.ensures.state c.end_turn-event.ensures.lines;
       system = turn_system c.working_ticks.ensures.law c.takes_cues.ensures.working c.passes_keep.ensures.law c.acts_within_bounds.ensures.law c.keeps_facts_alone.ensures.law
-          c.args.p c.args.first (cue_value c.args.cue.now) c.in-Some.work (whole_value c.end_turn-event.result) c.args.sys.now c.work_alone.new.sys c.end_turn-event.new.sys c.work_alone.new.lines c.end_turn-event.new.lines
+          c.args.p c.args.first (cue_value c.args.cue.now) c.in-Some.work (event_value c.end_turn-event.result) c.args.sys.now c.work_alone.new.sys c.end_turn-event.new.sys c.work_alone.new.lines c.end_turn-event.new.lines
           turn work.0 work.1 c.end_turn-event.ensures.event c.end_turn-event.ensures.state c.end_turn-event.ensures.lines;
     }
 
