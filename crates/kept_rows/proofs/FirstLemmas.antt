@@ -53,7 +53,7 @@ empty_numbers = record {
 }
 
 -- empty rows are kept of all words
-pub first_kept : (m : Memories) (rows : List Row) (parts : List PartRows) (share : ℕ) (own : PartRows) → AreMemories m → m.selected ≡ 0 → AreEmpty rows → length rows ≡ 1048576 → share ≡ share_for (length m.areas) → AreParts share m.areas parts → slice_get parts 0 ≡ Some own → AreKept m rows parts share own
+pub first_kept : (m : Memories) (rows : List Row) (parts : List PartRows) (share : ℕ) (own : PartRows) → AreMemories m → m.selected ≡ 0 → AreEmpty rows → length rows ≡ 1048576 → share ≡ share_for (length m.areas) → AreParts share m.areas parts → slice_get parts 0 ≡ Some own → AreKept m rows parts share 0 own
 first_kept m rows parts share own are selected empty whole shared known first = record {
   are = are;
   shared = shared;
@@ -63,4 +63,6 @@ first_kept m rows parts share own are selected empty whole shared known first = 
   each = λ p below k row few there.
       let is = empty (p * share + k) row there in
       empty_kept row (areas_at p m) (map_at p m) (first_address (areas_at p m) + 4 * k) (ap (λ (r : Row). r.kind) is) (subst (λ (r : Row). AreRegisterNumbers r) (sym is) empty_numbers);
+  high = omega arith;
+  free = λ p below k row from few there. ap (λ (r : Row). r.kind) (empty (p * share + k) row there);
 }

@@ -1,5 +1,5 @@
 -- Words of the selected partition that have rows.
-use Rattle.std.proofs.Common.{◌≡◌, ◌≢◌, ℕ, ◌+◌, ◌-◌, ◌*◌, ◌<◌, ◌≤◌, List, length, length-set, set, Some, Ok, sym, ap, ◌∙◌, ⊎_elim, subst, arith}
+use Rattle.std.proofs.Common.{◌≡◌, ◌≢◌, ℕ, ◌+◌, ◌-◌, ◌*◌, ◌<◌, ◌≤◌, List, length, length-set, set, max, Some, Ok, sym, ap, ◌∙◌, ⊎_elim, subst, arith}
 use Rattle.std.specs.Prelude.{slice_get}
 use Rattle.std.proofs.lemmas.Bool.{cases_eq}
 use Rattle.std.proofs.lemmas.List.Edits.{length-remove}
@@ -21,13 +21,13 @@ share_is : (m : Memories) → AreMemories m → share_of (others_of m) ≡ share
 share_is m are = ap share_for (length-remove m.areas m.selected are.selected)
 
 -- so are the numbers of its rows
-base_is : (m : Memories) (rows : List Row) (parts : List PartRows) (share : ℕ) (own : PartRows) → AreKept m rows parts share own → m.selected * share ≡ base_of (others_of m)
-base_is m rows parts share own is = ap (λ (n : ℕ). m.selected * n) (is.shared ∙ sym (share_is m is.are))
+base_is : (m : Memories) (rows : List Row) (parts : List PartRows) (share top : ℕ) (own : PartRows) → AreKept m rows parts share top own → m.selected * share ≡ base_of (others_of m)
+base_is m rows parts share top own is = ap (λ (n : ℕ). m.selected * n) (is.shared ∙ sym (share_is m is.are))
 
 -- the words that are at hand lie there
-pub numbered_lie : (m : Memories) (rows : List Row) (parts : List PartRows) (share : ℕ) (own : PartRows) → AreKept m rows parts share own → LieNumbered (areas_at m.selected m) (others_of m) own.words
-numbered_lie m rows parts share own is =
-    let base = base_is m rows parts share own is in
+pub numbered_lie : (m : Memories) (rows : List Row) (parts : List PartRows) (share top : ℕ) (own : PartRows) → AreKept m rows parts share top own → LieNumbered (areas_at m.selected m) (others_of m) own.words
+numbered_lie m rows parts share top own is =
+    let base = base_is m rows parts share top own is in
     let shared : share ≡ share_of (others_of m) = is.shared ∙ sym (share_is m is.are) in
     record {
       begin = is.at_hand.begin ∙ base;
@@ -36,9 +36,9 @@ numbered_lie m rows parts share own is =
     }
 
 -- the row of a place is that of the word there
-pub row_there : (m : Memories) (rows : List Row) (parts : List PartRows) (share : ℕ) (own : PartRows) (words : Words) (place : ℕ) (row : Row) → AreKept m rows parts share own → LieNumbered (areas_at m.selected m) (others_of m) words → words.begin ≤ place → place < words.end
+pub row_there : (m : Memories) (rows : List Row) (parts : List PartRows) (share top : ℕ) (own : PartRows) (words : Words) (place : ℕ) (row : Row) → AreKept m rows parts share top own → LieNumbered (areas_at m.selected m) (others_of m) words → words.begin ≤ place → place < words.end
     → slice_get rows place ≡ Some row → IsKeptRow row (areas_at m.selected m) (map_at m.selected m) (word_address words.origin place)
-row_there m rows parts share own words place row is lie from under there =
+row_there m rows parts share top own words place row is lie from under there =
     subst (λ (a : ℕ). IsKeptRow row (areas_at m.selected m) (map_at m.selected m) a) (sym (lie.address place from under))
     (is.each m.selected is.are.selected (place - words.begin) row below (ap (slice_get rows) here ∙ there))
   where
@@ -46,29 +46,36 @@ row_there m rows parts share own words place row is lie from under there =
     shared = is.shared ∙ sym (share_is m is.are)
 
     here : m.selected * share + (place - words.begin) ≡ place
-    here = omega (arith, base_is m rows parts share own is, lie.begin, from)
+    here = omega (arith, base_is m rows parts share top own is, lie.begin, from)
 
     below : place - words.begin < share
     below = omega (arith, lie.begin, lie.under, from, under, shared)
 
 -- so it lies within all rows
-pub place_fits : (m : Memories) (rows : List Row) (parts : List PartRows) (share : ℕ) (own : PartRows) (words : Words) (place : ℕ) → AreKept m rows parts share own → own.words.begin + share ≤ 1048576 → LieNumbered (areas_at m.selected m) (others_of m) words → place < words.end → place < length rows
-place_fits m rows parts share own words place is fits lie under =
+pub place_fits : (m : Memories) (rows : List Row) (parts : List PartRows) (share top : ℕ) (own : PartRows) (words : Words) (place : ℕ) → AreKept m rows parts share top own → own.words.begin + share ≤ 1048576 → LieNumbered (areas_at m.selected m) (others_of m) words → place < words.end → place < length rows
+place_fits m rows parts share top own words place is fits lie under =
     let shared : share ≡ share_of (others_of m) = is.shared ∙ sym (share_is m is.are) in
-    omega (arith, lie.under, under, shared, is.at_hand.begin, base_is m rows parts share own is, fits, is.whole)
+    omega (arith, lie.under, under, shared, is.at_hand.begin, base_is m rows parts share top own is, fits, is.whole)
 
 -- a row that is made of the word there
-pub made_there : (m : Memories) (rows : List Row) (parts : List PartRows) (share : ℕ) (own : PartRows) (place word : ℕ) (row : Row) → AreKept m rows parts share own → place < share → own.words.begin + place < length rows
-    → fetched (areas_at m.selected m) (map_at m.selected m) (own.first + 4 * place) ≡ Ok word → IsRowFor word row → AreKept m (set rows (own.words.begin + place) row) parts share own
-made_there m rows parts share own place word row is below within found made = record {
+pub made_there : (m : Memories) (rows : List Row) (parts : List PartRows) (share top : ℕ) (own : PartRows) (place word : ℕ) (row : Row) → AreKept m rows parts share top own → place < share → own.words.begin + place < length rows
+    → fetched (areas_at m.selected m) (map_at m.selected m) (own.first + 4 * place) ≡ Ok word → IsRowFor word row → AreKept m (set rows (own.words.begin + place) row) parts share (max top (place + 1)) own
+made_there m rows parts share top own place word row is below within found made = record {
   are = is.are;
   shared = is.shared;
   whole = length-set rows (own.words.begin + place) row ∙ is.whole;
   known = is.known;
   at_hand = is.at_hand;
   each = λ q inside k now few there. ⊎_elim (same q k now few there) (other q inside k now few there) (cases_eq (q * share + k) (own.words.begin + place));
+  high = omega (arith, is.high, below);
+  free = λ q inside k now from few there. ⊎_elim (λ e. absurd (elsewhere q k from few e)) (λ ne. is.free q inside k now (omega (arith, from)) few (sym (get_set_other rows (own.words.begin + place) (q * share + k) row ne) ∙ there)) (cases_eq (q * share + k) (own.words.begin + place));
 }
   where
+    elsewhere : (q k : ℕ) → max top (place + 1) ≤ k → k < share → q * share + k ≢ own.words.begin + place
+    elsewhere q k from few e =
+        let places = same_from_place q k m.selected place share few below (e ∙ ap (λ (b : ℕ). b + place) is.at_hand.begin) in
+        omega (arith, places.1, from)
+
     same : (q k : ℕ) (now : Row) → k < share → slice_get (set rows (own.words.begin + place) row) (q * share + k) ≡ Some now → q * share + k ≡ own.words.begin + place → IsKeptRow now (areas_at q m) (map_at q m) (first_address (areas_at q m) + 4 * k)
     same q k now few there e =
         let places = same_from_place q k m.selected place share few below (e ∙ ap (λ (b : ℕ). b + place) is.at_hand.begin) in

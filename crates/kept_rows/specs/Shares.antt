@@ -77,12 +77,12 @@ words_written Two = 1
 words_written Four = 1
 words_written Eight = 2
 
--- rows of which those are emptied that so many words from a place on have in a share
-pub record AreReached (base share place count : ℕ) (old new : List Row) : Type 0 where
+-- rows of which those are emptied that so many words from a place on have among the first ones of a share
+pub record AreReached (base top place count : ℕ) (old new : List Row) : Type 0 where
   pub begin : ℕ
   pub end : ℕ
   pub done : AreEmptied (base + begin) (base + end) old new
-  pub each : (k : ℕ) → k < share → IsReached place count k → (begin ≤ k) × (k < end)
+  pub each : (k : ℕ) → k < top → IsReached place count k → (begin ≤ k) × (k < end)
 
 -- each place of the words is the number of a row, the first of which is that of the word at an address
 abbrev pub AreNumbered : ℕ → Words → Type 0
@@ -107,11 +107,18 @@ pub record LieNumbered (areas : List Area) (others : Others) (words : Words) : T
   pub under : words.end ≤ base_of others + share_of others
   pub address : AreNumbered (first_address areas) words
 
--- each row is empty or that of its word, and the share of the selected partition is at hand
-pub record AreKept (memories : Memories) (rows : List Row) (parts : List PartRows) (share : ℕ) (own : PartRows) : Type 0 where
+-- the rows of a share behind so many first ones are empty
+abbrev pub AreUnmade : List Row → ℕ → ℕ → ℕ → Type 0
+AreUnmade rows base top share = (k : ℕ) (row : Row) → top ≤ k → k < share → slice_get rows (base + k) ≡ Some row → row.kind ≡ unmade
+
+-- each row is empty or that of its word, those behind the first ones of each share are empty, and the share of the selected
+-- partition is at hand
+pub record AreKept (memories : Memories) (rows : List Row) (parts : List PartRows) (share top : ℕ) (own : PartRows) : Type 0 where
   pub are : AreMemories memories
   pub shared : share ≡ share_for (length memories.areas)
   pub whole : length rows ≡ 1048576
   pub known : AreParts share memories.areas parts
   pub at_hand : ArePartRows share (memories.selected * share) (areas_at memories.selected memories) own
   pub each : (p : ℕ) → p < length memories.areas → AreKeptRows rows (p * share) share (areas_at p memories) (map_at p memories) (first_address (areas_at p memories))
+  pub high : top ≤ share
+  pub free : (p : ℕ) → p < length memories.areas → AreUnmade rows (p * share) top share

@@ -32,68 +32,68 @@ fn empty_rows(rows: &mut [Row], begin: usize, count: usize)
     }
 }
 
-/// Empties those rows of a share that so many words from a place on have.
+/// Empties those rows that so many words from a place on have among the first ones of a share, as many as are named.
 #[inline(always)]
-pub(crate) fn empty_words(rows: &mut [Row], base: usize, share: usize, place: usize, count: usize)
-    requires share { base + share ≤ length rows.old }
+pub(crate) fn empty_words(rows: &mut [Row], base: usize, top: usize, place: usize, count: usize)
+    requires top { base + top ≤ length rows.old }
     requires few { length rows.old ≡ 1048576 }
     requires place { place < 2 ^ 30 }
     requires count { count < 2 ^ 63 }
-    ensures { AreReached base share place count rows.old rows.new }
+    ensures { AreReached base top place count rows.old rows.new }
 {
-    if place + count <= share {
+    if place + count <= top {
         empty_rows(rows, base + place, count);
-    } else if place < share {
-        empty_part(rows, base, share, place, count);
+    } else if place < top {
+        empty_part(rows, base, top, place, count);
     } else if place + count > WORDS {
-        empty_part(rows, base, share, place, count);
+        empty_part(rows, base, top, place, count);
     }
 }
 
 // The same where not all of the words have rows of the share.
 #[cold]
 #[inline(never)]
-fn empty_part(rows: &mut [Row], base: usize, share: usize, place: usize, count: usize)
-    requires share { base + share ≤ length rows.old }
+fn empty_part(rows: &mut [Row], base: usize, top: usize, place: usize, count: usize)
+    requires top { base + top ≤ length rows.old }
     requires few { length rows.old ≡ 1048576 }
     requires place { place < 2 ^ 30 }
     requires count { count < 2 ^ 63 }
-    ensures { AreReached base share place count rows.old rows.new }
+    ensures { AreReached base top place count rows.old rows.new }
 {
-    let (begin, end) = reached(share, place, count);
+    let (begin, end) = reached(top, place, count);
     empty_rows(rows, base + begin, end - begin);
 }
 
 // Where the words of a share begin and end that are among so many from a place on.
-fn reached(share: usize, place: usize, count: usize) -> (usize, usize)
+fn reached(top: usize, place: usize, count: usize) -> (usize, usize)
     requires place { place < 2 ^ 30 }
     requires count { count < 2 ^ 63 }
-    requires share { share ≤ 1048576 }
+    requires top { top ≤ 1048576 }
     ensures order { result.0 ≤ result.1 }
-    ensures inside { result.1 ≤ share }
-    ensures each { (k : ℕ) → k < share → IsReached place count k → (result.0 ≤ k) × (k < result.1) }
+    ensures inside { result.1 ≤ top }
+    ensures each { (k : ℕ) → k < top → IsReached place count k → (result.0 ≤ k) × (k < result.1) }
 {
     if place + count <= WORDS {
-        (place.min(share), (place + count).min(share))
-    } else if place < share {
-        (0, share)
+        (place.min(top), (place + count).min(top))
+    } else if place < top {
+        (0, top)
     } else {
-        (0, (place + count - WORDS).min(share))
+        (0, (place + count - WORDS).min(top))
     }
 }
 
 /// Empties the rows of the words that an access of a size at a place writes.
 #[inline(always)]
-pub(crate) fn empty_stored(rows: &mut [Row], base: usize, share: usize, place: usize, size: Size)
-    requires share { base + share ≤ length rows.old }
+pub(crate) fn empty_stored(rows: &mut [Row], base: usize, top: usize, place: usize, size: Size)
+    requires top { base + top ≤ length rows.old }
     requires few { length rows.old ≡ 1048576 }
     requires place { place < 2 ^ 30 }
-    ensures { AreReached base share place (words_written size) rows.old rows.new }
+    ensures { AreReached base top place (words_written size) rows.old rows.new }
 {
     match size {
-        Size::One => empty_words(rows, base, share, place, 1),
-        Size::Two => empty_words(rows, base, share, place, 1),
-        Size::Four => empty_words(rows, base, share, place, 1),
-        Size::Eight => empty_words(rows, base, share, place, 2),
+        Size::One => empty_words(rows, base, top, place, 1),
+        Size::Two => empty_words(rows, base, top, place, 1),
+        Size::Four => empty_words(rows, base, top, place, 1),
+        Size::Eight => empty_words(rows, base, top, place, 2),
     }
 }

@@ -29,6 +29,8 @@ pub struct Kept {
     parts: Vec<PartRows>,
     // So many words of each partition have rows.
     share: usize,
+    // So many of them have had a row made, in any partition: the rows behind are empty.
+    top: usize,
     // Where those of the selected partition are.
     own: PartRows,
 }
@@ -45,7 +47,7 @@ impl Model for Kept {
 
     ghost view = { λ kept. kept.ram };
 
-    ghost invariant = { λ kept. AreKept kept.ram kept.rows.items kept.parts.items kept.share kept.own };
+    ghost invariant = { λ kept. AreKept kept.ram kept.rows.items kept.parts.items kept.share kept.top kept.own };
 }
 
 impl Kept {
@@ -66,6 +68,7 @@ impl Kept {
             rows,
             parts,
             share,
+            top: 0,
             own,
         })
     }
@@ -117,7 +120,7 @@ impl Kept {
         let place = word_behind(part.first, address);
         // The bytes begin and end within words.
         let count = from.len() / 4 + 2;
-        empty_words(&mut self.rows, part.words.begin, self.share, place, count);
+        empty_words(&mut self.rows, part.words.begin, self.top, place, count);
         let copied = self.ram.copy_out(p, address, from);
         let _now = self.ram.selected();
         copied
@@ -147,7 +150,7 @@ impl Kept {
         ensures others { SameElsewhere p self.old self.new }
     {
         let base = self.parts[usize::from(p)].words.begin;
-        empty_words(&mut self.rows, base, self.share, 0, self.share);
+        empty_words(&mut self.rows, base, self.top, 0, self.top);
         self.ram.reload(p, image);
         let _now = self.ram.selected();
     }
@@ -162,6 +165,7 @@ impl Kept {
             let place = (behind >> 2) as usize;
             if behind % 4 == 0 && place < self.share {
                 put_row(&mut self.rows, self.own.words.begin + place, row_for(word));
+                self.top = self.top.max(place + 1);
             }
         }
     }
@@ -192,7 +196,7 @@ impl Bus for Kept {
     fn store(&mut self, address: u32, size: Size, value: u64) -> Result<(), BusFault> {
         let place = word_behind(self.own.first, address);
         let base = self.own.words.begin;
-        empty_stored(&mut self.rows, base, self.share, place, size);
+        empty_stored(&mut self.rows, base, self.top, place, size);
         let stored = self.ram.store(address, size, value);
         let _now = self.ram.selected();
         stored
@@ -218,7 +222,7 @@ impl HasWords for Kept {
     fn put_words(&mut self, address: u32, words: &[u32; 16]) -> bool {
         let place = word_behind(self.own.first, address);
         let base = self.own.words.begin;
-        empty_words(&mut self.rows, base, self.share, place, 16);
+        empty_words(&mut self.rows, base, self.top, place, 16);
         let done = self.ram.put_words(address, words);
         let _now = self.ram.selected();
         done

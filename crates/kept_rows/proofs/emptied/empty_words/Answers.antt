@@ -9,5 +9,5 @@ returns-then-place-count c =
       begin = c.args.place;
       end = c.args.place + c.args.count;
       done = subst (λ (n : ℕ). AreEmptied (c.args.base + c.args.place) n c.args.rows.now c.empty_rows.new.rows) end c.empty_rows.ensures;
-      each = λ k below hit. ⊎_elim (λ here. here) (λ on. absurd (omega (arith, on, c.if-place-count.true, c.requires.share, c.requires.few))) hit;
+      each = λ k below hit. ⊎_elim (λ here. here) (λ on. absurd (omega (arith, on, c.if-place-count.true, c.requires.top, c.requires.few))) hit;
     }
