@@ -28,11 +28,11 @@ own_rows old rows parts share top own is =
     subst (λ (b : ℕ). AreKeptRows rows b share (areas_at old.selected old) (map_at old.selected old) own.first) (sym is.at_hand.begin)
     (subst (λ (f : ℕ). AreKeptRows rows (old.selected * share) share (areas_at old.selected old) (map_at old.selected old) f) (sym is.at_hand.first) (is.each old.selected is.are.selected))
 
--- and those behind the first ones are empty
+-- and those from the top on are empty
 own_free : (old : Memories) (rows : List Row) (parts : List PartRows) (share top : ℕ) (own : PartRows) → AreKept old rows parts share top own → AreUnmade rows own.words.begin top share
 own_free old rows parts share top own is = subst (λ (b : ℕ). AreUnmade rows b top share) (sym is.at_hand.begin) (is.free old.selected is.are.selected)
 
--- the first ones end within all rows
+-- the top lies within all rows
 pub top_fits : (old : Memories) (rows : List Row) (parts : List PartRows) (share top : ℕ) (own : PartRows) → AreKept old rows parts share top own → own.words.begin + top ≤ 1048576
 top_fits old rows parts share top own is = omega (arith, is.high, selected_fits old rows parts share top own is)
 

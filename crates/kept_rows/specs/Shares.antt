@@ -77,7 +77,7 @@ words_written Two = 1
 words_written Four = 1
 words_written Eight = 2
 
--- rows of which those are emptied that so many words from a place on have among the first ones of a share
+-- rows of which those are emptied that so many words from a place on have below the top, among the first ones of a share
 pub record AreReached (base top place count : ℕ) (old new : List Row) : Type 0 where
   pub begin : ℕ
   pub end : ℕ
@@ -107,11 +107,11 @@ pub record LieNumbered (areas : List Area) (others : Others) (words : Words) : T
   pub under : words.end ≤ base_of others + share_of others
   pub address : AreNumbered (first_address areas) words
 
--- the rows of a share behind so many first ones are empty
+-- the rows of a share from its top on are empty
 abbrev pub AreUnmade : List Row → ℕ → ℕ → ℕ → Type 0
 AreUnmade rows base top share = (k : ℕ) (row : Row) → top ≤ k → k < share → slice_get rows (base + k) ≡ Some row → row.kind ≡ unmade
 
--- each row is empty or that of its word, those behind the first ones of each share are empty, and the share of the selected
+-- each row is empty or that of its word, those of each share from the top on are empty, and the share of the selected
 -- partition is at hand
 pub record AreKept (memories : Memories) (rows : List Row) (parts : List PartRows) (share top : ℕ) (own : PartRows) : Type 0 where
   pub are : AreMemories memories

@@ -32,7 +32,7 @@ fn empty_rows(rows: &mut [Row], begin: usize, count: usize)
     }
 }
 
-/// Empties those rows that so many words from a place on have among the first ones of a share, as many as are named.
+/// Empties those rows that so many words from a place on have among the first ones of a share, up to a top.
 #[inline(always)]
 pub(crate) fn empty_words(rows: &mut [Row], base: usize, top: usize, place: usize, count: usize)
     requires top { base + top ≤ length rows.old }
@@ -50,7 +50,7 @@ pub(crate) fn empty_words(rows: &mut [Row], base: usize, top: usize, place: usiz
     }
 }
 
-// The same where not all of the words have rows of the share.
+// The same where not all of the words have rows below the top.
 #[cold]
 #[inline(never)]
 fn empty_part(rows: &mut [Row], base: usize, top: usize, place: usize, count: usize)
@@ -64,7 +64,7 @@ fn empty_part(rows: &mut [Row], base: usize, top: usize, place: usize, count: us
     empty_rows(rows, base + begin, end - begin);
 }
 
-// Where the words of a share begin and end that are among so many from a place on.
+// Where the words of a share begin and end that are below the top and among so many from a place on.
 fn reached(top: usize, place: usize, count: usize) -> (usize, usize)
     requires place { place < 2 ^ 30 }
     requires count { count < 2 ^ 63 }
