@@ -1,11 +1,9 @@
-//! Words that lie one after the other, for a processor that fetches many of them.
+//! Words that lie one after the other: by their places, and sixteen of them as one.
 
-ghost use Rattle.std.specs.Prelude.{◌≡◌, ◌<◌, ◌≤◌, IfSome, List, Ok, false};
+ghost use Rattle.std.specs.Prelude.{◌≡◌, IfSome, false};
 ghost use Rattle.std.specs.Bool.{OnTrue};
-ghost use Rattle.guest_bus.specs.Access.{fetched};
-ghost use Rattle.guest_bus.specs.Memory.{Area, Others, is_readable, is_writable, with_bytes};
-ghost use Rattle.guest_bus.specs.Words.{AreWords, MayStand, bytes_of, swapped, word_address, words_at};
-ghost use Rattle.guest_bus.specs.declared.words.Words.{Words as Placed};
+ghost use Rattle.guest_bus.specs.Memory.{is_readable, is_writable, with_bytes};
+ghost use Rattle.guest_bus.specs.Words.{MayStand, bytes_of, words_at};
 
 use crate::bus::Bus;
 
@@ -18,24 +16,8 @@ pub struct Words {
     pub origin: u32,
 }
 
-/// A memory whose words can be read by their places, without a look at its areas, and of which sixteen are written or read as
-/// one.
+/// A memory of which sixteen words are written or read as one.
 pub trait HasWords: Bus {
-    /// The words lie in an area. This is known by what no call changes.
-    ghost lie: { List Area → Others → Placed → Type 0 };
-
-    /// The words of the area that has the address, where they can be read so.
-    fn words(&self, address: u32) -> Option<Words>
-        ensures lie { IfSome result (lie (Self.areas self.now) (Self.others self.now)) }
-        ensures words { IfSome result AreWords };
-
-    /// The word at a place of them, its lowest byte first.
-    fn word(&self, words: Words, place: usize) -> u32
-        requires lie { lie (Self.areas self.now) (Self.others self.now) words }
-        requires from { words.begin ≤ place }
-        requires under { place < words.end }
-        ensures { fetched (Self.areas self.now) (Self.memory self.now) (word_address words.origin place) ≡ Ok (swapped result) };
-
     /// Writes sixteen words from an address on, the highest byte of each first, where all of them may be written and no
     /// search is needed for their area. The answer is whether it did.
     fn put_words(&mut self, address: u32, words: &[u32; 16]) -> bool

@@ -9,5 +9,4 @@ pub mod RangeLemmas
 pub mod SegmentLemmas
 pub mod TableLemmas
 pub mod TestLemmas
-pub mod WordLemmas
 pub mod ZeroLemmas

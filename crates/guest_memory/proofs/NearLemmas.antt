@@ -12,7 +12,7 @@ use Rattle.guest_bus.specs.declared.bus.Size.{Size}
 use Rattle.guest_bus.specs.declared.bus.Size.TheVariants.{Four}
 use Rattle.guest_memory.specs.Flat.{Accesses, StandsInArea, IsPartOf, SameAround, StandsInEntry, Table, area_in, areas_of_tables, listed, memory_in, memory_of_part, bytes_of_part}
 use Rattle.guest_memory.specs.Memories.{ArePlaced, IsPlaced, areas_size}
-use Rattle.guest_memory.specs.Near.{AreNear, AreSpots, AreWithin, FitsIn, IsSpotOf, IsNear, IsStored, area_there, near_of, spot_of}
+use Rattle.guest_memory.specs.Near.{AreNear, AreReady, AreSpots, AreWithin, FitsIn, IsSpotOf, IsNear, IsStored, area_there, near_of, spot_of}
 use Rattle.guest_memory.specs.declared.entry.Entry.{Entry}
 use Rattle.guest_memory.specs.declared.entry.Place.{Place}
 use Rattle.guest_memory.specs.declared.near.Found.{Found}
@@ -21,7 +21,7 @@ use Rattle.guest_memory.specs.declared.near.Spot.{Spot}
 use Rattle.guest_memory.proofs.AccessLemmas.{accesses_found, aligned_fits, bytes_within, fetched_in, follow_at, loaded_in, store_free, value_written}
 use Rattle.guest_memory.proofs.AreaLemmas.{listed_at, placed_at}
 use Rattle.guest_memory.proofs.FlatLemmas.{drop-put_behind, ends_within, take-put_in}
-use Rattle.guest_memory.proofs.MemoriesLemmas.{part_of_part}
+use Rattle.guest_memory.proofs.MemoriesLemmas.{part_at, part_of_part}
 
 -- how many bytes a partition has among all
 part_sized : (table : Table) (whole : List ℕ) → IsPartOf table whole → table.size ≡ areas_size (listed table.entries)
@@ -105,16 +105,8 @@ pub access_within : (table : Table) (whole : List ℕ) (place : Place) (address 
 access_within table whole place address count part stands =
     omega (arith, bytes_within table.entries (bytes_of_part table whole) place address count part.space stands, length-take-le table.size (drop table.place whole) (omega (arith, length-drop table.place whole, part.within)))
 
--- an area of the partition has the address
-pub entry_inside : (table : Table) (k address byte : ℕ) (entry : Entry) → slice_get table.entries k ≡ Some entry → entry.start ≤ address → address < entry.start + entry.size
-    → byte ≡ table.place + (entry.place + (address - entry.start)) → Inside table address (record { byte = byte; read_only = entry.read_only })
-entry_inside table k address byte entry is from under here =
-    let place : Place = record { area = k; byte = entry.place + (address - entry.start); room = entry.start + entry.size - address; read_only = entry.read_only } in
-    let stands : StandsInEntry address 1 place entry = record { from = from; fits = omega (arith, under); byte = omega (arith, from); room = omega (arith, under); read_only = refl } in
-    record { place = place; byte = here; at = rw is stands; only = refl }
-
 -- the word at an address
-pub inside_fetched : (table : Table) (whole : List ℕ) (found : Found) (address word : ℕ) → IsPartOf table whole → Inside table address found → address % 4 ≡ 0
+inside_fetched : (table : Table) (whole : List ℕ) (found : Found) (address word : ℕ) → IsPartOf table whole → Inside table address found → address % 4 ≡ 0
     → word ≡ from_be_bytes w32 (take 4 (drop found.byte whole)) → Ok word ≡ fetched (listed table.entries) (memory_of_part table whole) address
 inside_fetched table whole found address word part inside aligned value =
     let access = accesses_found table.entries inside.place address Four part.space.placed inside.at aligned in
@@ -197,3 +189,10 @@ near_selected tables p table near below here is = λ other other_is. is ∙ ap n
 -- as many tables as partitions
 pub parts_counted : (tables : List Table) (p : ℕ) → p < length (areas_of_tables tables) → p < length tables
 parts_counted tables p below = omega (arith, below, length-map tables (λ (t : Table). listed t.entries))
+
+-- where a partition is selected, its areas that are looked at first lie among all bytes
+pub ready_within : (tables : List Table) (bytes : List ℕ) (p : ℕ) (near : Near) → AreReady tables bytes p near → AreWithin near bytes
+ready_within tables bytes p near ready =
+    let own = there tables p (parts_counted tables p ready.kept.memories.selected) in
+    let part = part_at tables bytes p p own.table ready.kept ready.kept.memories.selected own.is in
+    near_within own.table near bytes (ready.near own.table own.is) part.is ready.kept.few

@@ -5,4 +5,3 @@ pub mod Memories
 pub mod Near
 pub mod SelectedLemmas
 pub mod RefusedLemmas
-pub mod Words

@@ -1,11 +1,10 @@
 -- The areas of one partition that are looked at first.
-use Rattle.std.specs.Prelude.{◌≡◌, ℕ, ◌+◌, ◌*◌, ◌/◌, ◌%◌, ◌<◌, ◌≤◌, ◌^◌, ◌⊎◌, false, List, Option, None, Some, length, slice_get, slice_index_or}
+use Rattle.std.specs.Prelude.{◌≡◌, ℕ, ◌+◌, ◌<◌, ◌≤◌, ◌^◌, ◌⊎◌, false, List, Option, None, Some, length, slice_get, slice_index_or}
 use Rattle.std.specs.Int.{byte_len}
 use Rattle.guest_bus.specs.Access.{after_store, store_fault}
 use Rattle.guest_bus.specs.Memory.{Area, is_readable, is_writable, with_bytes}
 use Rattle.guest_bus.specs.Words.{MayStand, bytes_of, words_at}
 use Rattle.guest_bus.specs.declared.bus.Size.{Size}
-use Rattle.guest_bus.specs.declared.words.Words.{Words}
 use Rattle.guest_memory.specs.Flat.{AllBytes, AreFlat, SameAround, Table, listed, memory_of_part}
 use Rattle.guest_memory.specs.Memories.{IsPlaced}
 use Rattle.guest_memory.specs.declared.entry.Entry.{Entry}
@@ -96,17 +95,3 @@ AreNear near tables selected = (table : Table) → table ≡ slice_index_or tabl
 pub record AreReady (tables : List Table) (bytes : List ℕ) (selected : ℕ) (ready : Near) : Type 0 where
   pub kept : AreFlat tables bytes selected
   pub near : AreNear ready tables selected
-
--- the words of an area, by their places among those of all
-pub record AreWordsIn (spot : Spot) (words : Words) : Type 0 where
-  pub begin : words.begin ≡ spot.place / 4
-  pub end : words.end ≡ spot.place / 4 + spot.size / 4
-  pub origin : (words.origin + 4 * words.begin) % 2 ^ 32 ≡ spot.start % 2 ^ 32
-
--- they are those of an area that is there
-abbrev pub AreWordsOf : Words → Spot → Type 0
-AreWordsOf words spot = (0 < spot.size) × AreWordsIn spot words
-
--- of one of the two
-abbrev pub AreNearWords : Words → Near → Type 0
-AreNearWords words near = AreWordsOf words near.first ⊎ AreWordsOf words near.second

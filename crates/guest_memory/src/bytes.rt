@@ -4,7 +4,7 @@ ghost use Rattle.std.specs.Prelude.{◌≡◌, ℕ, ◌+◌, ◌*◌, ◌<◌, �
 ghost use Rattle.std.specs.Int.{byte_len, from_be_bytes, to_be_bytes, w16, w32, w64};
 ghost use borrow.Rule.Slice.PartMut.{put_mid};
 ghost use Rattle.guest_bus.specs.Access.{width_of};
-ghost use Rattle.guest_bus.specs.Words.{bytes_of, swapped};
+ghost use Rattle.guest_bus.specs.Words.{bytes_of};
 ghost use Rattle.guest_memory.specs.Flat.{AllBytes};
 
 use guest_bus::Size;
@@ -58,18 +58,6 @@ pub(crate) fn word(bytes: &[u8], at: usize) -> u32
         unreachable!();
     };
     u32::from_be_bytes(word)
-}
-
-/// The number of four bytes at a place, the lowest first.
-#[tactic(auto, unfolding(guest_bus::specs::Words::swapped))]
-pub(crate) fn raw(bytes: &[u8], at: usize) -> u32
-    requires { at + 4 ≤ length bytes.now }
-    ensures { swapped result ≡ from_be_bytes w32 (take 4 (drop at bytes.now)) }
-{
-    let Ok(word) = <[u8; 4]>::try_from(&bytes[at..at + 4]) else {
-        unreachable!();
-    };
-    u32::from_le_bytes(word)
 }
 
 /// The big endian number of eight bytes at a place.

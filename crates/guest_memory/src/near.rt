@@ -1,15 +1,15 @@
 //! The areas of one partition that are looked at first.
 
-ghost use Rattle.std.specs.Prelude.{◌≡◌, ◌+◌, ◌%◌, ◌<◌, ◌≤◌, ◌^◌, true, false, IfSome, Ok, length, slice_get};
+ghost use Rattle.std.specs.Prelude.{◌≡◌, ◌+◌, ◌<◌, ◌≤◌, ◌^◌, true, false, IfSome, Ok, length, slice_get};
 ghost use Rattle.std.specs.Bool.{OnTrue};
 ghost use Rattle.std.specs.Int.{byte_len};
 ghost use Rattle.guest_bus.specs.Access.{fetched, loaded, width_of};
 ghost use Rattle.guest_memory.specs.Flat.{AllBytes, IsPartOf, Table as Placed, listed, memory_of_part};
-ghost use Rattle.guest_memory.specs.Near.{AreNearWords, AreRead, AreSpots, AreWithin, AreWordsOf, AreWritten, HasPart, IsSpot, IsSpotOf, IsNear, IsNearPart, IsStored, near_in, near_of, spot_of};
+ghost use Rattle.guest_memory.specs.Near.{AreRead, AreSpots, AreWithin, AreWritten, HasPart, IsSpot, IsSpotOf, IsNear, IsNearPart, IsStored, near_in, near_of, spot_of};
 
 use crate::bytes::{get_words, put_value, put_words, value_at, word};
 use crate::entry::Entry;
-use guest_bus::{Size, Words};
+use guest_bus::Size;
 
 /// An area, and how many bytes of all lie before its own. One that is not there has no address.
 #[derive(Clone, Copy, Debug)]
@@ -101,23 +101,6 @@ impl Spot {
             None
         }
     }
-
-    // Its words, by their places among those of all, where it has an address.
-    #[inline(always)]
-    fn words(&self, address: u32) -> Option<Words>
-        requires { IsSpot self.now }
-        ensures { IfSome result (λ words. AreWordsOf words self.now) }
-    {
-        if !self.has(address) {
-            return None;
-        }
-        let begin = self.place >> 2;
-        Some(Words {
-            begin,
-            end: begin + (self.size >> 2) as usize,
-            origin: self.start.wrapping_sub(4 * ((begin % 0x4000_0000) as u32)),
-        })
-    }
 }
 
 impl Near {
@@ -143,18 +126,6 @@ impl Near {
             Some(self.second.found(address))
         } else {
             None
-        }
-    }
-
-    /// The words of the area that has an address, where it is one of the two.
-    #[inline(always)]
-    pub(crate) fn words(&self, address: u32) -> Option<Words>
-        requires { AreSpots self.now }
-        ensures { IfSome result (λ words. AreNearWords words self.now) }
-    {
-        match self.first.words(address) {
-            Some(words) => Some(words),
-            None => self.second.words(address),
         }
     }
 

@@ -7,12 +7,11 @@ ghost use Rattle.guest_bus.specs.Memory.{all_from, bytes_at, is_readable, is_wri
 ghost use Rattle.guest_memory.specs.Loading.{LiesInAreas, memory_areas, areas_with_image, zeros_in};
 ghost use Rattle.guest_memory.specs.Flat.{AreTables, Follow, IsMemoryTable, areas_of_tables, listed, memory_in};
 ghost use Rattle.guest_memory.specs.Memories.{AreMemories, ArePlaced, HasAreas, HasBytes, SameElsewhere, answer_by, areas_at, first_refused, map_at, others_of, place_at, areas_size, whole_size, with_map, with_selected};
-ghost use Rattle.guest_memory.specs.Words.{LieIn};
 ghost use Rattle.xm_conf.specs.Fits.{HasSome};
 ghost use Rattle.xm_conf.specs.Limits.{most_parts};
 
 use crate::access::Access;
-use crate::bytes::{part, raw};
+use crate::bytes::part;
 use crate::entry::Entry;
 use crate::find::place_in;
 use crate::near::Near;
@@ -20,7 +19,7 @@ use crate::outside::Outside;
 use crate::range::refused;
 use crate::table::Table;
 use crate::{parts, space};
-use guest_bus::{Bus, BusFault, HasWords, Size, Words};
+use guest_bus::{Bus, BusFault, HasWords, Size};
 use std::alloc::Global;
 use std::marker::Model;
 use xef_images::Xef;
@@ -264,18 +263,6 @@ impl Bus for Ram {
 }
 
 impl HasWords for Ram {
-    ghost lie = { LieIn };
-
-    #[inline(always)]
-    fn words(&self, address: u32) -> Option<Words> {
-        self.near.words(address)
-    }
-
-    #[inline(always)]
-    fn word(&self, words: Words, place: usize) -> u32 {
-        raw(&self.bytes, 4 * place)
-    }
-
     #[inline(always)]
     fn put_words(&mut self, address: u32, words: &[u32; 16]) -> bool {
         self.near.put_words(&mut self.bytes, address, words)

@@ -204,20 +204,6 @@ impl Bus for Kept {
 }
 
 impl HasWords for Kept {
-    ghost use Rattle.guest_memory.specs.Words.{LieIn};
-
-    ghost lie = { LieIn };
-
-    #[inline(always)]
-    fn words(&self, address: u32) -> Option<Words> {
-        self.ram.words(address)
-    }
-
-    #[inline(always)]
-    fn word(&self, words: Words, place: usize) -> u32 {
-        self.ram.word(words, place)
-    }
-
     #[inline(always)]
     fn put_words(&mut self, address: u32, words: &[u32; 16]) -> bool {
         let place = word_behind(self.own.first, address);

@@ -1,7 +1,6 @@
 use Rattle.guest_memory.proofs.MemoriesLemmas.{part_at}
-use Rattle.guest_memory.proofs.NearLemmas.{parts_counted, there}
+use Rattle.guest_memory.proofs.NearLemmas.{parts_counted, ready_within, there}
 use Rattle.guest_memory.proofs.SixteenLemmas.{read_on}
-use Rattle.guest_memory.proofs.WordLemmas.{ready_within}
 use Rattle.guest_memory.proofs.ram.RamHasWords.get_words.Goals as goal
 
 pub get_words-requires : goal.get_words-requires

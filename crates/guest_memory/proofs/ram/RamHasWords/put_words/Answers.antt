@@ -1,9 +1,8 @@
 use Rattle.std.proofs.Common.{◌≡◌, ◌++◌, length, take, drop, refl, arith}
 use Rattle.std.proofs.lemmas.Grind.{common_steps}
 use Rattle.guest_memory.proofs.MemoriesLemmas.{kept_on, part_at}
-use Rattle.guest_memory.proofs.NearLemmas.{parts_counted, there}
+use Rattle.guest_memory.proofs.NearLemmas.{parts_counted, ready_within, there}
 use Rattle.guest_memory.proofs.SixteenLemmas.{on_true, put_on}
-use Rattle.guest_memory.proofs.WordLemmas.{ready_within}
 use Rattle.guest_memory.proofs.ram.RamHasWords.put_words.Goals as goal
 
 pub put_words-requires : goal.put_words-requires
