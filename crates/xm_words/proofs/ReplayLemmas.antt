@@ -1,8 +1,8 @@
 -- What is to be typed for the further files of a replay.
-use Rattle.std.proofs.Common.{◌≡◌, ℕ, Bool, true, false, ◌&&◌, if◌then◌else◌, List, [], ◌∷◌, codes, Option, Some, None, refl, subst}
+use Rattle.std.proofs.Common.{◌≡◌, ℕ, Bool, true, false, ◌&&◌, if◌then◌else◌, List, [], ◌∷◌, codes, Some, None, refl, subst}
 use Rattle.std.specs.Str.{bytes_eq}
 use Rattle.std.proofs.lemmas.Bool.{and_parts}
-use Rattle.xm_words.specs.Grammar.{AreFurther, IsFileName, further_words}
+use Rattle.xm_words.specs.Grammar.{AreFurther, further_words}
 use Rattle.xm_words.specs.Words.{ReplayFiles, Neither, InputAlone, CoreAlone, InputThenCore, CoreThenInput, asked, both_files, is_file, one_file, replay_files}
 use Rattle.xm_words.proofs.WordLemmas.{file_is, is_of_file, named}
 

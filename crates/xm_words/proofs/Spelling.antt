@@ -2,8 +2,8 @@
 use Rattle.std.proofs.Common.{◌≡◌, ℕ, Bool, true, false, ◌&&◌, if◌then◌else◌, subst, List, [], ◌∷◌, codes, decimal, Option, Some, None, arith, refl, ap, ◌∙◌, ◌⊎◌, ⊎_elim, inl, inr}
 use Rattle.std.specs.Str.{bytes_eq}
 use Rattle.std.proofs.lemmas.Bool.{and_parts}
-use Rattle.xm_words.specs.Grammar.{AreFurther, CommandsAreSpelled, IsFileName, IsRight, further_words, words_of}
-use Rattle.xm_words.specs.Words.{Command, PartFile, ReplayFiles, RunOption, Bare, Parse, Upgrade, BuildImage, ReadImage, Pack, ListContainer, CheckContainer, MakePlan, CheckPlan, TellGroups, Generate, Run, Replay, Neither, InputAlone, CoreAlone, InputThenCore, CoreThenInput, are_part_files, are_run_options, asked, bare_of, by_verb, command_by_count, command_of, command_of_more, command_of_one, command_of_three, command_of_two, format_command, generate_for, is_file, of_file, of_files, pack_command, part_files, part_number, plan_command, replay_by, replay_files, replay_command, run_of, run_options, seed_of, ticks_of}
+use Rattle.xm_words.specs.Grammar.{CommandsAreSpelled, IsFileName, IsRight, words_of}
+use Rattle.xm_words.specs.Words.{Command, PartFile, ReplayFiles, RunOption, Bare, Parse, Upgrade, BuildImage, ReadImage, Pack, ListContainer, CheckContainer, MakePlan, CheckPlan, TellGroups, Generate, Run, Replay, are_part_files, are_run_options, asked, bare_of, by_verb, command_by_count, command_of, command_of_more, command_of_one, command_of_three, command_of_two, format_command, generate_for, is_file, of_file, of_files, pack_command, part_files, part_number, plan_command, replay_by, replay_files, replay_command, run_of, run_options, seed_of, ticks_of}
 use Rattle.xm_words.proofs.OptionLemmas.{reads_run_options, run_options_typed}
 use Rattle.xm_words.proofs.PartFileLemmas.{files_named, files_typed_right}
 use Rattle.xm_words.proofs.ReplayLemmas.{further_typed, reads_further}
