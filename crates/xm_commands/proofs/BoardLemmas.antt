@@ -2,7 +2,6 @@
 use Rattle.std.proofs.Common.{◌≡◌, ℕ, List, Option, Some, None, Result, Ok, Err, refl, sym, subst}
 use Rattle.std.specs.Prelude.{IsSome}
 use Rattle.uart_board.specs.Views.{BoardView}
-use Rattle.xm_report.specs.declared.output.WriteFault.{WriteFault}
 use Rattle.xm_outside.specs.Files.{Files}
 use Rattle.xm_words.specs.Words.{Command, PartFile, Parse, Upgrade, BuildImage, ReadImage, Pack, ListContainer, CheckContainer, MakePlan, CheckPlan, TellGroups, Generate}
 use Rattle.run_commands.specs.Boards.{IsLeft, LeavesBoard}

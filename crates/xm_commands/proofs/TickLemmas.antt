@@ -1,6 +1,5 @@
 -- How long the program's command may run.
 use Rattle.std.proofs.Common.{◌≡◌, ℕ, List, Some, sym}
-use Rattle.machine_model.specs.Machine.{run}
 use Rattle.xm_words.specs.Words.{Bare, Run, command_of}
 use Rattle.xm_words.specs.RunLemmas.{span_within}
 use Rattle.xm_words.specs.Grammar.{CommandsAreSpelled}
