@@ -1,5 +1,5 @@
 -- The last of many ticks in which nothing is told.
-use Rattle.std.proofs.Common.{◌≡◌, ℕ, zero, suc, ◌+◌, ◌<◌, inl, inr, Bool, true, false, [], None, Some, refl, sym, ap, subst, ◌∙◌, arith}
+use Rattle.std.proofs.Common.{◌≡◌, ℕ, zero, suc, ◌+◌, inl, inr, Bool, true, false, [], None, Some, refl, sym, ap, ◌∙◌, arith}
 use Rattle.std.specs.Prelude.{is_some}
 use Rattle.sparc_step.specs.Execution.{Turned}
 use Rattle.sparc_step.specs.declared.outcome.Turn.TheVariants.{Went}
@@ -15,9 +15,8 @@ use Rattle.machine_model.specs.View.{view_of}
 use Rattle.slot_runs.specs.Calm.{GoneCalm, IdleCalm, IsCalm, RestingCalm, turn_after}
 use Rattle.slot_runs.specs.Meeting.{HasGone, first_after, timers_looked_at}
 use Rattle.slot_runs.specs.SpanLaws.{IsNobodys, going_parts, its_areas, its_state, met}
-use Rattle.slot_runs.specs.Spans.{IsSlotOf, IsSpan, IsUnderway, inside}
+use Rattle.slot_runs.specs.Spans.{IsUnderway, inside}
 use Rattle.virt_traps.specs.Stepping.{stepped}
-use Rattle.slot_runs.specs.Undisturbed.{IsUndisturbed, NoneFallsDue}
 use Rattle.slot_runs.proofs.DueLemmas.{none_due_earlier}
 use Rattle.slot_runs.proofs.GoingLemmas.{going, its_place, local_goes}
 use Rattle.slot_runs.proofs.IdleLemmas.{idle_looks, idle_parts, idle_place, idle_state, idle_still, idle_turn, idles_inside, idling, local_idle}

@@ -10,7 +10,7 @@ use Rattle.machine_model.specs.Machine.{Machine, booted_part, clock_after}
 use Rattle.machine_model.specs.Partition.{PartitionState, ordered, ordered_told, reset, rested, resets_after}
 use Rattle.machine_model.specs.Told.{Act, AllHalted, AllReset, Directed, NoEvent, WholeEvent, line_of, reach_of}
 use Rattle.machine_model.specs.Traffic.{Puts, Signals, Still, Takes, Traffic, after_traffic, heard_as, hearing, told_as, traffic_of}
-use Rattle.machine_model.specs.View.{named, view_of}
+use Rattle.machine_model.specs.View.{view_of}
 use Rattle.machine_model.specs.Whole.{event_lines, event_of, ticks_after, time_after, whole_lines}
 
 -- the state of a partition; where there is none, one that boots
