@@ -67,14 +67,15 @@ fn first_after(done: u64, first: bool) -> bool
     if done == 0 { first } else { false }
 }
 
-// The place so many ticks later, in the same slot or gap, whose first tick it then is not.
+// The place so many ticks later, in the same slot or gap, whose first tick it then is not. That of a gap is handed on as it is: a `None`
+// made anew costs host instructions.
 fn later(place: Place, ticks: u64) -> Place
     requires { ticks ≤ place.left }
     ensures { result ≡ place_after ticks place }
 {
     let slot = match place.slot {
         Some(slot) => Some(past(slot)),
-        None => None,
+        None => place.slot,
     };
     Place {
         slot,
