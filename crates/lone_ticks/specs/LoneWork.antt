@@ -133,7 +133,7 @@ abbrev pub most_lines : ℕ
 most_lines = 24
 
 -- a tick of partition p without the others that was done: what it leaves of the partition, the lines that it adds, but for that of bytes for
--- the console, and what its call told
+-- the console, and the note that tells those bytes
 pub record IsLoneTicked (p : ℕ) (cue : Cue) (note : Note) (old new : Machine) (got : List ReportLine) : Type 0 where
   pub lone : IsLone p cue old new
   pub lines : alone_step_lines (view_of old.system p) (part_in old p) cue ≡ map (line_of old.ticks p) (console_told note (memory_of p new)) ++ got

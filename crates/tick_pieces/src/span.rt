@@ -6,7 +6,7 @@ use crate::beyond::Beyond;
 use whole_system::Note;
 use xm_base::PartId;
 
-/// Ticks of one slot or gap that were done, of which only the last may have lines.
+/// Ticks that were done, of which only the last may have lines.
 #[derive(Clone, Copy, Debug)]
 pub struct Span {
     /// How many there were, with the last: at least one, once they were done.
