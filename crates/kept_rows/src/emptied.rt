@@ -41,10 +41,12 @@ pub(crate) fn empty_words(rows: &mut [Row], base: usize, top: usize, place: usiz
     requires count { count < 2 ^ 63 }
     ensures { AreReached base top place count rows.old rows.new }
 {
-    if place + count <= top {
-        empty_rows(rows, base + place, count);
-    } else if place < top {
-        empty_part(rows, base, top, place, count);
+    if place < top {
+        if place + count <= top {
+            empty_rows(rows, base + place, count);
+        } else {
+            empty_part(rows, base, top, place, count);
+        }
     } else if place + count > WORDS {
         empty_part(rows, base, top, place, count);
     }
