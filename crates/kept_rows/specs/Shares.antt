@@ -31,7 +31,7 @@ share_of others = share_for (length others.areas + 1)
 abbrev pub base_of : Others → ℕ
 base_of others = others.number * share_of others
 
--- so many words behind the first one stands the word of an address. The last word of all stands before the one at address 0
+-- so many words after the first one stands the word of an address. The last word of all stands before the one at address 0
 unfoldable pub word_behind : ℕ → ℕ → ℕ
 word_behind first address = (address + (2 ^ 32 - first)) % 2 ^ 32 / 4
 
@@ -66,7 +66,7 @@ pub record AreEmptied (begin end : ℕ) (old new : List Row) : Type 0 where
   pub counted : length new ≡ length old
   pub each : (number : ℕ) (row : Row) → slice_get new number ≡ Some row → ((slice_get old number ≡ Some row) × ((number < begin) ⊎ (end ≤ number))) ⊎ WasEmptied old number row
 
--- a word is one of so many from a place on. The first of all stands behind the last
+-- a word is one of so many from a place on. The first of all stands after the last
 abbrev pub IsReached : ℕ → ℕ → ℕ → Type 0
 IsReached place count k = ((place ≤ k) × (k < place + count)) ⊎ (k + 2 ^ 30 < place + count)
 

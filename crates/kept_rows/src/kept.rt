@@ -29,7 +29,7 @@ pub struct Kept {
     parts: Vec<PartRows>,
     // So many words of each partition have rows.
     share: usize,
-    // So many first rows of each partition may have been made: all rows behind are empty.
+    // So many first rows of each partition may have been made: all rows after them are empty.
     top: usize,
     // Where those of the selected partition are.
     own: PartRows,

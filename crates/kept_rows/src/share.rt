@@ -27,7 +27,7 @@ pub(crate) fn share_for(count: usize) -> usize
     ROWS / count
 }
 
-/// How many words behind the first one another stands, by its address.
+/// How many words after the first one another stands, by its address.
 #[inline(always)]
 #[tactic(auto, unfolding(crate::specs::Shares::word_behind))]
 pub(crate) fn word_behind(first: u32, address: u32) -> usize
@@ -47,7 +47,7 @@ pub(crate) fn numbered(first: u32, base: usize, share: usize) -> Words
     ensures under { result.end ≤ base + share }
     ensures address { AreNumbered first result }
 {
-    // None of them stands behind the last address.
+    // None of them stands after the last address.
     let count = share.min((u32::MAX - first) as usize / 4 + 1);
     // Four times a number and the origin are the address.
     Words {

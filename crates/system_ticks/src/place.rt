@@ -32,7 +32,7 @@ pub(crate) fn place_of(sys: &Sys, number: u8) -> Place
     place_among(sys, number, number.wrapping_add(1))
 }
 
-/// The place of a machine that was at this one so many ticks before: in the same slot or gap, or behind its end.
+/// The place of a machine that was at this one so many ticks before: in the same slot or gap, or after its end.
 #[inline(always)]
 pub(crate) fn place_on(sys: &Sys, place: Place, ticks: u64) -> Place
     requires machine { IsMachine sys.now }
@@ -42,7 +42,7 @@ pub(crate) fn place_on(sys: &Sys, place: Place, ticks: u64) -> Place
     if ticks < place.left {
         later(place, ticks)
     } else {
-        place_behind(sys, place.slot)
+        next_place(sys, place.slot)
     }
 }
 
@@ -94,9 +94,9 @@ fn past(slot: Here) -> Here
     }
 }
 
-// The place behind the end of a slot or gap. The slot of the next number is looked at first, then number 0, with which a frame begins.
+// The place after the end of a slot or gap. The slot of the next number is looked at first, then number 0, with which a frame begins.
 #[inline(always)]
-fn place_behind(sys: &Sys, slot: Option<Here>) -> Place
+fn next_place(sys: &Sys, slot: Option<Here>) -> Place
     requires { IsMachine sys.now }
     ensures { IsPlace result sys.now.machine }
 {
