@@ -9,7 +9,7 @@ use Rattle.machine_model.specs.LocalTick.{bounded, local_tick, seen_outside, wor
 use Rattle.machine_model.specs.Machine.{copies}
 use Rattle.machine_model.specs.Observed.{asks}
 use Rattle.machine_model.specs.Told as told
-use Rattle.machine_model.specs.Told.{Act, OwnTraffic, Sight, Unseen, WholeEvent}
+use Rattle.machine_model.specs.Told.{Act, OwnTraffic, Sight, WholeEvent}
 use Rattle.machine_model.specs.View.{PartitionView, view_of}
 use Rattle.machine_model.specs.Whole.{event_of}
 use Rattle.slot_runs.specs.Passes.{part_at}

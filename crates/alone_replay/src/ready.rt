@@ -1,7 +1,6 @@
 //! A replay is made ready: the container is unpacked, the script is read and tried, and the partition boots.
 
-ghost use Rattle.std.specs.Prelude.{◌≡◌, ◌<◌, ◌≤◌, ◌^◌, Err, IfOk, IfSome, None, Ok, List, ℕ, length};
-ghost use Rattle.cue_scripts.specs.Reading.{script_read};
+ghost use Rattle.std.specs.Prelude.{◌≡◌, ◌<◌, ◌^◌, Err, IfOk, IfSome, None, Ok, List, ℕ, length};
 ghost use Rattle.cue_scripts.specs.Script.{IsScript};
 ghost use Rattle.loaded_system.specs.System.{System as Loaded};
 ghost use Rattle.machine_model.specs.View.{view_of};

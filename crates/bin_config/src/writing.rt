@@ -8,7 +8,7 @@ ghost use Rattle.bin_config.specs.declared.version.Version.TheVariants.{Two};
 ghost use Rattle.bin_config.specs.Reading.{read_of};
 ghost use Rattle.bin_config.specs.Version.{FitsVersion};
 ghost use Rattle.xm_conf.specs.Fits.{HasCounts};
-ghost use Rattle.xm_conf.specs.Limits.{most_dests, most_links, most_parts};
+ghost use Rattle.xm_conf.specs.Limits.{most_dests};
 ghost use Rattle.xm_conf.specs.Name.{IsName};
 
 use crate::law::spelled_is_read;

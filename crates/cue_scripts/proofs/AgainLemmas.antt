@@ -1,6 +1,6 @@
 -- The parts of a cue that stand there are read.
-use Rattle.std.proofs.Common.{◌≡◌, ℕ, zero, suc, ◌^◌, ◌<◌, ◌≤◌, Bool, true, false, List, [], ◌∷◌, ◌++◌, length, Option, Some, None, Result, Ok, Err, refl, sym, ap, subst, ◌∙◌, append_assoc, arith}
-use Rattle.std.specs.Prelude.{nat_le, ◌&&◌, ◌==◌, not, is_some, if◌then◌else◌}
+use Rattle.std.proofs.Common.{◌≡◌, ℕ, ◌^◌, ◌<◌, Bool, true, false, List, ◌∷◌, ◌++◌, length, Option, Some, None, Result, Ok, refl, sym, ap, ◌∙◌, append_assoc, arith}
+use Rattle.std.specs.Prelude.{nat_le, is_some}
 use Rattle.std.specs.Int.{w8, w16, w32, to_be_bytes}
 use Rattle.xm_base.specs.Cursor.{Place, ahead}
 use Rattle.xm_base.specs.declared.partition.Mode.{Mode}
@@ -10,11 +10,11 @@ use Rattle.xm_base.specs.declared.partition.Order.TheVariants as upon
 use Rattle.xm_conf.specs.Configuration.{Conf}
 use Rattle.sealed_files.specs.FieldLemmas.{wide8, wide16, wide32, Reads, bytes_again, listed_again, number_again}
 use Rattle.sealed_files.specs.Steps.{◌>>=◌}
-use Rattle.machine_model.specs.Cue.{Away, Cue, Mine, CueSlot}
+use Rattle.machine_model.specs.Cue.{Away, Mine, CueSlot}
 use Rattle.machine_model.specs.Told.{AllHalted, AllReset, NoEvent, NotKept, OwnPuts, OwnSignals, OwnStill, OwnTakes, OwnTraffic, Sight, Unseen, WholeEvent, Words}
 use Rattle.sealed_files.specs.Fields.{field_bytes, listed_at}
 use Rattle.cue_scripts.specs.Script.{CanHear, CanSee, IsOrder, gives_queue, is_length, is_shown, most_heard, signals}
-use Rattle.cue_scripts.specs.Spelling.{event_byte, order_text, reset_byte, sight_text, slot_byte, traffic_text}
+use Rattle.cue_scripts.specs.Spelling.{event_byte, order_text, sight_text, slot_byte, traffic_text}
 use Rattle.cue_scripts.specs.Reading.{event_at, event_of_byte, is_event, is_heard, is_sight, message_at, order_at, order_of_kind, put_message_at, reset_at, cue_sight_at, sight_of_kind, signal_at, cue_slot_at, slot_of_byte, take_at, traffic_at, traffic_of_kind, shown_words_at, script_field, script_short}
 use Rattle.file_texts.specs.declared.fault.ScriptFault.{ScriptFault}
 use Rattle.cue_scripts.proofs.FieldLemmas.{one_byte}

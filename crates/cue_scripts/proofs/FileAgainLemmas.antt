@@ -1,24 +1,22 @@
 -- The file of a script: what is spelled is read, and nothing more.
-use Rattle.std.proofs.Common.{◌≡◌, ◌≢◌, ℕ, zero, suc, ◌+◌, ◌-◌, ◌^◌, ◌<◌, ◌≤◌, Bool, true, List, [], ◌∷◌, ◌++◌, length, codes, Option, Some, None, Result, Ok, Err, refl, sym, ap, subst, ◌∙◌, append_assoc, arith}
+use Rattle.std.proofs.Common.{◌≡◌, ℕ, suc, ◌+◌, ◌-◌, ◌^◌, ◌<◌, ◌≤◌, Bool, true, List, [], ◌∷◌, ◌++◌, length, codes, Option, Some, None, Ok, Err, refl, sym, ap, subst, ◌∙◌, append_assoc, arith}
 use Rattle.std.specs.Prelude.{nat_le, ◌==◌, replicate}
 use Rattle.std.specs.Int.{w8, w16, w64, to_be_bytes}
 use Rattle.std.specs.List.{AllByRecursion, flat_map}
 use Rattle.std.proofs.lemmas.Bool.{eq-eqb}
 use Rattle.std.proofs.lemmas.List.{append-nil, length-append, length-replicate}
-use Rattle.xm_base.specs.Cursor.{Place, ahead, left, cursor_start}
+use Rattle.xm_base.specs.Cursor.{ahead, left, cursor_start}
 use Rattle.xm_conf.specs.Configuration.{Conf}
 use Rattle.sealed_files.specs.FieldLemmas.{wide8, wide16, Reads, bytes_again, listed_again, number_again}
 use Rattle.xef_images.specs.ImageLemmas.{Decides-nat_le}
 use Rattle.sealed_files.specs.StepLemmas.{ok_is}
-use Rattle.sealed_files.specs.Steps.{◌>>=◌}
 use Rattle.machine_model.specs.Cue.{Cue}
-use Rattle.machine_model.specs.Told.{AllHalted}
 use Rattle.sealed_files.specs.Heads.{magic_at, version_at}
-use Rattle.cue_scripts.specs.Entries.{Alike, AreLongest, Entry, Other, cue_count, expanded, plain_cue_of, bare_cue, runs}
+use Rattle.cue_scripts.specs.Entries.{Alike, AreLongest, Entry, Other, expanded, bare_cue, runs}
 use Rattle.cue_scripts.specs.Script.{HaltsLast, IsCue, IsScript}
 use Rattle.cue_scripts.specs.Gives.{Fails}
 use Rattle.cue_scripts.specs.Spelling.{IsSpelledScript, entry_text, script_head_text, script_text}
-use Rattle.cue_scripts.specs.Reading.{body_at, script_entries_at, entries_of, partition_at, script_read, cue_count_at, script_field, script_short}
+use Rattle.cue_scripts.specs.Reading.{body_at, entries_of, partition_at, script_read, cue_count_at, script_field, script_short}
 use Rattle.file_texts.specs.declared.fault.ScriptFault.{ScriptFault}
 use Rattle.cue_scripts.proofs.EntriesLemmas.{fails_on}
 use Rattle.cue_scripts.proofs.FieldLemmas.{one_byte, wide64}

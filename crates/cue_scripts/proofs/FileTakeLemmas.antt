@@ -1,5 +1,5 @@
 -- The file of a script: what is read is the script that it spells.
-use Rattle.std.proofs.Common.{◌≡◌, ℕ, ◌+◌, ◌^◌, ◌<◌, ◌≤◌, Bool, true, List, [], ◌∷◌, ◌++◌, length, codes, Option, Some, None, Result, Ok, Err, refl, sym, ap, subst, ◌∙◌, append_assoc, arith}
+use Rattle.std.proofs.Common.{◌≡◌, ℕ, ◌+◌, ◌^◌, ◌≤◌, true, List, [], ◌∷◌, ◌++◌, length, codes, None, Ok, sym, ap, subst, ◌∙◌, arith}
 use Rattle.std.specs.Prelude.{nat_le, ◌==◌}
 use Rattle.std.specs.Int.{w8, w16, w64, to_be_bytes}
 use Rattle.std.specs.List.{flat_map}
@@ -17,7 +17,6 @@ use Rattle.sealed_files.specs.Fields.{listed_at}
 use Rattle.sealed_files.specs.HeadLemmas.{is_first, magic_takes, version_takes}
 use Rattle.sealed_files.specs.Heads.{magic_at, version_at}
 use Rattle.cue_scripts.specs.Entries.{Entry, expanded, runs}
-use Rattle.cue_scripts.specs.Script.{IsScript}
 use Rattle.cue_scripts.specs.Spelling.{IsSpelledScript, entry_text, script_head_text, script_text}
 use Rattle.cue_scripts.specs.Reading.{body_at, script_entries_at, entries_of, partition_at, script_read, cue_count_at, script_field, script_short, script_version}
 use Rattle.file_texts.specs.declared.fault.ScriptFault.TheVariants.{Magic, Trailing}

@@ -1,5 +1,5 @@
 -- The entries of cues: they have these cues, are as long as they can be, and are the only ones that are.
-use Rattle.std.proofs.Common.{◌≡◌, ◌≢◌, ℕ, zero, suc, ◌≤◌, Bool, true, false, List, [], ◌∷◌, ◌++◌, Option, Some, None, refl, ap, ◌∙◌, arith}
+use Rattle.std.proofs.Common.{◌≡◌, ℕ, zero, suc, Bool, true, false, List, [], ◌∷◌, ◌++◌, Option, Some, None, refl, ap, ◌∙◌, arith}
 use Rattle.std.specs.Prelude.{replicate, ◌&&◌, is_none, if◌then◌else◌}
 use Rattle.xm_base.specs.declared.partition.Order.{Order}
 use Rattle.machine_model.specs.Cue.{Away, Cue, Mine, CueSlot}

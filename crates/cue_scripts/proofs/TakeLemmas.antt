@@ -1,26 +1,22 @@
 -- What is read of a cue stands there, and others may tell it.
-use Rattle.std.proofs.Common.{◌≡◌, ℕ, zero, suc, ◌^◌, ◌<◌, ◌≤◌, Bool, true, false, List, [], ◌∷◌, ◌++◌, length, Option, Some, None, Result, Ok, refl, sym, ap, subst, ◌∙◌, arith}
-use Rattle.std.specs.Prelude.{nat_le, nat_lt, ◌&&◌, ◌==◌, is_some, is_none, if◌then◌else◌}
+use Rattle.std.proofs.Common.{◌≡◌, ℕ, ◌^◌, ◌<◌, Bool, true, false, [], ◌∷◌, ◌++◌, length, Ok, refl, ap, subst, arith}
+use Rattle.std.specs.Prelude.{nat_le, nat_lt, ◌&&◌, ◌==◌, is_some, if◌then◌else◌}
 use Rattle.std.specs.List.{list_any}
-use Rattle.std.specs.Int.{w16, w32, to_be_bytes}
+use Rattle.std.specs.Int.{w16, to_be_bytes}
 use Rattle.std.proofs.lemmas.Bool.{eqb-false, eqb-true}
 use Rattle.std.proofs.lemmas.Bool.Decides.{nat_tests}
 use Rattle.xm_base.specs.Bytes.{AreBytes}
 use Rattle.xm_base.specs.Cursor.{Place, ahead}
-use Rattle.xm_base.specs.declared.partition.Mode.{Mode}
-use Rattle.xm_base.specs.declared.partition.Mode.TheVariants as mode
-use Rattle.xm_base.specs.declared.partition.Order.{Order}
 use Rattle.xm_conf.specs.Configuration.{Conf}
-use Rattle.sealed_files.specs.FieldLemmas.{Takes, takes_both, wide16, wide32, bytes_take, listed_takes}
+use Rattle.sealed_files.specs.FieldLemmas.{Takes, takes_both, wide16, bytes_take, listed_takes}
 use Rattle.sealed_files.specs.StepLemmas.{stepped, ok_is}
 use Rattle.sealed_files.specs.Steps.{◌>>=◌}
-use Rattle.machine_model.specs.Cue.{Away, Cue, Mine, CueSlot}
-use Rattle.machine_model.specs.Told.{AllHalted, AllReset, NoEvent, NotKept, OwnPuts, OwnSignals, OwnStill, OwnTakes, OwnTraffic, Sight, Unseen, WholeEvent, Words}
+use Rattle.machine_model.specs.Cue.{Away, Mine, CueSlot}
+use Rattle.machine_model.specs.Told.{OwnPuts, OwnSignals, OwnTakes, OwnTraffic}
 use Rattle.sealed_files.specs.Fields.{field_bytes, listed_at}
-use Rattle.cue_scripts.specs.Entries.{is_away}
-use Rattle.cue_scripts.specs.Script.{CanHear, CanSee, IsOrder, gives_queue, is_length, is_shown, most_heard, signals}
-use Rattle.cue_scripts.specs.Spelling.{event_byte, order_text, reset_byte, sight_text, slot_byte, traffic_text}
-use Rattle.cue_scripts.specs.Reading.{event_at, event_of_byte, is_event, is_heard, is_sight, message_at, order_at, order_of_kind, put_message_at, reset_at, cue_sight_at, sight_of_kind, signal_at, cue_slot_at, slot_of_byte, take_at, traffic_at, traffic_of_kind, shown_words_at, script_field, script_short}
+use Rattle.cue_scripts.specs.Script.{CanHear, gives_queue, is_length, most_heard, signals}
+use Rattle.cue_scripts.specs.Spelling.{slot_byte, traffic_text}
+use Rattle.cue_scripts.specs.Reading.{message_at, put_message_at, signal_at, cue_slot_at, slot_of_byte, take_at, script_field, script_short}
 use Rattle.cue_scripts.proofs.FieldLemmas.{AreBytes-front, begins}
 
 -- a number is this one

@@ -1,7 +1,7 @@
 -- What is read of the parts of a cue stands there, and others may tell it.
-use Rattle.std.proofs.Common.{◌≡◌, ℕ, zero, suc, ◌^◌, ◌<◌, ◌≤◌, Bool, true, false, List, [], ◌∷◌, ◌++◌, length, Option, Some, None, Result, Ok, Err, refl, sym, ap, subst, ◌∙◌, arith}
-use Rattle.std.specs.Prelude.{nat_le, ◌&&◌, ◌==◌, not, if◌then◌else◌}
-use Rattle.std.specs.Int.{w8, w16, w32, to_be_bytes}
+use Rattle.std.proofs.Common.{◌≡◌, ℕ, ◌^◌, Bool, true, false, [], ◌∷◌, length, Option, Some, None, Ok, refl, subst, arith}
+use Rattle.std.specs.Prelude.{nat_le, ◌&&◌, ◌==◌, if◌then◌else◌}
+use Rattle.std.specs.Int.{w32, to_be_bytes}
 use Rattle.std.proofs.lemmas.Bool.{eqb-true}
 use Rattle.std.proofs.lemmas.Bool.Decides.{nat_tests}
 use Rattle.xm_base.specs.Bytes.{AreBytes}
@@ -14,7 +14,7 @@ use Rattle.xm_conf.specs.Configuration.{Conf}
 use Rattle.sealed_files.specs.FieldLemmas.{Takes, takes_both, wide32, bytes_take, number_takes}
 use Rattle.sealed_files.specs.StepLemmas.{stepped, ok_is}
 use Rattle.sealed_files.specs.Steps.{◌>>=◌}
-use Rattle.machine_model.specs.Cue.{Away, Cue, Mine, CueSlot}
+use Rattle.machine_model.specs.Cue.{Away, Mine, CueSlot}
 use Rattle.machine_model.specs.Told.{AllHalted, AllReset, NoEvent, NotKept, OwnStill, OwnTraffic, Sight, Unseen, WholeEvent, Words}
 use Rattle.sealed_files.specs.Fields.{field_bytes, number_at}
 use Rattle.cue_scripts.specs.Entries.{is_away}

@@ -1,24 +1,21 @@
 -- A script that stands there is read.
-use Rattle.std.proofs.Common.{◌≡◌, ◌≢◌, ℕ, zero, suc, ◌+◌, ◌-◌, ◌^◌, ◌<◌, ◌≤◌, Bool, true, false, List, [], ◌∷◌, ◌++◌, length, codes, Option, Some, None, Result, Ok, Err, refl, sym, ap, subst, ◌∙◌, append_assoc, arith}
-use Rattle.std.specs.Prelude.{nat_le, ◌&&◌, ◌==◌, not, is_none, if◌then◌else◌}
-use Rattle.std.specs.Int.{w8, w16, w32, w64, to_be_bytes}
-use Rattle.std.specs.List.{AllByRecursion, flat_map}
-use Rattle.std.proofs.Math.Dec.{eqb-suc-zero}
+use Rattle.std.proofs.Common.{◌≡◌, ◌≢◌, ℕ, zero, suc, ◌+◌, ◌-◌, ◌^◌, ◌<◌, ◌≤◌, Bool, true, false, List, [], ◌∷◌, ◌++◌, Option, Some, None, refl, ap, ◌∙◌, append_assoc, arith}
+use Rattle.std.specs.Prelude.{nat_le, ◌&&◌, ◌==◌}
+use Rattle.std.specs.Int.{w32, to_be_bytes}
+use Rattle.std.specs.List.{flat_map}
 use Rattle.std.proofs.lemmas.Bool.{eq-eqb}
 use Rattle.std.proofs.lemmas.Bool.Decides.{Decides-and}
-use Rattle.std.proofs.lemmas.List.{append-nil}
 use Rattle.std.proofs.lemmas.List.Concat.{flat_map-cons}
-use Rattle.xm_base.specs.Cursor.{Place, ahead, left, cursor_start}
+use Rattle.xm_base.specs.Cursor.{Place, ahead}
 use Rattle.xm_conf.specs.Configuration.{Conf}
-use Rattle.sealed_files.specs.FieldLemmas.{wide16, wide32, Reads, listed_again}
+use Rattle.sealed_files.specs.FieldLemmas.{wide32, Reads, listed_again}
 use Rattle.xef_images.specs.ImageLemmas.{Decides-nat_le}
-use Rattle.sealed_files.specs.Steps.{◌>>=◌}
 use Rattle.machine_model.specs.Cue.{Away, Cue, Mine, CueSlot}
 use Rattle.machine_model.specs.Told.{AllHalted, OwnStill, OwnTraffic}
 use Rattle.xm_base.specs.declared.partition.Order.{Order}
-use Rattle.cue_scripts.specs.Entries.{Alike, AreLongest, Entry, Other, cue_count, plain_cue_of, plain_kind}
+use Rattle.cue_scripts.specs.Entries.{Alike, Entry, Other, cue_count, plain_cue_of, plain_kind}
 use Rattle.cue_scripts.specs.Script.{HearsNothing, IsCue, is_system_partition}
-use Rattle.cue_scripts.specs.Spelling.{alike_byte, cue_text, entry_text, event_byte, order_text, sight_text, slot_byte, traffic_text}
+use Rattle.cue_scripts.specs.Spelling.{alike_byte, cue_text, entry_text, event_byte, order_text, sight_text, traffic_text}
 use Rattle.cue_scripts.specs.Reading.{alike_at, cue_at, script_entries_at, script_entry_at, entry_of_kind, is_entry_kind, other_at, script_field, script_short}
 use Rattle.cue_scripts.proofs.AgainLemmas.{event_again, leads, order_again, sight_again, slot_again, traffic_again}
 use Rattle.cue_scripts.proofs.EntriesLemmas.{one_more, none_left}

@@ -1,5 +1,5 @@
 -- Cues that are written one by one.
-use Rattle.std.proofs.Common.{◌≡◌, ◌≢◌, ℕ, zero, suc, ◌+◌, ◌<◌, ◌≤◌, Bool, true, false, List, [], ◌∷◌, ◌++◌, length, Option, Some, None, Ok, Err, refl, sym, ap, subst, ◌∙◌, append_assoc, arith}
+use Rattle.std.proofs.Common.{◌≡◌, ◌≢◌, ℕ, zero, suc, ◌+◌, ◌<◌, ◌≤◌, Bool, true, false, List, [], ◌∷◌, ◌++◌, length, Option, Some, None, refl, sym, ap, subst, ◌∙◌, append_assoc, arith}
 use Rattle.std.specs.Prelude.{nat_le, replicate}
 use Rattle.std.specs.List.{flat_map}
 use Rattle.std.proofs.lemmas.Bool.Decides.{nat_tests}
@@ -9,9 +9,9 @@ use Rattle.std.proofs.lemmas.List.Concat.{flat_map-cons}
 use Rattle.xm_base.specs.declared.limits.TheConstants.{FILE_BYTES}
 use Rattle.xef_images.specs.ImageLemmas.{Decides-nat_le}
 use Rattle.machine_model.specs.Cue.{Cue}
-use Rattle.cue_scripts.specs.Entries.{Alike, AreLongest, Entry, MayFollow, Other, cues_of, expanded, is_same, plain_cue_of, bare_cue, plain_kind, runs}
+use Rattle.cue_scripts.specs.Entries.{Alike, AreLongest, Entry, MayFollow, Other, cues_of, expanded, plain_cue_of, bare_cue, plain_kind, runs}
 use Rattle.cue_scripts.specs.Spelling.{entry_text, script_head_text, script_text}
-use Rattle.cue_scripts.specs.Written.{AreWholeEntries, IsWritten, Written, entry_closed, closed_by, is_open, kept_within, last_own, nothing_written, entry_opened, plain_repeated, repeated_by, with_cue, with_script_entry, with_kind}
+use Rattle.cue_scripts.specs.Written.{AreWholeEntries, IsWritten, Written, entry_closed, closed_by, is_open, kept_within, last_own, nothing_written, entry_opened, plain_repeated, repeated_by, with_script_entry}
 use Rattle.cue_scripts.proofs.RunLemmas.{plain_is, runs_again, runs_expand, runs_longest}
 
 -- entries and one more that may stand there are as long as they can be

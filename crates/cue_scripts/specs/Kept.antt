@@ -1,5 +1,5 @@
 -- What a script that is kept keeps to, for whichever partition.
-use Rattle.std.specs.Prelude.{ℕ, ◌<◌, ◌≤◌, ◌^◌, List, length, None}
+use Rattle.std.specs.Prelude.{◌<◌, ◌≤◌, ◌^◌, List, length, None}
 use Rattle.std.specs.List.{AllByRecursion}
 use Rattle.machine_model.specs.Cue.{Cue}
 use Rattle.machine_model.specs.Told.{NotKept, OwnPuts, OwnSignals, OwnStill, OwnTakes, OwnTraffic, Sight, Unseen, Words}

@@ -1,5 +1,5 @@
 -- The reading of a script: the cues that the bytes spell, or the first fault from left to right.
-use Rattle.std.specs.Prelude.{◌≡◌, ℕ, zero, suc, ◌-◌, ◌==◌, Bool, true, false, ◌&&◌, ◌||◌, not, nat_le, if◌then◌else◌, List, [], ◌∷◌, codes, Option, Some, None, is_none, is_some, Result, Ok}
+use Rattle.std.specs.Prelude.{ℕ, zero, suc, ◌-◌, ◌==◌, Bool, true, false, ◌&&◌, not, nat_le, if◌then◌else◌, List, [], ◌∷◌, codes, Option, Some, None, is_none, is_some, Result, Ok}
 use Rattle.std.specs.Int.{w8, w16, w32, w64}
 use Rattle.xm_base.specs.Cursor.{Place, left, cursor_start}
 use Rattle.xm_base.specs.declared.partition.Mode.{Mode}

@@ -1,11 +1,11 @@
 //! What others may do to the channels of a partition, and over links to it.
 
-ghost use Rattle.std.specs.Prelude.{◌≡◌, ◌==◌, ◌&&◌, ◌<◌, ◌≤◌, IfSome, length, option_map, slice_get};
+ghost use Rattle.std.specs.Prelude.{◌≡◌, ◌==◌, ◌&&◌, ◌<◌, ◌≤◌, length, option_map, slice_get};
 ghost use Rattle.std.specs.List.{list_any};
 ghost use Rattle.machine_model.specs.Lists.{is_number};
 ghost use Rattle.machine_model.specs.View.{name_of, named, part_of};
 ghost use Rattle.xm_conf.specs.View.{channel_of};
-ghost use Rattle.cue_scripts.specs.Script.{chan_called, gives_in, gives_queue, heard_in, is_queue, is_system_partition, most_heard, signals};
+ghost use Rattle.cue_scripts.specs.Script.{chan_called, gives_queue, heard_in, is_queue, is_system_partition, most_heard, signals};
 
 use xm_base::PartId;
 use xm_conf::{Chan, ChanKind, Conf, End, LINK_NUMBERS, Link, Part};

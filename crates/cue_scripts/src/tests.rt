@@ -115,6 +115,21 @@ fn conf(alloc: Global) -> Result<Option<Conf>, AllocError>
         part(alloc, first, true, 0x4010_0000, &ROWS)?,
         part(alloc, second, false, 0x4020_0000, &PEER)?,
     ];
+    let raw = RawConf {
+        name: first,
+        regions: Vec::from_array(alloc, [region])?,
+        hv_size: 0x1000,
+        uarts: Vec::new(alloc),
+        plans: Vec::from_array(alloc, [plan])?,
+        parts: Vec::from_array(alloc, parts)?,
+        chans: chans(alloc)?,
+        links: Vec::new(alloc),
+    };
+    Ok(Conf::new(raw).ok())
+}
+
+/// Its channels: two from partition 1 to partition 0, one back, and one from partition 0 to both.
+fn chans(alloc: Global) -> Result<Vec<Chan>, AllocError> {
     let chans = [
         chan(
             alloc,
@@ -133,17 +148,7 @@ fn conf(alloc: Global) -> Result<Option<Conf>, AllocError>
             &[end(1, 3), end(0, 4)],
         )?,
     ];
-    let raw = RawConf {
-        name: first,
-        regions: Vec::from_array(alloc, [region])?,
-        hv_size: 0x1000,
-        uarts: Vec::new(alloc),
-        plans: Vec::from_array(alloc, [plan])?,
-        parts: Vec::from_array(alloc, parts)?,
-        chans: Vec::from_array(alloc, chans)?,
-        links: Vec::new(alloc),
-    };
-    Ok(Conf::new(raw).ok())
+    Ok(Vec::from_array(alloc, chans)?)
 }
 
 /// A script with two cues away, a warm reset and one more cue away, for partition 1.

@@ -2,7 +2,7 @@
 
 ghost use Rattle.std.specs.Prelude.{◌≡◌, ◌≤◌, length};
 ghost use Rattle.xm_base.specs.Options.{on};
-ghost use Rattle.cyclic_plans.specs.Slots.{covers, slot_or_gap_end, gap_end, here_in, slot_from, stretch_end};
+ghost use Rattle.cyclic_plans.specs.Slots.{covers, gap_end, here_in, slot_from, stretch_end};
 
 use xm_conf::{Plan, Slot};
 

@@ -1,6 +1,6 @@
 //! What was made is written or told.
 
-ghost use Rattle.std.specs.Prelude.{◌≡◌, ℕ, List, length, Ok, Result};
+ghost use Rattle.std.specs.Prelude.{ℕ, List, length, Ok, Result};
 ghost use Rattle.xm_outside.specs.Causes.{HasCause};
 ghost use Rattle.xm_outside.specs.Growth.{Writes};
 ghost use Rattle.file_commands.specs.Denial.{Denial};

@@ -1,7 +1,6 @@
 //! The configuration of a generated system.
 
-ghost use Rattle.std.specs.Prelude.{◌≡◌, IfOk, IsTrue, codes};
-ghost use Rattle.xm_conf.specs.Name.{is_name};
+ghost use Rattle.std.specs.Prelude.{◌≡◌, IfOk};
 ghost use Rattle.generated_system.specs.Generated.{generated_conf, conf_with};
 
 use crate::channels::channels;

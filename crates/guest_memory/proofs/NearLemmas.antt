@@ -1,17 +1,16 @@
 -- Accesses to the areas that are looked at first.
 use borrow.Rule.Slice.PartMut.{put_mid}
-use Rattle.std.proofs.Common.{◌≡◌, ℕ, zero, suc, ◌+◌, ◌-◌, ◌%◌, ◌<◌, ◌≤◌, ◌⊎◌, false, List, [], ◌∷◌, ◌++◌, length, take, drop, get_or, Option, Some, None, Ok, refl, sym, ap, ◌∙◌, inl, inr, subst, arith, length-drop, take-append-drop}
-use Rattle.std.specs.Prelude.{IsSomeAnd, slice_get}
+use Rattle.std.proofs.Common.{◌≡◌, ℕ, zero, suc, ◌+◌, ◌-◌, ◌%◌, ◌<◌, ◌≤◌, false, List, [], ◌∷◌, ◌++◌, length, take, drop, get_or, Option, Some, None, Ok, refl, sym, ap, ◌∙◌, inl, inr, subst, arith, length-drop, take-append-drop}
+use Rattle.std.specs.Prelude.{slice_get}
 use Rattle.std.specs.Int.{w32, byte_len, from_be_bytes, to_be_bytes}
 use Rattle.std.proofs.lemmas.List.{drop-drop, length-map, length-take-le}
 use Rattle.std.proofs.lemmas.Slice.{drop-put_mid, take-put_mid_below}
-use Rattle.guest_bus.specs.Access.{access_fault, after_store, fetched, loaded, store_fault, width_of}
+use Rattle.guest_bus.specs.Access.{fetched, loaded, store_fault, width_of}
 use Rattle.guest_bus.specs.AccessLemmas.{length-bytes_high_first}
-use Rattle.guest_bus.specs.Memory.{is_readable, is_writable}
 use Rattle.guest_bus.specs.declared.bus.Size.{Size}
 use Rattle.guest_bus.specs.declared.bus.Size.TheVariants.{Four}
-use Rattle.guest_memory.specs.Flat.{Accesses, StandsInArea, IsPartOf, SameAround, StandsInEntry, Table, area_in, areas_of_tables, listed, memory_in, memory_of_part, bytes_of_part}
-use Rattle.guest_memory.specs.Memories.{ArePlaced, IsPlaced, areas_size}
+use Rattle.guest_memory.specs.Flat.{StandsInArea, IsPartOf, StandsInEntry, Table, area_in, areas_of_tables, listed, memory_of_part, bytes_of_part}
+use Rattle.guest_memory.specs.Memories.{areas_size}
 use Rattle.guest_memory.specs.Near.{AreNear, AreReady, AreSpots, AreWithin, FitsIn, IsSpotOf, IsNear, IsStored, area_there, near_of, spot_of}
 use Rattle.guest_memory.specs.declared.entry.Entry.{Entry}
 use Rattle.guest_memory.specs.declared.entry.Place.{Place}

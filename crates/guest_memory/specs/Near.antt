@@ -1,11 +1,10 @@
 -- The areas of one partition that are looked at first.
 use Rattle.std.specs.Prelude.{◌≡◌, ℕ, ◌+◌, ◌<◌, ◌≤◌, ◌^◌, ◌⊎◌, false, List, Option, None, Some, length, slice_get, slice_index_or}
-use Rattle.std.specs.Int.{byte_len}
 use Rattle.guest_bus.specs.Access.{after_store, store_fault}
 use Rattle.guest_bus.specs.Memory.{Area, is_readable, is_writable, with_bytes}
 use Rattle.guest_bus.specs.Words.{MayStand, bytes_of, words_at}
 use Rattle.guest_bus.specs.declared.bus.Size.{Size}
-use Rattle.guest_memory.specs.Flat.{AllBytes, AreFlat, SameAround, Table, listed, memory_of_part}
+use Rattle.guest_memory.specs.Flat.{AreFlat, SameAround, Table, listed, memory_of_part}
 use Rattle.guest_memory.specs.Memories.{IsPlaced}
 use Rattle.guest_memory.specs.declared.entry.Entry.{Entry}
 use Rattle.guest_memory.specs.declared.near.Found.{Found}

@@ -1,9 +1,8 @@
 //! The areas of one partition that are looked at first.
 
-ghost use Rattle.std.specs.Prelude.{◌≡◌, ◌+◌, ◌<◌, ◌≤◌, ◌^◌, true, false, IfSome, Ok, length, slice_get};
+ghost use Rattle.std.specs.Prelude.{◌≡◌, ◌+◌, ◌<◌, ◌≤◌, ◌^◌, true, false, IfSome, Ok, slice_get};
 ghost use Rattle.std.specs.Bool.{OnTrue};
-ghost use Rattle.std.specs.Int.{byte_len};
-ghost use Rattle.guest_bus.specs.Access.{fetched, loaded, width_of};
+ghost use Rattle.guest_bus.specs.Access.{fetched, loaded};
 ghost use Rattle.guest_memory.specs.Flat.{AllBytes, IsPartOf, Table as Placed, listed, memory_of_part};
 ghost use Rattle.guest_memory.specs.Near.{AreRead, AreSpots, AreWithin, AreWritten, HasPart, IsSpot, IsSpotOf, IsNear, IsNearPart, IsStored, near_in, near_of, spot_of};
 

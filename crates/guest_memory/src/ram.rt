@@ -1,6 +1,6 @@
 //! The memories of all partitions.
 
-ghost use Rattle.std.specs.Prelude.{◌≡◌, ◌+◌, ◌<◌, ◌≤◌, ◌↔◌, false, All, IfOk, IsNone, OnErr, OnOk, length, map, replicate};
+ghost use Rattle.std.specs.Prelude.{◌≡◌, ◌+◌, ◌<◌, ◌↔◌, false, All, IfOk, IsNone, OnErr, OnOk, length, map, replicate};
 ghost use Rattle.std.specs.FinMap.{get};
 ghost use Rattle.guest_bus.specs.Access.{fetched, loaded as loaded_at};
 ghost use Rattle.guest_bus.specs.Memory.{all_from, bytes_at, is_readable, is_writable, with_bytes};

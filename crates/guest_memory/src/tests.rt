@@ -196,7 +196,7 @@ fn a_processor_loads_and_stores_within_areas(rt: HostRuntime) -> Result<(), Fail
         assert_eq!(rt;
             ram.load(0x4010_1000, Size::Eight),
             Ok(0),
-            "behind {bytes} bytes"
+            "after {bytes} bytes"
         );
     }
     Ok(())

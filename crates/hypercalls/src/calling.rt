@@ -15,7 +15,7 @@ ghost use Rattle.xm_ports.specs.Channels.{shapes_of};
 ghost use Rattle.tick_pieces.specs.Work.{IsPartDone, IsToldBy, ReachIsUponOne, IsTickWorked, TellsAlone, act_beyond, note_in, reach_in, trace_told};
 
 use crate::serving::serve;
-use tick_pieces::{Beyond, Lines, count_tick, handle_event, obey, program_counter};
+use tick_pieces::{Beyond, Lines, handle_event, obey, program_counter};
 use whole_system::{Act, Note, Served, Sys};
 use xm_base::{Order, PartId};
 use xm_report::Line;
@@ -41,7 +41,7 @@ pub fn call_told(sys: &mut Sys, lines: &mut Lines, p: PartId, pc: u32) -> Option
     ensures few { length lines.new ≤ 4 }
 {
     let served = serve_call(sys, p, pc);
-    count_tick(sys, p);
+    sys.count_tick(p);
     if is_quiet(served.note, served.act) {
         return None;
     }

@@ -1,6 +1,6 @@
 //! A hypercall is served.
 
-ghost use Rattle.std.specs.Prelude.{◌≡◌, ◌⊎◌, ◌+◌, ◌%◌, ◌<◌, ◌≤◌, false, length};
+ghost use Rattle.std.specs.Prelude.{◌≡◌, ◌⊎◌, ◌%◌, ◌<◌, ◌≤◌, false, length};
 ghost use Rattle.std.specs.Bool.{OnTrue};
 ghost use Rattle.cyclic_plans.specs.PlanClock.{IsInFrame};
 ghost use Rattle.machine_model.specs.Hypercalls.{call_numbered, served};

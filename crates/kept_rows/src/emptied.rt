@@ -1,6 +1,6 @@
 //! Rows that are emptied.
 
-ghost use Rattle.std.specs.Prelude.{◌≡◌, ◌+◌, ◌*◌, ◌^◌, ◌≤◌, ◌<◌, ℕ, length};
+ghost use Rattle.std.specs.Prelude.{◌≡◌, ◌+◌, ◌^◌, ◌≤◌, ◌<◌, ℕ, length};
 ghost use Rattle.kept_rows.specs.Shares.{AreEmptied, AreReached, IsReached, with_empty, words_written};
 
 use guest_bus::Size;

@@ -161,9 +161,9 @@ impl Kept {
         ensures { self.new ≡ self.old }
     {
         if address >= self.own.first {
-            let behind = address - self.own.first;
-            let place = (behind >> 2) as usize;
-            if behind % 4 == 0 && place < self.share {
+            let offset = address - self.own.first;
+            let place = (offset >> 2) as usize;
+            if offset % 4 == 0 && place < self.share {
                 put_row(&mut self.rows, self.own.words.begin + place, row_for(word));
                 self.top = self.top.max(place + 1);
             }

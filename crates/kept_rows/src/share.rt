@@ -1,6 +1,6 @@
 //! The rows of one partition.
 
-ghost use Rattle.std.specs.Prelude.{◌≡◌, ℕ, ◌*◌, ◌+◌, ◌-◌, ◌%◌, ◌^◌, ◌≤◌, ◌<◌};
+ghost use Rattle.std.specs.Prelude.{◌≡◌, ◌*◌, ◌+◌, ◌-◌, ◌%◌, ◌^◌, ◌≤◌, ◌<◌};
 ghost use Rattle.guest_bus.specs.Words.{AreWords, word_address};
 ghost use Rattle.kept_rows.specs.Shares.{AreNumbered, share_for, word_behind};
 

@@ -1,7 +1,6 @@
 //! Which segments lie inside the areas of their partition.
 
 ghost use Rattle.std.specs.Prelude.{◌≡◌, ◌≤◌, All, IsNone, length};
-ghost use Rattle.std.specs.List.{list_any};
 ghost use Rattle.xm_conf.specs.Limits.{most_parts};
 ghost use Rattle.loaded_system.specs.Inside.{first_outside as first_outside_of, has_segment, is_inside, outside_in};
 ghost use Rattle.xef_images.specs.Image.{IsImage};

@@ -16,7 +16,7 @@ ghost use Rattle.tick_pieces.specs.Span.{CanTake};
 use crate::work::{LoneWork, is_unseen, silent};
 use hypercalls::{Sys, call_told};
 use machine_model::observes_as_tested;
-use tick_pieces::{Beyond, Lines, Sight, count_tick};
+use tick_pieces::{Beyond, Lines, Sight};
 use whole_system::CallSite;
 use whole_system::answering::{
     A, B, C, INVALID_PARAMETER, NOT_AVAILABLE, answer, answer_written, argument, is_system,
@@ -81,7 +81,7 @@ fn observe(sys: &mut Sys, site: CallSite, asked: Asked, seen: Sight<'_>) -> Opti
     observes_as_tested();
     if shows_this(sys, site, asked, seen) {
         show(sys, site, asked, seen);
-        count_tick(sys, site.part);
+        sys.count_tick(site.part);
         silent(Beyond::Nothing)
     } else {
         None

@@ -92,7 +92,7 @@ fn rest_in_slots(sys: &mut Sys, p: PartId, most: u64) -> LoneSpan
     quiet_span(most)
 }
 
-// So many ticks with nothing to tell.
+// So many ticks without output.
 fn quiet_span(ticks: u64) -> LoneSpan
     ensures { result ≡ record { ticks = ticks; told = Some Note.Nothing } }
 {

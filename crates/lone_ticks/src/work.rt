@@ -19,8 +19,7 @@ use crate::call::call_alone;
 use hypercalls::{Note, Sys};
 use sparc_step::Turn;
 use tick_pieces::{
-    Beyond, Lines, Sight, count_tick, goes_on, interrupt, meet, meet_trap, program_counter,
-    take_interrupt, wake,
+    Beyond, Lines, Sight, goes_on, interrupt, meet_trap, program_counter, take_interrupt,
 };
 use whole_system::CallSite;
 use xm_base::PartId;
@@ -67,9 +66,9 @@ pub(crate) fn work_alone(
     requires empty { lines.old ≡ [] }
     ensures { IsLoneWork result p (asks (view_of sys.old.machine.system p) (part_at p sys.old.machine) sys.old.machine.time first) (sight_value seen.entry) (worked (view_of sys.old.machine.system p) (copies sys.old.machine p) sys.old.machine.time first (sight_value seen.entry) (part_at p sys.old.machine)) sys.old sys.new lines.new }
 {
-    meet(sys, p, first);
+    sys.meet(p, first);
     if goes_on(sys, p, first) {
-        wake(sys, p);
+        sys.wake(p);
         go_on_alone(sys, lines, p, seen)
     } else {
         stay(seen)
@@ -129,7 +128,7 @@ fn go_alone(sys: &mut Sys, p: PartId, seen: Sight<'_>) -> Option<LoneWork>
     ensures { IsLoneWork result p None (sight_value seen.entry) (quiet (clocked (part_at p sys.old.machine))) sys.old sys.new [] }
 {
     if is_unseen(seen) {
-        count_tick(sys, p);
+        sys.count_tick(p);
         silent(Beyond::Nothing)
     } else {
         None

@@ -15,7 +15,7 @@ use Rattle.machine_model.specs.Machine.{Machine, SlotTurn, sight, sight_for, sig
 use Rattle.machine_model.specs.Observed.{asked_by, asks, if_call, observed_by, unless_delivered}
 use Rattle.machine_model.specs.Partition.{PartitionState, areas_of, takes_turns}
 use Rattle.machine_model.specs.Told as told
-use Rattle.machine_model.specs.Told.{Act, Sight, Told, Unseen, Upon, line_of}
+use Rattle.machine_model.specs.Told.{Act, Told, Unseen, Upon, line_of}
 use Rattle.machine_model.specs.View.{PartitionView, part_of, view_of}
 use Rattle.machine_model.proofs.LineLemmas.{line_tag}
 

@@ -1,5 +1,5 @@
 -- How many bytes a tick puts into a channel, and how many a partition is shown in it, at most.
-use Rattle.std.specs.Prelude.{ℕ, ◌≤◌, List, length}
+use Rattle.std.specs.Prelude.{ℕ, ◌≤◌, length}
 use Rattle.xm_conf.specs.Description.{described}
 use Rattle.xm_conf.specs.Fits.{Fits}
 use Rattle.machine_model.specs.Facts.{HasFacts}

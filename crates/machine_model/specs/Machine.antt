@@ -13,7 +13,7 @@ use Rattle.machine_model.specs.Observed.{CurrentPlan, HealthCounts, HealthEntryO
 use Rattle.machine_model.specs.Partition.{PartitionState, areas_of, booted, ordered, ordered_told, rested, takes_turns}
 use Rattle.machine_model.specs.Structures.{counts_bytes, health_bytes, partition_status, plan_status, system_status, trace_bytes, word}
 use Rattle.machine_model.specs.Told as told
-use Rattle.machine_model.specs.Told.{Act, Asked, Directed, Maintenance, NotKept, OwnTraffic, PlanChange, Sight, Told, Unseen, Words, line_of, reach_of}
+use Rattle.machine_model.specs.Told.{Act, Asked, Directed, Maintenance, NotKept, OwnTraffic, PlanChange, Sight, Told, Unseen, Words, reach_of}
 use Rattle.machine_model.specs.Traffic.{Still, Traffic, after_traffic, copies_of, heard_as, hearing, told_as, traffic_of}
 use Rattle.machine_model.specs.View.{PartitionView, System, part_of, view_of}
 use Rattle.machine_model.specs.Whole.{AllHalted, AllReset, NoEvent, WholeEvent, after_event, content_after, event_of, ticks_after, time_after, whole_resets_after}

@@ -1,7 +1,7 @@
 //! The common period of requirements, and what they demand of it.
 
 ghost use Rattle.xm_conf.specs.Limits.{most_parts};
-ghost use Rattle.std.specs.Prelude.{◌≡◌, ◌+◌, ◌-◌, ◌<◌, ◌≤◌, All, IfOk, length};
+ghost use Rattle.std.specs.Prelude.{◌≡◌, ◌+◌, ◌-◌, ◌<◌, ◌≤◌, All, length};
 ghost use Rattle.plan_maker.specs.Needed.{IsPossible, common_period, demand, demanded, first_divided, least_multiple, longest_common};
 
 use crate::jobs::Requirement;

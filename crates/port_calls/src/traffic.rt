@@ -11,21 +11,13 @@ ghost use Rattle.whole_system.specs.State.{part_at, with_machine, with_part};
 ghost use Rattle.port_calls.specs.Traffic.{heard_at, hears_from, hears_in, is_on, notified};
 
 use whole_system::Sys;
+use whole_system::interrupts::{LINK_SIGNAL, QUEUING_MESSAGE, SAMPLING_MESSAGE};
 use xm_base::{PartId, State};
 use xm_conf::{Port, Way};
 use xm_ports::Full;
 
 /// How many bytes a message has at most.
 pub(crate) const MESSAGE_BYTES: usize = 4096;
-
-/// The interrupt that a message in a sampling channel brings.
-const SAMPLING_PORT: u8 = 3;
-
-/// The interrupt that a message in a queue brings.
-const QUEUING_PORT: u8 = 4;
-
-/// The interrupt that a signal over a link of number 0 brings. Those of the other numbers follow it.
-const LINK_SIGNAL: u8 = 8;
 
 /// Writes a message to a sampling channel. The partitions that hear it are interrupted.
 pub fn put_sampling(sys: &mut Sys, chan: u8, bytes: &[u8])
@@ -36,7 +28,7 @@ pub fn put_sampling(sys: &mut Sys, chan: u8, bytes: &[u8])
 {
     let now = sys.now();
     sys.channels_mut().put_sampling(chan, bytes, now);
-    notify(sys, chan, SAMPLING_PORT);
+    notify(sys, chan, SAMPLING_MESSAGE);
 }
 
 /// Puts a message at the end of a queue, or answers `Full`. The partitions that hear it are interrupted.
@@ -50,7 +42,7 @@ pub fn send(sys: &mut Sys, chan: u8, bytes: &[u8]) -> Result<(), Full>
 {
     match sys.channels_mut().send(chan, bytes) {
         Ok(()) => {
-            notify(sys, chan, QUEUING_PORT);
+            notify(sys, chan, QUEUING_MESSAGE);
             Ok(())
         }
         Err(full) => Err(full),

@@ -196,17 +196,17 @@ not_saved_before (Unsaved file) first later before after lost = lost_before file
 not_saved_before (Unheard place) first later before after lost = absurd lost
 not_saved_before Starved first later before after lost = absurd lost
 
-not_saved_behind : (e : Ending) (first later : List Output) (before mid after : Outside) → SavesAll None first before mid → AreNotSaved e later mid after → AreNotSaved e (first ++ later) before after
-not_saved_behind Finished first later before mid after saved lost = absurd lost
-not_saved_behind Misused first later before mid after saved lost = absurd lost
-not_saved_behind (Unread file) first later before mid after saved lost = absurd lost
-not_saved_behind (Denied file text) first later before mid after saved lost = absurd lost
-not_saved_behind Unwritten first later before mid after saved lost = absurd lost
-not_saved_behind (Unsaved file) first later before mid after saved lost = saves_both (Some file) first later before mid after saved lost
-not_saved_behind (Unheard place) first later before mid after saved lost = absurd lost
-not_saved_behind Starved first later before mid after saved lost = absurd lost
+not_saved_after : (e : Ending) (first later : List Output) (before mid after : Outside) → SavesAll None first before mid → AreNotSaved e later mid after → AreNotSaved e (first ++ later) before after
+not_saved_after Finished first later before mid after saved lost = absurd lost
+not_saved_after Misused first later before mid after saved lost = absurd lost
+not_saved_after (Unread file) first later before mid after saved lost = absurd lost
+not_saved_after (Denied file text) first later before mid after saved lost = absurd lost
+not_saved_after Unwritten first later before mid after saved lost = absurd lost
+not_saved_after (Unsaved file) first later before mid after saved lost = saves_both (Some file) first later before mid after saved lost
+not_saved_after (Unheard place) first later before mid after saved lost = absurd lost
+not_saved_after Starved first later before mid after saved lost = absurd lost
 
 -- files after files that all were, by how that ended
-pub saved_behind : {T : Type 0} (result : Result T code.Ending) (first later : List Output) (before mid after : Outside) → SavesAll None first before mid → AreSaved result later mid after → AreSaved result (first ++ later) before after
-saved_behind (Ok done) first later before mid after saved more = saves_both None first later before mid after saved more
-saved_behind (Err ending) first later before mid after saved lost = not_saved_behind (ending_of ending) first later before mid after saved lost
+pub saved_after : {T : Type 0} (result : Result T code.Ending) (first later : List Output) (before mid after : Outside) → SavesAll None first before mid → AreSaved result later mid after → AreSaved result (first ++ later) before after
+saved_after (Ok done) first later before mid after saved more = saves_both None first later before mid after saved more
+saved_after (Err ending) first later before mid after saved lost = not_saved_after (ending_of ending) first later before mid after saved lost

@@ -25,8 +25,8 @@ use Rattle.xm_container.specs.Reading.{unpacked}
 use Rattle.file_texts.specs.Texts.{box_fault_text}
 use Rattle.file_texts.specs.declared.fault.BoxFault.{BoxFault}
 use Rattle.xm_words.specs.Words.{PartFile, RunOption, Bare}
-use Rattle.run_commands.specs.Behind.{EndsBehind}
-use Rattle.run_commands.specs.BehindLemmas.{behind_outcome}
+use Rattle.run_commands.specs.EndsAfter.{EndsAfter}
+use Rattle.run_commands.specs.EndsAfterLemmas.{outcome_and_after}
 use Rattle.file_commands.specs.Ending.{Ending, Unwritten, length_text}
 use Rattle.file_commands.specs.Outcome.{Output, bare_outcome, core_outputs, outcome_of, outcome_of_run, ran_with, command_refused, run_by, run_outcome}
 use Rattle.file_commands.specs.Inputs.{inputs_for, no_inputs}
@@ -73,28 +73,28 @@ unfolding outcome_of_run
 runs ticks cores scripts system inputs = refl
 
 -- the files after its report
-behind_files : (cores : List PartFile) (scripts : List Output) (system : System) (inputs : List (List ℕ)) (ticks : ℕ) (new : Machine) → new ≡ run (start (with_inputs system inputs)) ticks
+files_and_after : (cores : List PartFile) (scripts : List Output) (system : System) (inputs : List (List ℕ)) (ticks : ℕ) (new : Machine) → new ≡ run (start (with_inputs system inputs)) ticks
     → core_outputs new cores ++ scripts ≡ (outcome_of_run ticks cores scripts system inputs).later
 unfolding outcome_of_run
-behind_files cores scripts system inputs ticks new is = ap (λ (g : Machine). core_outputs g cores ++ scripts) is
+files_and_after cores scripts system inputs ticks new is = ap (λ (g : Machine). core_outputs g cores ++ scripts) is
 
 -- the outside as its report leaves it
-behind_report : (r : Ran) (cores : List PartFile) (scripts : List Output) (system : System) (inputs : List (List ℕ)) (ticks : ℕ) (new : Machine) (had got : Option (List ℕ)) (before now : ℕ) (files : Option Files) (reads writes calls : ℕ)
+report_and_after : (r : Ran) (cores : List PartFile) (scripts : List Output) (system : System) (inputs : List (List ℕ)) (ticks : ℕ) (new : Machine) (had got : Option (List ℕ)) (before now : ℕ) (files : Option Files) (reads writes calls : ℕ)
     → IsRun (Ok r) ticks (start (with_inputs system inputs)) new had got → now ≡ before → outside files reads writes calls got now ≡ told_all (outcome_of_run ticks cores scripts system inputs) (outside files reads writes calls had before)
 unfolding outcome_of_run
-behind_report r cores scripts system inputs ticks new had got before now files reads writes calls is same =
+report_and_after r cores scripts system inputs ticks new had got before now files reads writes calls is same =
     let told = finished r cores scripts system inputs ticks new had got is in
     rw (told, same) refl
 
 -- a run whose whole report went out comes to what is done after it
-pub behind_run : (e : Ending) (board : BoardView) (r : Ran) (cores : List PartFile) (scripts : List Output) (system : System) (inputs : List (List ℕ)) (ticks : ℕ) (new : Machine) (had got : Option (List ℕ)) (before now : ℕ) (files : Option Files) (reads writes calls : ℕ) (after : Outside)
-    → EndsBehind e (core_outputs new cores ++ scripts) board (outside files reads writes calls got now) after → IsRun (Ok r) ticks (start (with_inputs system inputs)) new had got → now ≡ before
+pub run_and_after : (e : Ending) (board : BoardView) (r : Ran) (cores : List PartFile) (scripts : List Output) (system : System) (inputs : List (List ℕ)) (ticks : ℕ) (new : Machine) (had got : Option (List ℕ)) (before now : ℕ) (files : Option Files) (reads writes calls : ℕ) (after : Outside)
+    → EndsAfter e (core_outputs new cores ++ scripts) board (outside files reads writes calls got now) after → IsRun (Ok r) ticks (start (with_inputs system inputs)) new had got → now ≡ before
     → Comes e (outcome_of_run ticks cores scripts system inputs) (outside files reads writes calls had before) after
-behind_run e board r cores scripts system inputs ticks new had got before now files reads writes calls after ends is same =
-    behind_outcome e board (outcome_of_run ticks cores scripts system inputs) (outside files reads writes calls had before) (outside files reads writes calls got now) after
+run_and_after e board r cores scripts system inputs ticks new had got before now files reads writes calls after ends is same =
+    outcome_and_after e board (outcome_of_run ticks cores scripts system inputs) (outside files reads writes calls had before) (outside files reads writes calls got now) after
     (granted ticks cores scripts system inputs) (runs ticks cores scripts system inputs)
-    (behind_report r cores scripts system inputs ticks new had got before now files reads writes calls is same)
-    (subst (λ (os : List Output). EndsBehind e os board (outside files reads writes calls got now) after) (behind_files cores scripts system inputs ticks new is.state) ends)
+    (report_and_after r cores scripts system inputs ticks new had got before now files reads writes calls is same)
+    (subst (λ (os : List Output). EndsAfter e os board (outside files reads writes calls got now) after) (files_and_after cores scripts system inputs ticks new is.state) ends)
 
 -- a configuration has a plan
 pub has_plan : (conf : Conf) → Fits (described conf) → 0 < length conf.plans

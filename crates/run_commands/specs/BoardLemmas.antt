@@ -14,8 +14,8 @@ use Rattle.xm_report.specs.declared.output.WriteFault.{WriteFault}
 use Rattle.xm_outside.specs.Files.{Files}
 use Rattle.xm_outside.specs.Growth.{grown}
 use Rattle.xm_words.specs.Words.{Command, PartFile}
-use Rattle.run_commands.specs.Behind.{EndsBehind}
-use Rattle.run_commands.specs.BehindLemmas.{behind_leaves}
+use Rattle.run_commands.specs.EndsAfter.{EndsAfter}
+use Rattle.run_commands.specs.EndsAfterLemmas.{leaves_and_after}
 use Rattle.run_commands.specs.Boards.{IsLeft, IsRunTo, LeavesBoard}
 use Rattle.file_commands.specs.CommandLemmas.{not_all_of_one}
 use Rattle.file_commands.specs.Ending.{Ending, Finished, Misused, Unread, Denied, Unwritten, Unsaved, Unheard, Starved}
@@ -47,12 +47,12 @@ whole r system inputs ticks new had got before mid after is begins heard =
     subst (λ (board : BoardView). IsHeard (console (start (with_inputs system inputs)) ticks) board after) begins (heard ticks is.state)
 
 -- where its whole report went out
-pub left_behind : (e : Ending) (outputs : List Output) (from to : Outside) (r : Ran) (cores : List PartFile) (scripts : List Output) (system : System) (inputs : List (List ℕ)) (ticks : ℕ) (new : Machine) (had got : Option (List ℕ)) (before mid after : BoardView)
-    → EndsBehind e outputs after from to → IsRun (Ok r) ticks (start (with_inputs system inputs)) new had got → mid ≡ without_marks before → IsRunHeard (start (with_inputs system inputs)) new mid after
+pub left_by_ending : (e : Ending) (outputs : List Output) (from to : Outside) (r : Ran) (cores : List PartFile) (scripts : List Output) (system : System) (inputs : List (List ℕ)) (ticks : ℕ) (new : Machine) (had got : Option (List ℕ)) (before mid after : BoardView)
+    → EndsAfter e outputs after from to → IsRun (Ok r) ticks (start (with_inputs system inputs)) new had got → mid ≡ without_marks before → IsRunHeard (start (with_inputs system inputs)) new mid after
     → LeavesBoard e (outcome_of_run ticks cores scripts system inputs).run had got before after
 unfolding outcome_of_run
-left_behind e outputs from to r cores scripts system inputs ticks new had got before mid after ends is begins heard =
-    behind_leaves e outputs (running ticks system inputs) had got from to before after (whole r system inputs ticks new had got before mid after is begins heard) ends
+left_by_ending e outputs from to r cores scripts system inputs ticks new had got before mid after ends is begins heard =
+    leaves_and_after e outputs (running ticks system inputs) had got from to before after (whole r system inputs ticks new had got before mid after is begins heard) ends
 
 -- a run whose report was cut
 pub left_cut : (fault : WriteFault) (cores : List PartFile) (scripts : List Output) (system : System) (inputs : List (List ℕ)) (ticks : ℕ) (new : Machine) (had got : Option (List ℕ)) (before mid after : BoardView)

@@ -1,11 +1,11 @@
-pub mod Behind
-pub mod BehindLemmas
 pub mod BoardLemmas
 pub mod Boards
 pub mod ContentLemmas
 pub mod Contents
 pub mod CoreLemmas
 pub mod Cores
+pub mod EndsAfter
+pub mod EndsAfterLemmas
 pub mod InputLemmas
 pub mod Numbers
 pub mod ReadyRuns

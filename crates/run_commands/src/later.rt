@@ -1,7 +1,7 @@
 //! What a run does after its report: core files are written, and scripts after them, and it ends.
 
 ghost use Rattle.std.specs.Prelude.{ℕ, List, ◌++◌, Option, length, map};
-ghost use Rattle.run_commands.specs.Behind.{EndsBehind};
+ghost use Rattle.run_commands.specs.EndsAfter.{EndsAfter};
 ghost use Rattle.run_commands.specs.Boards.{EndsRun};
 ghost use Rattle.run_commands.specs.Cores.{AreForPartitions, FitInto};
 ghost use Rattle.file_commands.specs.Outcome.{Output, core_outputs};
@@ -40,7 +40,7 @@ pub(crate) fn write_later<'a, S: Store>(
 
 /// How a run ends whose whole report went out, by whether the files after it were written.
 pub fn ended<'a>(saved: Result<(), Ending<'a>>, board: &Board) -> Ending<'a>
-    ensures { (outputs : List Output) (before after : Outside) → AreSaved saved.entry outputs before after → EndsBehind (ending_of result) outputs (⟦<Board as ViewBoard>⟧.board_view board.now) before after }
+    ensures { (outputs : List Output) (before after : Outside) → AreSaved saved.entry outputs before after → EndsAfter (ending_of result) outputs (⟦<Board as ViewBoard>⟧.board_view board.now) before after }
 {
     match saved {
         Ok(()) => heard(board),

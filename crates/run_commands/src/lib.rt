@@ -2,7 +2,6 @@
 #![tactic(auto)]
 
 mod cores;
-mod generating;
 mod inputs;
 mod later;
 mod readiness;
@@ -12,7 +11,6 @@ mod scripts;
 mod told;
 mod unpacking;
 
-pub use generating::generate;
 pub use later::ended;
 pub use recording::script_of;
 pub use running::run_file;

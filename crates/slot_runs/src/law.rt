@@ -29,7 +29,7 @@ pub fn resting_ticks()
     ensures law { RestingTicks }
 {}
 
-/// In its slot a partition that goes on executes instructions, and while they only go there is nothing to tell. Its timers may fall due
+/// In its slot a partition that goes on executes instructions, and while they only go there is no output. Its timers may fall due
 /// meanwhile, where that cannot be delivered.
 pub fn going_ticks()
     ensures law { GoingTicks }

@@ -1,6 +1,6 @@
 //! The operands of an instruction word.
 
-ghost use Rattle.std.specs.Prelude.{◌≡◌, ◌*◌, ◌+◌, ◌%◌, ◌^◌, ◌<◌};
+ghost use Rattle.std.specs.Prelude.{◌≡◌, ◌*◌, ◌%◌, ◌^◌, ◌<◌};
 ghost use Rattle.sparc_code.specs.Decoded.{operand};
 ghost use Rattle.sparc_code.specs.Fields.{disp22, disp30, imm7, rd, rs1, shcnt, simm13};
 ghost use Rattle.sparc_step.specs.Operands.{sum_of, value_of};

@@ -1,17 +1,14 @@
 //! The registers as a processor has them cached.
 
 ghost use borrow.Rule.Slice.PartMut.{put_mid};
-ghost use Rattle.std.specs.Prelude.{ℕ, ◌≡◌, ◌≢◌, ◌*◌, ◌+◌, ◌%◌, ◌<◌, ◌≤◌, ◌++◌, drop, length, slice_index, take};
-ghost use Rattle.sparc_step.specs.AtHand.{own_place, windows_with, with_first};
+ghost use Rattle.std.specs.Prelude.{ℕ, ◌≡◌, ◌≢◌, ◌*◌, ◌+◌, ◌%◌, ◌<◌, ◌≤◌, drop, length, slice_index, take};
+ghost use Rattle.sparc_step.specs.AtHand.{windows_with, with_first};
 ghost use Rattle.sparc_step.specs.AtHandLemmas.{put_at};
 ghost use Rattle.sparc_step.specs.Registers.{
-  AreRegisters,
   advanced,
   branched,
   in_window,
-  ins_place,
   locals_and_ins,
-  locals_place,
   placed,
   register_at,
   sent,

@@ -1,6 +1,6 @@
 //! The registers of a processor.
 
-ghost use Rattle.std.specs.Prelude.{◌≡◌, ℕ, ◌%◌, ◌<◌, ◌≤◌};
+ghost use Rattle.std.specs.Prelude.{◌≡◌, ◌%◌, ◌<◌, ◌≤◌};
 ghost use Rattle.sparc_step.specs.Registers.{
   AreRegisters,
   place_in_windows,

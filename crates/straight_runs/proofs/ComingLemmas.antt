@@ -37,10 +37,10 @@ came_next word origin at areas old new memory after stands goes =
     (no_steps areas (at_place origin at old) memory) stands goes)
 
 -- so did the one in its delay slot
-pub came_behind : (word origin at displacement : ℕ) (areas : List Area) (core old new : Registers) (memory there after : Memory)
+pub came_after_slot : (word origin at displacement : ℕ) (areas : List Area) (core old new : Registers) (memory there after : Memory)
     → fetched areas there (word_address origin (at + 1)) ≡ Ok word → Goes (decoded word) areas old new there after
     → AreSteps 1 areas (at_place origin at core) memory (at_slot origin (at + 1) (at + displacement) old) there → IsCame (Turn displacement) origin at areas core new memory after
-came_behind word origin at displacement areas core old new memory there after stands goes steps =
+came_after_slot word origin at displacement areas core old new memory there after stands goes steps =
     followed 2 origin (at + displacement) areas (at_place origin at core) new memory after
     (word_more 1 word (word_address origin (at + 1)) (word_address origin (at + displacement)) areas (at_place origin at core) old new memory there after steps stands goes)
 
@@ -57,10 +57,10 @@ came_shifted word origin at pc row here areas old mid new memory there after sta
     (no_steps areas (at_place origin at old) memory) (shifted (word_address origin (at + 1)) word stands is.spelled))
 
 -- so did the row in its delay slot
-pub came_behind_shifted : (word origin at displacement pc : ℕ) (row : Row) (here areas : List Area) (core old mid new : Registers) (memory there now after : Memory)
+pub came_after_slot_shifted : (word origin at displacement pc : ℕ) (row : Row) (here areas : List Area) (core old mid new : Registers) (memory there now after : Memory)
     → fetched areas there (word_address origin (at + 1)) ≡ Ok word → IsRowFor word row → mid ≡ old → now ≡ there → here ≡ areas → pc ≡ word_address origin (at + 1) → IsShift row pc here mid new now after
     → AreSteps 1 areas (at_place origin at core) memory (at_slot origin (at + 1) (at + displacement) old) there → IsCame (Turn displacement) origin at areas core new memory after
-came_behind_shifted word origin at displacement pc row here areas core old mid new memory there now after stands is same bytes areas_same pc_is placed_shifts steps =
+came_after_slot_shifted word origin at displacement pc row here areas core old mid new memory there now after stands is same bytes areas_same pc_is placed_shifts steps =
     let shifts = subst (λ (a : ℕ). IsShift row a here mid new now after) pc_is placed_shifts in
     let shifted = subst (λ (a : List Area). IsShift row (word_address origin (at + 1)) a old new there after) areas_same
     (subst (λ (m : Memory). IsShift row (word_address origin (at + 1)) here old new m after) bytes (subst (λ (r : Registers). IsShift row (word_address origin (at + 1)) here r new now after) same shifts)) in
@@ -85,7 +85,7 @@ gone word origin at areas old after memory stands is =
 
 -- to its delay slot, and then to a place
 pub turned_to : (word origin at displacement : ℕ) (row : Row) (areas : List Area) (old mid new : Registers) (memory there : Memory)
-    → fetched areas memory (word_address origin at) ≡ Ok word → IsRowFor word row → mid ≡ old → there ≡ memory → Turns (goal.Behind displacement) row origin at mid new
+    → fetched areas memory (word_address origin at) ≡ Ok word → IsRowFor word row → mid ≡ old → there ≡ memory → Turns (goal.AfterSlot displacement) row origin at mid new
     → AreSteps 1 areas (at_place origin at old) memory (at_slot origin (at + 1) (at + displacement) new) there
 turned_to word origin at displacement row areas old mid new memory there stands is same bytes turns =
     subst (λ (m : Memory). AreSteps 1 areas (at_place origin at old) memory (at_slot origin (at + 1) (at + displacement) new) m) (sym bytes)
@@ -118,7 +118,7 @@ came_call word origin at row areas old mid new memory there stands is same bytes
 
 -- what came after a turn
 pub came_turned : (came : Came) (word origin at displacement : ℕ) (row : Row) (here areas : List Area) (old mid turned new : Registers) (memory there after : Memory)
-    → fetched areas memory (word_address origin at) ≡ Ok word → IsRowFor word row → mid ≡ old → there ≡ memory → here ≡ areas → Turns (goal.Behind displacement) row origin at mid turned
+    → fetched areas memory (word_address origin at) ≡ Ok word → IsRowFor word row → mid ≡ old → there ≡ memory → here ≡ areas → Turns (goal.AfterSlot displacement) row origin at mid turned
     → ((core : Registers) (m : Memory) → AreSteps 1 here (at_place origin at core) m (at_slot origin (at + 1) (at + displacement) turned) there → IsCame came origin at here core new m after)
     → IsCame came origin at areas old new memory after
 came_turned came word origin at displacement row here areas old mid turned new memory there after stands is same bytes areas_same turns follows =

@@ -10,7 +10,7 @@ use Rattle.sparc_step.specs.declared.outcome.Turn.TheVariants.{Call}
 use Rattle.word_rows.specs.Rows.{IsRowOf}
 use Rattle.word_rows.specs.declared.rows.Row.{Row}
 use Rattle.straight_runs.specs.declared.turning.Goal.{Goal}
-use Rattle.straight_runs.specs.declared.turning.Goal.TheVariants.{Behind, Now, Calls, Stays}
+use Rattle.straight_runs.specs.declared.turning.Goal.TheVariants.{AfterSlot, Now, Calls, Stays}
 
 -- what an instruction comes to that calls the hypervisor: the program goes on after it
 abbrev pub calling : Registers → Memory → Turned
@@ -18,7 +18,7 @@ calling core memory = record { turn = Call; core = advanced core; memory = memor
 
 -- each instruction whose row it is goes there, or calls; one that was not done changed nothing
 abbrev pub Turns : Goal → Row → ℕ → ℕ → Registers → Registers → Type 0
-Turns (Behind displacement) row origin at old new =
+Turns (AfterSlot displacement) row origin at old new =
     (i : Instr) (areas : List Area) (memory : Memory) → IsRowOf row i → executed i areas (at_place origin at old) memory ≡ done (at_slot origin (at + 1) (at + displacement) new) memory
 Turns (Now displacement) row origin at old new =
     (i : Instr) (areas : List Area) (memory : Memory) → IsRowOf row i → executed i areas (at_place origin at old) memory ≡ done (at_place origin (at + displacement) new) memory
@@ -28,7 +28,7 @@ Turns Stays row origin at old new = new ≡ old
 
 -- a row by which an instruction goes is not empty
 abbrev pub TurnsBy : Goal → Row → Type 0
-TurnsBy (Behind displacement) row = row.kind ≢ unmade
+TurnsBy (AfterSlot displacement) row = row.kind ≢ unmade
 TurnsBy (Now displacement) row = row.kind ≢ unmade
 TurnsBy Calls row = row.kind ≢ unmade
 TurnsBy Stays row = Unit {0}

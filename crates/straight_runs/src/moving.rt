@@ -1,6 +1,6 @@
 //! Loads and stores, by their kind.
 
-ghost use Rattle.std.specs.Prelude.{◌≡◌, ◌≢◌, ◌+◌, ◌<◌, ◌≤◌, false, None};
+ghost use Rattle.std.specs.Prelude.{◌≡◌, ◌≢◌, ◌<◌, ◌≤◌, false, None};
 ghost use Rattle.std.specs.Bool.{OnTrue};
 ghost use Rattle.guest_bus.specs.Access.{after_store, store_fault};
 ghost use Rattle.guest_bus.specs.declared.bus.Size.TheVariants.{Eight};

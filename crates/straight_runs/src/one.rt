@@ -52,7 +52,7 @@ pub(crate) fn one<B: HasRows>(
 {
     match execute(own, bus, words, at) {
         Step::Next => Came::Next,
-        Step::Taken(displacement) => behind(own, bus, words, at, stop, displacement),
+        Step::Taken(displacement) => after_slot(own, bus, words, at, stop, displacement),
         Step::Shifts => {
             let row = *bus.row(words, at);
             if shift(own, bus, row, address(words, at)) {
@@ -64,7 +64,14 @@ pub(crate) fn one<B: HasRows>(
         Step::Stays => {
             let row = bus.row(words, at);
             match turn(own, row, words, at) {
-                Goal::Behind(displacement) => behind(own, bus, words, at, stop, displacement),
+                Goal::AfterSlot(displacement) => after_slot(
+                    own,
+                    bus,
+                    words,
+                    at,
+                    stop,
+                    displacement,
+                ),
                 Goal::Now(displacement) => Came::Jump(displacement),
                 Goal::Calls => Came::Calls,
                 Goal::Stays => {
@@ -78,7 +85,7 @@ pub(crate) fn one<B: HasRows>(
 
 // Does the word in the delay slot of a place, where the run does not stop before it.
 #[inline(always)]
-fn behind<B: HasRows>(
+fn after_slot<B: HasRows>(
     own: &mut Processor,
     bus: &mut B,
     words: Words,

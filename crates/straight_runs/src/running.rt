@@ -128,7 +128,7 @@ fn stand(own: &mut Processor, words: Words, at: usize)
     own.place(address(words, at), address_after(words, at));
 }
 
-// The program counters at the word of the delay slot behind a place, from which a displacement follows.
+// The program counters at the word of the delay slot after a place, from which a displacement follows.
 #[inline(always)]
 fn stand_in_slot(own: &mut Processor, words: Words, at: usize, displacement: u32)
     requires words { AreWords words }
@@ -138,7 +138,7 @@ fn stand_in_slot(own: &mut Processor, words: Words, at: usize, displacement: u32
     own.place(address_after(words, at), address(words, to));
 }
 
-// The place where a run at a place stops: 0 where that lies before the words. Behind them it is below the place.
+// The place where a run at a place stops: 0 where that is before the words, and no later than the place where it is after them.
 #[inline(always)]
 fn stop_at(words: Words, at: usize, limit: usize) -> usize
     ensures { RunStopsAt words at limit result }

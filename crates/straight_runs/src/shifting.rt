@@ -97,8 +97,8 @@ fn spill<B: HasWords>(own: &mut Processor, bus: &mut B, here: u32) -> bool
 {
     let window = (own.inv() + 7) % 8;
     let address = own.stack_of(window);
-    let behind = here.wrapping_sub(address);
-    if behind < 64 {
+    let distance = here.wrapping_sub(address);
+    if distance < 64 {
         return false;
     }
     let words = own.saved(window);

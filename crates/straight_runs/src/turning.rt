@@ -1,6 +1,6 @@
 //! Branches that are taken, calls and jumps.
 
-ghost use Rattle.std.specs.Prelude.{◌≡◌, ℕ, ◌<◌, ◌≤◌};
+ghost use Rattle.std.specs.Prelude.{◌≡◌, ℕ, ◌<◌};
 ghost use Rattle.guest_bus.specs.Words.{AreWords};
 ghost use Rattle.word_rows.specs.Rows.{AreRegisterNumbers};
 ghost use Rattle.straight_runs.specs.Turning.{Turns, TurnsBy};
@@ -19,7 +19,7 @@ const CALL_NUMBER: u32 = 0x70;
 #[derive(Clone, Copy, Debug)]
 pub(crate) enum Goal {
     /// After its delay slot by a displacement from its place.
-    Behind(u32),
+    AfterSlot(u32),
     /// By a displacement from its place, its delay slot being annulled.
     Now(u32),
     /// It calls the hypervisor, and was not done.
@@ -62,7 +62,7 @@ fn call(own: &mut Processor, row: &Row, words: Words, at: usize) -> Goal
     ensures { Turns result row.now words.origin at own.old own.new }
 {
     own.set(15, address(words, at));
-    Goal::Behind(row.number)
+    Goal::AfterSlot(row.number)
 }
 
 // A jump. One to where no instruction can stand is left.
@@ -79,7 +79,7 @@ fn jump(own: &mut Processor, row: &Row, words: Words, at: usize) -> Goal
     }
     let here = address(words, at);
     own.set(row.rd, here);
-    Goal::Behind(displacement(here, target))
+    Goal::AfterSlot(displacement(here, target))
 }
 
 // A branch that annuls its delay slot where it is not taken, or is taken always.
@@ -94,7 +94,7 @@ fn annulling(own: &Processor, row: &Row) -> Goal
     } else if row.rs1 == 8 {
         Goal::Now(row.number)
     } else {
-        Goal::Behind(row.number)
+        Goal::AfterSlot(row.number)
     }
 }
 

@@ -68,7 +68,7 @@ fn first_after(done: u64, first: bool) -> bool
 }
 
 // The place so many ticks later, in the same slot or gap, whose first tick it then is not. That of a gap is handed on as it is: a `None`
-// made anew costs host instructions.
+// made again costs host instructions.
 fn later(place: Place, ticks: u64) -> Place
     requires { ticks ≤ place.left }
     ensures { result ≡ place_after ticks place }

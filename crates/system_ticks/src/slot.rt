@@ -31,8 +31,7 @@ use slot_runs::{
 };
 use sparc_step::Turn;
 use tick_pieces::{
-    Beyond, Lines, Span, goes_on, interrupt, meet, meet_trap, rest, take_interrupt, takes_turns,
-    wake,
+    Beyond, Lines, Span, goes_on, interrupt, meet_trap, rest, take_interrupt, takes_turns,
 };
 use virt_clocks::next_deadline_is_least;
 use xm_base::PartId;
@@ -166,9 +165,9 @@ fn take_slot(sys: &mut Sys, lines: &mut Lines, span: &mut Span, p: PartId, first
     ensures done { AreDoneFrom span.new most sys.old.machine sys.old sys.new lines.new }
 {
     next_deadline_is_least();
-    meet(sys, p, first);
+    sys.meet(p, first);
     if goes_on(sys, p, first) {
-        wake(sys, p);
+        sys.wake(p);
         go_on(sys, lines, span, p, most)
     } else {
         stay_idle(sys, lines, span, p, most)
@@ -206,7 +205,7 @@ fn stay_idle(sys: &mut Sys, lines: &mut Lines, span: &mut Span, p: PartId, most:
     pass(sys, lines, span, p, ticks);
 }
 
-// So many ticks of the slot of partition `p` with nothing to tell but that a plan starts: all others rest.
+// So many ticks of the slot of partition `p` without output but that a plan starts: all others rest.
 #[inline(always)]
 fn pass(sys: &mut Sys, lines: &mut Lines, span: &mut Span, p: PartId, ticks: u64)
     requires some { 0 < ticks }
@@ -308,7 +307,7 @@ fn trap_after(
     tick_in_passes();
     acts_within_bounds();
     keeps_numbers();
-    stand_behind(sys, p, went);
+    stand_after(sys, p, went);
     let reach = meet_trap(sys, lines, p, tt, pc);
     end_tick(sys, lines, p, reach);
     *span = Span::quiet(went + 1, p, true, reach);
@@ -328,7 +327,7 @@ fn call_after(sys: &mut Sys, lines: &mut Lines, span: &mut Span, p: PartId, went
     tick_in_passes();
     acts_within_bounds();
     keeps_numbers();
-    stand_behind(sys, p, went);
+    stand_after(sys, p, went);
     match call_told(sys, lines, p, pc) {
         Some(told) => end_call(sys, lines, span, p, went + 1, told.0, told.1),
         None => pass_call(sys, lines, span, p, went + 1),
@@ -375,7 +374,7 @@ fn end_call(
 
 // The system as it stands after so many ticks in which the partition only went: all others have rested.
 #[inline(always)]
-fn stand_behind(sys: &mut Sys, p: PartId, ticks: u64)
+fn stand_after(sys: &mut Sys, p: PartId, ticks: u64)
     requires time { sys.old.machine.time + ticks < 2 ^ 64 }
     requires ticks { sys.old.machine.ticks + ticks < 2 ^ 64 }
     ensures { sys.new ≡ with_machine (machine_underway p ticks sys.old.machine) sys.old }

@@ -17,12 +17,10 @@ use health_monitor::{Effect, HealthEntry, Own, Whole, action_of, effect, is_logg
 use sparc_step::{Core, Processor};
 use virt_traps::StackFault;
 use whole_system::Sys;
+use whole_system::interrupts::SHUTDOWN;
 use xm_base::{Order, PartId};
 use xm_conf::{Action, Event};
 use xm_report::Line;
-
-/// The interrupt that asks for a shutdown.
-const SHUTDOWN: u8 = 2;
 
 /// The trap type of interrupt 0; those of the others follow it.
 const INTERRUPT_0: u8 = 0xe0;

@@ -18,5 +18,5 @@ pub use lines::Lines;
 pub use order::{obey, reset, reset_move};
 pub use resting::{rest, rest_one};
 pub use span::Span;
-pub use traps::{count_tick, meet_trap, take_interrupt};
-pub use turns::{goes_on, interrupt, meet, takes_turns, wake};
+pub use traps::{meet_trap, take_interrupt};
+pub use turns::{goes_on, interrupt, takes_turns};

@@ -13,12 +13,10 @@ use sparc_step::{Core, Processor};
 use virt_clocks::Clocks;
 use virt_traps::Virt;
 use whole_system::Sys;
+use whole_system::interrupts::SHUTDOWN;
 use xm_base::{Mode, Order, PartId, State};
 use xm_ports::Ports;
 use xm_report::{Line, Move};
-
-/// The interrupt that asks for a shutdown.
-const SHUTDOWN: u8 = 2;
 
 /// A partition obeys an order. One that does not apply changes nothing and reports nothing.
 #[tactic(auto, unfolding(machine_model::specs::Partition::ordered, machine_model::specs::Partition::ordered_told))]

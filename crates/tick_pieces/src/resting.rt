@@ -9,10 +9,8 @@ ghost use Rattle.slot_runs.specs.Passes.{part_at, rest_but, with_part};
 
 use virt_clocks::{Clock, Timer};
 use whole_system::Sys;
+use whole_system::interrupts::HARDWARE_TIMER;
 use xm_base::{PartId, State};
-
-/// The interrupt of the hardware timer.
-const HARDWARE_TIMER: u8 = 0;
 
 /// All partitions rest at this time, but for one where it is named. Where there is no other, or no hardware timer is armed, that leaves all
 /// as they are.

@@ -2,12 +2,10 @@
 
 ghost use Rattle.std.specs.Prelude.{◌≡◌, ◌^◌, ◌<◌, ◌≤◌, [], Some, length};
 ghost use Rattle.health_monitor.specs.Monitor.{event_of_type};
-ghost use Rattle.whole_system.specs.Serving as serving;
-ghost use Rattle.whole_system.specs.State.{with_machine};
 ghost use Rattle.machine_model.specs.Health.{event_handled, interrupt_delivered};
 ghost use Rattle.machine_model.specs.LocalTick.{clocked};
 ghost use Rattle.machine_model.specs.View.{view_of};
-ghost use Rattle.slot_runs.specs.Passes.{part_at, with_part};
+ghost use Rattle.slot_runs.specs.Passes.{part_at};
 ghost use Rattle.tick_pieces.specs.Work.{IsTickWorked};
 
 use crate::beyond::Beyond;
@@ -27,7 +25,7 @@ pub fn take_interrupt(sys: &mut Sys, lines: &mut Lines, p: PartId, n: u8)
     ensures worked { IsTickWorked p (interrupt_delivered (view_of sys.old.machine.system p) sys.old.machine.time n (clocked (part_at p sys.old.machine))) Note.Nothing Beyond.Nothing sys.old sys.new lines.new }
     ensures few { length lines.new ≤ 3 }
 {
-    count_tick(sys, p);
+    sys.count_tick(p);
     deliver_interrupt(sys, lines, p, n);
 }
 
@@ -40,17 +38,6 @@ pub fn meet_trap(sys: &mut Sys, lines: &mut Lines, p: PartId, tt: u8, pc: u32) -
     ensures worked { IsTickWorked p (event_handled (view_of sys.old.machine.system p) sys.old.machine.time (event_of_type tt) pc (Some tt) (clocked (part_at p sys.old.machine))) Note.Nothing result sys.old sys.new lines.new }
     ensures few { length lines.new ≤ 3 }
 {
-    count_tick(sys, p);
-    Beyond::Whole(handle_event(sys, lines, p, event_of(tt), pc, Some(tt)))
-}
-
-/// Counts the tick on the partition's execution clock.
-#[tactic(auto, unfolding(machine_model::specs::LocalTick::clocked))]
-pub fn count_tick(sys: &mut Sys, p: PartId)
-    requires partition { p < length sys.old.machine.parts }
-    requires clock { (part_at p sys.old.machine).clocks.execution < 2 ^ 63 }
-    ensures value { sys.new ≡ with_machine (with_part p (clocked (part_at p sys.old.machine)) sys.old.machine) sys.old }
-    ensures log { (part_at p sys.new.machine).health ≡ (part_at p sys.old.machine).health }
-{
     sys.count_tick(p);
+    Beyond::Whole(handle_event(sys, lines, p, event_of(tt), pc, Some(tt)))
 }

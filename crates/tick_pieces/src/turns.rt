@@ -1,12 +1,10 @@
-//! How a tick of a partition's slot begins: interrupts become pending, and the partition goes on or does not.
+//! How a tick of a partition's slot begins: whether the partition goes on, and which interrupt is delivered to it.
 
 ghost use Rattle.std.specs.Prelude.{◌≡◌, ◌<◌, ◌||◌, IfSome, None, if◌then◌else◌, is_some, length, true};
-ghost use Rattle.machine_model.specs.LocalTick.{goes_on, with_interrupts};
+ghost use Rattle.machine_model.specs.LocalTick.{goes_on};
 ghost use Rattle.machine_model.specs.Partition.{takes_turns};
-ghost use Rattle.slot_runs.specs.Meeting.{awake};
-ghost use Rattle.slot_runs.specs.Passes.{part_at, with_part};
+ghost use Rattle.slot_runs.specs.Passes.{part_at};
 ghost use Rattle.virt_traps.specs.Virtual.{due};
-ghost use Rattle.whole_system.specs.State.{with_machine};
 
 use whole_system::Sys;
 use xm_base::{PartId, State};
@@ -20,15 +18,6 @@ pub fn takes_turns(sys: &Sys, p: PartId) -> bool
         State::Ready | State::Idle => true,
         State::Suspended | State::Halted => false,
     }
-}
-
-/// The interrupts of a tick become pending: the start of a slot, and those of the timers that are due.
-#[inline(always)]
-pub fn meet(sys: &mut Sys, p: PartId, first: bool)
-    requires partition { p < length sys.old.machine.parts }
-    ensures { sys.new ≡ with_machine (with_part p (with_interrupts sys.old.machine.time first (part_at p sys.old.machine)) sys.old.machine) sys.old }
-{
-    sys.meet(p, first);
 }
 
 /// Whether the partition goes on: an idle one is woken by the start of its slot or an interrupt that is due.
@@ -47,14 +36,6 @@ fn is_woken(sys: &Sys, p: PartId, first: bool) -> bool
     ensures { result ≡ (first || is_some (due (part_at p sys.now.machine).traps)) }
 {
     first || sys.part(p).virt.due().is_some()
-}
-
-/// A partition that goes on is ready.
-pub fn wake(sys: &mut Sys, p: PartId)
-    requires partition { p < length sys.old.machine.parts }
-    ensures { sys.new ≡ with_machine (with_part p (awake (part_at p sys.old.machine)) sys.old.machine) sys.old }
-{
-    sys.wake(p);
 }
 
 /// The interrupt that is delivered to the partition, where one is due and traps are enabled.

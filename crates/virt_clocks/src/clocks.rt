@@ -1,7 +1,7 @@
 //! The clocks of one partition.
 
-ghost use Rattle.std.specs.Prelude.{◌≡◌, ◌↔◌, ℕ, ◌+◌, ◌^◌, ◌<◌, ◌<ℤ◌, ◌⊎◌, ◌||◌, None, pos, is_some, unsigned_abs, IfSome, IsErr, IsNone, OnErr, OnOk};
-ghost use Rattle.virt_clocks.specs.Clocks.{AreTimers, IsFirstDue, NoneCounted, armed, if_counting, is_due, lesser, looked_at, next_due, no_clocks, ticks_until, timer_of, with_timer};
+ghost use Rattle.std.specs.Prelude.{◌≡◌, ◌↔◌, ◌+◌, ◌^◌, ◌<◌, ◌<ℤ◌, ◌⊎◌, ◌||◌, None, pos, is_some, unsigned_abs, IfSome, IsErr, IsNone, OnErr, OnOk};
+ghost use Rattle.virt_clocks.specs.Clocks.{AreTimers, IsFirstDue, NoneCounted, armed, is_due, lesser, looked_at, next_due, no_clocks, ticks_until, timer_of, with_timer};
 
 use crate::timer::{
     Clock, Negative, Timer, armed, counted, is_due, is_negative, lesser, looked_at, ticks_until,

@@ -1,6 +1,6 @@
 //! Timers: what is set, what is due, and what becomes of a timer that was due.
 
-ghost use Rattle.std.specs.Prelude.{◌≡◌, ◌↔◌, ℕ, ◌+◌, ◌-◌, ◌*◌, ◌/◌, ◌^◌, ◌<◌, ◌≤◌, ◌<ℤ◌, ◌⊎◌, pos, IsTrue, min};
+ghost use Rattle.std.specs.Prelude.{◌≡◌, ◌↔◌, ◌-◌, ◌^◌, ◌<◌, ◌≤◌, ◌<ℤ◌, ◌⊎◌, pos, IsTrue, min};
 ghost use Rattle.std.specs.Option.{ForSome};
 ghost use Rattle.virt_clocks.specs.Clocks.{IsTimer, armed, if_counting, is_due, lesser, looked_at, moved_to, next_deadline, rearmed, ticks_until};
 

@@ -5,6 +5,7 @@ pub mod answering;
 mod call_site;
 mod gone;
 mod inputs;
+pub mod interrupts;
 mod own_state;
 mod reading;
 mod served;

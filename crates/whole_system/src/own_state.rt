@@ -6,6 +6,7 @@ ghost use Rattle.virt_clocks.specs.Clocks.{looked_at};
 ghost use Rattle.whole_system.specs.State.{booted_own, is_timed};
 ghost use Rattle.whole_system.specs.Turning.{HasMet};
 
+use crate::interrupts::{EXECUTION_TIMER, HARDWARE_TIMER, SLOT_START};
 use health_monitor::HealthEntry;
 use sparc_step::{Core, Processor};
 use std::alloc::Global;
@@ -15,13 +16,6 @@ use virt_traps::Virt;
 use xm_base::{Memory, State};
 use xm_ports::Ports;
 use xm_traces::{Ring, TraceEntry};
-
-/// The interrupts that ticks bring.
-const HARDWARE_TIMER: u8 = 0;
-
-const EXECUTION_TIMER: u8 = 1;
-
-const SLOT_START: u8 = 5;
 
 /// The state of a partition, but for its memory and its input words, which belong to the system.
 #[derive(Debug, Drop)]

@@ -271,6 +271,7 @@ impl Sys {
         requires partition { p < length self.old.machine.parts }
         requires clock { (part_at p self.old.machine).clocks.execution < 2 ^ 63 }
         ensures value { self.new ≡ with_machine (with_part p (clocked (part_at p self.old.machine)) self.old.machine) self.old }
+        ensures log { (part_at p self.new.machine).health ≡ (part_at p self.old.machine).health }
     {
         self.parts[usize::from(p)].clocks.pass();
     }

@@ -2,7 +2,7 @@
 
 ghost use Rattle.std.specs.Prelude.{◌≡◌, ◌+◌, ◌++◌, ◌^◌, ◌<◌, ◌≤◌, IfOk, OnErr, OnOk, drop, length, take};
 ghost use Rattle.std.specs.Option.{option_to_list};
-ghost use Rattle.xef_images.specs.Elf.{elf, header_count, is_class, is_magic, is_machine, load_at, loads, overlap, segment_from, sorted, verdict, elf_word};
+ghost use Rattle.xef_images.specs.Elf.{elf, header_count, is_class, is_magic, is_machine, load_at, loads, overlap, segment_from, sorted, verdict};
 ghost use Rattle.xef_images.specs.ElfGives.{ElfGives};
 
 use crate::header::{HEADER, Header, half, word};

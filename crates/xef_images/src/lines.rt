@@ -1,9 +1,8 @@
 //! The lines that describe an image's file.
 
-ghost use Rattle.std.specs.Prelude.{◌≡◌, ◌++◌, ◌-◌, ◌≤◌, IfOk, OnOk, decimal, drop, length};
+ghost use Rattle.std.specs.Prelude.{◌≡◌, ◌++◌, ◌-◌, IfOk, OnOk, length};
 ghost use Rattle.std.specs.List.{flat_map};
 ghost use Rattle.xef_images.specs.Spelling.{xef_text};
-ghost use Rattle.file_texts.specs.Texts.{address_text};
 ghost use Rattle.xef_images.specs.Texts.{digest_line, entry_line, segment_line, xef_lines};
 
 use crate::segment::Segment;

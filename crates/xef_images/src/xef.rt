@@ -1,6 +1,6 @@
 //! An image that may be loaded.
 
-ghost use Rattle.std.specs.Prelude.{◌≡◌, ◌+◌, ◌*◌, ◌^◌, ◌<◌, ◌≤◌, ◌↔◌, IsNone, IfSome, IsTrue, length, nat_le};
+ghost use Rattle.std.specs.Prelude.{◌≡◌, ◌+◌, ◌^◌, ◌<◌, ◌↔◌, IsNone, IfSome, length, nat_le};
 ghost use Rattle.xef_images.specs.Image.{IsImage, xef_length};
 ghost use Rattle.xef_images.specs.Tests.{are_placed, is_entry, is_image, is_in_memory};
 

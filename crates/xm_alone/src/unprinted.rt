@@ -1,6 +1,6 @@
 //! A sink for what is to print nothing.
 
-ghost use Rattle.std.specs.Prelude.{◌≡◌, ℕ, ◌<◌, ◌≤◌, [], Some, IfOk, length};
+ghost use Rattle.std.specs.Prelude.{◌<◌, ◌≤◌, [], Some, IfOk, length};
 ghost use Rattle.xm_outside.specs.Causes.{HasCause};
 ghost use Rattle.xm_outside.specs.Growth.{TakesPiece};
 

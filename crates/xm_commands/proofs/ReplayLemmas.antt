@@ -16,9 +16,9 @@ use Rattle.told_scripts.specs.Replayed.{replay_lines}
 use Rattle.xm_alone.specs.Replay.{IsCutReplay, IsReplay, IsReplayed, IsWholeReplay}
 use Rattle.told_scripts.specs.Lone.{Lone, booted_alone, own_view, replay_said}
 use Rattle.xm_words.specs.Words.{ReplayFiles}
-use Rattle.run_commands.specs.Behind.{EndsBehind}
+use Rattle.run_commands.specs.EndsAfter.{EndsAfter}
 use Rattle.run_commands.specs.Boards.{IsRunTo, LeavesBoard}
-use Rattle.run_commands.specs.BehindLemmas.{behind_leaves, behind_outcome}
+use Rattle.run_commands.specs.EndsAfterLemmas.{leaves_and_after, outcome_and_after}
 use Rattle.file_commands.specs.Ending.{Ending, Unwritten}
 use Rattle.xm_base.specs.declared.limits.TheConstants.{FILE_BYTES}
 use Rattle.file_commands.specs.Outcome.{Output, Running, Apart, content, first_long, input_bytes, name_if_any, played, replay_outcome_by, replay_output, unready_denial}
@@ -59,12 +59,12 @@ played-runs core replay = refl
 
 -- so it comes to what is done after its report
 pub behind_replay : (e : Ending) (board : BoardView) (lone new : Lone) (cues : List Cue) (core : Option (List ℕ)) (had got : Option (List ℕ)) (before now : ℕ) (files : Option Files) (reads writes calls : ℕ) (mid last : BoardView) (after : Outside)
-    → IsWholeReplay cues (replay_lines (own_view lone) cues) lone new had got mid last → now ≡ before → EndsBehind e (map (lone_output new) (name_if_any core)) board (outside files reads writes calls got now) after
+    → IsWholeReplay cues (replay_lines (own_view lone) cues) lone new had got mid last → now ≡ before → EndsAfter e (map (lone_output new) (name_if_any core)) board (outside files reads writes calls got now) after
     → Comes e (played core (ready_of lone cues)) (outside files reads writes calls had before) after
 behind_replay e board lone new cues core had got before now files reads writes calls mid last after is same ends =
-    behind_outcome e board (played core (ready_of lone cues)) (outside files reads writes calls had before) (outside files reads writes calls got now) after (played-granted core (ready_of lone cues)) (played-runs core (ready_of lone cues))
+    outcome_and_after e board (played core (ready_of lone cues)) (outside files reads writes calls had before) (outside files reads writes calls got now) after (played-granted core (ready_of lone cues)) (played-runs core (ready_of lone cues))
     (whole_told lone new cues core had got before now files reads writes calls mid last is same)
-    (subst (λ (os : List Output). EndsBehind e os board (outside files reads writes calls got now) after) (cores_are lone new cues core is.left) ends)
+    (subst (λ (os : List Output). EndsAfter e os board (outside files reads writes calls got now) after) (cores_are lone new cues core is.left) ends)
 
 -- its report was cut
 pub cut_comes : (lone new : Lone) (cues : List Cue) (core : Option (List ℕ)) (had got : Option (List ℕ)) (before now : ℕ) (files : Option Files) (reads writes calls : ℕ) (mid after : BoardView)
@@ -94,10 +94,10 @@ whole_heard lone new cues had got before mid after is begins = rw take_all_same 
 
 -- where its whole report went out
 pub lone_behind : (e : Ending) (outputs : List Output) (from to : Outside) (lone new : Lone) (cues : List Cue) (core : Option (List ℕ)) (had got : Option (List ℕ)) (before mid after : BoardView)
-    → EndsBehind e outputs after from to → IsWholeReplay cues (replay_lines (own_view lone) cues) lone new had got mid after → mid ≡ without_marks before → LeavesBoard e (played core (ready_of lone cues)).run had got before after
+    → EndsAfter e outputs after from to → IsWholeReplay cues (replay_lines (own_view lone) cues) lone new had got mid after → mid ≡ without_marks before → LeavesBoard e (played core (ready_of lone cues)).run had got before after
 unfolding played
 lone_behind e outputs from to lone new cues core had got before mid after ends is begins =
-    behind_leaves e outputs (Apart lone.system lone.p cues) had got from to before after (whole_heard lone new cues had got before mid after is begins) ends
+    leaves_and_after e outputs (Apart lone.system lone.p cues) had got from to before after (whole_heard lone new cues had got before mid after is begins) ends
 
 pub lone_cut : (lone new : Lone) (cues : List Cue) (core : Option (List ℕ)) (had got : Option (List ℕ)) (before mid after : BoardView) → IsCutReplay cues (replay_lines (own_view lone) cues) lone new had got mid after → mid ≡ without_marks before
     → LeavesBoard Unwritten (played core (ready_of lone cues)).run had got before after

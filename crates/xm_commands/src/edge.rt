@@ -1,6 +1,6 @@
 //! The program over the system: its arguments, its files, its streams, and the files of its UARTs.
 
-ghost use Rattle.std.specs.Prelude.{◌≡◌, ℕ, ◌<◌, IfOk, false};
+ghost use Rattle.std.specs.Prelude.{◌≡◌, ◌<◌, IfOk, false};
 ghost use Rattle.std.specs.Process.{exit_status};
 ghost use Rattle.xm_outside.specs.FileUart.{uart_file};
 ghost use Rattle.xm_commands.specs.Called.{IsSomeCall};

@@ -4,6 +4,7 @@
 
 mod arguments;
 mod edge;
+mod generating;
 mod lone_core;
 mod replaying;
 mod top;

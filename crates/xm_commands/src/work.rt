@@ -9,10 +9,11 @@ ghost use Rattle.run_commands.specs.Numbers.{HasScripts, WordsTell};
 ghost use Rattle.xm_words.specs.Seen.{command_seen};
 ghost use Rattle.xm_words.specs.Words.{command_of};
 
+use crate::generating::generate;
 use crate::replaying::replay_container;
 use file_commands::{Ending, build_image, pack_files, parse, tell, upgrade};
 use file_maker::Telling;
-use run_commands::{generate, run_container, run_file};
+use run_commands::{run_container, run_file};
 use std::alloc::Global;
 use uart_board::{Board, ViewBoard};
 use xm_outside::{Sink, Store};

@@ -1,8 +1,6 @@
 //! The lines that describe a container.
 
-ghost use Rattle.std.specs.Prelude.{◌≡◌, ◌++◌, ◌-◌, ◌≤◌, IfOk, OnOk, Ok, decimal, drop, length};
-ghost use Rattle.hex.specs.Hex.{encode_lower};
-ghost use Rattle.file_texts.specs.Texts.{address_text};
+ghost use Rattle.std.specs.Prelude.{◌≡◌, ◌++◌, ◌-◌, ◌≤◌, IfOk, OnOk, Ok, drop, length};
 ghost use Rattle.xm_container.specs.Reading.{unpacked};
 ghost use Rattle.xm_container.specs.Texts.{box_lines, container_line, file_line, image_line, image_lines, system_line};
 

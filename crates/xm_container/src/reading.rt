@@ -1,7 +1,6 @@
 //! The reading of a container.
 
 ghost use Rattle.std.specs.Prelude.{◌≡◌, ◌≤◌, IfOk, Ok, codes, length};
-ghost use Rattle.std.specs.Int.{w8, w16, w32};
 ghost use Rattle.bin_config.specs.Reading.{read_as};
 ghost use Rattle.bin_config.specs.declared.version.Version.{Version as AVersion};
 ghost use Rattle.xef_images.specs.Reading.{xef};

@@ -1,6 +1,6 @@
 //! The writing of a container.
 
-ghost use Rattle.std.specs.Prelude.{◌≡◌, ◌≤◌, ◌+◌, ◌++◌, ◌<◌, All, IfOk, IsNone, OnOk, None, Ok, Some, length, map, option_copied};
+ghost use Rattle.std.specs.Prelude.{◌≡◌, ◌≤◌, ◌+◌, ◌++◌, ◌<◌, All, IfOk, IsNone, OnOk, None, Ok, Some, length, option_copied};
 ghost use Rattle.bin_config.specs.Spelled.{HasConfRanges};
 ghost use Rattle.xef_images.specs.Image.{IsImage};
 ghost use Rattle.loaded_system.specs.Inside.{first_outside as first_outside_of};

@@ -1,5 +1,5 @@
 -- One tick of one partition of a machine without the others, told.
-use Rattle.std.proofs.Common.{◌≡◌, ℕ, ◌≤◌, List, ◌++◌, length, map, Option, Some, None, refl, sym, ap, subst, ◌∙◌, arith}
+use Rattle.std.proofs.Common.{◌≡◌, ℕ, ◌≤◌, List, ◌++◌, length, map, Option, Some, None, sym, ap, subst, ◌∙◌, arith}
 use Rattle.std.specs.Prelude.{IfSome, Result, Ok, Err}
 use Rattle.xm_report.specs.Report.{ReportLine}
 use Rattle.xm_report.specs.declared.output.WriteFault.{WriteFault}

@@ -1,5 +1,5 @@
 -- What ticks and runs leave of each partition: what it is alone, under what it was told.
-use Rattle.std.specs.Prelude.{◌≡◌, ℕ, ◌<◌, ◌≤◌, List, [], ◌∷◌, ◌++◌, length, Option, Some, Result, Ok, Err, slice_get}
+use Rattle.std.specs.Prelude.{◌≡◌, ℕ, ◌<◌, ◌≤◌, [], ◌∷◌, ◌++◌, length, Some, Result, Ok, Err, slice_get}
 use Rattle.xm_report.specs.declared.output.WriteFault.{WriteFault}
 use Rattle.machine_model.specs.Alone.{alone_from, alone_lines, alone_said, alone_start}
 use Rattle.machine_model.specs.Cue.{script}

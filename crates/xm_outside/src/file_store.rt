@@ -1,8 +1,6 @@
 //! The files of the system as a store.
 
-ghost use Rattle.std.specs.Prelude.{◌≡◌, ℕ, ◌+◌, ◌^◌, ◌<◌, ◌≤◌, None, IfOk, IsErrOf, vec_len};
-ghost use Rattle.xm_outside.specs.Causes.{HasCause, HasReadCause, counted};
-ghost use Rattle.xm_outside.specs.Files.{IsAbsent, ReadsFile, StoresFile};
+ghost use Rattle.std.specs.Prelude.{◌≡◌, ◌+◌, ◌^◌, ◌<◌, ◌≤◌, None, IfOk, vec_len};
 
 use crate::store::{Failed, Store, StoreFault};
 use std::alloc::Global;

@@ -1,9 +1,7 @@
 //! A file of the system as a UART.
 
-ghost use Rattle.std.specs.Prelude.{◌≡◌, ℕ, ◌<◌, None, OnOk, true, false};
-ghost use Rattle.xm_outside.specs.Causes.{HasCause};
+ghost use Rattle.std.specs.Prelude.{◌≡◌, ◌<◌, None, OnOk, true, false};
 ghost use Rattle.xm_outside.specs.FileUart.{uart_file};
-ghost use Rattle.xm_outside.specs.Growth.{Receives};
 
 use crate::store::Failed;
 use crate::uart::Uart;

@@ -1,6 +1,6 @@
 //! A sink in memory that keeps what it gets, and fails where it is told to.
 
-ghost use Rattle.std.specs.Prelude.{◌≡◌, ℕ, ◌<◌, ◌≤◌, ◌⊎◌, Option, Some, IfOk, OnOk, OnErr, IsErr, length, min};
+ghost use Rattle.std.specs.Prelude.{◌≡◌, ◌<◌, ◌≤◌, ◌⊎◌, Some, IfOk, OnOk, OnErr, IsErr, length, min};
 ghost use Rattle.xm_outside.specs.Causes.{HasCause, Rose, counted};
 ghost use Rattle.xm_outside.specs.Growth.{TakesPiece};
 ghost use Rattle.xm_outside.specs.MemSink.{IsRefused};

@@ -1,10 +1,10 @@
 //! A store in memory that fails where it is told to.
 
-ghost use Rattle.std.specs.Prelude.{◌≡◌, ℕ, ◌+◌, ◌^◌, ◌<◌, ◌≤◌, ◌⊎◌, ◌↔◌, Option, Some, None, IfOk, OnOk, OnErr, IsErr, IsErrOf, IsTrue, take, vec_len, option_copied};
+ghost use Rattle.std.specs.Prelude.{◌≡◌, ◌+◌, ◌^◌, ◌<◌, ◌≤◌, ◌⊎◌, ◌↔◌, Option, Some, None, IfOk, OnOk, OnErr, IsErr, IsErrOf, IsTrue, take, vec_len, option_copied};
 ghost use Rattle.std.specs.FinMap as map;
 ghost use Rattle.std.specs.List.{Contains};
 ghost use Rattle.xm_outside.specs.Causes.{HasCause, HasReadCause, Rose, counted};
-ghost use Rattle.xm_outside.specs.Files.{Files, IsAbsent, ReadsFile, StoresFile};
+ghost use Rattle.xm_outside.specs.Files.{IsAbsent, ReadsFile, StoresFile};
 ghost use Rattle.xm_outside.specs.MemStore.{IsMissing};
 
 use crate::store::{Failed, Store, StoreFault};

@@ -1,7 +1,6 @@
 //! A UART in memory that keeps what it gets, and fails where it is told to.
 
-ghost use Rattle.std.specs.Prelude.{◌≡◌, ℕ, ◌⊎◌, ◌↔◌, Option, Some, OnOk, OnErr, IsErr, IsTrue};
-ghost use Rattle.std.specs.List.{Contains};
+ghost use Rattle.std.specs.Prelude.{◌≡◌, ◌⊎◌, ◌↔◌, Some, OnOk, OnErr, IsErr, IsTrue};
 ghost use Rattle.xm_outside.specs.Causes.{HasCause, Rose, counted};
 ghost use Rattle.xm_outside.specs.Growth.{Receives};
 ghost use Rattle.xm_outside.specs.MemUart.{IsListed, Keeps, unused};

@@ -1,8 +1,6 @@
 //! A writer of std as a sink.
 
-ghost use Rattle.std.specs.Prelude.{◌≡◌, ℕ, ◌<◌, ◌≤◌, None, IfOk, length};
-ghost use Rattle.xm_outside.specs.Causes.{HasCause};
-ghost use Rattle.xm_outside.specs.Growth.{TakesPiece};
+ghost use Rattle.std.specs.Prelude.{◌≡◌, ◌<◌, ◌≤◌, None, IfOk, length};
 
 use crate::sink::Sink;
 use crate::store::Failed;

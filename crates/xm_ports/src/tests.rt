@@ -1,6 +1,6 @@
 //! Messages and ports, tried by hand.
 
-ghost use Rattle.std.specs.Prelude.{◌≡◌, ◌≤◌, IfOk, IfSome, length, map};
+ghost use Rattle.std.specs.Prelude.{◌≡◌, IfOk, IfSome, length, map};
 ghost use Rattle.xm_ports.specs.Channels.{shape_of, shapes_of};
 ghost use Rattle.xm_ports.specs.Tried.{AreTried, tried_shapes};
 

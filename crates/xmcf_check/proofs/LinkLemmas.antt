@@ -1,5 +1,5 @@
 -- The rules on links say the same of a configuration whose numbers are capped, and one that breaks none keeps its numbers.
-use Rattle.std.proofs.Common.{◌≡◌, ℕ, ◌<◌, ◌≤◌, ◌&&◌, not, nat_lt, Bool, true, false, List, [], ◌++◌, length, map, refl, ap, ◌∙◌, arith}
+use Rattle.std.proofs.Common.{◌≡◌, ℕ, ◌<◌, ◌≤◌, ◌&&◌, not, nat_lt, Bool, true, false, [], ◌++◌, length, map, refl, ap, ◌∙◌, arith}
 use Rattle.std.specs.Prelude.{◌==◌}
 use Rattle.std.proofs.lemmas.List.{length-map}
 use Rattle.std.proofs.lemmas.Bool.Decides.{nat_tests}
@@ -10,7 +10,7 @@ use Rattle.xm_conf.specs.Rules as rules
 use Rattle.xm_conf.specs.declared.item.Item.TheVariants as item
 use Rattle.xm_conf.specs.declared.link.Link.{Link}
 use Rattle.xmcf_check.specs.Capped.{capped, capped_link, capped_part, capped_conf}
-use Rattle.xmcf_check.proofs.ListLemmas.{each-made, front_none, last_first, made_kept}
+use Rattle.xmcf_check.proofs.ListLemmas.{each-made, last_first, made_kept}
 use Rattle.xmcf_check.proofs.CappedLemmas.{capped-below, capped-kept}
 use Rattle.xmcf_check.proofs.CappedChanLemmas.{unless_none, and_first, and_second}
 

@@ -1,9 +1,8 @@
 //! What is reported of a rule that is broken.
 
 ghost use Rattle.std.specs.Prelude.{◌≡◌};
-ghost use Rattle.xm_base.specs.Options.{on};
 ghost use Rattle.xm_conf.specs.Along.{head_of, unless as unless_of};
-ghost use Rattle.xm_conf.specs.Rules.{alone as alone_of, broken as broken_of, beside as beside_of};
+ghost use Rattle.xm_conf.specs.Rules.{alone as alone_of};
 
 use xm_conf::{Broken, Item};
 

@@ -9,7 +9,7 @@ use Rattle.xmcf_reader.specs.Drafts.{word_of, StandsAt}
 use Rattle.xmcf_reader.specs.Elements.{Pair, built}
 use Rattle.xmcf_reader.specs.Faults.{Cut, Item, Rest, End, cut, draft_from, draft_of, faults_from, faults_of, xmcf_fault, when, is_between, is_spaced, may_end, is_done, element_faults, attribute_faults, value_faults, missing_attributes, missing_children, missing_of, closes, may_begin}
 use Rattle.xmcf_reader.specs.Tags as tags
-use Rattle.xmcf_reader.specs.Tags.{Placed, tokens_of, begins, ends, IsInnermost, IsParent, in_tag, names_in, values_in, pair_named, given_in, IsEntryOf, GivesEntry, EndsEntry, AreOfTags}
+use Rattle.xmcf_reader.specs.Tags.{Placed, tokens_of, IsParent, in_tag, names_in, values_in, pair_named, given_in, GivesEntry, EndsEntry, AreOfTags}
 use Rattle.xmcf_reader.specs.Tokens.{Token, Blanks, Comment, Declaration, Opening, Name, Equals, Value, TagEnd, EmptyEnd, EndTag}
 use Rattle.xmcf_reader.specs.Words.{element_named, elements, word_text}
 use Rattle.xmcf_reader.specs.declared.draft.Entry.{Entry}

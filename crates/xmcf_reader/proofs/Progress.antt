@@ -2,7 +2,7 @@
 use Rattle.std.proofs.Common.{◌≡◌, ℕ, ◌+◌, ◌<◌, ◌≤◌, List, [], ◌∷◌, ◌++◌, length, Option, Some, None, sym, ap, ◌∙◌, arith, length-append, subst, inr}
 use Rattle.xmcf_reader.specs.Draft.{Context, parent_number, empty_draft, after_token, tag_begun, named_as, valued, entry_added, tag_ended}
 use Rattle.xmcf_reader.specs.Tokens.{Token, Blanks, Comment, Declaration, Opening, Name, Equals, Value, TagEnd, EmptyEnd, EndTag}
-use Rattle.xmcf_reader.specs.Faults.{Cut, cut, faults_of, faults_from, draft_from, IsFirst, AnswersFirst}
+use Rattle.xmcf_reader.specs.Faults.{Cut, cut, faults_of, faults_from, draft_from, IsFirst}
 use Rattle.xmcf_reader.specs.Faults as faults
 use Rattle.xmcf_reader.specs.FaultsLemmas.{first_more}
 use Rattle.xmcf_reader.specs.Words.{element_named}

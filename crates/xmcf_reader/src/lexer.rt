@@ -1,6 +1,6 @@
 //! What token stands at the beginning of a text.
 
-ghost use Rattle.std.specs.Prelude.{◌≡◌, ℕ, ◌+◌, ◌<◌, ◌≤◌, ◌^◌, length, IfSome};
+ghost use Rattle.std.specs.Prelude.{◌≡◌, ◌+◌, ◌<◌, ◌≤◌, ◌^◌, length, IfSome};
 ghost use Rattle.std.specs.List.{position, prefix_len};
 ghost use Rattle.xmcf_reader.specs.Bytes.{are_dashes, ends_declaration, ends_value, is_blank, is_digit, is_letter, is_of_name, is_past_ascii, is_quote, pairs};
 ghost use Rattle.xmcf_reader.specs.Cuts.{FrontWithin};

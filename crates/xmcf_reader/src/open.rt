@@ -1,12 +1,12 @@
 //! An element whose end is to come.
 
-ghost use Rattle.std.specs.Prelude.{◌≡◌, ◌∷◌, [], ◌++◌, OnOk, IfErr};
-ghost use Rattle.std.specs.List.{find, list_any};
+ghost use Rattle.std.specs.Prelude.{◌≡◌, ◌∷◌, [], ◌++◌};
+ghost use Rattle.std.specs.List.{find};
 ghost use Rattle.xmcf_reader.specs.Draft as draft;
 ghost use Rattle.xmcf_reader.specs.Faults.{DoesUnlessMemory};
 ghost use Rattle.xmcf_reader.specs.Table.{attributes, allowed_children};
 ghost use Rattle.xmcf_reader.specs.Seen.{pairs_of};
-ghost use Rattle.xmcf_reader.specs.Words.{is_word, word_text};
+ghost use Rattle.xmcf_reader.specs.Words.{word_text};
 ghost use Rattle.std.specs.Str.{bytes_eq};
 
 use crate::elements::{Pair, text_at};

@@ -1,6 +1,6 @@
 //! The tokens of a text, one after the other.
 
-ghost use Rattle.std.specs.Prelude.{◌≡◌, ◌+◌, ◌<◌, ◌≤◌, ◌^◌, length};
+ghost use Rattle.std.specs.Prelude.{◌≡◌, ◌+◌, ◌<◌, ◌^◌};
 ghost use Rattle.xmcf_reader.specs.Cuts.{IsNext, MovesOn, cut_left, text_length};
 ghost use Rattle.xmcf_reader.specs.Faults.{stopped};
 

@@ -1,13 +1,13 @@
 //! The tree of the tokens, and what they break.
 
-ghost use Rattle.std.specs.Prelude.{◌≡◌, ◌+◌, ◌<◌, ◌≤◌, ◌^◌, ◌++◌, ◌∷◌, [], ◌&&◌, not, length, Some};
+ghost use Rattle.std.specs.Prelude.{◌≡◌, ◌+◌, ◌<◌, ◌^◌, [], ◌&&◌, not, length, Some};
 ghost use Rattle.xmcf_reader.specs.Draft as draft;
 ghost use Rattle.xmcf_reader.specs.Elements as elements;
 ghost use Rattle.xmcf_reader.specs.Faults as faults;
 ghost use Rattle.xmcf_reader.specs.Faults.{AnswersFirst, Checks, DoesUnlessMemory, when};
 ghost use Rattle.xmcf_reader.specs.Seen.{pairs_of, token_of};
 ghost use Rattle.xmcf_reader.specs.Tokens as tokens;
-ghost use Rattle.xmcf_reader.specs.Trees.{context_of, stack_of};
+ghost use Rattle.xmcf_reader.specs.Trees.{context_of};
 ghost use Rattle.xmcf_reader.specs.Words.{element_named};
 ghost use Rattle.xmcf_reader.specs.declared.fault.ReadFault.TheVariants as fault;
 

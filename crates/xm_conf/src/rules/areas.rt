@@ -73,7 +73,7 @@ fn outside_areas(regions: &[Region], p: u8, areas: &[Area]) -> Option<Broken>
 
 /// What is left of a room for bytes after these areas, or `None` where they have more.
 #[tactic(auto, using(crate::proofs::RoomLemmas::room_loop))]
-fn room_behind(areas: &[Area], room: u32) -> Option<u32>
+fn room_left(areas: &[Area], room: u32) -> Option<u32>
     ensures { result ≡ room_after room (sum_by (λ area. area.size) areas.now) }
 {
     let mut room = room;
@@ -85,12 +85,12 @@ fn room_behind(areas: &[Area], room: u32) -> Option<u32>
 
 /// What is left of a room for bytes after the areas of these partitions.
 #[tactic(auto, using(crate::proofs::RoomLemmas::room_loop), unfolding(crate::specs::Rules::part_size))]
-fn room_behind_all(parts: &[Part], room: u32) -> Option<u32>
+fn room_left_all(parts: &[Part], room: u32) -> Option<u32>
     ensures { result ≡ room_after room (sum_by rules.part_size parts.now) }
 {
     let mut room = room;
     for part in parts {
-        room = room_behind(&part.areas, room)?;
+        room = room_left(&part.areas, room)?;
     }
     Some(room)
 }
@@ -121,6 +121,6 @@ pub(super) fn rule_8(raw: &RawConf) -> Option<Broken>
 pub(super) fn rule_10(raw: &RawConf) -> Option<Broken>
     ensures { result ≡ head_of (rules.rule_10 raw.now) }
 {
-    let room = room_behind_all(&raw.parts, MEMORY);
+    let room = room_left_all(&raw.parts, MEMORY);
     unless(room.is_some(), 10, Item::Whole)
 }

@@ -1,4 +1,3 @@
-use Rattle.std.proofs.Common.{◌≡◌}
 use Rattle.cue_scripts.specs.Reading.{script_entries_at}
 use Rattle.cue_scripts.specs.Values.{entry_values}
 use Rattle.std.specs.Prelude.{None}

@@ -1,4 +1,3 @@
-use Rattle.guest_memory.proofs.AccessLemmas.{stores_free}
 use Rattle.guest_memory.proofs.NearLemmas.{near_within}
 use Rattle.guest_memory.proofs.parts.store.Goals as goal
 

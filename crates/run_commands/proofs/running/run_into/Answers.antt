@@ -3,9 +3,9 @@ use Rattle.xm_words.specs.Seen.{seen_files}
 use Rattle.file_commands.specs.Outcome.{core_outputs}
 use Rattle.file_commands.specs.Told.{ending_of}
 use Rattle.run_commands.specs.Scripts.{made_output}
-use Rattle.run_commands.specs.BoardLemmas.{left_behind, left_cut}
+use Rattle.run_commands.specs.BoardLemmas.{left_by_ending, left_cut}
 use Rattle.run_commands.specs.CoreLemmas.{run_fits, run_inside}
-use Rattle.run_commands.proofs.WorkLemmas.{behind_run, unwritten}
+use Rattle.run_commands.proofs.WorkLemmas.{run_and_after, unwritten}
 use Rattle.run_commands.proofs.running.run_into.Goals as goal
 
 pub write_later-requires-clause-inside : goal.write_later-requires-clause-inside
@@ -20,7 +20,7 @@ pub returns-in-Ok-clause-comes : goal.returns-in-Ok-clause-comes
 returns-in-Ok-clause-comes g c = λ system inputs starts.
     let is = rw starts at c.in-Ok.ensures.run in
     let saved = c.write_later.ensures (g.O.Sink.got c.run.new.out) (g.O.Sink.faults c.run.new.out) in
-    behind_run (ending_of c.ended.result) (record { places = _; marks = _ }) c.in-Ok.field-0 (seen_files c.args.cores) (map made_output c.args.scripts.now) system inputs c.args.ticks c.run.new.self.state _ _ _ _ _ _ _ _ _
+    run_and_after (ending_of c.ended.result) (record { places = _; marks = _ }) c.in-Ok.field-0 (seen_files c.args.cores) (map made_output c.args.scripts.now) system inputs c.args.ticks c.run.new.self.state _ _ _ _ _ _ _ _ _
     (c.ended.ensures (core_outputs c.run.new.self.state (seen_files c.args.cores) ++ map made_output c.args.scripts.now) _ _ saved) is c.in-Ok.ensures.cause
 
 pub returns-in-Ok-clause-board : goal.returns-in-Ok-clause-board
@@ -28,7 +28,7 @@ returns-in-Ok-clause-board g c = λ system inputs starts.
     let is = rw starts at c.in-Ok.ensures.run in
     let heard = rw starts at c.in-Ok.ensures.heard in
     let saved = c.write_later.ensures (g.O.Sink.got c.run.new.out) (g.O.Sink.faults c.run.new.out) in
-    left_behind (ending_of c.ended.result) (core_outputs c.run.new.self.state (seen_files c.args.cores) ++ map made_output c.args.scripts.now) _ _ c.in-Ok.field-0 (seen_files c.args.cores) (map made_output c.args.scripts.now) system inputs c.args.ticks c.run.new.self.state _ _ (record { places = _; marks = _ }) (record { places = _; marks = _ }) (record { places = _; marks = _ })
+    left_by_ending (ending_of c.ended.result) (core_outputs c.run.new.self.state (seen_files c.args.cores) ++ map made_output c.args.scripts.now) _ _ c.in-Ok.field-0 (seen_files c.args.cores) (map made_output c.args.scripts.now) system inputs c.args.ticks c.run.new.self.state _ _ (record { places = _; marks = _ }) (record { places = _; marks = _ }) (record { places = _; marks = _ })
     (c.ended.ensures (core_outputs c.run.new.self.state (seen_files c.args.cores) ++ map made_output c.args.scripts.now) _ _ saved) is c.begin.ensures.view heard
 
 pub returns-in-Err-clause-comes : goal.returns-in-Err-clause-comes

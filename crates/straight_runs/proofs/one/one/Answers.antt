@@ -12,17 +12,17 @@ returns-in-Next-clause-came g c =
 
 pub returns-in-Taken-clause-came : goal.returns-in-Taken-clause-came
 returns-in-Taken-clause-came g c =
-    came_gone c.behind.result (word_there (g.B.Bus.memory c.args.bus.now) (word_address c.args.words.origin c.args.at)) c.args.words.origin c.args.at c.in-Taken.displacement (g.B.Bus.areas c.execute.new.bus) (g.B.Bus.areas c.args.bus.now) c.args.own.now c.execute.new.own c.behind.new.own
-    (g.B.Bus.memory c.args.bus.now) (g.B.Bus.memory c.execute.new.bus) (g.B.Bus.memory c.behind.new.bus)
-    c.in-Taken.ensures.step.0 c.in-Taken.ensures.step.1 c.in-Taken.ensures.step.2 c.in-Taken.ensures.step.3 c.execute.ensures.areas c.behind.ensures.came
+    came_gone c.after_slot.result (word_there (g.B.Bus.memory c.args.bus.now) (word_address c.args.words.origin c.args.at)) c.args.words.origin c.args.at c.in-Taken.displacement (g.B.Bus.areas c.execute.new.bus) (g.B.Bus.areas c.args.bus.now) c.args.own.now c.execute.new.own c.after_slot.new.own
+    (g.B.Bus.memory c.args.bus.now) (g.B.Bus.memory c.execute.new.bus) (g.B.Bus.memory c.after_slot.new.bus)
+    c.in-Taken.ensures.step.0 c.in-Taken.ensures.step.1 c.in-Taken.ensures.step.2 c.in-Taken.ensures.step.3 c.execute.ensures.areas c.after_slot.ensures.came
 
-pub returns-in-Behind-clause-came : goal.returns-in-Behind-clause-came
-returns-in-Behind-clause-came g c =
+pub returns-in-AfterSlot-clause-came : goal.returns-in-AfterSlot-clause-came
+returns-in-AfterSlot-clause-came g c =
     let here = row_here c.row-row-in-Stays.result.now (g.B.Bus.areas c.execute.new.bus) (g.B.Bus.areas c.args.bus.now) (g.B.Bus.memory c.execute.new.bus) (g.B.Bus.memory c.args.bus.now) (word_address c.args.words.origin c.args.at) c.execute.ensures.areas c.in-Stays.ensures.step.1 c.row-row-in-Stays.ensures in
-    came_turned c.behind-in-Behind.result (word_there (g.B.Bus.memory c.args.bus.now) (word_address c.args.words.origin c.args.at)) c.args.words.origin c.args.at c.in-Behind.displacement c.row-row-in-Stays.result.now (g.B.Bus.areas c.execute.new.bus) (g.B.Bus.areas c.args.bus.now) c.args.own.now c.execute.new.own c.turn.new.own c.behind-in-Behind.new.own
-    (g.B.Bus.memory c.args.bus.now) (g.B.Bus.memory c.execute.new.bus) (g.B.Bus.memory c.behind-in-Behind.new.bus)
-    (row_stands c.row-row-in-Stays.result.now (g.B.Bus.areas c.args.bus.now) (g.B.Bus.memory c.args.bus.now) (word_address c.args.words.origin c.args.at) c.in-Behind.ensures.by here)
-    (row_used c.row-row-in-Stays.result.now (g.B.Bus.areas c.args.bus.now) (g.B.Bus.memory c.args.bus.now) (word_address c.args.words.origin c.args.at) c.in-Behind.ensures.by here) c.in-Stays.ensures.step.0 c.in-Stays.ensures.step.1 c.execute.ensures.areas c.in-Behind.ensures.goal c.behind-in-Behind.ensures.came
+    came_turned c.after_slot-in-AfterSlot.result (word_there (g.B.Bus.memory c.args.bus.now) (word_address c.args.words.origin c.args.at)) c.args.words.origin c.args.at c.in-AfterSlot.displacement c.row-row-in-Stays.result.now (g.B.Bus.areas c.execute.new.bus) (g.B.Bus.areas c.args.bus.now) c.args.own.now c.execute.new.own c.turn.new.own c.after_slot-in-AfterSlot.new.own
+    (g.B.Bus.memory c.args.bus.now) (g.B.Bus.memory c.execute.new.bus) (g.B.Bus.memory c.after_slot-in-AfterSlot.new.bus)
+    (row_stands c.row-row-in-Stays.result.now (g.B.Bus.areas c.args.bus.now) (g.B.Bus.memory c.args.bus.now) (word_address c.args.words.origin c.args.at) c.in-AfterSlot.ensures.by here)
+    (row_used c.row-row-in-Stays.result.now (g.B.Bus.areas c.args.bus.now) (g.B.Bus.memory c.args.bus.now) (word_address c.args.words.origin c.args.at) c.in-AfterSlot.ensures.by here) c.in-Stays.ensures.step.0 c.in-Stays.ensures.step.1 c.execute.ensures.areas c.in-AfterSlot.ensures.goal c.after_slot-in-AfterSlot.ensures.came
 
 pub returns-in-Now-clause-came : goal.returns-in-Now-clause-came
 returns-in-Now-clause-came g c =

@@ -8,39 +8,39 @@ use Rattle.system_ticks.proofs.TurnedLemmas.{call_done, next_stays}
 use Rattle.system_ticks.proofs.slot.call_after.Goals as goal
 
 pub call_told-requires-clause-partition : goal.call_told-requires-clause-partition
-call_told-requires-clause-partition c = (can_work c.args.p c.args.went c.args.sys.now c.stand_behind.new.sys c.requires.take c.stand_behind.ensures).partition
+call_told-requires-clause-partition c = (can_work c.args.p c.args.went c.args.sys.now c.stand_after.new.sys c.requires.take c.stand_after.ensures).partition
 
 pub call_told-requires-clause-next : goal.call_told-requires-clause-next
-call_told-requires-clause-next c = next_stays c.args.p c.args.sys.now c.stand_behind.new.sys (stands c.args.p c.args.went c.args.sys.now c.stand_behind.new.sys c.stand_behind.ensures).part c.requires.next
+call_told-requires-clause-next c = next_stays c.args.p c.args.sys.now c.stand_after.new.sys (stands c.args.p c.args.went c.args.sys.now c.stand_after.new.sys c.stand_after.ensures).part c.requires.next
 
 pub call_told-requires-clause-traces : goal.call_told-requires-clause-traces
-call_told-requires-clause-traces c = (can_work c.args.p c.args.went c.args.sys.now c.stand_behind.new.sys c.requires.take c.stand_behind.ensures).traces
+call_told-requires-clause-traces c = (can_work c.args.p c.args.went c.args.sys.now c.stand_after.new.sys c.requires.take c.stand_after.ensures).traces
 
 pub call_told-requires-clause-made : goal.call_told-requires-clause-made
-call_told-requires-clause-made c = (can_work c.args.p c.args.went c.args.sys.now c.stand_behind.new.sys c.requires.take c.stand_behind.ensures).made
+call_told-requires-clause-made c = (can_work c.args.p c.args.went c.args.sys.now c.stand_after.new.sys c.requires.take c.stand_after.ensures).made
 
 pub call_told-requires-clause-clock : goal.call_told-requires-clause-clock
-call_told-requires-clause-clock c = (can_work c.args.p c.args.went c.args.sys.now c.stand_behind.new.sys c.requires.take c.stand_behind.ensures).clock
+call_told-requires-clause-clock c = (can_work c.args.p c.args.went c.args.sys.now c.stand_after.new.sys c.requires.take c.stand_after.ensures).clock
 
 pub call_told-requires-clause-log : goal.call_told-requires-clause-log
-call_told-requires-clause-log c = (can_work c.args.p c.args.went c.args.sys.now c.stand_behind.new.sys c.requires.take c.stand_behind.ensures).health
+call_told-requires-clause-log c = (can_work c.args.p c.args.went c.args.sys.now c.stand_after.new.sys c.requires.take c.stand_after.ensures).health
 
 pub end_call-requires-clause-can : goal.end_call-requires-clause-can
 end_call-requires-clause-can c =
-    worked_can_end c.args.p c.args.went _ c.in-Some.told.0 c.in-Some.told.1 c.args.sys.now c.stand_behind.new.sys c.call_told.new.sys c.call_told.new.lines
-    c.requires.take c.stand_behind.ensures (rw c.in-Some.is at c.call_told.ensures.worked) c.call_told.ensures.few
+    worked_can_end c.args.p c.args.went _ c.in-Some.told.0 c.in-Some.told.1 c.args.sys.now c.stand_after.new.sys c.call_told.new.sys c.call_told.new.lines
+    c.requires.take c.stand_after.ensures (rw c.in-Some.is at c.call_told.ensures.worked) c.call_told.ensures.few
 
 pub end_call-requires-clause-frame : goal.end_call-requires-clause-frame
 end_call-requires-clause-frame c =
     let worked = rw c.in-Some.is at c.call_told.ensures.worked in
-    worked_frame c.args.p _ c.in-Some.told.0 c.in-Some.told.1 c.stand_behind.new.sys c.call_told.new.sys c.call_told.new.lines worked
-    (can_work c.args.p c.args.went c.args.sys.now c.stand_behind.new.sys c.requires.take c.stand_behind.ensures).frame
+    worked_frame c.args.p _ c.in-Some.told.0 c.in-Some.told.1 c.stand_after.new.sys c.call_told.new.sys c.call_told.new.lines worked
+    (can_work c.args.p c.args.went c.args.sys.now c.stand_after.new.sys c.requires.take c.stand_after.ensures).frame
 
 pub pass_call-requires-clause-frame : goal.pass_call-requires-clause-frame
 pass_call-requires-clause-frame c =
     let worked = rw c.in-None.is at c.call_told.ensures.worked in
-    worked_frame c.args.p _ note.Nothing beyond.Nothing c.stand_behind.new.sys c.call_told.new.sys c.call_told.new.lines worked
-    (can_work c.args.p c.args.went c.args.sys.now c.stand_behind.new.sys c.requires.take c.stand_behind.ensures).frame
+    worked_frame c.args.p _ note.Nothing beyond.Nothing c.stand_after.new.sys c.call_told.new.sys c.call_told.new.lines worked
+    (can_work c.args.p c.args.went c.args.sys.now c.stand_after.new.sys c.requires.take c.stand_after.ensures).frame
 
 pub returns-in-Some : goal.returns-in-Some
 returns-in-Some c =
@@ -51,8 +51,8 @@ returns-in-Some c =
       done = λ g first ps most is.
           subst (λ (span : Span). AreDoneFrom span most g c.args.sys.now c.end_call.new.sys c.end_call.new.lines) (sym c.end_call.ensures.span)
           (call_done c.tick_in_passes.ensures.others c.calm_ticks.ensures.gone c.undisturbed_ticks.ensures.next c.tick_in_passes.ensures.next c.acts_within_bounds.ensures.law c.keeps_numbers.ensures.runs
-          g c.args.p first ps c.args.went most c.args.pc c.in-Some.told.0 c.in-Some.told.1 c.args.sys.now c.stand_behind.new.sys c.call_told.new.sys c.end_call.new.sys c.call_told.new.lines c.end_call.new.lines
-          is c.stand_behind.ensures worked alone noted c.end_call.ensures.ended.state c.end_call.ensures.ended.lines c.end_call.ensures.ended.few);
+          g c.args.p first ps c.args.went most c.args.pc c.in-Some.told.0 c.in-Some.told.1 c.args.sys.now c.stand_after.new.sys c.call_told.new.sys c.end_call.new.sys c.call_told.new.lines c.end_call.new.lines
+          is c.stand_after.ensures worked alone noted c.end_call.ensures.ended.state c.end_call.ensures.ended.lines c.end_call.ensures.ended.few);
     }
 
 pub returns-in-None : goal.returns-in-None
@@ -63,6 +63,6 @@ returns-in-None c =
       done = λ g first ps most is.
           subst (λ (span : Span). AreDoneFrom span most g c.args.sys.now c.pass_call.new.sys c.pass_call.new.lines) (sym c.pass_call.ensures.span)
           (call_done c.tick_in_passes.ensures.others c.calm_ticks.ensures.gone c.undisturbed_ticks.ensures.next c.tick_in_passes.ensures.next c.acts_within_bounds.ensures.law c.keeps_numbers.ensures.runs
-          g c.args.p first ps c.args.went most c.args.pc note.Nothing beyond.Nothing c.args.sys.now c.stand_behind.new.sys c.call_told.new.sys c.pass_call.new.sys c.call_told.new.lines c.pass_call.new.lines
-          is c.stand_behind.ensures worked tt noted c.pass_call.ensures.ended.state c.pass_call.ensures.ended.lines c.pass_call.ensures.ended.few);
+          g c.args.p first ps c.args.went most c.args.pc note.Nothing beyond.Nothing c.args.sys.now c.stand_after.new.sys c.call_told.new.sys c.pass_call.new.sys c.call_told.new.lines c.pass_call.new.lines
+          is c.stand_after.ensures worked tt noted c.pass_call.ensures.ended.state c.pass_call.ensures.ended.lines c.pass_call.ensures.ended.few);
     }

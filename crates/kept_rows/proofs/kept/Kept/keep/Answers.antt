@@ -25,7 +25,7 @@ invariant_of-self c =
     let all : (with_items c.self.inside.rows c.put_row.new.rows).items ≡ c.put_row.new.rows = with_items_is c.self.inside.rows c.put_row.new.rows counted in
     let within : c.self.inside.own.words.begin + (c.args.address - c.self.inside.own.first) / 4 < length c.self.inside.rows.items =
     omega (arith, c.self.invariant.whole, c.if-place-self.true, selected_fits c.self.inside.ram c.self.inside.rows.items c.self.inside.parts.items c.self.inside.share c.self.inside.top c.self.inside.own c.self.invariant) in
-    let here : c.args.address ≡ c.self.inside.own.first + 4 * ((c.args.address - c.self.inside.own.first) / 4) = omega (arith, c.if-address-self.true, c.if-behind-eq0.true) in
+    let here : c.args.address ≡ c.self.inside.own.first + 4 * ((c.args.address - c.self.inside.own.first) / 4) = omega (arith, c.if-address-self.true, c.if-offset-eq0.true) in
     let found = rw (← c.self.view_is) at c.requires in
     subst (λ (top : ℕ). AreKept c.self.inside.ram (with_items c.self.inside.rows c.put_row.new.rows).items c.self.inside.parts.items c.self.inside.share top c.self.inside.own) (sym c.max-self-inside.ensures)
     (subst (λ (rows : List Row). AreKept c.self.inside.ram rows c.self.inside.parts.items c.self.inside.share (max c.self.inside.top ((c.args.address - c.self.inside.own.first) / 4 + 1)) c.self.inside.own) (sym (all ∙ put))

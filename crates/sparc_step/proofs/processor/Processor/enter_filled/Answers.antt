@@ -1,4 +1,4 @@
-use Rattle.std.proofs.Common.{◌≡◌, ◌≢◌, ◌∙◌, ℕ, ◌+◌, ◌%◌, sym, arith}
+use Rattle.std.proofs.Common.{arith}
 use Rattle.sparc_step.specs.AtHandLemmas.{apart_seen, windows_seen}
 use Rattle.sparc_step.specs.Registers.{window_filled, with_inv, register_at}
 use Rattle.sparc_step.proofs.processor.Processor.enter_filled.Goals as goal

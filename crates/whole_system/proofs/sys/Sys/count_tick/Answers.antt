@@ -4,6 +4,7 @@ use Rattle.machine_model.specs.LocalTick.{clocked}
 use Rattle.machine_model.specs.Partition.{PartitionState}
 use Rattle.virt_clocks.specs.Clocks.{PartitionClocks}
 use Rattle.whole_system.specs.State.{OwnState, is_timed, with_memory}
+use Rattle.whole_system.specs.StateLemmas.{part_set}
 use Rattle.whole_system.specs.contracts.own_state.PartState.{the_view}
 use Rattle.whole_system.proofs.InsideLemmas.{is_kept, is_part, is_turned, stays_kept}
 use Rattle.whole_system.proofs.sys.Sys.count_tick.Goals as goal
@@ -25,13 +26,15 @@ invariant_of-self c =
     (stays_kept c.self.inside c.args.p (the_view c.behind-self.inside) own c.self.inside.ram c.self.invariant here
     (λ unarmed. ap (λ (clocks : PartitionClocks). is_timed clocks) c.pass.ensures.value ∙ unarmed) refl refl)
 
-pub returns : goal.returns
+pub returns-clause-value : goal.returns-clause-value
 unfolding clocked
-returns c =
+returns-clause-value c =
     let here = rw (c.from.ensures, ← c.behind-self.view_is) at c.index_mut.ensures.value in
     let own : OwnState = record (the_view c.behind-self.inside) { clocks = c.pass.new.self } in
-    record {
-      value = rw c.from.ensures
-          (is_turned c.self.inside c.args.self.now c.args.p clocked (the_view c.behind-self.inside) own c.self.invariant c.self.view_is c.requires.partition here
-          (ap (λ (clocks : PartitionClocks). with_memory (record (the_view c.behind-self.inside) { clocks = clocks }) (map_at c.args.p c.self.inside.ram) (get_or c.self.inside.inputs c.args.p [])) c.pass.ensures.value));
-    }
+    rw c.from.ensures
+    (is_turned c.self.inside c.args.self.now c.args.p clocked (the_view c.behind-self.inside) own c.self.invariant c.self.view_is c.requires.partition here
+    (ap (λ (clocks : PartitionClocks). with_memory (record (the_view c.behind-self.inside) { clocks = clocks }) (map_at c.args.p c.self.inside.ram) (get_or c.self.inside.inputs c.args.p [])) c.pass.ensures.value))
+
+pub returns-clause-log : goal.returns-clause-log
+unfolding clocked
+returns-clause-log c = ap (λ (ps : PartitionState). ps.health) (part_set c.args.self.now _ c.args.p _ c.requires.partition (returns-clause-value c))

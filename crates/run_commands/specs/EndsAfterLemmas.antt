@@ -5,7 +5,7 @@ use Rattle.uart_board.specs.Views.{BoardView}
 use Rattle.file_commands.specs.Ending.{Ending, Finished, Misused, Unread, Denied, Unwritten, Unsaved, Unheard, Starved}
 use Rattle.file_commands.specs.Outcome.{Outcome, Output, Running}
 use Rattle.file_commands.specs.Work.{Outside, AreNotSaved, Comes, SavesAll, told_all}
-use Rattle.run_commands.specs.Behind.{EndsBehind}
+use Rattle.run_commands.specs.EndsAfter.{EndsAfter}
 use Rattle.run_commands.specs.Boards.{EndsRun, IsRunTo, LeavesBoard, ticks_of_run}
 
 -- an outcome whose files after the report were all written comes to what the board says
@@ -35,10 +35,10 @@ unsaved_outcome (Unheard place) outcome before mid after told lost = absurd lost
 unsaved_outcome Starved outcome before mid after told lost = absurd lost
 
 -- so an outcome whose report went out comes to what is done after it
-pub behind_outcome : (e : Ending) (board : BoardView) (outcome : Outcome) (before mid after : Outside) → outcome.denial ≡ None → IsSome outcome.run → mid ≡ told_all outcome before
-    → EndsBehind e outcome.later board mid after → Comes e outcome before after
-behind_outcome e board outcome before mid after granted runs told (inl ends) = ended_outcome e board outcome before mid after granted runs told ends.0 ends.1
-behind_outcome e board outcome before mid after granted runs told (inr lost) = unsaved_outcome e outcome before mid after told lost
+pub outcome_and_after : (e : Ending) (board : BoardView) (outcome : Outcome) (before mid after : Outside) → outcome.denial ≡ None → IsSome outcome.run → mid ≡ told_all outcome before
+    → EndsAfter e outcome.later board mid after → Comes e outcome before after
+outcome_and_after e board outcome before mid after granted runs told (inl ends) = ended_outcome e board outcome before mid after granted runs told ends.0 ends.1
+outcome_and_after e board outcome before mid after granted runs told (inr lost) = unsaved_outcome e outcome before mid after told lost
 
 -- a run that ends as the board says
 ended_leaves : (e : Ending) (run : Running) (had got : Option (List ℕ)) (before after : BoardView) → IsRunTo (ticks_of_run run) run before after → EndsRun e after → LeavesBoard e (Some run) had got before after
@@ -63,7 +63,7 @@ unsaved_leaves (Unheard place) outputs run had got from to before after all lost
 unsaved_leaves Starved outputs run had got from to before after all lost = absurd lost
 
 -- what it leaves of the board, once all of its ticks are done
-pub behind_leaves : (e : Ending) (outputs : List Output) (run : Running) (had got : Option (List ℕ)) (from to : Outside) (before after : BoardView) → IsRunTo (ticks_of_run run) run before after
-    → EndsBehind e outputs after from to → LeavesBoard e (Some run) had got before after
-behind_leaves e outputs run had got from to before after all (inl ends) = ended_leaves e run had got before after all ends.0
-behind_leaves e outputs run had got from to before after all (inr lost) = unsaved_leaves e outputs run had got from to before after all lost
+pub leaves_and_after : (e : Ending) (outputs : List Output) (run : Running) (had got : Option (List ℕ)) (from to : Outside) (before after : BoardView) → IsRunTo (ticks_of_run run) run before after
+    → EndsAfter e outputs after from to → LeavesBoard e (Some run) had got before after
+leaves_and_after e outputs run had got from to before after all (inl ends) = ended_leaves e run had got before after all ends.0
+leaves_and_after e outputs run had got from to before after all (inr lost) = unsaved_leaves e outputs run had got from to before after all lost
