@@ -1,11 +1,14 @@
 #!/usr/bin/env python3
-"""Says which public call or type of a library has no row in docs/PROOFS.md, and which call of a row there is not. Ends with 1
-where there is one of either, else with 0.
+"""Says which public call or type of a library has no row in docs/PROOFS.md, and which call or definition of a row there is
+not. Ends with 1 where there is one of these, else with 0.
 
 A call is a `pub fn` that `src/lib.rt` exports, by itself or as a method of an exported type or trait. Its row is a line of a
 table below a heading that names the crate, whose second column has the call as code, `name` or `Type::name`; after
 `Type::name` other methods of the type stand by their names alone. A type has such a row, or one below `Plain types`. What
 has no clause stands below `What no clause says`. A library of a suite promises nothing, and has no rows.
+
+In the column of definitions a file is one of the crate that the row named last, else of those of the heading; a name
+after it stands in that file, and a name after a crate alone in one of its files.
 """
 import re
 import sys
@@ -130,8 +133,49 @@ def strangers():
             yield f"there is no {code}"
 
 
+def texts_of(crate):
+    """The texts of the crate's definitions, by the names of their files."""
+    folder = ROOT / "crates" / crate / "specs"
+    return {path.name: path.read_text(encoding="utf-8") for path in sorted(folder.rglob("*.antt"))}
+
+
+def unresolved():
+    """The files and names in the column of definitions that are not where the row says."""
+    crates = {path.name: texts_of(path.name) for path in (ROOT / "crates").iterdir() if path.is_dir()}
+    lines = (ROOT / "docs/PROOFS.md").read_text(encoding="utf-8").splitlines()
+    own, is_defining = [], False
+    for line, after in zip(lines, [*lines[1:], ""]):
+        named = [code for code in codes(line) if code in crates]
+        cells = re.split(r"(?<!\\)\|", line)
+        if line.startswith("#"):
+            own = named or (own if line.startswith("###") else [])
+        elif after.startswith("|---"):
+            is_defining = line.endswith("| Definition |")
+        elif line.startswith("|") and is_defining and own and len(cells) > 4:
+            yield from unresolved_in(cells[3], own, crates)
+        elif not line.startswith("|"):
+            # A sentence may say in which crates the files of the tables below it are.
+            own = [*own, *named]
+
+
+def unresolved_in(cell, own, crates):
+    named, file, text = None, None, ""
+    for code in codes(cell):
+        if code in crates:
+            named, file = code, None
+            text = "\n".join(crates[code].values())
+        elif code.endswith(".antt"):
+            file = code
+            homes = [crate for crate in filter(None, [named, *own]) if code in crates[crate]]
+            text = crates[homes[0]][code] if homes else ""
+            if not homes:
+                yield f"{own[0]}: there is no {code} in {named or own[0]}"
+        elif (file or named) and text and re.fullmatch(r"[A-Za-z]\w*", code) and not re.search(rf"\b{code}\b", text):
+            yield f"{own[0]}: there is no {code} in {file or named}"
+
+
 def main():
-    lines = [*missing(), *strangers()]
+    lines = [*missing(), *strangers(), *unresolved()]
     print("".join(line + "\n" for line in lines) + f"{len(lines)} differences")
     return 1 if lines else 0
 

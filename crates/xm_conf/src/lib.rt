@@ -1,4 +1,4 @@
-//! The values that a configuration is made of: names, health events and actions, and what a port is.
+//! A configuration and the rules that it meets: partitions, plans, channels and links, with their names, health events and actions.
 #![tactic(auto)]
 
 mod channel;
