@@ -393,9 +393,23 @@ class Reader:
     def u32(self):
         return self.number(4)
 
+    def field(self, size, holds):
+        """A number of so many bytes that has to be one of the field's."""
+        at = self.place
+        number = self.number(size)
+        if not holds(number):
+            raise Fault(f"field at={at}")
+        return number
+
+    def flag(self):
+        return self.field(1, lambda number: number <= 1)
+
     def string(self):
         at = self.place
-        text = self.take(self.u8()).decode("latin-1")
+        size = self.u8()
+        if self.place + size > len(self.content):
+            raise Fault(f"short at={at}")
+        text = self.take(size).decode("latin-1")
         if not is_name(text):
             raise Fault(f"field at={at}")
         return text
@@ -414,6 +428,8 @@ def body(content, magic, with_digest, versions=(1,)):
         raise Fault(f"short at={len(content)}" if len(content) < length else f"trailing at={length}")
     if not with_digest:
         return version, reader
+    if length < 16:
+        raise Fault(f"short at={length}")
     stored, found = content[-16:], hashlib.md5(content[:-16]).digest()
     if stored != found:
         raise Fault(f"digest stored={stored.hex()} found={found.hex()}")
@@ -443,25 +459,26 @@ def read_configuration(content, versions=(1, 2)):
     ended(reader)
     system = System(name, regions, hypervisor_size, plans, parts, uarts, channels, links)
     if broken_rule(system, version):
-        raise Fault(f"config not-fit rule={broken_rule(system, version)}")
+        raise Fault(f"not-fit rule={broken_rule(system, version)}")
     return system
 
 
 def read_part(reader):
     part = Part(reader.string(), [])
-    part.system, console = reader.u8() == 1, reader.u8()
+    part.system, console = reader.flag() == 1, reader.u8()
     part.console = None if console == 0xFF else console
-    part.need = (reader.u32(), reader.u32())
+    duration = reader.u32()
+    part.need = (duration, reader.field(4, lambda period: (period == 0) == (duration == 0)))
     part.trace_mask = reader.u32()
-    part.actions = list(reader.take(12))
-    part.logged = reader.u16()
-    part.areas = [Area(reader.u32(), reader.u32(), reader.u8() == 1) for _ in range(reader.u8())]
-    part.ports = [Port(reader.string(), reader.u8(), reader.u8()) for _ in range(reader.u8())]
+    part.actions = [reader.field(1, lambda action: action < len(ACTIONS)) for _ in EVENTS]
+    part.logged = reader.field(2, lambda logged: logged <= ALL_LOGGED)
+    part.areas = [Area(reader.u32(), reader.u32(), reader.flag() == 1) for _ in range(reader.u8())]
+    part.ports = [Port(reader.string(), reader.flag(), reader.flag()) for _ in range(reader.u8())]
     return part
 
 
 def read_channel(reader):
-    kind, length = reader.u8(), reader.u16()
+    kind, length = reader.flag(), reader.u16()
     limit = reader.u32() if kind == SAMPLING else reader.u8()
     source = (reader.u8(), reader.u8())
     return Channel(kind, length, limit, source, [(reader.u8(), reader.u8()) for _ in range(reader.u8())])
@@ -476,17 +493,27 @@ def read_image(content):
     return Image(entry, segments)
 
 
+def within(name, read, *arguments):
+    """What is read inside of a container, whose fault has the part's name."""
+    try:
+        return read(*arguments)
+    except Fault as fault:
+        raise Fault(f"{name} {fault}") from None
+
+
 def read_container(content):
     version, reader = body(content, b"XMPK", True, (1, 2))
-    system = read_configuration(reader.take(reader.u32()), (version,))
+    system = within("config", read_configuration, reader.take(reader.u32()), (version,))
+    images = {}
     for _ in range(reader.u8()):
-        number = reader.u8()
-        image = read_image(reader.take(reader.u32()))
+        number = reader.field(1, lambda number: number > max(images, default=-1))
+        images[number] = within(f"image id={number}", read_image, reader.take(reader.u32()))
+    ended(reader)
+    for number in images:
         if number >= len(system.parts):
             raise Fault(f"extra id={number}")
-        system.parts[number].image = image
-    ended(reader)
     for number, part in enumerate(system.parts):
+        part.image = images.get(number)
         if part.image is None:
             raise Fault(f"missing id={number}")
     for number, part in enumerate(system.parts):

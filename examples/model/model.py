@@ -7,6 +7,7 @@ usage: model.py BOX --ticks N [--input P=FILE ..] [--core P=FILE ..]
 It reads a container, runs its partitions one tick after the other, and prints the report. What is written to the consoles of
 UART N goes to uartN.out.
 """
+import re
 import struct
 import sys
 from pathlib import Path
@@ -755,8 +756,16 @@ class Refusal(Exception):
     """What was read is refused."""
 
 
+class DeviceFault(Exception):
+    """A file cannot be read or written, with the status."""
+
+    def __init__(self, status, text):
+        super().__init__(text)
+        self.status = status
+
+
 def number_of(word, most):
-    if not word.isascii() or not word.isdigit() or word != "0" and word[0] == "0" or int(word) > most:
+    if not re.fullmatch("0|[1-9][0-9]{0,9}", word) or int(word) > most:
         raise Usage
     return int(word)
 
@@ -786,11 +795,25 @@ def read_words(words):
     return words[0], length, files, [(int(number), name) for number, name in order]
 
 
+def bytes_of(folder, name):
+    try:
+        return (folder / name).read_bytes()
+    except OSError:
+        raise DeviceFault(3, f"{name}: cannot read") from None
+
+
+def write(folder, name, content):
+    try:
+        (folder / name).write_bytes(content)
+    except OSError:
+        raise DeviceFault(4, f"{name}: cannot write") from None
+
+
 def prepared(words, folder):
     """The machine of a run, how many ticks it is to do, and the core files to write, as partitions and names."""
     box, (unit, count), files, order = read_words(words)
     try:
-        system = read_container((folder / box).read_bytes())
+        system = read_container(bytes_of(folder, box))
     except Fault as fault:
         raise Refusal(f"{box}: {fault}") from None
     for number, name in order:
@@ -798,7 +821,7 @@ def prepared(words, folder):
             raise Refusal(f"{name}: partition id={number}")
     inputs = {}
     for number, name in files["--input"].items():
-        content = (folder / name).read_bytes()
+        content = bytes_of(folder, name)
         if len(content) % 4:
             raise Refusal(f"{name}: input length={len(content)}")
         inputs[number] = struct.unpack(f">{len(content) // 4}I", content)
@@ -822,7 +845,7 @@ def run_in(words, folder):
     files = {name: machine.core_file(number) for number, name in cores.items()}
     files |= {f"uart{place}.out": content for place, content in enumerate(machine.uarts) if content}
     for name, content in files.items():
-        (folder / name).write_bytes(content)
+        write(folder, name, content)
     return report
 
 
@@ -835,6 +858,9 @@ def main():
     except Refusal as refusal:
         print(f"model: {refusal}", file=sys.stderr)
         return 1
+    except DeviceFault as fault:
+        print(f"model: {fault}", file=sys.stderr)
+        return fault.status
     sys.stdout.write(report)
     return 0
 
