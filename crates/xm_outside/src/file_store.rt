@@ -3,13 +3,15 @@
 ghost use Rattle.std.specs.Prelude.{◌≡◌, ◌+◌, ◌^◌, ◌<◌, ◌≤◌, None, IfOk, vec_len};
 
 use crate::store::{Failed, Store, StoreFault};
-use std::alloc::Global;
+use crate::whole_file::store;
+use std::alloc::{Alloc, Global};
 use std::io::{ErrorKind, Read};
 use std::rt::Files;
 use std::{fs, io};
 
 /// The files of the system, by their paths. A file that is missing can't be read: that is
-/// `StoreFault::Failed`, as is every other refusal of the system but being out of memory.
+/// `StoreFault::Failed`, as is every other refusal of the system but being out of memory. A regular file is replaced
+/// whole: after a write that failed it is as before, with no new file beside it.
 #[derive(Drop)]
 pub struct FileStore<R> {
     rt: R,
@@ -18,7 +20,7 @@ pub struct FileStore<R> {
     write_faults: u64,
 }
 
-impl<R: Files> FileStore<R> {
+impl<R: Files + Alloc> FileStore<R> {
     /// The store over a clone of the runtime.
     pub fn new(rt: R) -> FileStore<R>
         ensures calls { ⟦<FileStore<R> as Store>⟧.calls result ≡ 0 }
@@ -34,7 +36,7 @@ impl<R: Files> FileStore<R> {
     }
 }
 
-impl<R: Files> Store for FileStore<R> {
+impl<R: Files + Alloc> Store for FileStore<R> {
     ghost files = { λ _. None };
 
     ghost read_faults = { λ s. s.read_faults };
@@ -57,7 +59,7 @@ impl<R: Files> Store for FileStore<R> {
 
     fn write(&mut self, name: &str, bytes: &[u8]) -> Result<(), Failed> {
         self.calls = self.calls.saturating_add(1);
-        if fs::write(&self.rt, name, bytes).is_err() {
+        if store(&self.rt, name, bytes).is_err() {
             self.write_faults = self.write_faults.saturating_add(1);
             return Err(Failed);
         }

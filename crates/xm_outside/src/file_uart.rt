@@ -5,10 +5,14 @@ ghost use Rattle.xm_outside.specs.FileUart.{uart_file};
 
 use crate::store::Failed;
 use crate::uart::Uart;
+use crate::whole_file::synced;
 use std::fs::OpenOptions;
 use std::io::Write;
 use std::rt::Files;
 use std::{fs, io};
+
+/// So many writes wait for the disk each. Later ones would take milliseconds a line.
+const SYNCED: u64 = 64;
 
 /// A file as a UART: `uart0.out` to `uart7.out` of the folder where the program runs. The first write makes the
 /// file, or empties one that was there, and later ones append to it. Without a write no file is touched. Between
@@ -18,6 +22,7 @@ pub struct FileUart<R> {
     rt: R,
     name: &'static str,
     made: bool,
+    writes: u64,
     faults: u64,
 }
 
@@ -33,11 +38,13 @@ impl<R: Files + Drop> FileUart<R> {
             rt,
             name: name_at(place),
             made: false,
+            writes: 0,
             faults: 0,
         }
     }
 
-    /// Writes the bytes to the file, which the first write makes or empties.
+    /// Writes the bytes to the file, which the first write makes or empties. It waits for the disk at each of the first
+    /// `SYNCED` writes, and then at each whose number is a power of two.
     fn append(&mut self, bytes: &[u8]) -> io::Result<()>
         ensures name { self.new.name ≡ self.old.name }
         ensures made { OnOk result (self.new.made ≡ true) }
@@ -49,7 +56,12 @@ impl<R: Files + Drop> FileUart<R> {
             fs::create(&self.rt, self.name)?
         };
         self.made = true;
-        file.write_all(bytes)
+        file.write_all(bytes)?;
+        self.writes = self.writes.saturating_add(1);
+        if self.writes <= SYNCED || self.writes.is_power_of_two() {
+            synced(&file)?;
+        }
+        Ok(())
     }
 }
 

@@ -7,11 +7,13 @@ mod mem_sink;
 mod mem_store;
 mod mem_uart;
 mod out_sink;
+mod part_name;
 mod sink;
 mod store;
 mod sure_sink;
 mod sure_uart;
 mod uart;
+mod whole_file;
 
 pub use file_store::FileStore;
 pub use file_uart::FileUart;

@@ -4,7 +4,8 @@ use crate::{
     Failed, FileStore, FileUart, MemSink, MemStore, MemUart, OutSink, Sink, Store, StoreFault,
     SureSink, SureUart, Uart, write_all,
 };
-use std::fs::File;
+use std::fs::{File, Permissions};
+use std::os::unix::fs::{MetadataExt, PermissionsExt, symlink};
 use std::test::Fail;
 use std::{env, fs, io};
 
@@ -54,6 +55,36 @@ impl io::Write for Deaf {
     }
 }
 
+/// A writer that takes three bytes a call.
+#[derive(Drop)]
+struct Narrow {
+    got: Vec<u8>,
+}
+
+impl io::Write for Narrow {
+    fn write(&mut self, piece: &[u8]) -> io::Result<usize> {
+        let count = piece.len().min(3);
+        self.got.extend_from_slice(&piece[..count])?;
+        Ok(count)
+    }
+
+    fn flush(&mut self) -> io::Result<()> {
+        Ok(())
+    }
+}
+
+#[test]
+fn a_stream_that_takes_a_part_gets_all(rt: HostRuntime) -> Result<(), Fail> {
+    let mut narrow = Narrow {
+        got: Vec::new(rt.alloc()),
+    };
+    let mut sink = OutSink::new(&mut narrow);
+    assert_eq!(rt; sink.write(b"0123"), Ok(3));
+    assert_eq!(rt; write_all(&mut sink, b"3456789abc"), Ok(()));
+    assert_eq!(rt; narrow.got.as_slice(), b"0123456789abc".as_slice());
+    Ok(())
+}
+
 #[test]
 fn files_and_streams_have_what_was_written(rt: HostRuntime) -> Result<(), Fail> {
     let dir = env::temp_dir(&rt)?;
@@ -79,6 +110,34 @@ fn files_and_streams_have_what_was_written(rt: HostRuntime) -> Result<(), Fail> 
     assert!(rt; prefix.is_ok_and(|bytes| bytes.as_slice() == b"01234".as_slice()));
     let nowhere = format!(in rt.alloc(); "{}/xm_outside_none/a", dir.as_str())?;
     assert_eq!(rt; store.write(nowhere.as_str(), b""), Err(Failed));
+    Ok(())
+}
+
+#[test]
+fn a_file_is_replaced_through_links_with_its_permissions(rt: HostRuntime) -> Result<(), Fail> {
+    let dir = format!(in rt.alloc(); "{}/xm_outside_links", env::temp_dir(&rt)?.as_str())?;
+    fs::create_dir(&rt, dir.as_str())?;
+    let file = format!(in rt.alloc(); "{dir}/file")?;
+    let link = format!(in rt.alloc(); "{dir}/link")?;
+    let second = format!(in rt.alloc(); "{dir}/second")?;
+    symlink(&rt, "file", link.as_str())?;
+    symlink(&rt, link.as_str(), second.as_str())?;
+    let mut store = FileStore::new(rt);
+    assert_eq!(rt; store.write(second.as_str(), b"made"), Ok(()));
+    fs::set_permissions(&rt, file.as_str(), Permissions::from_mode(0o640))?;
+    assert_eq!(rt; store.write(link.as_str(), b"replaced"), Ok(()));
+    let wrote = fs::read_to_string(&rt, file.as_str())?;
+    assert_eq!(rt; wrote.as_str(), "replaced");
+    assert_eq!(rt; fs::metadata(&rt, file.as_str())?.mode() & 0o777, 0o640);
+    assert!(rt; fs::symlink_metadata(&rt, second.as_str())?.is_symlink());
+    assert!(rt; fs::symlink_metadata(&rt, link.as_str())?.is_symlink());
+    assert_eq!(rt; store.write("/dev/null", b"a"), Ok(()));
+    assert_eq!(rt; store.write("/dev/full", b"a"), Err(Failed));
+    for name in [file, link, second] {
+        fs::remove_file(&rt, name.as_str())?;
+    }
+    // It fails where a file is left beside them.
+    fs::remove_dir(&rt, dir.as_str())?;
     Ok(())
 }
 
