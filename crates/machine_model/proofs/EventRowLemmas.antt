@@ -1,11 +1,15 @@
 -- The rows on health events: each is computed.
 use Rattle.std.proofs.Common.{refl}
-use Rattle.machine_model.specs.EventRows.{ActionRows, DeliveryRows, RaisedRows, TrapsHaveEvents, UndoneRows}
+use Rattle.machine_model.specs.EventRows.{ActionRows, DeliveryRows, EventsPassOver, RaisedRows, TrapsHaveEvents, UndoneRows}
 use Rattle.machine_model.proofs.Computing.{computing}
 
 pub traps_have_events : TrapsHaveEvents
 unfolding computing
 traps_have_events = refl
+
+pub events_pass_over : EventsPassOver
+unfolding computing
+events_pass_over = (refl, refl)
 
 pub action_rows : ActionRows
 unfolding computing

@@ -1,6 +1,6 @@
 -- The rows on health events: each is the run by its words.
 use Rattle.std.proofs.Common.{[], ◌∷◌, Some, None, refl}
-use Rattle.machine_model.specs.HealthRows.{HaltsAll, HaltsAtIllegal, IgnoresIllegal, PropagatesToHalt, ResetsAllByCall, ResetsAllWarm, RestsInHaltingTick, SwitchesInMidFrame}
+use Rattle.machine_model.specs.HealthRows.{HaltsAll, HaltsAtIllegal, HaltsInLastTick, IgnoresIllegal, PropagatesToHalt, ResetsAllByCall, ResetsAllWarm, RestsInHaltingTick, SwitchesInMidFrame}
 use Rattle.machine_model.proofs.Computing.{computing}
 use Rattle.machine_model.proofs.WordLemmas.{leaves_words, prints_words}
 
@@ -31,6 +31,10 @@ halts_all one other illegal = (
   prints_words (Some 0 ∷ None ∷ None ∷ None ∷ []) _ _ (illegal, (tt, (tt, (tt, tt)))) refl,
   leaves_words (Some 0 ∷ None ∷ None ∷ None ∷ []) _ _ _ (illegal, (tt, (tt, (tt, tt)))) refl,
 )
+
+pub halts_in_last_tick : HaltsInLastTick
+unfolding computing
+halts_in_last_tick memory illegal = (prints_words (Some 0 ∷ []) _ _ (illegal, tt) refl, leaves_words (Some 0 ∷ []) _ _ _ (illegal, tt) refl)
 
 pub switches_in_mid_frame : SwitchesInMidFrame
 unfolding computing

@@ -13,6 +13,7 @@ use Rattle.machine_model.specs.CallRows.{caller}
 use Rattle.machine_model.specs.HealthRows.{part_with_action, raise_words, raising}
 use Rattle.machine_model.specs.SlotRows.{first_part, loop_words, planner, second_part}
 use Rattle.machine_model.specs.TrapRows.{saver, saves, stray_load}
+use Rattle.machine_model.specs.WholeRows.{other_caller}
 use Rattle.machine_model.specs.WordRows.{WordsCanBeHeld}
 
 -- each of these is a word, and may be fetched at its address
@@ -60,4 +61,5 @@ words_can_be_held = record {
   traps = can_hold (plain_part 0x40000000 4) 0x40000000 (0 ∷ []) (omega arith, refl, tt);
   saves = can_hold saver 0x40000000 saves (omega arith, refl, (omega arith, refl, (omega arith, refl, (omega arith, refl, (omega arith, refl, (omega arith, refl, (omega arith, refl, tt)))))));
   calls = λ is_system. can_hold (caller is_system) 0x40000000 (0x91d02070 ∷ []) (omega arith, refl, tt);
+  other_calls = can_hold other_caller 0x40000100 (0x91d02070 ∷ []) (omega arith, refl, tt);
 }

@@ -56,4 +56,7 @@ silent_rows = record { delivered = λ memory. refl; idle = λ memory. refl; susp
 
 pub sees_plan : SeesPlan
 unfolding computing
-sees_plan memory calls = leaves_words (Some 0x91d02070 ∷ []) _ _ _ (calls, tt) refl
+sees_plan = (
+  λ memory calls. leaves_words (Some 0x91d02070 ∷ []) _ _ _ (calls, tt) refl,
+  λ memory calls. leaves_words (Some 0x91d02070 ∷ []) _ _ _ (calls, tt) refl,
+)

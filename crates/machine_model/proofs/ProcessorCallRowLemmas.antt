@@ -13,5 +13,5 @@ processor_call_rows = record {
   iret = λ memory. (refl, refl, refl, refl, refl, refl, refl);
   set_psr = λ memory. (refl, refl);
   set_tbr = λ memory. (refl, refl);
-  flush_regwin = λ memory. (refl, refl, refl, refl, refl);
+  flush_regwin = λ memory. (refl, refl, refl, refl, refl, refl);
 }

@@ -16,7 +16,7 @@ use Rattle.machine_model.specs.Machine.{Machine, start}
 use Rattle.guest_memory.specs.Loading.{area_of, with_zeros}
 use Rattle.machine_model.specs.Partition.{areas_of, booted}
 use Rattle.machine_model.specs.Rows.{Holds, Prints, at, plain_part}
-use Rattle.machine_model.specs.StartRows.{BeginsAtEntry, HaltsAfterHi, ReportsHi, StaysHalted, hi, hi_bytes}
+use Rattle.machine_model.specs.StartRows.{BeginsAtEntry, BeginsWithInputs, HaltsAfterHi, ReportsHi, ReportsTwo, StaysHalted, hi, hi_bytes}
 use Rattle.machine_model.specs.View.{view_of}
 use Rattle.machine_model.proofs.Computing.{computing}
 use Rattle.machine_model.proofs.WordLemmas.{FetchAll, prints_words, run_by, step_by}
@@ -85,6 +85,14 @@ says_on memory all =
 pub begins_at_entry : BeginsAtEntry
 unfolding computing start booted
 begins_at_entry = prints_words [] _ _ tt refl
+
+pub begins_with_inputs : BeginsWithInputs
+unfolding computing start booted
+begins_with_inputs = refl
+
+pub reports_two : ReportsTwo
+unfolding computing report start booted
+reports_two = refl
 
 -- the memory of the program before its image is loaded, and after
 abbrev bare : Memory

@@ -1,6 +1,6 @@
 -- The rows on traps: each is the run by its words.
 use Rattle.std.proofs.Common.{ℕ, [], ◌∷◌, Option, Some, None, refl}
-use Rattle.machine_model.specs.TrapRows.{HaltsAtSpill, HaltsAtStrayLoad, TakesTrap, TimerIsDelivered, TimerWaitsForSlot}
+use Rattle.machine_model.specs.TrapRows.{HaltsAtSpill, HaltsAtStrayLoad, TakesTrap, TimerIsDelivered, TimerWaitsForSlot, WaitsWhileDisabled}
 use Rattle.machine_model.proofs.Computing.{computing}
 use Rattle.machine_model.proofs.WordLemmas.{leaves_words, prints_words}
 
@@ -16,6 +16,10 @@ takes_trap memory illegal = (
 pub timer_is_delivered : TimerIsDelivered
 unfolding computing
 timer_is_delivered one other = (prints_words (None ∷ []) _ _ (tt, tt) refl, leaves_words (None ∷ []) _ _ _ (tt, tt) refl)
+
+pub waits_while_disabled : WaitsWhileDisabled
+unfolding computing
+waits_while_disabled one other loop = (prints_words (Some 0x10800000 ∷ []) _ _ (loop.0, tt) refl, leaves_words (Some 0x10800000 ∷ []) _ _ _ (loop.0, tt) refl)
 
 pub timer_waits_for_slot : TimerWaitsForSlot
 unfolding computing

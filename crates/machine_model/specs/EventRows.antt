@@ -1,13 +1,14 @@
 -- Rows on health events: what each action does, what is entered and reported, deliveries that fail, and calls that end in an event.
 use Rattle.std.specs.Prelude.{◌≡◌, ℕ, ◌-◌, ◌^◌, Bool, true, false, List, [], ◌∷◌, map, replicate, Some, None}
 use Rattle.guest_bus.specs.Memory.{Memory}
-use Rattle.health_monitor.specs.Monitor.{event_of_type}
+use Rattle.health_monitor.specs.Monitor.{effect_of, event_of_type}
 use Rattle.health_monitor.specs.declared.entry.HealthEntry.{HealthEntry}
 use Rattle.sparc_step.specs.Registers.{Registers, in_window, registers_started}
 use Rattle.virt_clocks.specs.Clocks.{no_clocks}
 use Rattle.virt_traps.specs.Virtual.{VirtualTraps, no_traps}
 use Rattle.xm_base.specs.declared.partition.Mode.TheVariants as mode
 use Rattle.xm_base.specs.declared.partition.State.TheVariants.{Suspended, Halted}
+use Rattle.xm_conf.specs.Health.{events}
 use Rattle.xm_conf.specs.declared.health.Action.{Action}
 use Rattle.xm_conf.specs.declared.health.Action.TheVariants as action
 use Rattle.xm_conf.specs.declared.health.Event.{Event}
@@ -15,7 +16,7 @@ use Rattle.xm_conf.specs.declared.health.Event.TheVariants as event
 use Rattle.xm_ports.specs.Ports.{no_ports, with_port}
 use Rattle.xm_report.specs.declared.line.Move.TheVariants as move
 use Rattle.xm_traces.specs.Ring.{kept_of}
-use Rattle.machine_model.specs.Health.{event_handled, interrupt_delivered}
+use Rattle.machine_model.specs.Health.{event_handled, interrupt_delivered, is_passed_over}
 use Rattle.machine_model.specs.LocalTick.{called}
 use Rattle.machine_model.specs.LogCallRows.{health_3, health_4}
 use Rattle.machine_model.specs.Partition.{PartitionState, loaded_memory}
@@ -33,6 +34,13 @@ TrapsHaveEvents =
     ≡ event.SparcInstrAccess ∷ event.SparcIllegalInstruction ∷ event.SparcPrivilegedInstruction ∷ event.SparcFpDisabled
     ∷ event.MemProtection ∷ event.MemProtection ∷ event.SparcAddressNotAligned ∷ event.SparcDataAccess ∷ event.SparcTagOverflow
     ∷ event.SparcCpDisabled ∷ event.SparcDivideException ∷ event.UnexpectedTrap ∷ event.UnexpectedTrap ∷ []
+
+-- each event but a raised one is passed over where the action does so, and none where it does not
+abbrev pub EventsPassOver : Type 0
+EventsPassOver =
+    (map (λ an_event. is_passed_over an_event (effect_of action.Ignore true)) events
+    ≡ false ∷ true ∷ true ∷ true ∷ true ∷ true ∷ true ∷ true ∷ true ∷ true ∷ true ∷ true ∷ [])
+    × (map (λ an_event. is_passed_over an_event (effect_of action.Halt true)) events ≡ replicate 12 false)
 
 -- a partition with this action for each event and these log flags
 abbrev pub view_with : Action → ℕ → PartitionView

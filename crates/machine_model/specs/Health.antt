@@ -1,11 +1,12 @@
 -- What a partition's health events come to.
-use Rattle.std.specs.Prelude.{ℕ, ◌+◌, Bool, true, false, List, [], ◌∷◌, ◌++◌, Option, Some, None, Result, Ok, Err}
+use Rattle.std.specs.Prelude.{ℕ, ◌+◌, ◌==◌, ◌&&◌, not, Bool, true, false, List, [], ◌∷◌, ◌++◌, Option, Some, None, Result, Ok, Err}
 use Rattle.sparc_step.specs.Registers.{advanced}
 use Rattle.virt_traps.specs.Delivery.{Delivered, delivered}
 use Rattle.virt_traps.specs.Virtual.{interrupt_cleared, raised}
 use Rattle.virt_traps.specs.declared.windows.StackFault.{StackFault}
 use Rattle.xm_base.specs.declared.partition.Order.{Order}
 use Rattle.xm_base.specs.declared.partition.Order.TheVariants as order
+use Rattle.xm_conf.specs.Health.{event_row}
 use Rattle.xm_conf.specs.declared.health.Action.{Action}
 use Rattle.xm_conf.specs.declared.health.Action.TheVariants as action
 use Rattle.xm_conf.specs.declared.health.Event.{Event}
@@ -105,20 +106,13 @@ done_to_all (whole.Reset mode) = UponAll (AllReset mode)
 done_to_all whole.Halt = UponAll AllHalted
 done_to_all whole.Maintenance = Plans Maintenance
 
+-- whether a partition raised the event itself, by call 27: it is the event of number 0
+abbrev pub is_raised : Event → Bool
+is_raised an_event = (event_row an_event).number == 0
+
 -- whether the program counter is moved past the instruction: after a raised event it has moved already
 abbrev pub is_passed_over : Event → Effect → Bool
-is_passed_over event.PartitionError effect = false
-is_passed_over event.MemProtection effect = effect.pass
-is_passed_over event.UnexpectedTrap effect = effect.pass
-is_passed_over event.SparcIllegalInstruction effect = effect.pass
-is_passed_over event.SparcPrivilegedInstruction effect = effect.pass
-is_passed_over event.SparcFpDisabled effect = effect.pass
-is_passed_over event.SparcCpDisabled effect = effect.pass
-is_passed_over event.SparcAddressNotAligned effect = effect.pass
-is_passed_over event.SparcTagOverflow effect = effect.pass
-is_passed_over event.SparcDivideException effect = effect.pass
-is_passed_over event.SparcInstrAccess effect = effect.pass
-is_passed_over event.SparcDataAccess effect = effect.pass
+is_passed_over an_event effect = not (is_raised an_event) && effect.pass
 
 -- the partition past the instruction that it was at
 abbrev pub passed_over_if : Bool → PartitionState → PartitionState

@@ -19,7 +19,7 @@ use Rattle.xm_ports.specs.Channels.{Queuing}
 use Rattle.xm_report.specs.Report.{ReportLine, HealthLine, MovedLine, WholeLine, PlanLine, EndPart, EndWhole}
 use Rattle.xm_report.specs.declared.line.Move.TheVariants as move
 use Rattle.machine_model.specs.Machine.{Machine}
-use Rattle.machine_model.specs.Rows.{Holds, HoldsAll, Leaves, Prints, at, small_conf, halves, machine, of_part, plain_part, slot, actions_table, whole_frame, with_answers, with_illegal}
+use Rattle.machine_model.specs.Rows.{Holds, HoldsAll, Leaves, Prints, at, small_conf, halves, machine, of_part, short_frame, plain_part, slot, actions_table, whole_frame, with_answers, with_illegal}
 
 -- a partition whose table has this action for an illegal instruction
 abbrev pub part_with_action : Action → Part
@@ -72,10 +72,15 @@ queue_port a_way = record { name = []; kind = kind.Queuing; way = a_way }
 abbrev pub queue : Chan
 queue = record { kind = QueueOf 2; length = 8; source = record { part = 0; port = 0 }; dests = record { part = 1; port = 0 } ∷ [] }
 
--- two partitions at the ends of a queue that holds a message; the first has this action for an illegal instruction
+-- the partitions at its ends; the first has this action for an illegal instruction
+abbrev pub parts_at_ends : Action → List Part
+parts_at_ends an_action =
+    record (part_with_action an_action) { ports = queue_port way.Source ∷ [] } ∷ record (plain_part 0x40000100 8) { ports = queue_port way.Destination ∷ [] } ∷ []
+
+-- both, where the queue holds a message
 abbrev pub ends_of_queue : Action → Memory → Memory → Machine
 ends_of_queue an_action one other =
-    record (machine (small_conf (halves ∷ []) (record (part_with_action an_action) { ports = queue_port way.Source ∷ [] } ∷ record (plain_part 0x40000100 8) { ports = queue_port way.Destination ∷ [] } ∷ []) (queue ∷ []))
+    record (machine (small_conf (halves ∷ []) (parts_at_ends an_action) (queue ∷ []))
     (0x40000000 ∷ 0x40000100 ∷ []) 0 (at 0x40000000 one ∷ record (at 0x40000100 other) { clocks = record no_clocks { execution = 3 } } ∷ [])) {
       channels = Queuing ((0x68 ∷ 0x69 ∷ []) ∷ []) ∷ [];
     }
@@ -97,6 +102,19 @@ HaltsAll = (one other : Memory) → IsIllegal action.HypervisorHalt one
     → Prints (ends_of_queue action.HypervisorHalt one other) 4
     (illegal_line action.HypervisorHalt ∷ WholeLine 0 move.Halt ∷ EndPart 0 Ready 0 1 0x40000000 ∷ EndPart 1 Ready 0 3 0x40000100 ∷ EndWhole true 0 0 0 ∷ [])
     × Leaves (λ g. g.channels) (ends_of_queue action.HypervisorHalt one other) 4 (Queuing ((0x68 ∷ 0x69 ∷ []) ∷ []) ∷ [])
+
+-- two plans of one tick, under which a partition halts the hypervisor in the last tick of a frame, with plan 1 asked for
+abbrev pub halting_in_last_tick : Memory → Machine
+halting_in_last_tick memory =
+    record (machine (small_conf (short_frame ∷ short_frame ∷ []) (part_with_action action.HypervisorHalt ∷ []) []) (0x40000000 ∷ []) 0 (at 0x40000000 memory ∷ [])) {
+      clock = record (frame_from 0 0) { asked = Some 1 };
+    }
+
+-- no frame ends where the hypervisor halts: the plan stays, and what is asked for
+abbrev pub HaltsInLastTick : Type 0
+HaltsInLastTick = (memory : Memory) → IsIllegal action.HypervisorHalt memory
+    → Prints (halting_in_last_tick memory) 1 (illegal_line action.HypervisorHalt ∷ WholeLine 0 move.Halt ∷ EndPart 0 Ready 0 1 0x40000000 ∷ EndWhole true 0 0 0 ∷ [])
+    × Leaves (λ g. g.clock) (halting_in_last_tick memory) 1 (record (frame_from 0 0) { asked = Some 1 })
 
 -- a partition that raises an event of its own with the code 42, which resets the whole system warm
 abbrev pub raising : Part

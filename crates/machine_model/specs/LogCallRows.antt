@@ -1,5 +1,5 @@
 -- Rows on the calls on traces and on the health log, numbers 24 to 29: the result and the effect of each, and each of its tests at its edge.
-use Rattle.std.specs.Prelude.{ℕ, true, false, List, [], ◌∷◌}
+use Rattle.std.specs.Prelude.{ℕ, ◌+◌, ◌-◌, true, false, List, [], ◌∷◌}
 use Rattle.guest_bus.specs.Memory.{Memory, bytes_at}
 use Rattle.health_monitor.specs.declared.entry.HealthEntry.{HealthEntry}
 use Rattle.xm_conf.specs.declared.health.Action.TheVariants as action
@@ -27,7 +27,7 @@ abbrev pub bytes_of_trace_4 : List ℕ
 bytes_of_trace_4 =
     0 ∷ 0 ∷ 0 ∷ 0 ∷ 0 ∷ 0 ∷ 0 ∷ 8 ∷ 0 ∷ 0 ∷ 0 ∷ 2 ∷ 0 ∷ 0 ∷ 0 ∷ 4 ∷ 0 ∷ 0 ∷ 0 ∷ 0 ∷ 0 ∷ 0 ∷ 0 ∷ 1 ∷ []
 
--- health entries 3 and 4 of a partition
+-- two health entries of a partition
 abbrev pub health_3 : HealthEntry
 health_3 = record {
   time = 0x0102_0304_0506_0708;
@@ -47,9 +47,9 @@ bytes_of_health_3 = 1 ∷ 2 ∷ 3 ∷ 4 ∷ 5 ∷ 6 ∷ 7 ∷ 8 ∷ 0 ∷ 0 ∷ 
 abbrev pub bytes_of_health_4 : List ℕ
 bytes_of_health_4 = 0 ∷ 0 ∷ 0 ∷ 0 ∷ 0 ∷ 0 ∷ 0 ∷ 8 ∷ 0 ∷ 0 ∷ 0 ∷ 4 ∷ 0 ∷ 10 ∷ 0 ∷ 0 ∷ 0 ∷ 0 ∷ 0 ∷ 1 ∷ []
 
--- a partition that has these entries, the others being kept no more, and calls
+-- a partition that keeps two entries of each log, traces 3 and 4 and health entries 5 and 6, and calls
 abbrev pub logging : List ℕ → Memory → PartitionState
-logging outs memory = record (with_call outs memory) { traces = kept_of 5 (trace_3 ∷ trace_4 ∷ []); health = kept_of 5 (health_3 ∷ health_4 ∷ []) }
+logging outs memory = record (with_call outs memory) { traces = kept_of 5 (trace_3 ∷ trace_4 ∷ []); health = kept_of 7 (health_3 ∷ health_4 ∷ []) }
 
 abbrev pub log_call : List ℕ → Memory → Caller
 log_call outs memory = made_by (view_for false) (logging outs memory)
@@ -74,17 +74,18 @@ Traces = (memory : Memory) →
     × AnswersWith (log_call (24 ∷ 1 ∷ 0x1038 ∷ []) memory) (minus 1)
     × AnswersWith (log_call (24 ∷ 0xffff_fff9 ∷ 0x1038 ∷ []) memory) (minus 1)
 
--- calls 25 and 28 read an entry of so many bytes that begins at the latest at an address: that it is kept is tested before its place
-abbrev pub ReadsEntry : ℕ → ℕ → List ℕ → List ℕ → Type 0
-ReadsEntry number last bytes_3 bytes_4 = (memory : Memory) →
-    WritesAnswer (log_call (number ∷ 2 ∷ 3 ∷ last ∷ []) memory) 0 last bytes_3
-    × WritesAnswer (log_call (number ∷ 2 ∷ 4 ∷ 0x1000 ∷ []) memory) 0 0x1000 bytes_4
-    × AnswersWith (log_call (number ∷ 2 ∷ 2 ∷ 0x1000 ∷ []) memory) (minus 7)
-    × AnswersWith (log_call (number ∷ 2 ∷ 5 ∷ 0x1000 ∷ []) memory) (minus 7)
-    × AnswersWith (log_call (number ∷ 2 ∷ 2 ∷ 0x2000 ∷ []) memory) (minus 7)
-    × AnswersWith (log_call (number ∷ 2 ∷ 3 ∷ 0x1040 ∷ []) memory) (minus 3)
-    × AnswersWith (log_call (number ∷ 2 ∷ 3 ∷ 0x2000 ∷ []) memory) (minus 3)
-    × AnswersWith (log_call (number ∷ 3 ∷ 2 ∷ 0x1000 ∷ []) memory) (minus 4)
+-- calls 25 and 28 read an entry, of which the first that is kept has this number, to an address, of which the last with room is this: that the entry is
+-- kept is tested before its place
+abbrev pub ReadsEntry : ℕ → ℕ → ℕ → List ℕ → List ℕ → Type 0
+ReadsEntry number first last first_bytes second_bytes = (memory : Memory) →
+    WritesAnswer (log_call (number ∷ 2 ∷ first ∷ last ∷ []) memory) 0 last first_bytes
+    × WritesAnswer (log_call (number ∷ 2 ∷ (first + 1) ∷ 0x1000 ∷ []) memory) 0 0x1000 second_bytes
+    × AnswersWith (log_call (number ∷ 2 ∷ (first - 1) ∷ 0x1000 ∷ []) memory) (minus 7)
+    × AnswersWith (log_call (number ∷ 2 ∷ (first + 2) ∷ 0x1000 ∷ []) memory) (minus 7)
+    × AnswersWith (log_call (number ∷ 2 ∷ (first - 1) ∷ 0x2000 ∷ []) memory) (minus 7)
+    × AnswersWith (log_call (number ∷ 2 ∷ first ∷ 0x1040 ∷ []) memory) (minus 3)
+    × AnswersWith (log_call (number ∷ 2 ∷ first ∷ 0x2000 ∷ []) memory) (minus 3)
+    × AnswersWith (log_call (number ∷ 3 ∷ (first - 1) ∷ 0x1000 ∷ []) memory) (minus 4)
 
 -- the bytes of another partition's entry are those that are shown, and so is that it is not kept
 abbrev pub ReadsAnother : ℕ → ℕ → Type 0
@@ -96,14 +97,14 @@ ReadsAnother number last = (memory : Memory) →
     × AnswersWith (call true (number ∷ 4 ∷ 7 ∷ last ∷ []) memory) (minus 3)
 
 -- one byte less than an entry needs
-abbrev pub LacksByte : ℕ → ℕ → Type 0
-LacksByte number late = (memory : Memory) →
-    AnswersWith (log_call (number ∷ 2 ∷ 3 ∷ late ∷ []) memory) (minus 3) × AnswersWith (call true (number ∷ 3 ∷ 3 ∷ late ∷ []) memory) (minus 3)
+abbrev pub LacksByte : ℕ → ℕ → ℕ → Type 0
+LacksByte number first late = (memory : Memory) →
+    AnswersWith (log_call (number ∷ 2 ∷ first ∷ late ∷ []) memory) (minus 3) × AnswersWith (call true (number ∷ 3 ∷ first ∷ late ∷ []) memory) (minus 3)
 
 -- calls 26 and 29: the first number that is kept and the next number, in eight bytes that have to be writable
-abbrev pub GivesCounts : ℕ → Type 0
-GivesCounts number = (memory : Memory) →
-    WritesAnswer (log_call (number ∷ 2 ∷ 0x1038 ∷ []) memory) 0 0x1038 (0 ∷ 0 ∷ 0 ∷ 3 ∷ 0 ∷ 0 ∷ 0 ∷ 5 ∷ [])
+abbrev pub GivesCounts : ℕ → ℕ → ℕ → Type 0
+GivesCounts number first next = (memory : Memory) →
+    WritesAnswer (log_call (number ∷ 2 ∷ 0x1038 ∷ []) memory) 0 0x1038 (0 ∷ 0 ∷ 0 ∷ first ∷ 0 ∷ 0 ∷ 0 ∷ next ∷ [])
     × AnswersWith (log_call (number ∷ 2 ∷ 0x1039 ∷ []) memory) (minus 3)
     × AnswersWith (log_call (number ∷ 2 ∷ 0x2000 ∷ []) memory) (minus 3)
     × AnswersWith (log_call (number ∷ 3 ∷ 0x1039 ∷ []) memory) (minus 4)
@@ -119,12 +120,12 @@ RaisesEvent = (memory : Memory) →
 -- the rows of calls 24 to 29
 pub record LogCallRows : Type 0 where
   pub trace_event : Traces
-  pub trace_read : ReadsEntry 25 0x1028 bytes_of_trace_3 bytes_of_trace_4
+  pub trace_read : ReadsEntry 25 3 0x1028 bytes_of_trace_3 bytes_of_trace_4
   pub trace_read_of_another : ReadsAnother 25 0x1028
-  pub trace_read_edge : LacksByte 25 0x1029
-  pub trace_status : GivesCounts 26
+  pub trace_read_edge : LacksByte 25 3 0x1029
+  pub trace_status : GivesCounts 26 3 5
   pub hm_raise_event : RaisesEvent
-  pub hm_read : ReadsEntry 28 0x102c bytes_of_health_3 bytes_of_health_4
+  pub hm_read : ReadsEntry 28 5 0x102c bytes_of_health_3 bytes_of_health_4
   pub hm_read_of_another : ReadsAnother 28 0x102c
-  pub hm_read_edge : LacksByte 28 0x102d
-  pub hm_status : GivesCounts 29
+  pub hm_read_edge : LacksByte 28 5 0x102d
+  pub hm_status : GivesCounts 29 5 7

@@ -2,6 +2,7 @@
 use Rattle.std.specs.Prelude.{◌≡◌, ℕ, Bool, true, false, List, [], ◌∷◌, replicate, ◌++◌, Option, Some, None}
 use Rattle.cyclic_plans.specs.PlanClock.{CyclicClock}
 use Rattle.guest_bus.specs.Memory.{Memory, with_bytes}
+use Rattle.virt_traps.specs.Virtual.{VirtualTraps, no_traps}
 use Rattle.xm_base.specs.declared.partition.State.{State}
 use Rattle.xm_base.specs.declared.partition.State.TheVariants.{Ready, Idle, Suspended, Halted}
 use Rattle.machine_model.specs.CallRows.{Calls, after_answer, in_second_tick, caller, watched, watched_status}
@@ -113,10 +114,18 @@ pub record SilentRows : Type 0 where
   pub suspended : (memory : Memory) → asks (view_for true) (observer Suspended 0xffff_fffe false memory) 9 true ≡ None
   pub halted : (memory : Memory) → asks (view_for true) (observer Halted 0xffff_fffe false memory) 9 true ≡ None
 
--- call 15 in a tick: the status of plan 0 with plan 7 asked for, in slot 0
-abbrev pub SeesPlan : Type 0
-SeesPlan = (memory : Memory) → Calls (caller true) memory
-    → Leaves (λ g. g.parts) (record (by_itself (caller true) (calling 0x40000000 (15 ∷ 0x40000004 ∷ []) memory)) { clock = record { plan = 0; frame_start = 0; asked = Some 7 } }) 1
-    (record (after_answer 0 (calling 0x40000000 (15 ∷ 0x40000004 ∷ []) memory)) {
+-- a partition with these virtual traps, which makes call 15
+abbrev pub asking_plan : VirtualTraps → Memory → PartitionState
+asking_plan traps memory = record (calling 0x40000000 (15 ∷ 0x40000004 ∷ []) memory) { traps = traps }
+
+-- it is shown the status of plan 0 with plan 7 asked for, in slot 0
+abbrev pub SeesPlanUnder : VirtualTraps → Type 0
+SeesPlanUnder traps = (memory : Memory) → Calls (caller true) memory
+    → Leaves (λ g. g.parts) (record (by_itself (caller true) (asking_plan traps memory)) { clock = record { plan = 0; frame_start = 0; asked = Some 7 } }) 1
+    (record (after_answer 0 (asking_plan traps memory)) {
       memory = with_bytes memory 0x40000004 (replicate 8 0 ++ 0 ∷ 0 ∷ 0 ∷ 0 ∷ 0 ∷ 0 ∷ 0 ∷ 7 ∷ 0 ∷ 0 ∷ 0 ∷ 0 ∷ []);
     } ∷ [])
+
+-- call 15 in a tick; it is made, too, where interrupt 5 is due and traps are disabled
+abbrev pub SeesPlan : Type 0
+SeesPlan = SeesPlanUnder no_traps × SeesPlanUnder (record no_traps { pending = 32; mask = 0xffff_ffdf })

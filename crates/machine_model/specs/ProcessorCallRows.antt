@@ -1,7 +1,8 @@
 -- Rows on the calls on interrupts, the console, input words and the virtual processor, numbers 30 to 37: the result and the effect of each,
 -- and each of its tests at its edge.
 use Rattle.std.specs.Prelude.{ℕ, Bool, true, false, List, [], ◌∷◌, ◌++◌, replicate}
-use Rattle.guest_bus.specs.Memory.{Memory, bytes_at}
+use Rattle.std.specs.Int.{to_be_bytes, w32}
+use Rattle.guest_bus.specs.Memory.{Memory, bytes_at, with_bytes}
 use Rattle.sparc_step.specs.Registers.{Registers, in_window, registers_started}
 use Rattle.guest_bus.specs.Words.{words_at}
 use Rattle.virt_traps.specs.SaveArea.{with_registers}
@@ -12,6 +13,7 @@ use Rattle.machine_model.specs.Partition.{PartitionState}
 use Rattle.machine_model.specs.Rows.{area, with_outs}
 use Rattle.machine_model.specs.ServedRows.{AnswersWith, ComesTo, Leads, call, made_by, minus, view_for, with_call, with_o0, written}
 use Rattle.machine_model.specs.Told.{Console, Nothing, Told}
+use Rattle.machine_model.specs.View.{PartitionView}
 
 -- a partition with a mask of interrupts, which calls
 abbrev pub masked : ℕ → List ℕ → Memory → PartitionState
@@ -32,10 +34,13 @@ Unmasks = (memory : Memory) →
 abbrev pub telling : List Told → ℕ → PartitionState → Served
 telling told value ps = record { after = with_o0 value ps; told = told; upshot = Acts Nothing }
 
--- a partition with 1025 bytes, which calls
+-- a partition with 1025 bytes
+abbrev pub large_view : PartitionView
+large_view = record (view_for false) { part = record ((view_for false).part) { areas = area 0x1000 1025 ∷ [] } }
+
+-- it calls
 abbrev pub long_call : List ℕ → Memory → Caller
-long_call outs memory =
-    made_by (record (view_for false) { part = record ((view_for false).part) { areas = area 0x1000 1025 ∷ [] } }) (with_call outs memory)
+long_call outs memory = made_by large_view (with_call outs memory)
 
 -- call 32: bytes that have to be readable, at most 1024; none print nothing
 abbrev pub WritesConsole : Type 0
@@ -146,7 +151,27 @@ saved_bytes = 10 ∷ 11 ∷ 12 ∷ 13 ∷ replicate 56 0 ++ 1 ∷ 2 ∷ 3 ∷ 4 
 abbrev pub top_spilled : ℕ → ℕ → Memory → PartitionState
 top_spilled window stack memory = written stack saved_bytes (with_core (record (below_top window stack) { inv = 7 }) memory)
 
--- call 37: each window but the current one is spilled; where one cannot be the call is undone, and those before it stay spilled
+-- the registers with a stack pointer in a window, and the window's number in its first local
+abbrev pub with_window : ℕ → ℕ → Registers → Registers
+with_window window stack core = with_outs 16 (window ∷ []) (with_outs 14 (stack ∷ []) (in_window core window))
+
+-- the registers of a partition that calls in window 1, where windows 2 to 7 are used, window 7 first
+abbrev pub in_lowest : Registers
+in_lowest =
+    with_outs 8 (37 ∷ []) (in_window (with_window 2 0x1140 (with_window 3 0x1100 (with_window 4 0x10c0 (with_window 5 0x1080 (with_window 6 0x1040 (with_window 7 0x1000
+    (registers_started 0x1020))))))) 1)
+
+-- the 64 bytes that such a window saves: its number, and as its frame pointer the stack pointer of the window above
+abbrev pub saved_window : ℕ → ℕ → List ℕ
+saved_window window above = 0 ∷ 0 ∷ 0 ∷ window ∷ replicate 52 0 ++ to_be_bytes w32 above ++ replicate 4 0
+
+-- the memory with all six saved
+abbrev pub all_saved : Memory → Memory
+all_saved memory =
+    with_bytes (with_bytes (with_bytes (with_bytes (with_bytes (with_bytes memory 0x1000 (saved_window 7 0)) 0x1040 (saved_window 6 0x1000)) 0x1080 (saved_window 5 0x1040))
+    0x10c0 (saved_window 4 0x1080)) 0x1100 (saved_window 3 0x10c0)) 0x1140 (saved_window 2 0x1100)
+
+-- call 37: each window but the current one is spilled, six at most; where one cannot be the call is undone, and those before it stay spilled
 abbrev pub FlushesWindows : Type 0
 FlushesWindows = (memory : Memory) →
     Leads (core_call (below_top 7 0x1000) memory) 0 (with_core (below_top 7 0x1000) memory)
@@ -154,6 +179,7 @@ FlushesWindows = (memory : Memory) →
     × ComesTo (core_call (below_top 6 0x1008) memory) (taken_back (with_core (below_top 6 0x1008) memory))
     × ComesTo (core_call (below_top 6 0x2000) memory) (taken_back (with_core (below_top 6 0x2000) memory))
     × ComesTo (core_call (below_top 5 0x1000) memory) (taken_back (top_spilled 5 0x1000 memory))
+    × Leads (made_by large_view (with_core in_lowest memory)) 0 (with_core (record in_lowest { inv = 2 }) (all_saved memory))
 
 -- the rows of calls 30 to 37
 pub record ProcessorCallRows : Type 0 where

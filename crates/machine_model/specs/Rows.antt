@@ -72,6 +72,10 @@ slot start duration part = record { start = start; duration = duration; part = p
 abbrev pub whole_frame : Plan
 whole_frame = record { frame = 4; slots = slot 0 4 0 ∷ [] }
 
+-- a plan of one tick, which one partition has
+abbrev pub short_frame : Plan
+short_frame = record { frame = 1; slots = slot 0 1 0 ∷ [] }
+
 -- a plan in which each of two partitions has two ticks of four
 abbrev pub halves : Plan
 halves = record { frame = 4; slots = slot 0 2 0 ∷ slot 2 2 1 ∷ [] }

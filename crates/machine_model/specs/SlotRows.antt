@@ -3,13 +3,15 @@ use Rattle.std.specs.Prelude.{ℕ, true, false, List, [], ◌∷◌, Option, Som
 use Rattle.cyclic_plans.specs.PlanClock.{frame_from}
 use Rattle.guest_bus.specs.Memory.{Memory}
 use Rattle.virt_clocks.specs.Clocks.{no_clocks}
+use Rattle.virt_clocks.specs.declared.timer.Timer.{Timer}
 use Rattle.virt_traps.specs.Virtual.{VirtualTraps, no_traps}
-use Rattle.xm_base.specs.declared.partition.State.TheVariants.{Ready, Idle, Suspended}
+use Rattle.xm_base.specs.declared.partition.State.{State}
+use Rattle.xm_base.specs.declared.partition.State.TheVariants.{Ready, Idle, Suspended, Halted}
 use Rattle.xm_conf.specs.Configuration.{Conf, Part, Plan}
 use Rattle.xm_report.specs.Report.{PlanLine, EndPart, EndWhole}
 use Rattle.machine_model.specs.Machine.{Machine}
 use Rattle.machine_model.specs.Partition.{PartitionState}
-use Rattle.machine_model.specs.Rows.{Holds, HoldsAll, Leaves, Prints, at, calling, small_conf, halves, machine, plain_part, slot}
+use Rattle.machine_model.specs.Rows.{Holds, HoldsAll, Leaves, Prints, at, calling, small_conf, halves, machine, of_part, short_frame, plain_part, slot}
 
 -- the two partitions of the rows
 abbrev pub first_part : Part
@@ -56,6 +58,21 @@ WakesInItsSlot = (one other : Memory) → Loops first_part one 0x40000000
     → Prints (two_parts 0 (waiting one) (at 0x40000100 other)) 1
     (EndPart 0 Ready 0 6 0x40000004 ∷ EndPart 1 Ready 0 0 0x40000100 ∷ EndWhole false 0 1 1 ∷ [])
 
+-- a partition that waits with interrupt 0 pending under this mask, and takes no traps
+abbrev pub waiting_under : ℕ → Memory → PartitionState
+waiting_under mask memory = record (waiting memory) { traps = record no_traps { pending = 1; mask = mask } }
+
+-- a partition that waits is woken in the middle of its slot by an interrupt that is due, executes an instruction, and the interrupt still waits; where the
+-- interrupt is masked the partition waits on
+abbrev pub WakesByInterrupt : Type 0
+WakesByInterrupt = (one other : Memory) → Loops first_part one 0x40000000
+    → Prints (two_parts 1 (waiting_under 0xffff_fffe one) (at 0x40000100 other)) 1
+    (EndPart 0 Ready 0 6 0x40000004 ∷ EndPart 1 Ready 0 0 0x40000100 ∷ EndWhole false 0 2 2 ∷ [])
+    × Leaves (of_part (λ ps. ps.traps) 0) (two_parts 1 (waiting_under 0xffff_fffe one) (at 0x40000100 other)) 1 (Some (record no_traps { pending = 1; mask = 0xffff_fffe }))
+    × Prints (two_parts 1 (waiting_under 0xffff_ffff one) (at 0x40000100 other)) 1
+    (EndPart 0 Idle 0 5 0x40000000 ∷ EndPart 1 Ready 0 0 0x40000100 ∷ EndWhole false 0 2 2 ∷ [])
+    × Leaves (of_part (λ ps. ps) 0) (two_parts 1 (waiting_under 0xffff_ffff one) (at 0x40000100 other)) 1 (Some (waiting_under 0xffff_ffff one))
+
 -- a partition with a hardware timer of this deadline and interval
 abbrev pub timed : ℕ → ℕ → Memory → PartitionState
 timed deadline interval memory = record (at 0x40000000 memory) {
@@ -77,6 +94,43 @@ IsDueInAnothersSlot = (one other : Memory)
     → Leaves (λ g. g.parts) (two_parts 3 (timed 3 0 one) (suspended_partition other)) 1 (record (at 0x40000000 one) { traps = timer_pending } ∷ suspended_partition other ∷ [])
     × Leaves (λ g. g.parts) (two_parts 3 (timed 3 5 one) (suspended_partition other)) 1 (record (timed 8 5 one) { traps = timer_pending } ∷ suspended_partition other ∷ [])
     × Leaves (λ g. g.parts) (two_parts 2 (timed 3 0 one) (suspended_partition other)) 1 (timed 3 0 one ∷ suspended_partition other ∷ [])
+
+-- the hardware timer of a partition in this state is due in a tick of another one's slot
+abbrev pub RestsIn : State → Type 0
+RestsIn state = (one other : Memory)
+    → Leaves (of_part (λ ps. ps) 0) (two_parts 3 (record (timed 3 5 one) { state = state }) (suspended_partition other)) 1
+    (Some (record (timed 8 5 one) { state = state; traps = timer_pending }))
+
+-- so it is in each state but one; the timer of a suspended partition is looked at in its own slot, too, and that of one that has halted never
+pub record RestRows : Type 0 where
+  pub ready : RestsIn Ready
+  pub idle : RestsIn Idle
+  pub suspended : RestsIn Suspended
+  pub own_slot : (one other : Memory)
+      → Leaves (of_part (λ ps. ps) 0) (two_parts 1 (record (timed 1 5 one) { state = Suspended }) (at 0x40000100 other)) 1
+      (Some (record (timed 6 5 one) { state = Suspended; traps = timer_pending }))
+  pub halted : (one other : Memory)
+      → Leaves (of_part (λ ps. ps) 0) (two_parts 3 (record (timed 3 5 one) { state = Halted }) (suspended_partition other)) 1
+      (Some (record (timed 3 5 one) { state = Halted }))
+
+-- a partition with an execution timer of this deadline and interval, after five ticks of its own
+abbrev pub execution_timed : ℕ → ℕ → Memory → PartitionState
+execution_timed deadline interval memory = record (at 0x40000000 memory) {
+  clocks = record no_clocks { execution = 5; execution_timer = Some (record { deadline = deadline; interval = interval }) };
+}
+
+-- the execution timer of a partition that executes an instruction is looked at first: the interrupts that then wait, and what is left of the timer
+abbrev pub TimesExecution : ℕ → ℕ → ℕ → Option Timer → Type 0
+TimesExecution deadline interval pending timer = (one other : Memory) → Loops first_part one 0x40000000
+    → Leaves (of_part (λ ps. ps.traps) 0) (two_parts 1 (execution_timed deadline interval one) (at 0x40000100 other)) 1 (Some (record no_traps { pending = pending }))
+    × Leaves (of_part (λ ps. ps.clocks) 0) (two_parts 1 (execution_timed deadline interval one) (at 0x40000100 other)) 1
+    (Some (record { execution = 6; hardware_timer = None; execution_timer = timer }))
+
+-- it is due at its deadline, where interrupt 1 becomes pending and the timer is moved on by its interval, or disarmed without one; and not a tick earlier
+pub record ExecutionTimerRows : Type 0 where
+  pub moved_on : TimesExecution 5 3 2 (Some (record { deadline = 8; interval = 3 }))
+  pub disarmed : TimesExecution 5 0 2 None
+  pub early : TimesExecution 6 3 0 (Some (record { deadline = 6; interval = 3 }))
 
 -- three plans of 2000 ticks, whose last ticks are in no slot
 abbrev pub three_plans : List Plan
@@ -108,7 +162,7 @@ LastAskedStarts = (memory : Memory) → Holds planner memory 0x40000000 0x91d020
 
 -- two plans of one tick
 abbrev pub short_plans : Conf
-short_plans = small_conf (record { frame = 1; slots = slot 0 1 0 ∷ [] } ∷ record { frame = 1; slots = slot 0 1 0 ∷ [] } ∷ []) (planner ∷ []) []
+short_plans = small_conf (short_frame ∷ short_frame ∷ []) (planner ∷ []) []
 
 -- a plan that is asked for in the last tick of a frame starts with the next tick
 abbrev pub AskedInLastTick : Type 0

@@ -1,11 +1,12 @@
--- The row on a system that is started: a partition alone writes to its console and halts.
-use Rattle.std.specs.Prelude.{◌≡◌, ℕ, false, List, [], ◌∷◌, codes}
+-- Rows on systems that are started: a partition alone writes to its console and halts, and two begin with their input words.
+use Rattle.std.specs.Prelude.{◌≡◌, ℕ, false, List, [], ◌∷◌, codes, map}
 use Rattle.xm_base.specs.declared.partition.State.TheVariants.{Ready, Halted}
 use Rattle.xm_report.specs.Report.{SystemLine, ConsoleLine, MovedLine, EndPart, EndWhole}
 use Rattle.xm_report.specs.declared.line.Move.TheVariants as move
 use Rattle.machine_model.specs.Lines.{report}
 use Rattle.machine_model.specs.Machine.{start}
-use Rattle.machine_model.specs.Rows.{Prints, small_conf, image, plain_part, program, slot}
+use Rattle.machine_model.specs.Rows.{Prints, entered_at, small_conf, image, plain_part, program, slot}
+use Rattle.machine_model.specs.SlotRows.{in_turns}
 use Rattle.machine_model.specs.View.{System}
 
 -- a program that writes the two bytes after its words, `hi`, to the console, and halts
@@ -19,6 +20,23 @@ hi = record {
   images = image 0x40000000 hi_bytes ∷ [];
   inputs = [] ∷ [];
 }
+
+-- a system of two partitions, each with an input word of its own
+abbrev pub two_with_inputs : System
+two_with_inputs = record {
+  conf = in_turns;
+  images = entered_at (0x40000000 ∷ 0x40000100 ∷ []);
+  inputs = (1 ∷ []) ∷ (2 ∷ []) ∷ [];
+}
+
+-- each partition begins with the input words that are its own
+abbrev pub BeginsWithInputs : Type 0
+BeginsWithInputs = map (λ ps. ps.inputs) (start two_with_inputs).parts ≡ (1 ∷ []) ∷ (2 ∷ []) ∷ []
+
+-- the report of no tick: its first line has the two partitions and the one plan
+abbrev pub ReportsTwo : Type 0
+ReportsTwo = report two_with_inputs 0
+    ≡ SystemLine 2 1 0 ∷ EndPart 0 Ready 0 0 0x40000000 ∷ EndPart 1 Ready 0 0 0x40000100 ∷ EndWhole false 0 0 0 ∷ []
 
 -- no tick does nothing: the partition is ready at its entry
 abbrev pub BeginsAtEntry : Type 0

@@ -13,7 +13,7 @@ use Rattle.xm_report.specs.declared.line.Move.TheVariants as move
 use Rattle.machine_model.specs.Machine.{Machine}
 use Rattle.machine_model.specs.Partition.{PartitionState}
 use Rattle.machine_model.specs.Rows.{Holds, HoldsAll, Leaves, Prints, at, small_conf, machine, of_part, plain_part, slot, whole_frame}
-use Rattle.machine_model.specs.SlotRows.{first_part, suspended_partition, two_parts}
+use Rattle.machine_model.specs.SlotRows.{Loops, first_part, suspended_partition, two_parts}
 
 -- virtual traps with a table at 0x40001000: enabled or not, with these interrupts pending and masked
 abbrev pub with_table : Bool → ℕ → ℕ → VirtualTraps
@@ -47,6 +47,16 @@ abbrev pub TimerIsDelivered : Type 0
 TimerIsDelivered = (one other : Memory)
     → Prints (two_parts 1 (timed_trap 1 one) (suspended_partition other)) 1 (EndPart 0 Ready 0 1 0x40001e00 ∷ EndPart 1 Suspended 0 0 0x40000100 ∷ EndWhole false 0 2 2 ∷ [])
     × Leaves (of_part (λ ps. ps.traps) 0) (two_parts 1 (timed_trap 1 one) (suspended_partition other)) 1 (Some (with_table false 0 0xffff_fffe))
+
+-- a partition that takes no traps, with interrupt 0 pending and alone unmasked
+abbrev pub with_interrupt : Memory → PartitionState
+with_interrupt memory = record (at 0x40000000 memory) { traps = with_table false 1 0xffff_fffe }
+
+-- where traps are disabled an interrupt that is due is not delivered: the instruction is executed, and the interrupt still waits
+abbrev pub WaitsWhileDisabled : Type 0
+WaitsWhileDisabled = (one other : Memory) → Loops first_part one 0x40000000
+    → Prints (two_parts 1 (with_interrupt one) (suspended_partition other)) 1 (EndPart 0 Ready 0 1 0x40000004 ∷ EndPart 1 Suspended 0 0 0x40000100 ∷ EndWhole false 0 2 2 ∷ [])
+    × Leaves (of_part (λ ps. ps.traps) 0) (two_parts 1 (with_interrupt one) (suspended_partition other)) 1 (Some (with_table false 1 0xffff_fffe))
 
 -- one that is due in another one's slot is delivered with the first tick of the partition's next slot, the start of which is pending then, too
 abbrev pub TimerWaitsForSlot : Type 0

@@ -6,6 +6,7 @@ use Rattle.machine_model.specs.SlotRows.{first_part, loop_words, planner, second
 use Rattle.machine_model.specs.HealthRows.{part_with_action, raise_words, raising}
 use Rattle.machine_model.specs.TrapRows.{saver, saves, stray_load}
 use Rattle.machine_model.specs.CallRows.{caller}
+use Rattle.machine_model.specs.WholeRows.{other_caller}
 
 -- each partition of the rows can hold the words that its row asks for
 pub record WordsCanBeHeld : Type 0 where
@@ -18,3 +19,4 @@ pub record WordsCanBeHeld : Type 0 where
   pub traps : CanHold (plain_part 0x40000000 4) 0x40000000 (0 ∷ [])
   pub saves : CanHold saver 0x40000000 saves
   pub calls : (is_system : Bool) → CanHold (caller is_system) 0x40000000 (0x91d02070 ∷ [])
+  pub other_calls : CanHold other_caller 0x40000100 (0x91d02070 ∷ [])

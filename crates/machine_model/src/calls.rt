@@ -1,7 +1,7 @@
 //! Rows worked by hand on each hypercall: its result, its effect, and each of its tests at its edge; and on each health event.
 
 ghost use Rattle.machine_model.specs.CoreFileRows.{CoreFileRows};
-ghost use Rattle.machine_model.specs.EventRows.{ActionRows, DeliveryRows, RaisedRows, TrapsHaveEvents, UndoneRows};
+ghost use Rattle.machine_model.specs.EventRows.{ActionRows, DeliveryRows, EventsPassOver, RaisedRows, TrapsHaveEvents, UndoneRows};
 ghost use Rattle.machine_model.specs.LinkRows.{LinkCallRows, LinkRows, SignalIsDelivered, SignalRows, SignalsHalted, SignalsNotBack, SignalsOther};
 ghost use Rattle.machine_model.specs.LogCallRows.{LogCallRows};
 ghost use Rattle.machine_model.specs.ObservedRows.{AnswerRows, AskingRows, PlanStatusRows, RoomRows, SeesPlan, SilentRows};
@@ -9,7 +9,7 @@ ghost use Rattle.machine_model.specs.PartitionCallRows.{PartitionCallRows};
 ghost use Rattle.machine_model.specs.PortCallRows.{PortCallRows};
 ghost use Rattle.machine_model.specs.ProcessorCallRows.{ProcessorCallRows};
 ghost use Rattle.machine_model.specs.TimeCallRows.{TimeCallRows};
-ghost use Rattle.machine_model.specs.WholeRows.{CounterRows, HearingRows, OrderRows, ResetsAllCold, WritesToItsConsole};
+ghost use Rattle.machine_model.specs.WholeRows.{CounterRows, HearingRows, OrderRows, ResetRows, WritesToItsConsole};
 
 /// Calls 1 to 11, on partitions and on the whole system.
 pub fn partition_calls()
@@ -50,6 +50,7 @@ pub fn link_calls()
 /// Health events: what each action does, deliveries that fail, and calls that end in an event.
 pub fn health_events()
     ensures events { TrapsHaveEvents }
+    ensures passed { EventsPassOver }
     ensures actions { ActionRows }
     ensures raised { RaisedRows }
     ensures deliveries { DeliveryRows }
@@ -72,7 +73,7 @@ pub fn reaching_others()
     ensures heard { HearingRows }
     ensures ordered { OrderRows }
     ensures counted { CounterRows }
-    ensures reset { ResetsAllCold }
+    ensures reset { ResetRows }
     ensures consoles { WritesToItsConsole }
 {}
 

@@ -18,6 +18,6 @@ pub use law::{
 pub use rows::{
     asks_for_plans, halts_at_faults, holds_words, keeps_time, meets_illegal, observes_another,
     orders_another, reaches_all, receives_messages, resets_itself, rules_system, runs_in_slots,
-    says_hi, sends_messages, serves_itself, switches_to_maintenance, takes_traps, timer_goes_on,
-    traces_in_mask, waits_for_slot, writes_samples,
+    says_hi, sends_messages, serves_itself, starts, switches_to_maintenance, takes_traps,
+    timer_goes_on, traces_in_mask, waits_for_slot, writes_samples,
 };

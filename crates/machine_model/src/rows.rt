@@ -1,12 +1,12 @@
 //! Rows worked by hand: small systems, and what runs of them come to.
 
 ghost use Rattle.machine_model.specs.CallRows.{CountsWarm, HaltsAnother, IsRefusedAnother, KeepsLogsCold, OrdersNone, ResetsAnother, ResumesAnother, ResumesNothing, SeesAnother, ShutsDownAnother, SuspendsAnother};
-ghost use Rattle.machine_model.specs.HealthRows.{HaltsAll, HaltsAtIllegal, IgnoresIllegal, PropagatesToHalt, ResetsAllByCall, ResetsAllWarm, RestsInHaltingTick, SwitchesInMidFrame};
+ghost use Rattle.machine_model.specs.HealthRows.{HaltsAll, HaltsAtIllegal, HaltsInLastTick, IgnoresIllegal, PropagatesToHalt, ResetsAllByCall, ResetsAllWarm, RestsInHaltingTick, SwitchesInMidFrame};
 ghost use Rattle.machine_model.specs.OwnRows.{HaltsSystem, Idles, ReachesNotAll, ReadsInput, ReadsOwnLog, RefusesDeadline, ResetsSystemCold, ReturnsFromTrap, SeesSystem, SetsTimer, ShowsClocks, TracesInMask, TracesNotElse, UnknownCall};
 ghost use Rattle.machine_model.specs.PortRows.{EmptyQueueRefuses, FullQueueRefuses, NoRoomKeepsMessage, OldestIsReceived, QueueTakesMessage, SampleInterrupts, UnmadePortIsSilent};
-ghost use Rattle.machine_model.specs.SlotRows.{AskedInLastTick, IsDueInAnothersSlot, LastAskedStarts, RunInTheirSlots, WaitsOn, WakesInItsSlot};
-ghost use Rattle.machine_model.specs.StartRows.{BeginsAtEntry, HaltsAfterHi, ReportsHi, StaysHalted};
-ghost use Rattle.machine_model.specs.TrapRows.{HaltsAtSpill, HaltsAtStrayLoad, TakesTrap, TimerIsDelivered, TimerWaitsForSlot};
+ghost use Rattle.machine_model.specs.SlotRows.{AskedInLastTick, ExecutionTimerRows, IsDueInAnothersSlot, LastAskedStarts, RestRows, RunInTheirSlots, WaitsOn, WakesByInterrupt, WakesInItsSlot};
+ghost use Rattle.machine_model.specs.StartRows.{BeginsAtEntry, BeginsWithInputs, HaltsAfterHi, ReportsHi, ReportsTwo, StaysHalted};
+ghost use Rattle.machine_model.specs.TrapRows.{HaltsAtSpill, HaltsAtStrayLoad, TakesTrap, TimerIsDelivered, TimerWaitsForSlot, WaitsWhileDisabled};
 ghost use Rattle.machine_model.specs.WordRows.{WordsCanBeHeld};
 
 /// A system of one partition that writes `hi` to its console and halts, from its start on.
@@ -17,20 +17,31 @@ pub fn says_hi()
     ensures report { ReportsHi }
 {}
 
+/// Two partitions, each with its input word, as their system starts.
+pub fn starts()
+    ensures inputs { BeginsWithInputs }
+    ensures report { ReportsTwo }
+{}
+
 /// Two partitions that loop, each in its own slot.
 pub fn runs_in_slots()
     ensures turns { RunInTheirSlots }
 {}
 
-/// An idle partition in its own slot: it sleeps on where nothing wakes it, and the first tick of the slot does.
+/// An idle partition in its own slot: it sleeps on where nothing wakes it, and the first tick of the slot does, or an
+/// interrupt that is due.
 pub fn waits_for_slot()
     ensures waits { WaitsOn }
     ensures wakes { WakesInItsSlot }
+    ensures interrupted { WakesByInterrupt }
 {}
 
-/// A hardware timer that is due in a tick of another partition's slot.
+/// A hardware timer that is due in a tick of another partition's slot, in each of its own partition's states, and an
+/// execution timer that is due.
 pub fn timer_goes_on()
     ensures due { IsDueInAnothersSlot }
+    ensures rests { RestRows }
+    ensures execution { ExecutionTimerRows }
 {}
 
 /// Plans that are asked for: the last one starts when the frame ends.
@@ -51,6 +62,7 @@ pub fn reaches_all()
     ensures reset { ResetsAllWarm }
     ensures raised { ResetsAllByCall }
     ensures halted { HaltsAll }
+    ensures last { HaltsInLastTick }
     ensures rests { RestsInHaltingTick }
 {}
 
@@ -59,11 +71,12 @@ pub fn switches_to_maintenance()
     ensures switched { SwitchesInMidFrame }
 {}
 
-/// A trap and timer interrupts that are delivered to their partition.
+/// A trap and timer interrupts that are delivered to their partition, and one that waits where traps are disabled.
 pub fn takes_traps()
     ensures trap { TakesTrap }
     ensures delivered { TimerIsDelivered }
     ensures later { TimerWaitsForSlot }
+    ensures disabled { WaitsWhileDisabled }
 {}
 
 /// A spill without a stack, and a load from another partition: each halts the partition that made it.
