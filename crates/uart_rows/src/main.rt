@@ -15,30 +15,36 @@ use xm_outside::{FileUart, MemSink, MemStore, SureSink};
 use xm_words::Words;
 
 // The files of the data folder that the calls read.
-const FILES: [&str; 8] = [
+const FILES: [&str; 10] = [
     "hi.bin",
     "pair.xml",
     "shared.xml",
     "mute.xml",
+    "trace.xml",
     "x0.elf",
     "x1.elf",
     "a0.elf",
     "b1.elf",
+    "t0.elf",
 ];
 
 // The calls that make the containers: both partitions of `pair` write `x` twice, each to a UART of its own; those of
-// `shared` and of `mute` write `a` and `b` twice, to one UART, and to the UART 0 and to none.
-const MAKING: [&str; 10] = [
+// `shared` and of `mute` write `a` and `b` twice, to one UART, and to the UART 0 and to none; the one of `trace` traces
+// eight bytes and writes the first of them.
+const MAKING: [&str; 13] = [
     "xmcparser pair.xml pair.xmc",
     "xmcparser shared.xml shared.xmc",
     "xmcparser mute.xml mute.xmc",
+    "xmcparser trace.xml trace.xmc",
     "xmeformat build x0.elf x0.xef",
     "xmeformat build x1.elf x1.xef",
     "xmeformat build a0.elf a0.xef",
     "xmeformat build b1.elf b1.xef",
+    "xmeformat build t0.elf t0.xef",
     "xmpack build pair.xmc pair.xmp 0=x0.xef 1=x1.xef",
     "xmpack build shared.xmc shared.xmp 0=a0.xef 1=b1.xef",
     "xmpack build mute.xmc mute.xmp 0=a0.xef 1=b1.xef",
+    "xmpack build trace.xmc trace.xmp 0=t0.xef",
 ];
 
 // The calls over a file that was there before: one that writes nothing, and two that do.
@@ -60,7 +66,7 @@ struct Row {
 }
 
 // The rows whose UARTs may fail.
-const ROWS: [Row; 11] = [
+const ROWS: [Row; 12] = [
     Row {
         shows: "a raw image on UART 0",
         calls: &["bare hi.bin 100"],
@@ -106,6 +112,13 @@ const ROWS: [Row; 11] = [
     Row {
         shows: "a partition without a console",
         calls: &["run mute.xmp --ticks 20"],
+        fails: [Some(&[]), Some(&[])],
+        keep: 0,
+        cuts: &[],
+    },
+    Row {
+        shows: "what is traced goes to no UART",
+        calls: &["run trace.xmp --ticks 20"],
         fails: [Some(&[]), Some(&[])],
         keep: 0,
         cuts: &[],
