@@ -13,7 +13,7 @@ import textwrap
 from pathlib import Path
 
 from box import ACTIONS, EVENTS, Part, container, image_file
-from cases import CASES, RESETS, all_cases
+from cases import CASES, CORES, RESETS, all_cases
 from model import CALLS, RESET_NAMES, run_words
 from shown import BOOKS
 
@@ -38,6 +38,7 @@ Containers whose configurations differ in few bytes have their front in common, 
 where it only loops. Bytes 8 and 9 are the container's length, the others what the lines above the container say. Of each
 image there are its head, the words of each segment in lines of their own, and its digest."""
 MOST_CHANGES = 8
+CORE = "c"  # the name of a case's core file
 
 
 class Fronts:
@@ -165,12 +166,31 @@ def input_name(name, number):
     return f"{name}.{number}.in"
 
 
+def core_name(name):
+    return f"core {CORES[name]} of {name}"
+
+
+def core_words(name):
+    """The words that ask for the core file of a case."""
+    return ["--core", f"{CORES[name]}={CORE}"] if name in CORES else []
+
+
+def core_entry(name, words):
+    """The core file that the model gives, by its length and the bytes that are not zero."""
+    content = outcome(name, words)[1][CORE]
+    places = " ".join(f"[{place},_{byte:#04x}]," for place, byte in enumerate(content) if byte)
+    lines = [f"  {line}".replace("_", " ") for line in textwrap.wrap(places, 116)]
+    return ["[[file]]", f'name = "{core_name(name)}"', 'hex = ""', f"length = {len(content)}", "bytes = [", *lines, "]", ""]
+
+
 def case_files(name, fronts):
-    system, _, inputs = CASES[name]
+    system, length, inputs = CASES[name]
     lines = [f"{name}:", *settings(system), *listed(system)]
     lines = fronts.container_entry(f"{name}.box", system, lines)
     for number, words in inputs.items():
         lines += file_entry(input_name(name, number), [" ".join(f"{word:08x}" for word in words)])
+    if name in CORES:
+        lines += core_entry(name, [*length, *core_words(name)])
     return lines
 
 
@@ -179,10 +199,13 @@ def case_row(name, shows):
     files = [f"{name}.box", *(input_name(name, number) for number in inputs)]
     for number in inputs:
         words = [*words, "--input", f"{number}={input_name(name, number)}"]
+    words = [*words, *core_words(name)]
     listed_files = ", ".join(f'"{file}"' for file in files)
     call = " ".join(["run", f"{name}.box", *words])
     resets = f"resets = [{', '.join(map(reset_value, RESETS[name]))}], " if name in RESETS else ""
-    return f'  {{ shows = "{shows}", call = "{call}", file = [{listed_files}], {resets}out = {text_value(report(name, words))} }},'
+    core = f', same = {{ {CORE} = "{core_name(name)}" }}' if name in CORES else ""
+    out = text_value(outcome(name, words)[0])
+    return f'  {{ shows = "{shows}", call = "{call}", file = [{listed_files}], {resets}out = {out}{core} }},'
 
 
 def reset_value(reset):
@@ -191,13 +214,14 @@ def reset_value(reset):
     return f'{{ tick = {tick}, {place}mode = "{RESET_NAMES[mode].lower()}" }}'
 
 
-def report(name, words):
+def outcome(name, words):
+    """The report that the model gives of a case, and the core files by their names."""
     system, _, inputs = CASES[name]
     with tempfile.TemporaryDirectory() as folder:
         (Path(folder) / f"{name}.box").write_bytes(container(system))
         for number, values in inputs.items():
             (Path(folder) / input_name(name, number)).write_bytes(struct.pack(f">{len(values)}I", *values))
-        return run_words([f"{name}.box", *words], Path(folder), RESETS.get(name, ()))[0]
+        return run_words([f"{name}.box", *words], Path(folder), RESETS.get(name, ()))
 
 
 def book(title, groups):

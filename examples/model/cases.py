@@ -32,6 +32,7 @@ EXECUTION = 1
 A = {name: number for number, name in enumerate(ACTIONS)}
 E = {name: number for number, name in enumerate(EVENTS)}
 CASES = {}
+CORES = {}  # the partition whose core file a case has, too
 RESETS = {}  # those between the ticks of a case: the tick's number, a partition or None for all, the mode, the status
 
 
@@ -663,6 +664,9 @@ def timer_cases():
     both = Program(0).on(INTERRUPT, say_time, back).on(INTERRUPT + 1, say_time, back).ready(3)
     case("timers_both_due", make(both.call(13, 0, 0, 120, 0, 0).call(13, 1, 0, 120, 0, 0)), "--ticks 1200")
     case("timer_suspended", make(Program(0).wait(1000).ask(5, 1), timed(900, 300, number=1).call(4, 1)), "--ticks 4000")
+    due = Program(1).call(13, 0, 0, 900, 0, 300).call(4, 1)
+    case("timer_suspended_due", make(Program(0), due))
+    CORES["timer_suspended_due"] = 1
     case("timer_halted", make(Program(0).wait(600).ask(3, 1, 1, 0), timed(900, 300, number=1).call(2, 1)),
          "--ticks 4000")
     slot = Program(0).on(INTERRUPT + 5, say_time, back).ready(1 << 5)

@@ -171,6 +171,7 @@ TIMERS = {
         "timer_interval_past_all": "an interval past the last moment",
         "timers_both_due": "both timers due in one tick",
         "timer_suspended": "a suspended partition's timer",
+        "timer_suspended_due": "it is due four times while the partition is suspended, as the core file has it",
         "timer_halted": "a halted partition's timer, and a reset",
     },
     "slots and interrupts": {
