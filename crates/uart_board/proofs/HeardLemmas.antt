@@ -1,6 +1,5 @@
 -- What a board tells after bytes were said to one of its places.
-use Rattle.std.proofs.Common.{◌≡◌, ◌≢◌, ℕ, zero, suc, ◌<◌, ◌==◌, Bool, true, false, cond, List, [], ◌∷◌, length, map, Option, Some, None, refl, sym, ◌∙◌, ap, subst, arith, ◌⊎◌, inl, inr, slice_index_or, slice_set, IfSome}
-use Rattle.std.proofs.lemmas.Bool.Decides.{nat_tests}
+use Rattle.std.proofs.Common.{◌≡◌, ◌≢◌, ℕ, zero, suc, ◌<◌, List, [], ◌∷◌, length, map, Option, Some, None, refl, sym, ◌∙◌, ap, subst, arith, ◌⊎◌, inl, inr, slice_index_or, slice_set, IfSome}
 use Rattle.std.proofs.lemmas.List.{get_or-set_same, get_or-set_other, set-get_or}
 use Rattle.std.specs.Global.{Global}
 use Rattle.std.specs.Prelude.{option_map}
@@ -10,7 +9,7 @@ use Rattle.xm_outside.specs.Causes.{Rose}
 use Rattle.xm_outside.specs.Growth.{grown}
 use Rattle.uart_board.specs.declared.board.Board.{Board}
 use Rattle.uart_board.specs.Board.{LosesUart, IsTaken, lost, uart_at, with_uart}
-use Rattle.uart_board.specs.Heard.{IsHeard, IsHeardAt, uart_hearing, hearing_nothing, said_to}
+use Rattle.uart_board.specs.Heard.{IsOneWrite, TookAll, uart_hearing, hearing_nothing}
 use Rattle.uart_board.specs.Views.{BoardView, HasFailed, HasTaken, UartView, mark_at}
 
 -- an element of a list, set twice
@@ -47,63 +46,52 @@ set_view : {U : Type 0} (view : U → UartView) (places : List (Option U)) (plac
     → slice_index_or (map (option_map view) (slice_set places place uart)) place None ≡ option_map view uart
 set_view view places place uart within = view_index view (slice_set places place uart) place ∙ ap (option_map view) (get_or-set_same places place uart None within)
 
+-- the other places when one is set
+others_same : {U : Type 0} (view : U → UartView) (places : List (Option U)) (place other : ℕ) (uart : Option U) (mark after : Option ℕ) → other ≢ place → after ≡ mark
+    → TookAll [] (slice_index_or (map (option_map view) places) other None) mark (slice_index_or (map (option_map view) (slice_set places place uart)) other None) after
+others_same view places place other uart mark after differ same = record { stands = others_stay view places place other uart differ; same = same }
+
 -- the UART at the place took the bytes
 pub taken_heard : {U : Type 0} (view : U → UartView) (places : List (Option U)) (marks : List (Option ℕ)) (place : ℕ) (bytes : List ℕ) (uart after : U)
     → slice_index_or places place None ≡ Some uart → (view after).got ≡ grown (view uart).got bytes → (view after).faults ≡ (view uart).faults
-    → IsHeard (said_to place bytes) record { places = map (option_map view) places; marks = marks } record { places = map (option_map view) (slice_set places place (Some after)); marks = marks }
-taken_heard view places marks place bytes uart after stood got faults other = at (other == place) refl
-  where
-    at : (here : Bool) → (other == place) ≡ here
-        → IsHeardAt (cond here bytes []) (slice_index_or (map (option_map view) places) other None) (mark_at other marks) (slice_index_or (map (option_map view) (slice_set places place (Some after))) other None) (mark_at other marks)
-    at true here =
-        let same : other ≡ place = grind (arith, nat_tests) in
-        inl record {
-          stands = ap (λ p. slice_index_or (map (option_map view) (slice_set places place (Some after))) p None) same
-              ∙ set_view view places place (Some after) (stands_within places place uart stood)
-              ∙ ap Some (same_view (view after) (grown (view uart).got bytes) (view uart).faults got faults)
-              ∙ ap (on (uart_hearing bytes)) (sym (view_index view places place ∙ ap (option_map view) stood))
-              ∙ ap (λ p. on (uart_hearing bytes) (slice_index_or (map (option_map view) places) p None)) (sym same);
-          same = refl;
-        }
-    at false away =
-        let differ : other ≢ place = λ same. grind (arith, nat_tests) in
-        inl record { stands = others_stay view places place other (Some after) differ; same = refl }
+    → IsOneWrite place bytes record { places = map (option_map view) places; marks = marks } record { places = map (option_map view) (slice_set places place (Some after)); marks = marks }
+taken_heard view places marks place bytes uart after stood got faults = record {
+  here = inl record {
+    stands = set_view view places place (Some after) (stands_within places place uart stood)
+        ∙ ap Some (same_view (view after) (grown (view uart).got bytes) (view uart).faults got faults)
+        ∙ ap (on (uart_hearing bytes)) (sym (view_index view places place ∙ ap (option_map view) stood));
+    same = refl;
+  };
+  others = λ other differ. others_same view places place other (Some after) (mark_at other marks) (mark_at other marks) differ refl;
+}
 
 -- the UART at the place failed
 pub lost_heard : {U : Type 0} (view : U → UartView) (places : List (Option U)) (marks : List (Option ℕ)) (place : ℕ) (bytes : List ℕ) (uart : U) (count : ℕ)
     → slice_index_or places place None ≡ Some uart → Rose (view uart).faults count → mark_at place (slice_set marks place (Some count)) ≡ Some count
-    → IsHeard (said_to place bytes) record { places = map (option_map view) places; marks = marks } record { places = map (option_map view) (slice_set places place None); marks = slice_set marks place (Some count) }
-lost_heard view places marks place bytes uart count stood rose marked other = at (other == place) refl
-  where
-    at : (here : Bool) → (other == place) ≡ here
-        → IsHeardAt (cond here bytes []) (slice_index_or (map (option_map view) places) other None) (mark_at other marks) (slice_index_or (map (option_map view) (slice_set places place None)) other None) (mark_at other (slice_set marks place (Some count)))
-    at true here =
-        let same : other ≡ place = grind (arith, nat_tests) in
-        inr record {
-          before = view uart;
-          count = count;
-          stood = ap (λ p. slice_index_or (map (option_map view) places) p None) same ∙ view_index view places place ∙ ap (option_map view) stood;
-          empty = ap (λ p. slice_index_or (map (option_map view) (slice_set places place None)) p None) same ∙ set_view view places place None (stands_within places place uart stood);
-          marked = ap (λ p. mark_at p (slice_set marks place (Some count))) same ∙ marked;
-          rose = rose;
-        }
-    at false away =
-        let differ : other ≢ place = λ same. grind (arith, nat_tests) in
-        inl record { stands = others_stay view places place other None differ; same = get_or-set_other marks place other (Some count) None differ }
+    → IsOneWrite place bytes record { places = map (option_map view) places; marks = marks } record { places = map (option_map view) (slice_set places place None); marks = slice_set marks place (Some count) }
+lost_heard view places marks place bytes uart count stood rose marked = record {
+  here = inr record {
+    before = view uart;
+    count = count;
+    stood = view_index view places place ∙ ap (option_map view) stood;
+    empty = set_view view places place None (stands_within places place uart stood);
+    marked = marked;
+    rose = rose;
+  };
+  others = λ other differ.
+      others_same view places place other None (mark_at other marks) (mark_at other (slice_set marks place (Some count))) differ (get_or-set_other marks place other (Some count) None differ);
+}
 
 -- nothing stands at the place
 pub empty_heard : {U : Type 0} (view : U → UartView) (places : List (Option U)) (marks : List (Option ℕ)) (place : ℕ) (bytes : List ℕ)
     → slice_index_or places place None ≡ None
-    → IsHeard (said_to place bytes) record { places = map (option_map view) places; marks = marks } record { places = map (option_map view) places; marks = marks }
-empty_heard view places marks place bytes empty other = at (other == place) refl
-  where
-    at : (here : Bool) → (other == place) ≡ here
-        → IsHeardAt (cond here bytes []) (slice_index_or (map (option_map view) places) other None) (mark_at other marks) (slice_index_or (map (option_map view) places) other None) (mark_at other marks)
-    at true here =
-        let same : other ≡ place = grind (arith, nat_tests) in
-        let none : slice_index_or (map (option_map view) places) other None ≡ None = ap (λ p. slice_index_or (map (option_map view) places) p None) same ∙ view_index view places place ∙ ap (option_map view) empty in
-        inl record { stands = none ∙ sym (ap (on (uart_hearing bytes)) none); same = refl }
-    at false away = inl record { stands = sym (hearing_nothing (slice_index_or (map (option_map view) places) other None)); same = refl }
+    → IsOneWrite place bytes record { places = map (option_map view) places; marks = marks } record { places = map (option_map view) places; marks = marks }
+empty_heard view places marks place bytes empty =
+    let none : slice_index_or (map (option_map view) places) place None ≡ None = view_index view places place ∙ ap (option_map view) empty in
+    record {
+      here = inl record { stands = none ∙ sym (ap (on (uart_hearing bytes)) none); same = refl };
+      others = λ other differ. record { stands = sym (hearing_nothing (slice_index_or (map (option_map view) places) other None)); same = refl };
+    }
 
 -- what is taken from an empty place leaves the board
 pub taken_from_empty : {X : Type 0} {F : X → Type 0} (place : ℕ) (old new : Board X F) → None ≡ uart_at place old → new ≡ with_uart place None old → new ≡ old
@@ -116,9 +104,9 @@ shown view board = record { places = map (option_map view) board.places; marks =
 
 -- nothing stood at the place
 pub none_heard : {X : Type 0} {F : X → Type 0} (view : DynBox X Global F → UartView) (place : ℕ) (bytes : List ℕ) (old new : Board X F)
-    → None ≡ uart_at place old → new ≡ with_uart place None old → IsHeard (said_to place bytes) (shown view old) (shown view new)
+    → None ≡ uart_at place old → new ≡ with_uart place None old → IsOneWrite place bytes (shown view old) (shown view new)
 none_heard view place bytes old new empty out =
-    subst (λ board. IsHeard (said_to place bytes) (shown view old) (shown view board)) (sym (taken_from_empty place old new empty out))
+    subst (λ board. IsOneWrite place bytes (shown view old) (shown view board)) (sym (taken_from_empty place old new empty out))
     (empty_heard view old.places old.marks place bytes (sym empty))
 
 -- a UART that was taken out took the bytes, and was put back
@@ -151,10 +139,10 @@ of_the_one view place bytes uart old new stood came = subst (λ found. IfSome fo
 -- what the board then tells
 pub one_heard : {X : Type 0} {F : X → Type 0} (view : DynBox X Global F → UartView) (place : ℕ) (bytes : List ℕ) (uart : DynBox X Global F) (old new : Board X F)
     → Some uart ≡ uart_at place old → IsTaken view place bytes uart old new ⊎ LosesUart view place bytes uart old new
-    → IsHeard (said_to place bytes) (shown view old) (shown view new)
+    → IsOneWrite place bytes (shown view old) (shown view new)
 one_heard view place bytes uart old new stood (inl taken) =
-    subst (λ board. IsHeard (said_to place bytes) (shown view old) (shown view board)) (sym taken.board)
+    subst (λ board. IsOneWrite place bytes (shown view old) (shown view board)) (sym taken.board)
     (taken_heard view old.places old.marks place bytes uart taken.after (sym stood) taken.took.got taken.took.faults)
 one_heard view place bytes uart old new stood (inr gone) =
-    subst (λ board. IsHeard (said_to place bytes) (shown view old) (shown view board)) (sym gone.board)
+    subst (λ board. IsOneWrite place bytes (shown view old) (shown view board)) (sym gone.board)
     (lost_heard view old.places old.marks place bytes uart (view gone.after).faults (sym stood) gone.failed.faults (ap (λ board. mark_at place board.marks) (sym gone.board) ∙ gone.marked))

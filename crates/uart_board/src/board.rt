@@ -1,10 +1,10 @@
 //! Eight places for boxed UARTs.
 
-ghost use Rattle.std.specs.Prelude.{◌≡◌, ℕ, ◌<◌, ◌⊎◌, ◌↔◌, None, Some, IfErr, IfOk, IfSome, IsNone, IsSome};
+ghost use Rattle.std.specs.Prelude.{◌≡◌, ℕ, ◌<◌, ◌⊎◌, ◌↔◌, None, Some, IfErr, IfOk, IfSome, IsNone, IsSome, length};
 ghost use Rattle.xm_outside.specs.Causes.{HasCause};
 ghost use Rattle.xm_outside.specs.Growth.{Receives};
 ghost use Rattle.uart_board.specs.Board.{LosesUart, IsTaken, empty_board, lost, uart_at, unmarked, with_uart};
-ghost use Rattle.uart_board.specs.Heard.{IsHeard, said_to};
+ghost use Rattle.uart_board.specs.Heard.{IsHeard, IsOneWrite, said_to};
 ghost use Rattle.uart_board.specs.Views.{HasFailed, HasTaken, without_marks, mark_at};
 
 use crate::views::{ViewBoard, ViewUart};
@@ -58,14 +58,15 @@ impl Board {
     }
 
     /// Says the bytes to the UART at the place, by one write. Where the write fails, the UART is taken out and
-    /// dropped, and the place is marked with the number of failed writes that the UART then counts.
+    /// dropped, and the place is marked with the number of failed writes that the UART then counts. A write of no bytes may fail, too.
     pub fn say(&mut self, place: u8, bytes: &[u8])
         requires { place < 8 }
         ensures empty { uart_at place self.old ≡ None → self.new ≡ self.old }
         ensures said { IfSome (uart_at place self.old) (λ uart.
             IsTaken ⟦<Box<dyn Uart> as ViewUart>⟧.uart_view place bytes.now uart self.old self.new
             ⊎ LosesUart ⟦<Box<dyn Uart> as ViewUart>⟧.uart_view place bytes.now uart self.old self.new) }
-        ensures heard { IsHeard (said_to place bytes.now) (⟦<Board as ViewBoard>⟧.board_view self.old) (⟦<Board as ViewBoard>⟧.board_view self.new) }
+        ensures write { IsOneWrite place bytes.now (⟦<Board as ViewBoard>⟧.board_view self.old) (⟦<Board as ViewBoard>⟧.board_view self.new) }
+        ensures heard { 0 < length bytes.now → IsHeard (said_to place bytes.now) (⟦<Board as ViewBoard>⟧.board_view self.old) (⟦<Board as ViewBoard>⟧.board_view self.new) }
     {
         let Some(uart) = self.take(place) else {
             return;
