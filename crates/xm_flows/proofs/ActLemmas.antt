@@ -1,7 +1,7 @@
 -- What a partition does beyond itself is by right.
-use Rattle.std.proofs.Common.{◌≡◌, Bool, true, false, List, Option, inl, inr, refl, ap}
+use Rattle.std.proofs.Common.{◌≡◌, Bool, true, false, List, Option, refl}
 use Rattle.std.specs.Prelude.{◌==◌, if◌then◌else◌}
-use Rattle.health_monitor.specs.Monitor.{action_in, effect_of}
+use Rattle.health_monitor.specs.Monitor.{effect_of}
 use Rattle.xm_conf.specs.declared.health.Action.{Action}
 use Rattle.xm_conf.specs.declared.health.Action.TheVariants as action
 use Rattle.xm_ports.specs.Channels.{Content}
@@ -14,7 +14,7 @@ use Rattle.machine_model.specs.View.{PartitionView}
 use Rattle.xm_flows.specs.Rights.{ActsByRight, IsByRight, reaches_all}
 
 -- an action that does something to all is one that reaches all
-does_reach : (an_action : Action) (enabled : Bool) (event : WholeEvent) → done_to_all (effect_of an_action enabled).whole ≡ told.UponAll event → reaches_all an_action ≡ true
+pub does_reach : (an_action : Action) (enabled : Bool) (event : WholeEvent) → done_to_all (effect_of an_action enabled).whole ≡ told.UponAll event → reaches_all an_action ≡ true
 unfolding effect_of
 does_reach action.Ignore enabled event is = absurd cc
 does_reach action.Shutdown enabled event is = absurd cc
@@ -36,11 +36,10 @@ is_right view contents (told.Trades OwnStill) within = tt
 is_right view contents (told.Trades (OwnPuts name bytes)) within = within.on
 is_right view contents (told.Trades (OwnTakes name)) within = record { on = within.on; kind_is = within.kind_is }
 is_right view contents (told.Trades (OwnSignals number)) within = within
-is_right view contents (told.Upon id order) within = λ other. inl within.1
-is_right view contents (told.Plans (Asked plan)) within = inl within.1
-is_right view contents (told.Plans Maintenance) within = inr (record { event = within.event; reaches = ap reaches_all within.is })
-is_right view contents (told.UponAll event) (inl system) = inl system
-is_right view contents (told.UponAll event) (inr table) = inr (record { event = table.event; reaches = does_reach (action_in view.part.hm table.event) table.enabled event table.is })
+is_right view contents (told.Upon id order) within = within
+is_right view contents (told.Plans (Asked plan)) within = within
+is_right view contents (told.Plans Maintenance) within = within
+is_right view contents (told.UponAll event) within = within
 
 pub acts_by_right : ActsWithinOwn → ActsByRight
 acts_by_right within view ps contents time first seen = is_right view contents (worked view contents time first seen ps).act (within view contents time first seen ps)

@@ -15,8 +15,9 @@ use Rattle.machine_model.specs.LocalTick.{bounded, local_tick, worked}
 use Rattle.machine_model.specs.Machine.{Machine, SlotTurn, act_of, after, clock_after, copies, happened, happened_by, local, local_in, local_of, next_clock, next_plan_clock, run, sight_of_state, start, step, taken_by, turn_of}
 use Rattle.machine_model.specs.Partition.{PartitionState, takes_turns}
 use Rattle.machine_model.specs.Told as told
-use Rattle.machine_model.specs.Told.{Act, Directed, NoEvent, WholeEvent, reach_of}
+use Rattle.machine_model.specs.Told.{Act, Asked, Directed, Maintenance, NoEvent, WholeEvent, reach_of}
 use Rattle.machine_model.specs.View.{PartitionView, System, no_part, part_of, view_of}
+use Rattle.xm_flows.proofs.ActLemmas.{does_reach}
 use Rattle.xm_flows.specs.Groups.{Members}
 use Rattle.xm_flows.specs.Laws.{NoneSteers}
 use Rattle.xm_flows.specs.Rights.{ActsByRight, IsByRight, IsUnsteered, MaySteer, reaches_all}
@@ -37,9 +38,12 @@ calm_bounded view never (told.Upon id order) right = by (id == view.id) refl
   where
     by : (b : Bool) → (id == view.id) ≡ b → IsCalm (if b then told.Nothing else told.Upon id order)
     by true its = tt
-    by false other = absurd (never (right other))
-calm_bounded view never (told.Plans change) right = absurd (never right)
-calm_bounded view never (told.UponAll event) right = absurd (never right)
+    by false other = absurd (never (inl right.1))
+calm_bounded view never (told.Plans (Asked plan)) right = absurd (never (inl right.1))
+calm_bounded view never (told.Plans Maintenance) right = absurd (never (inr (record { event = right.event; reaches = ap reaches_all right.is })))
+calm_bounded view never (told.UponAll event) (inl system) = absurd (never (inl system))
+calm_bounded view never (told.UponAll event) (inr table) =
+    absurd (never (inr (record { event = table.event; reaches = does_reach (action_in view.part.hm table.event) table.enabled event table.is })))
 
 -- no partition may steer
 no_system : (parts : List Part) (p : ℕ) → All (λ part. part.system ≡ false) parts → (slice_index_or parts p no_part).system ≡ false
