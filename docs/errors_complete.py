@@ -1,11 +1,16 @@
 #!/usr/bin/env python3
 """Says which text that the program can print on standard error has no row in docs/ERRORS.md, and which row
-no text of the code has. Ends with 1 where there is one of either, else with 0.
+no text of the code has; and for each type of a fault which command prints its texts without being named for them, and
+which one is named and does not. Ends with 1 where there is one of any, else with 0.
 
 The texts are those of crates/file_commands/src/complaint.rt, those that another file of that crate or of
 run_commands, xm_commands, file_maker or alone_replay makes itself, and those of each `Display` of a type named ..Fault in a crate.
 A row is a line of a table whose first column has the text as code, behind a paragraph that begins with
 `Texts of` and the type; values are one word each. The variant `Memory` is left out: want of memory is told by the program as `no memory`.
+
+A command prints the texts of a type where the function that carries it out calls one that makes the type's text, as
+`no_image`, or calls one that calls such a one, and so on. The paragraph of a type names its commands after a comma and `for`, each as code,
+by the words that are typed before the files.
 """
 import re
 import sys
@@ -14,6 +19,8 @@ from pathlib import Path
 ROOT = Path(__file__).resolve().parent.parent
 COMPLAINTS = "complaint.rt"
 MAKERS = ("file_commands", "run_commands", "xm_commands", "file_maker", "alone_replay")
+WORK = ROOT / "crates/xm_commands/src/work.rt"
+GRAMMAR = ROOT / "crates/xm_words/specs/Grammar.antt"
 
 
 def spelled(text):
@@ -77,6 +84,64 @@ def rows():
                     yield name, spelled(code)
 
 
+def command_words():
+    """For each command of the code the words that are typed before its files."""
+    return {
+        command: " ".join(re.findall(r'codes "([^"]*)" ∷', typed))
+        for command, typed in re.findall(r"^words_of \((\w+) [^)]*\) = (.*)$", GRAMMAR.read_text(encoding="utf-8"), re.M)
+    }
+
+
+def functions():
+    """The text of each function of the commands, by its name with its crate; a name stands for those of all crates, too.
+    What is done for one kind of a `Telling` alone is a function of that kind."""
+    found = {}
+    for path in sorted(path for crate in MAKERS for path in ROOT.glob(f"crates/{crate}/src/**/*.rt")):
+        crate = path.relative_to(ROOT).parts[1]
+        source = re.sub(r"//.*", "", path.read_text(encoding="utf-8"))
+        parts = re.split(r"\bfn (\w+)", source)
+        for name, text in zip(parts[1::2], parts[2::2]):
+            arms = re.split(r"\b(Telling::\w+) =>", text)
+            for key, body in [(name, arms[0]), *zip(arms[1::2], arms[2::2])]:
+                for where in (crate, None):
+                    found[where, key] = found.get((where, key), "") + body
+    return found
+
+
+def called(crate, text, known):
+    """The functions that a text calls, of its own crate where that has one of the name. No method makes a fault's text."""
+    for name in re.findall(r"Telling::\w+|(?<![.:\w])\w+(?=\()", text):
+        where = crate if (crate, name) in known else None
+        if (where, name) in known:
+            yield where, name
+
+
+def printed():
+    """Each type of a fault with each command that prints its texts, by the command's words."""
+    known = functions()
+    work = WORK.read_text(encoding="utf-8")
+    for command, words in command_words().items():
+        arm = re.search(rf"^ +{command} \{{[^}}]*\}} =>(.*?)(?=^ +[A-Z]\w+ \{{|\Z)", work, re.M | re.S)
+        if not arm:
+            sys.exit(f"no arm found for {command} in {WORK.relative_to(ROOT)}")
+        reached, rest = set(), list(called("xm_commands", arm[1], known))
+        while rest:
+            function = rest.pop()
+            if function not in reached:
+                reached.add(function)
+                text = known[function]
+                rest += called(function[0], text, known)
+                if re.search(r'format!\(in alloc; "\{fault\}"\)', text):
+                    yield from ((name, words) for name in re.findall(r"\bfault: (\w+Fault)\b", text))
+
+
+def named(types):
+    """Each of these types with each command that its paragraph names."""
+    for name, commands in re.findall(r"^Texts of `(\w+)`, for ([^.:;]*)", (ROOT / "docs/ERRORS.md").read_text(encoding="utf-8"), re.M):
+        if name in types:
+            yield from ((name, words) for words in re.findall(r"`([^`]*)`", commands))
+
+
 def main():
     told = set(fault_texts()) | set(complaint_texts()) | set(made_texts())
     written = set(rows())
@@ -85,7 +150,14 @@ def main():
     for name, text in sorted(written - told):
         print(f"no text: {name}: {text}")
     print(f"{len(told & written)} texts have a row, {len(told - written)} have none")
-    return 1 if told != written else 0
+    prints = set(printed())
+    says = set(named({name for name, text in told}))
+    for name, words in sorted(prints - says):
+        print(f"not named: {words} prints the texts of {name}")
+    for name, words in sorted(says - prints):
+        print(f"named: {words} prints no text of {name}")
+    print(f"{len(prints & says)} commands are named with the texts that they print, {len(prints - says)} are not")
+    return 1 if told != written or prints != says else 0
 
 
 if __name__ == "__main__":
