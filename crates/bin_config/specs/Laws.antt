@@ -2,12 +2,13 @@
 use Rattle.std.specs.Prelude.{◌≡◌, ◌≢◌, ℕ, ◌<◌, ◌≤◌, ◌^◌, List, [], ◌++◌, length, Option, Ok, Err}
 use Rattle.xm_base.specs.Bytes.{AreBytes}
 use Rattle.xm_conf.specs.Configuration.{Conf}
-use Rattle.bin_config.specs.Reading.{read_as, read_within}
+use Rattle.bin_config.specs.Reading.{read_as, read_of, read_within}
 use Rattle.bin_config.specs.Spelled.{HasConfRanges, IsSpelledConf}
 use Rattle.bin_config.specs.Version.{FitsVersion, IsWanted, version_number}
 use Rattle.bin_config.specs.Xmc.{xmc}
 use Rattle.file_texts.specs.declared.fault.XmcFault.TheVariants as fault
 use Rattle.bin_config.specs.declared.version.Version.{Version}
+use Rattle.bin_config.specs.declared.version.Version.TheVariants.{Two}
 
 -- no spelling, of either version, has another one as its prefix: what follows a spelling in a spelling is nothing
 abbrev pub IsPrefixFree : Type 0
@@ -32,6 +33,11 @@ abbrev pub SpelledIsRead : Type 0
 SpelledIsRead =
     (want : Option Version) (v : Version) (conf : Conf) → IsWanted want v → HasConfRanges conf → FitsVersion v conf
     → read_within want (xmc v conf) ≡ Ok conf
+
+-- what is read of bytes of either version is read of its spelling in version 2: no upgrade changes a configuration, and one
+-- of what was upgraded gives the same bytes
+abbrev pub UpgradedIsSame : Type 0
+UpgradedIsSame = (bytes : List ℕ) (conf : Conf) → AreBytes bytes → read_of bytes ≡ Ok conf → read_of (xmc Two conf) ≡ read_of bytes
 
 -- a spelling in another version than the one that is wanted is refused by its version
 abbrev pub OtherIsRefused : Type 0

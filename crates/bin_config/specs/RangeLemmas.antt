@@ -4,6 +4,7 @@ use Rattle.std.specs.Prelude.{All, IfSome}
 use Rattle.std.proofs.lemmas.List.{length-map, get_or-map}
 use Rattle.xm_conf.specs.Configuration.{Plan, Part, Chan, Conf}
 use Rattle.xm_conf.specs.Description.{described, monitor_of}
+use Rattle.xm_conf.specs.FitLemmas.{fits_within}
 use Rattle.xm_conf.specs.Fits.{HasSome, HasFewDests, HasAnswers, IsKind, IsNeed}
 use Rattle.xm_conf.specs.declared.part.Need.{Need}
 use Rattle.xm_conf.specs.declared.channel.ChanKind.{ChanKind}
@@ -49,6 +50,10 @@ few_dests (chan_kind.Queuing most) dests few is = omega (arith, is.0)
 pub parts_few : (v : Version) → parts_in_version v ≤ most_parts
 parts_few version.One = omega arith
 parts_few version.Two = omega arith
+
+-- what meets the rules of a version meets those of version 2
+pub fits_two : (v : Version) (conf : Conf) → FitsVersion v conf → FitsVersion version.Two conf
+fits_two v conf of = record { fits = fits_within (parts_in_version v) (described conf) (parts_few v) of.fits; links = tt }
 
 -- the links of each version
 links_spelled : (v : Version) (links : List Link) → MayHaveLinks v links → length links ≤ most_links → All IsSpelledLink links → AreSpelledLinks v links

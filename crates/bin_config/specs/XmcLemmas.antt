@@ -24,7 +24,7 @@ use Rattle.bin_config.specs.Laws.{IsPrefixFree, ReadIsSpelled, SpelledIsRead, Ot
 use Rattle.bin_config.specs.Reading.{half_word_at, or_version, wanted_version_at, is_whole, head_at, conf_body_at, nothing_left, unbroken, fields_at, read_within, conf_short, word_field_at}
 use Rattle.bin_config.specs.Spelled.{IsSpelledConf, AreSpelledLinks}
 use Rattle.bin_config.specs.Version.{version_number, parts_in_version, version_numbered, wanted, IsWanted, MayHaveLinks}
-use Rattle.bin_config.specs.Xmc.{half_word, word_field, body, head, xmc}
+use Rattle.bin_config.specs.Xmc.{half_word, word_field, text_field, list_field, region_record, plan_record, part_record, chan, links, body, head, xmc}
 use Rattle.bin_config.specs.FieldLemmas.{IsReaderOf, half_word_spells, word_spells}
 use Rattle.bin_config.specs.FrontLemmas.{Reached, first, then}
 use Rattle.bin_config.specs.RangeLemmas.{spelled_if_fits}
@@ -43,6 +43,22 @@ length-head v size rest = let n : ℕ = length rest in let e : suc (suc (suc (su
 pub length-xmc : (v : Version) (conf : Conf) → length (xmc v conf) ≡ 10 + length (body v conf)
 unfolding xmc
 length-xmc v conf = length-head v (10 + length (body v conf)) (body v conf)
+
+-- the fields before the links, in which alone the two versions differ
+abbrev before_links : Conf → List ℕ
+before_links conf =
+    text_field conf.name ++ list_field region_record conf.regions ++ word_field conf.hv_size ++ list_field text_field conf.uarts ++ list_field plan_record conf.plans
+    ++ list_field part_record conf.parts ++ list_field chan conf.chans
+
+-- the length of the fields
+length-body : (v : Version) (conf : Conf) → length (body v conf) ≡ length (before_links conf) + length (links v conf.links)
+unfolding body
+length-body v conf = length-append (before_links conf) (links v conf.links)
+
+-- a file of version 1 is no longer than that of version 2
+pub one_is_short : (conf : Conf) → length (xmc version.One conf) ≤ length (xmc version.Two conf)
+one_is_short conf =
+    omega (arith, length-xmc version.One conf, length-xmc version.Two conf, length-body version.One conf, length-body version.Two conf)
 
 -- the word after the first six bytes
 abbrev length_word : List ℕ → ℕ

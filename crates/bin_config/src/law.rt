@@ -8,6 +8,7 @@ ghost use Rattle.bin_config.specs.Laws.{
   OtherIsRefused,
   ReadIsSpelled,
   SpelledIsRead,
+  UpgradedIsSame,
 };
 
 use xm_conf::broken_unless_fits;
@@ -24,6 +25,14 @@ pub fn spelled_is_read()
     ensures law { SpelledIsRead }
 {
     broken_unless_fits();
+}
+
+/// What is read of bytes of either version is read of its spelling in version 2.
+pub fn upgraded_is_same()
+    ensures law { UpgradedIsSame }
+{
+    read_is_spelled();
+    spelled_is_read();
 }
 
 /// A spelling in another version than the one that is wanted is refused by its version.

@@ -1,21 +1,22 @@
 //! The fields of a configuration, read one after another.
 
-ghost use Rattle.std.specs.Prelude.{◌≡◌, IfOk, Result, codes, length};
+ghost use Rattle.std.specs.Prelude.{◌≡◌, IfOk, Ok, Result, codes, length};
+ghost use Rattle.xm_conf.specs.Configuration.{Conf as Meaning};
 ghost use Rattle.xm_conf.specs.Description.{described};
 ghost use Rattle.xm_conf.specs.Rules.{first_broken};
 ghost use Rattle.sealed_files.specs.Gives.{Gives, GivesAt};
 ghost use Rattle.sealed_files.specs.Heads.{magic_at};
 ghost use Rattle.bin_config.specs.Gives.{Fails};
 ghost use Rattle.xm_base.specs.Cursor.{Place};
+ghost use Rattle.bin_config.specs.Laws.{IsSpellingOf};
 ghost use Rattle.bin_config.specs.Reading as reading;
 ghost use Rattle.bin_config.specs.Reading.{Read};
 ghost use Rattle.bin_config.specs.Version.{parts_in_version};
-ghost use Rattle.bin_config.specs.Xmc.{xmc};
 ghost use Rattle.file_texts.specs.declared.fault.XmcFault.TheVariants as fault;
 ghost use Rattle.bin_config.specs.declared.version.Version.{Version as AVersion};
 
 use crate::identity::Identity;
-use crate::law::read_is_spelled;
+use crate::law::{read_is_spelled, spelled_is_read};
 use crate::version::Version;
 use file_texts::XmcFault;
 use std::alloc::Global;
@@ -533,20 +534,30 @@ fn read_within(alloc: Global, wanted: Option<Version>, bytes: &[u8]) -> Result<C
 
 /// The configuration that these bytes are in either version, or the first fault: of the head, then of
 /// the length, then of the other fields from left to right, then a byte that is left, then a broken
-/// rule. `Memory` where there is none.
+/// rule. `Memory` when out of memory.
 pub fn read_xmc(alloc: Global, bytes: &[u8]) -> Result<Conf, XmcFault>
-    ensures exact { Gives Fails (λ conf. conf) result (reading.read_of bytes.now) }
-    ensures spelled { IfOk result (λ conf. (v : AVersion) × (bytes.now ≡ xmc v conf)) }
+    // What is read is the configuration that the bytes spell, in one of the versions.
+    ensures found { IfOk result (λ conf. (v : AVersion) × IsSpellingOf v bytes.now conf) }
+    // The configuration that the bytes spell is read, unless out of memory.
+    ensures only { (v : AVersion) (conf : Meaning) → IsSpellingOf v bytes.now conf → Gives Fails (λ found. found) result (Ok conf) }
+    // A fault is the first one.
+    ensures exact { Gives Fails (λ found. found) result (reading.read_of bytes.now) }
 {
     read_is_spelled();
+    spelled_is_read();
     read_within(alloc, None, bytes)
 }
 
 /// The same, where no other version than one is known.
 pub fn read_version(alloc: Global, version: Version, bytes: &[u8]) -> Result<Conf, XmcFault>
-    ensures exact { Gives Fails (λ conf. conf) result (reading.read_as version bytes.now) }
-    ensures spelled { IfOk result (λ conf. bytes.now ≡ xmc version conf) }
+    // What is read is the configuration that the bytes spell in this version.
+    ensures found { IfOk result (IsSpellingOf version bytes.now) }
+    // The configuration that the bytes spell in this version is read, unless out of memory.
+    ensures only { (conf : Meaning) → IsSpellingOf version bytes.now conf → Gives Fails (λ found. found) result (Ok conf) }
+    // A fault is the first one.
+    ensures exact { Gives Fails (λ found. found) result (reading.read_as version bytes.now) }
 {
     read_is_spelled();
+    spelled_is_read();
     read_within(alloc, Some(version), bytes)
 }
