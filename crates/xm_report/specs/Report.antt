@@ -75,10 +75,10 @@ move_text Resume = codes "RESUME"
 move_text Cold = codes "COLD"
 move_text Warm = codes "WARM"
 
--- whether the whole system runs at the end
-abbrev pub running_text : Bool → List ℕ
-running_text true = codes "halted"
-running_text false = codes "running"
+-- the word for whether the whole system has halted
+abbrev pub halted_text : Bool → List ℕ
+halted_text true = codes "halted"
+halted_text false = codes "running"
 
 -- the numbers of partitions and plans, and the ticks asked
 unfoldable pub system_text : ℕ → ℕ → ℕ → List ℕ
@@ -124,7 +124,7 @@ end_part_text p state resets exec pc =
 -- how the whole system stands at the end
 unfoldable pub end_whole_text : Bool → ℕ → ℕ → ℕ → List ℕ
 end_whole_text halted plan clock ticks =
-    codes "END XM " ++ running_text halted ++ codes " plan=" ++ decimal plan ++ codes " clock=" ++ decimal clock
+    codes "END XM " ++ halted_text halted ++ codes " plan=" ++ decimal plan ++ codes " clock=" ++ decimal clock
     ++ codes " ticks=" ++ decimal ticks ++ codes "\n"
 
 -- the text of a line

@@ -1,16 +1,16 @@
 //! What each kind of line looks like.
 
 ghost use Rattle.std.specs.Prelude.{◌≡◌, ◌≤◌, [], length};
-ghost use Rattle.xm_report.specs.Report.{IsShort, console_text, end_part_text, end_whole_text, health_text, line_value, move_text, moved_text, plan_text, running_text, system_text, text_of, trace_text, whole_text};
+ghost use Rattle.xm_report.specs.Report.{IsShort, console_text, end_part_text, end_whole_text, halted_text, health_text, line_value, move_text, moved_text, plan_text, system_text, text_of, trace_text, whole_text};
 
 use crate::line::{Line, Move};
 use crate::pen::Pen;
 use xm_base::{CONSOLE_BYTES, PartId, State};
 use xm_conf::{Action, Event};
 
-// Whether the whole system still runs.
-fn running(halted: bool) -> &'static str
-    ensures { result.now ≡ running_text halted }
+// The word for whether the whole system has halted.
+fn halted_text(halted: bool) -> &'static str
+    ensures { result.now ≡ halted_text halted }
 {
     if halted { "halted" } else { "running" }
 }
@@ -138,7 +138,7 @@ fn end_whole_line(pen: &mut Pen, halted: bool, plan: u8, clock: u64, ticks: u64)
     ensures { pen.new ≡ end_whole_text halted plan clock ticks }
 {
     pen.text(b"END XM ");
-    pen.name(running(halted));
+    pen.name(halted_text(halted));
     pen.field(b" plan=", u64::from(plan));
     pen.field(b" clock=", clock);
     pen.field(b" ticks=", ticks);
