@@ -16,7 +16,7 @@ use Rattle.bin_config.specs.Version.{version_number}
 use Rattle.xm_conf.specs.Limits.{most_parts}
 use Rattle.bin_config.specs.declared.version.Version.{Version}
 use Rattle.bin_config.specs.Xmc.{xmc}
-use Rattle.bin_config.specs.XmcLemmas.{spelled_read, xmc_short, numbered_back, number_small}
+use Rattle.bin_config.specs.XmcLemmas.{one_is_short, spelled_read, xmc_short, numbered_back, number_small}
 use Rattle.bin_config.specs.declared.version.Version.TheVariants.{One, Two}
 use Rattle.sealed_files.specs.FieldLemmas.{wide8, wide32}
 use Rattle.xef_images.specs.Image.{Image, IsImage}
@@ -32,7 +32,7 @@ use Rattle.sealed_files.specs.HeadLemmas.{IsSealed, stated_again, stated_version
 use Rattle.sealed_files.specs.Heads.{is_version, lead_text, stated_length}
 use Rattle.xm_container.specs.Box.{sized_text, image_entry_text, entries_text, fields_text, front_text, sealed_text, box_text}
 use Rattle.sealed_files.specs.FieldLemmas.{Reads, bytes_again, number_again, listed_again}
-use Rattle.xm_container.specs.Laws.{ContainersArePrefixFree, PackedIsUnpacked}
+use Rattle.xm_container.specs.Laws.{ContainersArePrefixFree, PackedIsUnpacked, VersionsAreAlike}
 use Rattle.xm_container.proofs.NumberLemmas.{numbers}
 use Rattle.xm_container.specs.Numbers.{least_where, has_id, extra, missing}
 use Rattle.xm_container.specs.Reading.{length_at, conf_at, id_at, image_at, image_entry_at, image_entries_at, image_table_at, container_fields, assigned, version_in, system_in, unpacked, box_faults, box_field, box_short}
@@ -214,3 +214,31 @@ packed_unpacked law v system is fits ranges below =
     let first = unsealed_again box_faults (codes "XMPK") 2 (sealed_text v fields) (front_text v fields) (sealed_signed v fields small) in
     let second = fields_again v system (front_text v fields) is read short (front_fields v fields) in
     rw (first, front_version v fields, second) (assigned_again system is)
+
+-- the length of bytes after their length
+length-sized : (bytes : List ℕ) → length (sized_text bytes) ≡ 4 + length bytes
+unfolding sized_text
+length-sized bytes = length-append (to_be_bytes w32 (length bytes)) bytes
+
+-- the length of the fields
+length-fields : (v : Version) (system : System) → length (fields_text v system) ≡ (4 + length (xmc v system.conf)) + length (length system.images ∷ entries_text 0 system.images)
+unfolding fields_text
+length-fields v system =
+    length-append (sized_text (xmc v system.conf)) (length system.images ∷ entries_text 0 system.images)
+    ∙ ap (λ n. n + length (length system.images ∷ entries_text 0 system.images)) (length-sized (xmc v system.conf))
+
+-- the length of a container
+length-box : (v : Version) (system : System) → length (box_text v system) ≡ 26 + length (fields_text v system)
+unfolding box_text
+length-box v system = length-sealed v (fields_text v system)
+
+-- a container of version 1 is no longer than that of version 2
+one_is_no_longer : (system : System) → length (box_text One system) ≤ length (box_text Two system)
+one_is_no_longer system =
+    omega (arith, length-box One system, length-box Two system, length-fields One system, length-fields Two system, one_is_short system.conf)
+
+-- a system is unpacked from its container of either version
+pub versions_alike : PackedIsUnpacked → VersionsAreAlike
+versions_alike law system is fits ranges below =
+    law One system is fits ranges (omega (arith, below, one_is_no_longer system))
+    ∙ sym (law Two system is (record { fits = is.fits; links = tt }) ranges below)

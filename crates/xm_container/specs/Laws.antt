@@ -4,6 +4,7 @@ use Rattle.xm_base.specs.Bytes.{AreBytes}
 use Rattle.bin_config.specs.Spelled.{HasConfRanges}
 use Rattle.bin_config.specs.Version.{FitsVersion}
 use Rattle.bin_config.specs.declared.version.Version.{Version}
+use Rattle.bin_config.specs.declared.version.Version.TheVariants.{One, Two}
 use Rattle.loaded_system.specs.System.{System, IsSystem}
 use Rattle.xm_container.specs.Box.{box_text, IsSpelledContainer}
 use Rattle.xm_container.specs.Reading.{unpacked}
@@ -20,6 +21,13 @@ abbrev pub PackedIsUnpacked : Type 0
 PackedIsUnpacked =
     (v : Version) (system : System) → IsSystem system → FitsVersion v system.conf → HasConfRanges system.conf → length (box_text v system) < 2 ^ 32
     → unpacked (box_text v system) ≡ Ok system
+
+-- a system that has a container of version 1 is unpacked from it as from its container of version 2, where a word can say the
+-- latter's length: in both versions the same system runs
+abbrev pub VersionsAreAlike : Type 0
+VersionsAreAlike =
+    (system : System) → IsSystem system → FitsVersion One system.conf → HasConfRanges system.conf → length (box_text Two system) < 2 ^ 32
+    → unpacked (box_text One system) ≡ unpacked (box_text Two system)
 
 -- the system that is unpacked is the one whose container the bytes are, in one of the versions
 abbrev pub UnpackedIsPacked : Type 0

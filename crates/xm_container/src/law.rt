@@ -1,6 +1,6 @@
 //! The laws of containers.
 
-ghost use Rattle.xm_container.specs.Laws.{ContainersArePrefixFree, PackedIsUnpacked, UnpackedIsPacked};
+ghost use Rattle.xm_container.specs.Laws.{ContainersArePrefixFree, PackedIsUnpacked, UnpackedIsPacked, VersionsAreAlike};
 
 use xm_conf::broken_unless_fits;
 
@@ -14,6 +14,13 @@ pub fn packed_is_unpacked()
     ensures law { PackedIsUnpacked }
 {
     broken_unless_fits();
+}
+
+/// A system is unpacked from its container of version 1 as from that of version 2.
+pub fn versions_are_alike()
+    ensures law { VersionsAreAlike }
+{
+    packed_is_unpacked();
 }
 
 /// The system that is unpacked is the one whose container the bytes are.

@@ -12,7 +12,7 @@ mod writing;
 
 pub use file_texts::{BoxFault, PackFault};
 pub use image::Image;
-pub use law::{none_goes_on, packed_is_unpacked, unpacked_is_packed};
+pub use law::{none_goes_on, packed_is_unpacked, unpacked_is_packed, versions_are_alike};
 pub use lines::list_lines;
 pub use loaded_system::{BareFault, System, bare};
 pub use reading::unpack;
