@@ -1,6 +1,7 @@
 //! A binary configuration of either version is made again in version 2.
 
-ghost use Rattle.std.specs.Prelude.{◌≡◌};
+ghost use Rattle.std.specs.Prelude.{◌≡◌, IfOk, Ok};
+ghost use Rattle.bin_config.specs.Reading.{read_of};
 ghost use Rattle.file_texts.specs.Texts.{xmc_fault_text};
 ghost use Rattle.file_maker.specs.Makes.{IsRefusalText, Makes};
 ghost use Rattle.file_maker.specs.Parsing.{upgraded_of};
@@ -12,7 +13,11 @@ use std::alloc::Global;
 /// The binary configuration of a file of either version, in version 2.
 #[tactic(auto, unfolding(crate::specs::Parsing::upgraded_of))]
 pub fn make_upgraded(alloc: Global, bytes: &[u8]) -> Result<Vec<u8>, Unmade>
-    ensures { Makes result (upgraded_of bytes.now) }
+    ensures exact { Makes result (upgraded_of bytes.now) }
+    // What is written is read as the same configuration.
+    ensures same { IfOk result (λ out. read_of out.items ≡ read_of bytes.now) }
+    // What was upgraded is not changed by another upgrade.
+    ensures once { IfOk result (λ out. upgraded_of out.items ≡ Ok out.items) }
 {
     match read_xmc(alloc, bytes) {
         Ok(conf) => match write_xmc(alloc, &conf) {

@@ -11,4 +11,4 @@ returns-then-bytes-gt-FILE_BYTES g c =
 pub returns : goal.returns
 returns g c =
     rw (one-short (Upgrade c.args.configuration.now c.args.output.now) c.args.configuration.now c.args.bytes.now refl c.if-bytes-gt-FILE_BYTES.false)
-    (c.deliver.ensures (upgraded_of c.args.bytes.now) c.make_upgraded.ensures)
+    (c.deliver.ensures (upgraded_of c.args.bytes.now) c.make_upgraded.ensures.exact)
