@@ -89,10 +89,10 @@ sight_by (note.Saw at size) memory = told.Words (bytes_at memory at size)
 sight_by note.NotKept memory = told.NotKept
 sight_by (note.Signal number) memory = told.Unseen
 
--- the bytes that a note names may be read; those for the console are not too many
+-- the bytes that a note names may be read; those for the console are not too many, and at least one
 abbrev pub CanBeTold : Note → List Area → Type 0
 CanBeTold note.Nothing areas = Unit {0}
-CanBeTold (note.Console at size) areas = (size ≤ CONSOLE_BYTES) × (all_from (is_readable areas) at size ≡ true)
+CanBeTold (note.Console at size) areas = (0 < size) × (size ≤ CONSOLE_BYTES) × (all_from (is_readable areas) at size ≡ true)
 CanBeTold (note.Trace entry) areas = Unit {0}
 CanBeTold (note.Put chan at size) areas = all_from (is_readable areas) at size ≡ true
 CanBeTold (note.Take chan) areas = Unit {0}

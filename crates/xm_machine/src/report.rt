@@ -108,6 +108,7 @@ fn put_console<O: Sink>(
     board: &mut Board,
 ) -> Result<u64, WriteFault>
     requires partition { p < length sys.now.machine.parts }
+    requires some { 0 < size }
     requires few { size ≤ CONSOLE_BYTES }
     requires readable { all_from (is_readable (areas_in p sys.now.machine)) at size ≡ true }
     ensures told { Tells result (told.line_of n p (told.Console (bytes_at (memory_of p sys.now.machine) at size)) ∷ []) (O.got out.old) (O.got out.new) }
@@ -123,9 +124,10 @@ fn put_console<O: Sink>(
     Ok(1)
 }
 
-// Says bytes to the UART of the partition's console, where it has one.
+// Writes bytes, at least one, to the UART of the partition's console, where it has one.
 fn say(sys: &Sys, p: PartId, bytes: &[u8], board: &mut Board)
     requires partition { p < length sys.now.machine.parts }
+    requires some { 0 < length bytes.now }
     ensures heard { IsHeard (console_to sys.now.machine p bytes.now) (⟦<Board as ViewBoard>⟧.board_view board.old) (⟦<Board as ViewBoard>⟧.board_view board.new) }
 {
     if let Some(place) = console_of(sys, p) {
