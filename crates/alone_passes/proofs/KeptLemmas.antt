@@ -13,7 +13,7 @@ use Rattle.xm_conf.specs.Fits.{Fits}
 use Rattle.xm_ports.specs.Channels.{cleared}
 use Rattle.machine_model.specs.ListLemmas.{get_each, each_counted as each_length}
 use Rattle.machine_model.specs.Cue.{Cue}
-use Rattle.machine_model.specs.Facts.{AreFacts, HasFacts, IsClocked, IsTimed, KeepsClocked, begun}
+use Rattle.machine_model.specs.Facts.{AreFacts, HasFacts, IsClocked, IsTimed, KeepsClocked}
 use Rattle.machine_model.specs.Health.{Worked}
 use Rattle.machine_model.specs.Machine.{Machine, SlotTurn, after, booted_part, happened, happened_by, is_halt, local, local_in, next_clock, step, turn_of}
 use Rattle.machine_model.specs.Partition.{PartitionState, is_halted, link_signal, reset}
@@ -37,18 +37,42 @@ record IsAlike (before after : PartitionState) : Type 0 where
   state : after.state ≡ before.state
 
 -- facts of more ticks
-more_facts : (view : PartitionView) (n : ℕ) (before after : PartitionState) → IsAlike before after → AreFacts view n before → AreFacts view (n + 1) after
-more_facts view n before after alike facts =
-    let traces : before.traces.next ≤ n = facts.traces in
-    let health : before.health.next ≤ n + flag (is_halted before.state) = facts.health in
-    let execution : before.clocks.execution ≤ n = facts.execution in
-    record {
+more_facts : (view : PartitionView) (e : WholeEvent) (n : ℕ) (before after : PartitionState) → IsAlike before after → AreFacts view n false before → AreFacts view (ticks_after e n) (is_halt e) after
+more_facts view e n before after alike facts = by e
+  where
+    traces : before.traces.next ≤ n
+    traces = facts.traces
+
+    health : before.health.next ≤ n + flag (is_halted before.state)
+    health = facts.health
+
+    execution : before.clocks.execution ≤ n + 0
+    execution = facts.execution
+
+    small : (b : Bool) → flag b ≤ 1
+    small true = omega arith
+    small false = omega arith
+
+    counted : AreFacts view (n + 1) false after
+    counted = record {
       traces = omega (arith, traces, ap (λ t. t.next) alike.traces);
       health = omega (arith, health, ap (λ h. h.next) alike.health, ap (λ s. flag (is_halted s)) alike.state);
       execution = omega (arith, execution, alike.execution);
       loads = rw (alike.traces) facts.loads;
       inputs = rw (alike.inputs) facts.inputs;
       made = rw (alike.made) facts.made;
+    }
+
+    by : (event : WholeEvent) → AreFacts view (ticks_after event n) (is_halt event) after
+    by NoEvent = counted
+    by (AllReset mode) = counted
+    by AllHalted = record {
+      traces = omega (arith, traces, ap (λ t. t.next) alike.traces);
+      health = omega (arith, health, ap (λ h. h.next) alike.health, small (is_halted before.state));
+      execution = omega (arith, execution, alike.execution);
+      loads = counted.loads;
+      inputs = counted.inputs;
+      made = counted.made;
     }
 
 itself : (ps : PartitionState) → IsAlike ps ps
@@ -198,11 +222,6 @@ past_ticks NoEvent g = refl
 past_ticks (AllReset mode) g = refl
 past_ticks AllHalted g = refl
 
-event_begins : (e : WholeEvent) (ticks : ℕ) → ticks_after e ticks + flag (is_halt e) ≡ ticks + 1
-event_begins NoEvent ticks = omega arith
-event_begins (AllReset mode) ticks = omega arith
-event_begins AllHalted ticks = refl
-
 past_timed : (e : WholeEvent) (g : Machine) → IsTimed g → IsTimed (tick_past e g)
 past_timed NoEvent g timed = omega (arith, timed)
 past_timed (AllReset mode) g timed = omega arith
@@ -273,19 +292,22 @@ past_channels (AllReset mode) g = refl
 past_channels AllHalted g = refl
 
 -- the facts hold of all, where the others stay
-all_facts : (p : ℕ) (g h : Machine) → h.system ≡ g.system → begun h ≡ begun g + 1 → OthersStay p g h → HasFacts g → AreFacts (view_of g.system p) (begun g + 1) (part_at p h) → HasFacts h
-all_facts p g h same counts stay facts own q ps there =
-    subst (λ (s : System). AreFacts (view_of s q) (begun h) ps) (sym same) (subst (λ (n : ℕ). AreFacts (view_of g.system q) n ps) (sym counts) (⊎_elim here other (cases_eq q p)))
+all_facts : (p : ℕ) (e : WholeEvent) (g h : Machine) → g.halted ≡ false → h.system ≡ g.system → h.ticks ≡ ticks_after e g.ticks → h.halted ≡ is_halt e → OthersStay p g h → HasFacts g
+    → AreFacts (view_of g.system p) h.ticks h.halted (part_at p h) → HasFacts h
+all_facts p e g h runs same ticks halts stay facts own q ps there =
+    subst (λ (s : System). AreFacts (view_of s q) h.ticks h.halted ps) (sym same) (⊎_elim here other (cases_eq q p))
   where
-    here : q ≡ p → AreFacts (view_of g.system q) (begun g + 1) ps
+    here : q ≡ p → AreFacts (view_of g.system q) h.ticks h.halted ps
     here is =
         let found : part_at p h ≡ ps = ap (λ (k : ℕ). get_or h.parts k (booted_part h.system p)) (sym is) ∙ get_or_from_slice_get h.parts q ps (booted_part h.system p) there in
-        subst (λ (k : ℕ). AreFacts (view_of g.system k) (begun g + 1) ps) (sym is) (subst (AreFacts (view_of g.system p) (begun g + 1)) found own)
+        subst (λ (k : ℕ). AreFacts (view_of g.system k) h.ticks h.halted ps) (sym is) (subst (AreFacts (view_of g.system p) h.ticks h.halted) found own)
 
-    other : q ≢ p → AreFacts (view_of g.system q) (begun g + 1) ps
+    other : q ≢ p → AreFacts (view_of g.system q) h.ticks h.halted ps
     other differs =
         let was = stay q ps differs there in
-        more_facts (view_of g.system q) (begun g) was.before ps was.alike (facts q was.before was.there)
+        let before : AreFacts (view_of g.system q) g.ticks false was.before = subst (λ (b : Bool). AreFacts (view_of g.system q) g.ticks b was.before) runs (facts q was.before was.there) in
+        subst (λ (n : ℕ). AreFacts (view_of g.system q) n h.halted ps) (sym ticks)
+        (subst (λ (b : Bool). AreFacts (view_of g.system q) (ticks_after e g.ticks) b ps) (sym halts) (more_facts (view_of g.system q) e g.ticks was.before ps was.alike before))
 
 -- passes up to the clocks, and then the clocks
 kept_by : KeepsClocked → (p : ℕ) (e : WholeEvent) (g h : Machine) → g.halted ≡ false → IsSide g h → OthersStay p g h → h.halted ≡ is_halt e → IsKeptBy p e g (tick_past e h)
@@ -293,22 +315,16 @@ kept_by law p e g h runs side stay halts =
     let system : (tick_past e h).system ≡ g.system = past_system e h ∙ side.system in
     let halted : (tick_past e h).halted ≡ is_halt e = past_halted e h ∙ halts in
     let ticks : (tick_past e h).ticks ≡ ticks_after e g.ticks = past_ticks e h ∙ ap (ticks_after e) side.ticks in
-    let counts : begun (tick_past e h) ≡ begun g + 1 =
-    ap (λ (n : ℕ). n + flag (tick_past e h).halted) ticks ∙ ap (λ (b : Bool). ticks_after e g.ticks + flag b) halted ∙ event_begins e g.ticks
-    ∙ sym (ap (λ (b : Bool). g.ticks + flag b + 1) runs ∙ none g.ticks) in
     record {
       system = system;
       parts = ap length (past_parts e h) ∙ side.parts;
       channels = ap length (past_channels e h) ∙ side.channels;
-      counts = counts;
+      ticks = ticks;
       halted = halted;
       clocked = λ fits is. past_clocked law e h (subst (λ (s : System). Fits (described s.conf)) (sym side.system) fits) (record { in_frame = rw (side.system, side.clock, side.time) is.in_frame; asked = rw (side.system, side.clock) is.asked });
       timed = λ timed. past_timed e h (rw (side.time, side.ticks) timed);
-      facts = λ facts own. all_facts p g (tick_past e h) system counts (stay_then p g h (tick_past e h) stay (stay_past p e h)) facts own;
+      facts = λ facts own. all_facts p e g (tick_past e h) runs system ticks halted (stay_then p g h (tick_past e h) stay (stay_past p e h)) facts own;
     }
-  where
-    none : (n : ℕ) → n + 0 + 1 ≡ n + 1
-    none n = omega arith
 
 -- the same of traffic of others
 stay_told : (p : ℕ) (own : OwnTraffic) (g : Machine) → OthersStay p g (told_traffic p own g)

@@ -12,9 +12,9 @@ use Rattle.cue_scripts.specs.Script.{CanHear, CanSee, HearsNothing, numbered_cha
 use Rattle.cue_scripts.specs.Values.{slot_value}
 use Rattle.cue_scripts.specs.declared.cue.CueSlot as code_slot
 use Rattle.cue_scripts.specs.declared.cue.CueSlot.TheVariants as its
-use Rattle.machine_model.specs.Alone.{Alone, alone_local, alone_local_in, alone_step}
+use Rattle.machine_model.specs.Alone.{Alone, alone_after, alone_local, alone_local_in, alone_step}
 use Rattle.machine_model.specs.Cue.{Away, Cue, Mine, CueSlot}
-use Rattle.machine_model.specs.Facts.{AreFacts, IsItsOwn, KeepsFactsAlone, begun}
+use Rattle.machine_model.specs.Facts.{AreFacts, IsItsOwn, KeepsFactsAlone}
 use Rattle.machine_model.specs.Laws.{part}
 use Rattle.machine_model.specs.LocalTick.{LocalTick, local_tick}
 use Rattle.machine_model.specs.Machine.{Machine, act_of, copies, is_halt, obeyed, obeyed_told}
@@ -22,7 +22,7 @@ use Rattle.machine_model.specs.Partition.{PartitionState, reset, takes_turns}
 use Rattle.machine_model.specs.Structures.{flag}
 use Rattle.machine_model.specs.Told.{NotKept, OwnPuts, OwnSignals, OwnStill, OwnTakes, OwnTraffic, Sight, Unseen, Words, line_of}
 use Rattle.machine_model.specs.View.{PartitionView, System, named, view_of}
-use Rattle.machine_model.specs.Whole.{AllHalted, AllReset, NoEvent, WholeEvent, event_lines, event_of}
+use Rattle.machine_model.specs.Whole.{AllHalted, AllReset, NoEvent, WholeEvent, event_lines, event_of, ticks_after}
 use Rattle.slot_runs.specs.Passes.{part_at, with_part}
 use Rattle.xm_ports.specs.Channels.{shapes_of}
 use Rattle.alone_passes.specs.Kept.{IsKeptBy, PassesKeep}
@@ -95,17 +95,42 @@ away_done ticks takes keeps p cue old new got below runs away unseen can taken i
       few = few;
     }
 
+-- one more tick has begun: it is counted, or it halts the hypervisor
+event_begins : (e : WholeEvent) (ticks : ℕ) → ticks_after e ticks + flag (is_halt e) ≡ ticks + 1
+event_begins NoEvent ticks = omega arith
+event_begins (AllReset mode) ticks = omega arith
+event_begins AllHalted ticks = omega arith
+
+-- events that count the same halt the same
+same_halt : (e other : WholeEvent) (n : ℕ) → ticks_after e n ≡ ticks_after other n → is_halt e ≡ is_halt other
+same_halt e other n same = same_flag (is_halt e) (is_halt other) (omega (arith, event_begins e n, event_begins other n, same))
+  where
+    same_flag : (a b : Bool) → flag a ≡ flag b → a ≡ b
+    same_flag true true is = refl
+    same_flag false false is = refl
+    same_flag true false is = absurd (omega (arith, is))
+    same_flag false true is = absurd (omega (arith, is))
+
+alone_ticks : (view : PartitionView) (a : Alone) (cue : Cue) → (alone_step view a cue).ticks ≡ ticks_after cue.whole a.ticks
+unfolding alone_after alone_step
+alone_ticks view a cue = refl
+
 -- a machine stays one
 pub machine_kept : KeepsFactsAlone → (p : ℕ) (cue : Cue) (event : WholeEvent) (old new : SysState) (g : Machine) → IsMachine old → p < length old.machine.parts → old.machine.halted ≡ false
     → old.machine.ticks < 4000000000 → IsKeptBy p event old.machine g → part_in g p ≡ alone_step (view_of old.machine.system p) (part_in old.machine p) cue
     → IsItsOwn cue.mine (view_of old.machine.system p) (part_in old.machine p) cue → new ≡ with_machine g old → IsMachine new
 unfolding part
 machine_kept law p cue event old new g is below runs few kept alone its new_is =
-    let facts : AreFacts (view_of old.machine.system p) (begun old.machine + 1) (part_at p g) =
-    subst (AreFacts (view_of old.machine.system p) (begun old.machine + 1)) (sym (ap (λ (a : Alone). a.state) alone))
-    (law (view_of old.machine.system p) (part_in old.machine p) cue (begun old.machine) its (facts_at old p is below)) in
-    let none : flag old.machine.halted ≡ 0 = ap flag runs in
-    let counts : g.ticks + flag g.halted ≡ old.machine.ticks + flag old.machine.halted + 1 = kept.counts in
+    let view : PartitionView = view_of old.machine.system p in
+    let ticks : g.ticks ≡ ticks_after cue.whole old.machine.ticks = ap (λ (a : Alone). a.ticks) alone ∙ alone_ticks view (part_in old.machine p) cue in
+    let halts : g.halted ≡ is_halt cue.whole = kept.halted ∙ same_halt event cue.whole old.machine.ticks (sym kept.ticks ∙ ticks) in
+    let before : AreFacts view old.machine.ticks false (part_at p old.machine) = subst (λ (b : Bool). AreFacts view old.machine.ticks b (part_at p old.machine)) runs (facts_at old p is below) in
+    let facts : AreFacts view g.ticks g.halted (part_at p g) =
+    subst (AreFacts view g.ticks g.halted) (sym (ap (λ (a : Alone). a.state) alone))
+    (subst (λ (n : ℕ). AreFacts view n g.halted (alone_step view (part_in old.machine p) cue).state) (sym ticks)
+    (subst (λ (b : Bool). AreFacts view (ticks_after cue.whole old.machine.ticks) b (alone_step view (part_in old.machine p) cue).state) (sym halts)
+    (law view (part_in old.machine p) cue old.machine.ticks its before))) in
+    let counts : g.ticks + flag g.halted ≡ old.machine.ticks + 1 = ap (λ (n : ℕ). n + flag g.halted) ticks ∙ ap (λ (b : Bool). ticks_after cue.whole old.machine.ticks + flag b) halts ∙ event_begins cue.whole old.machine.ticks in
     subst IsMachine (sym new_is) (record {
       shapes = is.shapes ∙ ap (λ (s : System). shapes_of s.conf) (sym kept.system);
       fits = rw (kept.system) is.fits;
@@ -114,7 +139,7 @@ machine_kept law p cue event old new g is below runs few kept alone its new_is =
         channels = kept.channels ∙ is.complete.channels ∙ ap (λ (s : System). length s.conf.chans) (sym kept.system);
       };
       clocked = kept.clocked is.fits is.clocked;
-      counted = record { facts = kept.facts is.counted.facts facts; time = kept.timed is.counted.time; ticks = omega (arith, counts, none, few) };
+      counted = record { facts = kept.facts is.counted.facts facts; time = kept.timed is.counted.time; ticks = omega (arith, counts, few) };
     })
 
 pub of_system : (p : ℕ) (event : WholeEvent) (old new : SysState) (g : Machine) → IsKeptBy p event old.machine g → new ≡ with_machine g old → IsOfSystem old.machine new.machine

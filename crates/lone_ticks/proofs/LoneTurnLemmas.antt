@@ -1,6 +1,6 @@
 -- A tick of one partition without the others in which it takes its turn.
 use Rattle.std.proofs.Common.{◌≡◌, ℕ, ◌+◌, ◌<◌, ◌≤◌, Bool, true, false, List, ◌++◌, length, map, Option, None, Some, refl, sym, ap, subst, ◌∙◌, arith}
-use Rattle.std.specs.Prelude.{◌&&◌, if◌then◌else◌}
+use Rattle.std.specs.Prelude.{◌&&◌, ◌||◌, if◌then◌else◌}
 use Rattle.std.proofs.lemmas.List.{append_assoc, get_or-set_same, length-set}
 use Rattle.cyclic_plans.specs.PlanClock.{CyclicClock, IsInFrame}
 use Rattle.whole_system.specs.Serving.{CanBeTold}
@@ -18,7 +18,7 @@ use Rattle.cue_scripts.specs.declared.cue.CueSlot.TheVariants as its
 use Rattle.tick_pieces.specs.PartLemmas.{traded_memory}
 use Rattle.machine_model.specs.Alone.{Alone, alone_local, alone_local_in, alone_step_lines}
 use Rattle.machine_model.specs.Cue.{Cue, Mine, CueSlot}
-use Rattle.machine_model.specs.Facts.{AreEnds, AreFacts, AreLast, HaveEight, IsItsOwn, KeepsFactsAlone, begun}
+use Rattle.machine_model.specs.Facts.{AreEnds, AreFacts, AreLast, HaveEight, IsItsOwn, KeepsFactsAlone}
 use Rattle.machine_model.specs.Health.{Worked}
 use Rattle.machine_model.specs.Laws.{ActsWithinBounds, part}
 use Rattle.machine_model.specs.LocalTick.{LocalTick, bounded, local_tick, worked}
@@ -231,14 +231,14 @@ not_seen takes bounds p first cue old is sees =
     takes old.machine p first cue w is.own (alone_in cue.mine first cue.traffic cue.order is.own is.alone).0 is.turns refl (work_bounded bounds old.machine p first cue.seen)
     ∙ ap (λ (b : Bool). b && is_same_event (event_of w.act) cue.whole) sees
 
-uncounted_facts : (view : PartitionView) (n : ℕ) (ps x : PartitionState) → IsUncounted ps x → AreFacts view n ps → AreFacts view n x
-uncounted_facts view n ps x same is =
+uncounted_facts : (view : PartitionView) (n : ℕ) (halts : Bool) (ps x : PartitionState) → IsUncounted ps x → AreFacts view n halts ps → AreFacts view n halts x
+uncounted_facts view n halts ps x same is =
     let traces : ps.traces.next ≤ n = is.traces in
-    let health : ps.health.next ≤ n + flag (is_halted ps.state) = is.health in
-    let execution : ps.clocks.execution ≤ n = is.execution in
+    let health : ps.health.next ≤ n + flag (halts || is_halted ps.state) = is.health in
+    let execution : ps.clocks.execution ≤ n + flag halts = is.execution in
     record {
       traces = omega (arith, traces, ap (λ t. t.next) same.traces);
-      health = omega (arith, health, ap (λ t. t.next) same.health, ap flag same.awake);
+      health = omega (arith, health, ap (λ t. t.next) same.health, ap (λ (b : Bool). flag (halts || b)) same.awake);
       execution = omega (arith, execution, same.execution);
       loads = subst (λ (k : Kept TraceEntry). HaveEight k.entries) (sym same.traces) is.loads;
       inputs = subst (λ (words : List ℕ). AreLast words view.inputs) (sym same.inputs) is.inputs;
@@ -254,7 +254,7 @@ undone_machine p old new is below undone =
       clocked = record { in_frame = is.clocked.in_frame; asked = is.clocked.asked };
       counted = record {
         facts = facts_with old.machine p undone.after is.counted.facts below
-            (uncounted_facts (view_of old.machine.system p) (begun old.machine) (part_at p old.machine) undone.after undone.same (facts_at old p is below));
+            (uncounted_facts (view_of old.machine.system p) old.machine.ticks old.machine.halted (part_at p old.machine) undone.after undone.same (facts_at old p is below));
         time = is.counted.time;
         ticks = is.counted.ticks;
       };
@@ -273,12 +273,12 @@ flag_small false = omega arith
 -- a machine that has not halted, of which a partition takes a tick
 pub can_take : (p : ℕ) (old : SysState) → IsMachine old → p < length old.machine.parts → old.machine.halted ≡ false → old.machine.ticks < 4000000000 → CanTake p 1 old
 can_take p old is below runs few =
-    let its = facts_at old p is below in
-    let none : flag old.machine.halted ≡ 0 = ap flag runs in
+    let its : AreFacts (view_of old.machine.system p) old.machine.ticks false (part_at p old.machine) =
+    subst (λ (b : Bool). AreFacts (view_of old.machine.system p) old.machine.ticks b (part_at p old.machine)) runs (facts_at old p is below) in
     let timed : old.machine.time ≤ old.machine.ticks = is.counted.time in
-    let traces : (part_at p old.machine).traces.next ≤ begun old.machine = its.traces in
-    let health : (part_at p old.machine).health.next ≤ begun old.machine + flag (is_halted (part_at p old.machine).state) = its.health in
-    let execution : (part_at p old.machine).clocks.execution ≤ begun old.machine = its.execution in
+    let traces : (part_at p old.machine).traces.next ≤ old.machine.ticks = its.traces in
+    let health : (part_at p old.machine).health.next ≤ old.machine.ticks + flag (is_halted (part_at p old.machine).state) = its.health in
+    let execution : (part_at p old.machine).clocks.execution ≤ old.machine.ticks + 0 = its.execution in
     let small : flag (is_halted (part_at p old.machine).state) ≤ 1 = flag_small (is_halted (part_at p old.machine).state) in
     let frame : IsInFrame old.machine.system.conf old.machine.clock old.machine.time = is.clocked.in_frame in
     record {
@@ -291,8 +291,8 @@ can_take p old is below runs few =
       some = omega arith;
       few = omega (arith, few);
       timed = timed;
-      traces = omega (arith, traces, none);
-      health = omega (arith, health, none, small);
-      execution = omega (arith, execution, none);
+      traces = omega (arith, traces);
+      health = omega (arith, health, small);
+      execution = omega (arith, execution);
       made = its.made;
     }

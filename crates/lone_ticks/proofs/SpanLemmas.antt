@@ -17,7 +17,7 @@ use Rattle.xm_conf.specs.Configuration.{Conf}
 use Rattle.xm_report.specs.Report.{ReportLine}
 use Rattle.cue_scripts.specs.Entries.{bare_cue}
 use Rattle.machine_model.specs.Alone.{Alone, alone_from, alone_lines, alone_said, alone_step, alone_step_lines}
-use Rattle.machine_model.specs.Facts.{AreFacts, HasFacts, KeepsFactsAlone, begun}
+use Rattle.machine_model.specs.Facts.{AreFacts, HasFacts, KeepsFactsAlone}
 use Rattle.machine_model.specs.Laws.{part}
 use Rattle.machine_model.specs.Machine.{Machine, booted_part, copies, is_halt}
 use Rattle.machine_model.specs.LocalTick.{goes_on, turned_state, with_interrupts}
@@ -62,8 +62,8 @@ part_now p g = λ i. record { state = part_at p g; copies = copies g p; ticks = 
     none n = omega arith
 
 -- the facts on a partition hold when more ticks have begun
-facts_more : (view : PartitionView) (n k : ℕ) (ps : PartitionState) → AreFacts view n ps → AreFacts view (n + k) ps
-facts_more view n k ps is = record {
+facts_more : (view : PartitionView) (n k : ℕ) (halts : Bool) (ps : PartitionState) → AreFacts view n halts ps → AreFacts view (n + k) halts ps
+facts_more view n k halts ps is = record {
   traces = omega (arith, is.traces);
   health = omega (arith, is.health);
   execution = omega (arith, is.execution);
@@ -114,20 +114,18 @@ module _ (law : KeepsFactsAlone) (p most ticks : ℕ) (own : Bool) (sys : SysSta
       }
 
   -- and it stays a machine
-  facts_then : (k : ℕ) → k ≤ ticks → AreFacts (view_of sys.machine.system p) (begun sys.machine + k) (x k)
+  facts_then : (k : ℕ) → k ≤ ticks → AreFacts (view_of sys.machine.system p) (sys.machine.ticks + k) sys.machine.halted (x k)
   facts_then k few =
-      still_facts law (view_of sys.machine.system p) own k (begun sys.machine) f (λ j below. each j (omega (arith, below, few)))
-      (subst (AreFacts (view_of sys.machine.system p) (begun sys.machine)) (sym begins) (facts_at sys p can.machine can.partition))
+      subst (λ (b : Bool). AreFacts (view_of sys.machine.system p) (sys.machine.ticks + k) b (x k)) (sym can.running)
+      (still_facts law (view_of sys.machine.system p) own k sys.machine.ticks f (λ j below. each j (omega (arith, below, few)))
+      (subst (λ (b : Bool). AreFacts (view_of sys.machine.system p) sys.machine.ticks b (x 0)) can.running
+      (subst (AreFacts (view_of sys.machine.system p) sys.machine.ticks sys.machine.halted) (sym begins) (facts_at sys p can.machine can.partition))))
 
   has_facts : (k : ℕ) → k ≤ ticks → HasFacts (aged k p (x k) sys.machine)
   has_facts k few =
       let g : Machine = record sys.machine { time = sys.machine.time + k; ticks = sys.machine.ticks + k } in
-      facts_with g p (x k) (λ q ps there. subst (λ n. AreFacts (view_of sys.machine.system q) n ps) (sum sys.machine.ticks (flag sys.machine.halted) k)
-      (facts_more (view_of sys.machine.system q) (begun sys.machine) k ps (can.machine.counted.facts q ps there)))
-      can.partition (subst (λ n. AreFacts (view_of sys.machine.system p) n (x k)) (sum sys.machine.ticks (flag sys.machine.halted) k) (facts_then k few))
-    where
-      sum : (n m j : ℕ) → (n + m) + j ≡ (n + j) + m
-      sum n m j = omega arith
+      facts_with g p (x k) (λ q ps there. facts_more (view_of sys.machine.system q) sys.machine.ticks k sys.machine.halted ps (can.machine.counted.facts q ps there))
+      can.partition (facts_then k few)
 
   pub aged_machine : (k : ℕ) → k ≤ ticks → k < most → IsMachine (with_machine (aged k p (x k) sys.machine) sys)
   aged_machine k few fewer =
@@ -140,7 +138,7 @@ module _ (law : KeepsFactsAlone) (p most ticks : ℕ) (own : Bool) (sys : SysSta
           in_frame = record { plan = frame.plan; begun = omega (arith, frame.begun); before_end = omega (arith, can.within, fewer) };
           asked = can.machine.clocked.asked;
         };
-        counted = record { facts = has_facts k few; time = omega (arith, can.machine.counted.time); ticks = omega (arith, can.few, fewer) };
+        counted = record { facts = has_facts k few; time = omega (arith, can.machine.counted.time); ticks = omega (arith, can.few, fewer, ap flag can.running) };
       }
 
   -- a span of them
@@ -172,7 +170,7 @@ module _ (law : KeepsFactsAlone) (p most ticks : ℕ) (own : Bool) (sys : SysSta
         in_frame = subst (λ (g : Machine). IsInFrame g.system.conf g.clock g.time) (ap (λ (s : SysState). s.machine) is) frame;
         asked = asks_ended sys.machine.system.conf sys.machine.clock (sys.machine.time + ticks - 1) can.machine.clocked.asked;
       };
-      counted = record { facts = has_facts ticks (omega arith); time = omega (arith, can.machine.counted.time); ticks = omega (arith, can.few, within) };
+      counted = record { facts = has_facts ticks (omega arith); time = omega (arith, can.machine.counted.time); ticks = omega (arith, can.few, within, ap flag can.running) };
     });
     system = record {
       system = ap (λ (s : SysState). s.machine.system) is;
@@ -361,7 +359,7 @@ steps_few Call w most areas before core memory gone = omega (arith, gone.0)
 pub steps_room : (p most w : ℕ) (x : PartitionState) (sys mid : SysState) → CanSpan p most sys → w ≤ most → mid ≡ with_machine (with_part p x sys.machine) sys → x.clocks ≡ (part_at p sys.machine).clocks
     → (part_at p mid.machine).clocks.execution + w < 2 ^ 63
 steps_room p most w x sys mid can within mid_is same =
-    let few : (part_at p sys.machine).clocks.execution ≤ begun sys.machine = (facts_at sys p can.machine can.partition).execution in
+    let few : (part_at p sys.machine).clocks.execution ≤ sys.machine.ticks + flag sys.machine.halted = (facts_at sys p can.machine can.partition).execution in
     let none : flag sys.machine.halted ≡ 0 = ap flag can.running in
     omega (arith, few, none, can.few, within, ap (λ (y : PartitionState). y.clocks.execution) (part_set sys mid p x can.partition mid_is), ap (λ (c : PartitionClocks). c.execution) same)
 

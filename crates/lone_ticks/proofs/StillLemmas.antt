@@ -22,13 +22,13 @@ use Rattle.machine_model.specs.Health.{Worked, quiet}
 use Rattle.machine_model.specs.Lines.{local_said}
 use Rattle.machine_model.specs.Lists.{each}
 use Rattle.machine_model.specs.LocalTick.{LocalTick, clocked, delivered_or_executed, executed_in_tick, by_turn, goes_on, local_tick, seen_outside, turned_state, with_interrupts, worked, worked_if}
-use Rattle.machine_model.specs.Machine.{act_of, after_tick}
+use Rattle.machine_model.specs.Machine.{act_of, after_tick, is_halt}
 use Rattle.machine_model.specs.Observed.{Observation, asked_by, asks, if_call, unless_delivered}
 use Rattle.machine_model.specs.Partition.{PartitionState, areas_of, execution_looked_at, execution_timer, hardware_looked_at, hardware_timer, is_halted, raised_if, rested, takes_turns}
-use Rattle.machine_model.specs.Told.{NoEvent, OwnStill, Unseen}
+use Rattle.machine_model.specs.Told.{NoEvent, OwnStill, Unseen, WholeEvent}
 use Rattle.machine_model.specs.Traffic.{after_own, copies_after}
 use Rattle.machine_model.specs.View.{PartitionView}
-use Rattle.machine_model.specs.Whole.{content_after, event_of}
+use Rattle.machine_model.specs.Whole.{content_after, event_of, ticks_after}
 use Rattle.slot_runs.specs.Meeting.{HasGone, NoDelivery, gone_on}
 use Rattle.slot_runs.specs.Rest.{RestsTwice}
 use Rattle.alone_passes.specs.Taking.{is_same_event, takes_cue, takes_event, takes_sight}
@@ -72,18 +72,24 @@ stills view own (suc count) f each =
     both : {X : Type 0} (xs ys : List X) → xs ≡ [] → ys ≡ [] → xs ++ ys ≡ []
     both xs ys none other = rw (none, other) refl
 
+-- a plain cue has no event
+no_event : (own : Bool) → (bare_cue own).whole ≡ NoEvent
+unfolding bare_cue
+no_event own = refl
+
 -- the facts on it hold after them
 pub still_facts : KeepsFactsAlone → (view : PartitionView) (own : Bool) (count n : ℕ) (f : ℕ → Alone) → ((k : ℕ) → k < count → IsStill view own (f k) (f (suc k)))
-    → AreFacts view n (f 0).state → AreFacts view (n + count) (f count).state
-still_facts law view own zero n f each is = subst (λ (m : ℕ). AreFacts view m (f 0).state) (same n) is
+    → AreFacts view n false (f 0).state → AreFacts view (n + count) false (f count).state
+still_facts law view own zero n f each is = subst (λ (m : ℕ). AreFacts view m false (f 0).state) (same n) is
   where
     same : (m : ℕ) → m ≡ m + 0
     same m = omega arith
 still_facts law view own (suc count) n f each is =
     let one : IsStill view own (f 0) (f 1) = each 0 (omega arith) in
-    subst (λ (m : ℕ). AreFacts view m (f (suc count)).state) (sum n count)
+    subst (λ (m : ℕ). AreFacts view m false (f (suc count)).state) (sum n count)
     (still_facts law view own count (n + 1) (λ k. f (suc k)) (λ k below. each (suc k) (omega (arith, below)))
-    (subst (λ (s : Alone). AreFacts view (n + 1) s.state) one.step (law view (f 0) (bare_cue own) n one.its is)))
+    (subst (λ (s : Alone). AreFacts view (n + 1) false s.state) one.step
+    (subst (λ (e : WholeEvent). AreFacts view (ticks_after e n) (is_halt e) (alone_step view (f 0) (bare_cue own)).state) (no_event own) (law view (f 0) (bare_cue own) n one.its is))))
   where
     sum : (m k : ℕ) → (m + 1) + k ≡ m + suc k
     sum m k = omega arith

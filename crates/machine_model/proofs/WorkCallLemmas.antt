@@ -1,5 +1,5 @@
 -- What each call leaves of the facts.
-use Rattle.std.proofs.Common.{length, ◌++◌, ◌≡◌, ℕ, zero, suc, ◌≤◌, ◌+◌, Bool, true, false, List, [], ◌∷◌, Option, None, Some, Result, Ok, Err, refl, sym, ap, arith, subst}
+use Rattle.std.proofs.Common.{length, ◌++◌, ◌≡◌, ◌⊎◌, inl, inr, ℕ, zero, suc, ◌≤◌, ◌+◌, Bool, true, false, List, [], ◌∷◌, Option, None, Some, Result, Ok, Err, refl, sym, ap, arith, subst}
 use Rattle.std.specs.Prelude.{◌-◌, drop, slice_get, slice_index_or, if◌then◌else◌, ◌==◌, ◌&&◌, ◌||◌, IsSome, bit_and}
 use Rattle.std.proofs.lemmas.List.Elements.{All-append, All-cons, All-drop, All-nil}
 use Rattle.guest_bus.specs.MemoryLemmas.{length-bytes_at}
@@ -22,7 +22,7 @@ use Rattle.xm_ports.specs.Ports.{agrees_end, created_over, granted, is_made, is_
 use Rattle.xm_ports.specs.declared.ports.CreateFault.{CreateFault}
 use Rattle.xm_traces.specs.Ring.{Kept, RING_ENTRIES, noted}
 use Rattle.xm_traces.specs.declared.entry.TraceEntry.{TraceEntry}
-use Rattle.machine_model.specs.Caller.{Caller, Served, Test, a_of, answering, b_of, c_of, d_of, e_of, invalid_parameter, is_neither, no_action, not_available, number_of, refused_if, room, tested, text, with_answer, with_written}
+use Rattle.machine_model.specs.Caller.{Acts, Caller, Served, Test, a_of, answering, b_of, c_of, d_of, e_of, invalid_parameter, is_neither, no_action, not_available, number_of, refused_if, room, tested, text, with_answer, with_written}
 use Rattle.machine_model.specs.Facts.{AreEnds, AreLast, HaveEight, IsChannelEnd}
 use Rattle.machine_model.specs.Hypercalls.{served}
 use Rattle.machine_model.specs.LinkCalls.{raise_ipvi}
@@ -33,6 +33,7 @@ use Rattle.machine_model.specs.PortCalls.{MadePort, by_created, create_queuing_p
 use Rattle.machine_model.specs.ProcessorCalls.{by_flush, by_return, clear_irqmask, flush_regwin, flushed, input_read, iret, read_input, set_irqmask, set_psr, set_tbr, write_console}
 use Rattle.machine_model.specs.Structures.{queuing_status, sampling_status}
 use Rattle.machine_model.specs.TimeCalls.{clock_numbered, get_plan_status, get_time, is_negative, joined, set_timer, switch_sched_plan, with_timer_set}
+use Rattle.machine_model.specs.Told as told
 use Rattle.machine_model.specs.View.{PartitionView, PortChannel}
 
 -- the parts of a partition's state of which the facts speak
@@ -70,12 +71,22 @@ same_goes view traces health ticks before after same =
       made = λ ends. subst (AreEnds view) (sym (ap (λ f. f.made) same)) ends;
     }
 
--- a call leaves it so
+-- a call leaves it so; one that makes a trace entry reaches nothing else
 record Leaves (caller : Caller) (comes : Served) : Type 0 where
   goes : Goes caller.view 1 0 0 caller.state comes.after
+  untraced : (comes.after.traces.next ≤ caller.state.traces.next) ⊎ (comes.upshot ≡ Acts told.Nothing)
+
+-- where no entry is made
+untraced_leaves : (caller : Caller) (comes : Served) → Goes caller.view 0 0 0 caller.state comes.after → Leaves caller comes
+untraced_leaves caller comes goes =
+    let traced : comes.after.traces.next ≤ caller.state.traces.next + 0 = goes.traced in
+    record {
+      goes = record { traced = omega (arith, traced); met = goes.met; ran = goes.ran; loaded = goes.loaded; read = goes.read; made = goes.made };
+      untraced = inl (omega (arith, traced));
+    }
 
 keeps : (caller : Caller) (comes : Served) → fact_parts comes.after ≡ fact_parts caller.state → Leaves caller comes
-keeps caller comes same = record { goes = same_goes caller.view 1 0 0 caller.state comes.after same }
+keeps caller comes same = untraced_leaves caller comes (same_goes caller.view 0 0 0 caller.state comes.after same)
 
 -- a call that is refused keeps all
 tested_keeps : (tests : List Test) (caller : Caller) (comes : Served) → fact_parts comes.after ≡ fact_parts caller.state → fact_parts (tested tests caller comes).after ≡ fact_parts caller.state
@@ -120,9 +131,8 @@ flush_keeps (Err fault) ps caller same = same
 input_leaves : (inputs : List ℕ) (caller : Caller) → caller.state.inputs ≡ inputs → Leaves caller (input_read inputs caller)
 unfolding with_answer with_written
 input_leaves [] caller is = keeps caller (input_read [] caller) refl
-input_leaves (next ∷ rest) caller is = tested_leaves (room caller (a_of caller) 4 ∷ []) caller _ (record {
-  goes = record { traced = omega arith; met = omega arith; ran = omega arith; loaded = λ eight. eight; read = record { used = next ∷ []; is = sym is }; made = λ ends. ends };
-})
+input_leaves (next ∷ rest) caller is = tested_leaves (room caller (a_of caller) 4 ∷ []) caller _ (untraced_leaves caller _
+    (record { traced = omega arith; met = omega arith; ran = omega arith; loaded = λ eight. eight; read = record { used = next ∷ []; is = sym is }; made = λ ends. ends }))
 
 -- entries of eight bytes with one more, of which the last are kept
 one_more : (entries : List TraceEntry) (entry : TraceEntry) → length entry.load ≡ 8 → HaveEight entries → HaveEight (entries ++ entry ∷ [])
@@ -145,6 +155,7 @@ trace_leaves caller = record {
     read = record { used = []; is = refl };
     made = λ ends. ends;
   };
+  untraced = inr refl;
 }
 
 -- what is made with one more port
@@ -199,16 +210,14 @@ creating_leaves the_kind way size most (Some name) caller =
   where
     by : (answer : Result ℕ CreateFault) → created_over caller.view.part.ports (shape_at caller.view) name the_kind way size most caller.state.made ≡ answer → Leaves caller (by_created answer caller)
     by (Err fault) is = keeps caller (by_created (Err fault) caller) refl
-    by (Ok r) is = record {
-      goes = record {
-        traced = omega arith;
-        met = omega arith;
-        ran = omega arith;
-        loaded = λ eight. eight;
-        read = record { used = []; is = refl };
-        made = λ ends. made_or (IsChannelEnd caller.view) caller.state.made r (is_created caller.view name the_kind way size most caller.state.made r is) ends;
-      };
-    }
+    by (Ok r) is = untraced_leaves caller (by_created (Ok r) caller) (record {
+      traced = omega arith;
+      met = omega arith;
+      ran = omega arith;
+      loaded = λ eight. eight;
+      read = record { used = []; is = refl };
+      made = λ ends. made_or (IsChannelEnd caller.view) caller.state.made r (is_created caller.view name the_kind way size most caller.state.made r is) ends;
+    })
 
 get_self_leaves : (caller : Caller) → Leaves caller (get_self caller)
 unfolding get_self with_answer with_written
@@ -421,3 +430,7 @@ served_leaves caller =
 -- a call goes on so
 pub served_goes : (caller : Caller) → Goes caller.view 1 0 0 caller.state (served caller).after
 served_goes caller = (served_leaves caller).goes
+
+-- one that makes a trace entry reaches nothing else
+pub served_untraced : (caller : Caller) → ((served caller).after.traces.next ≤ caller.state.traces.next) ⊎ ((served caller).upshot ≡ Acts told.Nothing)
+served_untraced caller = (served_leaves caller).untraced

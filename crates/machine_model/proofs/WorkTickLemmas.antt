@@ -33,12 +33,12 @@ use Rattle.machine_model.specs.TickLemmas.{step_halted, step_runs}
 use Rattle.machine_model.specs.Caller.{Acts, Caller, Meets, Upshot}
 use Rattle.machine_model.specs.Alone.{Alone, alone_after, alone_local, alone_local_in, alone_step}
 use Rattle.machine_model.specs.Cue.{Away, Cue, Mine, CueSlot}
-use Rattle.machine_model.specs.Facts.{AreEnds, AreFacts, AreLast, BootsWithFacts, HasFacts, HaveEight, IsItsOwn, KeepsFacts, KeepsFactsAlone, RunsWithFacts, ShowsItsSizeInRuns, begun}
+use Rattle.machine_model.specs.Facts.{AreEnds, AreFacts, AreLast, BootsWithFacts, HasFacts, HaveEight, IsItsOwn, KeepsFacts, KeepsFactsAlone, RunsWithFacts, ShowsItsSizeInRuns}
 use Rattle.machine_model.specs.Health.{Worked, answered_by, after_delivery, by_delivery, by_interrupt, done_to_all, done_to_itself, entered, entered_if, event_handled, interrupt_delivered, is_passed_over, passed_over_if, propagated, quiet, self_ordered, trap_delivered, undelivered}
 use Rattle.machine_model.specs.Hypercalls.{served}
 use Rattle.machine_model.specs.Laws.{HasLoads}
 use Rattle.machine_model.specs.Lists.{table}
-use Rattle.machine_model.specs.LocalTick.{LocalTick, bounded, by_act, by_turn, by_upshot, called, clocked, delivered_or_executed, executed_in_tick, goes_on, local_tick, turned_state, with_interrupts, worked, worked_if}
+use Rattle.machine_model.specs.LocalTick.{LocalTick, bounded, by_act, by_turn, by_upshot, called, clocked, delivered_or_executed, executed_in_tick, goes_on, is_its, local_tick, turned_state, with_interrupts, worked, worked_if}
 use Rattle.machine_model.specs.Machine.{Machine, SlotTurn, act_of, after, after_tick, booted_part, copies, happened, happened_by, if_its_turn, is_halt, is_turn_of, local, local_in, local_of, obeyed, order_upon, part_after, rested_unless, run, sight_of_state, start, step, system_traffic, taken_by, tick_of, turn_of, worked_in}
 use Rattle.machine_model.specs.Partition.{PartitionState, applies, areas_of, booted, carried_out, disarmed, execution_looked_at, hardware_looked_at, is_halted, link_signal, ordered, reset, rested, takes_turns}
 use Rattle.machine_model.specs.Structures.{flag}
@@ -47,7 +47,7 @@ use Rattle.machine_model.specs.Told.{Act, OwnPuts, OwnSignals, OwnStill, OwnTake
 use Rattle.machine_model.specs.Traffic.{after_message, heard_as, heard_from, heard_of_own, hearing, interrupted, traffic_of}
 use Rattle.machine_model.specs.View.{PartitionView, System, view_of}
 use Rattle.machine_model.specs.Whole.{AllHalted, AllReset, NoEvent, WholeEvent, after_event, event_of, ticks_after}
-use Rattle.machine_model.proofs.WorkCallLemmas.{Goes, same_goes, served_goes}
+use Rattle.machine_model.proofs.WorkCallLemmas.{Goes, same_goes, served_goes, served_untraced}
 use Rattle.machine_model.specs.ListLemmas.{get_each}
 use Rattle.machine_model.proofs.ObservingLemmas.{shows_its_size}
 use Rattle.machine_model.proofs.RunLemmas.{step_system}
@@ -216,26 +216,45 @@ record Halts (after : PartitionState) (act : Act) : Type 0 where
   halted : is_halted after.state ≡ true
   alone : act ≡ told.Nothing
 
--- a part of a tick goes on so, with at most one health entry, or with two after which the partition has halted
+-- whether an act halts the hypervisor
+abbrev halts_all : Act → Bool
+halts_all act = is_halt (event_of act)
+
+-- a part of a tick goes on so, with at most one health entry, or with two after which the partition has halted; where its act halts the
+-- hypervisor it made no trace entry
 record Works (view : PartitionView) (traces ticks : ℕ) (before after : PartitionState) (act : Act) : Type 0 where
   goes : Goes view traces 2 ticks before after
   entries : (after.health.next ≤ before.health.next + 1) ⊎ Halts after act
+  untraced : halts_all act ≡ true → after.traces.next ≤ before.traces.next
 
 abbrev IsWork : PartitionView → ℕ → ℕ → PartitionState → Worked → Type 0
 IsWork view traces ticks before w = Works view traces ticks before w.after w.act
 
-works_once : {view : PartitionView} {t i : ℕ} {before after : PartitionState} {act : Act} → Goes view t 1 i before after → Works view t i before after act
-works_once {view} {t} {i} {before} {after} {act} goes =
+works_once : {view : PartitionView} {t i : ℕ} {before after : PartitionState} {act : Act} → Goes view t 1 i before after → (halts_all act ≡ true → after.traces.next ≤ before.traces.next)
+    → Works view t i before after act
+works_once {view} {t} {i} {before} {after} {act} goes untraced =
     let met : after.health.next ≤ before.health.next + 1 = goes.met in
     record {
       goes = record { traced = goes.traced; met = omega (arith, met); ran = goes.ran; loaded = goes.loaded; read = goes.read; made = goes.made };
       entries = inl met;
+      untraced = untraced;
     }
 
+-- no trace entry is made
+none_traced : {view : PartitionView} {h i : ℕ} {before after : PartitionState} → Goes view 0 h i before after → after.traces.next ≤ before.traces.next
+none_traced {view} {h} {i} {before} {after} goes = let traced : after.traces.next ≤ before.traces.next + 0 = goes.traced in omega (arith, traced)
+
 -- one step without an entry and then this
-works_then : {view : PartitionView} {t i u j : ℕ} {before between after : PartitionState} {act : Act} → Goes view t 0 i before between → Works view u j between after act
-    → Works view (t + u) (i + j) before after act
-works_then {view} {t} {i} {u} {j} {before} {between} {after} {act} one other = record { goes = goes_then one other.goes; entries = by other.entries }
+works_then : {view : PartitionView} {t i u j : ℕ} {before between after : PartitionState} {act : Act} → Goes view t 0 i before between → (halts_all act ≡ true → between.traces.next ≤ before.traces.next)
+    → Works view u j between after act → Works view (t + u) (i + j) before after act
+works_then {view} {t} {i} {u} {j} {before} {between} {after} {act} one first other = record {
+  goes = goes_then one other.goes;
+  entries = by other.entries;
+  untraced = λ halts.
+      let a : between.traces.next ≤ before.traces.next = first halts in
+      let b : after.traces.next ≤ between.traces.next = other.untraced halts in
+      omega (arith, a, b);
+}
   where
     by : (after.health.next ≤ between.health.next + 1) ⊎ Halts after act → (after.health.next ≤ before.health.next + 1) ⊎ Halts after act
     by (inl few) =
@@ -256,8 +275,12 @@ event_works view time an_event word type ps =
     by : (effect : Effect) (passed : PartitionState) → Goes view 0 1 0 ps passed → (effect.own ≡ own.Propagate → done_to_all effect.whole ≡ told.Nothing)
         → Goes view 0 0 0 passed (done_to_itself view time type effect.own passed).after ⊎ (Fails view passed (done_to_itself view time type effect.own passed).after × (effect.own ≡ own.Propagate))
         → Works view 0 0 ps (done_to_itself view time type effect.own passed).after (done_to_all effect.whole)
-    by effect passed before alone (inl goes) = works_once (goes_then before goes)
-    by effect passed before alone (inr fails) = record { goes = goes_then before fails.0.goes; entries = inr (record { halted = fails.0.halted; alone = alone fails.1 }) }
+    by effect passed before alone (inl goes) = works_once (goes_then before goes) (λ halts. none_traced (goes_then before goes))
+    by effect passed before alone (inr fails) = record {
+      goes = goes_then before fails.0.goes;
+      entries = inr (record { halted = fails.0.halted; alone = alone fails.1 });
+      untraced = λ halts. none_traced (goes_then before fails.0.goes);
+    }
 
 -- what a call comes to
 act_goes : (act : Act) (view : PartitionView) (ps : PartitionState) → Goes view 0 0 0 ps (by_act act view ps).after
@@ -273,7 +296,7 @@ act_goes (told.Plans change) view ps = same_goes view 0 0 0 ps ps refl
 act_goes (told.UponAll event) view ps = same_goes view 0 0 0 ps ps refl
 
 upshot_works : (upshot : Upshot) (view : PartitionView) (time : ℕ) (ps : PartitionState) → IsWork view 0 0 ps (by_upshot upshot view time ps)
-upshot_works (Acts act) view time ps = works_once (more_goes 0 1 0 (act_goes act view ps))
+upshot_works (Acts act) view time ps = works_once (more_goes 0 1 0 (act_goes act view ps)) (λ halts. none_traced (act_goes act view ps))
 upshot_works (Meets event word) view time ps = event_works view time event word None ps
 
 clocked_goes : (view : PartitionView) (ps : PartitionState) → Goes view 0 0 1 ps (clocked ps)
@@ -284,14 +307,26 @@ clocked_goes view ps =
 called_works : (caller : Caller) → IsWork caller.view 1 1 caller.state (called caller)
 unfolding called
 called_works caller =
-    works_then (goes_then (served_goes caller) (clocked_goes caller.view (served caller).after))
+    works_then (goes_then (served_goes caller) (clocked_goes caller.view (served caller).after)) (by (served_untraced caller))
     (upshot_works (served caller).upshot caller.view caller.time (clocked (served caller).after))
+  where
+    counted : PartitionState
+    counted = clocked (served caller).after
+
+    none : counted.traces.next ≤ (served caller).after.traces.next
+    none = none_traced (clocked_goes caller.view (served caller).after)
+
+    by : ((served caller).after.traces.next ≤ caller.state.traces.next) ⊎ ((served caller).upshot ≡ Acts told.Nothing)
+        → halts_all (by_upshot (served caller).upshot caller.view caller.time counted).act ≡ true → counted.traces.next ≤ caller.state.traces.next
+    by (inl few) halts = omega (arith, none, few)
+    by (inr nothing) halts =
+        absurd (let wrong : true ≡ false = sym halts ∙ ap (λ (u : Upshot). halts_all (by_upshot u caller.view caller.time counted).act) nothing in cc)
 
 -- an instruction
 turn_works : (outcome : Outcome) (view : PartitionView) (contents : List (Option Content)) (time : ℕ) (sight : Sight) (before ps : PartitionState) → IsWork view 1 1 ps (by_turn outcome view contents time sight before ps)
-turn_works Went view contents time sight before ps = works_once (more_goes 1 1 0 (clocked_goes view ps))
+turn_works Went view contents time sight before ps = works_once (more_goes 1 1 0 (clocked_goes view ps)) (λ halts. none_traced (clocked_goes view ps))
 turn_works (Trap type) view contents time sight before ps =
-    works_then (more_goes 1 0 0 (clocked_goes view ps)) (event_works view time (event_of_type type) before.core.pc (Some type) (clocked ps))
+    works_then (more_goes 1 0 0 (clocked_goes view ps)) (λ halts. none_traced (clocked_goes view ps)) (event_works view time (event_of_type type) before.core.pc (Some type) (clocked ps))
 turn_works Call view contents time sight before ps =
     called_works (record { view = view; state = ps; contents = contents; time = time; sight = sight; pc = before.core.pc; npc = before.core.npc })
 
@@ -299,7 +334,7 @@ executed_works : (view : PartitionView) (contents : List (Option Content)) (time
 unfolding executed_in_tick
 executed_works view contents time sight ps =
     let t = settled (areas_of view) ps.core ps.memory in
-    works_then (same_goes view 0 0 0 ps (turned_state t ps) refl) (turn_works t.turn view contents time sight ps (turned_state t ps))
+    works_then (same_goes view 0 0 0 ps (turned_state t ps) refl) (λ halts. none_traced (same_goes view 0 0 0 ps (turned_state t ps) refl)) (turn_works t.turn view contents time sight ps (turned_state t ps))
 
 delivered_works : (o : Option ℕ) (enabled : Bool) (view : PartitionView) (contents : List (Option Content)) (time : ℕ) (sight : Sight) (ps : PartitionState)
     → IsWork view 1 1 ps (delivered_or_executed o enabled view contents time sight ps)
@@ -308,12 +343,13 @@ delivered_works None enabled view contents time sight ps = executed_works view c
 delivered_works (Some n) true view contents time sight ps =
     let d = delivered (areas_of view) (clocked ps).traps (clocked ps).core (clocked ps).memory (0xE0 + n) in
     works_once (more_goes 1 0 0 (goes_then (clocked_goes view ps) (interrupt_goes d.answer view time n d (clocked ps))))
+    (λ halts. none_traced (goes_then (clocked_goes view ps) (interrupt_goes d.answer view time n d (clocked ps))))
 delivered_works (Some n) false view contents time sight ps = executed_works view contents time sight ps
 
 going_works : (b : Bool) (view : PartitionView) (contents : List (Option Content)) (time : ℕ) (sight : Sight) (ps : PartitionState) → IsWork view 1 1 ps (worked_if b view contents time sight ps)
-going_works false view contents time sight ps = works_once (same_goes view 1 1 1 ps ps refl)
+going_works false view contents time sight ps = works_once (same_goes view 1 1 1 ps ps refl) (λ halts. omega arith)
 going_works true view contents time sight ps =
-    works_then (same_goes view 0 0 0 ps (record ps { state = Ready }) refl) (delivered_works (due ps.traps) ps.traps.enabled view contents time sight (record ps { state = Ready }))
+    works_then (same_goes view 0 0 0 ps (record ps { state = Ready }) refl) (λ halts. omega arith) (delivered_works (due ps.traps) ps.traps.enabled view contents time sight (record ps { state = Ready }))
 
 ready_goes : (view : PartitionView) (time : ℕ) (first : Bool) (ps : PartitionState) → Goes view 0 0 0 ps (with_interrupts time first ps)
 unfolding execution_looked_at hardware_looked_at with_interrupts
@@ -323,7 +359,7 @@ work_works : (view : PartitionView) (contents : List (Option Content)) (time : �
 unfolding worked
 work_works view contents time first sight ps =
     let ready = with_interrupts time first ps in
-    works_then (ready_goes view time first ps) (going_works (goes_on ready.state first (due ready.traps)) view contents time sight ready)
+    works_then (ready_goes view time first ps) (λ halts. none_traced (ready_goes view time first ps)) (going_works (goes_on ready.state first (due ready.traps)) view contents time sight ready)
 
 -- what follows in a tick
 heard_goes : (view : PartitionView) (o : Option ℕ) (ps : PartitionState) → Goes view 0 0 0 ps (interrupted o ps)
@@ -368,9 +404,25 @@ after_tick_goes view time worked traffic o e ps =
     let met : PartitionState = after_event view e told in
     goes_then (hearing_goes view traffic ps) (goes_then (obeyed_goes view o heard) (goes_then (whole_goes view e told) (rested_goes view worked time met)))
 
+-- what halts the hypervisor as the rest of the system sees it, does so
+bounded_halts : (view : PartitionView) (act : Act) → halts_all (bounded view act) ≡ true → halts_all act ≡ true
+bounded_halts view told.Nothing halts = halts
+bounded_halts view (told.Trades traffic) halts = at (is_its view traffic) halts
+  where
+    at : (b : Bool) → halts_all (if b then told.Trades traffic else told.Nothing) ≡ true → halts_all (told.Trades traffic) ≡ true
+    at true is = is
+    at false is = absurd cc
+bounded_halts view (told.Upon id an_order) halts = at (id == view.id) halts
+  where
+    at : (b : Bool) → halts_all (if b then told.Nothing else told.Upon id an_order) ≡ true → halts_all (told.Upon id an_order) ≡ true
+    at true is = absurd cc
+    at false is = is
+bounded_halts view (told.Plans change) halts = halts
+bounded_halts view (told.UponAll event) halts = halts
+
 -- a partition's own part of a tick, as the rest of the system sees it
 bounded_works : {view : PartitionView} {t i : ℕ} {before after : PartitionState} {act : Act} → Works view t i before after act → Works view t i before after (bounded view act)
-bounded_works {view} {t} {i} {before} {after} {act} works = record { goes = works.goes; entries = by works.entries }
+bounded_works {view} {t} {i} {before} {after} {act} works = record { goes = works.goes; entries = by works.entries; untraced = λ halts. works.untraced (bounded_halts view act halts) }
   where
     by : (after.health.next ≤ before.health.next + 1) ⊎ Halts after act → (after.health.next ≤ before.health.next + 1) ⊎ Halts after (bounded view act)
     by (inl few) = inl few
@@ -380,33 +432,55 @@ local_works : (g : Machine) (p : ℕ) (first : Bool) (ps : PartitionState) → W
 unfolding local_of local_tick
 local_works g p first ps = bounded_works (work_works (view_of g.system p) (copies g p) g.time first (sight_of_state g p first ps) ps)
 
+-- a tick in which the hypervisor halts makes no trace entry, and at most one health entry
+record HaltsBy (before after : PartitionState) : Type 0 where
+  untraced : after.traces.next ≤ before.traces.next
+  met : after.health.next + flag (is_halted before.state) ≤ before.health.next + 1
+
 -- a tick of the machine moves a partition on so: one health entry more at most, where a partition that has halted counts one less
-record Ticks (view : PartitionView) (before after : PartitionState) : Type 0 where
+record Ticks (view : PartitionView) (e : WholeEvent) (before after : PartitionState) : Type 0 where
   goes : Goes view 1 2 1 before after
   met : after.health.next + flag (is_halted before.state) ≤ before.health.next + 1 + flag (is_halted after.state)
+  halting : is_halt e ≡ true → HaltsBy before after
 
 flag_most : (b : Bool) → flag b ≤ 1
 flag_most true = omega arith
 flag_most false = omega arith
 
 -- a partition that does no work
-rest_ticks : (view : PartitionView) (time : ℕ) (traffic : OwnTraffic) (o : Option Order) (e : WholeEvent) (ps : PartitionState) → Ticks view ps (after_tick view time false traffic o e ps)
+rest_ticks : (view : PartitionView) (time : ℕ) (traffic : OwnTraffic) (o : Option Order) (e : WholeEvent) (ps : PartitionState) → Ticks view e ps (after_tick view time false traffic o e ps)
 rest_ticks view time traffic o e ps =
     let goes = after_tick_goes view time false traffic o e ps in
     let none : (after_tick view time false traffic o e ps).health.next ≤ ps.health.next + 0 = goes.met in
     let most = flag_most (is_halted ps.state) in
-    record { goes = more_goes 1 2 1 goes; met = omega (arith, none, most) }
+    record { goes = more_goes 1 2 1 goes; met = omega (arith, none, most); halting = λ halts. record { untraced = none_traced goes; met = omega (arith, none, most) } }
 
 -- a partition that works: nothing follows its work where two entries were made
 work_ticks : (view : PartitionView) (time : ℕ) (traffic : OwnTraffic) (o : Option Order) (e : WholeEvent) (before after : PartitionState) (act : Act) → is_halted before.state ≡ false
-    → Works view 1 1 before after act → (act ≡ told.Nothing → after_tick view time true traffic o e after ≡ after) → Ticks view before (after_tick view time true traffic o e after)
-work_ticks view time traffic o e before after act awake works quiet_after = record { goes = goes_then works.goes (after_tick_goes view time true traffic o e after); met = by works.entries }
+    → Works view 1 1 before after act → e ≡ event_of act → (act ≡ told.Nothing → after_tick view time true traffic o e after ≡ after) → Ticks view e before (after_tick view time true traffic o e after)
+work_ticks view time traffic o e before after act awake works event quiet_after = record {
+  goes = goes_then works.goes (after_tick_goes view time true traffic o e after);
+  met = by works.entries;
+  halting = λ halts. record { untraced = still halts; met = once halts works.entries };
+}
   where
     end : PartitionState
     end = after_tick view time true traffic o e after
 
     none : flag (is_halted before.state) ≡ 0
     none = ap flag awake
+
+    still : is_halt e ≡ true → end.traces.next ≤ before.traces.next
+    still halts =
+        let a : end.traces.next ≤ after.traces.next = none_traced (after_tick_goes view time true traffic o e after) in
+        let b : after.traces.next ≤ before.traces.next = works.untraced (sym (ap is_halt event) ∙ halts) in
+        omega (arith, a, b)
+
+    once : is_halt e ≡ true → (after.health.next ≤ before.health.next + 1) ⊎ Halts after act → end.health.next + flag (is_halted before.state) ≤ before.health.next + 1
+    once halts (inl few) =
+        let kept : end.health.next ≤ after.health.next + 0 = (after_tick_goes view time true traffic o e after).met in
+        omega (arith, few, kept, none)
+    once halts (inr alone) = absurd (let wrong : true ≡ false = sym halts ∙ ap is_halt event ∙ ap halts_all alone.alone in cc)
 
     by : (after.health.next ≤ before.health.next + 1) ⊎ Halts after act → end.health.next + flag (is_halted before.state) ≤ before.health.next + 1 + flag (is_halted end.state)
     by (inl few) =
@@ -439,55 +513,84 @@ awake Halted is = absurd cc
 
 -- the partition of the slot
 taken_ticks : (g : Machine) (p : ℕ) (ps : PartitionState) (turn : Option SlotTurn) (first : Bool)
-    → Ticks (view_of g.system p) ps (left_by g p turn (taken_by g p first (Some ps)) (taken_by g p first (Some ps)) ps)
+    → Ticks (view_of g.system p) (event_of (act_of (taken_by g p first (Some ps)))) ps (left_by g p turn (taken_by g p first (Some ps)) (taken_by g p first (Some ps)) ps)
 taken_ticks g p ps turn first = at (takes_turns ps.state) refl
   where
     tick : LocalTick
     tick = local_of g p first ps
 
-    at : (b : Bool) → takes_turns ps.state ≡ b → Ticks (view_of g.system p) ps (left_by g p turn (if b then Some tick else None) (if b then Some tick else None) ps)
-    at true is = work_ticks (view_of g.system p) g.time _ _ _ ps tick.after tick.act (awake ps.state is) (local_works g p first ps) (nothing_follows g p turn tick.act tick.after)
+    at : (b : Bool) → takes_turns ps.state ≡ b → Ticks (view_of g.system p) (event_of (act_of (if b then Some tick else None))) ps (left_by g p turn (if b then Some tick else None) (if b then Some tick else None) ps)
+    at true is = work_ticks (view_of g.system p) g.time _ _ _ ps tick.after tick.act (awake ps.state is) (local_works g p first ps) refl (nothing_follows g p turn tick.act tick.after)
     at false is = rest_ticks (view_of g.system p) g.time _ _ _ ps
 
 turn_ticks : (g : Machine) (p : ℕ) (ps : PartitionState) (turn : Option SlotTurn) → slice_get g.parts p ≡ Some ps
-    → Ticks (view_of g.system p) ps (left_by g p turn (local_in g turn) (if_its_turn (is_turn_of turn p) (local_in g turn)) ps)
+    → Ticks (view_of g.system p) (event_of (act_of (local_in g turn))) ps (left_by g p turn (local_in g turn) (if_its_turn (is_turn_of turn p) (local_in g turn)) ps)
 turn_ticks g p ps None there = rest_ticks (view_of g.system p) g.time _ _ _ ps
 turn_ticks g p ps (Some turn) there = at (turn.part == p) refl
   where
-    at : (b : Bool) → (turn.part == p) ≡ b → Ticks (view_of g.system p) ps (left_by g p (Some turn) (local_in g (Some turn)) (if_its_turn b (local_in g (Some turn))) ps)
+    at : (b : Bool) → (turn.part == p) ≡ b → Ticks (view_of g.system p) (event_of (act_of (local_in g (Some turn)))) ps (left_by g p (Some turn) (local_in g (Some turn)) (if_its_turn b (local_in g (Some turn))) ps)
     at true its =
         let same : turn.part ≡ p = eqb-true turn.part p its in
         let is : local_in g (Some turn) ≡ taken_by g p turn.first (Some ps) = ap (λ q. taken_by g q turn.first (slice_get g.parts q)) same ∙ ap (taken_by g p turn.first) there in
-        subst (λ (tick : Option LocalTick). Ticks (view_of g.system p) ps (left_by g p (Some turn) tick tick ps)) (sym is) (taken_ticks g p ps (Some turn) turn.first)
+        subst (λ (tick : Option LocalTick). Ticks (view_of g.system p) (event_of (act_of tick)) ps (left_by g p (Some turn) tick tick ps)) (sym is) (taken_ticks g p ps (Some turn) turn.first)
     at false other = rest_ticks (view_of g.system p) g.time _ _ _ ps
 
-part_ticks : (g : Machine) (p : ℕ) (ps : PartitionState) → slice_get g.parts p ≡ Some ps → Ticks (view_of g.system p) ps (part_after g (happened g) p ps)
+part_ticks : (g : Machine) (p : ℕ) (ps : PartitionState) → slice_get g.parts p ≡ Some ps → Ticks (view_of g.system p) (happened g).event ps (part_after g (happened g) p ps)
 unfolding part_after happened happened_by local tick_of
 part_ticks g p ps there = turn_ticks g p ps (turn_of g) there
 
--- the facts after one more tick
-facts_after : (view : PartitionView) (n : ℕ) (ps qs : PartitionState) → AreFacts view n ps → Ticks view ps qs → AreFacts view (n + 1) qs
-facts_after view n ps qs facts ticks =
-    let a : ps.traces.next ≤ n = facts.traces in
-    let b : qs.traces.next ≤ ps.traces.next + 1 = ticks.goes.traced in
-    let c : ps.health.next ≤ n + flag (is_halted ps.state) = facts.health in
-    let d : qs.health.next + flag (is_halted ps.state) ≤ ps.health.next + 1 + flag (is_halted qs.state) = ticks.met in
-    let e : ps.clocks.execution ≤ n = facts.execution in
-    let f : qs.clocks.execution ≤ ps.clocks.execution + 1 = ticks.goes.ran in
-    record {
+-- the facts after one more tick, by its event
+facts_after : (view : PartitionView) (e : WholeEvent) (n : ℕ) (ps qs : PartitionState) → AreFacts view n false ps → Ticks view e ps qs → AreFacts view (ticks_after e n) (is_halt e) qs
+facts_after view e n ps qs facts ticks = by e ticks.halting
+  where
+    a : ps.traces.next ≤ n
+    a = facts.traces
+
+    b : qs.traces.next ≤ ps.traces.next + 1
+    b = ticks.goes.traced
+
+    c : ps.health.next ≤ n + flag (is_halted ps.state)
+    c = facts.health
+
+    d : qs.health.next + flag (is_halted ps.state) ≤ ps.health.next + 1 + flag (is_halted qs.state)
+    d = ticks.met
+
+    f : ps.clocks.execution ≤ n + 0
+    f = facts.execution
+
+    g : qs.clocks.execution ≤ ps.clocks.execution + 1
+    g = ticks.goes.ran
+
+    counted : AreFacts view (n + 1) false qs
+    counted = record {
       traces = omega (arith, a, b);
       health = omega (arith, c, d);
-      execution = omega (arith, e, f);
+      execution = omega (arith, f, g);
       loads = ticks.goes.loaded facts.loads;
       inputs = last_of qs.inputs ps.inputs view.inputs ticks.goes.read facts.inputs;
       made = ticks.goes.made facts.made;
     }
 
+    by : (event : WholeEvent) → (is_halt event ≡ true → HaltsBy ps qs) → AreFacts view (ticks_after event n) (is_halt event) qs
+    by NoEvent halting = counted
+    by (AllReset mode) halting = counted
+    by AllHalted halting =
+        let untraced : qs.traces.next ≤ ps.traces.next = (halting refl).untraced in
+        let met : qs.health.next + flag (is_halted ps.state) ≤ ps.health.next + 1 = (halting refl).met in
+        record {
+          traces = omega (arith, a, untraced);
+          health = omega (arith, c, met);
+          execution = omega (arith, f, g);
+          loads = counted.loads;
+          inputs = counted.inputs;
+          made = counted.made;
+        }
+
 -- a partition alone without a local tick, and with one
-alone_rests : (view : PartitionView) (a : Alone) (cue : Cue) → alone_local view a cue ≡ None → Ticks view a.state (alone_step view a cue).state
+alone_rests : (view : PartitionView) (a : Alone) (cue : Cue) → alone_local view a cue ≡ None → Ticks view cue.whole a.state (alone_step view a cue).state
 unfolding alone_after alone_step
 alone_rests view a cue none =
-    subst (λ (tick : Option LocalTick). Ticks view a.state (alone_after view a cue tick).state) (sym none) (rest_ticks view a.time cue.traffic cue.order cue.whole a.state)
+    subst (λ (tick : Option LocalTick). Ticks view cue.whole a.state (alone_after view a cue tick).state) (sym none) (rest_ticks view a.time cue.traffic cue.order cue.whole a.state)
 
 -- an act that is nothing has nothing to follow
 nothing_after : (view : PartitionView) (time : ℕ) (act : Act) (ps : PartitionState) → act ≡ told.Nothing → after_tick view time true (heard_of_own (traffic_of act)) None (event_of act) ps ≡ ps
@@ -496,20 +599,20 @@ nothing_after view time act ps is = rw is refl
 
 alone_works : (view : PartitionView) (a : Alone) (cue : Cue) (first : Bool) → takes_turns a.state.state ≡ true → cue.order ≡ None
     → alone_local view a cue ≡ Some (local_tick view a.state a.copies a.ticks a.time first cue.seen)
-    → cue.whole ≡ event_of (local_tick view a.state a.copies a.ticks a.time first cue.seen).act → Ticks view a.state (alone_step view a cue).state
+    → cue.whole ≡ event_of (local_tick view a.state a.copies a.ticks a.time first cue.seen).act → Ticks view cue.whole a.state (alone_step view a cue).state
 unfolding alone_after alone_step local_tick
 alone_works view a cue first turns unordered is event =
-    subst (λ (tick : Option LocalTick). Ticks view a.state (alone_after view a cue tick).state) (sym is)
-    (subst (λ (o : Option Order). Ticks view a.state (after_tick view a.time true (heard_of_own (traffic_of tick.act)) o cue.whole tick.after)) (sym unordered)
-    (subst (λ (e : WholeEvent). Ticks view a.state (after_tick view a.time true (heard_of_own (traffic_of tick.act)) None e tick.after)) (sym event)
+    subst (λ (tick : Option LocalTick). Ticks view cue.whole a.state (alone_after view a cue tick).state) (sym is)
+    (subst (λ (o : Option Order). Ticks view cue.whole a.state (after_tick view a.time true (heard_of_own (traffic_of tick.act)) o cue.whole tick.after)) (sym unordered)
+    (subst (λ (e : WholeEvent). Ticks view e a.state (after_tick view a.time true (heard_of_own (traffic_of tick.act)) None e tick.after)) (sym event)
     (work_ticks view a.time (heard_of_own (traffic_of tick.act)) None (event_of tick.act) a.state tick.after tick.act (awake a.state.state turns)
-    (bounded_works (work_works view a.copies a.time first cue.seen a.state)) (nothing_after view a.time tick.act tick.after))))
+    (bounded_works (work_works view a.copies a.time first cue.seen a.state)) refl (nothing_after view a.time tick.act tick.after))))
   where
     tick : LocalTick
     tick = local_tick view a.state a.copies a.ticks a.time first cue.seen
 
 -- a tick of a partition alone, by whose slot it is
-alone_ticks : (view : PartitionView) (a : Alone) (cue : Cue) (mine : CueSlot) → cue.mine ≡ mine → IsItsOwn mine view a cue → Ticks view a.state (alone_step view a cue).state
+alone_ticks : (view : PartitionView) (a : Alone) (cue : Cue) (mine : CueSlot) → cue.mine ≡ mine → IsItsOwn mine view a cue → Ticks view cue.whole a.state (alone_step view a cue).state
 unfolding alone_local
 alone_ticks view a cue Away is its = alone_rests view a cue (ap (λ (slot : CueSlot). alone_local_in slot view a cue.seen) is)
 alone_ticks view a cue (Mine first) is its = at (takes_turns a.state.state) refl
@@ -517,30 +620,23 @@ alone_ticks view a cue (Mine first) is its = at (takes_turns a.state.state) refl
     tick : LocalTick
     tick = local_tick view a.state a.copies a.ticks a.time first cue.seen
 
-    at : (b : Bool) → takes_turns a.state.state ≡ b → Ticks view a.state (alone_step view a cue).state
+    at : (b : Bool) → takes_turns a.state.state ≡ b → Ticks view cue.whole a.state (alone_step view a cue).state
     at true turns =
         let local_is : alone_local view a cue ≡ Some tick = ap (λ (slot : CueSlot). alone_local_in slot view a cue.seen) is ∙ ap (λ (b : Bool). if b then Some tick else None) turns in
         alone_works view a cue first turns its.0 local_is (its.1 ∙ ap (λ (o : Option LocalTick). event_of (act_of o)) local_is)
     at false rests = alone_rests view a cue (ap (λ (slot : CueSlot). alone_local_in slot view a cue.seen) is ∙ ap (λ (b : Bool). if b then Some tick else None) rests)
 
 pub keeps_facts_alone : KeepsFactsAlone
-keeps_facts_alone view a cue n its facts = facts_after view n a.state (alone_step view a cue).state facts (alone_ticks view a cue cue.mine refl its)
+keeps_facts_alone view a cue n its facts = facts_after view cue.whole n a.state (alone_step view a cue).state facts (alone_ticks view a cue cue.mine refl its)
 
--- one more tick has begun
-event_begins : (e : WholeEvent) (ticks : ℕ) → ticks_after e ticks + flag (is_halt e) ≡ ticks + 1
-event_begins NoEvent ticks = omega arith
-event_begins (AllReset mode) ticks = omega arith
-event_begins AllHalted ticks = refl
-
-after_begins : (g : Machine) → begun (after g (happened g)) ≡ g.ticks + 1
+-- the ticks that were counted after one more, and whether the hypervisor has halted in it
+after_ticks : (g : Machine) → (after g (happened g)).ticks ≡ ticks_after (happened g).event g.ticks
 unfolding after
-after_begins g = event_begins (happened g).event g.ticks
+after_ticks g = refl
 
-step_begins : (g : Machine) → g.halted ≡ false → begun (step g) ≡ begun g + 1
-step_begins g runs =
-    let now : begun g ≡ g.ticks + 0 = ap (λ b. g.ticks + flag b) runs in
-    let next : begun (step g) ≡ g.ticks + 1 = ap begun (step_runs g runs) ∙ after_begins g in
-    omega (arith, now, next)
+after_halts : (g : Machine) → (after g (happened g)).halted ≡ is_halt (happened g).event
+unfolding after
+after_halts g = refl
 
 -- a partition after a tick, where it was there before it
 after_where : (g : Machine) (p : ℕ) → slice_get (after g (happened g)).parts p ≡ on (part_after g (happened g) p) (slice_get g.parts p)
@@ -550,15 +646,19 @@ after_where g p = get_each (part_after g (happened g)) g.parts p
 pub keeps_facts : KeepsFacts
 keeps_facts g facts p qs there = at g.halted refl
   where
-    from : (o : Option PartitionState) → g.halted ≡ false → slice_get g.parts p ≡ o → on (part_after g (happened g) p) o ≡ Some qs → AreFacts (view_of (step g).system p) (begun (step g)) qs
+    from : (o : Option PartitionState) → g.halted ≡ false → slice_get g.parts p ≡ o → on (part_after g (happened g) p) o ≡ Some qs → AreFacts (view_of (step g).system p) (step g).ticks (step g).halted qs
     from None runs is found = absurd cc
     from (Some ps) runs is found =
-        subst (λ (system : System). AreFacts (view_of system p) (begun (step g)) qs) (sym (step_system g))
-        (subst (λ (n : ℕ). AreFacts (view_of g.system p) n qs) (sym (step_begins g runs))
-        (subst (AreFacts (view_of g.system p) (begun g + 1)) (same_Some (part_after g (happened g) p ps) qs found)
-        (facts_after (view_of g.system p) (begun g) ps (part_after g (happened g) p ps) (facts p ps is) (part_ticks g p ps is))))
+        let ticks : (step g).ticks ≡ ticks_after (happened g).event g.ticks = ap (λ (m : Machine). m.ticks) (step_runs g runs) ∙ after_ticks g in
+        let halts : (step g).halted ≡ is_halt (happened g).event = ap (λ (m : Machine). m.halted) (step_runs g runs) ∙ after_halts g in
+        let before : AreFacts (view_of g.system p) g.ticks false ps = subst (λ (b : Bool). AreFacts (view_of g.system p) g.ticks b ps) runs (facts p ps is) in
+        subst (λ (system : System). AreFacts (view_of system p) (step g).ticks (step g).halted qs) (sym (step_system g))
+        (subst (λ (n : ℕ). AreFacts (view_of g.system p) n (step g).halted qs) (sym ticks)
+        (subst (λ (b : Bool). AreFacts (view_of g.system p) (ticks_after (happened g).event g.ticks) b qs) (sym halts)
+        (subst (AreFacts (view_of g.system p) (ticks_after (happened g).event g.ticks) (is_halt (happened g).event)) (same_Some (part_after g (happened g) p ps) qs found)
+        (facts_after (view_of g.system p) (happened g).event g.ticks ps (part_after g (happened g) p ps) before (part_ticks g p ps is)))))
 
-    at : (b : Bool) → g.halted ≡ b → AreFacts (view_of (step g).system p) (begun (step g)) qs
+    at : (b : Bool) → g.halted ≡ b → AreFacts (view_of (step g).system p) (step g).ticks (step g).halted qs
     at true halts = subst HasFacts (sym (step_halted g halts)) facts p qs there
     at false runs = from (slice_get g.parts p) runs refl (sym (after_where g p) ∙ ap (λ m. slice_get m.parts p) (sym (step_runs g runs)) ∙ there)
 
@@ -568,13 +668,13 @@ table_is f zero p y is = absurd cc
 table_is f (suc n) zero y is = same_Some (f 0) y is
 table_is f (suc n) (suc p) y is = table_is (λ k. f (suc k)) n p y is
 
-booted_facts : (view : PartitionView) → AreFacts view 0 (booted view)
+booted_facts : (view : PartitionView) → AreFacts view 0 false (booted view)
 unfolding booted no_clocks nothing_kept
 booted_facts view = record { traces = omega arith; health = omega arith; execution = omega arith; loads = All-nil (λ (e : TraceEntry). length e.load ≡ 8); inputs = record { used = []; is = refl }; made = no_ends view }
 
 pub boots_with_facts : BootsWithFacts
 unfolding start
-boots_with_facts system p ps there = subst (AreFacts (view_of system p) 0) (table_is (booted_part system) (length system.conf.parts) p ps there) (booted_facts (view_of system p))
+boots_with_facts system p ps there = subst (AreFacts (view_of system p) 0 false) (table_is (booted_part system) (length system.conf.parts) p ps there) (booted_facts (view_of system p))
 
 run_facts : (count : ℕ) (g : Machine) → HasFacts g → HasFacts (run g count)
 run_facts zero g facts = facts

@@ -1,5 +1,5 @@
 -- What holds of each partition, and of the machine, at all times, whatever the programs do.
-use Rattle.std.specs.Prelude.{◌≡◌, ℕ, ◌+◌, ◌≤◌, ◌++◌, true, Bool, List, length, All, IsSome, Some, None, slice_get, slice_index_or}
+use Rattle.std.specs.Prelude.{◌≡◌, ℕ, ◌+◌, ◌≤◌, ◌++◌, ◌||◌, false, true, Bool, List, length, All, IsSome, Some, None, slice_get, slice_index_or}
 use Rattle.cyclic_plans.specs.PlanClock.{AsksPlan, IsInFrame}
 use Rattle.sparc_step.specs.Registers.{Registers}
 use Rattle.xm_conf.specs.Description.{described}
@@ -12,12 +12,12 @@ use Rattle.xm_traces.specs.declared.entry.TraceEntry.{TraceEntry}
 use Rattle.machine_model.specs.Alone.{Alone, alone_local, alone_step}
 use Rattle.machine_model.specs.Cue.{Away, Cue, Mine, CueSlot}
 use Rattle.machine_model.specs.Laws.{HasLength}
-use Rattle.machine_model.specs.Machine.{Machine, act_of, answer_to, run, start, step}
+use Rattle.machine_model.specs.Machine.{Machine, act_of, answer_to, is_halt, run, start, step}
 use Rattle.machine_model.specs.Observed.{Observation, observed_by}
 use Rattle.machine_model.specs.Partition.{PartitionState, is_halted}
 use Rattle.machine_model.specs.Structures.{flag}
 use Rattle.machine_model.specs.View.{PartitionView, PortChannel, System, view_of}
-use Rattle.machine_model.specs.Whole.{event_of}
+use Rattle.machine_model.specs.Whole.{event_of, ticks_after}
 
 -- words are the last of a list
 pub record AreLast (rest all : List ℕ) : Type 0 where
@@ -37,14 +37,15 @@ AreEnds view made = (r : ℕ) → is_made r made ≡ true → IsChannelEnd view 
 abbrev pub HaveEight : List TraceEntry → Type 0
 HaveEight entries = All (λ entry. length entry.load ≡ 8) entries
 
--- after so many ticks that have begun: at most one trace entry came with each; so did at most one health entry, and one more where the partition has
--- halted, since a tick makes two only where the delivery of a trap fails, and then the partition halts; its execution clock counted at most each of them;
--- the trace entries that are kept have eight bytes; the input words that are left are the last of those that the partition was given; and the made ports
--- are ends of channels
-pub record AreFacts (view : PartitionView) (ticks : ℕ) (ps : PartitionState) : Type 0 where
+-- after so many ticks that were counted, in a machine whose hypervisor has halted or has not; the tick in which it halts is not counted.
+-- At most one trace entry came with each counted tick, and none with the one that halts; so did at most one health entry, and one more where
+-- the partition or the hypervisor has halted: a tick makes two only where the delivery of a trap fails, and then the partition halts. The
+-- execution clock counted at most each tick that has begun, the one that halts with them. The trace entries that are kept have eight bytes;
+-- the input words that are left are the last of those that the partition was given; and the made ports are ends of channels
+pub record AreFacts (view : PartitionView) (ticks : ℕ) (halts : Bool) (ps : PartitionState) : Type 0 where
   pub traces : ps.traces.next ≤ ticks
-  pub health : ps.health.next ≤ ticks + flag (is_halted ps.state)
-  pub execution : ps.clocks.execution ≤ ticks
+  pub health : ps.health.next ≤ ticks + flag (halts || is_halted ps.state)
+  pub execution : ps.clocks.execution ≤ ticks + flag halts
   pub loads : HaveEight ps.traces.entries
   pub inputs : AreLast ps.inputs view.inputs
   pub made : AreEnds view ps.made
@@ -55,7 +56,7 @@ begun g = g.ticks + flag g.halted
 
 -- the facts hold of each partition of the machine
 abbrev pub HasFacts : Machine → Type 0
-HasFacts g = (p : ℕ) (ps : PartitionState) → slice_get g.parts p ≡ Some ps → AreFacts (view_of g.system p) (begun g) ps
+HasFacts g = (p : ℕ) (ps : PartitionState) → slice_get g.parts p ≡ Some ps → AreFacts (view_of g.system p) g.ticks g.halted ps
 
 -- a machine boots with them, and keeps them in each tick, so that they hold after every run
 abbrev pub BootsWithFacts : Type 0
@@ -69,10 +70,11 @@ abbrev pub IsItsOwn : CueSlot → PartitionView → Alone → Cue → Type 0
 IsItsOwn Away view a cue = Unit {0}
 IsItsOwn (Mine first) view a cue = (cue.order ≡ None) × (cue.whole ≡ event_of (act_of (alone_local view a cue)))
 
--- so does a partition alone
+-- so does a partition alone, whose cue says whether the hypervisor halts
 abbrev pub KeepsFactsAlone : Type 0
 KeepsFactsAlone =
-    (view : PartitionView) (a : Alone) (cue : Cue) (n : ℕ) → IsItsOwn cue.mine view a cue → AreFacts view n a.state → AreFacts view (n + 1) (alone_step view a cue).state
+    (view : PartitionView) (a : Alone) (cue : Cue) (n : ℕ) → IsItsOwn cue.mine view a cue → AreFacts view n false a.state
+    → AreFacts view (ticks_after cue.whole n) (is_halt cue.whole) (alone_step view a cue).state
 
 abbrev pub RunsWithFacts : Type 0
 RunsWithFacts = (system : System) (count : ℕ) → HasFacts (run (start system) count)

@@ -99,10 +99,11 @@ pub fn earlier_ticks()
     ensures runs { TwoRunsEarlier }
 {}
 
-/// A partition has at most one trace entry and one health entry for each tick that has begun, and one
-/// health entry more where it has halted; its execution clock is at most these ticks, its trace
-/// entries have eight bytes, its input words are among those that it was given, and its made ports
-/// are ends of channels: when it boots, after each tick, and so after every run.
+/// A partition has at most one trace entry and one health entry for each tick that is counted, and
+/// one health entry more where it or the hypervisor has halted; its execution clock is at most the
+/// ticks that have begun, the one in which the hypervisor halts with them; its trace entries have
+/// eight bytes, its input words are among those that it was given, and its made ports are ends of
+/// channels: when it boots, after each tick, and so after every run.
 pub fn keeps_facts()
     ensures boots { BootsWithFacts }
     ensures ticks { KeepsFacts }

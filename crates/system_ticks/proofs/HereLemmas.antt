@@ -1,6 +1,6 @@
 -- Whose slot a tick is in, and what holds of a machine whose ticks are taken.
 use Rattle.std.proofs.Common.{◌≡◌, inl, ℕ, ◌+◌, ◌<◌, ◌≤◌, Bool, true, false, List, length, Option, None, Some, refl, sym, ap, subst, ◌∙◌, arith, []}
-use Rattle.std.specs.Prelude.{All, IfSome, IsSomeAnd, slice_get}
+use Rattle.std.specs.Prelude.{All, ◌||◌, IfSome, IsSomeAnd, slice_get}
 use Rattle.std.proofs.lemmas.Option.{get_or_from_slice_get, slice_get-get_or, slice_get_within}
 use Rattle.cyclic_plans.specs.PlanClock.{here, moment}
 use Rattle.cyclic_plans.specs.Slots.{IsHere, RunsIn, frame_of, slots_of}
@@ -83,12 +83,12 @@ flag_none b none = ap flag none
 pub can_take : (sys : SysState) (p most : ℕ) → IsMachine sys → sys.machine.halted ≡ false → p < length sys.machine.parts → 0 < most → sys.machine.ticks + most ≤ 4000000000
     → sys.machine.time + most ≤ sys.machine.clock.frame_start + frame_of sys.machine.system.conf sys.machine.clock.plan → CanTake p most sys
 can_take sys p most is runs below some few within =
-    let facts : AreFacts (view_of sys.machine.system p) (sys.machine.ticks + flag sys.machine.halted) (part_at p sys.machine) =
+    let facts : AreFacts (view_of sys.machine.system p) sys.machine.ticks sys.machine.halted (part_at p sys.machine) =
     is.counted.facts p (part_at p sys.machine) (slice_get-get_or sys.machine.parts p (booted_part sys.machine.system p) below) in
     let traces = facts.traces in
     let health = facts.health in
     let execution = facts.execution in
-    let one = flag_most (is_halted (part_at p sys.machine).state) in
+    let one = flag_most (sys.machine.halted || is_halted (part_at p sys.machine).state) in
     let none = flag_none sys.machine.halted runs in
     record {
       partition = below;

@@ -1,6 +1,6 @@
 -- What holds of every machine holds of it when it boots, after ticks and after resets; and what that says of a partition.
 use Rattle.std.proofs.Common.{◌≡◌, ◌≢◌, ⊎_elim, ℕ, zero, suc, ◌+◌, ◌^◌, ◌<◌, ◌≤◌, Bool, false, true, length, set, get_or, Option, Some, None, refl, sym, ap, ◌∙◌, subst, arith, length-set}
-use Rattle.std.specs.Prelude.{All, replicate, slice_get, slice_index_or}
+use Rattle.std.specs.Prelude.{All, ◌||◌, replicate, slice_get, slice_index_or}
 use Rattle.std.proofs.lemmas.Bool.{cases_eq}
 use Rattle.std.proofs.lemmas.List.{get_or-set_other, get_or-set_same, length-map}
 use Rattle.std.proofs.lemmas.Option.{get_or_from_slice_get, same_Some, slice_get-get_or, slice_get_within}
@@ -81,6 +81,24 @@ ticks_most (suc k) g = at g.halted refl (ticks_most k (step g))
     at true halts more = omega (arith, more, ap (λ (m : Machine). m.ticks) (step_halted g halts))
     at false runs more = omega (arith, more, (step_counts g runs).most)
 
+-- no more begin than it has, and so no more than a run may have
+begun_after : (g next : Machine) → Counts g next → begun next ≤ g.ticks + 1
+begun_after g next counts = at next.halted refl
+  where
+    at : (b : Bool) → next.halted ≡ b → next.ticks + flag next.halted ≤ g.ticks + 1
+    at true halts = omega (arith, counts.halts halts, ap flag halts)
+    at false runs = omega (arith, counts.runs runs, ap flag runs)
+
+pub begun_most : (k : ℕ) (g : Machine) → begun g ≤ TICKS → g.ticks + k ≤ TICKS → begun (run g k) ≤ TICKS
+begun_most zero g few room = few
+begun_most (suc k) g few room = at g.halted refl (begun_most k (step g))
+  where
+    at : (b : Bool) → g.halted ≡ b → (begun (step g) ≤ TICKS → (step g).ticks + k ≤ TICKS → begun (run (step g) k) ≤ TICKS) → begun (run g (suc k)) ≤ TICKS
+    at true halts later = subst (λ (m : Machine). begun m ≤ TICKS) (sym (run_halted (suc k) g halts)) few
+    at false runs later =
+        let begins : begun (step g) ≤ g.ticks + 1 = begun_after g (step g) (step_counts g runs) in
+        later (omega (arith, begins, room)) (omega (arith, (step_counts g runs).most, room))
+
 pub ticks_least : (k : ℕ) (g : Machine) → g.ticks ≤ (run g k).ticks
 ticks_least zero g = omega arith
 ticks_least (suc k) g = at g.halted refl (ticks_least k (step g))
@@ -126,7 +144,7 @@ stands : (sys : SysState) → IsMachine sys → Stands sys.machine
 stands sys is = record { fits = is.fits; complete = is.complete; clocked = is.clocked; facts = is.counted.facts; time = is.counted.time }
 
 -- another machine of the same system
-same_system : (sys : SysState) (next : Machine) → IsMachine sys → next.system ≡ sys.machine.system → Stands next → next.ticks ≤ TICKS → IsMachine (with_machine next sys)
+same_system : (sys : SysState) (next : Machine) → IsMachine sys → next.system ≡ sys.machine.system → Stands next → begun next ≤ TICKS → IsMachine (with_machine next sys)
 same_system sys next is same stands few = record {
   shapes = is.shapes ∙ ap (λ (s : System). shapes_of s.conf) (sym same);
   fits = stands.fits;
@@ -162,13 +180,13 @@ module _ (facts : KeepsFacts) (time : KeepsTimed) (numbers : KeepsNumbers) (cloc
   run_system (suc k) g = run_system k (step g) ∙ (numbers g).system
 
   -- what holds of every machine holds of it after ticks
-  pub kept_run : (sys : SysState) (k : ℕ) → IsMachine sys → (run sys.machine k).ticks ≤ TICKS → IsMachine (with_machine (run sys.machine k) sys)
+  pub kept_run : (sys : SysState) (k : ℕ) → IsMachine sys → begun (run sys.machine k) ≤ TICKS → IsMachine (with_machine (run sys.machine k) sys)
   kept_run sys k is few = same_system sys (run sys.machine k) is (run_system k sys.machine) (stands_run k sys.machine (stands sys is)) few
 
   -- and after at most so many, where a run may have them
   pub kept_ticks : (sys new : SysState) (k most : ℕ) → IsMachine sys → new ≡ with_machine (run sys.machine k) sys → k ≤ most → sys.machine.ticks + most ≤ TICKS → IsMachine new
   kept_ticks sys new k most is same within few =
-      subst IsMachine (sym same) (kept_run sys k is (omega (arith, within, few, ticks_most k sys.machine)))
+      subst IsMachine (sym same) (kept_run sys k is (begun_most k sys.machine is.counted.ticks (omega (arith, within, few))))
 
 -- a machine as it boots
 started_machine : BootsWithFacts → BootsTimed → BootsComplete → BootsClocked → (system : System) → Fits (described system.conf) → Stands (start system)
@@ -179,9 +197,9 @@ start_system : (system : System) → (start system).system ≡ system
 unfolding start
 start_system system = refl
 
-start_ticks : (system : System) → (start system).ticks ≡ 0
+start_begun : (system : System) → begun (start system) ≡ 0
 unfolding start
-start_ticks system = refl
+start_begun system = refl
 
 pub kept_boot : BootsWithFacts → BootsTimed → BootsComplete → BootsClocked → (system : System) (sys : SysState) → Fits (described system.conf) → sys.machine ≡ start system → sys.shapes ≡ shapes_of system.conf → IsMachine sys
 kept_boot facts time numbers clocks system sys fits is shapes =
@@ -191,7 +209,7 @@ kept_boot facts time numbers clocks system sys fits is shapes =
       fits = stands.fits;
       complete = stands.complete;
       clocked = stands.clocked;
-      counted = record { facts = stands.facts; time = stands.time; ticks = omega (arith, ap (λ (g : Machine). g.ticks) is, start_ticks system) };
+      counted = record { facts = stands.facts; time = stands.time; ticks = omega (arith, ap begun is ∙ start_begun system) };
     }
 
 -- no port is made
@@ -205,9 +223,10 @@ unfolding no_ports
 no_ends view r is = absurd (let e : false ≡ true = sym (none_made 32 r) ∙ is in cc)
 
 -- a partition after a reset, whose health log is no longer than the ticks
-reset_facts : (view : PartitionView) (mode : Mode) (status ticks : ℕ) (ps : PartitionState) → AreFacts view ticks ps → ps.health.next ≤ ticks → AreFacts view ticks (reset view mode status ps)
+reset_facts : (view : PartitionView) (mode : Mode) (status ticks : ℕ) (halts : Bool) (ps : PartitionState) → AreFacts view ticks halts ps → ps.health.next ≤ ticks
+    → AreFacts view ticks halts (reset view mode status ps)
 unfolding no_clocks reset
-reset_facts view mode status ticks ps is log = record {
+reset_facts view mode status ticks halts ps is log = record {
   traces = is.traces;
   health = omega (arith, log);
   execution = omega arith;
@@ -217,7 +236,7 @@ reset_facts view mode status ticks ps is log = record {
 }
 
 -- one partition is replaced by another that has the facts
-pub facts_with : (g : Machine) (p : ℕ) (new : PartitionState) → HasFacts g → p < length g.parts → AreFacts (view_of g.system p) (begun g) new → HasFacts (with_part p new g)
+pub facts_with : (g : Machine) (p : ℕ) (new : PartitionState) → HasFacts g → p < length g.parts → AreFacts (view_of g.system p) g.ticks g.halted new → HasFacts (with_part p new g)
 facts_with g p new facts below is q ps there = ⊎_elim here other (cases_eq q p)
   where
     within : q < length g.parts
@@ -226,12 +245,12 @@ facts_with g p new facts below is q ps there = ⊎_elim here other (cases_eq q p
     found : get_or (set g.parts p new) q ps ≡ ps
     found = get_or_from_slice_get (set g.parts p new) q ps ps there
 
-    here : q ≡ p → AreFacts (view_of g.system q) (begun g) ps
+    here : q ≡ p → AreFacts (view_of g.system q) g.ticks g.halted ps
     here same =
         let new_there : new ≡ ps = sym (get_or-set_same g.parts p new ps below) ∙ ap (λ (k : ℕ). get_or (set g.parts p new) k ps) (sym same) ∙ found in
-        subst (λ (k : ℕ). AreFacts (view_of g.system k) (begun g) ps) (sym same) (subst (AreFacts (view_of g.system p) (begun g)) new_there is)
+        subst (λ (k : ℕ). AreFacts (view_of g.system k) g.ticks g.halted ps) (sym same) (subst (AreFacts (view_of g.system p) g.ticks g.halted) new_there is)
 
-    other : q ≢ p → AreFacts (view_of g.system q) (begun g) ps
+    other : q ≢ p → AreFacts (view_of g.system q) g.ticks g.halted ps
     other differs =
         let old_there : get_or g.parts q ps ≡ ps = sym (get_or-set_other g.parts p q new ps differs) ∙ found in
         facts q ps (slice_get-get_or g.parts q ps within ∙ ap (λ (x : PartitionState). Some x) old_there)
@@ -243,14 +262,14 @@ flag_small false = omega arith
 
 -- the ticks of a machine, those that have begun, and its hardware clock
 module _ (sys : SysState) (is : IsMachine sys) where
+  pub begun_few : begun sys.machine ≤ TICKS
+  begun_few = is.counted.ticks
+
   pub ticks_few : sys.machine.ticks ≤ TICKS
-  ticks_few = is.counted.ticks
+  ticks_few = omega (arith, begun_few)
 
   pub time_few : sys.machine.time ≤ TICKS
-  time_few = omega (arith, is.counted.time, is.counted.ticks)
-
-  pub begun_few : begun sys.machine ≤ TICKS + 1
-  begun_few = omega (arith, flag_small sys.machine.halted, is.counted.ticks)
+  time_few = omega (arith, is.counted.time, begun_few)
 
   pub frame : IsInFrame sys.machine.system.conf sys.machine.clock sys.machine.time
   frame = is.clocked.in_frame
@@ -264,7 +283,7 @@ begun_running g runs = omega (arith, ap flag runs)
 
 -- what a machine says of one of its partitions
 module _ (sys : SysState) (p : ℕ) (is : IsMachine sys) (below : p < length sys.machine.parts) where
-  pub facts_at : AreFacts (view_of sys.machine.system p) (begun sys.machine) (part_at p sys.machine)
+  pub facts_at : AreFacts (view_of sys.machine.system p) sys.machine.ticks sys.machine.halted (part_at p sys.machine)
   facts_at = is.counted.facts p (part_at p sys.machine) (slice_get-get_or sys.machine.parts p (booted_part sys.machine.system p) below)
 
   -- its traces and its health log have room for more
@@ -272,10 +291,10 @@ module _ (sys : SysState) (p : ℕ) (is : IsMachine sys) (below : p < length sys
   traces_few = omega (arith, facts_at.traces, begun_few sys is)
 
   pub health_few : (part_at p sys.machine).health.next < 4294967295
-  health_few = omega (arith, facts_at.health, flag_small (is_halted (part_at p sys.machine).state), begun_few sys is)
+  health_few = omega (arith, facts_at.health, flag_small (sys.machine.halted || is_halted (part_at p sys.machine).state), begun_few sys is)
 
   -- its execution clock is far from its end
-  pub execution_few : (part_at p sys.machine).clocks.execution ≤ TICKS + 1
+  pub execution_few : (part_at p sys.machine).clocks.execution ≤ TICKS
   execution_few = omega (arith, facts_at.execution, begun_few sys is)
 
   pub execution_below : (part_at p sys.machine).clocks.execution < 2 ^ 63
@@ -299,7 +318,7 @@ module _ (sys : SysState) (p : ℕ) (is : IsMachine sys) (below : p < length sys
         complete = record { parts = length-set sys.machine.parts p now ∙ is.complete.parts; channels = is.complete.channels };
         clocked = record { in_frame = is.clocked.in_frame; asked = is.clocked.asked };
         facts = facts_with sys.machine p now is.counted.facts below
-            (reset_facts (view_of sys.machine.system p) mode status (begun sys.machine) (part_at p sys.machine) facts_at (omega (arith, log)));
+            (reset_facts (view_of sys.machine.system p) mode status sys.machine.ticks sys.machine.halted (part_at p sys.machine) facts_at log);
         time = is.counted.time;
       }) is.counted.ticks
 
@@ -309,12 +328,12 @@ facts_reset : (g : Machine) (mode : Mode) → HasFacts g → All (λ part. part.
 facts_reset g mode facts log q ps there =
     at (slice_get g.parts q) refl (sym (get_each (λ k x. reset (view_of g.system k) mode 0 x) g.parts q) ∙ there)
   where
-    at : (o : Option PartitionState) → slice_get g.parts q ≡ o → on (λ x. reset (view_of g.system q) mode 0 x) o ≡ Some ps → AreFacts (view_of g.system q) (begun g) ps
+    at : (o : Option PartitionState) → slice_get g.parts q ≡ o → on (λ x. reset (view_of g.system q) mode 0 x) o ≡ Some ps → AreFacts (view_of g.system q) g.ticks g.halted ps
     at None e is = absurd cc
     at (Some old) e is =
         let short : (get_or g.parts q old).health.next ≤ g.ticks = log q old (slice_get_within g.parts q old e) in
-        subst (AreFacts (view_of g.system q) (begun g)) (same_Some (reset (view_of g.system q) mode 0 old) ps is)
-        (reset_facts (view_of g.system q) mode 0 (begun g) old (facts q old e)
+        subst (AreFacts (view_of g.system q) g.ticks g.halted) (same_Some (reset (view_of g.system q) mode 0 old) ps is)
+        (reset_facts (view_of g.system q) mode 0 g.ticks g.halted old (facts q old e)
         (omega (arith, short, ap (λ (x : PartitionState). x.health.next) (get_or_from_slice_get g.parts q old old e))))
 
 -- the first plan begins
