@@ -13,6 +13,7 @@ use Rattle.alone_passes.specs.Step.{IsLone, IsOfSystem}
 use Rattle.alone_passes.specs.Taking.{first_untaken, takes_cue}
 use Rattle.cue_scripts.specs.Script.{HaltsLast, IsCue, IsScript}
 use Rattle.told_scripts.specs.Replayed.{replayed}
+use Rattle.xm_alone.specs.Replay.{halted_by}
 use Rattle.machine_model.specs.Whole.{ticks_after}
 
 -- a tick counts once at most
@@ -57,11 +58,6 @@ cues_most view a (cue ∷ later) = omega (arith, cues_most view (alone_step view
 started : (view : PartitionView) → (alone_start view).ticks ≡ 0
 unfolding alone_start
 started view = refl
-
--- whether the hypervisor has halted after cues
-abbrev pub halted_by : Bool → List Cue → Bool
-halted_by halted [] = halted
-halted_by halted (cue ∷ later) = halted_by (is_halt cue.whole) later
 
 halted_more : (halted : Bool) (xs : List Cue) (x : Cue) → halted_by halted (xs ++ x ∷ []) ≡ is_halt x.whole
 halted_more halted [] x = refl

@@ -19,7 +19,7 @@ use Rattle.alone_passes.specs.Passes.{part_in}
 use Rattle.alone_passes.specs.Step.{IsLone, IsOfSystem}
 use Rattle.xm_machine.specs.AloneStep.{said_alone}
 use Rattle.told_scripts.specs.Replayed.{cue_lines, replay_lines, replayed}
-use Rattle.xm_alone.specs.Replay.{IsCutReplay, IsReplay, IsReplayed, IsSilentReplay, IsWholeReplay, lone_in}
+use Rattle.xm_alone.specs.Replay.{IsCutReplay, IsReplay, IsReplayed, IsSilentReplay, IsWholeReplay, halted_by, lone_in}
 use Rattle.told_scripts.specs.Lone.{Lone, own_view, replay_said}
 use Rattle.xm_alone.proofs.FollowLemmas.{IsFollowing, lines_add, lines_more, one_followed, said_more}
 
@@ -123,7 +123,7 @@ one_cut p cues left cue later old now next had mid got first between board start
     record {
       done = length done;
       within = omega (arith, length-append done later, ap (λ (xs : List Cue). length xs) next_is.split);
-      left = record { part = next_is.part ∙ ap (replayed view) (sym front); system = next_is.system.system; p = refl };
+      left = record { part = next_is.part ∙ ap (replayed view) (sym front); halted = next_is.halted ∙ ap (halted_by false) (sym front); system = next_is.system.system; p = refl };
       report = record {
         count = length (texts lines) + grew_here.count;
         short = omega (arith, grew_here.short, length-append (texts lines ++ texts last) (texts others), length-append (texts lines) (texts last), ap (λ (bytes : List ℕ). length bytes) all);
@@ -191,7 +191,12 @@ end_shown (Err unwritten) cues old now had mid got first board is wrote =
     record {
       done = length cues;
       within = omega arith;
-      left = record { part = is.left.part ∙ ap (replayed view) (sym (take-length cues)); system = is.left.system; p = is.left.p };
+      left = record {
+        part = is.left.part ∙ ap (replayed view) (sym (take-length cues));
+        halted = is.left.halted ∙ ap (halted_by false) (sym (take-length cues));
+        system = is.left.system;
+        p = is.left.p;
+      };
       report = record {
         count = length (texts (cue_lines view cues)) + wrote.count;
         short = omega (arith, wrote.short, ap (λ (bytes : List ℕ). length bytes) (texts-append (cue_lines view cues) last), length-append (texts (cue_lines view cues)) (texts last));

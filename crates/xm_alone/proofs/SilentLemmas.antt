@@ -18,7 +18,7 @@ use Rattle.alone_passes.specs.Taking.{first_untaken}
 use Rattle.file_texts.specs.declared.fault.ScriptFault.{ScriptFault}
 use Rattle.file_texts.specs.declared.fault.ScriptFault.TheVariants as fault
 use Rattle.told_scripts.specs.Replayed.{cue_lines, replayed}
-use Rattle.xm_alone.specs.Replay.{IsSilentReplay, TellsFit, lone_in}
+use Rattle.xm_alone.specs.Replay.{IsSilentReplay, TellsFit, halted_by, lone_in}
 use Rattle.told_scripts.specs.Lone.{Lone, booted_alone}
 use Rattle.xm_alone.proofs.FollowLemmas.{IsFitting, lines_more, one_behind, one_followed}
 
@@ -121,7 +121,7 @@ all_tried p tick silent cues left old now none is says =
     let all : fit.before ≡ cues = sym (append-nil fit.before) ∙ ap (λ (rest : List Cue). fit.before ++ rest) (sym none) ∙ fit.following.split in
     let lines : cue_lines view cues ≡ [] = ap (cue_lines view) (sym all) ∙ no_lines (cue_lines view fit.before) (is.quiet says) in
     record {
-      left = record { part = fit.following.part ∙ ap (replayed view) all; system = fit.following.system.system; p = refl };
+      left = record { part = fit.following.part ∙ ap (replayed view) all; halted = fit.following.halted ∙ ap (halted_by false) all; system = fit.following.system.system; p = refl };
       lines = lines;
       said = unsaid view (alone_start view) cues lines;
     }

@@ -1,5 +1,5 @@
 -- A partition that is replayed: which script fits it, what a replay says, and whether it was one of these cues.
-use Rattle.std.specs.Prelude.{◌≡◌, ℕ, ◌<◌, ◌≤◌, Bool, false, true, List, [], length, take, Option, Some, None, Result, Ok, Err}
+use Rattle.std.specs.Prelude.{◌≡◌, ℕ, ◌<◌, ◌≤◌, Bool, false, true, List, [], ◌∷◌, length, take, Option, Some, None, Result, Ok, Err}
 use Rattle.xm_outside.specs.Growth.{grown, GrewByPrefix}
 use Rattle.xm_report.specs.Report.{ReportLine, texts}
 use Rattle.xm_report.specs.declared.output.WriteFault.{WriteFault}
@@ -7,7 +7,7 @@ use Rattle.uart_board.specs.Heard.{IsHeard}
 use Rattle.uart_board.specs.Views.{BoardView}
 use Rattle.machine_model.specs.Alone.{alone_said, alone_start}
 use Rattle.machine_model.specs.Cue.{Cue}
-use Rattle.machine_model.specs.Machine.{Machine}
+use Rattle.machine_model.specs.Machine.{Machine, is_halt}
 use Rattle.machine_model.specs.View.{PartitionView}
 use Rattle.alone_passes.specs.Passes.{part_in}
 use Rattle.alone_passes.specs.Taking.{first_untaken}
@@ -38,9 +38,16 @@ TellsFit view cues (Err (fault.Field at)) = ⊥
 TellsFit view cues (Err (fault.Length found)) = ⊥
 TellsFit view cues (Err (fault.Cue tick)) = first_untaken view (alone_start view) 0 cues ≡ Some tick
 
--- the partition's part is that of these cues, and it is the same partition of the same system
+-- whether the hypervisor has halted after cues: where the last of them halts it
+abbrev pub halted_by : Bool → List Cue → Bool
+halted_by halted [] = halted
+halted_by halted (cue ∷ later) = halted_by (is_halt cue.whole) later
+
+-- from its boot, the partition's part is that of these cues, and so is whether the hypervisor has halted; it is the same partition of the
+-- same system
 pub record IsReplayed (cues : List Cue) (old new : Lone) : Type 0 where
   pub part : new.part ≡ replayed (own_view old) cues
+  pub halted : new.halted ≡ halted_by false cues
   pub system : new.system ≡ old.system
   pub p : new.p ≡ old.p
 
